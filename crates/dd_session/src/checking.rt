@@ -1,11 +1,11 @@
 //! The check of an output's answers. Each line is written as soon as it is known.
-ghost use Rattle.std.specs.Prelude.{◌≡◌, ◌≤◌, length, IfOk, OnErr, IsErrOf, string_bytes};
-ghost use Rattle.dd_values.specs.Counts.{Rose};
+ghost use Rattle.std.specs.Prelude.{◌≡◌, ◌≤◌, length, IfOk, OnErr, string_bytes};
 ghost use Rattle.std.specs.List.{list_any};
 ghost use Rattle.dd_values.specs.Bounds.{most_commands};
 ghost use Rattle.dd_respond.specs.Right.{is_unknown};
 ghost use Rattle.dd_session.specs.Checked.{CheckFront};
 ghost use Rattle.dd_session.specs.Checks.{checked_line};
+ghost use Rattle.dd_session.specs.writing.Faults.{HasSinkCause};
 ghost use Rattle.dd_session.specs.checking.Judged.{
   verdict_line,
   IsJudged,
@@ -77,8 +77,7 @@ fn check_one<K: Sink>(
     requires { 1 ≤ number }
     ensures wrote { IfOk result (λ accepted. Judged (K.held sink.old) (K.held sink.new) script.now answers.now number accepted) }
     ensures cut { OnErr result (JudgedFront (K.held sink.old) (K.held sink.new) script.now answers.now number) }
-    ensures later { K.faults sink.old ≤ K.faults sink.new }
-    ensures write_fault { IsErrOf result RunFault.WriteFault → Rose (K.faults sink.old) (K.faults sink.new) }
+    ensures faults { HasSinkCause (K.faults sink.old) (K.faults sink.new) result }
 {
     let accepted = is_accepted(alloc, script, answers, number)?;
     let line = verdict_line(alloc, number, accepted)?;
@@ -97,8 +96,7 @@ fn check_each<K: Sink>(
     requires few_answers { length answers.now ≤ most_commands }
     ensures wrote { IfOk result (EachJudged (K.held sink.old) (K.held sink.new) script.now answers.now) }
     ensures cut { OnErr result (CheckFront (K.held sink.old) (K.held sink.new) script.now answers.now) }
-    ensures later { K.faults sink.old ≤ K.faults sink.new }
-    ensures write_fault { IsErrOf result RunFault.WriteFault → Rose (K.faults sink.old) (K.faults sink.new) }
+    ensures faults { HasSinkCause (K.faults sink.old) (K.faults sink.new) result }
 {
     let most = script.queries().len().max(answers.len());
     for done in 0..most {
@@ -121,8 +119,7 @@ pub(crate) fn check_all<K: Sink>(
     requires few_answers { length answers.now ≤ most_commands }
     ensures wrote { IfOk result (AllJudged (K.held sink.old) (K.held sink.new) script.now answers.now) }
     ensures cut { OnErr result (CheckFront (K.held sink.old) (K.held sink.new) script.now answers.now) }
-    ensures later { K.faults sink.old ≤ K.faults sink.new }
-    ensures write_fault { IsErrOf result RunFault.WriteFault → Rose (K.faults sink.old) (K.faults sink.new) }
+    ensures faults { HasSinkCause (K.faults sink.old) (K.faults sink.new) result }
 {
     certified(script);
     let are_accepted = check_each(alloc, script, answers, sink)?;

@@ -84,8 +84,7 @@ fn check_bytes<K: Sink>(alloc: Global, bytes: &[u8], sink: &mut K) -> Status
 fn check<S: Source, K: Sink>(alloc: Global, source: &mut S, sink: &mut K) -> Status
     ensures ended { CheckEnded (told S.left S.faults source.old source.new) (told K.held K.faults sink.old sink.new) result }
     ensures taken { GivesAtMost (S.left source.old) (S.left source.new) (most_checked + 1) }
-    ensures source_faults { S.faults source.old ≤ S.faults source.new }
-    ensures sink_faults { K.faults sink.old ≤ K.faults sink.new }
+    ensures faults { KeepsCounts (told S.left S.faults source.old source.new) (told K.held K.faults sink.old sink.new) }
 {
     match read_all(alloc, source, MOST_OUTPUT) {
         Ok(bytes) => check_bytes(alloc, &bytes, sink),

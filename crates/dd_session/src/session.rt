@@ -3,15 +3,15 @@ ghost use Rattle.std.specs.Prelude.{◌≡◌, ◌≢◌, ◌⊎◌, ◌+◌, �
 ghost use Rattle.dd_values.specs.Bounds.{most_script, most_commands};
 ghost use Rattle.dd_outside.specs.Bytes.{GivesAtMost};
 ghost use Rattle.dd_engines.specs.Rosters.{roster_seen};
-ghost use Rattle.dd_engines.specs.Rounds.{Kept, FirstAsked};
+ghost use Rattle.dd_engines.specs.Rounds.{FirstAsked};
 ghost use Rattle.dd_sample.specs.Sample.{IsSampleNumber, sample_text};
 ghost use Rattle.dd_script.specs.Scripts.{Spells};
 ghost use Rattle.dd_answer.specs.Asking.{AsksSomeBoxes};
-ghost use Rattle.dd_session.specs.Asking.{engines, HeaderTaken, Begun, HasBegun, IsToEnd, IsUnanswered, AsksFirstOver, AsksFirst};
+ghost use Rattle.dd_session.specs.Asking.{engines, AreKept, HeaderTaken, Begun, HasBegun, IsToEnd, AsksFirstOver, AsksFirst};
 ghost use Rattle.dd_session.specs.Words.{IsOnly, IsSampleOf};
 ghost use Rattle.dd_session.specs.Sides.{told, status_of, RefusedBy, RefusedFor};
 ghost use Rattle.dd_session.specs.Runs.{RanOver, Ended};
-ghost use Rattle.dd_session.specs.Sessions.{IsSession, Consults};
+ghost use Rattle.dd_session.specs.Sessions.{IsSession, KeepsCounts, Consults};
 ghost use Rattle.dd_session.specs.Samples.{is_memory, LinesOf, SampleEnded};
 
 use crate::checks::check_diddy;
@@ -96,8 +96,7 @@ fn run_accepted<K: Sink, E: Engine>(
     requires { Spells bytes.now script.now }
     ensures ran { RanOver (told K.held K.faults sink.old sink.new) bytes.now result }
     ensures later { K.faults sink.old ≤ K.faults sink.new }
-    ensures roster_kept { Kept (roster_seen E.asked E.given E.sound roster.old) (roster_seen E.asked E.given E.sound roster.new) }
-    ensures roster_untouched { IsUnanswered result → roster.new ≡ roster.old }
+    ensures kept { AreKept (engines E.asked E.given E.sound roster.old roster.new) result }
     ensures late { (roster.new ≡ roster.old) ⊎ HeaderTaken (K.held sink.old) (K.held sink.new) bytes.now }
     ensures asked { IsToEnd result → AsksSomeBoxes script.now script.now.queries → FirstAsked (roster_seen E.asked E.given E.sound roster.old) (roster_seen E.asked E.given E.sound roster.new) }
 {
@@ -130,8 +129,7 @@ fn run_bytes<K: Sink, E: Engine>(
     requires { length bytes.now ≤ most_script }
     ensures ran { RanOver (told K.held K.faults sink.old sink.new) bytes.now result }
     ensures later { K.faults sink.old ≤ K.faults sink.new }
-    ensures roster_kept { Kept (roster_seen E.asked E.given E.sound roster.old) (roster_seen E.asked E.given E.sound roster.new) }
-    ensures roster_untouched { IsUnanswered result → roster.new ≡ roster.old }
+    ensures kept { AreKept (engines E.asked E.given E.sound roster.old roster.new) result }
     ensures late { (roster.new ≡ roster.old) ⊎ Begun (K.held sink.old) (K.held sink.new) bytes.now }
     ensures asked { IsToEnd result → AsksFirstOver bytes.now (roster_seen E.asked E.given E.sound roster.old) (roster_seen E.asked E.given E.sound roster.new) }
 {
@@ -152,10 +150,8 @@ fn run<S: Source, K: Sink, E: Engine>(
 ) -> Status
     ensures ended { Ended (told S.left S.faults source.old source.new) (told K.held K.faults sink.old sink.new) result }
     ensures taken { GivesAtMost (S.left source.old) (S.left source.new) (most_script + 1) }
-    ensures source_faults { S.faults source.old ≤ S.faults source.new }
-    ensures sink_faults { K.faults sink.old ≤ K.faults sink.new }
-    ensures roster_kept { Kept (roster_seen E.asked E.given E.sound roster.old) (roster_seen E.asked E.given E.sound roster.new) }
-    ensures roster_untouched { IsUnanswered result → roster.new ≡ roster.old }
+    ensures faults { KeepsCounts (told S.left S.faults source.old source.new) (told K.held K.faults sink.old sink.new) }
+    ensures kept { AreKept (engines E.asked E.given E.sound roster.old roster.new) result }
     ensures late { (roster.new ≡ roster.old) ⊎ HasBegun (S.left source.old) (S.left source.new) (K.held sink.old) (K.held sink.new) }
     ensures asked { IsToEnd result → AsksFirst (S.left source.old) (S.left source.new) (roster_seen E.asked E.given E.sound roster.old) (roster_seen E.asked E.given E.sound roster.new) }
 {
@@ -206,8 +202,7 @@ fn run_lines<K: Sink, E: Engine>(
     requires { length script.now.queries ≤ most_commands }
     ensures wrote { LinesOf (told K.held K.faults sink.old sink.new) script.now result }
     ensures later { K.faults sink.old ≤ K.faults sink.new }
-    ensures roster_kept { Kept (roster_seen E.asked E.given E.sound roster.old) (roster_seen E.asked E.given E.sound roster.new) }
-    ensures answered { IsUnanswered result → ⊥ }
+    ensures kept { AreKept (engines E.asked E.given E.sound roster.old roster.new) result }
     ensures asked { IsToEnd result → AsksSomeBoxes script.now script.now.queries → FirstAsked (roster_seen E.asked E.given E.sound roster.old) (roster_seen E.asked E.given E.sound roster.new) }
 {
     one_line(script);
@@ -228,8 +223,7 @@ fn run_sample<K: Sink, E: Engine>(
     requires { IsSampleNumber number }
     ensures ended { SampleEnded (told K.held K.faults sink.old sink.new) number result }
     ensures later { K.faults sink.old ≤ K.faults sink.new }
-    ensures roster_kept { Kept (roster_seen E.asked E.given E.sound roster.old) (roster_seen E.asked E.given E.sound roster.new) }
-    ensures answered { IsUnanswered result → ⊥ }
+    ensures kept { AreKept (engines E.asked E.given E.sound roster.old roster.new) result }
     ensures asked { IsToEnd result → AsksFirstOver (sample_text number) (roster_seen E.asked E.given E.sound roster.old) (roster_seen E.asked E.given E.sound roster.new) }
 {
     // Law of a roster that is not asked.

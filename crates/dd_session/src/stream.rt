@@ -1,17 +1,16 @@
 //! The answers to a script, whole or only their first lines. Each is written as soon as it is made.
-ghost use Rattle.std.specs.Prelude.{◌≡◌, ◌⊎◌, ◌≤◌, ◌∷◌, [], length, Contains, IfOk, OnOk, OnErr, IsErrOf};
+ghost use Rattle.std.specs.Prelude.{◌≡◌, ◌⊎◌, ◌≤◌, ◌∷◌, [], length, Contains, IfOk, OnOk, OnErr};
 ghost use Rattle.std.specs.Io.KnownBytes.{Appends};
 ghost use Rattle.dd_values.specs.Bounds.{most_commands};
-ghost use Rattle.dd_values.specs.Counts.{Rose};
 ghost use Rattle.dd_outside.specs.Bytes.{GainsFront};
 ghost use Rattle.dd_engines.specs.Rosters.{roster_seen};
-ghost use Rattle.dd_engines.specs.Rounds.{Kept};
 ghost use Rattle.dd_script.specs.Scripts.{Spells};
 ghost use Rattle.dd_answer.specs.Asking.{AsksBoxes, AsksSomeBoxes};
-ghost use Rattle.dd_respond.specs.Asking.{Engages};
+ghost use Rattle.dd_respond.specs.Asking.{AreEngaged};
 ghost use Rattle.dd_respond.specs.Right.{is_unknown};
 ghost use Rattle.dd_session.specs.declared.stream.RunFault.TheVariants.{WriteFault, Memory};
 ghost use Rattle.dd_session.specs.Asking.{HeaderTaken};
+ghost use Rattle.dd_session.specs.writing.Faults.{HasSinkCause};
 ghost use Rattle.dd_session.specs.writing.Forms.{text_in};
 ghost use Rattle.dd_session.specs.Written.{Answered, AnsweredFront, AnsweredToEnd, AnsweredShort, WholeOutput, CutShort};
 
@@ -85,8 +84,7 @@ fn write_one<K: Sink>(
     ensures unknown { IfOk result (λ unknown. unknown ≡ is_unknown answer.now) }
     ensures wrote { OnOk result (Appends (K.held sink.old) (K.held sink.new) (text_in form number answer.now)) }
     ensures cut { OnErr result (GainsFront (K.held sink.old) (K.held sink.new) (text_in form number answer.now)) }
-    ensures later { K.faults sink.old ≤ K.faults sink.new }
-    ensures write_fault { IsErrOf result RunFault.WriteFault → Rose (K.faults sink.old) (K.faults sink.new) }
+    ensures faults { HasSinkCause (K.faults sink.old) (K.faults sink.new) result }
 {
     let text = text_in(alloc, form, number, answer)?;
     write_whole(sink, &text)?;
@@ -106,10 +104,8 @@ fn answer_one<K: Sink, E: Engine>(
     requires { Contains script.now.queries query.now }
     ensures wrote { IfOk result (λ unknown. Answered (text_in form) (K.held sink.old) (K.held sink.new) script.now (query.now ∷ []) number unknown) }
     ensures cut { OnErr result (AnsweredFront (text_in form) (K.held sink.old) (K.held sink.new) script.now (query.now ∷ []) number) }
-    ensures later { K.faults sink.old ≤ K.faults sink.new }
-    ensures write_fault { IsErrOf result RunFault.WriteFault → Rose (K.faults sink.old) (K.faults sink.new) }
-    ensures kept { Kept (roster_seen E.asked E.given E.sound roster.old) (roster_seen E.asked E.given E.sound roster.new) }
-    ensures asked { OnOk result (Engages (AsksBoxes script.now query.now) (roster_seen E.asked E.given E.sound roster.old) (roster_seen E.asked E.given E.sound roster.new)) }
+    ensures faults { HasSinkCause (K.faults sink.old) (K.faults sink.new) result }
+    ensures engines { AreEngaged (AsksBoxes script.now query.now) (roster_seen E.asked E.given E.sound roster.old) (roster_seen E.asked E.given E.sound roster.new) result }
 {
     let found = answer(alloc, script, query, roster)?;
     write_one(alloc, form, number, &found, sink)
@@ -127,10 +123,8 @@ fn answer_all<K: Sink, E: Engine>(
     requires { length script.now.queries ≤ most_commands }
     ensures wrote { IfOk result (λ unknown. Answered (text_in form) (K.held sink.old) (K.held sink.new) script.now script.now.queries 1 unknown) }
     ensures cut { OnErr result (AnsweredFront (text_in form) (K.held sink.old) (K.held sink.new) script.now script.now.queries 1) }
-    ensures later { K.faults sink.old ≤ K.faults sink.new }
-    ensures write_fault { IsErrOf result RunFault.WriteFault → Rose (K.faults sink.old) (K.faults sink.new) }
-    ensures kept { Kept (roster_seen E.asked E.given E.sound roster.old) (roster_seen E.asked E.given E.sound roster.new) }
-    ensures asked { OnOk result (Engages (AsksSomeBoxes script.now script.now.queries) (roster_seen E.asked E.given E.sound roster.old) (roster_seen E.asked E.given E.sound roster.new)) }
+    ensures faults { HasSinkCause (K.faults sink.old) (K.faults sink.new) result }
+    ensures engines { AreEngaged (AsksSomeBoxes script.now script.now.queries) (roster_seen E.asked E.given E.sound roster.old) (roster_seen E.asked E.given E.sound roster.new) result }
 {
     // Laws of a roster that is asked several times.
     kept_is_reflexive();
@@ -155,10 +149,8 @@ pub(crate) fn answer_to_end<K: Sink, E: Engine>(
     requires { length script.now.queries ≤ most_commands }
     ensures whole { IfOk result (λ unknown. AnsweredToEnd (text_in form) (K.held sink.old) (K.held sink.new) script.now unknown) }
     ensures cut { OnErr result (AnsweredShort (text_in form) (K.held sink.old) (K.held sink.new) script.now) }
-    ensures later { K.faults sink.old ≤ K.faults sink.new }
-    ensures write_fault { IsErrOf result RunFault.WriteFault → Rose (K.faults sink.old) (K.faults sink.new) }
-    ensures kept { Kept (roster_seen E.asked E.given E.sound roster.old) (roster_seen E.asked E.given E.sound roster.new) }
-    ensures asked { OnOk result (Engages (AsksSomeBoxes script.now script.now.queries) (roster_seen E.asked E.given E.sound roster.old) (roster_seen E.asked E.given E.sound roster.new)) }
+    ensures faults { HasSinkCause (K.faults sink.old) (K.faults sink.new) result }
+    ensures engines { AreEngaged (AsksSomeBoxes script.now script.now.queries) (roster_seen E.asked E.given E.sound roster.old) (roster_seen E.asked E.given E.sound roster.new) result }
 {
     let has_unknown = answer_all(alloc, script, form, sink, roster)?;
     write_whole(sink, b"end\n")?;
@@ -176,10 +168,8 @@ pub(crate) fn run_script<K: Sink, E: Engine>(
     requires { Spells bytes.now script.now }
     ensures whole { IfOk result (λ unknown. WholeOutput (K.held sink.old) (K.held sink.new) bytes.now script.now unknown) }
     ensures cut { OnErr result (CutShort (K.held sink.old) (K.held sink.new) bytes.now script.now) }
-    ensures later { K.faults sink.old ≤ K.faults sink.new }
-    ensures write_fault { IsErrOf result RunFault.WriteFault → Rose (K.faults sink.old) (K.faults sink.new) }
-    ensures kept { Kept (roster_seen E.asked E.given E.sound roster.old) (roster_seen E.asked E.given E.sound roster.new) }
-    ensures asked { OnOk result (Engages (AsksSomeBoxes script.now script.now.queries) (roster_seen E.asked E.given E.sound roster.old) (roster_seen E.asked E.given E.sound roster.new)) }
+    ensures faults { HasSinkCause (K.faults sink.old) (K.faults sink.new) result }
+    ensures engines { AreEngaged (AsksSomeBoxes script.now script.now.queries) (roster_seen E.asked E.given E.sound roster.old) (roster_seen E.asked E.given E.sound roster.new) result }
     ensures late { (roster.new ≡ roster.old) ⊎ HeaderTaken (K.held sink.old) (K.held sink.new) bytes.now }
 {
     // Law of a roster that is not asked.

@@ -10,6 +10,3 @@ returns-clause-checked g c = record {
       _ c.check.ensures.ended;
   taken = c.check.ensures.taken;
 }
-
-pub returns-clause-faults : goal.returns-clause-faults
-returns-clause-faults g c = record { source_faults = c.check.ensures.source_faults; sink_faults = c.check.ensures.sink_faults }

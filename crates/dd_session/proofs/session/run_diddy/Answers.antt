@@ -18,13 +18,13 @@ returns-then-is_only-clause-session g c =
           _ c.run.ensures.ended;
       taken = c.run.ensures.taken;
     })
-    (record { source_faults = c.run.ensures.source_faults; sink_faults = c.run.ensures.sink_faults })
+    c.run.ensures.faults
 
 pub returns-then-is_only-clause-engines : goal.returns-then-is_only-clause-engines
 returns-then-is_only-clause-engines g c =
     run_consults _ (told g.S.Source.left g.S.Source.faults c.args.source.now c.run.new.source) (told g.K.Sink.held g.K.Sink.faults c.args.sink.now c.run.new.sink) _ _
     (c.is_only.ensures.0 c.if-is_only.true)
-    (record { kept = c.run.ensures.roster_kept; unanswered = c.run.ensures.roster_untouched }) c.run.ensures.late c.run.ensures.asked
+    c.run.ensures.kept c.run.ensures.late c.run.ensures.asked
 
 -- ---- the word `check`
 
@@ -56,8 +56,7 @@ pub returns-in-Some-clause-engines : goal.returns-in-Some-clause-engines
 returns-in-Some-clause-engines g c =
     sample_consults _ (told g.S.Source.left g.S.Source.faults c.args.source.now c.args.source.now)
     (told g.K.Sink.held g.K.Sink.faults c.args.sink.now c.run_sample.new.sink) _ c.in-Some.number _ c.in-Some.ensures
-    (record { kept = c.run_sample.ensures.roster_kept; unanswered = λ unanswered. absurd (c.run_sample.ensures.answered unanswered) })
-    c.run_sample.ensures.asked
+    c.run_sample.ensures.kept c.run_sample.ensures.asked
 
 -- ---- other words
 
