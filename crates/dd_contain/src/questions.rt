@@ -1,11 +1,10 @@
 //! The questions that the search asks of boxes and of periods.
-ghost use Rattle.std.specs.Prelude.{◌≡◌, ◌↔◌, ◌≤◌, true, IfOk, OnOk, IfSome};
+ghost use Rattle.std.specs.Prelude.{◌≡◌, ◌↔◌, ◌≤◌, true, IfOk, IfSome};
 ghost use Rattle.dd_boxes.specs.Boxes.{Suffices};
 ghost use Rattle.dd_boxes.specs.Goals.{IsGoalFor};
 ghost use Rattle.dd_boxes.specs.Views.{goal_of};
 ghost use Rattle.dd_derivation.specs.Derivations.{refutes};
 ghost use Rattle.dd_engines.specs.Rosters.{roster_seen};
-ghost use Rattle.dd_engines.specs.Rounds.{Kept, FirstAsked};
 ghost use Rattle.dd_solver.specs.Answers.{IsAnswer, IsFound, IsRefuted, IsSatisfiable};
 ghost use Rattle.dd_contain.specs.Questions.{AreNumbered, RefutesByNumbers, ShowsAt, Displays, AsksRadius, AsksPeriods, IsSmallQuestion, IsDecision};
 ghost use Rattle.dd_contain.specs.Engines.{AreAsked};
@@ -47,8 +46,7 @@ fn outcome<E: Engine>(
     ensures answer { IfOk result (IsAnswer cnf.now.variables cnf.now.clauses) }
     ensures found { IfOk result (λ outcome. IsFound outcome ↔ IsSatisfiable cnf.now.clauses) }
     ensures refuted { IfOk result (λ outcome. IsRefuted outcome ↔ ¬ (IsSatisfiable cnf.now.clauses)) }
-    ensures kept { Kept (roster_seen E.asked E.given E.sound roster.old) (roster_seen E.asked E.given E.sound roster.new) }
-    ensures first { OnOk result (FirstAsked (roster_seen E.asked E.given E.sound roster.old) (roster_seen E.asked E.given E.sound roster.new)) }
+    ensures engines { AreAsked (roster_seen E.asked E.given E.sound roster.old) (roster_seen E.asked E.given E.sound roster.new) result }
 {
     match roster.ask(alloc, cnf)? {
         Some(proposed) => Ok(proposed),

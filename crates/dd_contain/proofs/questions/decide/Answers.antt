@@ -58,6 +58,3 @@ returns-clause-decided e c =
 
 pub returns-in_err-least-clause-engines : goal.returns-in_err-least-clause-engines
 returns-in_err-least-clause-engines e c = record { kept = c.kept_is_reflexive.ensures _; first = search rules }
-
-pub returns-clause-engines : goal.returns-clause-engines
-returns-clause-engines e c = record { kept = c.search.ensures.kept; first = c.search.ensures.first }
