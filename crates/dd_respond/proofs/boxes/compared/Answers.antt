@@ -18,11 +18,5 @@ written_equality-requires g c =
     equality_fits c.refutations_fit.ensures c.args.left.now c.args.right.now c.args.limits.now.radius c.args.limits.now.period
     c.in_ok-equality.equality told.decided told.numbered
 
-pub returns-clause-first : goal.returns-clause-first
-returns-clause-first g c = any_ok c.written_equality.result _ c.in_ok-equality.ensures.engines.first
-
-pub returns-clause-kept : goal.returns-clause-kept
-returns-clause-kept g c = c.decide_equal.ensures.engines.kept
-
-pub returns-in_err-equality-clause-kept : goal.returns-in_err-equality-clause-kept
-returns-in_err-equality-clause-kept g c = c.decide_equal.ensures.engines.kept
+pub returns-clause-engines : goal.returns-clause-engines
+returns-clause-engines g c = record { kept = c.decide_equal.ensures.engines.kept; first = any_ok c.written_equality.result _ c.in_ok-equality.ensures.engines.first }

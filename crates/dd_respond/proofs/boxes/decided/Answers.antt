@@ -19,11 +19,5 @@ written_decision-requires g c =
     decision_fits c.refutations_fit.ensures c.args.premise.now (goal_of c.args.premise.now c.args.goal.now) c.args.limits.now.radius c.args.limits.now.period
     c.in_ok-decision.decision told.decided told.numbered
 
-pub returns-clause-first : goal.returns-clause-first
-returns-clause-first g c = any_ok c.written_decision.result _ c.in_ok-decision.ensures.engines.first
-
-pub returns-clause-kept : goal.returns-clause-kept
-returns-clause-kept g c = c.decide.ensures.engines.kept
-
-pub returns-in_err-decision-clause-kept : goal.returns-in_err-decision-clause-kept
-returns-in_err-decision-clause-kept g c = c.decide.ensures.engines.kept
+pub returns-clause-engines : goal.returns-clause-engines
+returns-clause-engines g c = record { kept = c.decide.ensures.engines.kept; first = any_ok c.written_decision.result _ c.in_ok-decision.ensures.engines.first }

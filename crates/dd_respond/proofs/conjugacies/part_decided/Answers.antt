@@ -30,9 +30,3 @@ returns-clause-writable g c =
     IfOk-weaker c.decide.result (IsDecision x goal l.radius l.period) IsWritableDecision
     (λ d is. decision_fits c.refutations_fit.ensures x goal l.radius l.period d is.decided is.numbered)
     c.decide.ensures.decided
-
-pub returns-clause-kept : goal.returns-clause-kept
-returns-clause-kept g c = c.decide.ensures.engines.kept
-
-pub returns-clause-first : goal.returns-clause-first
-returns-clause-first g c = c.decide.ensures.engines.first
