@@ -18,6 +18,6 @@ pub record IsBelow (a b : Exact) : Type 0 where
 pub record IsNonneg (a : Exact) : Type 0 where
   pub sign : pos 0 ≤ℤ a.num
 
--- over 0
+-- greater than 0
 pub record IsPositive (a : Exact) : Type 0 where
   pub sign : pos 0 <ℤ a.num

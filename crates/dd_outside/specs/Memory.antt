@@ -1,4 +1,4 @@
--- What a source and a sink over memory hold, and what they are told to do.
+-- What a source and a sink in memory hold, and how they are set up.
 use Rattle.std.specs.Prelude.{ℕ, ◌+◌, ◌-◌, List, length, take, drop}
 use Rattle.dd_outside.specs.Bytes.{capped}
 use Rattle.dd_outside.specs.declared.memory.MemorySource.{MemorySource}

@@ -1,4 +1,4 @@
--- At the end: the columns are feasible, the duals are, and both are worth the value, so that no columns give more.
+-- At the end the columns and the duals are feasible and have the same value, so no columns give more.
 use Rattle.std.proofs.Common.{◌≡◌, ◌≢◌, ℕ, zero, suc, ◌+◌, ◌-◌, ◌<◌, ◌≤◌, List, length, Bool, true, false, cond, None, refl, sym, ap, subst, ◌∙◌, arith}
 use Rattle.std.specs.Bool.{nat_lt}
 use Rattle.dd_fraction.specs.Exact.{Exact, plus, times, minus, low}
@@ -78,7 +78,7 @@ module _ (p : LinearProgram) (d : Dictionary) (g : IsProgram p) (r : IsReached p
   nothing_meets : (k : ℕ) → k < length p.rows → plus (fraction_sum (λ j. times (coefficient p k j) zero_of) p.columns) (bound_at p k) ≡ times one_of (bound_at p k)
   nothing_meets k q = ap (λ (t : Exact). plus t (bound_at p k)) (nothing (coefficient p k) p.columns) ∙ (zero_plus (bound_at p k) ∙ sym (one_times (bound_at p k)))
 
-  -- one column of 1, with its coefficients turned round as slacks
+  -- one column of 1, with its negated coefficients as slacks
   column_alone : (j : ℕ) → j < p.columns → (f : ℕ → Exact) → fraction_sum (λ w. times (f w) (unit w j)) p.columns ≡ low (f j)
   column_alone j q f =
       total_pick (λ w. times (f w) (unit w j)) j p.columns q (λ w _ k. ap (λ (b : Bool). times (f w) (cond b one_of zero_of)) (eq_other w j k) ∙ times_zero (f w))

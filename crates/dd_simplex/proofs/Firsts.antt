@@ -1,4 +1,4 @@
--- The least number of which something is true, and what is true of each number below another.
+-- The least number with a property, and properties of each number below another.
 use Rattle.std.proofs.Common.{◌≡◌, ◌≢◌, ℕ, zero, suc, ◌<◌, Option, Some, None, Bool, true, false, ◌&&◌, cond, ◌⊎◌, inl, inr, ⊎_elim, refl, sym, ap, subst, ◌∙◌, arith}
 use Rattle.std.proofs.lemmas.Bool.{cases_eq}
 use Rattle.dd_fraction.specs.Exact.{Exact}

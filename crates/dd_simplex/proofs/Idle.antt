@@ -1,4 +1,4 @@
--- A product with 0 has no number that its factors have not, and changes nothing.
+-- Subtracting a product with 0 changes nothing, and no number of it is too large.
 use Rattle.std.proofs.Common.{◌≡◌, ℕ, ◌*◌, ◌%◌, true, nat_eq, refl, sym, ap, subst, ◌∙◌, arith}
 use Rattle.std.specs.Int.RustNames.{unsigned_abs}
 use Rattle.std.proofs.lemmas.Int.{ints, to_z-of_z}

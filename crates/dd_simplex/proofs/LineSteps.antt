@@ -33,7 +33,7 @@ rows_go f (x ∷ xs) (suc r) p h = ap (λ t. f x ∷ t) (rows_go f xs r p (omega
 pub rows_turned : {A B : Type 0} (f : A → B) (xs : List A) (r : ℕ) (p : B) → r < length xs → map f (take r xs) ++ p ∷ map f (drop (r + 1) xs) ≡ slice_set (map f xs) r p
 rows_turned f xs r p h = rw add-one (rows_go f xs r p h)
 
--- the solved line, where it comes to stand
+-- the solved line, at its new place
 pub changed_at : (lines : List Line) (e r v : ℕ) → r < length lines → line_at (changed_lines e r v lines) r ≡ solved_line v e (line_at lines r)
 changed_at lines e r v h =
     let pivot = solved_line v e (line_at lines r) in

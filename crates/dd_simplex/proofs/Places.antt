@@ -50,7 +50,7 @@ pub list_true : {A : Type 0} (f : A → Bool) (xs : List A) (a : A) → ((i : �
 list_true f [] a h = refl
 list_true f (x ∷ xs) a h = and_both (f x) (list_all f xs) (h 0 (omega arith)) (list_true f xs a (λ i p. h (suc i) (omega (arith, p))))
 
--- ---- the front and the back of a list, beside one place
+-- ---- a list but for one place
 beside_go : {A : Type 0} (f : A → Bool) (xs : List A) (r i : ℕ) (a : A) → (list_all f (take r xs) && list_all f (drop (suc r) xs)) ≡ true
     → i < length xs → i ≢ r → f (get_or xs i a) ≡ true
 beside_go f [] r i a h p k = absurd (omega (arith, p))

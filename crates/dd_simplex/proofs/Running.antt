@@ -1,4 +1,4 @@
--- Along the run: the table stands for a dictionary from which the rest of the run is that of the program.
+-- Along the run, the table stands for a dictionary. The program's run goes on from there.
 use Rattle.std.proofs.Common.{◌≡◌, ◌≢◌, ℕ, zero, suc, ◌+◌, ◌<◌, List, length, Bool, true, false, ◌&&◌, cond, Option, Some, None, ⊎_elim, refl, sym, ap, subst, ◌∙◌, arith}
 use Rattle.std.proofs.lemmas.Int.{ints}
 use lib.IntN.{ℤ, pos}

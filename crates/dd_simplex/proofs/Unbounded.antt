@@ -1,5 +1,5 @@
--- Something always leaves. If nothing limited the entering variable, it could grow for ever, the basic variables with it,
--- and column 0 too. But the first row says that column 0 and its slack, both not below 0, sum to the cap.
+-- Something always leaves. If nothing limited the entering variable, it could grow for ever, and column 0 with it. But by
+-- the first row column 0 and its slack, neither below 0, sum to the cap.
 use Rattle.std.proofs.Common.{◌≡◌, ◌≢◌, ℕ, ◌+◌, ◌<◌, Bool, true, false, not, ◌&&◌, ◌||◌, cond, None, ⊎_elim, refl, sym, ap, subst, ◌∙◌, arith}
 use Rattle.std.specs.Bool.{nat_eq}
 use Rattle.std.specs.Ordering.{is_gt}
@@ -19,7 +19,7 @@ use Rattle.dd_simplex.specs.Laws.{dictionary_coefficient, price}
 use Rattle.dd_simplex.proofs.Equations.{Holds, objective, apart}
 use Rattle.dd_simplex.proofs.Reaching.{IsReached, Enters, start_says, not_over, test_at_most}
 
--- each variable's part, when e grows by 1
+-- how much each variable grows when e grows by 1
 ray : Dictionary → ℕ → ℕ → Exact
 ray d e w = cond (nat_eq w e) one_of (cond (d.is_basic w) (minus (d.entry w e)) zero_of)
 

@@ -44,7 +44,7 @@ unit v w = cond (nat_eq v w) one_of zero_of
 abbrev pub cap_row : ℕ → ℤ → ProgramRow
 cap_row columns cap = record { coefficients = one_of ∷ replicate (columns - 1) zero_of; bound = whole_of cap }
 
--- the first row is that of a cap, each row has its coefficients, and no bound is below 0
+-- the first row is that of a cap, each row has a coefficient for each column, and no bound is below 0
 pub record IsProgram (p : LinearProgram) : Type 0 where
   pub wide : 0 < p.columns
   pub rows : 0 < length p.rows

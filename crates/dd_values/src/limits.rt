@@ -1,4 +1,4 @@
-//! How far questions are followed.
+//! The limits of a search for an answer.
 
 /// The limits within which questions are answered.
 #[derive(Clone, Copy, Debug, PartialEq, Eq)]

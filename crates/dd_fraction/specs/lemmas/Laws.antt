@@ -51,7 +51,7 @@ pub times_comm : (a b : Exact) → times a b ≡ times b a
 unfolding times
 times_comm a b = λ i. lowest (*ℤ_comm a.num b.num i) (mul_comm (den_of a) (den_of b) i)
 
--- ---- a sum or a product takes any form of a fraction
+-- ---- sums and products don't depend on the form of a fraction
 sum_one : (x m : ℤ) (d e k : ℕ)
     → (x *ℤ pos e +ℤ m *ℤ pos k) *ℤ pos (d * e) ≡ (x *ℤ pos d) *ℤ pos (e * e) +ℤ m *ℤ pos (k * (d * e))
 sum_one x m d e k = rw (← diff_self x, ← diff_self m) (simp as_diff (diff_same _ _ _ _ (omega arith)))

@@ -68,8 +68,8 @@ numbers_same n m d e g h a b p q s t z =
     ∙ (ap (λ (x : ℤ). x *ℤ pos d) (sym q.num)
     ∙ (sym (times_times b.num (pos h) (pos d)) ∙ ap (λ (k : ℕ). b.num *ℤ pos k) (sym s))))))
 
--- n / d = m / e makes |n| · e = |m| · d, so |n| · e, d · e and |m| · d, e · d are one pair. It has one greatest common
--- divisor, which is e times that of n and d, and d times that of m and e.
+-- If n / d = m / e, then |n| · e = |m| · d, so (|n| · e, d · e) and (|m| · d, e · d) are the same pair. Its greatest
+-- common divisor is e times that of n and d, and d times that of m and e.
 pub lowest_same : (n m : ℤ) (d e : ℕ) → n *ℤ pos (max 1 e) ≡ m *ℤ pos (max 1 d) → lowest n d ≡ lowest m e
 lowest_same n m d0 e0 s =
     let d = max 1 d0 in
@@ -139,7 +139,7 @@ over_one : (n : ℤ) → int_div n (pos 1) ≡ n
 over_one (pos n) = ap pos (div-one n)
 over_one (negsuc n) = ap (λ (x : ℕ). neg_ℤ (pos x)) (div-one (suc n))
 
--- lowest terms have no lower ones
+-- a fraction in lowest terms stays as it is
 pub low_lowest : (a : Exact) → IsLowest a → low a ≡ a
 low_lowest a p =
     lowest_at a.num a.den p.positive

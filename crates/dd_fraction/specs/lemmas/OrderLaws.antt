@@ -1,4 +1,4 @@
--- The laws of the order of exact fractions. a is at most b exactly where b - a is at least 0, so the order's laws follow
+-- The laws of the order of exact fractions. a is at most b exactly if b - a is at least 0. So the order's laws follow
 -- from those of sums and products, and from the signs of both.
 use Rattle.std.proofs.Common.{◌≡◌, ℕ, ◌<◌, ◌⊎◌, inl, inr, sym, ap, subst, ◌∙◌, max, arith}
 use lib.IntN.{ℤ, pos, negsuc, ◌*ℤ◌}
@@ -99,7 +99,7 @@ below_from_gap a b p =
     let s = positive_of_lowest _ _ (subst IsPositive (plus_is b (minus a)) p) in
     record { cross = omega (arith, ints, s, n) }
 
--- ---- a total order, but for the form of a fraction
+-- ---- a total order, up to the form of a fraction
 pub at_most_refl : (a : Exact) → IsAtMost a a
 at_most_refl a = record { cross = omega (arith, ints) }
 
@@ -158,7 +158,7 @@ pub at_most_from_nonneg : (a : Exact) → IsNonneg a → IsAtMost (whole_of (pos
 at_most_from_nonneg a p =
     at_most_from_gap (whole_of (pos 0)) a (subst IsNonneg (sym (zero_gap a)) (nonneg_lowest a.num a.den p.sign))
 
--- ---- sums, products and opposites keep or turn the order
+-- ---- sums, products and opposites keep or reverse the order
 sum_gap : (a b c d : Exact)
     → plus (plus b (minus a)) (plus d (minus c)) ≡ plus (plus b d) (minus (plus a c))
 sum_gap a b c d = plus_four b (minus a) d (minus c) ∙ ap (plus (plus b d)) (sym (minus_plus a c))
@@ -180,7 +180,7 @@ minus_gap a b = plus_comm b (minus a) ∙ ap (plus (minus a)) (sym (minus_minus 
 pub at_most_minus : (a b : Exact) → IsAtMost a b → IsAtMost (minus b) (minus a)
 at_most_minus a b p = at_most_from_gap _ _ (subst IsNonneg (minus_gap a b) (at_most_gap a b p))
 
--- ---- the order takes any form of a fraction
+-- ---- the order doesn't depend on the form of a fraction
 low_gap : (a b : Exact) → plus b (minus a) ≡ plus (low b) (minus (low a))
 low_gap a b =
     sym (plus_low_right b (minus a))

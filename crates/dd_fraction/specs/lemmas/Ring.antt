@@ -1,4 +1,4 @@
--- Products of whole numbers. An expression becomes one difference of naturals, over which `omega` multiplies out.
+-- Products of whole numbers. An expression becomes one difference of naturals, which `omega` multiplies out.
 use Rattle.std.proofs.Common.{◌≡◌, ℕ, zero, suc, ◌+◌, ◌*◌, ◌<◌, ap, arith}
 use Rattle.std.proofs.Math.Nat.{eq_of_mul-eq-mul_right}
 use lib.IntN.{ℤ, pos, negsuc, neg_ℤ, ◌+ℤ◌, ◌-ℤ◌, ◌*ℤ◌}
@@ -84,7 +84,7 @@ product_nonpositive (pos zero) k p = omega (arith, ints)
 product_nonpositive (pos (suc x)) k p = absurd (omega (arith, ints, p))
 product_nonpositive (negsuc x) k p = omega (arith, ints)
 
--- numbers with equal products by naturals over 0 have one sign
+-- two numbers have the same sign if their products with positive naturals are equal
 pub same_nonneg : (x n : ℤ) (d k : ℕ) → 0 < k → x *ℤ pos d ≡ n *ℤ pos k → pos 0 ≤ℤ x → pos 0 ≤ℤ n
 same_nonneg x n d k q e p = by_lt_z n (pos 0) below (λ h. h)
   where

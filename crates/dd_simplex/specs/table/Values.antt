@@ -1,4 +1,4 @@
--- The columns and the duals, as far as a loop over lines, or over the other variables, has come.
+-- The columns and the duals so far, in a loop over lines, or over the other variables.
 use Rattle.std.specs.Prelude.{◌≡◌, ℕ, ◌+◌, ◌<◌, ◌≤◌, List, length, not, ◌&&◌, cond}
 use Rattle.std.specs.Bool.{nat_lt}
 use Rattle.dd_fraction.specs.Exact.{Exact, minus}

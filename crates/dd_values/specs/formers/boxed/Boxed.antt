@@ -1,4 +1,4 @@
--- How a recursive type runs through `Boxed`: straight through, since the view is the value alone.
+-- How a recursive type may contain `Boxed`: as the value itself, since contracts see only the value.
 use mathlib.Core.Path.{refl}
 use mathlib.Core.Former.{Former, this, const, pair, via}
 use base.Stored.{gnil}
@@ -22,7 +22,7 @@ use Rattle.dd_values.specs.declared.boxed.Boxed.TheView.{view, invariant}
 use Rattle.dd_values.specs.contracts.boxed.Boxed as value
 use Rattle.dd_values.specs.contracts.boxed.Boxed.TheInside as inside
 
--- the type of what stands in the hole itself
+-- the type that fills the hole, unchanged
 abbrev pub the_former : Former {0} → Former {0}
 the_former hole = hole
 

@@ -1,4 +1,4 @@
--- How a recursive type runs through `Items`: as through a list, since the view keeps the items alone.
+-- How a recursive type may contain `Items`: as a list, since contracts see only the items.
 use mathlib.Core.Path.{◌≡◌, refl, sym}
 use mathlib.Core.List.{List, []}
 use mathlib.Core.Former.{Former, this, list, via, children}
@@ -19,7 +19,7 @@ use Rattle.dd_values.specs.declared.items.Items.TheView.{view, invariant}
 use Rattle.dd_values.specs.contracts.items.Items as value
 use Rattle.dd_values.specs.contracts.items.Items.TheInside as inside
 
--- the type of lists of what stands in the hole
+-- lists of the type that fills the hole
 abbrev pub the_former : Former {0} → Former {0}
 the_former hole = list hole
 
