@@ -242,7 +242,7 @@ near_more d e n ps more p h =
       },
     )
 
--- nothing is near no position
+-- nothing is near an empty list
 pub near_nothing : (d n : ℕ) → IsRegionOf (IsNearby d n []) []
 unfolding IsStrictlySortedBy
 near_nothing d n = record {

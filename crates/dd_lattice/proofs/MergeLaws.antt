@@ -15,7 +15,7 @@ use Rattle.dd_lattice.specs.listing.Merge.{next_position, from_left, from_right}
 use Rattle.dd_lattice.specs.lemmas.InOrderLaws.{places_equal, place_total}
 use Rattle.dd_lattice.specs.lemmas.ListLaws.{All-from_contains, Contains-first, Contains-later, Contains-cons_cases, Contains-nil, sorted_append, sorted_push, sorted_first, sorted_rest}
 
--- what the walk has made of the parts that it took, before the parts that are left
+-- the walk has merged the parts that it took, which come before the parts that are left
 pub record IsMerged (left left_rest right right_rest made : List Place) : Type 0 where
   pub ascending : IsStrictlySortedBy place_cmp made
   pub left_ascending : IsStrictlySortedBy place_cmp left_rest
@@ -50,7 +50,7 @@ merged_swap l lr r rr made m = record {
   before_right = m.before_left;
 }
 
--- the members after one more at the end of the list on the left and of what is made
+-- the members after one position is added to the left list and to the merged one
 members_push : (l r made : List Place) (x : Place) → ((p : Place) → Contains made p ↔ IsInEither l r p) →
     (p : Place) → Contains (made ++ x ∷ []) p ↔ IsInEither (l ++ x ∷ []) r p
 members_push l r made x same p = (
@@ -70,7 +70,7 @@ members_push l r made x same p = (
   ],
 )
 
--- all that is made stands before a position that all of it and one more stand before
+-- if a list and one more position come before q, so does all of the longer list
 before_push : (made : List Place) (x q : Place) → ((p : Place) → Contains made p → place_cmp p q ≡ Less) → place_cmp x q ≡ Less →
     (p : Place) → Contains (made ++ x ∷ []) p → place_cmp p q ≡ Less
 before_push made x q old new p c = elim (Contains-push_cases made x p c) [
@@ -151,7 +151,7 @@ one_step l lr r rr made x y Greater h m =
 next_on : (xs : List Place) (i : ℕ) (x : Place) → i < length xs → x ≡ get_or xs i x → drop i xs ≡ x ∷ drop (i + 1) xs
 next_on xs i x below is = drop_more xs i x below ∙ ap (λ z. z ∷ drop (i + 1) xs) (sym is)
 
--- one turn of the walk, by the numbers of positions that it took
+-- one step of the walk, by the numbers of positions taken
 pub merged_step : (xs ys made : List Place) (i j : ℕ) (x y : Place) → i < length xs → j < length ys → x ≡ get_or xs i x → y ≡ get_or ys j y →
     IsMerged (take i xs) (drop i xs) (take j ys) (drop j ys) made →
     IsMerged (take (i + from_left (place_cmp x y)) xs) (drop (i + from_left (place_cmp x y)) xs) (take (j + from_right (place_cmp x y)) ys) (drop (j + from_right (place_cmp x y)) ys) (made ++ next_position (place_cmp x y) x y ∷ [])

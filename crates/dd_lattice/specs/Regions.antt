@@ -27,12 +27,12 @@ pub record LeavesRangeAt {X : Type 0} (position : X → Place) (S : X → Type 0
   pub member : S at
   pub outside : IsInRange (position at) → ⊥
 
--- the fault with which the list of a set isn't made: `Range` only where the set leaves the range
+-- why the list of a set isn't made: `Range` only if the set leaves the range
 abbrev pub IsFaultAt : {X : Type 0} → (X → Place) → (X → Type 0) → LatticeFault → Type 0
 IsFaultAt position S Range = LeavesRangeAt position S
 IsFaultAt position S Memory = Unit {0}
 
--- of a set of positions
+-- a set of positions leaves the range
 abbrev pub LeavesRange : PlaceSet → Type 0
 LeavesRange S = LeavesRangeAt (λ (p : Place). p) S
 

@@ -156,7 +156,7 @@ impl Box3 {
         }
     }
 
-    /// The position with so many positions of the box before it, or `None` where the index is at least the volume.
+    /// The position with `index` positions of the box before it, or `None` if the index is at least the volume.
     pub fn position_at(&self, index: u64) -> Option<Position>
         ensures value { MatchOption result (volume self.now ≤ index) (λ p. p ≡ place_in self.now index) }
         ensures within { IfSome result (IsWithin self.now) }

@@ -187,7 +187,7 @@ box_from_within d n q h =
       most = h.x_most;
     }
 
--- what was added to no periods
+-- what was added to the empty list
 pub all_within : (d n : ℕ) (ps : List Periods) → IsAdded [] ps (HasBox d n n) → AreAllWithin d n ps
 all_within d n ps h q = (
   λ c. elim ((h q).0 c) [ inl none ↦ absurd (Contains-nil q none) | inr box ↦ within_from_box d n q box ],

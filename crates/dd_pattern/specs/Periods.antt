@@ -34,7 +34,7 @@ residue x n = unsigned_abs (int_rem_euclid x (pos n))
 abbrev pub quotient : ℤ → ℕ → ℤ
 quotient x n = int_div_euclid x (pos n)
 
--- where a position stands along x, once the second period vector is taken from it until its y lies in the box
+-- the x of a position, once the second period vector is subtracted until y lies in the box
 abbrev pub unsheared : Periods → Place → ℤ
 unsheared p v = v.x -ℤ quotient v.y p.y *ℤ pos p.shear
 

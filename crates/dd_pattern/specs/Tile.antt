@@ -75,8 +75,8 @@ pub record IsCongruent (p : Periods) (v w : Place) : Type 0 where
   pub times' : Times
   pub is : with_vectors p times v ≡ with_vectors p times' w
 
--- read modulo the periods, from a list in cell order: each position of Z^d is congruent to its base, which lies in the
--- fundamental box; a cell has the symbol of the same node at the base; and in the box the symbols stand in cell order
+-- the configuration is read modulo the periods. Each position of Z^d is congruent to its base, which lies in the
+-- fundamental box. A cell has the symbol of the same node at the base. In the box the symbols are in cell order
 pub record IsReadModulo (t : Tile) : Type 0 where
   pub congruent : (v : Place) → IsCongruent t.periods v (base_of t.periods v)
   pub in_box : (v : Place) → IsWithin (fundamental t.periods) (base_of t.periods v)

@@ -25,7 +25,8 @@ use Rattle.dd_topology.specs.lemmas.ListLaws.{in_flat_map, into_flat_map}
 use Rattle.dd_topology.specs.lemmas.OrderLaws.{kept-insert_key, has-insert_key, from-insert_key, is-in_order}
 use Rattle.dd_topology.proofs.BallLaws.{from_neighbours, into_neighbours, in_ball, ball_holds}
 
--- the cells that are found are those of the ball of radius r, and all that are beside one of them are found, but for those beside the frontier
+-- the cells found are the ball of radius r. Each neighbour of one of them is found too, except for neighbours of the
+-- frontier
 pub record IsGrown (es : List Edge) (c : Cell) (r : ℕ) (found frontier : List Cell) : Type 0 where
   pub members : (d : Cell) → Contains found d ↔ IsInBall es c r d
   pub in_range : All (λ d. IsInRange d.position) found

@@ -88,7 +88,7 @@ found_by_move es moves is c label r at =
     ∙ (sym (find-position (λ e. same_move m (move_of e)) es)
     ∙ find_alike (λ e. same_move m (move_of e)) (leaves c label) (λ e. ap (λ b. b && (c.node == e.from)) (flip label e.label) ∙ ap (λ b. (e.label == label) && b) (flip c.node e.from)) es)
 
--- a move that is there repeats an edge's
+-- a move that is in the list is that of an edge
 pub repeats_from : (es : List Edge) (moves : List Move) (e : Edge) → moves ≡ map move_of es → list_any (same_move (move_of e)) moves ≡ true → list_any (starts_alike e) es ≡ true
 repeats_from es moves e is h = sym (list_any-map move_of (same_move (move_of e)) es) ∙ (ap (list_any (same_move (move_of e))) (sym is) ∙ h)
 

@@ -34,7 +34,7 @@ pub record IsCellListOf (S : CellSet) (cells : List Cell) : Type 0 where
 abbrev pub CellsLeaveRange : CellSet → Type 0
 CellsLeaveRange S = LeavesRangeAt (λ (c : Cell). c.position) S
 
--- the fault with which the list of a set is not made: `Range` only where the set leaves the range
+-- why the list of a set is not made: `Range` only if the set leaves the range
 abbrev pub IsCellFaultOf : CellSet → LatticeFault → Type 0
 IsCellFaultOf S = IsFaultAt (λ (c : Cell). c.position) S
 

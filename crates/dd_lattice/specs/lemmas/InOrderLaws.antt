@@ -1,4 +1,4 @@
--- A list in cell order says what the list says.
+-- The ordered form of a list has the same cells.
 use Rattle.std.proofs.Common.{◌≡◌, List, [], ◌∷◌, Bool, true, false, refl, ap, sym, ◌∙◌, rules, ◌↔◌, ◌⊎◌, inl, inr, subst}
 use Rattle.std.specs.Prelude.{◌&&◌}
 use Rattle.std.specs.Cmp.{IsTotalOrder}

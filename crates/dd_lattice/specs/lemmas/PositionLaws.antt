@@ -80,7 +80,7 @@ number_of b (suc n) p c = elim (Contains-push_cases (first_positions b n) (place
   | inr is ↦ (n, omega arith, sym is)
 ]
 
--- every number below n gives one of them
+-- the position of each number below n is one of them
 contains_number : (b : Bounds) (n i : ℕ) → i < n → Contains (first_positions b n) (place_in b i)
 contains_number b zero i h = absurd (omega arith)
 contains_number b (suc n) i h = elim (cases_lt i n) [

@@ -52,7 +52,7 @@ parts_of t ok i h =
       node = mod_below i t.nodes ok.nodes_some;
     }
 
--- in the fundamental box nothing is taken away
+-- in the fundamental box nothing is subtracted
 own_x : (t : Tile) (i : ℕ) → Parts t i → unsheared t.periods (cell_in t i).position ≡ pos (i / t.nodes % t.periods.x)
 own_x t i p = ap (λ k. pos (i / t.nodes % t.periods.x) -ℤ k *ℤ pos t.periods.shear) (quotient_small _ _ p.y) ∙ omega (arith, ints)
 

@@ -19,7 +19,7 @@ pub record HasShear (n x y z : ℕ) (q : Periods) : Type 0 where
   pub at_z : q.z ≡ z
   pub shear : q.shear < n
 
--- as F says of the period f, which is 1 to n
+-- F holds of the period f, which is from 1 to n
 pub record IsPeriodUpTo (F : ℕ → Periods → Type 0) (f : Periods → ℕ) (n : ℕ) (q : Periods) : Type 0 where
   pub rest : F (f q) q
   pub some : 1 ≤ f q

@@ -60,7 +60,7 @@ pub missed : {X : Type 0} (p : X → Bool) (xs : List X) (y : X) → find p xs �
 missed p [] y h there = absurd (Contains-nil y there)
 missed p (x ∷ xs) y h there = missed_from p x xs y (missed p xs y) (p x) refl h there
 
--- some element of the list passes where the test of the list does
+-- if the test of a list passes, some element passes
 pub some_passes : {X : Type 0} (p : X → Bool) (xs : List X) → list_any p xs ≡ true → (x : X) × Contains xs x × (p x ≡ true)
 some_passes p [] h = absurd (cc)
 some_passes {X} p (x ∷ xs) h = by_head (p x) refl h (some_passes p xs)

@@ -1,4 +1,4 @@
--- Names that are kept under another form, as the bytes of texts: what the kept list finds, the list of names has.
+-- Names kept in another form, as the bytes of texts. A search in the kept list agrees with the list of names.
 use Rattle.std.proofs.Common.{◌≡◌, ℕ, List, [], ◌∷◌, true, false, map, length, Some, Contains, refl, ap, sym, ◌∙◌, true≢false, ◌++◌}
 use Rattle.std.specs.Prelude.{position, bytes_eq, slice_get}
 use Rattle.std.specs.List.{list_any, IsDistinct, AllByRecursion}

@@ -1,4 +1,4 @@
--- Lists in a strict order: the members of a list in order, and that they make the list.
+-- Lists in a strict order: the members of a list in order, which determine the list.
 use Rattle.std.proofs.Common.{◌≡◌, List, [], ◌∷◌, refl, ap, sym, ◌∙◌, subst, inl, inr, ◌⊎◌, rules, arith, Contains}
 use Rattle.std.specs.List.{fold, All}
 use Rattle.std.specs.List.Sorted.{IsStrictlySortedBy}
@@ -62,7 +62,7 @@ module _ {K : Type 0} (R : K → K → Ordering) (o : IsTotalOrder R) where
         ]
       ]
 
-  -- what a sorted list has after its head, a list with the same head and the same members has after it
+  -- two sorted lists with the same head and the same members have the same members after the head
   only_later : (x : K) (xs ys : List K) → IsStrictlySortedBy R (x ∷ xs) → (d : K) → Contains xs d → Contains (x ∷ ys) d → Contains ys d
   only_later x xs ys up d there there' =
       elim (Contains-cons_cases x ys d there') [
@@ -124,7 +124,7 @@ cell_total = search (comparing, rules) depth 9
 pub sorted-in_order : (cs : List Cell) → IsStrictlySortedBy cell_cmp (in_order cs)
 sorted-in_order cs = sorted-fold cell_cmp cell_total cs [] (sorted_nil cell_cmp)
 
--- a list in cell order is the list in order of each list with its members
+-- a list in cell order is the ordered form of each list with the same members
 pub is-in_order : (xs cs : List Cell) → IsStrictlySortedBy cell_cmp xs → ((d : Cell) → Contains xs d → Contains cs d) → ((d : Cell) → Contains cs d → Contains xs d) → xs ≡ in_order cs
 is-in_order xs cs up to from =
     same_sorted cell_cmp cell_total xs (in_order cs) up (sorted-in_order cs) (λ d there. (in_order_members cs d).1 (to d there)) (λ d there. from d ((in_order_members cs d).0 there))
