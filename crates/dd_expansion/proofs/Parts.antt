@@ -101,7 +101,7 @@ pub paid_more : {X : Type 0} (cost : X → ℕ) (xs : List X) (i : ℕ) (x : X) 
     now + sum_by cost (take (i + 1) xs) ≡ first
 paid_more cost xs i x left now first within is before one = omega (arith, sum_by_more cost xs i x within, ap cost is, before, one)
 
--- what is left does not pay for one more value, so the whole has a greater cost; so too where a gate was paid before
+-- if the budget doesn't pay for one more value, the whole costs more; also if a gate was paid before
 pub few_at : {X : Type 0} (cost : X → ℕ) (xs : List X) (i : ℕ) (x : X) (left first : ℕ) → i < length xs → x ≡ get_or xs i x → left + sum_by cost (take i xs) ≡ first → left < cost x → first < sum_by cost xs
 few_at cost xs i x left first within is paid few = omega (arith, sum_by_more_le cost xs i x within, ap cost is, paid, few)
 

@@ -39,14 +39,14 @@ abbrev pub at_cells : (Cell → Cell → Expanded) → Option Cell → Option Ce
 at_cells e None d = constant false
 at_cells e (Some c) d = at_cell (e c) d
 
--- both cells have the symbol s; both have the same of n symbols
+-- both cells have the symbol s; both have the same one of n symbols
 abbrev pub both_have : Cell → Cell → ℕ → Expanded
 both_have c d s = all_of (leaf s c ∷ leaf s d ∷ [])
 
 abbrev pub equal_at : ℕ → Cell → Cell → Expanded
 equal_at n c d = any_of (map (both_have c d) (range_with_len 0 n))
 
--- by the variables' cells
+-- the expansion, given the variables' cells
 abbrev pub Expansion : Type 0
 Expansion = List Cell → Expanded
 
@@ -66,6 +66,7 @@ expansion_step es n (Formula-F.Iff f g) env = both_alike (f env) (g env)
 expansion_step es n (Formula-F.ForAll bs f) env = all_of (map (λ c. f (env ++ c ∷ [])) (in_order (balls_of es env bs)))
 expansion_step es n (Formula-F.Exists bs f) env = any_of (map (λ c. f (env ++ c ∷ [])) (in_order (balls_of es env bs)))
 
--- over n symbols; a quantifier has a part for each cell of its balls, in cell order, and no constant is folded away
+-- the expansion over n symbols. A quantifier has a part for each cell of its balls, in cell order. No constant is folded
+-- away
 abbrev pub expansion : List Edge → ℕ → Formula → Expansion
 expansion es n = fold-Formula Expansion (expansion_step es n)

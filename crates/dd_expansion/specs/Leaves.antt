@@ -79,11 +79,11 @@ clause_count_step (Expanded-F.And es) = total es + (length es + 1)
 clause_count_step (Expanded-F.Or es) = total es + (length es + 1)
 clause_count_step (Expanded-F.Iff e f) = (e + f) + 4
 
--- the number of clauses of its gates: a constant is a gate without parts; an `And` or `Or` of k parts is a gate of k + 1
--- clauses, an `Iff` one of 4, and a `Not` or a leaf is none
+-- the number of clauses of its gates. A constant is a gate without parts. An `And` or `Or` of k parts has k + 1 clauses,
+-- and an `Iff` has 4. A `Not` or a leaf has none
 abbrev pub clause_count : Expanded → ℕ
 clause_count = fold-Expanded ℕ clause_count_step
 
--- what is read at v, by cells that are counted from v; nothing past the range of positions
+-- the symbols as seen from v: cells are counted from v, and one past the range of positions has no symbol
 abbrev pub seen : Look → Place → Look
 seen look v c = cond (is_in_range (moved c.position v)) (look (shifted v c)) None

@@ -15,7 +15,7 @@ both_cells None d = []
 both_cells (Some c) None = []
 both_cells (Some c) (Some d) = c ∷ d ∷ []
 
--- by the variables' cells
+-- the cells that are read, given the variables' cells
 abbrev pub Reading : Type 0
 Reading = List Cell → List Cell
 

@@ -37,7 +37,7 @@ abbrev pub ball_round : List Edge → ℕ → Option Cell → List Cell
 ball_round es r None = []
 ball_round es r (Some c) = ball es c r
 
--- the cells of several balls, each cell as often as it stands in one
+-- the cells of several balls, each cell once for each ball that has it
 abbrev pub balls_of : List Edge → List Cell → List BallOf → List Cell
 balls_of es env bs = flat_map (λ b. ball_round es b.radius (slice_get env b.variable)) bs
 

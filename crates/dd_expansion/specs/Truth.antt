@@ -21,7 +21,7 @@ abbrev pub are_equal : Option ℕ → Option ℕ → Bool
 are_equal None b = false
 are_equal (Some a) b = is_symbol a b
 
--- by the variables' cells and the symbols of cells
+-- the truth, given the variables' cells and the symbols of cells
 abbrev pub Truth : Type 0
 Truth = List Cell → Look → Bool
 

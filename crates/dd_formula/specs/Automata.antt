@@ -35,7 +35,8 @@ pub record CommonNumbers : Type 0 where
   pub nodes : ℕ
   pub symbols : ℕ
 
--- what is counted of an automaton: by nodes the cells that it reads, relative to the origin, and its instances; and its depth
+-- the counts of an automaton: at each node the cells that it reads, relative to the origin, and its instances; and its
+-- depth
 pub record Counted : Type 0 where
   pub reads : ℕ → List Cell
   pub instances : ℕ → ℕ
@@ -86,7 +87,7 @@ has_rules_step (Automaton-F.Composed f g) = f || g
 abbrev pub has_rules : Automaton → Bool
 has_rules = fold-Automaton Bool has_rules_step
 
--- the number of nodes of the automaton's rules, where it has one
+-- the number of nodes of the automaton's rules, if it has one
 abbrev pub IsNodesOf : Automaton → Option ℕ → Type 0
 IsNodesOf f r = MatchOption r (has_rules f ≡ false) (λ n. (s : CommonNumbers) → automaton_fits s f ≡ true → s.nodes ≡ n)
 

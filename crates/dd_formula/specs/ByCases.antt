@@ -26,11 +26,11 @@ pub record IsCaseOver (g : Grid) (s : SymbolSets) (case : Formula × ℕ) : Type
 abbrev pub case_over : Grid → SymbolSets → Formula × ℕ → LocalRule × ℕ
 case_over g s case = (local_rule g s case.0, case.1)
 
--- the automaton that gives a cell the symbol of the first case that is true there, else another
+-- the automaton that gives a cell the symbol of the first case that is true there, else the default symbol
 abbrev pub by_cases : Grid → SymbolSets → List (Formula × ℕ) → ℕ → Automaton
 by_cases g s cases otherwise = v.Given (record { cases = map (case_over g s) cases; otherwise = otherwise })
 
--- what is counted of it, which the other symbol doesn't change
+-- its counts, which don't depend on the default symbol
 abbrev pub counts_over : Grid → SymbolSets → List (Formula × ℕ) → Counted
 counts_over g s cases = counted_step (Automaton-F.Given (record { cases = map (case_over g s) cases; otherwise = 0 }))
 

@@ -22,7 +22,7 @@ pub record HaveNodes (f g : Automaton) (nodes : ℕ) : Type 0 where
 abbrev pub OverBoth : Automaton → Automaton → (CommonNumbers → Type 0) → Type 0
 OverBoth f g P = (s : CommonNumbers) → IsAutomaton s f → IsAutomaton s g → P s
 
--- what is counted of the composition
+-- the counts of the composition
 abbrev pub composition : Automaton → Automaton → Counted
 composition f g = counted (v.Composed f g)
 

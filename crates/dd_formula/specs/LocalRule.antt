@@ -26,7 +26,7 @@ pub record LocalRule : Type 0 where
   pub edges : List Edge
   pub formula : Formula
 
--- from its parts
+-- the rule with these parts
 abbrev pub kept_rule : ℕ → ℕ → SymbolSets → List Edge → Formula → LocalRule
 kept_rule d nodes s edges f = record { dimension = d; nodes = nodes; symbols = s.symbols; allowed = s.allowed; edges = edges; formula = f }
 
@@ -83,7 +83,7 @@ is_near c = nat_le (extent c.position) most_reach
 abbrev pub is_of : LocalRule → Cell → Bool
 is_of r c = is_cell_in r.dimension r.nodes c
 
--- a rule within them at each node
+-- the rule is within these limits at each node
 abbrev pub IsSmall : LocalRule → Type 0
 IsSmall r = (a : ℕ) → a < r.nodes → instances (expansion_at r a) ≤ most_instances
 

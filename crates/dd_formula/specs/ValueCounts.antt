@@ -48,10 +48,11 @@ valued_step n (Automaton-F.Composed f g) =
 abbrev pub value_clauses : ℕ → Automaton → ℕ → ℕ
 value_clauses n f = (fold-Automaton Valued (valued_step n) f).clauses
 
--- at a node two automata differ: their values, for each symbol a gate over two signals, and a gate over these
+-- the clauses that say that two automata differ at a node: those of their values, a gate over two signals for each
+-- symbol, and a gate over these
 abbrev pub differ_at : ℕ → Automaton → Automaton → ℕ → ℕ
 differ_at n f g a = value_clauses n f a + value_clauses n g a + n * gate_clause_count 2 + gate_clause_count n
 
--- they differ at some of the nodes
+-- the clauses that say that they differ at some of the nodes
 abbrev pub differ_clauses : ℕ → ℕ → Automaton → Automaton → ℕ
 differ_clauses n nodes f g = total (map (differ_at n f g) (range_with_len 0 nodes)) + 1

@@ -13,7 +13,7 @@ use Rattle.dd_formula.specs.declared.automaton.Cases.{Cases}
 abbrev pub are_given : Look → Place → List Cell → Bool
 are_given look v ds = list_all (λ d. is_some (seen look v d)) ds
 
--- the same of what the automaton reads at a cell
+-- the same for what the automaton reads at a cell
 abbrev pub is_read : Automaton → Cell → Look → Bool
 is_read f c look = are_given look c.position ((counted f).reads c.node)
 
@@ -24,7 +24,7 @@ pub record HasLook (f : Automaton) (c : Cell) (look : Look) : Type 0 where
   pub below : c.node < setting.nodes
   pub symbols : HasSymbolsBelow setting.symbols look
 
--- the same of cases that fit the numbers, where what they read at the cell is given
+-- the same for cases that fit the numbers, where what they read at the cell is given
 pub record HasCasesLook (cases : Cases) (c : Cell) (look : Look) : Type 0 where
   pub setting : CommonNumbers
   pub fit : cases_fit setting cases.cases cases.otherwise ≡ true
@@ -32,7 +32,7 @@ pub record HasCasesLook (cases : Cases) (c : Cell) (look : Look) : Type 0 where
   pub symbols : HasSymbolsBelow setting.symbols look
   pub given : are_given look c.position (cases_reads cases.cases c.node) ≡ true
 
--- what is read at each node are cells of Z^d with one of the nodes, over all numbers that fit
+-- the cells read at each node are cells of Z^d with one of the nodes, over all numbers that fit
 abbrev pub CasesArePlaced : Cases → Type 0
 CasesArePlaced c = (s : CommonNumbers) → cases_fit s c.cases c.otherwise ≡ true → (a : ℕ) → a < s.nodes → list_all (is_cell_of s) (cases_reads c.cases a) ≡ true
 

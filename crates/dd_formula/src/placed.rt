@@ -4,7 +4,7 @@ ghost use Rattle.dd_formula.specs.Values.{CasesArePlaced, IsPlaced};
 use crate::automaton::{Automaton, Cases};
 
 impl Cases {
-    /// Only looks at the rules, for what they keep: each cell that one reads is a cell of Z^d with one of the nodes.
+    /// Only looks at the rules. Its contract says that each cell that one reads is a cell of Z^d with one of the nodes.
     pub fn reads_are_placed(&self)
         ensures { CasesArePlaced self.now }
     {
@@ -16,8 +16,8 @@ impl Cases {
 }
 
 impl Automaton {
-    /// Only looks at the rules, for what they keep: each cell that the automaton reads is a cell of Z^d with one of the
-    /// nodes.
+    /// Only looks at the rules. Its contract says that each cell that the automaton reads is a cell of Z^d with one of
+    /// the nodes.
     pub fn reads_are_placed(&self)
         ensures { IsPlaced self.now }
     {

@@ -144,7 +144,7 @@ impl Rule {
         &self.formula
     }
 
-    /// The formula without variables that says the same at the node's cells, of cells that are counted from their position.
+    /// The formula without variables that says the same at the node's cells. Its cells are counted from their position.
     pub fn expansion(&self, node: u32) -> &Expanded
         requires { node < self.now.nodes }
         ensures value { result.now ≡ expansion_at self.now node }

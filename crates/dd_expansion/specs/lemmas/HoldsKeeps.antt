@@ -1,4 +1,4 @@
--- What is said of the symbols at the leaves, or at the cells that are read, does not depend on the other symbols.
+-- The truth depends only on the symbols at the leaves, or at the cells that are read.
 use Rattle.std.proofs.Common.{◌≡◌, ℕ, Bool, true, List, [], ◌∷◌, map, refl, ap}
 use Rattle.std.specs.Prelude.{not, is_some}
 use Rattle.std.specs.List.{list_all, list_any}

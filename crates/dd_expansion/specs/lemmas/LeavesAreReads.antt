@@ -164,7 +164,7 @@ pub leaves_are_reads : (es : List Edge) (n : ℕ) → 1 ≤ n → (f : Formula) 
 leaves_are_reads es n some = ind-Formula (ReadsThose es n) (λ x y is env test.
     rw (fold-roll-Formula Expansion (expansion_step es n) x, fold-roll-Formula Reading (reads_step es) x, ← is) (step_reads es n some env test y))
 
--- two lists of which each test says the same have the same cells
+-- two lists that pass the same tests have the same cells
 abbrev is_cell : Cell → Cell → Bool
 is_cell d c = is_eq (cell_cmp c d)
 

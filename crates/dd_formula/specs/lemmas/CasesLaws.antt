@@ -16,7 +16,7 @@ use Rattle.dd_formula.specs.declared.fault.RuleFault.{RuleFault}
 use Rattle.dd_formula.specs.declared.fault.RuleFault.TheVariants.{Reach, Instances, Depth, Memory}
 use Rattle.dd_formula.specs.lemmas.CompositionLaws.{range_fails}
 
--- what has at least a rule's instances and reads at least its cells is refused where the rule is
+-- an automaton with at least a rule's instances and reads is refused if the rule is
 module _ (r : LocalRule) (f : Counted) (large : (a : ℕ) → instances (expansion_at r a) ≤ f.instances a) (far : (a : ℕ) → list_all is_near (reads_at r a) ≡ false → list_all is_near (f.reads a) ≡ false) where
   pub refused : (e : RuleFault) → (IsSmall r → is_few r.nodes f ≡ true) → IsRuleRefusal r e → IsCasesRefusal r.nodes f e
   refused Instances few h = range_fails (λ a. nat_le (f.instances a) most_instances) r.nodes h.node h.exists (lt-leb _ _ (omega (arith, h.many, large h.node)))

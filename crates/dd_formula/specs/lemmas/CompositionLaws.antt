@@ -40,7 +40,7 @@ and_self : (a : Bool) → (a && a) ≡ a
 and_self true = refl
 and_self false = refl
 
--- a test that says the same of all numbers
+-- a test with the same answer for all numbers
 range_constant : (p : ℕ → Bool) → ((a : ℕ) → p a ≡ p 0) → (k n : ℕ) → list_all p (range_with_len k (suc n)) ≡ p 0
 range_constant p same k zero = and_true (p k) ∙ same k
 range_constant p same k (suc n) = ap (λ b. p k && b) (range_constant p same (k + 1) n) ∙ (ap (λ b. b && p 0) (same k) ∙ and_self (p 0))

@@ -40,7 +40,7 @@ flat_in_box t c tile at =
     (axis_flat (nat_lt 2 t.dimension) c.position.z
     (λ unused. base_flat c.position.z t.periods.z (tile.periods.z_unused (let low = ltb-false 2 t.dimension unused in omega (arith, low))) (ap (λ (p : Place). p.z) at.base)))
 
--- a configuration does not live where the rule is false at a cell of its box
+-- a configuration isn't in the subshift if the rule is false at a cell of its box
 pub not_both : (x : LocalRule) (t : Tile) → IsTile t → Fits x t → (c : Cell) → IsFirstFalse x t c → Lives x t → ⊥
 not_both x t tile fits c first lives =
     let flat : is_flat x.dimension c.position ≡ true = subst (λ d. is_flat d c.position ≡ true) fits.dimension (flat_in_box t c tile first.within) in

@@ -71,7 +71,7 @@ reach_within r k all =
 pub reach_near : (r : LocalRule) → IsRule r → reach r ≤ 16
 reach_near r ok = reach_within r 16 ok.short
 
--- the same of an automaton at the first n nodes
+-- the same for an automaton at the first n nodes
 automaton_nodes : (f : Automaton) (n k : ℕ) → nat_le (automaton_reach n f) k ≡ list_all (λ a. list_all (is_within k) (cells_of f a)) (range_with_len 0 n)
 automaton_nodes f n k = all_within k (automaton_cells n f) ∙ list_all-flat_map (is_within k) (cells_of f) (range_with_len 0 n)
 

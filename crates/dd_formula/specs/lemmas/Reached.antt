@@ -1,4 +1,4 @@
--- What a rule reads at the cells of a fundamental box is there.
+-- What a rule reads at the cells of a fundamental box has symbols.
 use Rattle.std.proofs.Common.{◌≡◌, ℕ, zero, suc, ◌+◌, ◌<◌, ◌≤◌, true, List, [], ◌∷◌, length, pos, unsigned_abs, refl, ap, arith}
 use Rattle.std.specs.Prelude.{is_some, nat_lt, slice_get, IfSome, None}
 use Rattle.std.specs.List.{list_all, All, position_or_len}

@@ -30,7 +30,7 @@ equal_symbols None b h = absurd (cc)
 equal_symbols (Some x) None h = absurd (cc)
 equal_symbols (Some x) (Some y) h = ap Some (sym (eqb-true y x h))
 
--- The truth depends on the cells read alone: where these have the same symbols, counted from u under one look and from v
+-- The truth depends only on the cells read. If these have the same symbols, counted from u under one look and from v
 -- under the other, the rule says the same at u and at v.
 pub truth_by_reads : (r : LocalRule) (a : ℕ) (u v : Place) (one other : Look) → list_all (λ d. are_equal (one (shifted u d)) (other (shifted v d))) (reads_at r a) ≡ true →
     is_true r (cell u a) one ≡ is_true r (cell v a) other
@@ -40,7 +40,7 @@ truth_by_reads r a u v one other same =
     ∙ (truth_depends r.edges r.formula (origin_at a ∷ []) alike (λ d. one (shifted u d)) (λ d. other (shifted v d)) (λ d. equal_symbols (one (shifted u d)) (other (shifted v d))) same
     ∙ sym (truth_moved_back r v a other))
 
--- the same of looks of which the one gives each symbol that the other gives
+-- the same for two looks, one of which gives each symbol that the other gives
 pub truth_by_given : (r : LocalRule) (a : ℕ) (u v : Place) (less more : Look) → ((d : Cell) → is_some (less (shifted u d)) ≡ true → less (shifted u d) ≡ more (shifted v d)) →
     list_all (λ d. is_some (less (shifted u d))) (reads_at r a) ≡ true → is_true r (cell u a) less ≡ is_true r (cell v a) more
 truth_by_given r a u v less more same given =

@@ -57,7 +57,7 @@ shifted_by_none d = ap (λ p. cell p d.node) (moved_by_none d.position)
 pub equal_values : (x y : ℕ) → x ≡ y → are_equal (Some x) (Some y) ≡ true
 equal_values x y e = eq-eqb y x (sym e)
 
--- The value depends on the cells read alone: where these have the same symbols, counted from u under one look and from w
+-- The value depends only on the cells read. If these have the same symbols, counted from u under one look and from w
 -- under the other, the values at u and at w are the same.
 abbrev alike : Place → Place → Look → Look → Cell → Bool
 alike u w one other d = are_equal (one (shifted u d)) (other (shifted w d))
@@ -178,7 +178,7 @@ case_step cases otherwise look at i case b below is here =
     ∙ (ap (λ t. cond t case.1 (first_case (drop (suc i) cases) otherwise look at)) here
     ∙ ap (λ n. cond b case.1 (first_case (drop n cases) otherwise look at)) (sym (add-one i))))
 
--- the rule of a case can be asked where all cases can
+-- the symbols that one case reads are given if those of all cases are
 pub case_given : (cases : List (LocalRule × ℕ)) (look : Look) (p : Place) (a i : ℕ) (case : LocalRule × ℕ) → are_given look p (cases_reads cases a) ≡ true → i < length cases → case ≡ get_or cases i case →
     are_given look p (reads_at case.0 a) ≡ true
 case_given cases look p a i case given below is =

@@ -5,7 +5,7 @@ use Rattle.dd_expansion.specs.Truth.{is_symbol}
 use Rattle.dd_numbered.specs.declared.numbered.Numbered.{Numbered}
 use Rattle.dd_numbered.specs.Numbered.{holds_in}
 
--- whatever symbols follow, the same is said of the symbol with the number
+-- whatever symbols follow, the answer for the symbol at the number is the same
 abbrev pub IsTold : ℕ → ℕ → List ℕ → Bool → Type 0
 IsTold s k ss b = (more : List ℕ) → is_symbol s (slice_get (ss ++ more) k) ≡ b
 
