@@ -97,7 +97,7 @@ fn differ_at(
 /// which is below 2^31.
 ///
 /// # Errors
-/// `AllocError` where memory was wanting.
+/// `AllocError` if memory ran out.
 pub fn differ_clauses(
     alloc: Global,
     first: &Automaton,

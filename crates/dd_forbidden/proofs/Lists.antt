@@ -29,7 +29,7 @@ contains_nil q c = absurd (let below = c.1 in omega arith)
 all_from_contains : {X : Type 0} (P : X → Type 0) (xs : List X) → ((q : X) → Contains xs q → P q) → All P xs
 all_from_contains P xs h = All-weaker (Contains xs) P h xs (All-contains_itself xs)
 
--- one list after another, each of whose members stands before all of the other's
+-- two lists joined, where each member of the first is before all of the second
 pub sorted_append : {K : Type 0} (R : K → K → Ordering) (xs ys : List K) → IsStrictlySortedBy R xs → IsStrictlySortedBy R ys →
     ((p q : K) → Contains xs p → Contains ys q → R p q ≡ Less) → IsStrictlySortedBy R (xs ++ ys)
 unfolding IsStrictlySortedBy
@@ -70,7 +70,7 @@ range_from k (suc n) s c = elim (cons_cases k (range_with_len (k + 1) n) s c) [
   | inr there ↦ let later = range_from (k + 1) n s there in omega arith
 ]
 
--- lists that differ first where one has the less number
+-- of two lists, the one with the smaller number where they first differ is the smaller
 pub less_at : (start : List ℕ) (k s : ℕ) (ks ss : List ℕ) → k < s → slice_cmp nat_cmp (start ++ k ∷ ks) (start ++ s ∷ ss) ≡ Less
 less_at [] k s ks ss less = rw (sym (nat_cmp_is k s Less less)) refl
 less_at (x ∷ start) k s ks ss less = rw (sym (nat_cmp_is x x Equal refl)) (less_at start k s ks ss less)

@@ -23,7 +23,7 @@ are_allowed r (c ∷ cs) (s ∷ ss) = rule_allows r c.node s && are_allowed r cs
 abbrev pub is_true_at_origin : LocalRule → ℕ → List ℕ → Bool
 is_true_at_origin r a ss = is_true r (origin_at a) (filling_look (filled (cells_at r a) ss))
 
--- the cells that the rule reads at the node have more fillings than are looked through
+-- the cells that the rule reads at the node have more fillings than the limit
 abbrev pub is_large : LocalRule → ℕ → Bool
 is_large r a = nat_lt most_patterns (pattern_count r a)
 

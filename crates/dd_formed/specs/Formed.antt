@@ -1,4 +1,4 @@
--- Automata that are made once more, where they are well formed.
+-- Automata that are made again, if they are well formed.
 use Rattle.std.specs.Prelude.{◌≡◌, Option, MatchOption}
 use Rattle.dd_formula.specs.Automata.{CommonNumbers, IsAutomaton}
 use Rattle.dd_formula.specs.declared.automaton.Automaton.{Automaton}

@@ -5,7 +5,7 @@ ghost use Rattle.dd_expansion.specs.Limits.{depth, list_depth};
 
 use dd_expansion::Formula;
 
-/// Whether the formula is so deep at most.
+/// Whether the formula is at most so deep.
 #[cycle(shallow)]
 #[tactic(auto, using(crate::proofs::Layers::depth_layers))]
 pub(crate) fn is_shallow(formula: &Formula, most: u32) -> bool

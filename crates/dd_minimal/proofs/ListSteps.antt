@@ -1,4 +1,4 @@
--- One filling more is gone through, and what the list comes to at the end.
+-- One more filling is done, and what the list is at the end.
 use Rattle.std.proofs.Common.{◌≡◌, ◌<◌, ◌+◌, ◌^◌, ℕ, zero, suc, Bool, true, false, cond, Option, List, [], ◌∷◌, ◌++◌, length, map, drop, get_or, replicate, refl, sym, ◌∙◌, ap, subst, arith}
 use Rattle.std.specs.List.{All, Contains, filter}
 use Rattle.std.proofs.lemmas.List.{append_assoc, append-nil, length-replicate}
@@ -23,7 +23,7 @@ use Rattle.dd_minimal.proofs.MarkLaws.{marks_more, marked_length}
 abbrev Patterns : Type 0
 Patterns = List (List (Option ℕ))
 
--- ---- where a filling is passed over, and where it is listed
+-- ---- where a filling is skipped, and where it is listed
 
 not_breaking : (thin : List ℕ → List (Option ℕ)) (found : Patterns) (ss : List ℕ) (rest : List (List ℕ)) (b : Bool) → b ≡ false → listed thin found (cond b (ss ∷ rest) rest) ≡ listed thin found rest
 not_breaking thin found ss rest b is = ap (λ c. listed thin found (cond c (ss ∷ rest) rest)) is

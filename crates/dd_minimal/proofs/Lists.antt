@@ -148,7 +148,7 @@ has f (x ∷ xs) h = has_at f x xs (f x) refl (has f xs) h
 all_from_contains : {X : Type 0} (P : X → Type 0) (xs : List X) → ((q : X) → Contains xs q → P q) → All P xs
 all_from_contains P xs h = All-weaker (Contains xs) P h xs (All-contains_itself xs)
 
--- one list after another, each of whose members stands before all of the other's
+-- two lists joined, where each member of the first is before all of the second
 pub sorted_append : {K : Type 0} (R : K → K → Ordering) (xs ys : List K) → IsStrictlySortedBy R xs → IsStrictlySortedBy R ys →
     ((p q : K) → Contains xs p → Contains ys q → R p q ≡ Less) → IsStrictlySortedBy R (xs ++ ys)
 unfolding IsStrictlySortedBy

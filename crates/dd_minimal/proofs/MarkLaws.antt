@@ -24,7 +24,7 @@ fold_keeps : {X : Type 0} (step : X → ℕ → X) (Q : X → Type 0) → ((now 
 fold_keeps step Q keeps [] x q = q
 fold_keeps step Q keeps (s ∷ xs) x q = fold_keeps step Q keeps xs (step x s) (keeps x s q)
 
--- what one step brings, and the others keep, where L stands all the time
+-- what one step establishes and the others keep, where L holds all the time
 fold_brings : {X : Type 0} (step : X → ℕ → X) (L Q : X → Type 0) → ((now : X) (s : ℕ) → L now → L (step now s)) → ((now : X) (s : ℕ) → Q now → Q (step now s)) →
     (t : ℕ) → ((now : X) → L now → Q (step now t)) → (xs : List ℕ) (x : X) → Contains xs t → L x → Q (fold step x xs)
 fold_brings step L Q stands keeps t brings [] x c l = absurd (contains_nil t c)
@@ -33,7 +33,7 @@ fold_brings step L Q stands keeps t brings (s ∷ xs) x c l = elim (cons_cases s
   | inr there ↦ fold_brings step L Q stands keeps t brings xs (step x s) there (stands x s l)
 ]
 
--- a step that brought it
+-- a step that establishes it
 pub record Brought (R : ℕ → Type 0) (xs : List ℕ) : Type 0 where
   pub by : ℕ
   pub listed : Contains xs by

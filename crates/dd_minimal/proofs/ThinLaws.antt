@@ -59,8 +59,8 @@ thinned_enough enough (s ∷ ss) h =
     let first = cond (enough (None ∷ whole ss)) None (Some s) in
     thinned_enough (λ p. enough (first ∷ p)) ss (enough_first enough s ss (enough (None ∷ whole ss)) refl h)
 
--- A cell was kept because the pattern without it, and with all behind it whole, wasn't enough. What is left out behind it makes
--- more fillings agree, so that it still isn't.
+-- A cell was kept because the pattern without it, with all later cells kept, wasn't enough. Leaving out later cells makes
+-- more fillings agree, so it still isn't.
 
 rises_behind : (enough : List (Option ℕ) → Bool) (x : Option ℕ) → Rises enough → Rises (λ p. enough (x ∷ p))
 rises_behind enough x up p q weaker h = up (x ∷ p) (x ∷ q) (weaker_cons x x p q (λ t same. same) weaker) h
