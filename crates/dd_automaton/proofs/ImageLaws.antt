@@ -76,7 +76,7 @@ image_from_box f t n ok formed placed ss as_many each = record {
     below_by m (x ∷ xs) h zero d within = h zero (omega arith)
     below_by m (x ∷ xs) h (suc k) d within = below_by m xs (λ j below. h (suc j) (omega arith)) k d (omega arith)
 
--- the configuration gives symbols of the alphabet, and what is read at the cells of the box is there
+-- the configuration gives symbols of the alphabet, and what is read at the cells of the box has symbols
 pub tile_is_below : (n : ℕ) (t : Tile) → All (λ s. s < n) t.symbols → HasSymbolsBelow n (tile_look t)
 tile_is_below n t h c = by (nat_lt c.node t.nodes)
   where

@@ -1,4 +1,4 @@
--- What an automaton reads at the origin of a periodic configuration is there.
+-- What an automaton reads at the origin of a periodic configuration has symbols.
 use Rattle.std.proofs.Common.{◌≡◌, ◌<◌, ℕ, true, Option, Some, None, if◌then◌else◌, refl, ap, sym, ◌∙◌, arith, pos}
 use Rattle.std.specs.Prelude.{◌-ℤ◌, ◌*ℤ◌}
 use Rattle.std.proofs.lemmas.Int.{ints}

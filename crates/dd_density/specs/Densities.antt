@@ -1,4 +1,4 @@
--- What the least density of a strip is answered with.
+-- What answers on the least density of a strip say.
 use Rattle.std.specs.Prelude.{ℕ, ◌≤◌, ℤ, unsigned_abs, List, length}
 use Rattle.std.specs.List.{All}
 use Rattle.dd_values.specs.Bounds.{most_number}

@@ -15,7 +15,7 @@ use Rattle.dd_maps.specs.Refusals.{PassesGuard, IsMarkedFault, IsImageFault}
 use Rattle.dd_maps.proofs.Near.{marked_short}
 use Rattle.dd_maps.proofs.Sizes.{many_outer}
 
--- within the limits only memory can be wanting
+-- within the limits only memory can run out
 pub only_memory : (n : ℕ) (f : Counted) → is_few n f ≡ true → is_short n f ≡ true → (e : RuleFault) → IsCasesRefusal n f e → e ≡ Memory
 only_memory n f few short Instances h = absurd (let both : true ≡ false = sym few ∙ h in cc)
 only_memory n f few short Reach h = absurd (let both : true ≡ false = sym short ∙ h.1 in cc)

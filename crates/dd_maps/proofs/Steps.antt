@@ -9,7 +9,7 @@ use Rattle.dd_formula.specs.lemmas.Ranges.{range_push}
 kept_with : (q : ℕ → Bool) (n : ℕ) (b : Bool) → q n ≡ b → filter q (range_with_len 0 (n + 1)) ≡ filter q (range_with_len 0 n) ++ cond b (n ∷ []) []
 kept_with q n b h = ap (filter q) (range_push n) ∙ (filter-append q (range_with_len 0 n) (n ∷ []) ∙ rw h refl)
 
--- behind the items of a front
+-- behind the items of a prefix
 module _ {X : Type 0} (front : List X) (g : ℕ → X) (q : ℕ → Bool) (n : ℕ) (old : List X) (so_far : old ≡ front ++ map g (filter q (range_with_len 0 n))) where
   pub passed : (new : List X) (x : X) → q n ≡ true → x ≡ g n → new ≡ old ++ x ∷ [] → new ≡ front ++ map g (filter q (range_with_len 0 (n + 1)))
   passed new x here made is =

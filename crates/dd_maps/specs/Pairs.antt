@@ -30,7 +30,7 @@ marked g s y = by_cases g s ((guarded_of s y, 0) ∷ []) 1
 abbrev pub always_zero : Grid → SymbolSets → Automaton
 always_zero g s = by_cases g s [] 0
 
--- where the symbol is t, t
+-- the case that gives t where the symbol is t
 abbrev pub own_symbol : ℕ → Formula × ℕ
 own_symbol t = (symbol_is t, t)
 

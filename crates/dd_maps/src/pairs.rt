@@ -20,9 +20,9 @@ use std::alloc::{AllocError, Global};
 /// How deep a formula is at most.
 const MOST_NESTED: u32 = 64;
 
-/// The automaton that gives 0 where the rule is true and the symbol is allowed, else 1. It has one case, the guarded
-/// formula: the rule's formula, and for each node that doesn't allow some symbol a part that says that the cell doesn't have
-/// this node or has one of the symbols that the node allows. Where every node allows all symbols, it is the rule's formula.
+/// The automaton that gives 0 where the rule is true and the symbol is allowed, else 1. Its one case is the guarded
+/// formula: the rule's formula, with a guard for each node that doesn't allow some symbol. The guard says that the cell
+/// doesn't have this node, or has a symbol that the node allows.
 ///
 /// # Errors
 /// `Depth` where the guarded formula is more than 64 deep; else `Instances` where the automaton has more than 20,000
@@ -101,14 +101,14 @@ fn composed_with(alloc: Global, outer: Automaton, inner: &Automaton) -> Result<A
     }
 }
 
-/// Two automata that give a cell different symbols exactly where its value under `map` is a symbol that the node doesn't
-/// allow, or the values break the target there: the composition that takes `map` first and then what `marked` makes of the
-/// target, and the automaton that gives 0 everywhere. So they differ at some node of a position exactly where the image
+/// Two automata: the composition that takes `map` first and then what `marked` makes of the target, and the automaton
+/// that gives 0 everywhere. They give a cell different symbols exactly if its value under `map` is a symbol that the node
+/// doesn't allow, or the values break the target there. So they differ at some node of a position exactly if the image
 /// breaks the target there.
 ///
 /// # Errors
-/// `Depth` where the target's guarded formula is more than 64 deep; else `Instances`, `Reach` and `Depth` at the limits of
-/// the composition, in this order; or `Memory`.
+/// `Depth` where the target's guarded formula is more than 64 deep; else `Instances`, `Reach` and `Depth` at the limits
+/// of the composition, in this order; or `Memory`.
 pub fn image_pair(
     alloc: Global,
     topology: &Topology,
@@ -136,8 +136,8 @@ pub fn image_pair(
     Ok((composed, zero))
 }
 
-/// Two automata that give a cell with a symbol different symbols exactly where `outer` on the values of `inner` doesn't give
-/// its symbol back: the composition that takes `inner` first, and the identity.
+/// Two automata: the composition that takes `inner` first and then `outer`, and the identity. They give a cell with a
+/// symbol different symbols exactly if the composition doesn't give its symbol back.
 ///
 /// # Errors
 /// `Instances`, `Reach` and `Depth` at the limits of the composition, in this order; or `Memory`.

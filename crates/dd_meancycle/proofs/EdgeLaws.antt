@@ -146,7 +146,7 @@ path_falls g ranks given (s ∷ ss) u v walk =
 pub no_cycle : (g : Transfer) (ranks : List ℕ) → AreRanks g ranks → (ss : List ℕ) → IsCycle g ss → ⊥
 no_cycle g ranks given ss is = let f = path_falls g ranks given ss is.last is.last is.closed in let t = is.turns in absurd (omega (arith, f, t))
 
--- the edges of a walk of a graph weigh at most so much as each of them weighs most
+-- the weight of a walk of the graph, times n, is at most 2^25 for each of its edges
 walk_light : (n : ℕ) (edges es : List Edge) → All (IsEdgeOf n) edges → AreAmong edges es → n * edges_weight es ≤ length es * 2 ^ 25
 walk_light n edges [] all among = omega arith
 walk_light n edges (e ∷ es) all among =

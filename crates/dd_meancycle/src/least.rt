@@ -128,7 +128,7 @@ fn confirmed_mean(graph: &Graph, edges: &[Edge], found: Found) -> Option<Mean>
     })
 }
 
-/// The same by the table of all lengths.
+/// The answer by the table of walks of all lengths.
 fn mean_over(alloc: Global, graph: &Graph, edges: &[Edge]) -> Result<Mean, AllocError>
     requires edges { AreEdges graph.now edges.now }
     ensures { IfOk result (IsMeanOf graph.now) }

@@ -25,7 +25,7 @@ use Rattle.dd_transfer.proofs.Stands.{between, le_from, least_low, greatest_high
 use Rattle.dd_transfer.proofs.Slicing.{given, symbols_joined, slices_joined, slices_longer, slices_below, digits_from, slice_weighs}
 use Rattle.dd_transfer.proofs.Moving.{along, part, IsInside, place_same, plus_zero, if_some, part_same, part_inside, moved_inside, truth_same}
 
--- back from x, and there again
+-- moved back by x, and forth again
 back_and_there : (x c : ℤ) → ((c -ℤ x) +ℤ x) ≡ c
 back_and_there x c = omega (arith, ints)
 
@@ -35,7 +35,7 @@ back_inside x c n p q = (omega (arith, ints), omega (arith, ints))
 turned : (x y : ℤ) → (x +ℤ y) ≡ (y +ℤ x)
 turned x y = omega (arith, ints)
 
--- fewer slices among those that are there
+-- fewer slices, where more have symbols
 pub fewer : (r : LocalRule) (look : Look) (x y : ℤ) (m n : ℕ) → x ≤ℤ y → (y +ℤ pos m) ≤ℤ (x +ℤ pos n) → HasSlices r look x n → HasSlices r look y m
 fewer r look x y m n low high has c inside node = has c (record { from = lower x y c.position.x low inside.from; before = higher c.position.x (y +ℤ pos m) (x +ℤ pos n) inside.before high }) node
   where

@@ -1,5 +1,5 @@
--- The window of a look from x on says of the symbols, counted from x, what the look says: the rule is kept in the one exactly where
--- it is kept in the other.
+-- The window of a look from x on has the symbols of the look, counted from x. So the rule is kept in the window exactly
+-- if it is kept in the look.
 use Rattle.std.proofs.Common.{◌≡◌, ℕ, zero, suc, ◌+◌, ◌*◌, ◌/◌, ◌%◌, ◌<◌, ◌≤◌, Bool, true, false, List, [], ◌∷◌, length, ℤ, pos, ◌+ℤ◌, ◌≤ℤ◌, unsigned_abs, Option, Some, None, refl, ap, sym, ◌∙◌, subst, arith, inl, inr}
 use Rattle.std.specs.Prelude.{◌<ℤ◌, ◌&&◌, cond, int_le, nat_lt, is_some, slice_get, unwrap_or, IfSome}
 use Rattle.std.specs.List.{list_all}

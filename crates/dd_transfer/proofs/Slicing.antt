@@ -22,7 +22,7 @@ use Rattle.dd_transfer.proofs.Numbers.{joined, digits_of, number_below, listed, 
 abbrev pub symbol_from : Strip → Look → ℤ → ℕ → ℕ
 symbol_from s look x k = unwrap_or (look (cell_from s x k)) 0
 
--- that a symbol is there
+-- a symbol is given
 pub record Given (r : LocalRule) (o : Option ℕ) : Type 0 where
   pub symbol : ℕ
   pub is : o ≡ Some symbol

@@ -1,4 +1,4 @@
--- A rule in a window: it is true at a whole x where it is true at the cells of a slice.
+-- A rule in a window: it is true at all places of an x if it is true at the cells of the slice.
 use Rattle.std.proofs.Common.{◌≡◌, ℕ, zero, suc, ◌+◌, ◌*◌, ◌<◌, true, List, [], ◌∷◌, ℤ, pos, ◌+ℤ◌, unsigned_abs, None, refl, ap, sym, ◌∙◌, subst, arith}
 use Rattle.std.specs.Prelude.{nat_lt, int_le, slice_get, IfSome, cond, ◌&&◌}
 use Rattle.std.specs.List.{All}

@@ -1,5 +1,5 @@
--- What certifies the least density of a strip: a closed walk of its transfer graph and potentials; or ranks, where no walk goes on
--- for ever.
+-- What certifies the least density of a strip: a closed walk of its transfer graph and potentials; or ranks, if no walk
+-- is infinite.
 use Rattle.std.specs.Prelude.{◌≡◌, ℕ, ◌+◌, ◌*◌, ◌%◌, ◌<◌, ℤ, pos, ◌-ℤ◌, ◌≤ℤ◌, List, [], ◌∷◌, length, slice_index, slice_index_or}
 use Rattle.std.specs.Int.{IsGcd}
 use Rattle.dd_formula.specs.LocalRule.{LocalRule}

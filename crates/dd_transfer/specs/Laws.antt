@@ -23,7 +23,8 @@ pub record AreDigits (base : ℕ) : Type 0 where
 
 -- what the transfer graph says of the slices of a look that repeats across the strip
 pub record AreEdgesOf (r : LocalRule) (s : Strip) (look : Look) : Type 0 where
-  -- slices from x on are the first ones and those behind them, and their number is that of the first ones with the last one's
+  -- m + n slices from x on are the first m and then the other n; the number of n + 1 slices has the last slice as its
+  -- last digit
   pub joined : (x : ℤ) (m n : ℕ) → symbols_from s look x (m + n) ≡ symbols_from s look x m ++ symbols_from s look (x +ℤ pos m) n
   pub longer : (x : ℤ) (n : ℕ) → slices_from r s look x (n + 1) ≡ slices_from r s look x n * slices r (positions s) + slices_from r s look (x +ℤ pos n) 1
   -- a slice weighs what its symbols weigh

@@ -51,7 +51,7 @@ pub fn graph(
     Ok(graph_of(alloc, rule, strip, weights, states, count)?)
 }
 
-/// The same with so many states and windows.
+/// The transfer graph with so many states and windows.
 fn graph_of(
     alloc: Global,
     rule: &Rule,
@@ -130,7 +130,7 @@ fn slice_weights(
     Ok(sums)
 }
 
-/// What a slice weighs; the list takes the symbols of its cells.
+/// What a slice weighs. The symbols of its cells are written into the list.
 fn slice_weight(symbols: &mut [u32], rule: &Rule, strip: Strip, weights: &[u32], slice: u32) -> u64
     requires strip { IsFor rule.now strip }
     requires weights { HasWeights rule.now weights.now }

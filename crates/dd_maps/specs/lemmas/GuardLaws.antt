@@ -41,8 +41,8 @@ pub truth_symbol : (es : List Edge) (t : ℕ) (c : Cell) (look : Look) → truth
 truth_symbol es t c look =
     ap (λ f. truth es f (c ∷ []) look) (sym (v.rolls-Symbol here t)) ∙ ap (λ h. h (c ∷ []) look) (fold-roll-Formula Truth (truth_step es) (Formula-F.Symbol here t))
 
--- At a cell with the symbol t the guard of another node is true, and the cell's own guard is true exactly where its node allows
--- t: among the listed symbols is then the one that is t. A node without a guard allows all symbols, so t too.
+-- At a cell with the symbol t the guards of other nodes are true. The guard of the cell's own node is true exactly if the
+-- node allows t, since t is then among the listed symbols. A node without a guard allows all symbols.
 module _ (es : List Edge) (s : SymbolSets) (c : Cell) (t : ℕ) (look : Look) (gives : look c ≡ Some t) (below : t < s.symbols) where
   symbols_say : (a : ℕ) → list_any (λ f. truth es f (c ∷ []) look) (map symbol_is (allowed_symbols s a)) ≡ allows s a t
   symbols_say a =

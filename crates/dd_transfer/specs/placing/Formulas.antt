@@ -24,7 +24,7 @@ pub record Standpoint : Type 0 where
 abbrev pub standpoint : Strip → Place → Standpoint
 standpoint s v = record { strip = s; at = v }
 
--- the same of cells that are counted from there
+-- the same for cells that are counted from there
 abbrev pub numbers_near : Standpoint → Numbering
 numbers_near p c = window_numbers p.strip (shifted p.at c)
 
