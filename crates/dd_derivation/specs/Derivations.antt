@@ -25,8 +25,8 @@ finding_of is_false [] = Falsified
 finding_of is_false (l ∷ rest) =
     if list_all (same_literal l) rest && not (is_false (negation l)) then Forced l else Open
 
--- what a clause says where these literals are false: that all of its own are false, or that the one that is not false,
--- and is not true yet, has to be true
+-- what a clause says, given which literals are false: all of its own are false, or the only one that is not false, and is
+-- not true yet, has to be true
 abbrev pub finding : (Literal → Bool) → List Literal → Finding
 finding is_false clause = finding_of is_false (filter (λ l. not (is_false l)) clause)
 
@@ -77,7 +77,7 @@ abbrev pub is_proper : ℕ → List Literal → Bool
 is_proper n [] = true
 is_proper n (l ∷ rest) = (is_literal_in_range n l && not (has_variable l.variable rest)) && is_proper n rest
 
--- where the literals of the step's clause are false, its hints end in a conflict, so that the clause follows
+-- with the literals of the step's clause false, its hints end in a conflict, so the clause follows
 abbrev pub is_right : ℕ → List (Option (List Literal)) → Step → Bool
 is_right n known s = is_proper n s.clause && (is_conflict known s.clause s.hints && are_deletable known s.deletes)
 
@@ -105,8 +105,8 @@ abbrev pub known_after_steps : List (Option (List Literal)) → List Step → Li
 known_after_steps known [] = known
 known_after_steps known (s ∷ steps) = known_after_steps (known_after known s.deletes) steps
 
--- The step at a place, from 0, is right where the list's clauses and the earlier steps' are known, but for those that
--- an earlier step deletes.
+-- The step at a place, from 0, is right. Known are the clauses of the list and of earlier steps, except those that an
+-- earlier step deletes.
 abbrev pub is_step_right : ℕ → List (List Literal) → List Step → ℕ → Bool
 is_step_right n clauses steps index =
     let earlier = take index steps in

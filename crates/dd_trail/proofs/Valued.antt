@@ -1,5 +1,5 @@
--- A trail whose variables are distinct and in range gives each of them a value, so there are no more entries than
--- variables; and where there are as many, each variable has one.
+-- A trail whose variables are distinct and in range has no more entries than there are variables. If it has as many, each
+-- variable has a value.
 use Rattle.std.proofs.Common.{◌≡◌, ◌≢◌, ℕ, zero, suc, ◌+◌, ◌-◌, ◌<◌, ◌≤◌, Bool, true, false, not, ◌||◌, List, [], ◌∷◌, ◌++◌, Option, Some, None, refl, ap, sym, ◌∙◌, subst, length, get_or, set, take, inl, inr, arith, eqb, add-one, get_or-set_same, get_or-set_other}
 use Rattle.std.specs.Bool.{beq, IsTrue}
 use Rattle.std.specs.Prelude.{◌↔◌}

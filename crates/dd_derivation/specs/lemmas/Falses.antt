@@ -64,7 +64,7 @@ marked_same marks step l x r v =
     let i : x.variable - 1 ≡ l.variable - 1 = omega arith in
     rw (i, get_or-set_same marks (l.variable - 1) (record { step = step; positive = l.positive }) (record { step = 0; positive = false }) lt, eq-eqb step step refl) refl
 
--- the mark of a literal says of those in range that it is false, and nothing else is new
+-- marking a literal makes it false, and changes nothing else among the literals in range
 set_more : (marks : List VariableMark) (step : ℕ) (falses : List Literal) (l x : Literal) → is_marked marks step x ≡ is_among falses x → IsLiteralInRange (length marks) x → IsLiteralInRange (length marks) l → is_among falses l ≡ false → is_among falses (negation l) ≡ false → is_marked (set marks (l.variable - 1) (record { step = step; positive = l.positive })) step x ≡ is_among (l ∷ falses) x
 set_more marks step falses l x m i r f g =
     elim (cases_eq x.variable l.variable) [

@@ -164,7 +164,7 @@ empty_false : (set : ℕ → Bool) (clause : List Literal) → is_empty clause �
 empty_false set [] h t = false≢true t
 empty_false set (l ∷ clause) h t = false≢true h
 
--- a right step's clause is true where the clauses that it follows from are
+-- a right step's clause is true if the clauses that it follows from are
 step_true : (set : ℕ → Bool) (n : ℕ) (known : List (Option (List Literal))) (step : Step) → KnownTrue set known → is_right n known step ≡ true → is_clause_true set step.clause ≡ true
 step_true set n known step s h =
     let c = (and_parts (is_conflict known step.clause step.hints) _ (and_parts (is_proper n step.clause) _ h).1).0 in
@@ -189,6 +189,6 @@ refutes_false set n known (step ∷ steps) s h =
       | inr r ↦ refutes_false set n (known_after known step.deletes ++ Some step.clause ∷ []) steps (All-push (TrueIfKnown set) _ (Some step.clause) (after_true set known step.deletes s) (λ c e. let q : step.clause ≡ c = some_eq _ _ e in subst (λ (x : List Literal). is_clause_true set x ≡ true) q t)) r
     ]
 
--- a derivation is sound: where it is right, nothing satisfies the clauses
+-- a derivation is sound: if it is right, nothing satisfies the clauses
 pub refutes_sound : (n : ℕ) (clauses : List (List Literal)) (steps : List Step) → refutes n clauses steps ≡ true → (set : ℕ → Bool) → Satisfies set clauses → ⊥
 refutes_sound n clauses steps h set s = refutes_false set n (map (λ c. Some c) clauses) steps (All-map (TrueIfKnown set) (λ c. Some c) clauses (λ k d l c e. let q : get_or clauses k d ≡ c = some_eq _ _ e in subst (λ (x : List Literal). is_clause_true set x ≡ true) q (s k d l))) h
