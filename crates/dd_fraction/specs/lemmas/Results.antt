@@ -78,7 +78,7 @@ lowest_whole n = lowest_alone n 1 (omega arith) (greatest_common-one (unsigned_a
 pub whole_fraction : (n : ℤ) → SFits w64 n → IsFraction (record { num = n; den = 1 })
 whole_fraction n f = IsFraction-whole n (omega (arith, ints, f))
 
--- ---- what a number that fits, or doesn't, says of the test
+-- ---- what a result says of the test
 pub kept : {A : Type 0} (t : Bool) (x z : A) → Some x ≡ cond t (Some z) None → (t ≡ true) × (x ≡ z)
 kept true x z e = (refl, cc)
 kept false x z e = absurd cc
