@@ -78,7 +78,7 @@ before_push made x q old new p c = elim (Contains-push_cases made x p c) [
   | inr is ↦ subst (λ z. place_cmp z q ≡ Less) is new
 ]
 
--- the walk takes the next position on the left, which stands before all that is left on the right
+-- the walk takes the next position on the left, which comes before all that is left on the right
 take_left : (l lr r rr made : List Place) (x : Place) → IsMerged l (x ∷ lr) r rr made → ((q : Place) → Contains rr q → place_cmp x q ≡ Less) →
     IsMerged (l ++ x ∷ []) lr r rr (made ++ x ∷ [])
 take_left l lr r rr made x m first = record {
@@ -125,7 +125,7 @@ take_both l lr r rr made x m =
       before_right = taken.before_right;
     }
 
--- a position before the first of an ascending list stands before all of it
+-- a position before the first of an ascending list comes before all of it
 before_all : (x y : Place) (ys : List Place) → IsStrictlySortedBy place_cmp (y ∷ ys) → place_cmp x y ≡ Less → (q : Place) → Contains (y ∷ ys) q → place_cmp x q ≡ Less
 before_all x y ys up less q c = elim (Contains-cons_cases y ys q c) [
   | inl is ↦ subst (λ z. place_cmp x z ≡ Less) is less

@@ -21,7 +21,7 @@ pub record IsRegionOf (S : PlaceSet) (ps : List Place) : Type 0 where
   pub region : IsRegion ps
   pub members : (p : Place) → Contains ps p ↔ S p
 
--- some member of the set stands at a position that is out of range
+-- some member of the set is at a position out of range
 pub record LeavesRangeAt {X : Type 0} (position : X → Place) (S : X → Type 0) : Type 0 where
   pub at : X
   pub member : S at

@@ -144,7 +144,7 @@ impl Box3 {
         )
     }
 
-    /// How many positions of the box stand before `p` in cell order, or `None` where `p` is outside.
+    /// How many positions of the box come before `p` in cell order, or `None` where `p` is outside.
     pub fn index_of(&self, p: &Position) -> Option<u64>
         ensures value { MatchOption result (IsWithin self.now p.now → ⊥) (λ i. (i < volume self.now) × (i ≡ index_in self.now p.now)) }
         ensures undone { IfSome result (λ i. place_in self.now i ≡ p.now) }

@@ -14,8 +14,8 @@ use std::marker::Model;
 /// The greatest number of symbols of a fundamental box.
 const MOST_SYMBOLS: usize = 65_536;
 
-/// A configuration that repeats along its period vectors. The symbols of the fundamental box, whose coordinates run from 0
-/// to the period less 1, stand in cell order.
+/// A configuration that repeats along its period vectors. The symbols of the fundamental box, whose coordinates run from
+/// 0 to the period less 1, are listed in cell order.
 #[derive(Debug, Drop)]
 pub struct Periodic {
     dim: u32,

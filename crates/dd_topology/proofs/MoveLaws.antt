@@ -36,13 +36,13 @@ single_more es i e within is before new =
 alike : (e f : Edge) → e.label ≡ f.label → e.from ≡ f.from → starts_alike e f ≡ true
 alike e f label from = and_from _ _ (eq-eqb e.label f.label label) (eq-eqb e.from f.from from)
 
--- two edges with one label from one node do not stand at two places
+-- two edges with the same label and first node are not at two places
 apart : (es : List Edge) → AreSingle es → (e f : Edge) (i j : ℕ) → i < j → j < length es → get_or es i e ≡ e → get_or es j f ≡ f → e.label ≡ f.label → e.from ≡ f.from → ⊥
 apart es single e f i j before below is is' label from =
     let same : get_or es j e ≡ f = get_or_default es j e f below ∙ is' in
     true≢false (sym (alike e f label from) ∙ (ap (λ x. starts_alike e x) (sym same) ∙ (ap (λ x. starts_alike x (get_or es j e)) (sym is) ∙ single i j e before below)))
 
--- two edges with one label from one node are one edge
+-- two edges with the same label and first node are the same edge
 one_edge : (es : List Edge) → AreSingle es → (e f : Edge) → Contains es e → Contains es f → e.label ≡ f.label → e.from ≡ f.from → e ≡ f
 one_edge es single e f (i, below, is) (j, below', is') label from =
     elim (cases_order i j) [

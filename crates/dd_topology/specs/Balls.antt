@@ -15,7 +15,7 @@ use Rattle.dd_topology.specs.Topology.{Leads, end_of, start_of}
 abbrev pub CellSet : Type 1
 CellSet = Cell → Type 0
 
--- some edge leads from the one to the other, in either direction
+-- an edge joins the two cells, in either direction
 abbrev pub IsAdjacent : List Edge → Cell → CellSet
 IsAdjacent es a b = (e : Edge) × Contains es e × (Leads e a b ⊎ Leads e b a)
 

@@ -16,7 +16,7 @@ use std::alloc::{AllocError, Global};
 use std::collections::BTreeSet;
 
 impl Topology {
-    /// Whether some edge leads from the one cell to the other, in either direction.
+    /// Whether an edge joins the two cells, in either direction.
     pub fn adjacent(&self, a: &Cell, b: &Cell) -> bool
         ensures test { result ≡ is_adjacent self.now.edges a.now b.now }
         ensures exact { IsTrue result ↔ IsAdjacent self.now.edges a.now b.now }
@@ -66,7 +66,7 @@ impl Topology {
     }
 }
 
-/// Whether some edge leads from the one cell to the other, in either direction.
+/// Whether an edge joins the two cells, in either direction.
 fn some_edge_joins(edges: &[Edge], a: &Cell, b: &Cell) -> bool
     ensures { result ≡ is_adjacent edges.now a.now b.now }
 {

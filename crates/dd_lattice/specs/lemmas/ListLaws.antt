@@ -46,7 +46,7 @@ sorted_push {K} R xs y up before =
       | inr none ↦ absurd (Contains-nil q none)
     ])
 
--- the head stands before the rest
+-- the head comes before the rest
 pub sorted_first : {K : Type 0} (R : K → K → Ordering) (x : K) (xs : List K) → IsStrictlySortedBy R (x ∷ xs) → (q : K) → Contains xs q → R x q ≡ Less
 unfolding IsStrictlySortedBy
 sorted_first R x xs up q c = All-contains (λ y. R x y ≡ Less) xs q (All-from_recursion (λ y. R x y ≡ Less) xs up.0) c

@@ -36,7 +36,7 @@ place_later x c cs h = rw h (omega arith)
 itself : (x c : Cell) → x ≡ c → is_cell c x ≡ true
 itself x c e = ap is_eq (ap (λ z. cell_cmp z c) e ∙ tied_itself cell_total c)
 
--- the place of a cell that stands in an ascending list
+-- the place of a cell in an ascending list
 place_found : (cs : List Cell) → IsStrictlySortedBy cell_cmp cs → (i : ℕ) (c : Cell) → i < length cs → get_or cs i c ≡ c → place_of cs c ≡ i
 place_found [] up i c h e = absurd (omega arith)
 place_found (x ∷ cs) up zero c h e = place_here x c cs (itself x c e)

@@ -34,7 +34,7 @@ module _ {X K : Type 0} (f : X → K) where
       let at = position_or_len (λ x. p (f x)) xs in
       ap (λ n. cond (nat_lt n (length (map f xs))) (Some n) None) (place-map p xs) ∙ ap (λ n. cond (nat_lt at n) (Some at) None) (length-map xs f)
 
--- what a test finds is what stands at the first place where it passes
+-- what a test finds is the item at the first place where it passes
 pub find-position : {X : Type 0} (p : X → Bool) (xs : List X) → find p xs ≡ option_and_then (slice_get xs) (position p xs)
 find-position {X} p xs = find_at p xs ∙ by (nat_lt (position_or_len p xs) (length xs)) refl
   where
@@ -46,7 +46,7 @@ found_from : {X : Type 0} (p : X → Bool) (x : X) (xs : List X) (y : X) → (fi
 found_from {X} p x xs y rest true e is = let same : x ≡ y = cc in (subst (Contains (x ∷ xs)) same (Contains-first x xs), ap p (sym same) ∙ e)
 found_from p x xs y rest false e is = let other = rest is in (Contains-later x xs y other.0, other.1)
 
--- what a test finds stands in the list and passes
+-- what a test finds is in the list and passes
 pub found : {X : Type 0} (p : X → Bool) (xs : List X) (y : X) → find p xs ≡ Some y → Contains xs y × (p y ≡ true)
 found p [] y h = absurd (cc)
 found p (x ∷ xs) y h = found_from p x xs y (found p xs y) (p x) refl h
