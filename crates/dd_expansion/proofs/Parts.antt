@@ -86,7 +86,7 @@ inner_depth body f env inner c h same is = omega (arith, h, ap depth same, longe
 pub inner_near : (env inner : List Cell) (c : Cell) → AreNear (12 * length env) env → extent c.position ≤ 12 * (length env + 1) → inner ≡ env ++ c ∷ [] → AreNear (12 * length inner) inner
 inner_near env inner c near here is = subst (λ l. AreNear (12 * length l) l) (sym is) (near_push env c near here)
 
--- the cell that stands at a place of a list of near cells
+-- the cell at a place of a list of near cells
 pub item_near : (n : ℕ) (cells : List Cell) (i : ℕ) (c : Cell) → AreNear n cells → i < length cells → c ≡ get_or cells i c → extent c.position ≤ n
 item_near n cells i c near within is = let here = near i c within in omega (arith, here, ap (λ d. extent d.position) is)
 

@@ -26,7 +26,7 @@ OverBoth f g P = (s : CommonNumbers) → IsAutomaton s f → IsAutomaton s g →
 abbrev pub composition : Automaton → Automaton → Counted
 composition f g = counted (v.Composed f g)
 
--- so many nodes stand for all
+-- the limits hold at so many nodes exactly if they hold at all
 pub record StandFor (s : CommonNumbers) (f : Counted) (nodes : ℕ) : Type 0 where
   pub below : nodes ≤ s.nodes
   pub few : is_few s.nodes f ≡ is_few nodes f

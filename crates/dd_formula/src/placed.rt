@@ -1,4 +1,4 @@
-//! Where the cells lie that automata read.
+//! Where the cells that automata read lie.
 ghost use Rattle.dd_formula.specs.Values.{CasesArePlaced, IsPlaced};
 
 use crate::automaton::{Automaton, Cases};

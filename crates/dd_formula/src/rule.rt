@@ -175,7 +175,7 @@ impl Rule {
 }
 
 impl Rule {
-    /// What the expansion says of the symbols near a cell.
+    /// The truth of the expansion under the symbols near a cell.
     fn truth_of_expansion<R: Reads>(&self, at: &Cell, read: &R) -> Option<bool>
         requires { at.now.node < self.now.nodes }
         ensures value { let look = seen (R.symbols read.now) at.now.position in

@@ -1,4 +1,4 @@
--- With a number in place of each cell an expansion says the same as before, of the symbols with these numbers.
+-- With a number in place of each cell an expansion says of the numbered symbols what it said of the cells' symbols.
 use Rattle.std.proofs.Common.{◌≡◌, ℕ, Bool, false, List, [], ◌∷◌, map, refl, ap, ◌∙◌, Option, Some, None, Result, Ok, Err, IfOk}
 use Rattle.std.specs.Prelude.{not}
 use Rattle.std.specs.List.{list_all, list_any}

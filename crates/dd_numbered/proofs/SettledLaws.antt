@@ -19,7 +19,7 @@ settled_and es e ss o is = if_some o (λ b h more. ap (λ x. holds_in x (ss ++ m
 pub settled_or : (es : List Numbered) (e : Numbered) (ss : List ℕ) (o : Option Bool) → e ≡ formula.Or es → IfSome o (IsAnySettled es ss) → IfSome o (IsSettled e ss)
 settled_or es e ss o is = if_some o (λ b h more. ap (λ x. holds_in x (ss ++ more)) is ∙ (holds_or es (ss ++ more) ∙ h more))
 
--- a symbol that stands in the beginning of a list stands in the list
+-- a symbol of a list keeps its number when more symbols follow
 pub still_there : (ss more : List ℕ) (i s : ℕ) → slice_get ss i ≡ Some s → slice_get (ss ++ more) i ≡ Some s
 still_there [] more i s h = absurd (cc)
 still_there (x ∷ ss) more zero s h = h

@@ -1,4 +1,4 @@
--- What a definition by a fold says of a list of parts, with the definition at each part.
+-- Definitions by a fold, on a list of parts, by the definition at each part.
 use Rattle.std.proofs.Common.{◌≡◌, ℕ, ◌+◌, length, Bool, List, [], ◌∷◌, ◌++◌, map, refl, ap, sym, ◌∙◌}
 use Rattle.std.specs.Prelude.{◌||◌, is_some}
 use Rattle.std.specs.List.{list_all, list_any, flat_map, sum, sum_by}

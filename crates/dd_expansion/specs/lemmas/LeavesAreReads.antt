@@ -257,7 +257,7 @@ module _ (g : Grid) (n : ℕ) (es : List Edge) (env : List Cell) where
       let both = and_parts (balls_fit scope bs) (formula_fits g n f.0 (scope + 1)) h in
       leaves_of_any (by_symbol n) (map (λ c. expansion es n f.0 (env ++ c ∷ [])) (in_order (balls_of es env bs))) ∙ each_below f scope (balls_of es env bs) both.1
 
--- where the formula fits, the symbol of each leaf is one that there is
+-- if the formula fits, the symbol of each leaf exists
 pub leaves_are_symbols : (g : Grid) (n : ℕ) (f : Formula) → AreBelow g n f
 leaves_are_symbols g n = ind-Formula (AreBelow g n) (λ x y is es env scope.
     rw (fold-roll-Formula Expansion (expansion_step es n) x, fold-roll-Formula (ℕ → Bool) (formula_fits_step g n) x, ← is) (step_below g n es env y scope))

@@ -9,7 +9,7 @@ use Rattle.dd_numbered.specs.Numbered.{holds_in}
 abbrev pub IsTold : ℕ → ℕ → List ℕ → Bool → Type 0
 IsTold s k ss b = (more : List ℕ) → is_symbol s (slice_get (ss ++ more) k) ≡ b
 
--- whatever symbols follow, the truth of all parts is the same; and that of some part
+-- whatever symbols follow, whether all parts are true is settled; and whether some part is true
 abbrev pub AreAllSettled : List Numbered → List ℕ → Bool → Type 0
 AreAllSettled es ss b = (more : List ℕ) → list_all (λ e. holds_in e (ss ++ more)) es ≡ b
 
