@@ -1,4 +1,4 @@
--- What a walk along the strides of the cells that a pattern leaves out says of the fillings that agree with it.
+-- A walk along the strides of the cells that a pattern leaves out, and the fillings that agree with the pattern.
 use Rattle.std.proofs.Common.{◌≡◌, ◌<◌, ◌+◌, ◌-◌, ◌*◌, ◌^◌, ℕ, suc, Bool, true, false, not, cond, Option, Some, None, List, [], ◌∷◌, length, get_or, nat_eq, refl, sym, ◌∙◌, ap, subst, arith}
 use Rattle.std.specs.Prelude.{IfSome}
 use Rattle.std.specs.List.{range_with_len}

@@ -62,7 +62,7 @@ fn fill(
     Ok(())
 }
 
-/// Appends an outcome for all fillings of the rest of the cells, but for those that are barred.
+/// Appends an outcome for all fillings of the rest of the cells, except those that are barred.
 fn fill_known(
     rule: &Rule,
     rest: &[Cell],
