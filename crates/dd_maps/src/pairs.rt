@@ -62,7 +62,7 @@ fn always_zero(alloc: Global, topology: &Topology, sets: &Sets) -> Result<Automa
     Automaton::by_cases(alloc, topology, sets, &[], 0)
 }
 
-/// For each symbol from 1 on the formula that says that it is the cell's, with the symbol.
+/// For each symbol from 1 on, the formula that says that the cell has it, with the symbol.
 fn own_symbols(alloc: Global, symbols: u32) -> Result<Vec<(Formula, u32)>, AllocError>
     requires { 1 ≤ symbols }
     ensures { IfOk result (λ cases. cases.items ≡ map own_symbol (range_with_len 1 (symbols - 1))) }

@@ -33,7 +33,7 @@ rise_down levels last v m l w r end pos a h = (h.0, h.1, h.2, h.3, gentle h.1 en
 positive : (levels : List (List (Option ℕ))) (last v w r : ℕ) → IsSteepest levels last v w r → 0 < r
 positive levels last v w r s = omega (arith, s.run_is, s.shorter)
 
--- `MatchOption here ..` as `steepest` says it
+-- one more state, with what `steepest` answers for it
 pub gentlest_more : (levels : List (List (Option ℕ))) (last i : ℕ) (best : Option Steep) (here : Option Ratio) (r : Option Steep) →
     LeastSoFar levels last i best →
     MatchOption here (level_weight_at levels last i ≡ None) (λ h. IsSteepest levels last i h.weight h.length) →

@@ -121,7 +121,7 @@ fold_from previous row (x ∷ edges) v b all h =
       ]
     ]
 
--- of whole rows
+-- each row has an entry for each state
 pub row_length : (edges : List Edge) (n k : ℕ) → length (row edges n k) ≡ n
 row_length edges n zero = length-replicate n (Some 0)
 row_length edges n (suc k) = fold_length (row edges n k) (replicate (length (row edges n k)) None) edges ∙ (length-replicate (length (row edges n k)) None ∙ row_length edges n k)

@@ -108,7 +108,7 @@ rows_push edges n k levels x rows l e j lt = elim (cases_lt j (length levels)) [
       get_or_push levels x [] j (omega arith) ∙ (e ∙ ap (row edges n) (sym f))
 ]
 
--- one more at the end, and each as it was
+-- what holds of each item, and of one more at the end, holds of each item then
 pub each_push : (P : ℕ → ℕ → Type 0) (xs : List ℕ) (i y : ℕ) → length xs ≡ i → ((v : ℕ) → v < i → P v (get_or xs v 0)) → P i y → (v : ℕ) → v < i + 1 → P v (get_or (xs ++ y ∷ []) v 0)
 each_push P xs i y len each here v lt = elim (cases_lt v i) [
   | inl below ↦ subst (P v) (sym (get_or_append_left xs (y ∷ []) 0 v (omega arith))) (each v below)

@@ -92,7 +92,7 @@ fn are_bounded(potentials: &[i64]) -> bool
     potentials.iter().all(|potential| is_bounded(potential))
 }
 
-/// The mean of a cycle in lowest terms, where the cycle and the potentials show that it is the graph's least one.
+/// The mean of a cycle in lowest terms, if the cycle and the potentials show that it is the graph's least one.
 pub(crate) fn confirmed(
     graph: &Graph,
     edges: &[Edge],

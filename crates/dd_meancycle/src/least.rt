@@ -20,7 +20,7 @@ use std::alloc::{AllocError, Global};
 #[derive(Debug, Drop)]
 pub enum Mean {
     /// The cycle has at most as many states as the graph. There is a potential for each state, at most 2^40 in absolute
-    /// value: along an edge it rises by at most the denominator times the weight of the edge less the numerator.
+    /// value: along an edge it rises by at most `denominator * weight - numerator`, with the edge's weight.
     Least {
         numerator: u64,
         denominator: u64,

@@ -28,7 +28,7 @@ symbol_cond : (ss : List ℕ) (b : Bool) (o : Option ℕ) → symbol_with ss (co
 symbol_cond ss true o = refl
 symbol_cond ss false o = refl
 
--- by the numbers of a window's cells its symbols are read
+-- the numbers of a window's cells give its symbols
 near_reads : (s : Strip) (v : Place) (ss : List ℕ) (c : Cell) → read_by (numbers_near (standpoint s v)) ss c ≡ window_look s ss (shifted v c)
 near_reads s v ss c = symbol_cond ss (int_le (pos 0) (c.position.x +ℤ v.x) && nat_lt c.node s.nodes) (Some (window_index s (shifted v c)))
 

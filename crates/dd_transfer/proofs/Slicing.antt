@@ -101,7 +101,7 @@ module _ (r : LocalRule) (s : Strip) (look : Look) (for : IsFor r s) where
   pub slices_powers : (n : ℕ) → slices r (positions s) ^ n ≡ r.symbols ^ (n * cells s)
   slices_powers n = ap (λ (b : ℕ). b ^ n) slices_power ∙ power_power r.symbols (cells s) n
 
-  -- the number of slices is that of the first ones and of those behind them
+  -- the number of a row of slices, from the numbers of its first slices and of the rest
   pub slices_joined : (x : ℤ) (m n : ℕ) → slices_from r s look x (m + n) ≡ slices_from r s look x m * slices r (positions s) ^ n + slices_from r s look (x +ℤ pos m) n
   slices_joined x m n =
       let b = r.symbols in

@@ -1,4 +1,4 @@
--- The laws of slices: what the transfer graph says of the slices of a look.
+-- The laws of slices: how the slices of a look relate to the transfer graph.
 use Rattle.std.specs.Prelude.{◌≡◌, ◌↔◌, ℕ, ◌+◌, ◌*◌, ◌<◌, ◌^◌, true, ℤ, pos, ◌+ℤ◌, List, ◌++◌, length, is_some, ◌&&◌}
 use Rattle.std.specs.List.{All, list_all}
 use Rattle.dd_lattice.specs.Place.{Place}
@@ -21,7 +21,7 @@ pub record AreDigits (base : ℕ) : Type 0 where
   pub number_is : (count n : ℕ) → n < base ^ count → number_with_digits base (digits base count n) ≡ n
   pub joined : (ds es : List ℕ) → number_with_digits base (ds ++ es) ≡ number_with_digits base ds * base ^ length es + number_with_digits base es
 
--- what the transfer graph says of the slices of a look that repeats across the strip
+-- how the slices of a look that repeats across the strip relate to the transfer graph
 pub record AreEdgesOf (r : LocalRule) (s : Strip) (look : Look) : Type 0 where
   -- m + n slices from x on are the first m and then the other n; the number of n + 1 slices has the last slice as its
   -- last digit

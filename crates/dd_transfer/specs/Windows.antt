@@ -76,7 +76,7 @@ pub record IsFullWindow (r : LocalRule) (w : Shown) : Type 0 where
 abbrev pub cell_at : Strip → ℤ → ℕ → Cell
 cell_at s x i = let k = i / s.nodes in cell (place x (pos (k % s.y)) (pos (k / s.y))) (i % s.nodes)
 
--- the list says of each window below a number whether the rule keeps it
+-- the list says for each window with a smaller number whether the rule keeps it
 pub record AreWindows (r : LocalRule) (s : Strip) (n : ℕ) (windows : List Bool) : Type 0 where
   pub each : length windows ≡ n
   pub tells : (k : ℕ) → k < n → (slice_index_or windows k false ≡ true) ↔ IsWindow r s k

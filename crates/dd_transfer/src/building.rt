@@ -19,11 +19,12 @@ use dd_pattern::weight_of;
 use dd_strip::Strip;
 use std::alloc::{AllocError, Global};
 
-/// The transfer graph of a rule over a strip with these periods in the second and the third axis, where each symbol weighs
-/// as much as its weight says.
+/// The transfer graph of a rule over a strip with these periods in the second and the third axis, with these weights of
+/// the symbols.
 ///
 /// # Errors
-/// `Size` where there are more than 4,096 states or more than 131,072 windows, which are states with one slice more; else `Memory`.
+/// `Size` where there are more than 4,096 states or more than 131,072 windows, which are states with one slice more; else
+/// `Memory`.
 pub fn graph(
     alloc: Global,
     rule: &Rule,

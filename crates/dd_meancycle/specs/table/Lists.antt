@@ -30,7 +30,7 @@ IsRisen m l ps edges = All (λ e. (potential_of ps e.to -ℤ potential_of ps e.f
 abbrev pub IsFallen : List ℕ → List Edge → Type 0
 IsFallen ranks edges = All (λ e. slice_index ranks e.to < slice_index ranks e.from) edges
 
--- the same answer by the states to which the cycle's edges lead
+-- the same answer, with the cycle given by the states to which its edges lead
 abbrev pub IsInStates : EdgeMean → Mean → Type 0
 IsInStates (edge_mean.Least m l cycle ps) (Least a b states qs) = (a ≡ m) × (b ≡ l) × (states ≡ map (λ e. e.to) cycle.items) × (qs ≡ map pos ps.items)
 IsInStates (edge_mean.Least m l cycle ps) (NoCycle qs) = ⊥

@@ -14,7 +14,7 @@ pub record Reads (levels : List (List (Option ℕ))) (last v : ℕ) : Type 0 whe
   pub within : (k : ℕ) → k ≤ last → v < length (slice_index_or levels k [])
   pub start : level_weight_at levels 0 v ≡ Some 0
 
--- no walk's rise to the longest has a greater mean, and one has this
+-- no rise to the longest walk has a greater mean, and one has this mean
 pub record IsSteepest (levels : List (List (Option ℕ))) (last v weight run : ℕ) : Type 0 where
   pub end : ℕ
   pub ends : level_weight_at levels last v ≡ Some end
