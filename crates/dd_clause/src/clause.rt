@@ -25,7 +25,7 @@ impl Literal {
     }
 }
 
-/// A list of literals, of which one has to be true.
+/// A list of literals, one of which has to be true.
 #[derive(Debug, Drop)]
 pub struct Clause {
     literals: SmallVec<Literal, 4>,

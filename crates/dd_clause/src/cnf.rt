@@ -7,7 +7,7 @@ use crate::clause::Clause;
 use std::alloc::{AllocError, Global};
 use std::marker::Model;
 
-/// Clauses over the variables 1 to `variables`, of which there are at most 2^24.
+/// Clauses over the variables 1 to `variables`, which is at most 2^24.
 #[derive(Debug, Drop)]
 pub struct Cnf {
     variables: u32,

@@ -35,7 +35,7 @@ abbrev pub clause_of : List (Option (List Literal)) → ℕ → Option (List Lit
 clause_of known zero = None
 clause_of known (suc k) = option_and_then (λ c. c) (slice_get known k)
 
--- the clauses but for the one of a number
+-- the clauses without the one of a number
 abbrev pub without : List (Option (List Literal)) → ℕ → List (Option (List Literal))
 without known zero = known
 without known (suc k) = slice_set known k None
@@ -61,7 +61,7 @@ abbrev pub are_deletable : List (Option (List Literal)) → List ℕ → Bool
 are_deletable known [] = true
 are_deletable known (d ∷ ds) = is_some (clause_of known d) && are_deletable (without known d) ds
 
--- the clauses but for those of the deleted numbers
+-- the clauses without those of the deleted numbers
 abbrev pub known_after : List (Option (List Literal)) → List ℕ → List (Option (List Literal))
 known_after known [] = known
 known_after known (d ∷ ds) = known_after (without known d) ds
@@ -100,7 +100,7 @@ IsRefuting cnf steps = refutes cnf.variables cnf.clauses steps ≡ true
 abbrev pub clauses_before : List (List Literal) → List Step → List (List Literal)
 clauses_before clauses steps = clauses ++ map (λ s. s.clause) steps
 
--- the clauses but for those that the steps delete
+-- the clauses without those that the steps delete
 abbrev pub known_after_steps : List (Option (List Literal)) → List Step → List (Option (List Literal))
 known_after_steps known [] = known
 known_after_steps known (s ∷ steps) = known_after_steps (known_after known s.deletes) steps

@@ -46,7 +46,7 @@ struct Rank {
 }
 
 /// The variables. Those at the first places of the heap wait to be decided, and those that were taken stand behind them
-/// until they are put back. Each variable's rank stands under its number. A conflict adds the increment to an activity.
+/// until they are put back. Each variable's rank is kept at its number. A conflict adds the increment to an activity.
 #[derive(Drop)]
 pub struct Order {
     heap: Vec<usize>,
