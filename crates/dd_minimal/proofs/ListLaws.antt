@@ -157,7 +157,7 @@ needs_each r a ps ok m =
 pub all_new : (r : LocalRule) (a : ℕ) (ps : Patterns) → IsMinimalList r a ps → AreNew r a [] ps
 all_new r a ps m = subst (AreNew r a []) (sym m.list) (listed_new r a (thinned (all_break r a)) (thinned_agrees (all_break r a)) [] m.breaking m.fillings.only)
 
--- the fillings are one list, and so is what they come to
+-- there is one list of breaking fillings, and so one minimal list
 abbrev OneList : Type 0
 OneList = (r : LocalRule) (a : ℕ) (xs ys : List (List ℕ)) → BreakingFillings r a xs → BreakingFillings r a ys → xs ≡ ys
 
