@@ -212,7 +212,7 @@ impl Watches {
         self.watch_first(start, end)
     }
 
-    /// The clause whose literals stand from `start` to before `end`, where the end mark is, watches the first two.
+    /// The clause from `start` to before `end`, with its end mark last, watches its first two literals.
     fn watch_first(&mut self, start: usize, end: usize) -> Result<(), AllocError> {
         let clause = u32::try_from(start).unwrap_or(0);
         if end <= self.literals.len() && start < end && end - start > 2 {
