@@ -151,7 +151,7 @@ fn placed(signal: Signal, inputs: &[Signal], before: u32) -> Signal
     }
 }
 
-/// What stands for the signals, in place of what was there.
+/// Fills `placed_signals` with what stands for the signals, in place of its old content.
 fn place_all(
     placed_signals: &mut Vec<Signal>,
     signals: &[Signal],
