@@ -190,7 +190,7 @@ follows_from_nothing cs n = record {
   trail = λ k d h. absurd (omega (arith, h));
 }
 
--- Where more literals are false, a settled clause was settled too, or has made one of these true.
+-- A clause settled by g is settled by f too, which calls fewer literals false; or f forces a literal that is true by g.
 filter_again : (f g : Literal → Bool) → ((l : Literal) → f l ≡ true → g l ≡ true) → (c : List Literal) → filter (λ x. not (g x)) (filter (λ x. not (f x)) c) ≡ filter (λ x. not (g x)) c
 filter_again f g below [] = refl
 filter_again f g below (x ∷ xs) = elim (cases_Bool (f x)) [

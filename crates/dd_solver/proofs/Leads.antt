@@ -20,7 +20,7 @@ use Rattle.dd_solver.proofs.Forcing.{in_left, in_right, in_cases, in_one, falsif
 use Rattle.dd_trail.specs.lemmas.Trails.{falses-more, in_falses, in_falses_take, get_any}
 use Rattle.dd_solver.proofs.Trails.{apart}
 
--- the literals that may be false before the entries from place i on are used
+-- the literals that may be false where the hints for the entries from place i on begin
 pub record Start (trail : List Entry) (i : ℕ) (marked : List Bool) (learned start : List Literal) : Type 0 where
   pub within : (x : Literal) → In start x → (In (falses (take i trail)) x) ⊎ (In learned x)
   pub learned_in : (x : Literal) → In learned x → In start x

@@ -130,7 +130,7 @@ pub all_alive : (cs : List (List Literal)) → known_of cs (replicate (length cs
 all_alive [] = refl
 all_alive (c ∷ cs) = ap (λ (ys : Known). Some c ∷ ys) (all_alive cs)
 
--- deletion of one number more, or before one clause more
+-- deletion, with one more number or one more clause
 
 some_set : (known : Known) (o : Option (List Literal)) (k : ℕ) → is_some (at known k) ≡ true → slice_set (known ++ o ∷ []) k None ≡ slice_set known k None ++ o ∷ []
 some_set [] o k h = absurd (false≢true h)

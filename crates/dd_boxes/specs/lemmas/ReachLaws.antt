@@ -118,7 +118,7 @@ module _ (s : CommonNumbers) (f g : Automaton) (some : 1 ≤ s.dimension) where
       one_least (differ s f g) least radius is
       (radius_is_least (λ a node. held f least a (is.reaches a node).0) (λ a node. held g least a (is.reaches a node).1))
 
--- if they read only cells of Z^d
+-- the least radius of two automata that read only cells of Z^d
 pub farthest_is_least : (s : CommonNumbers) (f g : Automaton) → 1 ≤ s.dimension → IsAutomaton s f → IsAutomaton s g → IsPlaced f → IsPlaced g →
     IsLeastRadius (differ s f g) (max (automaton_reach s.nodes f) (automaton_reach s.nodes g))
 farthest_is_least s f g some left right in_left in_right = radius_is_least s f g some (in_left s left) (in_right s right)
