@@ -44,7 +44,7 @@ abbrev pub Covers : LocalRule → ℕ → Look → Place → Type 0
 Covers x n look v = (c : Cell) → is_box_cell x n c ≡ true → is_some (look (shifted v c)) ≡ true
 
 -- n is at least the goal's least radius, and no admissible filling of any domain has the goal at any position of Z^d
--- round which it fills a box of radius n
+-- around which it fills a box of radius n
 pub record Never (x : LocalRule) (g : GoalOf) (n : ℕ) : Type 0 where
   pub reaches : Reaches g n
   pub nowhere : (look : Look) → AreAllowed x look → Admissible x look → (v : Place) → is_flat x.dimension v ≡ true → Covers x n look v → HasGoal g look v → ⊥
@@ -53,7 +53,7 @@ pub record Never (x : LocalRule) (g : GoalOf) (n : ℕ) : Type 0 where
 abbrev pub IsInNoConfiguration : LocalRule → GoalOf → Type 0
 IsInNoConfiguration x g = (look : Look) → IsConfiguration x look → Obeys x look → (v : Place) → is_flat x.dimension v ≡ true → HasGoal g look v → ⊥
 
--- nor does any periodic configuration that lives in the rule's subshift, of any periods and shear
+-- nor does any periodic configuration of the rule's subshift, with any periods and shear
 abbrev pub IsInNoTile : LocalRule → GoalOf → Type 0
 IsInNoTile x g = (t : Tile) → IsTile t → Fits x t → HasAllowed x t → Lives x t → (v : Place) → is_flat x.dimension v ≡ true → HasGoal g (tile_look t) v → ⊥
 

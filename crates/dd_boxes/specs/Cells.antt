@@ -7,7 +7,7 @@ use Rattle.dd_lattice.specs.Boxes.{centred, positions_of}
 use Rattle.dd_lattice.specs.declared.position.Cell.{Cell}
 use Rattle.dd_formula.specs.LocalRule.{LocalRule}
 
--- each node at each of the positions: in cell order, where the positions are in theirs
+-- each node at each of the positions, in cell order if the positions are in order
 abbrev pub cells_on : ℕ → List Place → List Cell
 cells_on nodes ps = flat_map (λ p. map (cell p) (range_with_len 0 nodes)) ps
 

@@ -11,10 +11,10 @@ goal_clauses (breaks y) = broken_clauses y
 goal_clauses (differ s f g) = differ_clauses s.symbols s.nodes f g
 goal_clauses always = 0
 
--- the clauses of a question on so many positions
+-- the clauses of a question on this many positions
 abbrev pub question_clauses : LocalRule → GoalOf → ℕ → ℕ
 question_clauses x g positions = region_clauses x (goal_clauses g) positions
 
--- at most so many may be made
+-- the greatest number of clauses that may be made
 abbrev pub most_clauses : ℕ
 most_clauses = 2000000

@@ -1,4 +1,4 @@
--- What a discharge may be asked.
+-- What a discharging question may ask.
 use Rattle.std.specs.Prelude.{ℕ, ◌≤◌, ◌≡◌, true, unsigned_abs, List, length}
 use Rattle.std.specs.List.{All, IsDistinct}
 use Rattle.std.specs.Ordering.{is_eq}

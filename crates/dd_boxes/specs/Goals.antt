@@ -40,7 +40,7 @@ IsGoalFor x (breaks y) = AreAlike x y
 IsGoalFor x (differ s f g) = AreOver x s f g
 IsGoalFor x always = Unit {0}
 
--- the rule of a goal, where it has one, keeps what each rule keeps
+-- the rule of a goal, if it has one, keeps what each rule keeps
 abbrev pub KeepsRule : GoalOf → Type 0
 KeepsRule (breaks y) = IsRule y
 KeepsRule (differ s f g) = Unit {0}

@@ -19,7 +19,7 @@ pub enum Goal<'a> {
     Always,
 }
 
-/// Only looks at the goal's rule, where it has one, for what it keeps.
+/// Reads the goal's rule, if it has one, only for its invariants.
 pub fn keeps_rule(goal: &Goal)
     ensures { (x : LocalRule) → KeepsRule (goal_of x goal.now) }
 {

@@ -1,4 +1,4 @@
--- What wired formulas say, and that their gates are over earlier variables.
+-- The signal of a wired formula has the formula's value, and its gates are over earlier variables.
 use Rattle.std.proofs.Common.{◌≡◌, ℕ, Bool, true, Option, Some, None, refl, arith}
 use Rattle.std.specs.Prelude.{nat_le}
 use Rattle.std.proofs.lemmas.Bool.{and_parts, leb-true}

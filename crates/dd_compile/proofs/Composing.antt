@@ -26,7 +26,7 @@ use Rattle.dd_compile.specs.lemmas.CaseRules.{agrees_before}
 use Rattle.dd_compile.specs.lemmas.StillWired.{still_wired}
 use Rattle.dd_compile.specs.lemmas.RuleWiring.{extent_moved}
 
--- what stands of values stands when gates have come
+-- what holds for values still holds when gates have been added
 still_valued : (now new : Network) (w : Wiring) (k : ℕ) (f : Automaton) (c : Cell) (ss : List Signal) → Extends now new → IsValued now w k f c ss → IsValued new w k f c ss
 still_valued now new w k f c ss more h =
     let n = size-append now new more.added more.inputs more.gates in
@@ -74,7 +74,7 @@ module _ (k : ℕ) (f : Automaton) (w : Wiring) (cs : List Cell) (at : Cell) (i 
   pub size_more : size start ≤ size now
   size_more = let n = size-append start now p.extends.added p.extends.inputs p.extends.gates in omega (arith, n)
 
-  -- what the value at the cell asks
+  -- what the value at the cell requires
   pub value_few : size start + length (inner_made (value_made k f) w unwired (there_of at cs) (size start)).gates ≤ 16777216 → size now + length (value_made k f w there (size now)).gates ≤ 16777216
   value_few few =
       let one = value_made k f w there (size now) in

@@ -42,7 +42,7 @@ module _ (inputs : List Signal) (n : ℕ) where
   placed_opposite : (s : Signal) → over (opposite s) ≡ opposite (over s)
   placed_opposite s = by_opposite (slice_get inputs (s.variable - 1)) (n + (s.variable - length inputs)) s.positive
 
-  -- the variables behind the inputs are placed one after the other
+  -- the variables after the inputs are placed one after the other
   placed_later : (v k : ℕ) → v ≡ length inputs + k + 1 → over (signal_of v) ≡ signal_of (n + k + 1)
   placed_later v k is =
       let past : slice_get inputs (v - 1) ≡ None = slice_get_past inputs (v - 1) (omega (arith, is)) in

@@ -1,4 +1,4 @@
--- How far the gates of a template have come, and what stands when all are there.
+-- The state while the gates of a template are placed, and what holds when all are there.
 use Rattle.std.proofs.Common.{◌≡◌, ◌<◌, ◌≤◌, ℕ, ◌+◌, Bool, true, List, [], ◌∷◌, ◌++◌, map, length, take, get_or, refl, ap, sym, ◌∙◌, subst, arith, append_assoc, append-nil}
 use Rattle.std.specs.Prelude.{◌^◌, Option, Some, None, is_some}
 use Rattle.std.specs.List.{list_all}

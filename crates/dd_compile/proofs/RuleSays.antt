@@ -50,7 +50,7 @@ told n set true None value h tell = absurd (cc)
 told n set true (Some x) value h tell = tell x refl
 told n set false o value h tell = absurd (cc)
 
--- The gates alone that are added decide what the signal says.
+-- The added gates alone decide what the signal says.
 pub rule_says : (n : ℕ) (w : Wiring) (r : LocalRule) → 1 ≤ r.symbols → (c : Cell) → are_wired n (wires_near w c.position) (expansion_at r c.node) ≡ true →
     (set : ℕ → Bool) (look : Look) → agrees set n (compiled w c.position (expansion_at r c.node) n).gates ≡ true → HasSymbolsBelow r.symbols look → TellsReads set w r c look →
     signal_value set (compiled w c.position (expansion_at r c.node) n).signal ≡ is_true r c look
@@ -79,7 +79,7 @@ says_in old new w r some c wired inputs gates s is set look ok below tells =
     let parts = and_parts (agrees set old.inputs old.gates) (agrees set (size old) made.gates) (sym (agrees-append set old.inputs old.gates made.gates) ∙ whole) in
     ap (signal_value set) is ∙ rule_says (size old) w r some c wired set look parts.1 below tells
 
--- the same of an answer
+-- the same for an answer
 pub answer_says : (old new : Network) (w : Wiring) (r : LocalRule) → 1 ≤ r.symbols → (c : Cell) → are_wired (size old) (wires_near w c.position) (expansion_at r c.node) ≡ true →
     (e : Expanded) → e ≡ expansion_at r c.node → {E : Type 0} (result : Result Signal E) → Extends old new →
     IfOk result (λ _. new.gates ≡ old.gates ++ (compiled w c.position e (size old)).gates) → IfOk result (λ s. s ≡ (compiled w c.position e (size old)).signal) →

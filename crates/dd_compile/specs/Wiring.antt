@@ -26,7 +26,7 @@ abbrev pub signal_for : Option (List Signal) → ℕ → Option Signal
 signal_for None s = None
 signal_for (Some ss) s = slice_get ss s
 
--- the signals of a cell: the list with the number that the cell has among the cells
+-- the signals of a cell: the list at the place that the cell has among the cells
 abbrev pub signals_of : Wiring → Cell → Option (List Signal)
 signals_of w c = slice_get w.signals (position_or_len (λ d. is_eq (cell_cmp d c)) w.cells)
 

@@ -37,7 +37,7 @@ inputs_there x p ws cnf nodes rule ok same is known =
 same_list : (cnf : ClauseList) (variables : ℕ) (clauses : List (List Literal)) → cnf.variables ≡ variables → cnf.clauses ≡ clauses → cnf ≡ record { variables = variables; clauses = clauses }
 same_list cnf variables clauses wide all = rw (← wide, ← all) refl
 
--- what is there at the end
+-- the list at the end
 pub exactly : (base cnf now new : ClauseList) (ws : List ℕ) (below cells c : ℕ) (signals : List Signal) → cnf ≡ base → cells ≡ c → now ≡ grown cnf (rows ws below cells 0 [] cnf.variables).gates →
     signals ≡ (rows ws below cells 0 [] cnf.variables).signals → new.variables ≡ now.variables → new.clauses ≡ now.clauses ++ last_refused below signals →
     new ≡ weighed base ws below c
@@ -47,12 +47,12 @@ exactly base cnf now new ws below cells c signals is count made said wide last =
     (last ∙ (ap (λ k. k.clauses ++ last_refused below signals) made ∙ ap (λ xs. (grown cnf all.gates).clauses ++ last_refused below xs) said))
     ∙ (ap (λ k. weighed cnf ws below k) count ∙ ap (λ k. weighed k ws below c) is)
 
--- and what it says
+-- what the list says
 pub shown : (x : LocalRule) (p : Periods) (ws : List ℕ) (below : ℕ) (new : ClauseList) → IsRule x → AreTorusPeriods x p → length ws ≡ x.symbols → new ≡ weight_problem x p ws below →
     ShowsWeights new.clauses x p ws below
 shown x p ws below new rule ok same exact = subst (λ k. ShowsWeights k.clauses x p ws below) (sym exact) (weight_shows x p ws below rule ok same)
 
--- where there is no signal there is no clause
+-- without a signal there is no clause
 pub no_refusal : (signals : List Signal) (below at : ℕ) (clauses : List (List Literal)) → at ≡ below - 1 → length signals ≤ at → clauses ≡ clauses ++ last_refused below signals
 no_refusal signals below at clauses is past =
     sym (append-nil clauses) ∙ ap (λ r. clauses ++ refusal_of r) (sym (slice_get_past signals (below - 1) (subst (λ k. length signals ≤ k) is past)))

@@ -34,7 +34,7 @@ pub record IsRefutedBelow (x : LocalRule) (p : Periods) (ws : List ℕ) (w : ℕ
   pub variables : (weight_problem x p ws w).variables ≤ most_variables
   pub numbers : length (weight_problem x p ws w).clauses + length steps ≤ 2 ^ 64 - 1
 
--- the configuration has the least weight, and, where it isn't 0, the steps refute the clauses of every smaller one
+-- the configuration has the least weight, and if that isn't 0, the steps refute the clauses of every smaller one
 pub record IsLeastShown (x : LocalRule) (p : Periods) (ws : List ℕ) (w : ℕ) (t : Tile) (steps : List Step) : Type 0 where
   pub least : LeastOn x p ws w
   pub lives : IsLiving x p t

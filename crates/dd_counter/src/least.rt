@@ -1,5 +1,5 @@
-//! The least weight of a configuration on a torus: after each configuration that is found a lighter one is searched for, until the
-//! search is refuted.
+//! The least weight of a configuration on a torus: each time that a configuration is found, a lighter one is searched
+//! for, until the search is refuted.
 ghost use Rattle.std.specs.Prelude.{◌≡◌, ◌≤◌, ◌*◌, length, All, IfOk};
 ghost use Rattle.dd_values.specs.Bounds.{most_variables, most_weight};
 ghost use Rattle.dd_pattern.specs.Periods.{periods_of, periods_volume};
@@ -22,7 +22,7 @@ use std::alloc::{AllocError, Global};
 /// The least weight of the configurations of given periods that live in a rule's subshift.
 #[derive(Debug, Drop)]
 pub enum LeastWeight {
-    /// The weight, a configuration that has it, and, where it isn't 0, steps that refute every smaller one.
+    /// The weight, a configuration that has it, and, if it isn't 0, steps that refute every smaller one.
     Least {
         weight: u64,
         periodic: Periodic,
@@ -41,7 +41,7 @@ enum Lighter {
     Nothing(Items<Step>),
 }
 
-/// Looks for a configuration that lives and weighs less than `below`, where this is at least 1.
+/// Looks for a configuration that lives and, if `below` is at least 1, weighs less than `below`.
 fn search_below(
     alloc: Global,
     rule: &Rule,

@@ -14,7 +14,7 @@ use Rattle.dd_discharge.specs.Amounts.{IsCertifiedBound}
 use Rattle.dd_discharge.specs.Bounds.{in_fractions, EndsWith, GivesNone, linear_program, IsBoundOf, IsDischargeFault}
 use Rattle.dd_discharge.specs.Certificates.{IsBoundCertificate}
 
--- the rows and the number of columns that the run is given
+-- the rows and the number of columns given to the run
 pub record IsGiven (vs : List Place) (p : Rows) (n : ℕ) (rs : List Row) : Type 0 where
   pub columns : n ≡ column_count (length vs) (length p.patterns)
   pub rows_are : rs ≡ p.rows

@@ -1,6 +1,6 @@
--- Weak duality: for duals of at least 0, the sum of dual times row bounds what any amounts can hold. Each column's sum of duals
--- times coefficients is at least what column 0 counts, so q times what is held is at most the double sum of dual, coefficient
--- and column; row by row that is at most the duals' worth.
+-- Weak duality: for duals of at least 0, the sum of dual times row bounds what any amounts can hold. Each column's
+-- sum of duals times coefficients is at least what column 0 counts. So q times what is held is at most the double sum
+-- of dual, coefficient and column. Row by row that is at most the duals' worth.
 use Rattle.std.proofs.Common.{◌≡◌, ℕ, zero, suc, ◌+◌, ◌*◌, ◌/◌, ◌%◌, ◌<◌, ◌≤◌, List, [], ◌∷◌, length, refl, sym, ap, subst, ◌∙◌, slice_index, arith}
 use Rattle.std.proofs.lemmas.Nat.{div-add-mod'}
 use lib.IntN.{ℤ, pos, negsuc, ◌+ℤ◌, ◌*ℤ◌, *ℤ_comm}
@@ -69,7 +69,7 @@ weak_duality rows columns common other duals held amounts h d m =
     let high = by_rows rows columns other duals held amounts m in
     omega (arith, ints, low, same, high)
 
--- what a fraction in lowest terms is over the common denominator
+-- a fraction in lowest terms, over the common denominator
 whole_part : (q n : ℕ) → n % q ≡ 0 → n ≡ n / q * q
 whole_part q n e = let parts = div-add-mod' n q in omega (arith, parts, e)
 

@@ -1,4 +1,4 @@
--- Lists whose members are all so.
+-- Lists whose members all have a property.
 use Rattle.std.proofs.Common.{suc, List, [], ◌∷◌, get_or, map, arith}
 use Rattle.std.specs.List.{All, flat_map}
 use Rattle.std.proofs.lemmas.List.Elements.{All-nil, All-append, All-map}

@@ -66,7 +66,7 @@ joined_divides : (n : ℕ) (xs : List Exact) → n ∣ fold joined_denominator n
 joined_divides n [] = dvd_refl n
 joined_divides n (x ∷ xs) = dvd_trans n (least_common_front n (den_of x)) (joined_divides (joined_denominator n x) xs)
 
--- more denominators, and no smaller common one
+-- more denominators have no smaller common denominator
 pub joined_grows : (n : ℕ) (xs : List Exact) → 0 < n → n ≤ fold joined_denominator n xs
 joined_grows n xs p = le_of_dvd (joined_above n xs p) (joined_divides n xs)
 
@@ -75,7 +75,7 @@ each_divides n [] k d p = absurd (omega (arith, p))
 each_divides n (x ∷ xs) zero d p = dvd_trans (den_of x) (least_common_back n (den_of x)) (joined_divides (joined_denominator n x) xs)
 each_divides n (x ∷ xs) (suc k) d p = each_divides (joined_denominator n x) xs k d (omega (arith, p))
 
--- over the denominator d in lowest terms, n leaves what the two have not in common
+-- the numerator of n over d in lowest terms, times d, is their least common multiple
 pub ratio_num : (n d : ℕ) (r : Exact) → 0 < d → r ≡ lowest (pos n) d → unsigned_abs r.num * d ≡ least_common n (max 1 d)
 unfolding lowest
 ratio_num n d r p e =
@@ -127,7 +127,7 @@ joined_more n c i xs x p e h = h ∙ (ap (fold joined_denominator c) (drop-cons 
     next : (i : ℕ) → suc i ≡ i + 1
     next i = omega arith
 
--- where a denominator on the way can't be printed, the last one can't
+-- if a denominator on the way can't be printed, the last one can't be either
 pub joined_past : (n c i : ℕ) (xs : List Exact) (x : Exact) → 0 < c → i < length xs → x ≡ get_or xs i x → fold joined_denominator n xs ≡ fold joined_denominator c (drop i xs)
     → None ≡ printed (joined_denominator c x) → None ≡ printed (fold joined_denominator n xs)
 joined_past n c i xs x z p e h none =

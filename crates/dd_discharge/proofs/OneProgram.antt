@@ -1,4 +1,4 @@
--- A rule has one program along some vectors, and then it isn't large: the cells of its domain, grown, make one list.
+-- A rule has at most one program along some vectors, and if it has one, it isn't large: the cells of its grown domain make one list.
 use Rattle.std.proofs.Common.{◌≡◌, ℕ, ◌+◌, ◌<◌, ◌≤◌, List, length, take, inl, inr, refl, sym, ap, subst, ◌∙◌, rules, arith}
 use Rattle.std.specs.Cmp.{IsTotalOrder}
 use Rattle.std.specs.Cmp.Rules.{comparing}

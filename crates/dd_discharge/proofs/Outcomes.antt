@@ -1,4 +1,4 @@
--- A discharge comes to one thing: a rule has one program along some vectors, and a run stops in one way.
+-- A discharge has one outcome: a rule has one program along some vectors, and a run stops in one way.
 use Rattle.std.proofs.Common.{◌≡◌, ℕ, ◌+◌, ◌<◌, ◌≤◌, List, ◌++◌, length, get_or, map, drop, inl, inr, sym, ap, subst, ◌∙◌, arith}
 use Rattle.std.specs.Prelude.{◌⊎◌, unsigned_abs}
 use Rattle.std.specs.List.{All, Any}

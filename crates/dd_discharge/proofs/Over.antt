@@ -26,7 +26,7 @@ neg_times : (q g : ℕ) → neg_ℤ (pos q) *ℤ pos g ≡ neg_ℤ (pos (q * g))
 neg_times zero g = same_in _ _ (omega (arith, ints))
 neg_times (suc q) g = refl
 
--- a whole number that a number divides, over that number
+-- the quotient by a divisor, times the divisor, is the whole number
 whole_over : (n : ℤ) (g : ℕ) → g ∣ unsigned_abs n → int_div n (pos g) *ℤ pos g ≡ n
 whole_over (pos n) g h = ap pos (div-mul_cancel g h)
 whole_over (negsuc n) g h = neg_times (suc n / g) g ∙ ap (λ (x : ℕ). neg_ℤ (pos x)) (div-mul_cancel g h)

@@ -1,4 +1,4 @@
--- The shape of a program's rows: each has a coefficient from -1 to 1 for each column and a small bound, and the cap's row is the first.
+-- The shape of a program's rows: each has a coefficient from -1 to 1 for each column and a small bound, and the first is the cap's row.
 use Rattle.std.proofs.Common.{◌≡◌, ℕ, zero, suc, ◌+◌, ◌-◌, ◌*◌, ◌<◌, ◌≤◌, Bool, true, false, cond, List, [], ◌∷◌, ◌++◌, length, get_or, map, replicate, max, refl, sym, ap, subst, ◌∙◌, length-append, arith}
 use Rattle.std.specs.Prelude.{unwrap_or, slice_index, sum_by}
 use Rattle.std.specs.Bool.{nat_eq}

@@ -1,4 +1,4 @@
--- What a discharge gives: the end of the run of its program, over the least common denominator.
+-- The result of a discharge: the end of the run of its program, over the least common denominator.
 use Rattle.std.specs.Prelude.{ℕ, ◌⊎◌, pos, List, ◌++◌, map, length}
 use Rattle.dd_lattice.specs.Place.{Place}
 use Rattle.dd_fraction.specs.Exact.{Exact, whole_of}
@@ -20,7 +20,7 @@ row_of_fractions r = record { coefficients = map whole_of r.coefficients; bound 
 abbrev pub in_fractions : ℕ → List Row → LinearProgram
 in_fractions columns rows = record { columns = columns; rows = map row_of_fractions rows }
 
--- the run ends, and the bound is what it ends with
+-- the run ends, and its end gives the bound
 pub record EndsWith (p : LinearProgram) (pivots : ℕ) (b : Bound) : Type 0 where
   pub value : Exact
   pub columns : List Exact
@@ -52,7 +52,7 @@ pub record IsBoundOf (x : LocalRule) (ws : List ℕ) (radius margin : ℕ) (vs :
   pub is_program : IsProgramOf x ws radius margin vs program
   pub ends : EndsWith (linear_program (length vs) program) pivots b
 
--- the run passes 127 bits, or its end what can be printed
+-- a number of the run passes 127 bits, or one of its end is too large to be printed
 pub record Overflows (x : LocalRule) (ws : List ℕ) (radius margin : ℕ) (vs : List Place) (pivots : ℕ) : Type 0 where
   pub program : Rows
   pub is_program : IsProgramOf x ws radius margin vs program

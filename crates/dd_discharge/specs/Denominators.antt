@@ -9,7 +9,7 @@ use Rattle.dd_discharge.specs.declared.bound.Bound.{Bound}
 abbrev pub least_common : ℕ → ℕ → ℕ
 least_common a b = a / greatest_common a b * b
 
--- with the denominator of one fraction more
+-- the least common multiple with the denominator of one more fraction
 abbrev pub joined_denominator : ℕ → Exact → ℕ
 joined_denominator n a = least_common n (den_of a)
 

@@ -1,4 +1,4 @@
--- A discharge comes to one thing: to its bound, or to one reason why it has none.
+-- A discharge has one outcome: its bound, or one reason why it has none.
 use Rattle.std.specs.Prelude.{ℕ, ◌≡◌, ◌⊎◌, List}
 use Rattle.dd_lattice.specs.Place.{Place}
 use Rattle.dd_formula.specs.LocalRule.{LocalRule}

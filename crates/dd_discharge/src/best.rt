@@ -39,7 +39,7 @@ fn linear_program(alloc: Global, rows: &[Row], columns: u32) -> Result<Program, 
     Ok(program)
 }
 
-/// The bound with which the run of the rows ends. It is certified for them.
+/// The bound that the run of the rows ends with. It is certified for them.
 pub(crate) fn best_of(
     alloc: Global,
     rows: &[Row],

@@ -1,4 +1,4 @@
--- Chains of links: one more link changes no chain that was there.
+-- Chains of links. One more link changes none of the earlier chains.
 use Rattle.std.proofs.Common.{◌≡◌, ◌≢◌, ◌⊎◌, ℕ, zero, suc, ◌+◌, ◌<◌, ◌≤◌, false, get_or, take, drop, List, [], ◌∷◌, ◌++◌, Option, Some, None, refl, sym, ◌∙◌, ap, inl, inr, length, arith, add-one}
 use Rattle.std.proofs.Math.ListN.{set}
 use Rattle.std.specs.List.{slice_get, All}
@@ -69,7 +69,7 @@ along_push links e linked (suc f) (suc at) few =
     go None back rest = refl
     go (Some link) back rest = ap (λ (ks : List ℕ). link.number ∷ ks) (rest link.next (back link refl))
 
--- chains that were there stay
+-- earlier chains stay as they were
 pub chain_stays : (links : List Link) (e : Link) (at : ℕ) → AreLinked links → at ≤ length links → chain_of (links ++ e ∷ []) at ≡ chain_of links at
 chain_stays links e at linked few = along_push links e linked at at few
 
@@ -133,7 +133,7 @@ added_more m x d xs i number first before after lt is a b so_far here other = el
       other (place_differs m x a b f) ∙ so_far ∙ ap (λ (n : ℕ). replicate n number ++ first) (sym times)
 ]
 
--- the clause of a number is put before those behind it
+-- a clause is put before those with greater numbers
 pub chained_more : (old new : Chains) (clauses : List (List Literal)) (i : ℕ) (clause : List Literal) → i < length clauses → clause ≡ get_or clauses i clause → length new.firsts.items ≡ length old.firsts.items
     → AreChained old (i + 1) (drop (i + 1) clauses) → ((l : Literal) → HasChain old l → numbers_of new l ≡ replicate (times_in l clause) i ++ numbers_of old l) → AreChained new i (drop i clauses)
 chained_more old new clauses i clause lt is long chained added l has =

@@ -1,5 +1,4 @@
--- Unit propagation: what one more clause makes true follows, and where every clause is settled no hints end in a
--- conflict.
+-- Unit propagation. A literal that one more clause makes true follows. If every clause is settled, no hints end in a conflict.
 use Rattle.std.proofs.Common.{◌≡◌, ℕ, zero, suc, ◌-◌, ◌<◌, ◌≤◌, Bool, true, false, cond, not, ◌&&◌, ◌||◌, eqb, List, [], ◌∷◌, ◌++◌, Option, Some, None, refl, ap, sym, ◌∙◌, subst, inl, inr, ◌⊎◌, get_or, length, arith}
 use Rattle.std.proofs.Math.ListN.{set, replicate}
 use Rattle.std.specs.Bool.{beq}
@@ -34,7 +33,7 @@ forced_by : (b : Bool) (l m : Literal) → cond b (Forced l) Open ≡ Forced m �
 forced_by true l m h = (refl, cc)
 forced_by false l m h = absurd (cc)
 
--- what a clause makes true is one of its literals, and has no value
+-- a literal that a clause makes true is one of its own, and has no value
 pub record IsFree (p : Literal → Bool) (l : Literal) : Type 0 where
   pub free : p l ≡ false
   pub other : p (negation l) ≡ false
@@ -191,7 +190,7 @@ follows_from_nothing cs n = record {
   trail = λ k d h. absurd (omega (arith, h));
 }
 
--- Where more literals are false, a settled clause was settled too, or has made one of these true.
+-- A clause settled by g is settled by f too, which calls fewer literals false; or f forces a literal that is true by g.
 filter_again : (f g : Literal → Bool) → ((l : Literal) → f l ≡ true → g l ≡ true) → (c : List Literal) → filter (λ x. not (g x)) (filter (λ x. not (f x)) c) ≡ filter (λ x. not (g x)) c
 filter_again f g below [] = refl
 filter_again f g below (x ∷ xs) = elim (cases_Bool (f x)) [
@@ -214,7 +213,7 @@ same_left g y (x ∷ rest) all =
       | inr n ↦ rw n (and_from (same_literal y x) _ p.0 (same_left g y rest p.1))
     ]
 
--- the literal that the less knowing test finds is true by the other
+-- the literal that the test with fewer false literals finds is true by the other
 record MadeTrue (f g : Literal → Bool) (xs : List Literal) : Type 0 where
   literal : Literal
   forced : finding_of f xs ≡ Forced literal

@@ -30,7 +30,7 @@ has_chain n chains l long range = (range.0, omega (arith, long, range.0, range.1
 pub chain_there : (n : ℕ) (clauses : List (List Literal)) (chains : Chains) (l : Literal) → IsListingOf chains n clauses → IsLiteralInRange n l → HasChain chains l
 chain_there n clauses chains l listing range = has_chain n chains l listing.long range
 
--- the clauses where a literal stands have counts
+-- the clauses that have a literal have counts
 pub within_counts : (clauses : List (List Literal)) (values : List Bool) (counts : List ℕ) (marks : List Bool) (start : ℕ) (chains : Chains) (l : Literal) → Walks clauses values counts marks start → IsListingOf chains (length values) clauses → IsLiteralInRange (length values) l → All (λ k. k < length counts) (numbers_of chains l)
 within_counts clauses values counts marks start chains l walks listing range =
     let long : length counts ≡ length clauses = ap length walks.counted ∙ length-map clauses (true_count values) in
@@ -148,7 +148,7 @@ first_at cnf values counts marks start k flips walks long none few reached befor
   none_before = before;
 }
 
--- where some clause has no true literal at the end of the walk, nothing was found
+-- if some clause has no true literal at the end of the walk, nothing was found
 pub none_at_end : (cnf : ClauseList) (values : List Bool) (counts : List ℕ) (marks : List Bool) (start : ℕ) (k place : ℕ) → Walks cnf.clauses values counts marks start → IsFirstNone counts place → values_after cnf k ≡ Some values → NoneBefore cnf k → NoneBefore cnf (k + 1)
 none_at_end cnf values counts marks start k place walks none reached before =
     let clause = get_or cnf.clauses place [] in

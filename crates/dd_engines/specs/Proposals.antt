@@ -18,7 +18,7 @@ IsSatisfying cnf values = (length values ≡ cnf.variables) × Satisfies (true_v
 abbrev pub IsUnsatisfied : ClauseList → Type 0
 IsUnsatisfied cnf = (set : ℕ → Bool) → Satisfies set cnf.clauses → ⊥
 
--- a proposal keeps its word
+-- a proposal is right
 abbrev pub IsRight : ClauseList → Proposal → Type 0
 IsRight cnf Nothing = Unit {0}
 IsRight cnf (Proposed values) = IsSatisfying cnf values
@@ -28,13 +28,13 @@ IsRight cnf (Refutation steps) = IsRefuting cnf steps
 abbrev pub RisesOn : ℕ → ℕ → Type 0
 RisesOn old new = (old ≤ new) × Rose old new
 
--- the count of what was given, after a proposal
+-- the count of proposals, after one more proposal or none
 abbrev pub GivenAfter : ℕ → ℕ → Proposal → Type 0
 GivenAfter old new Nothing = new ≡ old
 GivenAfter old new (Proposed values) = RisesOn old new
 GivenAfter old new (Refutation steps) = RisesOn old new
 
--- an outcome keeps its word; where clauses are refuted, no assignment satisfies them
+-- an outcome is right; refuted clauses are satisfied by no assignment
 abbrev pub IsRightOutcome : ClauseList → Outcome → Type 0
 IsRightOutcome cnf (Found values) = IsSatisfying cnf values
 IsRightOutcome cnf (Refuted steps) = IsRefuting cnf steps × IsUnsatisfied cnf

@@ -1,4 +1,4 @@
--- Refutations by a single step, which are those that unit propagation finds.
+-- Refutations by a single step: those that unit propagation finds.
 use Rattle.std.specs.Prelude.{◌≡◌, [], ◌∷◌}
 use Rattle.dd_clause.specs.Clauses.{ClauseList}
 use Rattle.dd_derivation.specs.declared.step.Step.{Step}
@@ -10,7 +10,7 @@ use Rattle.dd_derivation.specs.Derivations.{IsRefuting}
 abbrev pub IsSingleStep : ClauseList → Step → Type 0
 IsSingleStep cnf step = IsRefuting cnf (step ∷ [])
 
--- a single step that refutes the clauses, and nothing exactly where there is none
+-- a single step that refutes the clauses, or nothing exactly if there is none
 abbrev pub ProposesSingleStep : ClauseList → Proposal → Type 0
 ProposesSingleStep cnf Nothing = (step : Step) → IsSingleStep cnf step → ⊥
 ProposesSingleStep cnf (Found values) = ⊥

@@ -1,4 +1,4 @@
--- Numbers that tell how much follows, and loops over a count.
+-- Counts of what follows, and loops over a count.
 use Rattle.std.proofs.Common.{◌≡◌, ℕ, suc, ◌+◌, ◌-◌, ◌*◌, ◌<◌, List, [], ◌∷◌, ◌++◌, length, Result, Ok, Err, Bool, true, false, cond, refl, sym, ap, ◌∙◌, append_assoc, arith}
 use Rattle.std.specs.Prelude.{◌==◌, ◌||◌}
 use Rattle.dd_certificate.specs.Bounds.{most_number}
@@ -10,7 +10,7 @@ use Rattle.dd_output.specs.reading.Lists.{minus_of, plus_of, signed_at}
 use Rattle.dd_output.specs.reading.Stars.{end_byte_at, star_of, symbol_of, kept_at}
 use Rattle.dd_output.proofs.Loops.{fails_then, fails_before}
 
--- two readings of one input, that differ at most in the missing text
+-- two results of reading one input, which differ at most in the missing text
 abbrev Alike : {A : Type 0} → Result A Stop → Result A Stop → Type 0
 Alike (Ok x) (Ok y) = x ≡ y
 Alike (Ok x) (Err s) = ⊥

@@ -1,4 +1,4 @@
--- The law of the numbers that a line ends with: at least so many, and at most so many where there is a most.
+-- The law of the numbers at the end of a line: at least `least` of them, and at most `most` if there is such a bound.
 use Rattle.std.proofs.Common.{◌≡◌, ℕ, zero, suc, ◌+◌, ◌-◌, ◌<◌, ◌≤◌, List, [], ◌∷◌, ◌++◌, length, drop, Option, Some, None, Bool, true, false, cond, inl, inr, ◌⊎◌, refl, sym, ap, subst, ◌∙◌, append_assoc, length-append, arith}
 use Rattle.std.specs.Prelude.{ℤ, pos, ◌==◌, nat_lt, All}
 use Rattle.std.specs.Fmt.{decimal, signed_decimal}

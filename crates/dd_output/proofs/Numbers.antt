@@ -24,7 +24,7 @@ decimal_more n d some digit fits =
     let rest : (n * 10 + d) % 10 ≡ d = omega arith in
     decimal_step (n * 10 + d) (omega arith) fits ∙ rw (quotient, rest) refl
 
--- what a number is followed by
+-- the byte that follows a number
 abbrev pub IsEnd : ℕ → ℕ → ℕ → Type 0
 IsEnd end other e = (e ≡ end) ⊎ (e ≡ other)
 

@@ -1,4 +1,4 @@
--- The law of symbols and stars that a line ends with, and of a pattern that is made of them.
+-- The law of the symbols and stars at the end of a line, and of patterns made of them.
 use Rattle.std.proofs.Common.{◌≡◌, ℕ, ◌≤◌, List, [], ◌∷◌, ◌++◌, length, Option, Some, None, Ok, Err, false, ◌⊎◌, inl, inr, refl, ap, subst, arith}
 use Rattle.std.specs.Prelude.{◌==◌, ◌||◌, All, codes}
 use Rattle.std.specs.Fmt.{decimal}

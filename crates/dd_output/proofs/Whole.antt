@@ -1,4 +1,4 @@
--- All of the bytes: one value a text, and where a text is malformed.
+-- Reading all of the bytes: the one value of a text, and where a text is malformed.
 use Rattle.std.proofs.Common.{◌≡◌, ℕ, suc, ◌+◌, ◌-◌, ◌<◌, ◌≤◌, List, [], ◌∷◌, ◌++◌, length, length-append, take, Result, Ok, Err, Bool, true, false, cond, ◌⊎◌, inl, inr, refl, sym, ap, subst, ◌∙◌, append_assoc, arith}
 use Rattle.std.specs.Prelude.{◌==◌}
 use Rattle.std.proofs.lemmas.Bool.{eqb-true}
@@ -131,7 +131,7 @@ refused_at bytes left is =
     let a = stop_of bytes left (all_at bytes) is in
     refused bytes a.0 a.1 left a.2
 
--- each front of a well-formed text is completed
+-- each prefix of a well-formed text is completed
 completed_from : (front more : List ℕ) (good : IsWellFormed (front ++ more)) (s : Stop) → all_at front ≡ Err s → (rest : List ℕ) → s.left ≡ rest → IsWellFormed (front ++ s.missing)
 completed_from front more good s e [] is =
     let h = whole_stops front s e in
@@ -158,7 +158,7 @@ le_or_lt n m = elim (leb_tells n m) [
   | inr other ↦ inr other.1
 ]
 
--- two offsets of the same bytes: the longer one would be a longer front
+-- of two offsets of the same bytes, the greater one would give a longer prefix
 no_less : (bytes : List ℕ) (m n : ℕ) → IsOffset bytes m → IsOffset bytes n → n ≤ m
 no_less bytes m n one two = elim (le_or_lt n m) [
   | inl le ↦ le

@@ -1,4 +1,4 @@
-//! Patterns from which cells are left out, each in its line with a star in the place of the symbol.
+//! Patterns from which cells may be left out. Each is one line, with a star in place of each symbol left out.
 ghost use Rattle.std.specs.Prelude.{◌≡◌, ◌-◌, [], None, suc};
 ghost use Rattle.dd_certificate.specs.Bounds.{most_number};
 ghost use Rattle.dd_output.specs.reading.Stops.{Gives, number_at, many_at, copies};

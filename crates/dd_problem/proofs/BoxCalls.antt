@@ -1,4 +1,4 @@
--- What the calls give from which the clauses of a box are made.
+-- What the calls return from which the clauses of a box are made.
 use Rattle.std.proofs.Common.{◌≡◌, ℕ, ◌*◌, ◌≤◌, ◌<◌, ◌^◌, true, List, length, ap, sym, subst, ◌∙◌, arith, Some, None, if◌then◌else◌, rules}
 use Rattle.std.specs.Prelude.{Option, Result, Ok, Err, IfOk, nat_le}
 use Rattle.std.specs.List.{All}

@@ -1,4 +1,4 @@
--- How far the loops that list cells and give them inputs have come.
+-- The state of the loops that list cells and give them inputs.
 use Rattle.std.proofs.Common.{◌≡◌, ℕ, ◌+◌, ◌*◌, ◌<◌, ◌≤◌, List, [], ◌∷◌, ◌++◌, map, take, length, get_or, ap, sym, subst, ◌∙◌, arith, Some, option_map}
 use Rattle.std.specs.List.{All, range_with_len}
 use Rattle.std.specs.List.Sorted.{IsStrictlySortedBy}
@@ -15,7 +15,7 @@ use Rattle.dd_pattern.specs.Tile.{Tile}
 use Rattle.dd_problem.specs.pushing.Near.{number_at}
 use Rattle.dd_problem.specs.pushing.Numbered.{symbol_signals, numbered_wiring}
 
--- those of the first cells
+-- the inputs of the first cells
 abbrev pub first_numbered : ℕ → List Cell → List ℕ → ℕ → Wiring
 first_numbered m cells numbers i = numbered_wiring m (take i cells) (take i numbers)
 

@@ -1,4 +1,4 @@
--- A circuit that has grown by the gates of what was compiled, whose clauses follow.
+-- A circuit that has grown by compiled gates, and then the clauses of these.
 use Rattle.std.proofs.Common.{◌≡◌, ℕ, ◌+◌, List, [], ◌∷◌, ◌++◌, length, drop, refl, ap, ◌∙◌, arith}
 use Rattle.std.specs.Prelude.{Result, Ok, Err, IfOk}
 use Rattle.std.proofs.lemmas.Result.{IfOk-at_ok}
@@ -18,7 +18,7 @@ drop_front : (gs hs : List Gate) → drop (length gs) (gs ++ hs) ≡ hs
 drop_front [] hs = refl
 drop_front (g ∷ gs) hs = drop_front gs hs
 
--- the clauses of the gates that have come
+-- the clauses of the gates that were added
 clauses_come : (circuit new : Network) (before : ℕ) (gates : List Gate) → before ≡ length circuit.gates → new.inputs ≡ circuit.inputs → new.gates ≡ circuit.gates ++ gates →
     gates_clauses (new.inputs + before) (drop before new.gates) ≡ gates_clauses (size circuit) gates
 clauses_come circuit new before gates is inputs added =

@@ -1,4 +1,4 @@
--- Where wires give each cell of a layout the inputs of its number, the clauses over them are those of the layout.
+-- If wires give each cell of a layout the inputs of its number, the clauses over them are those of the layout.
 use Rattle.std.proofs.Common.{◌≡◌, ℕ, zero, suc, ◌+◌, ◌*◌, ◌<◌, Bool, true, false, List, [], ◌∷◌, ◌++◌, map, length, refl, ap, sym, ◌∙◌, arith, Some, None}
 use Rattle.std.specs.Prelude.{cond, ◌&&◌, Option, nat_lt, slice_get}
 use Rattle.std.specs.List.{list_all, filter, range_with_len}
@@ -104,7 +104,7 @@ asks r m p a ok same node reads =
 reads_there : (l : Layout) (r : LocalRule) (d : Cell) → IsRule r → leaves_pass (λ c s. l.has (shifted d.position c)) (expansion_at r d.node) ≡ list_all (λ c. l.has (shifted d.position c)) (reads_at r d.node)
 reads_there l r d ok = leaves_are_reads r.edges r.symbols ok.symbols.0 r.formula (origin_at d.node ∷ []) (λ c. l.has (shifted d.position c))
 
--- a rule whose reads pass p, at a place round which the wires are the layout's
+-- a rule whose reads pass p, at a place around which the wires are the layout's
 pub record Matches (w : Wiring) (l : Layout) (m : ℕ) (p : Cell → Bool) (r : LocalRule) (d : Cell) : Type 0 where
   pub node : d.node < r.nodes
   pub gives : Gives w l m p d.position

@@ -1,4 +1,4 @@
--- What the calls give that list the cells near those of a fundamental box.
+-- What the calls return that list the cells near those of a fundamental box.
 use Rattle.std.proofs.Common.{◌≡◌, ℕ, ◌+◌, ◌*◌, ◌<◌, ◌≤◌, ◌^◌, Bool, true, false, List, [], ◌∷◌, ◌++◌, map, take, length, get_or, ap, sym, subst, ◌∙◌, arith, rules, Some, None, if◌then◌else◌, pos, ◌-ℤ◌}
 use Rattle.std.specs.Prelude.{Option, nat_le}
 use Rattle.std.specs.Option.{IsSome}
@@ -27,7 +27,7 @@ use Rattle.dd_problem.specs.lemmas.Filtered.{some_same}
 use Rattle.dd_problem.proofs.TorusInputs.{sum_in_range}
 use Rattle.dd_problem.proofs.TorusReach.{told_near, radius_is}
 
--- a sum is there
+-- the sum of two positions exists
 pub sum_there : (p v : Place) (o : Option Place) → extent p ≤ 16 → extent v ≤ 1048560 → o ≡ (if is_in_range (moved p v) then Some (moved p v) else None) → o ≡ Some (moved p v)
 sum_there p v o near wide is = is ∙ ap (λ b. if b then Some (moved p v) else None) (test_from_in_range (moved p v) (sum_in_range p v near wide))
 

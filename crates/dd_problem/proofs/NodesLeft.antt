@@ -1,4 +1,4 @@
--- How far the gates at the nodes of a position have come, each with a literal of its signal.
+-- The state while the gates at the nodes of a position are made, each with a literal of its signal.
 use Rattle.std.proofs.Common.{◌≡◌, ℕ, ◌+◌, ◌<◌, ◌≤◌, List, [], ◌∷◌, ◌++◌, map, length, refl, ap, sym, ◌∙◌, arith, length-append, append_assoc, true}
 use Rattle.std.specs.List.{range_with_len}
 use Rattle.std.proofs.lemmas.List.{append-nil}
@@ -26,19 +26,19 @@ use Rattle.dd_problem.specs.lemmas.Growing.{same_encoding, extended_size, extend
 abbrev pub turned_part : (ℕ → Maker) → ℕ → (Signal → Literal) → Part
 turned_part maker count turn = record { makers = map maker (range_with_len 0 count); tail = λ ss. map turn ss ∷ [] }
 
--- those of a rule
+-- the gates of a rule
 abbrev pub node_maker : Wiring → LocalRule → Place → ℕ → Maker
 node_maker w y v a = compiled w v (expansion_at y a)
 
--- the gates of the nodes from one on
+-- the gates of the nodes from a given one on
 abbrev pub nodes_made : (ℕ → Maker) → ℕ → ℕ → ℕ → AllMade
 nodes_made maker count node n = all_made (map maker (range_to node count)) n
 
--- those of all nodes
+-- the gates of all nodes
 abbrev pub all_nodes : (ℕ → Maker) → ℕ → ℕ → AllMade
 all_nodes maker count n = all_made (map maker (range_with_len 0 count)) n
 
--- all gates with their clauses, and all literals, are those that are there and those that are left
+-- all gates with their clauses, and all literals, are those already there and those left
 pub record NodesLeft (maker : ℕ → Maker) (count : ℕ) (turn : Signal → Literal) (node : ℕ) (start now : Encoding) (literals : List Literal) : Type 0 where
   pub inputs : now.circuit.inputs ≡ start.circuit.inputs
   pub more : size start.circuit ≤ size now.circuit
@@ -73,7 +73,7 @@ node_few maker count turn node most start now literals p h few =
     let split = ap (λ (m : AllMade). length m.gates) (node_split maker count turn node n h) in
     omega (arith, whole, nothing, there, here, same, split, few, length-append one later)
 
--- the same of a rule, whose expansion is kept
+-- the same for a rule, whose expansion is kept
 pub rule_few : (w : Wiring) (y : LocalRule) (v : Place) (turn : Signal → Literal) (node most : ℕ) (start now : Encoding) (literals : List Literal) (e : Expanded) →
     NodesLeft (node_maker w y v) y.nodes turn node start now literals → node < y.nodes → e ≡ expansion_at y node →
     size (with_parts start (turned_part (node_maker w y v) y.nodes turn ∷ [])).circuit ≤ most → size now.circuit + gate_count e ≤ most

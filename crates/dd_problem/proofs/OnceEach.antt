@@ -1,4 +1,4 @@
--- What is left of cells that are sorted, where each that is the same as the one before it is left out.
+-- Sorted cells, without those that are the same as the one before.
 use Rattle.std.proofs.Common.{◌≡◌, Bool, true, false, List, refl, ap, sym, subst, ◌∙◌}
 use Rattle.std.specs.Ordering.{is_eq, eq_by_cmp}
 use Rattle.std.specs.List.{Contains, dedup}

@@ -1,4 +1,4 @@
--- How far the gates have come that tell two values apart, symbol by symbol.
+-- The state while the gates that tell two values apart are made, symbol by symbol.
 use Rattle.std.proofs.Common.{◌≡◌, ◌<◌, ◌≤◌, ℕ, zero, suc, ◌+◌, List, [], ◌∷◌, ◌++◌, length, drop, get_or, ap, sym, ◌∙◌, subst, arith, append_assoc, length-append}
 use Rattle.std.specs.List.{All}
 use Rattle.std.proofs.lemmas.List.{drop_all, append-nil}

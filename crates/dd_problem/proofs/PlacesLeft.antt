@@ -1,4 +1,4 @@
--- How far the premise's clauses have come.
+-- The state while the premise's clauses are made.
 use Rattle.std.proofs.Common.{◌≡◌, ℕ, ◌+◌, ◌<◌, ◌≤◌, Bool, true, false, List, [], ◌∷◌, ◌++◌, map, length, drop, get_or, refl, ap, sym, ◌∙◌, arith, append_assoc, drop-cons, add-one, Some, None}
 use Rattle.std.specs.Prelude.{cond, Option}
 use Rattle.std.specs.List.{filter}
@@ -69,7 +69,7 @@ pub next_parts : (w : Wiring) (n : ℕ) (x : LocalRule) (cells : List Cell) (i :
     parts_from w n x cells i ≡ wired_parts w n x (d ∷ []) ++ parts_from w n x cells (i + 1)
 next_parts w n x cells i d h here = ap (wired_parts w n x) (next_cell cells i d h here) ∙ parts_split w n x d (drop (i + 1) cells)
 
--- The loop over cells: what the parts of all cells give is what is there and what those of the other cells give.
+-- The loop over cells: the parts of all cells give what is already there and what the parts of the other cells give.
 pub record PlacesLeft (w : Wiring) (x : LocalRule) (cells : List Cell) (i : ℕ) (start now : Encoding) : Type 0 where
   pub inputs : now.circuit.inputs ≡ start.circuit.inputs
   pub left : with_parts start (wired_parts w start.circuit.inputs x cells) ≡ with_parts now (parts_from w start.circuit.inputs x cells i)

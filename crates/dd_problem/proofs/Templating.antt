@@ -1,4 +1,4 @@
--- What templates ask of the cells and of the inputs.
+-- What templates require of the cells and the inputs.
 use Rattle.std.proofs.Common.{◌≡◌, ℕ, zero, suc, ◌*◌, ◌/◌, ◌<◌, ◌≤◌, Bool, true, false, List, [], ◌∷◌, map, length, get_or, refl, ap, sym, subst, ◌∙◌, arith, Some, None, option_map, eq-eqb}
 use Rattle.std.specs.Prelude.{◌==◌, Option, if◌then◌else◌, slice_get, nat_le}
 use Rattle.std.specs.List.{All, list_all, range_with_len, position_or_len}
@@ -65,7 +65,7 @@ row_full n m k true None s more full fit h = absurd (cc)
 row_full n m k true (Some ss) s more full fit h =
     and_from (length ss == k) (list_all (is_signal m) ss) (eq-eqb (length ss) k (full ss refl)) (all_signals n m ss more fit)
 
--- what a rule reads has all its signals exactly where each leaf has its wire
+-- what a rule reads has all its signals exactly if each leaf has its wire
 pub same_reads : (n m : ℕ) (w : Wiring) (x : LocalRule) (d : Cell) → IsRule x → d.node < x.nodes → extent d.position ≤ 1048560 → AreInputs n w → HasAllSymbols x.symbols w → n ≤ m →
     are_reads_wired m w x d ≡ is_wired_at w m x d
 same_reads n m w x d rule node near ok full more =

@@ -1,4 +1,4 @@
--- What the calls give from which the clauses of a torus are made.
+-- What the calls return from which the clauses of a torus are made.
 use Rattle.std.proofs.Common.{◌≡◌, ℕ, ◌+◌, ◌*◌, ◌≤◌, ◌<◌, ◌^◌, true, List, map, length, refl, ap, sym, subst, ◌∙◌, arith}
 use Rattle.std.specs.Prelude.{Result, Ok, Err, IfOk, MatchResult, is_ok}
 use Rattle.std.specs.List.{All, range_with_len}

@@ -12,8 +12,8 @@ use Rattle.dd_boxes.specs.Fillings.{is_box_cell}
 use Rattle.dd_compile.specs.Wiring.{Wiring}
 use Rattle.dd_problem.specs.pushing.Numbered.{in_turn}
 
--- The cells whose symbols the inputs say, the number of each cell that is read, from 0, and the places, in the order of
--- their numbers; and each of the cells with its inputs as signals.
+-- `has`: the cells whose symbols the inputs say. `index`: the number of each cell that is read, from 0. `places`: the
+-- places in the order of their numbers. `inputs`: each of the cells with its inputs as signals.
 pub record Layout : Type 0 where
   pub has : Cell → Bool
   pub index : Cell → ℕ
@@ -24,7 +24,7 @@ pub record Layout : Type 0 where
 abbrev pub cells_in : Bounds → ℕ → List Cell
 cells_in b nodes = cells_on nodes (positions_of b)
 
--- the one with so many before it
+-- the cell with this many cells before it
 abbrev pub nth_cell : Bounds → ℕ → ℕ → Cell
 nth_cell b nodes k = cell (place_in b (k / nodes)) (k % nodes)
 
@@ -35,7 +35,7 @@ box_index x n c = index_in (centred x.dimension n) c.position * x.nodes + c.node
 abbrev pub box_layout : LocalRule → ℕ → Layout
 box_layout x n = record { has = is_box_cell x n; index = box_index x n; places = box_cells x n; inputs = in_turn x.symbols (box_cells x n) }
 
--- those of a fundamental box
+-- the fundamental box, as a configuration without symbols
 abbrev pub torus : LocalRule → Periods → Tile
 torus x periods = tile x.dimension periods x.nodes []
 

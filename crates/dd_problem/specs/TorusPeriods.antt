@@ -5,7 +5,7 @@ use Rattle.dd_pattern.specs.Periods.{ArePeriodsIn, periods_volume}
 use Rattle.dd_pattern.specs.Tile.{most_symbols}
 use Rattle.dd_formula.specs.LocalRule.{LocalRule}
 
--- those of the rule's dimension of which the fundamental box has no more cells than a configuration may list
+-- periods of the rule's dimension, whose fundamental box has no more cells than a configuration may list
 pub record AreTorusPeriods (x : LocalRule) (p : Periods) : Type 0 where
   pub periods : ArePeriodsIn x.dimension p
   pub few : periods_volume p * x.nodes ≤ most_symbols

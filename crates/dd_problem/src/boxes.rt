@@ -17,9 +17,9 @@ use dd_formula::Rule;
 use dd_lattice::centred_box;
 use std::alloc::{AllocError, Global};
 
-/// The clauses that ask for an admissible filling of the box of a radius, at least the goal's least one, with the goal at
-/// the origin. The variable `1 + k * symbols + s` says that the `k`-th cell of the box, from 0 in cell order, has the
-/// symbol `s`, and the gates follow.
+/// The clauses that ask for an admissible filling of the box with the goal at the origin. The radius is at least the
+/// goal's least one. The variable `1 + k * symbols + s` says that the `k`-th cell of the box, from 0 in cell order,
+/// has the symbol `s`. The variables of the gates follow.
 pub fn box_clauses(
     alloc: Global,
     premise: &Rule,

@@ -1,4 +1,4 @@
--- Counts that are cut off pass their limit exactly where the whole counts do.
+-- Counts that are cut off pass their limit exactly if the whole counts do.
 use Rattle.std.proofs.Common.{◌≡◌, ℕ, max, ap, ◌∙◌, arith}
 use Rattle.std.specs.Prelude.{nat_lt}
 use Rattle.std.proofs.lemmas.Bool.Decides.{nat_tests}

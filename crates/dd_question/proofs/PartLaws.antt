@@ -1,4 +1,4 @@
--- Tests that fail where a fact doesn't hold, and lists of different vectors.
+-- Tests that fail if a fact doesn't hold, and lists of different vectors.
 use Rattle.std.proofs.Common.{◌≡◌, Bool, true, false, List, [], ◌∷◌, refl}
 use Rattle.std.specs.Prelude.{◌↔◌, not}
 use Rattle.std.specs.List.{AllByRecursion, IsDistinct}

@@ -20,8 +20,9 @@ pub record IsTorus (x : LocalRule) (along : List ℕ) : Type 0 where
   pub periods : ArePeriodsIn x.dimension (periods_of along 0)
   pub few : cells_in x along ≤ most_symbols
 
--- The clauses of the torus; for each cell, and each weight up to the greatest that the box can have, those of the gates that say
--- whether the cells up to this one weigh as much, with a gate And of two members for each symbol and an Or over all; and one more.
+-- The clauses of the torus, and one more. For each cell, and each weight up to the greatest that the box can have,
+-- those of the gates that say whether the cells up to this one weigh as much: an And of two members for each symbol,
+-- and an Or over all.
 abbrev pub weight_clauses : LocalRule → List ℕ → List ℕ → ℕ
 weight_clauses x along ws =
     question_clauses x always (positions_in along) + cells_in x along * (cells_in x along * greatest ws * suc (4 * length ws)) + 1

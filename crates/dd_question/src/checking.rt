@@ -1,4 +1,4 @@
-//! Questions are checked: the limits, whether the parts go together, and the limit on its work that a question passes.
+//! Checks of questions: the limits, whether the parts fit together, and whether a question passes a limit on its work.
 ghost use Rattle.std.specs.Prelude.{◌≡◌, ◌↔◌, IsTrue, IfOk, IfErr, OnOk};
 ghost use Rattle.dd_values.specs.Ranges.{AreLimits};
 ghost use Rattle.dd_question.specs.Questions.{asked_of, IsFormed, IsPartFault};
@@ -32,7 +32,7 @@ fn are_limits(limits: &Limits) -> bool
 }
 
 impl<'a> Question<'a> {
-    /// Whether its parts go together.
+    /// Whether its parts fit together.
     fn check_parts(&self, alloc: Global) -> Result<(), QuestionFault>
         ensures ok { OnOk result (IsFormed (asked_of self.now)) }
         ensures fault { IfErr result (IsPartFault (asked_of self.now)) }
@@ -73,8 +73,8 @@ impl<'a> Question<'a> {
     /// The question, checked within these limits.
     ///
     /// # Errors
-    /// `Limits` where the limits are out of range; else the first of its parts that doesn't go with those before it; else `Excess`
-    /// where it passes a limit on its work; or `Memory`.
+    /// `Limits` if the limits are out of range; else the fault of the first part that doesn't fit those before it;
+    /// else `Excess` if it passes a limit on its work; or `Memory`.
     #[tactic(auto, using(crate::specs::Checked::limits_fault, crate::specs::Checked::part_fault, crate::specs::Checked::excess_fault, crate::specs::Questions::memory_fault))]
     pub fn check(self, alloc: Global, limits: &Limits) -> Result<CheckedQuestion<'a>, QuestionFault>
         ensures ok { IfOk result (λ question. question ≡ asked_within limits.now (asked_of self.entry)) }
@@ -87,7 +87,7 @@ impl<'a> Question<'a> {
         if let Some(excess) = self.excess(alloc, limits)? {
             return Err(QuestionFault::Excess(excess));
         }
-        // Law: a question that goes together and passes no limit is sound.
+        // Law: a question whose parts fit together and that passes no limit is sound.
         sound_questions();
         Ok(CheckedQuestion::known(self, *limits))
     }

@@ -1,4 +1,4 @@
-//! Whether the parts of a question go together.
+//! Whether the parts of a question fit together.
 ghost use Rattle.std.specs.Prelude.{◌≡◌, ◌≤◌, ◌<◌, ◌↔◌, IsTrue, IfOk, IfErr, OnOk, All};
 ghost use Rattle.dd_values.specs.Bounds.{most_weight};
 ghost use Rattle.dd_expansion.specs.Placed.{is_flat};
@@ -232,7 +232,7 @@ fn is_among(vector: &Position, others: &[Position]) -> bool
     others.iter().any(|other| vector.cmp(other).is_eq())
 }
 
-/// Whether no vector is one of those behind it.
+/// Whether no vector comes again later in the list.
 fn are_apart(vectors: &[Position]) -> bool
     ensures { result ≡ are_apart vectors.now }
 {
@@ -253,7 +253,7 @@ fn are_short(dimension: u32, vectors: &[Position]) -> bool
     true
 }
 
-/// Whether amounts may be given along these vectors.
+/// Whether amounts may be sent along these vectors.
 #[tactic(auto, using(crate::proofs::PartLaws::apart_distinct))]
 fn are_vectors(dimension: u32, vectors: &[Position]) -> bool
     ensures { IsTrue result ↔ AreVectors dimension vectors.now }

@@ -30,7 +30,7 @@ centred_from : (d radius : ℕ) (p : Place) → IsInDomain d radius [] p → IsC
 centred_from d radius p (inl here) = here
 centred_from d radius p (inr there) = absurd (Contains-nil there.0 there.1)
 
--- what the domain of the vectors so far and the box that is moved by the next one hold
+-- the domain of the vectors so far, with the box that is moved by the next one
 to_next : (d radius : ℕ) (vs : List Place) (v : Place) (around moved_box all : List Place) → IsRegionOf (IsInDomain d radius []) around →
     IsRegionOf (IsMoved around (reversed v)) moved_box → IsRegionOf (IsInDomain d radius vs) all → (p : Place) →
     Contains all p ⊎ Contains moved_box p → IsInDomain d radius (vs ++ v ∷ []) p

@@ -1,4 +1,4 @@
--- A filling of which the views show what they show of the last one gives no new pattern and no new row.
+-- A filling whose views show what those of the last one show gives no new pattern and no new row.
 use Rattle.std.proofs.Common.{◌≡◌, ◌<◌, ◌+◌, ℕ, zero, suc, Bool, true, false, cond, List, [], ◌∷◌, ◌++◌, length, get_or, map, take, refl, sym, ◌∙◌, ap, subst, inl, inr, arith}
 use Rattle.std.specs.Prelude.{◌||◌, ◌≤◌, All}
 use Rattle.std.specs.Bool.{nat_eq}

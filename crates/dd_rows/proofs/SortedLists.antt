@@ -57,7 +57,7 @@ module _ {K : Type 0} {R : K → K → Ordering} (o : IsTotalOrder R) where
       ap (λ r. match_ordering r (k ∷ x ∷ ks) (x ∷ ks) (x ∷ insert_key R ks k)) (turned x k Less less)
       ∙ ap (λ (ys : List K). x ∷ ys) (insert_present ks i k up.1 inside h)
 
-  -- another goes where the lesser ones end
+  -- a new key goes where the lesser ones end
   insert_absent : (ks : List K) (i : ℕ) (k : K) → i ≤ length ks → AllWithin (λ y. R y k ≡ Less) ks 0 i → AllWithin (λ y. R y k ≡ Greater) ks i (length ks) →
       insert_key R ks k ≡ take i ks ++ k ∷ drop i ks
   insert_absent [] zero k within below above = refl

@@ -1,4 +1,4 @@
--- Rows of one program are the same where the exchanges along each vector are, and the right sides.
+-- Rows of one program are the same if their exchanges along each vector and their right sides are.
 use Rattle.std.proofs.Common.{◌≡◌, ◌<◌, ◌≤◌, ◌+◌, ◌*◌, ℕ, zero, suc, Bool, true, false, cond, List, [], ◌∷◌, ◌++◌, length, get_or, map, take, drop, refl, sym, ◌∙◌, ap, subst, inl, inr, arith, ℤ, pos, Option, Some, None, replicate}
 use Rattle.std.specs.Prelude.{◌-ℤ◌, ◌&&◌, ◌||◌, fold, unwrap_or, slice_get}
 use Rattle.std.specs.Bool.{Decides, nat_eq, one_answer}

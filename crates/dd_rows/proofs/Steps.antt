@@ -83,7 +83,7 @@ extended_barred x q a ss n m next barred =
     ∙ (extended_one x q a ss n
     ∙ (ap (λ b. extended_below x q a ss n ++ cond b (cond (q (ss ++ n ∷ [])) ((ss ++ n ∷ []) ∷ []) []) []) barred ∙ append-nil (extended_below x q a ss n)))
 
--- what the lists up to one give is at most what all give
+-- what the lists up to one give is no more than what all give
 pub flat_map_grows : {X Y : Type 0} (f : X → List Y) (xs : List X) (i : ℕ) (d : X) → i < length xs → length (flat_map f (take i xs) ++ f (get_or xs i d)) ≤ length (flat_map f xs)
 flat_map_grows f xs i d below =
     let first = take (i + 1) xs in
@@ -100,7 +100,7 @@ pub flat_map_next : {X Y : Type 0} (f : X → List Y) (xs : List X) (i : ℕ) (d
 flat_map_next f xs i d below =
     ap (flat_map f) (take_more xs i d below) ∙ (flat_map-append f (take i xs) (get_or xs i d ∷ []) ∙ ap (λ ys. flat_map f (take i xs) ++ ys) (append-nil (f (get_or xs i d))))
 
--- too many symbols lists already
+-- too many lists of symbols already
 pub extended_large : (x : LocalRule) (q : List ℕ → Bool) (a : ℕ) (ss new : List ℕ) (n m most : ℕ) (old next : List (List ℕ)) → n < m → rule_allows x a n ≡ true → new ≡ ss ++ n ∷ [] →
     q new ≡ true → next ≡ old ++ extended_below x q a ss n → length next ≡ most → most < length (old ++ extended_below x q a ss m)
 extended_large x q a ss new n m most old next below allowed is kept so_far full =

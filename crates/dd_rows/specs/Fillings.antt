@@ -24,7 +24,7 @@ words x (c ∷ cs) = flat_map (λ s. map (λ ss. s ∷ ss) (words x cs)) (allowe
 abbrev pub is_true_if_it_fits : LocalRule → Look → Cell → Bool
 is_true_if_it_fits x look c = not (place_fits x look c) || is_true x c look
 
--- it is so at each place of the cells; no other place fits
+-- this holds at each place of the cells; no other place fits
 abbrev pub is_admissible : LocalRule → List Cell → List ℕ → Bool
 is_admissible x cs ss = list_all (is_true_if_it_fits x (look_of cs ss)) cs
 
@@ -34,7 +34,7 @@ fillings x cs = filter (is_admissible x cs) (words x cs)
 abbrev pub most_fillings : ℕ
 most_fillings = 65536
 
--- the first so many cells have too many
+-- the cells up to some number have too many fillings
 pub record HasManyFillings (x : LocalRule) (cs : List Cell) : Type 0 where
   pub cells : ℕ
   pub many : most_fillings < length (fillings x (take cells cs))

@@ -1,5 +1,6 @@
--- The program of a rule along some vectors: what each position is to hold at least, once each has given along each vector an
--- amount that its pattern determines. Column 0 is what each holds; then there is a column for each vector and each pattern.
+-- The program of a rule along some vectors: how much each position holds at least, after each has sent along each
+-- vector an amount that its pattern determines. Column 0 is what each position holds. Then there is a column for each
+-- vector and each pattern.
 use Rattle.std.specs.Prelude.{ℕ, ◌+◌, ◌*◌, ◌<◌, ◌≤◌, ◌≡◌, ◌⊎◌, Bool, ◌&&◌, cond, pos, ◌-ℤ◌, ℤ, List, [], ◌∷◌, ◌++◌, map, length, replicate, unwrap_or}
 use Rattle.std.specs.Bool.{nat_eq}
 use Rattle.std.specs.Ordering.{int_eq}
@@ -34,7 +35,7 @@ coefficients ps out ins =
 abbrev pub origin_weight : LocalRule → List ℕ → Look → ℕ
 origin_weight x ws look = total_weight ws (map (λ a. unwrap_or (look (cell origin a)) 0) (range_with_len 0 x.nodes))
 
--- what a filling asks: the origin holds at most its weight, less what it gives, with what it receives
+-- what a filling requires: the origin holds at most its weight, less what it sends, plus what it receives
 abbrev pub row_of : LocalRule → List ℕ → ℕ → List Place → List (List ℕ) → Look → Row
 row_of x ws radius vs ps look =
     let box = box_cells x radius in
@@ -68,7 +69,7 @@ most_columns = 256
 abbrev pub most_rows : ℕ
 most_rows = 2048
 
--- the program, which is within its limits
+-- the program, within its limits
 pub record IsProgramOf (x : LocalRule) (ws : List ℕ) (radius margin : ℕ) (vs : List Place) (p : Rows) : Type 0 where
   pub ground : List Cell
   pub is_ground : IsGround x radius margin vs ground

@@ -1,4 +1,4 @@
--- An answer that is right comes exactly where it should.
+-- The search finds an assignment exactly if there is one, and a refutation exactly if there is none.
 use Rattle.std.proofs.Common.{ℕ, List, Result, Ok, Err}
 use Rattle.std.specs.Prelude.{◌↔◌, IfOk}
 use Rattle.dd_clause.specs.declared.clause.Literal.{Literal}

@@ -20,7 +20,7 @@ number_below zero (d ∷ ds) = omega arith
 number_below (suc n) (true ∷ ds) = rw (three n) (omega (arith, number_below n ds))
 number_below (suc n) (false ∷ ds) = rw (three n) (omega (arith, number_below n ds))
 
--- one place more
+-- the number rises with one place more
 number_rises : (n : ℕ) (ds : List Bool) (d : Bool) → length ds < n → trail_number n ds < trail_number n (ds ++ d ∷ [])
 unfolding trail_number
 number_rises zero ds d h = absurd (omega arith)
@@ -28,7 +28,7 @@ number_rises (suc n) [] true h = omega (arith, positive n)
 number_rises (suc n) [] false h = omega (arith, positive n)
 number_rises (suc n) (x ∷ ds) d h = omega (arith, number_rises n ds d (omega arith))
 
--- a decided place becomes a propagated one, and what follows it is let go
+-- the number rises where a decided place becomes a propagated one and the places after it go
 number_rises-return : (n : ℕ) (ds es : List Bool) → length ds < n → trail_number n (ds ++ true ∷ es) < trail_number n (ds ++ false ∷ [])
 unfolding trail_number
 number_rises-return zero ds es h = absurd (omega arith)

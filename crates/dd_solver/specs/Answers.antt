@@ -1,4 +1,4 @@
--- What it is for an answer to be right.
+-- When an answer is right.
 use Rattle.std.specs.Prelude.{◌≡◌, ℕ, Bool, true, List, length}
 use Rattle.dd_clause.specs.declared.clause.Literal.{Literal}
 use Rattle.dd_clause.specs.Clauses.{Satisfies}
@@ -19,7 +19,7 @@ abbrev pub IsRefuted : Outcome → Type 0
 IsRefuted (Found values) = ⊥
 IsRefuted (Refuted steps) = Unit {0}
 
--- a value for each of the variables 1..n, by which each clause is true; or steps that refute the clauses
+-- values of the variables 1..n that make each clause true, or steps that refute the clauses
 abbrev pub IsAnswer : ℕ → List (List Literal) → Outcome → Type 0
 IsAnswer n clauses (Found values) = (length values ≡ n) × Satisfies (true_variables values) clauses
 IsAnswer n clauses (Refuted steps) = refutes n clauses steps ≡ true

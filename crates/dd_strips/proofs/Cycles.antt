@@ -1,5 +1,6 @@
--- A closed walk as a configuration: its period is the walk's length, and at each x stands the last slice of the state there. Each
--- place stands in some window, the windows are those of the walk's edges, so the configuration lives.
+-- A closed walk as a configuration. Its period is the walk's length, and its slice at each x is the last one of the
+-- state there. Each place is in some window, and the windows are those of the walk's edges. So the configuration
+-- lives.
 use Rattle.std.proofs.Common.{◌≡◌, ℕ, zero, suc, ◌+◌, ◌*◌, ◌/◌, ◌%◌, ◌^◌, ◌<◌, ◌≤◌, Bool, true, false, List, [], ◌∷◌, length, map, get_or, ℤ, pos, ◌+ℤ◌, ◌≤ℤ◌, Option, Some, None, refl, ap, sym, ◌∙◌, subst, arith}
 use Rattle.std.specs.Prelude.{◌<ℤ◌, ◌-ℤ◌, cond, nat_lt, is_some, slice_get, slice_index, unwrap_or, IfSome}
 use Rattle.std.specs.List.{All, range_with_len}
@@ -212,7 +213,7 @@ module _ (r : LocalRule) (s : Strip) (walk : List ℕ) (rule : IsRule r) (for : 
       lives = λ v a flat node. (kept_there (v.x -ℤ stand r)).true_there v a (there v.x (stand r)) flat node;
     }
 
-    -- and weighs what the walk does
+    -- the configuration weighs as much as the walk
     walk_total : (ws : List ℕ) (states_ : List ℕ) → total_below (λ i. slice_weight r s ws (last_slice r s (slice_index states_ i))) (length states_) ≡ walk_weight r s ws states_
     walk_total ws [] = refl
     walk_total ws (u ∷ us) =

@@ -1,4 +1,4 @@
--- The windows of an admissible filling of a strip are steps: what the rule reads in them is there, so it is true there.
+-- The windows of an admissible filling of a strip are steps: they hold what the rule reads in them, so it is true there.
 use Rattle.std.proofs.Common.{◌≡◌, ℕ, ◌+◌, ◌<◌, ◌≤◌, Bool, true, false, List, [], length, get_or, ℤ, pos, ◌+ℤ◌, ◌≤ℤ◌, Option, Some, None, ap, ◌∙◌, arith, inl, inr}
 use Rattle.std.specs.Prelude.{◌<ℤ◌, int_le, int_lt, is_some, IfSome, IsSomeAnd}
 use Rattle.std.proofs.Math.ListN.{get_or-eq_default}

@@ -54,7 +54,7 @@ same_fraction p q a b q_some b_some one other cross =
     let over : p * b ≡ a * b = cross ∙ ap (λ (x : ℕ). a * x) same in
     (eq_of_mul-eq-mul_right b b_some p a over, same)
 
--- of two fractions, from a configuration of the one
+-- p / q is at most a / b, if a / b is the density of a configuration
 no_more : (p q a b n w : ℕ) → 0 < n → p * n ≤ q * w → a * n ≡ b * w → p * b ≤ a * q
 no_more p q a b n w some less is =
     let one : b * (p * n) ≤ b * (q * w) = mul-le-mul_left b less in

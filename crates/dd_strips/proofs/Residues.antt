@@ -24,7 +24,7 @@ residue_below x n h = let p = raised x n h in rw (residue_is x n (unsigned_abs x
 pub residue_small : (k n : ℕ) → k < n → residue (pos k) n ≡ k
 residue_small k n h = mod-eq_of_lt h
 
--- it is the same n further
+-- the residue is the same n further
 pub residue_round : (x : ℤ) (n : ℕ) → 0 < n → residue (x +ℤ pos n) n ≡ residue x n
 residue_round x n h =
     let p = raised x n h in
@@ -33,7 +33,7 @@ residue_round x n h =
     let more : (x +ℤ pos n) +ℤ pos (a * n) ≡ pos (p.natural + 1 * n) = omega (arith, ints) in
     residue_is (x +ℤ pos n) n a (p.natural + 1 * n) h more ∙ (add-mul-mod_self_right p.natural 1 n ∙ sym (residue_is x n a p.natural h whole))
 
--- and one further it is one more, or begins anew
+-- one further, the residue is one more, or 0 again
 pub residue_next : (x : ℤ) (n : ℕ) → 0 < n → residue (x +ℤ pos 1) n ≡ (residue x n + 1) % n
 residue_next x n h =
     let p = raised x n h in

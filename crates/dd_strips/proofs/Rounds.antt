@@ -1,5 +1,6 @@
--- A closed walk, walked round and round: at each whole number x it is at a state, and an edge leads from there to the state at the
--- next x. As each state's last slice is that of the edge to it, a state's slices are the last slices of the states before it.
+-- A closed walk, walked round and round. At each whole number x it is at a state, and an edge leads from there to the
+-- state at the next x. Each state's last slice is that of the edge to it. So a state's slices are the last slices of
+-- the states before it.
 use Rattle.std.proofs.Common.{◌≡◌, ℕ, zero, suc, ◌+◌, ◌*◌, ◌%◌, ◌^◌, ◌<◌, List, [], ◌∷◌, length, ℤ, pos, ◌+ℤ◌, ap, sym, ◌∙◌, subst, arith, inl, inr}
 use Rattle.std.specs.Prelude.{slice_index}
 use Rattle.std.proofs.Math.Nat.{mod-eq_of_lt, pow-suc, pow-zero, mul-mod_left}

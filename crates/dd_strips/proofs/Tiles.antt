@@ -1,5 +1,5 @@
--- Configurations with the strip's periods and no shear: every slice of them is there, they repeat after their period in the first
--- axis, and so many slices, wherever they begin, weigh what the fundamental box does.
+-- Configurations with the strip's periods and no shear. They have every slice, and repeat after their period along
+-- the first axis. As many slices as that period, wherever they begin, weigh as much as the fundamental box.
 use Rattle.std.proofs.Common.{◌≡◌, ℕ, zero, suc, ◌+◌, ◌*◌, ◌/◌, ◌%◌, ◌<◌, Bool, List, [], ◌∷◌, length, map, get_or, ℤ, pos, ◌+ℤ◌, Option, None, refl, ap, sym, ◌∙◌, arith}
 use Rattle.std.specs.Prelude.{◌-ℤ◌, ◌*ℤ◌, cond, nat_lt, slice_get, slice_index, unwrap_or, IsSomeAnd, sum_by}
 use Rattle.std.specs.List.{All, range_with_len}
@@ -146,7 +146,7 @@ module _ (r : LocalRule) (s : Strip) (t : Tile) (for : IsFor r s) (on : IsOnStri
 
   -- the weights of the slices of a period are the rows and columns of one table, which is the fundamental box
   module _ (ws : List ℕ) where
-    -- what the symbol at a place of the list weighs, and the symbols of a position
+    -- the weight of the symbol at a place of the list, and of the symbols of a position
     abbrev at : ℕ → ℕ
     at i = slice_index ws (get_or t.symbols i 0)
 
@@ -194,7 +194,7 @@ module _ (r : LocalRule) (s : Strip) (t : Tile) (for : IsFor r s) (on : IsOnStri
           let sum : slices_weight s ws (tile_look t) (pos x) (suc n) ≡ total_below (λ k. slices_weight s ws (tile_look t) (pos (x + k)) 1) n + slices_weight s ws (tile_look t) (pos (x + n)) 1 = omega (arith, rest, more) in
           sum
 
-      -- as many slices as the period weigh what the fundamental box does
+      -- as many slices as the period weigh as much as the fundamental box
       pub period_weighs : (x : ℕ) → slices_weight s ws (tile_look t) (pos x) t.periods.x ≡ tile_weight ws t
       period_weighs x =
           slices_total x t.periods.x

@@ -1,5 +1,5 @@
--- Slices that the rule keeps are a walk: along it the potentials rise by at most l times what the slices weigh less m for each, and
--- the ranks fall. Both are sums over the edges, which telescope.
+-- Slices that obey the rule are a walk. Along it the potentials rise by at most l times the slices' weight, less m
+-- for each slice, and the ranks fall. Both are sums over the edges, which telescope.
 use Rattle.std.proofs.Common.{◌≡◌, ℕ, zero, suc, ◌+◌, ◌*◌, ◌<◌, ◌≤◌, List, map, ℤ, pos, ◌+ℤ◌, ◌≤ℤ◌, unsigned_abs, ap, sym, ◌∙◌, subst, arith}
 use Rattle.std.specs.Prelude.{◌<ℤ◌, ◌-ℤ◌, slice_index, unwrap_or}
 use Rattle.std.specs.List.{range_with_len}
@@ -21,7 +21,7 @@ use Rattle.dd_strips.specs.Strips.{slices_weight}
 use Rattle.dd_strips.specs.Claims.{least_potential, greatest_potential, spread_of}
 use Rattle.dd_strips.proofs.Extremes.{lowest_least, highest_greatest, at_most_greatest}
 
--- the window from x on is there, and the rule keeps it
+-- the window from x on is there, and obeys the rule
 pub record IsStep (r : LocalRule) (look : Look) (x : ℤ) : Type 0 where
   pub has : HasSlices r look x (window r + 1)
   pub kept : IsKeptFrom r look x
@@ -49,7 +49,7 @@ risen a b c m i l w v p q =
     let both : l * (w + v) ≡ l * w + l * v = omega arith in
     rw (more, both) (omega (arith, ints, p, q))
 
--- what rises by so much between bounds
+-- a rise between bounds
 bounded : (a c low high : ℤ) (m l : ℕ) → (c +ℤ pos m) ≤ℤ (a +ℤ pos l) → low ≤ℤ c → a ≤ℤ high → m ≤ l + unsigned_abs (high -ℤ low)
 bounded a c low high m l p q s = omega (arith, ints)
 

@@ -35,14 +35,14 @@ three_of_five = refl
 spread_is : spread_of (pos 1 ∷ negsuc 1 ∷ pos 3 ∷ pos 0 ∷ []) ≡ 5
 spread_is = refl
 
--- on the strip of one position lives the configuration 0 1 0 1 .. of the rule that is always true
+-- the configuration 0 1 0 1 .. on the strip of one position, of the rule that is always true
 abbrev two : Tile
 two = tile 1 (record { x = 2; y = 1; z = 1; shear = 0 }) 1 (0 ∷ 1 ∷ [])
 
 two_weighs : tile_weight (3 ∷ 4 ∷ []) two ≡ 7
 two_weighs = refl
 
--- and nothing lives on any strip of the rule that is never true
+-- nothing lives on any strip of the rule that is never true
 never_true : (look : Look) (c : Cell) → is_true (line (roll-Formula (Formula-F.Or []))) c look ≡ false
 never_true look c = ap (λ (t : Truth). t (c ∷ []) look) (fold-roll-Formula Truth (truth_step []) (Formula-F.Or []))
 

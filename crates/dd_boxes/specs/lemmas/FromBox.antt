@@ -22,7 +22,7 @@ use Rattle.dd_boxes.specs.Boxes.{origin, Suffices, Reaches, IsLeastRadius, Cover
 use Rattle.dd_boxes.specs.lemmas.RuleLaws.{from_place, moved_from_origin, shifted_by_origin, reads_given, keeps_at, value_keeps, list_all_weaker}
 use Rattle.dd_boxes.specs.lemmas.CutLaws.{flat_moved, flat_box, wider_box, wider_cells, cut, cond_domain, cut_is_filling, cut_near, cut_admissible}
 
--- alike rules have one box
+-- alike rules have the same box
 pub box_alike : (x y : LocalRule) (n : ℕ) (c : Cell) → AreAlike x y → is_box_cell y n c ≡ is_box_cell x n c
 box_alike x y n c same = rw (same.dimension, same.nodes) refl
 
@@ -58,7 +58,7 @@ differ_at_origin x s f g n look v a over node reach covers apart same =
     value_keeps g less look origin v a (cut_at_origin x n look v) (has ((counted g).reads a) (reach a node).1) in
     apart (sym left ∙ (same ∙ right))
 
--- the goal goes from v to the origin of the cut
+-- a goal at v holds at the origin of the cut
 goal_at_origin : (x : LocalRule) (g : GoalOf) (n : ℕ) (look : Look) (v : Place) → IsGoalFor x g → Reaches g n → Covers x n look v → HasGoal g look v →
     HasGoal g (cut x n look v) origin
 goal_at_origin x (breaks y) n look v ok reach covers there = (
@@ -88,7 +88,7 @@ pub never_in_configuration : (x : LocalRule) (g : GoalOf) (n : ℕ) → Never x 
 never_in_configuration x g n never look full obeys v flat there =
     never.nowhere look full.allowed (λ u a level node _. obeys u a level node) v flat (configuration_covers x n look v full flat) there
 
--- a periodic configuration is one
+-- a periodic configuration is a configuration
 look_is_some : (t : Tile) (c : Cell) → tile_index t c < length t.symbols → is_some (slice_get t.symbols (tile_index t c)) ≡ true
 look_is_some t c below = ap is_some (slice_get-get_or t.symbols (tile_index t c) 0 below)
 

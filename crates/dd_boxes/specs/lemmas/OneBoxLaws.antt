@@ -1,4 +1,4 @@
--- What one box says.
+-- What one box shows.
 use Rattle.std.proofs.Common.{◌≡◌, ℕ, ◌≤◌, Bool, true, false, ℤ, pos, ◌≤ℤ◌, ◌-ℤ◌, arith}
 use Rattle.std.specs.Prelude.{◌↔◌, unsigned_abs}
 use Rattle.std.proofs.lemmas.Int.{ints}

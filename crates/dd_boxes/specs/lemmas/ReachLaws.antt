@@ -23,7 +23,7 @@ use Rattle.dd_boxes.specs.Boxes.{goal_reach, IsLeastRadius}
 use Rattle.dd_boxes.specs.lemmas.RuleLaws.{list_all_weaker}
 use Rattle.dd_boxes.specs.lemmas.CutLaws.{box_parts, flat_box}
 
--- a cell of Z^d is in the box of radius k exactly where it is at most k away
+-- a cell of Z^d is in the box of radius k exactly if it is at most k away
 flat_near : (active : Bool) (k : ℕ) (x : ℤ) → (active || int_eq x (pos 0)) ≡ true → unsigned_abs x ≤ k → is_up_to (spread active k) x ≡ true
 flat_near true k x h near = le-leb _ _ near
 flat_near false k x h near = let zero_there : x ≡ pos 0 = (Decides-int_eq x (pos 0)).0 h in le-leb _ _ (omega (arith, ints))
@@ -118,7 +118,7 @@ module _ (s : CommonNumbers) (f g : Automaton) (some : 1 ≤ s.dimension) where
       one_least (differ s f g) least radius is
       (radius_is_least (λ a node. held f least a (is.reaches a node).0) (λ a node. held g least a (is.reaches a node).1))
 
--- where all that they read are cells of Z^d
+-- the least radius of two automata that read only cells of Z^d
 pub farthest_is_least : (s : CommonNumbers) (f g : Automaton) → 1 ≤ s.dimension → IsAutomaton s f → IsAutomaton s g → IsPlaced f → IsPlaced g →
     IsLeastRadius (differ s f g) (max (automaton_reach s.nodes f) (automaton_reach s.nodes g))
 farthest_is_least s f g some left right in_left in_right = radius_is_least s f g some (in_left s left) (in_right s right)

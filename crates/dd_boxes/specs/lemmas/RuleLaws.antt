@@ -50,8 +50,8 @@ shifted_twice u v c =
 abbrev pub reads_given : LocalRule → Look → Place → ℕ → Bool
 reads_given r look v a = list_all (λ c. is_some (look (shifted v c))) (reads_at r a)
 
--- Two looks that agree, one counted from u and one from v, where the first has symbols: where the first has all that is
--- read, the rule says the same of both.
+-- Two looks, one counted from u and one from v, agree where the first has symbols. If the first has all that is read,
+-- the rule says the same of both.
 pub keeps_at : (r : LocalRule) (less more : Look) (u v : Place) (a : ℕ) →
     ((c : Cell) → is_some (from_place less u c) ≡ true → from_place less u c ≡ from_place more v c) →
     reads_given r less u a ≡ true → is_true r (cell u a) less ≡ is_true r (cell v a) more

@@ -1,4 +1,4 @@
--- A question is small where the largest of its limits is: of smaller boxes, and where fewer positions are asked.
+-- A question within limits is small if the largest one is: smaller boxes and fewer positions take no more clauses.
 use Rattle.std.proofs.Common.{◌≡◌, ℕ, zero, suc, ◌+◌, ◌*◌, ◌^◌, ◌≤◌, ap, ◌∙◌, arith, pos}
 use Rattle.std.specs.Prelude.{◌-ℤ◌}
 use Rattle.std.proofs.Math.Nat.{pow-zero, pow-suc}

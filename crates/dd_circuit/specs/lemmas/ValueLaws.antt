@@ -32,7 +32,7 @@ any_alike n set other same [] ok = refl
 any_alike n set other same (l ∷ ls) ok =
     rw (signal_value-alike n set other same l (ok 0 l (omega arith)), any_alike n set other same ls (All-tail (IsSignal n) l ls ok)) refl
 
--- a gate looks at its own variables alone
+-- a gate's value depends on its own variables only
 pub gate_value-alike : (n : ℕ) (set other : ℕ → Bool) → Alike n set other → (g : Gate) → IsGate n g → gate_value set g ≡ gate_value other g
 gate_value-alike n set other same (And ls) ok = all_alike n set other same ls ok
 gate_value-alike n set other same (Or ls) ok = any_alike n set other same ls ok
@@ -68,7 +68,7 @@ last_value vs b n e = let i : suc n - 1 ≡ length vs = omega (arith, e) in rw i
 one_more : (vs : List Bool) (b : Bool) (n : ℕ) → length vs ≡ n → length (vs ++ b ∷ []) ≡ suc n
 one_more vs b n e = let h = length-append vs (b ∷ []) in omega (arith, h, e)
 
--- the gates' values come after those that were there
+-- the variables that have values already keep them
 pub values_from-alike : (gs : List Gate) (vs : List Bool) (n : ℕ) → length vs ≡ n → Alike n (true_variables (values_from vs gs)) (true_variables vs)
 values_from-alike [] vs n e k p q = refl
 values_from-alike (g ∷ gs) vs n e k p q =
@@ -111,13 +111,13 @@ are_values circuit inputs values e ok is = record {
   gates_follow = rw is (agrees-values_from circuit.gates inputs circuit.inputs e ok);
 }
 
--- the values when all gates were seen
+-- the values after all gates
 pub values_done : (circuit : Network) (inputs values : List Bool) (gs : List Gate) (i : ℕ) → length inputs ≡ circuit.inputs → AreGates circuit.inputs gs →
     gs ≡ circuit.gates → length gs ≤ i → values ≡ values_from inputs (take i gs) → AreValues circuit inputs values
 values_done circuit inputs values gs i e ok same all is =
     are_values circuit inputs values e (rw same at ok) (is ∙ ap (values_from inputs) (take_all i gs all ∙ same))
 
--- and no other list of values has
+-- no other list has each gate's value at its variable
 unique : (gs : List Gate) (vs ws : List Bool) (n : ℕ) → length ws ≡ n + length gs → AreGates n gs → take n ws ≡ vs →
     agrees (true_variables ws) n gs ≡ true → ws ≡ values_from vs gs
 unique [] vs ws n e ok begins said = sym (take_all n ws (omega (arith, e))) ∙ begins

@@ -33,7 +33,7 @@ encoded_has_models circuit ok = record {
   all_inputs = λ inputs full. (values_from inputs circuit.gates, are_values circuit inputs (values_from inputs circuit.gates) full ok refl);
 }
 
--- a clause list is its two parts
+-- clause lists with the same parts are the same
 same_list : (cnf : ClauseList) (variables : ℕ) (clauses : List (List Literal)) → cnf.variables ≡ variables → cnf.clauses ≡ clauses →
     cnf ≡ record { variables = variables; clauses = clauses }
 same_list cnf variables clauses wide all = rw (← wide, ← all) refl

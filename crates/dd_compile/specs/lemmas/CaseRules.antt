@@ -30,7 +30,7 @@ use Rattle.dd_compile.specs.lemmas.MadeCount.{made_count}
 use Rattle.dd_compile.specs.lemmas.ChoiceLaws.{pick, picked, chosen_says, gates_say, fresh_length, fresh_in_range, choices_length}
 use Rattle.dd_compile.specs.lemmas.CaseGates.{itself, next_is, taken_is}
 
--- what holds of the values of a circuit holds of its first gates
+-- if the gates of a circuit have their values, so do its first gates
 pub agrees_before : (now new : Network) (set : ℕ → Bool) → Extends now new → agrees set new.inputs new.gates ≡ true → agrees set now.inputs now.gates ≡ true
 agrees_before now new set more ok =
     let whole : agrees set now.inputs (now.gates ++ more.added) ≡ true = sym (ap (λ n. agrees set n new.gates) more.inputs ∙ ap (agrees set now.inputs) more.gates) ∙ ok in
@@ -264,7 +264,7 @@ value_length k c w at n =
     let second = length-append (r.gates ++ chosen) symbols in
     omega (arith, l, first, second)
 
--- what the three steps ask
+-- what the three steps require
 pub record Asks (k n : ℕ) (rules chosen : List Signal) (xs : List ℕ) (one two : ℕ) : Type 0 where
   pub choose_few : one + length (choices [] rules) ≤ most_variables
   pub as_many : length chosen ≡ length xs

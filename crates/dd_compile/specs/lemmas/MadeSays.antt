@@ -1,4 +1,4 @@
--- The signal of an expansion's gates says what the expansion says.
+-- The signal of an expansion's gates has the expansion's value.
 use Rattle.std.proofs.Common.{◌≡◌, ℕ, suc, ◌+◌, Bool, true, false, List, [], ◌∷◌, ◌++◌, map, length, refl, ap, sym, ◌∙◌, arith}
 use Rattle.std.specs.Prelude.{not, if◌then◌else◌}
 use Rattle.std.specs.List.{list_all, list_any}

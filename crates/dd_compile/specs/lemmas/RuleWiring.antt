@@ -1,4 +1,4 @@
--- Where the reads of a rule have their signals, each leaf of its expansion has its wire.
+-- If the cells that a rule reads have their signals, each leaf of its expansion has its wire.
 use Rattle.std.proofs.Common.{◌≡◌, ◌<◌, ◌≤◌, ◌+◌, ◌-◌, ℕ, zero, suc, Bool, true, false, List, [], ◌∷◌, length, refl, ap, ◌∙◌, arith, Some, None}
 use Rattle.std.specs.Prelude.{◌==◌, ◌&&◌, if◌then◌else◌, Option, nat_lt, slice_get}
 use Rattle.std.specs.List.{list_all}
@@ -68,7 +68,7 @@ module _ (n : ℕ) (w : Wiring) (r : LocalRule) (rule : IsRule r) (c : Cell) (ex
       let three : leaves_pass (λ d s. signals d s && (near d s && known d s)) e ≡ true = leaves_both e signals (λ d s. near d s && known d s) ∙ and_from _ _ has_all two in
       leaves_weaken e (λ d s. signals d s && (near d s && known d s)) (λ d s. is_wire n (wires_near w c.position d s)) (λ d s. leaf_wired n r.symbols w c.position d s inner) three
 
--- a test behind the test of the range, of cells near the origin
+-- a test after the test of the range, for cells near the origin
 in_range_all : (v : Place) → extent v ≤ most_coordinate - most_reach → (test : Cell → Bool) (ds : List Cell) → list_all is_near ds ≡ true →
     list_all (λ d. if is_in_range (moved d.position v) then test d else false) ds ≡ list_all test ds
 in_range_all v inner test [] near = refl
@@ -77,7 +77,7 @@ in_range_all v inner test (d ∷ ds) near =
     let there = near_in_range v d inner both.0 in
     rw there (ap (λ b. test d && b) (in_range_all v inner test ds both.1))
 
--- the same of the cells that a rule reads
+-- the same for the cells that a rule reads
 pub tested_reads : (r : LocalRule) → IsRule r → (c : Cell) → c.node < r.nodes → extent c.position ≤ most_coordinate - most_reach → (test : Cell → Bool) (cs : List Cell) → cs ≡ cells_at r c.node →
     list_all (λ d. if is_in_range (moved d.position c.position) then test d else false) cs ≡ list_all test (reads_at r c.node)
 tested_reads r rule c exists inner test cs is =

@@ -21,7 +21,7 @@ use Rattle.dd_compile.specs.lemmas.FewGates.{gates_below}
 use Rattle.dd_compile.specs.lemmas.ChoiceLaws.{choices_length}
 use Rattle.dd_compile.specs.lemmas.CaseRules.{value_length, rules_length}
 
--- a claim of all automata, by their two forms
+-- a claim about all automata, by their two forms
 abbrev Known : (Automaton → Type 0) → Type 0
 Known P = (f : Automaton) × P f
 
@@ -59,7 +59,7 @@ all_given c = ap counted (sym (v.rolls-Given c)) ∙ fold-roll-Automaton Counted
 all_composed : (f g : Automaton) → counted (v.Composed f g) ≡ counted_step (Automaton-F.Composed (counted f) (counted g))
 all_composed f g = ap counted (sym (v.rolls-Composed f g)) ∙ fold-roll-Automaton Counted counted_step (Automaton-F.Composed f g)
 
--- what both folds count is what is counted of the automaton
+-- both folds count the same
 gated_counts : (k : ℕ) (f : Automaton) → (gated k f).counts ≡ counted f
 gated_counts k =
     by_forms (λ f. (gated k f).counts ≡ counted f) (λ c. ap (λ (x : Gated). x.counts) (gated_given k c) ∙ sym (all_given c))
@@ -85,7 +85,7 @@ made_composed k f g w at n =
     ap (λ (x : Gated). x.made w at n) (gated_composed k f g)
     ∙ ap (λ (x : Counted). composed_made (in_order (x.reads at.node)) (value_made k f) (value_made k g) w at n) (gated_counts k f)
 
--- No more gates than clauses.
+-- There are no more gates than clauses.
 abbrev AreFew : ℕ → Automaton → Type 0
 AreFew k f = (w : Wiring) (at : Cell) (n : ℕ) → length (value_made k f w at n).gates ≤ value_clauses k f at.node
 

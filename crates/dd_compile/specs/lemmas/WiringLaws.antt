@@ -58,14 +58,14 @@ found_list w cs c i ss ok same within h here =
     let inside : i < length w.signals = omega (arith, ok.as_many, ap length same, within) in
     ap (slice_get w.signals) place ∙ slice_get_read w.signals (length w.signals) i ss refl inside here
 
--- and without it there is none
+-- a cell that is not found has no signals
 pub missing_list : (w : Wiring) (cs : List Cell) (c : Cell) (i : ℕ) → IsWiring w → cs ≡ w.cells → IsSearchInRange (Err i) (length cs) →
     IsBinarySearchResult (λ y. cell_cmp y c) cs (Err i) → signals_of w c ≡ None
 missing_list w cs c i ok same within h =
     let place : place_of w.cells c ≡ length w.cells = search_places w.cells c (Err i) ok.ascending (rw same at within) (rw same at h) in
     ap (slice_get w.signals) place ∙ slice_get_past w.signals (length w.cells) (omega (arith, ok.as_many))
 
--- and the wires are those of the list
+-- the wires of a found cell are those of its list
 pub found : (w : Wiring) (cs : List Cell) (c : Cell) (s i : ℕ) (ss : List Signal) (r : Option Signal) → IsWiring w → cs ≡ w.cells → IsSearchInRange (Ok i) (length cs) →
     IsBinarySearchResult (λ y. cell_cmp y c) cs (Ok i) → ss ≡ get_or w.signals i ss → r ≡ slice_get ss s → r ≡ wire_of w c s
 found w cs c s i ss r ok same within h here is = is ∙ ap (λ o. signal_for o s) (sym (found_list w cs c i ss ok same within h here))
@@ -74,7 +74,7 @@ pub missing : (w : Wiring) (cs : List Cell) (c : Cell) (s i : ℕ) → IsWiring 
     IsBinarySearchResult (λ y. cell_cmp y c) cs (Err i) → None ≡ wire_of w c s
 missing w cs c s i ok same within h = ap (λ o. signal_for o s) (sym (missing_list w cs c i ok same within h))
 
--- a cell after all others keeps the order
+-- a cell after all others keeps the cells in order
 pub one_more : (w : Wiring) (c : Cell) (ss : List Signal) (cs : List Cell) (sss : List (List Signal)) → IsWiring w → All (λ d. cell_cmp d c ≡ Less) w.cells →
     cs ≡ w.cells ++ c ∷ [] → sss ≡ w.signals ++ ss ∷ [] → IsWiring (record { cells = cs; signals = sss })
 one_more w c ss cs sss ok before cells signals = record {

@@ -21,7 +21,7 @@ own_wiring m cs = record { cells = cs; signals = signals_in_turn m 0 cs }
 abbrev pub origin : Place
 origin = place (pos 0) (pos 0) (pos 0)
 
--- those of the cells that a rule reads at a node, and how many variables these are
+-- the wiring of the cells that a rule reads at a node, and the number of its variables
 abbrev pub own_inputs : LocalRule → ℕ → Wiring
 own_inputs r a = own_wiring r.symbols (cells_at r a)
 
@@ -31,7 +31,7 @@ own_count r a = length (cells_at r a) * r.symbols
 abbrev pub own_made : LocalRule → ℕ → Made
 own_made r a = compiled (own_inputs r a) origin (expansion_at r a) (own_count r a)
 
--- the circuit has these gates alone, and the signal is theirs
+-- the circuit has only these gates, and the signal is theirs
 pub record IsTemplate (r : LocalRule) (a : ℕ) (circuit : Network) (s : Signal) : Type 0 where
   pub exists : a < r.nodes
   pub kept : IsRule r

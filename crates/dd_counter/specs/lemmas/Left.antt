@@ -1,4 +1,4 @@
--- How far the loops that make the counter have come.
+-- The state of the loops that make the counter.
 use Rattle.std.proofs.Common.{◌≡◌, ℕ, suc, ◌+◌, ◌<◌, ◌≤◌, List, [], ◌∷◌, ◌++◌, map, length, refl, ap, sym, subst, ◌∙◌, arith, length-append, append_assoc}
 use Rattle.std.specs.Prelude.{◌-◌, false, Some, None, slice_get}
 use Rattle.std.proofs.lemmas.Bool.{le-ltb}
@@ -30,7 +30,7 @@ grown-append cnf gs hs =
 pub grown-nil : (cnf : ClauseList) → grown cnf [] ≡ cnf
 grown-nil cnf = same_list (grown cnf []) cnf.variables cnf.clauses (omega arith) (append-nil cnf.clauses)
 
--- what is there and what the rest of the range makes is all
+-- what is already there and what the rest of the range makes are the whole
 pub record Left (make : ℕ → Making) (w end : ℕ) (start now : ClauseList) (signals : List Signal) : Type 0 where
   pub clauses : grown now (joined (map make (range_to w end)) now.variables).gates ≡ grown start (joined (map make (range_with_len 0 end)) start.variables).gates
   pub made : signals ++ (joined (map make (range_to w end)) now.variables).signals ≡ (joined (map make (range_with_len 0 end)) start.variables).signals
@@ -53,7 +53,7 @@ left_step make w end start now new signals after left within pushed more ok =
       more = omega (arith, wide, left.more);
     }
 
--- a turn that adds one signal
+-- a pass that adds one signal
 pub left_one : (make : ℕ → Making) (w end : ℕ) (start now new : ClauseList) (signals after : List Signal) (s : Signal) → Left make w end start now signals → w < end →
     new ≡ grown now (make w now.variables).gates → s ∷ [] ≡ (make w now.variables).signals → IsSignal new.variables s → after ≡ signals ++ s ∷ [] →
     Left make (w + 1) end start new after

@@ -1,5 +1,5 @@
--- What is known of the cells of a torus and of a configuration that lives: its symbols have weights, and the clauses below its
--- weight are few enough.
+-- Facts about the cells of a torus and about a configuration that lives: its symbols have weights, and the clauses
+-- below its weight are few enough.
 use Rattle.std.proofs.Common.{◌≡◌, ℕ, ◌*◌, ◌<◌, ◌≤◌, List, length, ap, sym, subst, arith}
 use Rattle.std.specs.List.{All}
 use Rattle.std.proofs.lemmas.Nat.{mul-le}

@@ -34,7 +34,7 @@ use Rattle.dd_counter.specs.lemmas.Extending.{extension, extension_alike, extens
 parts : (set : ℕ → Bool) (base gates last : List (List Literal)) → is_satisfied set ((base ++ gates) ++ last) ≡ ((is_satisfied set base && is_satisfied set gates) && is_satisfied set last)
 parts set base gates last = list_all-append (is_clause_true set) (base ++ gates) last ∙ ap (λ b. b && is_satisfied set last) (list_all-append (is_clause_true set) base gates)
 
--- the last clause says that the signal, where there is one, is false
+-- the last clause says that the signal, if there is one, is false
 refusal_law : (set : ℕ → Bool) (r : Option Signal) → is_satisfied set (refusal_of r) ≡ not (value_of set r)
 refusal_law set None = refl
 refusal_law set (Some r) = go r.positive (set r.variable) where
@@ -68,7 +68,7 @@ silent_at set (suc b) ws signals t none say light =
     let below = suc b in
     sym (said_at set signals (below - 1)) ∙ (say (below - 1) (omega arith) ∙ le-ltb (below - 1) (total_weight ws t.symbols) (light_at below ws t light (omega arith)))
 
--- what the clauses stand on: those of the torus, over the inputs of c cells, which see no variables but their own
+-- what the clauses rest on: those of the torus, over the inputs of c cells, which use only their own variables
 pub record Stand (base : ClauseList) (x : LocalRule) (periods : Periods) (ws : List ℕ) (c : ℕ) : Type 0 where
   pub shows : ShowsTorus base.clauses x always periods
   pub own : (set other : ℕ → Bool) → Alike base.variables other set → Satisfies set base.clauses → Satisfies other base.clauses

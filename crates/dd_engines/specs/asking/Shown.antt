@@ -1,4 +1,4 @@
--- What the asking of one engine shows.
+-- What asking one engine shows.
 use Rattle.std.specs.Prelude.{◌≡◌, false}
 use Rattle.dd_values.specs.Counts.{Rose}
 use Rattle.dd_clause.specs.Clauses.{ClauseList}

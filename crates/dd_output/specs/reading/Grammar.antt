@@ -75,7 +75,7 @@ fraction = both (number 0 most_number 47) (number 1 most_number 10)
 abbrev pub cycle_of : (ℕ × ℕ) × List ℕ → List ℕ
 cycle_of x = x.1
 
--- the number of states, and so many of them
+-- the number of states, and then the states
 unfoldable pub cycle : Form (List ℕ)
 cycle = record {
   read = map_at cycle_of (then_at (number_at 1 most_number 32 32 zeros) (λ n. (numbers n.0 (Some n.0)).read));

@@ -20,7 +20,7 @@ entry_of n = item n.0
 abbrev pub ended : {A : Type 0} → Unit {0} → Entry A (Unit {0})
 ended u = last u
 
--- a variable, and the list's end at least
+-- a variable; at least the end of the list follows
 abbrev pub variable_at : List ℕ → Read (ℕ × ℕ)
 variable_at bytes = before (48 ∷ 32 ∷ []) (number_at 1 most_variables 32 32 nothing bytes)
 
@@ -58,7 +58,7 @@ end_at least k = cond (nat_lt (suc k) least) 32 10
 abbrev pub other_at : Option ℕ → ℕ → ℕ
 other_at most k = cond (is_last most k) 10 32
 
--- so many numbers, and the line feed
+-- this many zeros, and the line feed after the last
 abbrev pub zeros : ℕ → List ℕ
 zeros zero = []
 zeros (suc zero) = 48 ∷ 10 ∷ []

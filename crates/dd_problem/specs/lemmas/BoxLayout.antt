@@ -72,7 +72,7 @@ in_the_box x n k h =
 index_back : (x : LocalRule) (n k : ℕ) → box_index x n (box_cell x n k) ≡ k
 index_back x n k = rw (index_of_place (centred x.dimension n) (k / x.nodes)) (div-add-mod' k x.nodes)
 
--- the cell with a cell's number is the cell
+-- at a cell's number stands that cell
 pub box_cell_there : (x : LocalRule) (n : ℕ) (c : Cell) → is_box_cell x n c ≡ true → slice_get (box_cells x n) (box_index x n c) ≡ Some c
 box_cell_there x n c h = cell_at_number (centred x.dimension n) x.nodes (box_index x n c) (index_within x n c h) ∙ ap (λ d. Some d) (cell_at x n c h)
 

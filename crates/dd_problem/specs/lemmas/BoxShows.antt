@@ -46,7 +46,7 @@ box_is_wired x g n rule ok reach =
     (λ k d is. ltb-true d.node x.nodes (and_parts (in_box x.dimension n d.position) (nat_lt d.node x.nodes) (box_cell_at x n k d is).0).1)
     (goal_reads_box x g n ok reach) (box_values x n rule g ok reach)
 
--- a look whose domain is the box is admissible exactly where the premise holds at all places of the layout where it fits
+-- a look whose domain is the box is admissible exactly if the premise holds at all places of the layout where it fits
 holds_from_admissible : (x : LocalRule) (n : ℕ) (look : Look) → IsBoxFilling x n look → Admissible x look → premise_holds (box_layout x n) x look ≡ true
 holds_from_admissible x n look filling ok =
     filter_all (λ d. is_true x d look) (fits_in (box_layout x n) x) (box_cells x n) (λ k d is fit.
@@ -171,7 +171,7 @@ box_shows x g n rule ok reach =
           ));
     }
 
--- clauses that show a box are refuted exactly where it suffices
+-- clauses that show a box are refuted exactly if it suffices
 pub shown_decides : (clauses : List (List Literal)) (x : LocalRule) (g : GoalOf) (n : ℕ) → Shows clauses x g n → DecidesBox clauses x g n
 shown_decides clauses x g n shows = record {
   suffices = λ refuted look filling admissible goal.

@@ -28,7 +28,7 @@ use Rattle.dd_boxes.specs.Cells.{cells_on}
 use Rattle.dd_problem.specs.Layouts.{nth_cell, cells_in}
 use Rattle.dd_problem.specs.lemmas.Filtered.{slice_of_range}
 
--- a fact of each number of a range
+-- a fact about each number of a range
 pub All-range : (P : ℕ → Type 0) (n a : ℕ) → ((k : ℕ) → a ≤ k → k < a + n → P k) → All P (range_with_len a n)
 All-range P zero a h = All-nil P
 All-range P (suc n) a h = All-cons P a (range_with_len (a + 1) n) (h a (omega arith) (omega arith)) (All-range P n (a + 1) (λ k low high. h k (omega arith) (omega arith)))

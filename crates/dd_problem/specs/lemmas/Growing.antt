@@ -1,4 +1,4 @@
--- A circuit and its clauses, grown step by step: gates and parts that come one after the other are those of the lists together.
+-- A circuit and its clauses, grown step by step: lists of gates or parts added one after the other are added as one list.
 use Rattle.std.proofs.Common.{◌≡◌, ℕ, suc, ◌+◌, List, [], ◌∷◌, ◌++◌, length, refl, ap, sym, ◌∙◌, arith, length-append, append_assoc}
 use Rattle.std.proofs.lemmas.List.{append-nil}
 use Rattle.dd_clause.specs.declared.clause.Literal.{Literal}

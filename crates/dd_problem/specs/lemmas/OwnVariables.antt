@@ -1,4 +1,4 @@
--- The clauses of a question see no variables but their own: more of them change nothing.
+-- The clauses of a question use only their own variables: further variables change nothing.
 use Rattle.std.proofs.Common.{◌≡◌, ℕ, suc, ◌+◌, ◌*◌, ◌≤◌, Bool, true, List, [], ◌∷◌, length, refl, sym, ◌∙◌, arith}
 use Rattle.std.proofs.lemmas.Bool.{and_parts}
 use Rattle.std.proofs.lemmas.List.Folds.{list_all-append}
@@ -17,7 +17,7 @@ use Rattle.dd_problem.specs.lemmas.Parts.{tests, parts_law}
 use Rattle.dd_problem.specs.lemmas.Reading.{IsWired, read_symbols, problem_read}
 use Rattle.dd_problem.specs.lemmas.Writing.{problem_gates, gates_fit, satisfied_by, input_in_range}
 
--- gates agree with an assignment as with another that has the same values of their variables
+-- gates that agree with an assignment agree with each one that gives their variables the same values
 pub agrees_alike : (set other : ℕ → Bool) (gs : List Gate) (n : ℕ) → Alike (n + length gs) other set → AreGates n gs → agrees other n gs ≡ agrees set n gs
 agrees_alike set other [] n same ok = refl
 agrees_alike set other (g ∷ gs) n same ok =

@@ -1,4 +1,4 @@
--- What the parts of a problem say, where the inputs tell the symbols of a look.
+-- What the parts of a problem say, if the inputs tell the symbols of a look.
 use Rattle.std.proofs.Common.{◌≡◌, ℕ, zero, suc, ◌+◌, ◌*◌, ◌<◌, ◌≤◌, arith, Bool, true, false, List, [], ◌∷◌, ◌++◌, map, length, refl, ap, sym, ◌∙◌, Some, None}
 use Rattle.std.specs.Prelude.{not, if◌then◌else◌, ◌&&◌, ◌||◌, ◌==◌, Option, nat_lt}
 use Rattle.std.specs.List.{list_all, list_any, filter, range_with_len}

@@ -1,4 +1,4 @@
--- How far a loop over a range of variables has come.
+-- The state of a loop over a range of variables.
 use Rattle.std.proofs.Common.{◌≡◌, ℕ, zero, suc, ◌+◌, ◌*◌, ◌<◌, ◌≤◌, Bool, List, [], ◌∷◌, ◌++◌, map, length, take, get_or, refl, ap, sym, ◌∙◌, arith, append_assoc, true, false}
 use Rattle.std.specs.Prelude.{◌-◌, cond}
 use Rattle.std.specs.List.{All, filter, range_with_len}
@@ -23,7 +23,7 @@ range_step w end h = let n : end - w ≡ suc (end - (w + 1)) = omega arith in rw
 pub range_ends : (w end : ℕ) → end ≤ w → range_to w end ≡ []
 range_ends w end h = let n : end - w ≡ 0 = omega arith in rw n refl
 
--- One turn of such a loop: what all of the range gives is what is there and what the rest of it gives.
+-- One pass of such a loop: the whole range gives what is already there and what the rest of the range gives.
 pub left_step : {X : Type 0} (f : ℕ → X) (all now new : List X) (w end : ℕ) → w < end → all ≡ now ++ map f (range_to w end) → new ≡ now ++ f w ∷ [] →
     all ≡ new ++ map f (range_to (w + 1) end)
 left_step f all now new w end h so_far pushed =

@@ -70,7 +70,7 @@ cell_there [] k h = absurd (omega arith)
 cell_there (c ∷ cells) zero h = (c, refl)
 cell_there (c ∷ cells) (suc k) h = cell_there cells k (omega arith)
 
--- the one true input says of each input whether it is true
+-- the one true input tells which of the inputs are true
 hot_input : (set : ℕ → Bool) (m k s : ℕ) → is_satisfied set (one_hot (inputs_of m k)) ≡ true → s < m → set (input m k s) ≡ (read_symbol set m k == s)
 hot_input set m k s hot below =
     let vs = inputs_of m k in

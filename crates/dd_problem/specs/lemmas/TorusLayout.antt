@@ -149,7 +149,7 @@ module _ (x : LocalRule) (periods : Periods) (rule : IsRule x) (ok : AreTorusPer
       few : (axis : ℕ) → nat_lt axis x.dimension ≡ false → x.dimension < suc axis
       few axis f = let most : x.dimension ≤ axis = ltb-false _ _ f in omega arith
 
-  -- what is read round a position is what is read round it modulo the periods
+  -- around a position the same is read as around that position modulo the periods
   pub look_periodic : (symbols : List ℕ) (v : Place) (c : Cell) →
       tile_look (torus_of x periods symbols) (shifted (base_of periods v) c) ≡ tile_look (torus_of x periods symbols) (shifted v c)
   look_periodic symbols v c =

@@ -1,4 +1,4 @@
--- Where the layout has inputs for what automata read at the origin, the gates of their values are and say what they should.
+-- If the layout has inputs for what automata read at the origin, the gates of their values are right and say the values.
 use Rattle.std.proofs.Common.{◌≡◌, ℕ, zero, suc, ◌+◌, ◌*◌, ◌<◌, ◌≤◌, Bool, true, List, [], ◌∷◌, length, refl, ap, sym, subst, ◌∙◌, arith, inl, inr, Some, eq-eqb}
 use Rattle.std.specs.Prelude.{◌==◌, not, nat_le, slice_get}
 use Rattle.std.specs.List.{Contains, list_all, range_with_len}

@@ -1,4 +1,4 @@
--- Where all that is read has inputs.
+-- When all that is read has inputs.
 use Rattle.std.proofs.Common.{◌≡◌, ℕ, zero, suc, ◌+◌, ◌<◌, ◌≤◌, Bool, true, false, List, [], ◌∷◌, map, refl, ap, sym, subst, ◌∙◌, arith, Some, None, inl, inr, eq-eqb}
 use Rattle.std.specs.Prelude.{not, ◌&&◌, ◌||◌, ◌==◌, ◌⊎◌, Option, nat_lt, slice_get}
 use Rattle.std.proofs.Math.Nat.{eq-or-lt_of_le}

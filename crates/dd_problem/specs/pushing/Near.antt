@@ -23,11 +23,11 @@ read_cells x d = map (shifted d.position) (cells_at x d.node)
 abbrev pub near_cells : LocalRule → GoalOf → List Cell → List Cell
 near_cells x g cells = in_order (box_cells x (goal_reach g) ++ flat_map (read_cells x) cells)
 
--- the number that stands at a cell in a periodic configuration
+-- the number at a cell of a periodic configuration
 abbrev pub number_at : Tile → Cell → ℕ
 number_at t c = slice_index t.symbols (tile_index t c)
 
--- each cell with the inputs of the number that stands there
+-- each cell with the inputs of the number there
 abbrev pub numbered_by : ℕ → Tile → List Cell → Wiring
 numbered_by m t cells = numbered_wiring m cells (map (number_at t) cells)
 

@@ -1,4 +1,4 @@
--- The symbols of a configuration are allowed at all cells where those of the fundamental box are.
+-- The symbols of a configuration are allowed at all cells if those of the fundamental box are.
 use Rattle.std.proofs.Common.{◌≡◌, ℕ, ◌<◌, Bool, true, length, get_or, ap, sym, subst, ◌∙◌, Some, None, inl, inr}
 use Rattle.std.specs.Prelude.{Option, IfSome, cond, slice_get}
 use Rattle.std.proofs.lemmas.Bool.{cases_lt, lt-ltb, le-ltb}
@@ -14,7 +14,7 @@ use Rattle.dd_formula.specs.Allowed.{HasAllowed}
 abbrev pub IsAllowedAt : LocalRule → Tile → ℕ → Type 0
 IsAllowedAt r t k = rule_allows r (cell_in t k).node (get_or t.symbols k 0) ≡ true
 
--- what the test of a cell tells of its number
+-- what the test of a cell tells about its number
 pub allowed_is : (r : LocalRule) (t : Tile) (k : ℕ) (c : Cell) (symbol : ℕ) (b : Bool) → c ≡ cell_in t k → symbol ≡ get_or t.symbols k 0 →
     b ≡ rule_allows r c.node symbol → rule_allows r (cell_in t k).node (get_or t.symbols k 0) ≡ b
 allowed_is r t k c symbol b is_cell is_symbol told =

@@ -1,4 +1,4 @@
--- What is tested of vectors.
+-- The tests of vectors.
 use Rattle.std.specs.Prelude.{◌≤◌, ◌&&◌, Bool, true, not, List, [], ◌∷◌, unsigned_abs}
 use Rattle.std.specs.List.{list_any}
 use Rattle.std.specs.Ordering.{is_eq}
@@ -14,7 +14,7 @@ pub record IsNear (v : Place) : Type 0 where
 abbrev pub is_among : Place → List Place → Bool
 is_among p vs = list_any (λ q. is_eq (place_cmp p q)) vs
 
--- no vector is one of those behind it
+-- no vector comes again later in the list
 abbrev pub are_apart : List Place → Bool
 are_apart [] = true
 are_apart (v ∷ vs) = not (is_among v vs) && are_apart vs

@@ -1,4 +1,4 @@
--- The formulas at places say what the rule says there; at the places that one symbol more lets fit all that it reads is given.
+-- The formulas at places say what the rule says there. At the places that fit with one more symbol, all that the rule reads is given.
 use Rattle.std.proofs.Common.{◌≡◌, ◌<◌, ◌+◌, ℕ, zero, suc, Bool, true, false, cond, List, [], ◌∷◌, ◌++◌, length, get_or, take, Some, None, Result, Ok, Err, IfOk, refl, sym, ◌∙◌, ap, subst, arith}
 use Rattle.std.specs.Prelude.{◌&&◌, ◌||◌, not, slice_get, IfSome, All}
 use Rattle.std.specs.Bool.{nat_eq}

@@ -39,7 +39,7 @@ words_more x (d ∷ cs) c =
     (allowed_symbols x d.node)
     ∙ sym (flat_map_flat_map g begun (allowed_symbols x d.node))
 
--- lists whose members are all so
+-- lists whose members all have a property
 
 pub all_cons : {X : Type 0} (P : X → Type 0) (x : X) (xs : List X) → P x → All P xs → (k : ℕ) (d : X) → k < length (x ∷ xs) → P (get_or (x ∷ xs) k d)
 all_cons P x xs p h zero d within = p

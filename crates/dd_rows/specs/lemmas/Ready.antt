@@ -1,4 +1,4 @@
--- Which places fit once the first cells have symbols, and that the rule says the same there of more symbols.
+-- Which places fit once the first cells have symbols. The rule says the same there when there are more symbols.
 use Rattle.std.proofs.Common.{◌≡◌, ◌<◌, ◌≤◌, ◌+◌, ℕ, zero, suc, Bool, true, false, cond, List, [], ◌∷◌, ◌++◌, length, get_or, map, take, drop, min, max, refl, sym, ◌∙◌, ap, subst, inl, inr, arith, get_or-drop, length-drop}
 use Rattle.std.specs.Prelude.{◌&&◌, ◌||◌, not, nat_lt, is_some, slice_get, Option, None}
 use Rattle.std.specs.Bool.{nat_eq}
@@ -126,7 +126,7 @@ same_symbol all j ss s c size h =
     let same : rank (take j all) c ≡ rank (take (j + 1) all) c = omega (arith, low, here, there) in
     get_longer ss s (rank (take j all) c) h ∙ ap (slice_get (ss ++ s ∷ [])) same
 
--- where a place fits, the rule says the same of one symbol more
+-- where a place fits, one more symbol doesn't change what the rule says
 same_truth : (x : LocalRule) (all : List Cell) (j : ℕ) (ss : List ℕ) (s : ℕ) (d : Cell) → length ss ≡ j → place_fits x (look_of (take j all) ss) d ≡ true →
     is_true x d (look_of (take j all) ss) ≡ is_true x d (look_of (take (j + 1) all) (ss ++ s ∷ []))
 same_truth x all j ss s d size fits =

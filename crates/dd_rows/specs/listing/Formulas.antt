@@ -18,7 +18,7 @@ ranks_near cs v = seen (by_rank cs) v
 abbrev pub are_all_true : List Numbered → List ℕ → Bool
 are_all_true es ss = list_all (λ e. holds_in e ss) es
 
--- the formula says of symbols for all the cells what the rule says at the cell
+-- on symbols for all the cells, the formula says what the rule says at the cell
 abbrev pub SaysTrue : LocalRule → List Cell → Cell → Numbered → Type 0
 SaysTrue x cs c e = (ss : List ℕ) → length ss ≡ length cs → All (λ s. s < x.symbols) ss → holds_in e ss ≡ is_true x c (look_of cs ss)
 

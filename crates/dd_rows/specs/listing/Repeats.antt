@@ -1,4 +1,4 @@
--- Fillings of which the views show the same.
+-- Fillings whose views show the same.
 use Rattle.std.specs.Prelude.{ℕ, ◌<◌, ◌≡◌, List, [], ◌∷◌, ◌++◌, map, All}
 use Rattle.dd_rows.specs.declared.views.Views.{Views}
 use Rattle.dd_rows.specs.listing.Views.{symbols_at}

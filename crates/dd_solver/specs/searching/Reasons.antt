@@ -15,12 +15,12 @@ all_known clauses = map (λ c. Some c) clauses
 abbrev pub AreInRange : ℕ → List (Option (List Literal)) → Type 0
 AreInRange n known = (r : ℕ) (c : List Literal) → clause_of known r ≡ Some c → IsClauseInRange n c
 
--- the literal was decided, or the clause of this number forces it where the older entries hold
+-- the literal was decided, or the clause with this number forces it once the older entries are true
 abbrev pub Follows : List (Option (List Literal)) → List Entry → Literal → Option ℕ → Type 0
 Follows known older l None = ⊤
 Follows known older l (Some r) = hint_finding known (is_among (falses older)) r ≡ Forced l
 
--- an entry's variable is in range and no older entry's, and its literal was decided or follows
+-- the entry's variable is in range, no older entry has it, and its literal was decided or follows
 pub record EntryOk (n : ℕ) (known : List (Option (List Literal))) (older : List Entry) (e : Entry) : Type 0 where
   pub in_range : IsLiteralInRange n e.literal
   pub fresh : has_variable e.literal.variable (falses older) ≡ false

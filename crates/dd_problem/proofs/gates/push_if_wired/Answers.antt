@@ -14,7 +14,7 @@ use Rattle.dd_problem.proofs.PlacesLeft.{taken, place_count, nothing_added}
 use Rattle.dd_problem.proofs.Templating.{reads_tell}
 use Rattle.dd_problem.proofs.gates.push_if_wired.Goals as goal
 
--- what is tested of the encoder's circuit
+-- the test of the encoder's circuit
 read_of : (k circuit : Network) (w : Wiring) (x : LocalRule) (d : Cell) (r : Bool) → k ≡ circuit → r ≡ are_reads_wired (size k) w x d → r ≡ are_reads_wired (size circuit) w x d
 read_of k circuit w x d r same read = read ∙ ap (λ (j : Network). are_reads_wired (size j) w x d) same
 
