@@ -2,7 +2,7 @@
 pub mod Right
 -- which answers about least densities and discharging are right
 pub mod Bounds
--- which answers to how little a fundamental box can weigh are right
+-- which answers to the question how little a fundamental box can weigh are right
 pub mod Tori
 -- which answers about conjugacies are right
 pub mod Conjugacies
@@ -12,5 +12,5 @@ pub mod joining
 pub mod Laws
 -- which decisions an output can hold
 pub mod Writable
--- which questions engines are asked
+-- which questions are put to engines
 pub mod Asking
