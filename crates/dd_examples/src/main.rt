@@ -1,5 +1,5 @@
-//! Examples of the use of the crates. Without a word, this program copies an output from standard input. With `check` it reads
-//! an output and says whether each answer is a certificate. With `answer` it reads a script and writes the first line of each
+//! Examples of the use of the crates. Without a word, this program reads an output and writes it again. With `check` it reads an
+//! output and says whether each answer is a certificate. With `answer` it reads a script and writes the first line of each
 //! answer. With `squares` it says whether the chessboard is a configuration of hard squares.
 #![tactic(auto)]
 
