@@ -47,7 +47,7 @@ pub struct Request {
 /// A command, without its `%` and its first word.
 #[derive(Debug, Drop)]
 pub enum Command {
-    /// `dim number`, where the number is 1, 2 or 3 if nothing is wrong.
+    /// `dim number`; without a fault the number is 1, 2 or 3.
     Dimension {
         number: Number,
     },

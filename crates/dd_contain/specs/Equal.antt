@@ -10,7 +10,7 @@ use Rattle.dd_contain.specs.declared.equal.Equality.TheVariants.{Yes as Same, No
 use Rattle.dd_problem.specs.Problems.{box_problem}
 use Rattle.dd_contain.specs.Questions.{IsDecided, AreNumbered}
 
--- the join of two answers: NO left if the left one is NO, else NO right if the right one is, else YES if both are
+-- the join of two answers: NO left if the left one is NO, or NO right if the right one is, or YES if both are
 abbrev pub joined : Decision → Decision → Equality
 joined (No tile) right = Differ Left tile
 joined (Yes n steps) (No tile) = Differ Right tile

@@ -69,8 +69,8 @@ fn joined(left: Decision, right: Decision) -> Equality
 }
 
 /// Decides whether two rules allow the same configurations. The left question asks whether a configuration of `left` can break
-/// `right`; the right question exchanges the two. The answer is NO left if the left answer is NO; else NO right if the right one
-/// is; else YES if both are; else unknown. Limits and roster are used as in `decide`.
+/// `right`; the right question exchanges the two. The answer is NO left if the left answer is NO; otherwise NO right if the
+/// right one is; otherwise YES if both are; otherwise unknown. Limits and roster are used as in `decide`.
 pub fn decide_equal<E: Engine>(
     alloc: Global,
     left: &Rule,

@@ -50,7 +50,7 @@ impl From<QuestionFault> for Unasked {
     }
 }
 
-/// The rule of a formula over a topology with this many labels. Each node allows all symbols, of which there are so many.
+/// The rule of a formula over a topology with this many labels, and with this many symbols, all allowed at each node.
 fn rule_of(
     alloc: Global,
     topology: &Topology,

@@ -4,7 +4,7 @@ ghost use Rattle.std.specs.Prelude.{◌≡◌, IfOk};
 use dd_output::{CertificateFault, read_output, write_output};
 use std::alloc::Global;
 
-/// The text of the output in these bytes, which is the same bytes; or where they stop being an output.
+/// The output in these bytes, written again as the same bytes; or the offset at which they stop being an output.
 pub fn rewritten(alloc: Global, bytes: &[u8]) -> Result<Vec<u8>, CertificateFault>
     ensures { IfOk result (λ text. text.items ≡ bytes.now) }
 {

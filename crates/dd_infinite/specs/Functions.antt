@@ -11,7 +11,7 @@ use Rattle.dd_checker.specs.Certificates.{HasQuery, IsCertificate}
 use Rattle.dd_checker.specs.Lifted.{is_yes, IsWhole}
 use Rattle.dd_checker.specs.Inverses.{is_conjugate, IsConjugacyAt}
 
--- 1 at the origin alone
+-- 1 only at the origin
 abbrev pub spike : Cell → ℕ
 spike c = cond (same_place c.position (place (pos 0) (pos 0) (pos 0))) 1 0
 

@@ -62,7 +62,7 @@ fn cases_of(alloc: Global, context: &Context, cases: &[Case]) -> Made<Items<(Mea
     Ok(made)
 }
 
-/// The automaton with these cases, and with a symbol for cells where no case is true.
+/// The automaton with these cases, and with a symbol for cells at which no case is true.
 pub(crate) fn automaton(
     alloc: Global,
     context: &Context,

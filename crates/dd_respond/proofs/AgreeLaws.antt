@@ -263,7 +263,7 @@ module _ (l : Limits) (c : ConjugacyOf) where
   one_radius : (k n m : ℕ) (s t : List Step) → ComesTo l c k (decision.Yes n s) → ComesTo l c k (decision.Yes m t) → n ≡ m
   one_radius k n m s t h i = let same : decision.Yes n [] ≡ decision.Yes m [] = comes_alike k _ _ h i in cc same
 
-  -- the answer to a question that came to NO
+  -- the answer if a question is answered NO
   abbrev broken_by : ℕ → Decision → Answer
   broken_by k (decision.Yes n s) = answer.Unknown reason.Limits
   broken_by k (decision.No t) = written_broken k t

@@ -22,16 +22,16 @@ pub record ComesTo (l : Limits) (c : ConjugacyOf) (k : ℕ) (d : Decision) : Typ
   pub is_part : IsPart c k premise goal
   pub decided : IsDecided premise goal l.radius l.period d
 
--- the question comes to NO, with some configuration
+-- the question is answered NO, with some configuration
 abbrev pub IsNoAt : Limits → ConjugacyOf → ℕ → Type 0
 IsNoAt l c k = (t : Tile) × ComesTo l c k (decision.No t)
 
--- the answer if the question with this number comes to NO
+-- the answer if the question with this number is answered NO
 abbrev pub written_broken : ℕ → Tile → Answer
 written_broken k t = answer.Broken k (written_periods t) t.periods.shear t.symbols
 
--- BROKEN by the first of the four questions that comes to NO; else CONJUGATE if all come to YES; else UNKNOWN. Questions after
--- one that comes to NO are left open.
+-- BROKEN by the first of the four questions that is answered NO; else CONJUGATE if all are answered YES; else UNKNOWN. Questions
+-- after one that is answered NO are left open.
 pub data IsRightConjugacy (l : Limits) (c : ConjugacyOf) : Answer → Type 0 where
   first_no : {k : ℕ} {t : Tile} → IsLeast (IsNoAt l c) 1 4 k → ComesTo l c k (decision.No t) →
       IsRightConjugacy l c (written_broken k t)

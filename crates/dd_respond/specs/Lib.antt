@@ -6,7 +6,7 @@ pub mod Bounds
 pub mod Tori
 -- which answers about conjugacies are right
 pub mod Conjugacies
--- what the questions of a conjugacy come to, one after the other
+-- the questions of a conjugacy, answered one after the other
 pub mod joining
 -- what all right answers to a question have in common
 pub mod Laws

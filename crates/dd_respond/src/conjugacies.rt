@@ -20,7 +20,7 @@ use dd_question::Conjugacy;
 use dd_values::{Items, Limits};
 use std::alloc::{AllocError, Global};
 
-/// What the questions so far came to, if none came to NO: the radius and the steps of each YES, and whether one was left open.
+/// The questions answered so far, if none was answered NO: the radius and the steps of each YES, and whether one was left open.
 #[derive(Drop)]
 struct Findings {
     radii: Items<u64>,
@@ -28,7 +28,7 @@ struct Findings {
     is_open: bool,
 }
 
-/// A question that came to NO, by its number, with a configuration that shows it.
+/// A question that was answered NO, by its number, with a configuration that shows it.
 #[derive(Drop)]
 struct Failed {
     number: u64,
@@ -48,7 +48,7 @@ impl Findings {
         }
     }
 
-    /// Adds a question that came to YES.
+    /// Adds a question that was answered YES.
     fn push(&mut self, radius: u32, steps: Items<Step>) -> Result<(), AllocError>
         ensures radii { OnOk result (self.new.radii ≡ self.old.radii ++ radius ∷ []) }
         ensures steps { OnOk result (self.new.steps ≡ self.old.steps ++ steps ∷ []) }
@@ -83,7 +83,7 @@ fn part_decided<E: Engine>(
     }
 }
 
-/// The first question that comes to NO; later ones are not asked. If there is none, `findings` has what all four came to.
+/// The first question answered NO; later ones are not asked. If there is none, `findings` has the answers of all four.
 fn first_failed<E: Engine>(
     alloc: Global,
     conjugacy: &Conjugacy,

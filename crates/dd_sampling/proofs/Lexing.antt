@@ -22,7 +22,7 @@ stands_behind (x ∷ xs) ys k =
     let one_on : suc (length xs) + k ≡ suc (length xs + k) = omega arith in
     ap (λ (j : ℕ). drop j (x ∷ (xs ++ ys))) one_on ∙ stands_behind xs ys k
 
--- what follows the first part of what stands at p
+-- if xs and then ys stand at p, ys stands after xs
 pub stands_after : (bytes : List ℕ) (p : ℕ) (xs ys : List ℕ) (q : ℕ) → Stands bytes p (xs ++ ys) → q ≡ p + length xs → Stands bytes q ys
 stands_after bytes p xs ys q stands is k =
     let at : q + k ≡ p + (length xs + k) = omega (arith, is) in

@@ -178,7 +178,7 @@ limits_written = written limits_tokens (command.Limits (number_at 8 1) (number_a
 abbrev pub rule_written : ℕ → ℕ → ℕ → List Lexeme → Formula → Written
 rule_written s named l tokens f = written (w s 4 ∷ w named l ∷ tokens) (command.Rule (word_at named l) f)
 
--- the configuration, whose height has so many digits
+-- the configuration, whose height has this many digits
 abbrev pub conf_tokens : ℕ → List Number → List Lexeme
 conf_tokens digits ns = w 171 4 ∷ w 176 1 ∷ lexeme.Mark mark.OpenList ∷ n 179 ∷ lexeme.Number (number_at 181 digits) ∷ lexeme.Mark mark.CloseList ∷ map lexeme.Number ns
 

@@ -33,7 +33,7 @@ start = record { known = known_start; rules = []; automata = []; configurations 
 
 -- ---- what a command changes
 
--- with these sets of symbols, of which those of `nodes` are restricted
+-- with these sets of symbols; the nodes in the list are restricted
 abbrev pub allowing : Known → SymbolSets → List ℕ → Known
 allowing k sets nodes = record k { setting = record (k.setting) { sets = sets }; restricted = nodes }
 

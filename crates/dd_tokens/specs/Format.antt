@@ -75,7 +75,7 @@ piece_size (Gap n) = n
 piece_size (Cut kind n) = n
 piece_size (Fault n) = 0
 
--- a piece has at least one byte and at most so many; a fault lies within them
+-- a piece has at least one byte and at most `room`; a fault is one of `room` bytes
 abbrev pub IsPieceWithin : Piece → ℕ → Type 0
 IsPieceWithin (Gap n) room = (0 < n) × (n ≤ room)
 IsPieceWithin (Cut kind n) room = (0 < n) × (n ≤ room)

@@ -13,7 +13,7 @@ pub enum Piece {
     Gap(u32),
     /// A token of this many bytes.
     Cut(TokenKind, u32),
-    /// This many bytes on stands a byte that isn't allowed there.
+    /// A byte that isn't allowed, after this many bytes.
     Fault(u32),
 }
 

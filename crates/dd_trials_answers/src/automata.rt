@@ -39,7 +39,7 @@ const AGREEMENTS: [(&str, &str); 6] = [
 
 // Scripts, and the whole answers, each with the configuration on which the automata differ.
 const DIFFERENCES: [(&str, &str); 4] = [
-    // The exclusive or of the neighbours is 0 where all cells are 1.
+    // The exclusive or of the neighbours is 0 if all cells are 1.
     (
         "%dim 1 %rule full o@o %auto r when o.lt!=o.rt give 1 else 0 %auto id when o=1 give 1 else 0 %same r id full",
         "query 1 NO 1\nconf 1\n",

@@ -34,7 +34,7 @@ fn a_long_input_is_refused(rt: HostRuntime) -> Result<(), Fail> {
 // A session without a fault: its word, its input, its status, and what it writes.
 type Session = (&'static str, &'static str, Status, &'static str);
 
-// At most sixteen bytes are read or written at a time. Each session has the number of its reads, of which the last finds the
+// At most sixteen bytes are read or written at a time. Each session has the number of its reads, the last of which finds the
 // end, and how many bytes are held if its first, second or later write fails. The lines before the first answer of a run are
 // written together, and then each answer separately; so are the lines of a check and of a sample. A sample reads nothing.
 const SESSIONS: [(Session, u64, &[usize]); 7] = [

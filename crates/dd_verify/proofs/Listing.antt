@@ -48,7 +48,7 @@ same_cell x c Less is h = absurd (cc h)
 same_cell x c Equal is h = cells_equal x c is
 same_cell x c Greater is h = absurd (cc h)
 
--- if the index is below the length, the cell stands there
+-- if the index is below the length, the cell is there
 stands_first : (x : Cell) (cs : List Cell) (c : Cell) (b : Bool) → is_cell c x ≡ b → (place_of cs c < length cs → get_or cs (place_of cs c) c ≡ c) →
     place_of (x ∷ cs) c < length (x ∷ cs) → get_or (x ∷ cs) (place_of (x ∷ cs) c) c ≡ c
 stands_first x cs c true is rest h =

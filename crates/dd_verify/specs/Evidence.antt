@@ -32,7 +32,7 @@ pub record IsNo (l : Limits) (x : LocalRule) (g : GoalOf) (along : List ℕ) (sh
   pub periods : AreWithin x.dimension l.period (given_periods along shear)
   pub witness : IsWitness x g (given_tile x along shear symbols)
 
--- YES with its steps, NO with its configuration, or UNKNOWN where the limits were met
+-- YES with its steps, NO with its configuration, or UNKNOWN if the limits were met
 pub data IsBoxCertificate (l : Limits) (x : LocalRule) (g : GoalOf) : Answer → Type 0 where
   box_yes : {n : ℕ} {steps : List Step} → IsYes l x g n steps → IsBoxCertificate l x g (answer.Yes n steps)
   box_no : {along : List ℕ} {shear : ℕ} {symbols : List ℕ} → IsNo l x g along shear symbols → IsBoxCertificate l x g (answer.No side.Whole along shear symbols)

@@ -77,7 +77,7 @@ begins_sound Join.Implies (Lexeme.Mark Mark.Arrow ∷ tokens) e = refl
 begins_sound Join.Iff (Lexeme.Mark Mark.BothWays ∷ tokens) e = refl
 begins_sound j tokens e = absurd cc
 
--- more such parts, and at least one if the sign stands there
+-- more such parts; at least one if the sign comes next
 abbrev TakesMore : Join → ℕ → ℕ → List Lexeme → List Formula × List Lexeme → Type 0
 TakesMore j place n tokens x = (tokens ≡ more_text j x.0 ++ x.1) × (list_all (λ (h : ℕ → Bool). h place) (map stands x.0) ≡ true) × (begins j tokens ≡ true → 0 < n → 0 < length x.0)
 

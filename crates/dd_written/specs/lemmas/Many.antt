@@ -1,4 +1,4 @@
--- Items one after the other: what is read as such is their text, and their text is read.
+-- Items one after the other: they are read from their text, and only from it.
 use Rattle.std.proofs.Common.{◌≡◌, ℕ, zero, suc, ◌≤◌, ◌<◌, Bool, true, false, List, [], ◌∷◌, ◌++◌, length, Some, refl, sym, ap, subst, ◌∙◌, append_assoc, arith, inl, inr}
 use Rattle.std.specs.List.{flat_map}
 use Rattle.dd_written.specs.Tree.{Lexeme}
