@@ -51,8 +51,7 @@ pub record AsksPeriods (x : LocalRule) (g : GoalOf) (p : Periods) : Type 0 where
 abbrev pub IsSmallQuestion : LocalRule → GoalOf → ℕ → ℕ → Type 0
 IsSmallQuestion x g n p = (least : ℕ) → IsLeastRadius g least → largest_clauses x (goal_clauses g) (max n least) p ≤ most_clauses
 
--- the least radius that suffices, from the goal's least radius on; otherwise the first periods that show the goal; otherwise
--- unknown
+-- the least radius that suffices, at least the goal's least radius; or the first periods that show the goal; or unknown
 abbrev pub IsDecided : LocalRule → GoalOf → ℕ → ℕ → Decision → Type 0
 IsDecided x g n p decision =
     (least : ℕ) × IsLeastRadius g least

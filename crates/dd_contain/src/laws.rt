@@ -12,7 +12,7 @@ use dd_formula::Rule;
 
 /// Does nothing; its contract says when `decide` gives which answer. YES: the largest box within the limits has no admissible
 /// filling with the goal at the origin. NO: some configuration of periods within the limits lives and has the goal at the
-/// origin. Unknown: neither holds. Both never hold.
+/// origin. Unknown: neither holds. They never both hold.
 pub fn trichotomy(premise: &Rule, goal: &Goal)
     requires { IsGoalFor premise.now (goal_of premise.now goal.now) }
     ensures { (n p least : ℕ) (decision : AnyDecision) → IsLeastRadius (goal_of premise.now goal.now) least → IsDecided premise.now (goal_of premise.now goal.now) n p decision

@@ -72,15 +72,15 @@ const DISCHARGES: [(&str, &str); 16] = [
         "%rule full o@o %discharge full 2 0 [1 0]",
         "query 1 UNKNOWN large\n",
     ),
-    // A weight without a lower bound.
+    // Nothing forces a weight.
     (
         "%dim 1 %rule full o@o %discharge full 0 0 [1]",
         "query 1 BOUND 0/1\n",
     ),
 ];
 
-// Whole answers, with their amounts and duals. docs/wrong-bodies.md says what the bounds mean for small boxes. A 0 has a 1
-// before it, or three steps away. The last rule stands two cells to the left of the cell that it restricts; the margin shows it.
+// Whole answers, with their amounts and duals. docs/wrong-bodies.md says what the bounds mean for small boxes. A 0 has a 1 to
+// its right, or three steps away. The last rule stands two cells to the left of the cell that it restricts; the margin shows it.
 const WHOLE_BOUNDS: [(&str, &str); 3] = [
     (
         "%dim 1 %rule cover o=1 | o.rt=1 %discharge cover 0 0 [1]",

@@ -370,8 +370,8 @@ const CASES: &[(&str, u32, i64, &str, u32, &str)] = &[
         6,
         "Overflow",
     ),
-    // The objective is column 0, so its numbers are those of the row of column 0, which comes before it. In the next six cases
-    // no other row has a number over the limit.
+    // The objective is column 0, so its numbers are those of the line of column 0, which comes before it. In the next six cases
+    // no other line has a number that is too large.
     (
         "first past 2^127: the product in the value, 9 * 2^124",
         2,
