@@ -1,5 +1,5 @@
--- A right answer is a certificate: what is decided of a box has the radius and the refutation of a YES, and the
--- configuration of a NO is given back by what is written of it.
+-- A right answer is a certificate: a decided box gives the radius and the refutation of a YES, and the configuration of a NO can
+-- be read back from what is written of it.
 use Rattle.std.proofs.Common.{◌≡◌, ℕ, List, max, refl, ap, sym, subst, ◌∙◌, arith}
 use Rattle.dd_derivation.specs.Derivations.{IsRefuting}
 use Rattle.dd_problem.specs.Problems.{box_problem}
@@ -45,7 +45,7 @@ discharge_is x radius margin vs ws pivots a (is_large h) = too_large
 discharge_is x radius margin vs ws pivots a (overflows h) = overflow
 discharge_is x radius margin vs ws pivots a (used_up h) = no_pivots
 
--- the symbols of a configuration that lives on the torus give it back
+-- a configuration that lives on the torus can be read back from its symbols
 torus_same : (x : LocalRule) (along : List ℕ) (t : Tile) → IsLiving x (periods_of along 0) t → t ≡ torus_tile x along t.symbols
 torus_same x along t lives =
     let dimension : t.dimension ≡ x.dimension = lives.1.fits.dimension in

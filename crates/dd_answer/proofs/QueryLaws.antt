@@ -21,11 +21,11 @@ module _ (s : Parts) (q : Query) (k : Asked) (asks : asked s q ≡ Some k) where
   right_for l limits a right =
       subst (λ (o : Option Asked). IsSomeAnd o (λ j. IsRightTo s.known.limits j a)) (sym asks) (subst (λ (m : Limits). IsRightTo m k a) limits right)
 
-  -- the query asks engines where what it asks does
+  -- the query asks engines if what it asks is a box question
   pub engages_for : (before after : List Seen) → Engages (IsBoxQuestion k) before after → Engages (AsksBoxes s q) before after
   engages_for before after told = subst (λ (o : Option Asked). Engages (IsSomeAnd o IsBoxQuestion) before after) (sym asks) told
 
--- both are of the same item
+-- two facts about the same item
 both_of_one : {X : Type 0} (o : Option X) (P Q : X → Type 0) (G : Type 0) → IsSomeAnd o P → IsSomeAnd o Q → ((x : X) → o ≡ Some x → P x → Q x → G) → G
 both_of_one (Some x) P Q G p q then = then x refl p q
 both_of_one None P Q G p q then = absurd p

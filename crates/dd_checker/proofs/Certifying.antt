@@ -1,4 +1,4 @@
--- What is a certificate of a query of a script claims what is true.
+-- What a certificate of a query of a script claims is true.
 use Rattle.std.proofs.Common.{◌≡◌, ℕ, ◌+◌, ◌-◌, ◌<◌, ◌≤◌, length, refl, ap, sym, subst, ◌∙◌, arith, Some, None, inl, inr}
 use Rattle.std.specs.Prelude.{Option, IsSomeAnd, slice_get}
 use Rattle.std.proofs.lemmas.Bool.{cases_lt}
@@ -24,7 +24,7 @@ query_claims s q k l asks limits told a h =
     let certificate = subst (λ (o : Option Asked). IsSomeAnd o (λ j. IsCertificateOf s.known.limits j a)) asks h.1 in
     subst (λ (o : Option Asked). IsSomeAnd o (λ j. ClaimOf j a)) (sym asks) (told a (subst (λ (m : Limits). IsCertificateOf m k a) (sym limits) certificate))
 
--- of the first n queries
+-- this holds of the first n queries
 abbrev pub AreTruthful : Parts → ℕ → Type 0
 AreTruthful s n = (number : ℕ) (a : Answer) → number - 1 < n → IsCertificate s number a → Claim s number a
 

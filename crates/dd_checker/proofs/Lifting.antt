@@ -29,16 +29,16 @@ use Rattle.dd_verify.specs.Certificates.{ClaimOf}
 use Rattle.dd_checker.specs.Claims.{ClaimFor, Claim}
 use Rattle.dd_checker.specs.Lifted.{is_yes, whole_look, IsWhole, IsNotAt, IsAskedNotAt, of_box, of_equality, IsNowhereAt}
 
--- what follows from what an item is and has
+-- a consequence of two facts about an item
 some_then : {X : Type 0} (o : Option X) (P Q : X → Type 0) → ((x : X) → o ≡ Some x → P x → Q x) → IsSomeAnd o P → IsSomeAnd o Q
 some_then (Some x) P Q h p = h x refl p
 some_then None P Q h p = p
 
--- an item stands in its list
+-- an item is in its list
 stands_at : (xs : List Query) (n : ℕ) (x : Query) → slice_get xs n ≡ Some x → Contains xs x
 stands_at xs n x is = (n, slice_get_within xs n x is, get_or_from_slice_get xs n x x is)
 
--- a YES to one question, or to both of an equality
+-- YES to one question, or to both of an equality
 data SaysYes : Answer → Type 0 where
   one : {n : ℕ} {steps : List Step} → SaysYes (answer.Yes n steps)
   both : {n m : ℕ} {steps others : List Step} → SaysYes (answer.YesBoth n m steps others)
@@ -82,7 +82,7 @@ module _ (s : Parts) (nodes : ℕ) (symbol_of : Cell → ℕ) (whole : IsWhole s
     asked_not_at a both (question.equality x y) ok (says_equal {n = n} {m = m} left right) = of_equality (not_at x (breaks y) n ok.0 left) (not_at y (breaks x) m ok.1 right)
     asked_not_at _ _ _ ok claim = elim claim [ ]
 
-    -- where a YES claims what is true, the goal does not hold at v
+    -- if what a YES claims is true, the goal does not hold at v
     pub lifted_law : AreSound s → (number : ℕ) (a : Answer) → is_yes a ≡ true → Claim s number a → IsNowhereAt s number look v
     lifted_law sound number a told h =
         some_then (query_at s number) (λ q. ClaimFor s q a) (λ q. IsSomeAnd (asked s q) (λ k. IsAskedNotAt k look v))

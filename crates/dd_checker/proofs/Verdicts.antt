@@ -17,14 +17,14 @@ use Rattle.dd_checker.specs.declared.verdict.Verdict.TheVariants as verdict
 use Rattle.dd_checker.specs.Certificates.{IsCertificateFor, IsCertificate, HasQuery}
 use Rattle.dd_checker.specs.Claims.{ClaimFor, Claim}
 
--- a certificate of what the query asks is one of the query
+-- a certificate of what the query asks is a certificate of the query
 pub certificate_for : (s : Parts) (q : Query) (k : Asked) (a : Answer) (l : Limits) → asked s q ≡ Some k → l ≡ s.known.limits → (b : Bool) →
     (b ≡ true) ↔ (IsWritable a × IsCertificateOf l k a) → (b ≡ true) ↔ IsCertificateFor s q a
 certificate_for s q k a l asks limits b told =
     subst (λ (o : Option Asked). (b ≡ true) ↔ (IsWritable a × IsSomeAnd o (λ j. IsCertificateOf s.known.limits j a))) (sym asks)
     (subst (λ (m : Limits). (b ≡ true) ↔ (IsWritable a × IsCertificateOf m k a)) limits told)
 
--- ---- the query that is read of the list
+-- ---- the query that is read from the list
 
 module _ (qs queries : List Query) (n : ℕ) (q : Query) (same : qs ≡ queries) (is : q ≡ get_or qs n q) (within : n < length queries) where
   read : q ≡ get_or queries n q

@@ -11,11 +11,11 @@ use Rattle.dd_verify.specs.Certificates.{IsCertificateOf}
 abbrev pub IsCertificateFor : Parts → Query → Answer → Type 0
 IsCertificateFor s q a = IsWritable a × IsSomeAnd (asked s q) (λ k. IsCertificateOf s.known.limits k a)
 
--- of the query with a number, from 1
+-- a certificate of the query with this number, from 1
 abbrev pub IsCertificate : Parts → ℕ → Answer → Type 0
 IsCertificate s number a = IsSomeAnd (query_at s number) (λ q. IsCertificateFor s q a)
 
--- there is a query with the number
+-- there is a query with this number
 pub record HasQuery (s : Parts) (number : ℕ) : Type 0 where
   pub numbered : 1 ≤ number
   pub within : number ≤ length s.queries

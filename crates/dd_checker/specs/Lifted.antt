@@ -24,21 +24,21 @@ is_yes a = starts_with nat_eq (verdict_text a) (codes "YES ")
 abbrev pub whole_look : ℕ → ℕ → (Cell → ℕ) → Look
 whole_look d nodes symbol_of c = cond (is_cell_in d nodes c) (Some (symbol_of c)) None
 
--- a symbol for each cell of Z^d with one of the script's nodes, one that the node allows
+-- a symbol for each cell of Z^d with one of the script's nodes, allowed at that node
 pub record IsWhole (s : Parts) (nodes : ℕ) (symbol_of : Cell → ℕ) : Type 0 where
   pub same_nodes : nodes ≡ s.known.setting.topology.nodes
   pub allowed : (c : Cell) → is_flat s.known.setting.topology.dimension c.position ≡ true → c.node < nodes →
       allows s.known.setting.sets c.node (symbol_of c) ≡ true
 
--- where the configuration obeys the premise, the goal does not hold at v
+-- if the configuration obeys the premise, the goal does not hold at v
 abbrev pub IsNotAt : LocalRule → GoalOf → Look → Place → Type 0
 IsNotAt x g look v = Obeys x look → HasGoal g look v → ⊥
 
--- of the goal that a box question asks for, or of both that an equality does; no YES answers another question
+-- the goal of a box question, or both goals of an equality; YES answers no other question
 pub data IsAskedNotAt : Asked → Look → Place → Type 0 where
   of_box : {x : LocalRule} {g : GoalOf} {look : Look} {v : Place} → IsNotAt x g look v → IsAskedNotAt (question.box x g) look v
   of_equality : {x y : LocalRule} {look : Look} {v : Place} → IsNotAt x (breaks y) look v → IsNotAt y (breaks x) look v → IsAskedNotAt (question.equality x y) look v
 
--- the same of the goals that the query with a number, from 1, asks for
+-- the goals of the query with this number, from 1
 abbrev pub IsNowhereAt : Parts → ℕ → Look → Place → Type 0
 IsNowhereAt s number look v = IsSomeAnd (query_at s number) (λ q. IsSomeAnd (asked s q) (λ k. IsAskedNotAt k look v))

@@ -1,4 +1,4 @@
--- A box that suffices makes all larger ones suffice, and no configuration shows what it excludes.
+-- If a box suffices, so do all larger ones, and no configuration shows what the box excludes.
 use Rattle.std.proofs.Common.{◌≡◌, ℕ, ◌≤◌, ◌||◌, ◌&&◌, Bool, true, false, refl, subst, arith}
 use Rattle.std.specs.Prelude.{max, nat_lt}
 use Rattle.dd_derivation.specs.Derivations.{IsRefuting}

@@ -1,4 +1,4 @@
--- The first of a list of periods in their order, of all that there are, is the first of all.
+-- If a list has all periods within the limits, the first that satisfies a condition in the list is the first of all.
 use Rattle.std.proofs.Common.{◌≡◌, ℕ, ◌<◌, List, length, get_or, Some, refl, sym, subst, inl, inr, Contains}
 use Rattle.std.specs.Prelude.{slice_get}
 use Rattle.std.specs.List.Sorted.{IsStrictlySortedBy}
@@ -20,14 +20,14 @@ periods_total =
     (on_total (λ (p : Periods). p.z) nat_cmp_total))
     (on_total (λ (p : Periods). p.shear) nat_cmp_total)
 
--- nothing is before itself, nor before what is before it
+-- nothing is before itself, and no two items are each before the other
 never_itself : (p : Periods) → IsBefore p p → ⊥
 never_itself p before = let tied = tied_itself periods_total p in absurd (cc (tied, before))
 
 never_back : (p q : Periods) → IsBefore p q → IsBefore q p → ⊥
 never_back p q one other = never_itself p (periods_total.trans p q p one other)
 
--- an item of the list
+-- an item of the list and its index
 listed : (ps : List Periods) (q : Periods) → Contains ps q → (k : ℕ) × (k < length ps) × (slice_get ps k ≡ Some q)
 listed ps q there = (there.0, there.1, slice_get_read ps (length ps) there.0 q refl there.1 (sym there.2))
 

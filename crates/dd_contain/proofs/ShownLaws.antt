@@ -1,4 +1,4 @@
--- What the clauses of a torus show, for the configuration that is read from an assignment.
+-- What the clauses of a torus say of the configuration that is read from an assignment.
 use Rattle.std.proofs.Common.{◌≡◌, ℕ, ◌*◌, ◌<◌, Bool, List, length, get_or, sym, subst, ◌∙◌, arith}
 use Rattle.std.proofs.lemmas.Option.{slice_get-get_or}
 use Rattle.dd_pattern.specs.declared.periods.Periods.{Periods}

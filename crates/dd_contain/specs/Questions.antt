@@ -19,7 +19,7 @@ use Rattle.dd_contain.specs.declared.decision.Decision.{Decision}
 use Rattle.dd_contain.specs.declared.decision.Decision.TheVariants.{Yes, No, Unknown}
 use Rattle.dd_contain.specs.Decided.{IsDecidedBy}
 
--- the variables are at most 2^24, and the clauses and the steps after them have numbers of 64 bits
+-- there are at most 2^24 variables, and the clauses and then the steps can be numbered with 64 bits
 pub record AreNumbered (clauses : ClauseList) (steps : List Step) : Type 0 where
   pub variables : clauses.variables ≤ most_variables
   pub numbers : length clauses.clauses + length steps ≤ 2 ^ 64 - 1
@@ -36,7 +36,7 @@ Displays x g p t = HasPeriods p t × IsWitness x g t
 abbrev pub ShowsAt : LocalRule → GoalOf → Periods → Type 0
 ShowsAt x g p = (t : Tile) × Displays x g p t
 
--- a question that is small enough
+-- a question about a radius that is small enough
 pub record AsksRadius (x : LocalRule) (g : GoalOf) (n : ℕ) : Type 0 where
   pub goal : IsGoalFor x g
   pub reaches : Reaches g n
@@ -47,11 +47,11 @@ pub record AsksPeriods (x : LocalRule) (g : GoalOf) (p : Periods) : Type 0 where
   pub periods : ArePeriods x.dimension p
   pub few : question_clauses x g (tile_volume p) ≤ most_clauses
 
--- with the limits n and p the question takes at most 2,000,000 clauses
+-- with the limits n and p, the question takes at most 2,000,000 clauses
 abbrev pub IsSmallQuestion : LocalRule → GoalOf → ℕ → ℕ → Type 0
 IsSmallQuestion x g n p = (least : ℕ) → IsLeastRadius g least → largest_clauses x (goal_clauses g) (max n least) p ≤ most_clauses
 
--- the least radius that suffices, from the goal's least radius on; else the first periods that show the goal; else unknown
+-- the least radius that suffices, at least the goal's least radius; or the first periods that show the goal; or unknown
 abbrev pub IsDecided : LocalRule → GoalOf → ℕ → ℕ → Decision → Type 0
 IsDecided x g n p decision =
     (least : ℕ) × IsLeastRadius g least

@@ -1,4 +1,4 @@
--- The patterns that a rule forbids are listed in one way, and an output can hold the list.
+-- There is only one list of the patterns that a rule forbids, and an output can hold it.
 use Rattle.std.proofs.Common.{◌≡◌, ℕ, zero, suc, ◌*◌, ◌^◌, ◌≤◌, ◌<◌, inl, inr, List, [], ◌∷◌, ◌++◌, map, length, ap, sym, subst, arith}
 use Rattle.std.specs.List.{All, Contains}
 use Rattle.std.proofs.lemmas.List.Elements.{All-weaker, All-contains_itself, Contains-append_left, Contains-append_right, Contains-append_cases}
@@ -20,7 +20,7 @@ AreOne = (r : LocalRule) (a : ℕ) (xs ys : List (List ℕ)) → BreakingFilling
 pub one_forbidden : AreOne → (x : LocalRule) (some others : List Listed) → IsForbiddenList x some → IsForbiddenList x others → some ≡ others
 one_forbidden one x some others h k = list_one (BreakingFillings x) listed (one x) x.nodes some others h k
 
--- ---- its numbers
+-- ---- the numbers of the list
 
 abbrev pub AreShort : Type 0
 AreShort = (r : LocalRule) (a : ℕ) (xs : List (List ℕ)) → IsRule r → BreakingFillings r a xs → length xs ≤ r.symbols ^ length (cells_at r a)

@@ -1,4 +1,4 @@
--- Lists that are made node by node are one list where there is one at each node, and short where these are.
+-- Lists made node by node: the whole list is unique if the list of each node is, and short if these are short.
 use Rattle.std.proofs.Common.{◌≡◌, ℕ, zero, suc, ◌+◌, ◌*◌, ◌≤◌, ◌<◌, List, ◌++◌, map, length, ap, sym, subst, ◌∙◌, arith, length-append, add-one}
 use Rattle.std.proofs.lemmas.List.{length-map}
 use Rattle.std.specs.List.{All}

@@ -1,4 +1,4 @@
--- The patterns of a node, as they are made and appended.
+-- The patterns of a node, as the code makes and appends them.
 use Rattle.std.proofs.Common.{◌≡◌, ℕ, ◌^◌, ◌≤◌, ◌<◌, true, List, ◌++◌, map, length, refl, ap, ◌∙◌, arith}
 use Rattle.std.proofs.lemmas.Bool.{ltb-true}
 use Rattle.std.proofs.lemmas.Simd.{map-map}
@@ -10,7 +10,7 @@ use Rattle.dd_question.specs.Lists.{HasFewPatterns}
 use Rattle.dd_evidence.specs.NodeLists.{IsListedAfter}
 use Rattle.dd_evidence.specs.Lists.{listed}
 
--- where the cells that are read have few fillings, they are listed
+-- if the cells that are read have few fillings, all are listed
 pub never_large : (r : LocalRule) (a : ℕ) → HasFewPatterns r → a < r.nodes → is_large r a ≡ true → ⊥
 never_large r a few below large =
     let many : 65536 < r.symbols ^ length (cells_at r a) = ltb-true 65536 (r.symbols ^ length (cells_at r a)) large in

@@ -1,4 +1,4 @@
--- The numbers that write a configuration give it back.
+-- A configuration can be read back from the numbers that an answer writes for it.
 use Rattle.std.proofs.Common.{◌≡◌, ℕ, zero, suc, ◌<◌, ◌≤◌, [], ◌∷◌, take, refl, ap, sym, ◌∙◌, arith}
 use Rattle.std.proofs.lemmas.List.{length-take-le}
 use Rattle.dd_pattern.specs.declared.periods.Periods.{Periods}

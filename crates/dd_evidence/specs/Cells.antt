@@ -5,7 +5,7 @@ use Rattle.dd_pattern.specs.Tile.{Tile}
 use Rattle.dd_formula.specs.LocalRule.{LocalRule}
 use Rattle.dd_formula.specs.Living.{IsFirstFalse}
 
--- the coordinates of a cell of Z^d, and then its node
+-- the coordinates of a cell of Z^d, followed by its node
 abbrev pub written_cell : ℕ → Cell → List ℤ
 written_cell d c = take d (c.position.x ∷ c.position.y ∷ c.position.z ∷ []) ++ pos c.node ∷ []
 

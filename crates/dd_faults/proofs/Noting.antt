@@ -1,4 +1,4 @@
--- Faults that are noted one list after the other.
+-- Faults noted one list after the other.
 use Rattle.std.proofs.Common.{◌≡◌, ℕ, ◌+◌, ◌<◌, List, [], ◌∷◌, ◌++◌, length, take, slice_index_or, Option, refl, arith}
 use Rattle.std.specs.List.{flat_map}
 use Rattle.std.proofs.lemmas.Grind.{common_steps}
@@ -10,10 +10,10 @@ pub noted_both : (found : Option Fault) (fs gs : List Fault) → noted found (fs
 noted_both found [] gs = refl
 noted_both found (f ∷ fs) gs = noted_both (better found f) fs gs
 
--- what `grind` needs to note the faults of a list, of a formula and of a configuration
+-- what `grind` needs for noting the faults of a list, a formula and a configuration
 pub ruleset faults = (common_steps, noted_both, faults_chain, faults_quantified, first_symbol, first_of_box, twice_first, fresh_first)
 
--- one element more, in a loop
+-- a loop takes one more element
 pub noted_item : {X : Type 0} (f : X → List Fault) (xs : List X) (i : ℕ) (x : X) (start found new : Option Fault) → i < length xs → x ≡ slice_index_or xs i x → found ≡ noted start (flat_map f (take i xs)) → new ≡ noted found (f x)
     → new ≡ noted start (flat_map f (take (i + 1) xs))
 noted_item f xs i x start found new lt at so_far is = grind (arith, common_steps, noted_both)

@@ -1,4 +1,4 @@
--- The first that is the same as one before it, looked for one after the other.
+-- The first item that repeats an earlier one, found by going through the items.
 use Rattle.std.proofs.Common.{◌≡◌, ℕ, ◌+◌, ◌<◌, List, [], ◌∷◌, ◌++◌, length, drop, slice_index_or, Contains, refl, sym, ◌∙◌, arith}
 use Rattle.std.proofs.lemmas.Grind.{common_steps}
 use Rattle.dd_faults.specs.{Tree.Fault, Repeats.first_repeat}

@@ -1,4 +1,4 @@
--- The faults of tokens, and what is asked of numbers and vectors.
+-- The faults of tokens, numbers and vectors.
 use Rattle.std.specs.Prelude.{ℕ, List, [], length, Bool, not, ◌==◌, nat_lt, ℤ, pos, ◌-ℤ◌}
 use Rattle.std.specs.List.{list_any}
 use Rattle.dd_known.specs.Limits.{most_letters, greatest_number, farthest}
@@ -28,7 +28,7 @@ entry_number (Entry.Negative n) = n
 abbrev pub entry_value : List ℕ → Entry → ℕ
 entry_value bytes e = written_value bytes (entry_number e)
 
--- the number of an entry, with its sign
+-- the value of an entry, with its sign
 abbrev pub signed_value : List ℕ → Entry → ℤ
 signed_value bytes (Entry.Number n) = pos (written_value bytes n)
 signed_value bytes (Entry.Negative n) = pos 0 -ℤ pos (written_value bytes n)
@@ -36,6 +36,6 @@ signed_value bytes (Entry.Negative n) = pos 0 -ℤ pos (written_value bytes n)
 abbrev pub has_entries : ℕ → Vector → Bool
 has_entries d v = length v.entries == d
 
--- an entry that is too far, in absolute value
+-- some entry is too large in absolute value
 abbrev pub is_far : List ℕ → Vector → Bool
 is_far bytes v = list_any (λ e. nat_lt farthest (entry_value bytes e)) v.entries

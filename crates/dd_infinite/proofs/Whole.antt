@@ -1,4 +1,4 @@
--- One node that allows the symbols of both functions; and the configurations of a script.
+-- The spike and the checkerboard, where one node allows their symbols; and the configurations of a script.
 use Rattle.std.proofs.Common.{◌≡◌, ℕ, zero, suc, ◌<◌, ◌+◌, ◌-◌, ◌*◌, ◌%◌, pos, Bool, true, false, length, refl, sym, subst, arith, inl, inr, Contains}
 use Rattle.std.specs.Prelude.{◌⊎◌, ◌≤ℤ◌, ◌||◌, ℤ, cond, nat_lt}
 use Rattle.std.proofs.lemmas.Bool.{and_from}
@@ -82,7 +82,7 @@ inversion s number a v query asks position is certificate =
 pub has_rows : (s : Parts) → IsScriptOf s → s.known.setting.topology.nodes ≡ 1 → 0 < length s.known.setting.sets.allowed
 has_rows s ok one = let n = ok.known.setting.sets.nodes in let m = ok.known.setting.topology.nodes in omega (arith, n, m, one)
 
--- the node stands innermost in a cell's number
+-- the node varies fastest in the index of a cell
 node_of : (t : Tile) (c : Cell) → c.node < t.nodes → tile_index t c % t.nodes ≡ c.node
 node_of t c below =
     let p = t.periods in
@@ -91,7 +91,7 @@ node_of t c below =
 row_fits : (a w b h : ℕ) → a < h → b < w → a * w + b < h * w
 row_fits a w b h row column = omega (arith, mul-add-lt a w b h row column)
 
--- the base of a position lies in the fundamental box, so the number of a cell's symbol is one of the list's
+-- the base of a position lies in the fundamental box, so the index of a cell's symbol is within the list
 number_below : (t : Tile) → IsTile t → IsReadModulo t → (c : Cell) → c.node < t.nodes → tile_index t c < length t.symbols
 number_below t ok read c below =
     let p = t.periods in

@@ -13,7 +13,7 @@ use Rattle.dd_meanings.proofs.{Nothing.parts, NameLaws.is_new}
 
 -- ---- symbols
 
--- a name that is allowed is that of a symbol that the node allows
+-- a name that is allowed names a symbol that the node allows
 record IsAllowedAt (x : Context) (a : ℕ) (t : ℕ) : Type 0 where
   below : t < length x.known.setting.symbols
   allowed : allows x.known.setting.sets a t ≡ true

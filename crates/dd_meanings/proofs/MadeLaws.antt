@@ -1,4 +1,4 @@
--- The rules in an automaton were made with the script's topology and alphabets, as those in its parts were.
+-- The rules in an automaton have the script's topology and alphabets, as those in its parts do.
 use Rattle.std.proofs.Common.{◌≡◌, ℕ, List, ◌++◌, map, refl, ap, sym, ◌∙◌}
 use Rattle.std.specs.List.{All}
 use Rattle.std.proofs.lemmas.List.Elements.{All-map, All-append}

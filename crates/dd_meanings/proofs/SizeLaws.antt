@@ -1,4 +1,4 @@
--- The first limit that rules and automata pass.
+-- The first limit that rules and automata exceed.
 use Rattle.std.proofs.Common.{◌≡◌, ◌≤◌, ◌<◌, ℕ, zero, suc, ◌+◌, Bool, true, [], refl, arith, nat_le}
 use Rattle.std.specs.List.{list_all, range_with_len}
 use Rattle.std.proofs.lemmas.{Bool.le-leb, Grind.common_steps}

@@ -77,7 +77,7 @@ pub(crate) fn kind(alloc: Global, context: &Context, kind: Kind) -> Resolved
     })
 }
 
-/// The numbers of symbols.
+/// The indices of symbols.
 pub(crate) fn symbols_of(alloc: Global, context: &Context, names: &[Name]) -> Made<Items<u32>>
     ensures { IfOk result (λ symbols. symbols ≡ map (symbol_of context.now) names.now) }
 {

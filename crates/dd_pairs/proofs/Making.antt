@@ -13,7 +13,7 @@ earliest_front : (xs ys : List Fault) (f : Fault) → earliest xs ≡ Some f →
 earliest_front [] ys f is = absurd cc
 earliest_front (x ∷ xs) ys f is = is
 
--- what is refused for a fault is refused for it where others follow
+-- what is refused for a fault is refused for it even if others follow
 pub refuses_front : (e : Refusal) (xs ys : List Fault) → Refuses e (earliest xs) → Refuses e (earliest (xs ++ ys))
 refuses_front Refusal.Memory xs ys h = tt
 refuses_front (Refusal.At f) xs ys h = earliest_front xs ys f h
@@ -22,7 +22,7 @@ module _ (k : Known) where
   pub none : ArePairs k [] []
   none = record { are = refl; formed = All-nil (λ p. IsPair k.setting (pair_of k.setting p)); faultless = refl }
 
-  -- one part more
+  -- one more part
   more : (ps : List PartOf) (p : PartOf) (old new : List Pair) (pair : Pair) → ArePairs k ps old → IsMade k.setting p (part_faults k p) pair → new ≡ old ++ pair ∷ [] → ArePairs k (ps ++ p ∷ []) new
   more ps p old new pair before made is = record {
     are = grind (arith, common_steps, before.are, made.is);

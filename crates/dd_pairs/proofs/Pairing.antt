@@ -1,4 +1,4 @@
--- The pairs that are made of parts are theirs, within their limits.
+-- The pairs made from parts are the right ones, and within their limits.
 use Rattle.std.proofs.Common.{◌≡◌, [], refl, ap, subst, arith}
 use Rattle.std.proofs.lemmas.{Bool.le-ltb, Grind.common_steps}
 use Rattle.dd_known.specs.declared.known.Setting.{Setting}

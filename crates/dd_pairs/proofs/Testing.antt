@@ -1,4 +1,4 @@
--- The question about a pair: it goes together, and passes the limit on clauses or doesn't.
+-- The question about a pair: it is well formed, and the test decides whether it exceeds the limit on clauses.
 use Rattle.std.proofs.Common.{◌≡◌, Bool, true, false, [], Some, None, refl, ap, ◌∙◌, arith}
 use Rattle.dd_known.specs.Sound.{IsSetting}
 use Rattle.dd_known.specs.declared.known.Setting.{Setting}
@@ -11,7 +11,7 @@ use Rattle.dd_pairs.specs.Parts.{PartOf, premise, goal_of, pair_of, IsPartOf, Is
 use Rattle.dd_pairs.specs.{Faults.limit_of, Faults.pair_faults, Faults.part_faults, Faults.earliest}
 use Rattle.dd_pairs.specs.lemmas.PartLaws.{part_fits}
 
--- what is asked about the pair is the part's question
+-- what is asked about the pair is the question of the part
 module _ (s : Setting) (p : PartOf) (pair : Pair) (x : LocalRule) (a : Asked) (made : pair ≡ pair_of s p) (is : x ≡ premise p) (asks : a ≡ box x (difference x pair)) where
   pub question_is : a ≡ box (premise p) (goal_of s p)
   question_is = asks ∙ (ap (λ q. box x (difference x q)) made ∙ ap (λ y. box y (difference y (pair_of s p))) is)

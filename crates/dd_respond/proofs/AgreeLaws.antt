@@ -1,4 +1,4 @@
--- Two right answers to a question differ in their evidence alone: a least radius, first periods and a first cell are one.
+-- Two right answers to a question differ only in their evidence: there is one least radius, one first period, one first cell.
 use Rattle.std.proofs.Common.{◌≡◌, ℕ, ◌≤◌, List, [], ◌∷◌, refl, ap, sym, subst, ◌∙◌, arith, inl, inr}
 use Rattle.std.specs.Prelude.{◌⊎◌, max}
 use Rattle.std.specs.Ordering.{ordering_then, nat_cmp}
@@ -47,7 +47,7 @@ use Rattle.dd_respond.proofs.Parts.{at_each, part_within}
 use Rattle.dd_respond.proofs.Weighing.{least_agree}
 use Rattle.dd_respond.proofs.Measuring.{IsOneDensity, density_agree, discharge_agree}
 
--- ---- the least and the first are one
+-- ---- there is only one least and only one first
 
 least_one : (S : ℕ → Type 0) (low high n m : ℕ) → IsLeast S low high n → IsLeast S low high m → n ≡ m
 least_one S low high n m one other = elim (cases_order n m) [
@@ -58,7 +58,7 @@ least_one S low high n m one other = elim (cases_order n m) [
   ])
 ]
 
--- periods that compare equal are equal
+-- periods that compare as equal are the same
 both_equal : (a b : Ordering) → ordering_then a b ≡ Equal → (a ≡ Equal) × (b ≡ Equal)
 both_equal Less b h = absurd (cc)
 both_equal Equal b h = (refl, h)
@@ -200,7 +200,7 @@ unless_bare (decision.Yes n steps) P = refl
 unless_bare (decision.No t) P = refl
 unless_bare decision.Unknown P = refl
 
--- where the left decision is NO the right one does not matter
+-- if the left decision is NO, the right one does not matter
 joined_bare : (l r k : Decision) → UnlessNo l (bare r ≡ bare k) → joined (bare l) (bare r) ≡ joined (bare l) (bare k)
 joined_bare (decision.No t) r k same = refl
 joined_bare (decision.Yes n steps) r k same = ap (joined (decision.Yes n [])) same
@@ -244,7 +244,7 @@ equal_agree l x y a b h k =
 -- ---- the answers of conjugacies
 
 module _ (l : Limits) (c : ConjugacyOf) where
-  -- a question comes to one kind of decision, one radius and the same periods
+  -- two decisions of a question are of the same kind, with the same radius or the same periods
   comes_alike : (k : ℕ) (d e : Decision) → ComesTo l c k d → ComesTo l c k e → bare d ≡ bare e
   comes_alike k d e h m =
       let same : ◌≡◌ {A = LocalRule × GoalOf} (m.premise, m.goal) (h.premise, h.goal) = cc (h.is_part.1, m.is_part.1) in
@@ -263,7 +263,7 @@ module _ (l : Limits) (c : ConjugacyOf) where
   one_radius : (k n m : ℕ) (s t : List Step) → ComesTo l c k (decision.Yes n s) → ComesTo l c k (decision.Yes m t) → n ≡ m
   one_radius k n m s t h i = let same : decision.Yes n [] ≡ decision.Yes m [] = comes_alike k _ _ h i in cc same
 
-  -- NO of a question, as it is answered
+  -- the answer if a question is answered NO
   abbrev broken_by : ℕ → Decision → Answer
   broken_by k (decision.Yes n s) = answer.Unknown reason.Limits
   broken_by k (decision.No t) = written_broken k t

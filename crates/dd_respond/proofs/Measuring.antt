@@ -1,4 +1,4 @@
--- Right answers about least densities and discharging: they are so, an output can hold them, and they have one line.
+-- Answers about least densities and discharging: they are right, an output can hold them, and they have one first line.
 use Rattle.std.proofs.Common.{◌≡◌, ℕ, ◌+◌, ◌*◌, ◌≤◌, List, refl, ap, arith, ℤ, inl, inr}
 use Rattle.std.specs.Int.{IsGcd}
 use Rattle.std.proofs.Math.Nat.{one-le-pow}
@@ -101,7 +101,7 @@ module _ (x : LocalRule) (radius margin : ℕ) (vs : List Place) (ws : List ℕ)
   reason_right f r h for_pivots = used_up h
 
   module _ (one : HasOneOutcome x ws radius margin vs pivots) where
-    -- there is one right answer only
+    -- there is only one right answer
     one_answer : (a b : Answer) → IsRightDischarge x radius margin vs ws pivots a → IsRightDischarge x radius margin vs ws pivots b → a ≡ b
     one_answer a b (right_bound h c) (right_bound k d) = ap written_bound (one.one_bound _ _ h k)
     one_answer a b (right_bound h c) (is_large k) = absurd (one.not_large _ h k)

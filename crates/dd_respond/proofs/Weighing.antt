@@ -1,4 +1,4 @@
--- Right answers to how little a fundamental box can weigh: they are so, an output can hold them, and they have one line.
+-- Answers to how little a fundamental box can weigh: they are right, an output can hold them, and they have one first line.
 use Rattle.std.proofs.Common.{◌≡◌, ℕ, suc, ◌+◌, ◌*◌, ◌≤◌, true, List, length, refl, ap, arith, inl, inr}
 use Rattle.std.proofs.lemmas.Nat.{mul-le}
 use Rattle.std.proofs.lemmas.Bool.{cases_lt}
@@ -23,7 +23,7 @@ use Rattle.dd_question.specs.Tori.{IsWeighable}
 use Rattle.dd_respond.specs.Laws.{SayTheSame}
 use Rattle.dd_respond.specs.Tori.{written_weight, IsRightLeast, has_least, has_none}
 
--- ---- there is one least weight
+-- ---- there is only one least weight
 
 least_one : (x : LocalRule) (along ws : List ℕ) (v w : ℕ) → LeastOn x (periods_of along 0) ws v → LeastOn x (periods_of along 0) ws w → v ≡ w
 least_one x along ws v w one two =
@@ -53,7 +53,7 @@ RefutationsFit =
     (n : ℕ) (clauses : List (List Literal)) (steps : List Step) → refutes n clauses steps ≡ true → n ≤ most_variables →
     length clauses + length steps ≤ most_count → IsWritableRefutation steps
 
--- what the clauses of a torus count bounds the greatest weight of its configurations
+-- the size of a torus's clauses bounds the greatest weight of its configurations
 weight_small : (cells weight rest : ℕ) → 1 ≤ cells → cells * (weight * suc rest) ≤ 2000000 → weight ≤ 2000000
 weight_small cells weight rest some few =
     let one = mul-le 1 (weight * suc rest) cells (weight * suc rest) some (omega arith) in

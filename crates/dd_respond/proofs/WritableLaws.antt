@@ -1,4 +1,4 @@
--- An output can hold each right answer to a box question: the steps are those of a refutation.
+-- An output can hold each right answer to a box question: its steps are those of a refutation.
 use Rattle.std.proofs.Common.{◌≡◌, ℕ, ◌+◌, ◌≤◌, true, List, length, sym, subst}
 use Rattle.dd_values.specs.Bounds.{most_variables}
 use Rattle.dd_clause.specs.declared.clause.Literal.{Literal}

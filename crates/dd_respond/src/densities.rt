@@ -29,7 +29,7 @@ fn written_density(density: Density) -> Answer
     }
 }
 
-/// The least density of the configurations on a strip, or that there are none, with what shows it.
+/// The least density of the configurations on a strip, or that there are none, each with its evidence.
 pub(crate) fn least(
     alloc: Global,
     rule: &Rule,

@@ -1,4 +1,4 @@
--- The rules of a sample are without a fault, and mean what they are to mean.
+-- The rules of a sample have no fault, and mean what they should.
 use Rattle.std.proofs.Common.{◌≡◌, ℕ, List, [], ◌∷◌, ◌++◌, map, codes, false, ap}
 use Rattle.std.specs.Prelude.{nat_lt}
 use Rattle.std.specs.List.{flat_map}
@@ -111,12 +111,12 @@ zero_means x = simp meanings
 dom_means : (x : Context) → formula_of x dom [] ≡ quantified_of quantifier.Exists (ball_of x [] (ball 162 163) ∷ []) (atom_of x (word_at 160 1 ∷ []) (told (here 166) 168))
 dom_means x = simp meanings
 
--- ---- where they stand
+-- ---- their contexts
 
 abbrev pub standing : List ℕ → ℕ → List (List ℕ) → List (List ℕ) → Context
 standing bytes number rules configurations = record { text = bytes; has_topology = false; number = number; known = known rules configurations }
 
--- the context of a rule of a sample, behind the rules of these names
+-- the context of a rule of a sample, after the rules with these names
 abbrev pub behind : List ℕ → ℕ → List (List ℕ) → Context
 behind more number rules = standing (front_text ++ more) number rules []
 

@@ -1,4 +1,4 @@
--- What each kind of written formula is written as, where it may stand, and how deep it is.
+-- For each kind of written formula: its text, where it may stand, and its depth.
 use Rattle.std.proofs.Common.{◌≡◌, ℕ, ◌+◌, ◌≤◌, List, [], ◌∷◌, ◌++◌, length, map, Bool, true, ap, arith}
 use Rattle.std.specs.Prelude.{◌&&◌, nat_le, ◌-◌}
 use Rattle.std.specs.List.{flat_map, list_all}

@@ -1,4 +1,4 @@
--- What the rules of a sample mean: their formulas with numbers, and these without variables.
+-- What the rules of a sample mean: their formulas with indices, and then without variables.
 use Rattle.std.proofs.Common.{◌≡◌, ℕ, ◌+◌, List, [], ◌∷◌, ◌++◌, map, length, ap}
 use Rattle.std.specs.Prelude.{pos, negsuc}
 use Rattle.std.specs.List.{flat_map}
@@ -67,7 +67,7 @@ near = record { variable = 0; radius = 1 }
 abbrev pub dom_meant : Formula
 dom_meant = roll-Formula (Formula-F.Exists (near ∷ []) (symbol (term 1 []) 1))
 
--- the rule of a formula where a script has said nothing of cells
+-- the rule of a formula under the defaults
 abbrev pub plain_rule : Formula → LocalRule
 plain_rule f = local_rule square (all_symbols 1 2) f
 
@@ -164,7 +164,7 @@ or_clauses es = fold-roll-Expanded ℕ clause_count_step (Expanded-F.Or es)
 
 ruleset gates = (leaf_clauses, not_clauses, and_clauses, or_clauses)
 
--- ---- what is counted of a rule: its expansion, the numbers of its nodes and of its clauses, and the cells that it reads
+-- ---- the counts of a rule: its expansion, the numbers of its nodes and of its clauses, and the cells that it reads
 pub record Counts (f : Formula) (e : Expanded) (nodes clauses : ℕ) (cells : List Cell) : Type 0 where
   pub expanded : expansion_at (plain_rule f) 0 ≡ e
   pub nodes_are : instances e ≡ nodes

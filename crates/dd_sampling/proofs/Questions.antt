@@ -1,4 +1,4 @@
--- The questions of a sample are without a fault.
+-- The queries of a sample have no fault.
 use Rattle.std.proofs.Common.{◌≡◌, ℕ, List, [], ◌∷◌, ◌++◌, map, Bool, true, false, Option, Some, None, codes, refl, ap, ◌∙◌}
 use Rattle.std.specs.Fmt.{signed_decimal, digits}
 use Rattle.std.specs.Prelude.{pos, ◌-ℤ◌, nat_lt, not, ◌||◌, is_some, unwrap_or, if◌then◌else◌, bytes_eq}
@@ -47,7 +47,7 @@ use Rattle.dd_sampling.proofs.Faultless.{standing, names_5}
 none_and : (xs ys : List Fault) → xs ≡ [] → ys ≡ [] → xs ++ ys ≡ []
 none_and xs ys first second = ap (λ (zs : List Fault). zs ++ ys) first ∙ second
 
--- ---- values, tokens and vectors behind p bytes more
+-- ---- values, tokens and vectors, shifted by p bytes
 
 value_up : (bytes : List ℕ) (p : ℕ) (ys : List ℕ) → Stands bytes p ys → (k : Number) → written_value bytes (up_number p k) ≡ written_value ys k
 value_up bytes p ys stands k = ap (λ (t : List ℕ). value_from 0 (unsigned t)) (number_up bytes p ys stands k)
@@ -100,7 +100,7 @@ repeats_up bytes p ys stands seen (x ∷ xs) =
 
 -- ---- words
 
--- a word that names one of these
+-- a word that is one of these names
 named : (bytes : List ℕ) (names : List (List ℕ)) (v : Word) (t : List ℕ) → word_text bytes v ≡ t → is_some (number_of names t) ≡ true → missing bytes names (name.Word v) ≡ []
 named bytes names v t is known =
     ap (λ (s : List ℕ). when (not (is_some (number_of names s))) (fault.Unknown (name.Word v))) is
@@ -115,7 +115,7 @@ two_named bytes names others v u t s first second known_first known_second =
     ap (λ (fs : List Fault). (fs ++ (missing bytes others (name.Word u) ++ [])) ++ []) (named bytes names v t first known_first)
     ∙ ap (λ (fs : List Fault). (fs ++ []) ++ []) (named bytes others u s second known_second)
 
--- ---- each question
+-- ---- each query
 
 pub member_faultless : (bytes : List ℕ) (p : ℕ) → Stands bytes p tail_text → written_faults (asked_in bytes 8) (question_written p member_hard) ≡ []
 member_faultless bytes p stands =
@@ -142,7 +142,7 @@ zero_dies_faultless bytes p stands =
     two_named bytes names_5 names_5 (up_word p (word_at 80 4)) (up_word p (word_at 85 4)) (codes "zero") (codes "dies")
     (word_up bytes p tail_text stands (word_at 80 4)) (word_up bytes p tail_text stands (word_at 85 4)) refl refl
 
--- its one word is known, and its period is 5
+-- its only word is known, and its period is 5
 abbrev strip_by : ℕ → List Fault
 strip_by v = over (nat_lt v 1 || nat_lt 64 v || false) limit.Periods
 
@@ -154,7 +154,7 @@ density_faultless bytes p stands =
     ap (λ (v : ℕ). over (nat_lt 1000000 v) limit.Number ++ [] ++ ((missing bytes names_5 (name.Word (up_word p (word_at 99 3))) ++ []) ++ ((strip_by v ++ []) ++ []))) five
     ∙ ap (λ (fs : List Fault). (fs ++ []) ++ []) known
 
--- the tokens, the word, the numbers and the vectors of the last question
+-- the tokens, the word, the numbers and the vectors of the last query
 pub discharge_faultless : (bytes : List ℕ) (p : ℕ) → Stands bytes p tail_text → written_faults (asked_in bytes 14) (question_written p discharge_dom) ≡ []
 unfolding digits
 discharge_faultless bytes p stands =
@@ -183,7 +183,7 @@ discharge_faultless bytes p stands =
     (none_and _ _ (none_and _ _ radius (none_and _ _ margin refl))
     (none_and _ _ (none_and _ _ once (none_and _ _ vectors refl)) refl)))
 
--- ---- what each asks passes no limit
+-- ---- no query exceeds a limit
 
 abbrev pub rules_5 : List LocalRule
 rules_5 = plain_rule hard_meant ∷ plain_rule row_meant ∷ plain_rule dies_meant ∷ plain_rule zero_meant ∷ plain_rule dom_meant ∷ []

@@ -1,4 +1,4 @@
--- The rules and questions of a sample pass no limit on what is counted.
+-- The rules and queries of a sample exceed no limit on counts.
 use Rattle.std.proofs.Common.{◌≡◌, ℕ, ◌+◌, ◌-◌, ◌*◌, ◌^◌, List, [], ◌∷◌, ◌++◌, max, Bool, false, refl, ap, ◌∙◌}
 use Rattle.std.specs.Prelude.{pos, ◌-ℤ◌, unsigned_abs, nat_lt, nat_le, ◌||◌, ◌&&◌, true, not}
 use Rattle.std.specs.List.{list_all}
@@ -30,7 +30,7 @@ use Rattle.dd_sampling.proofs.Meant.{plain_rule, Counts, hard_meant, row_meant, 
 abbrev pub limits : Limits
 limits = record { radius = 3; period = 3; pivots = 1000 }
 
--- what a sample says of cells, and the names that it has given
+-- the nodes, symbols and topology of a sample
 abbrev pub setting : Setting
 setting = record { nodes = codes "0" ∷ []; symbols = codes "0" ∷ codes "1" ∷ []; topology = square; sets = all_symbols 1 2 }
 
@@ -75,7 +75,7 @@ dom_few = rule_faultless dom_counts refl
 
 -- ---- questions
 
--- with what is counted of the premise and of the goal's rule
+-- by the counts of the premise and of the goal's rule
 abbrev long_by : LocalRule → ℕ → ℕ → List Cell → Bool
 long_by x clauses goal cells =
     nat_lt most_clauses (largest_region x.dimension (max 3 (farthest (in_order cells ++ []))) 3 * (x.nodes * cell_clause_count x.symbols + disallowed_pairs x + (clauses + 0)) + (goal + 0 + 1))

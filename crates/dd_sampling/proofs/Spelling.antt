@@ -1,4 +1,4 @@
--- Each sample is a script: command after command without a fault.
+-- Each sample is a script: no command has a fault.
 use Rattle.std.proofs.Common.{◌≡◌, ℕ, ◌+◌, ◌*◌, ◌≤◌, List, [], ◌∷◌, ◌++◌, map, length, false, Option, None, codes, refl, sym, ap, ◌∙◌, subst}
 use Rattle.std.specs.Option.{option_or, option_map}
 use Rattle.dd_pattern.specs.Tile.{Tile}
@@ -44,7 +44,7 @@ use Rattle.dd_sampling.proofs.Questions.{asked_in, rules_5, member_faultless, ro
 no_fault : (fs gs : List Fault) → fs ≡ [] → gs ≡ [] → option_or (first_fault fs) (option_or (first_fault gs) None) ≡ None
 no_fault fs gs first second = rw (first, second) refl
 
--- the same for a question
+-- the same for a query
 no_excess : (fs : List Fault) (o : Option Excess) → fs ≡ [] → o ≡ None → option_or (first_fault fs) (option_or (first_fault []) (option_map (λ e. fault.Size (limit_of e)) o)) ≡ None
 no_excess fs o first second = rw (first, second) refl
 
@@ -65,7 +65,7 @@ nothing = ([], [])
 abbrev state : List (List ℕ) → List LocalRule → List (List ℕ) → List Tile → Asking → Parts
 state names rules configurations tiles asked = record { known = known names configurations; rules = rules; automata = []; configurations = tiles; queries = asked.0; pairs = asked.1 }
 
--- ---- a rule more
+-- ---- one more rule
 
 rule_more : (more : List ℕ) (n : ℕ) (names : List (List ℕ)) (rules : List LocalRule) (s named l : ℕ) (tokens : List Lexeme) (f : Formula) (g : Meant) (ws : List Written)
     → written_faults (behind more n names) (rule_written s named l tokens f) ≡ [] → formula_of (behind more n names) f [] ≡ g → rule_faults (plain_rule g) ≡ []
@@ -95,7 +95,7 @@ limits_none more = refl
 limits_next : (more : List ℕ) → next (front_text ++ more) false 1 start limits_written ≡ state [] [] [] [] nothing
 limits_next more = refl
 
--- the rules from each on
+-- the rules, from each of them on
 abbrev from_dom : List Written → List Written
 from_dom ws = rule_written 150 155 3 dom_text dom ∷ ws
 
@@ -126,7 +126,7 @@ defined_none more ws rest =
     rule_more more 2 [] [] 18 23 4 hard_text hard hard_meant (from_row ws) (hard_faultless more) (hard_meaning more) hard_few two in
     one_more (front_text ++ more) 1 start (state [] [] [] [] nothing) limits_written (from_hard ws) (limits_none more) (limits_next more) one
 
--- ---- a question more
+-- ---- one more query
 
 question_more : (bytes : List ℕ) (n p : ℕ) (tiles : List Tile) (qs : Asking) (a : Word × Request) (ws : List Written)
     → fault_of bytes false n (state names_5 rules_5 (codes "c" ∷ []) tiles qs) (question_written p a) ≡ None
@@ -141,7 +141,7 @@ question_more bytes n p tiles qs a ws none rest =
 abbrev NoneFrom : List ℕ → ℕ → List Tile → List Written → Type 0
 NoneFrom bytes n tiles ws = (qs : Asking) → first_from bytes false n (state names_5 rules_5 (codes "c" ∷ []) tiles qs) ws ≡ None
 
--- the questions from each on
+-- the queries, from each of them on
 abbrev asking_discharge : ℕ → List Written
 asking_discharge p = question_written p discharge_dom ∷ []
 

@@ -1,4 +1,4 @@
--- The commands of a sample, each where it may stand.
+-- The commands of a sample, each at an allowed stage.
 use Rattle.std.proofs.Common.{◌≡◌, ℕ, zero, suc, ◌+◌, ◌≤◌, List, [], ◌∷◌, ◌++◌, length, map, true, codes, refl, sym, ap, ◌∙◌, subst, arith, length-append}
 use Rattle.std.proofs.lemmas.List.{length-map}
 use Rattle.std.specs.List.{list_all}
@@ -26,7 +26,7 @@ use Rattle.dd_sampling.proofs.Layers.{hard_is, row_is, dies_is, zero_is, dom_is,
 
 -- ---- the parts of the lexemes
 
--- the parts of what stands before these parts
+-- the parts of these lexemes followed by more, whose parts are q
 abbrev parts_onto : List Lexeme → List Lexeme × List (List Lexeme) → List Lexeme × List (List Lexeme)
 parts_onto [] q = q
 parts_onto (lexeme.Mark mark.Percent ∷ ts) q = ([], (parts_onto ts q).0 ∷ (parts_onto ts q).1)
@@ -101,7 +101,7 @@ question_stands bytes p ys stands a word good all =
       ordered = omega arith;
     }
 
--- ---- from the tail to the whole
+-- ---- from the tail to the whole text
 
 abbrev question_parts : ℕ → List (List Lexeme)
 question_parts p = (parts (map (up_lexeme p) tail_lexemes)).1

@@ -1,4 +1,4 @@
--- The configuration of a sample is without a fault.
+-- The configuration of a sample has no fault.
 use Rattle.std.proofs.Common.{◌≡◌, ◌⊎◌, inl, inr, ℕ, zero, suc, ◌+◌, ◌*◌, ◌%◌, ◌≤◌, List, [], ◌∷◌, ◌++◌, length, map, take, Bool, true, false, codes, refl, ap, ◌∙◌, arith, length-append}
 use Rattle.std.proofs.lemmas.List.{length-map, take_at}
 use Rattle.std.proofs.lemmas.Bool.{eq-eqb, ne_eqb, le-ltb}
@@ -61,7 +61,7 @@ pub small_tokens : (bytes : List ℕ) (ks : List Number) → AreSymbols bytes ks
 small_tokens bytes [] all = refl
 small_tokens bytes (k ∷ ks) all = none_and (token_faults bytes (lexeme.Number k)) (flat_map (token_faults bytes) (map lexeme.Number ks)) (small_token bytes k all.0) (small_tokens bytes ks all.1)
 
--- at the one node
+-- the fault of a symbol at the node a
 abbrev symbol_fault : Number → ℕ → List ℕ → List Fault
 symbol_fault k a t = when (not (option_map_or (λ s. allows setting.sets a s) (number_of setting.symbols t) false)) (fault.Unknown (name.Number k))
 
@@ -88,7 +88,7 @@ count_is (suc k) q =
     let four : length (four_numbers q) ≡ 4 = refl in
     omega (arith, more, four, count_is k (q + 8))
 
--- the height is read as it is written
+-- the text of the height is its digits
 height_text : (d : ℕ) (ds : List ℕ) (k : ℕ) → number_text (front_text ++ from_digits d ds k) (number_at 181 (1 + length ds)) ≡ d ∷ ds
 height_text d ds k = take_at (d ∷ ds) _ (1 + length ds) (omega arith)
 

@@ -17,11 +17,11 @@ use Rattle.dd_sample.specs.Sample.{rules_text, queries_text}
 use Rattle.dd_sampling.proofs.Cutting.{up_token, tokens_up, number_token, mark_token, AreDigits, number_before, turn, turn_tokens, turns}
 use Rattle.dd_sampling.proofs.Lexing.{Stands, stands_behind, stands_after, up_lexeme, lexemes_up, number_at, turn_numbers, turn_lexemes}
 
--- up to the height of the configuration
+-- the text up to the height of the configuration
 abbrev pub front_text : List ℕ
 front_text = rules_text ++ codes "%conf c [2 "
 
--- from behind its symbols on
+-- the text after the symbols of the configuration
 abbrev pub tail_text : List ℕ
 tail_text = codes "\n" ++ queries_text
 
@@ -38,7 +38,7 @@ upper d ds n = front_text ++ (d ∷ (ds ++ 93 ∷ repeat n turn))
 abbrev pub whole : ℕ → List ℕ → ℕ → List ℕ
 whole d ds n = upper d ds n ++ tail_text
 
--- where the symbols begin
+-- the position at which the symbols begin
 abbrev pub symbols_at : List ℕ → ℕ
 symbols_at ds = 181 + (1 + length ds) + 1
 
@@ -65,7 +65,7 @@ upper_length d ds n =
 pub tail_stands : (d : ℕ) (ds : List ℕ) (n : ℕ) → Stands (whole d ds n) (tail_at ds n) tail_text
 tail_stands d ds n = subst (λ (p : ℕ). Stands (whole d ds n) p tail_text) (upper_length d ds n) (stands_behind (upper d ds n) tail_text)
 
--- the digits and what follows them, in order
+-- the text from the digits on
 abbrev pub from_digits : ℕ → List ℕ → ℕ → List ℕ
 from_digits d ds n = d ∷ (ds ++ 93 ∷ (repeat n turn ++ tail_text))
 
@@ -123,7 +123,7 @@ bracket_stands d ds ys =
 bracket_is : (d : ℕ) (ds ys : List ℕ) → lexeme_of (front_text ++ (d ∷ (ds ++ 93 ∷ ys))) (mark_token (181 + (1 + length ds))) ≡ lexeme.Mark mark.CloseList
 bracket_is d ds ys = ap (λ (bs : List ℕ). marked (mark_at (take 1 bs))) (bracket_stands d ds ys)
 
--- the symbols stand behind the bracket
+-- the symbols follow the bracket
 pub symbols_stand : (d : ℕ) (ds : List ℕ) (n : ℕ) → Stands (front_text ++ from_digits d ds n) (symbols_at ds) (repeat n turn ++ tail_text)
 symbols_stand d ds n =
     let all : length (front_text ++ (d ∷ ds)) ≡ length front_text + length (d ∷ ds) = length-append front_text (d ∷ ds) in

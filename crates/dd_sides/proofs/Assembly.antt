@@ -1,4 +1,4 @@
--- A certified bound holds over every box: each position of the box meets the row of what stands around it, and the rows are summed.
+-- A certified bound holds over every box: each position satisfies the row of its surroundings, and these rows are summed.
 use Rattle.std.proofs.Common.{◌≡◌, ◌<◌, ◌+◌, ◌-◌, ◌*◌, ◌^◌, ◌≤◌, ℕ, zero, suc, Bool, true, false, List, [], ◌∷◌, length, get_or, map, take, drop, refl, sym, ap, subst, ◌∙◌, arith}
 use Rattle.std.specs.Prelude.{◌&&◌, ◌||◌, ℤ, pos, ◌+ℤ◌, ◌-ℤ◌, ◌*ℤ◌, ◌≤ℤ◌, nat_lt, int_le, int_lt, is_some}
 use Rattle.std.specs.List.{Contains, range_with_len}
@@ -86,7 +86,7 @@ at_flat d n u p flat at =
     let on_z = flat_run (is_active d 2) n at.k u.z p.z at.k_below (ap (λ (q : Place). q.z) at.is) parts.1 in
     and_from (nat_lt 1 d || int_eq p.y (pos 0)) (nat_lt 2 d || int_eq p.z (pos 0)) on_y on_z
 
--- ---- the gifts: along each vector the amount of the pattern
+-- ---- the gifts: along each vector, the amount of the pattern
 
 at_most_greatest : (ns : List ℕ) (i : ℕ) → get_or ns i 0 ≤ greatest ns
 at_most_greatest [] i = omega arith
@@ -120,7 +120,7 @@ comes_in_is d n m number (v ∷ vs) a low high flat =
     let outer : size_volume (side d n) - kept (side d n) v ≡ outer_count d n v = ap (λ (k : ℕ). k - kept (side d n) v) whole ∙ ap (λ (k : ℕ). n ^ d - k) inner in
     ap (λ (k : ℕ). most * k + comes_in (side d n) (gifts m number vs (drop m a))) outer ∙ ap (λ (k : ℕ). most * outer_count d n v + k) rest
 
--- ---- each row that is met
+-- ---- each row is satisfied
 
 abbrev Meets : ℕ → ℕ → ℕ → List ℕ → Row → Type 0
 Meets n common held a r = total_below (λ j. get_or r.coefficients j (pos 0) *ℤ column_value (pos held) a j) n ≤ℤ pos (common * r.bound)
@@ -138,7 +138,7 @@ giver_is v p = place_same _ _ _ _ _ _ (less v.x p.x) (less v.y p.y) (less v.z p.
 moved_row : (h q w w' o o' i i' : ℕ) → h + o ≤ q * w + i → o ≡ o' → w ≡ w' → i ≡ i' → h + o' ≤ q * w' + i'
 moved_row h q w w' o o' i i' le a b c = let d : q * w ≡ q * w' = ap (λ (z : ℕ). q * z) b in omega (arith, le, a, c, d)
 
--- what is known of a certificate
+-- what is known of the certificate
 record Known (x : LocalRule) (ws : List ℕ) (radius margin : ℕ) (vs : List Place) (b : Bound) : Type 0 where
   rule : IsRule x
   flat : (v : Place) → Contains vs v → is_flat x.dimension v ≡ true

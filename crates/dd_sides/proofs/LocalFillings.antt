@@ -1,4 +1,4 @@
--- What a filling shows around a position, at some cells, is an admissible filling of these cells, if they all have symbols there.
+-- If a filling has symbols at some cells around a position, these symbols are an admissible filling of those cells.
 use Rattle.std.proofs.Common.{◌≡◌, ℕ, true, List, map, refl, sym, ap, ◌∙◌, Some, None}
 use Rattle.std.specs.Prelude.{Option, is_some, unwrap_or, IfSome}
 use Rattle.std.specs.List.{Contains, range_with_len}
@@ -24,7 +24,7 @@ use Rattle.dd_rows.specs.lemmas.AdmissibleLaws.{the_admissible}
 use Rattle.dd_sides.specs.Sides.{position_weight}
 use Rattle.dd_sides.specs.lemmas.WordLaws.{read_word, word_has, words_have, mapped_alike}
 
--- the symbol of a cell that is counted from p
+-- the symbol of a cell, counted from p
 abbrev pub around : Look → Place → Cell → ℕ
 around look p c = unwrap_or (look (shifted p c)) 0
 
@@ -40,7 +40,7 @@ given_passes : (P : ℕ → Type 0) (o : Option ℕ) → is_some o ≡ true → 
 given_passes P None h k = absurd (false≢true h)
 given_passes P (Some s) h k = k
 
--- the cells all have symbols there
+-- all the cells have symbols there
 abbrev pub HasAll : List Cell → Look → Place → Type 0
 HasAll cs look p = (c : Cell) → Contains cs c → is_some (look (shifted p c)) ≡ true
 
@@ -83,7 +83,7 @@ shown_filling x cs look p rule of flat allowed all ok =
     (yes, allowed_below x rule c.node (around look p c) yes)) in
     (the_admissible x cs of).each (map (around look p) cs) word (shown_admissible x cs look p flat all ok)
 
--- a box of it, and the weight of its position, are those that stand around p
+-- if a box around q lies within the cells, its pattern in what is shown is its pattern around p + q
 pub shown_pattern : (cs box : List Cell) (look : Look) (p q : Place) → ((c : Cell) → Contains box c → Contains cs (shifted q c)) →
     pattern_at box (shown cs look p) q ≡ pattern_at box look (moved q p)
 shown_pattern cs box look p q within =

@@ -24,7 +24,7 @@ total_split f m (suc n) =
     ap (total_below f) (let e : m + suc n ≡ suc (m + n) = omega arith in e)
     ∙ one_more (total_below f (m + n)) (total_below f m) (total_below (λ j. f (m + j)) n) (f (m + n)) (total_split f m n)
 
--- ---- the amount with a given number
+-- ---- the amount with a given index
 
 one_here : (j o : ℕ) → j ≡ o → one_at j o ≡ pos 1
 one_here j o same = ap (λ (b : Bool). pos (cond b 1 0)) (eq-eqb j o same)
@@ -84,7 +84,7 @@ block_total m o i a =
     ∙ (total_same (λ j. both j +ℤ in_ j) (λ j. one_at j o *ℤ pos (get_or a j 0)) m (λ j _. parted (one_at j o) (one_at j i) (pos (get_or a j 0)))
     ∙ taken m o a))
 
--- ---- the vectors, each with the amounts of its own
+-- ---- the vectors, each with its own amounts
 
 abbrev pub block : ℕ → ℕ → ℕ → List ℤ
 block m o i = map (λ k. one_at k o -ℤ one_at k i) (range_with_len 0 m)
@@ -142,7 +142,7 @@ first_product h = omega (arith, ints)
 in_numbers : (t : ℤ) (h i o q w : ℕ) → (pos h +ℤ t) ≤ℤ pos (q * w) → t +ℤ pos i ≡ pos o → h + o ≤ q * w + i
 in_numbers t h i o q w le e = omega (arith, ints, le, e)
 
--- a row that holds: what is held and goes out is at most the right side and what comes in
+-- a row that holds: what is held and goes out is at most the right side plus what comes in
 pub row_says : {X : Type 0} (m held common w o : ℕ) (f : X → ℕ) (xs : List X) (a : List ℕ) →
     total_below (λ j. get_or (pos 1 ∷ flat_map (λ x. block m o (f x)) xs) j (pos 0) *ℤ column_value (pos held) a j) (1 + length xs * m) ≤ℤ pos (common * w) →
     held + goes_out m o xs a ≤ common * w + comes m f xs a

@@ -1,4 +1,4 @@
--- Each row is among those that are kept where they are first seen.
+-- Each row is in the list that keeps only the first occurrence of each.
 use Rattle.std.proofs.Common.{◌≡◌, Bool, true, false, cond, List, [], ◌∷◌, ◌++◌, refl, sym, ap, subst, ◌∙◌, inl, inr, ◌⊎◌}
 use Rattle.std.specs.Prelude.{◌||◌}
 use Rattle.std.specs.Bool.{nat_eq}

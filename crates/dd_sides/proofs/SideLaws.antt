@@ -1,4 +1,4 @@
--- Side(n): how many positions it has, and how many of them receive from it.
+-- Side(n): how many positions it has, and how many of them receive from inside it.
 use Rattle.std.proofs.Common.{◌≡◌, ℕ, zero, suc, ◌-◌, ◌*◌, ◌^◌, ◌≤◌, Bool, true, false, refl, ap, ◌∙◌, arith}
 use Rattle.std.specs.Prelude.{ℤ, pos, unsigned_abs, ◌||◌, nat_lt}
 use Rattle.std.specs.Ordering.{int_eq}
@@ -14,7 +14,7 @@ use Rattle.dd_sides.specs.Boundaries.{left_on, inner_count, outer_count}
 use Rattle.dd_sides.specs.lemmas.BoxLaws.{kept}
 use Rattle.dd_sides.proofs.CountLaws.{outside_count}
 
--- a box has three, two or one of its axes active
+-- three, two or one of the axes are active
 pub side_volume : (d n : ℕ) → 1 ≤ d → d ≤ 3 → size_volume (side d n) ≡ n ^ d
 side_volume zero n low high = absurd (omega arith)
 side_volume (suc zero) n low high = rw (first_power n) (omega arith)

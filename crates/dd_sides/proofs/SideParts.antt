@@ -1,4 +1,4 @@
--- The tests and sums of boxes of every side: which positions they mean.
+-- What the tests and the sums over boxes of every side mean.
 use Rattle.std.proofs.Common.{◌≡◌, ◌+◌, ◌≤◌, ℕ, zero, suc, Bool, true, false, cond, sym, ap, ◌∙◌, inl, inr, arith}
 use Rattle.std.specs.Prelude.{◌↔◌, ◌&&◌, ◌||◌, ℤ, pos, ◌+ℤ◌, ◌-ℤ◌, ◌≤ℤ◌, ◌<ℤ◌, int_le, int_lt, nat_lt}
 use Rattle.std.specs.Ordering.{int_eq}
@@ -73,7 +73,7 @@ side_positions d n u p =
           (run_from (is_active d 2) n u.z p.z h.on_z),
     )
 
--- ---- each once
+-- ---- each position once
 
 on_past : (n : ℕ) (a q : ℤ) → a +ℤ pos n ≡ q → is_on n a q ≡ false
 on_past n a q e = grind (arith, ints)
@@ -144,7 +144,7 @@ box_once s u q =
     ∙ (axis_once s.z u.z q.z (cond (is_on s.y u.y q.y) (cond (is_on s.x u.x q.x) 1 0) 0)
     ∙ sym (each_axis (is_on s.x u.x q.x) (is_on s.y u.y q.y) (is_on s.z u.z q.z)))
 
--- ---- grown
+-- ---- grown boxes
 
 -- a coordinate of the run that is near c
 record IsNearRun (active : Bool) (n e : ℕ) (a c : ℤ) : Type 0 where
@@ -152,7 +152,7 @@ record IsNearRun (active : Bool) (n e : ℕ) (a c : ℤ) : Type 0 where
   there : OnAxis active (IsAmong n) (from -ℤ a)
   near : OnAxis active (IsUpTo e) (c -ℤ from)
 
--- the nearest one: the first, the last or c itself
+-- the nearest coordinate: the first, the last or c itself
 nearest : (n e : ℕ) (a c : ℤ) → 1 ≤ n → (a -ℤ pos e) ≤ℤ c → c <ℤ (a +ℤ pos (n + e)) → IsNearRun true n e a c
 nearest n e a c some low high = elim (cases_Bool (int_le a c)) [
   | inr before ↦

@@ -1,4 +1,4 @@
--- Cells that are taken one after the other in cell order.
+-- Cells visited one by one in cell order.
 use Rattle.std.proofs.Common.{◌≡◌, ℕ, ◌+◌, ◌<◌, List, [], ◌∷◌, ◌++◌, take, length, get_or, ap, sym, ◌∙◌, arith}
 use Rattle.std.specs.List.{All}
 use Rattle.std.specs.List.Sorted.{IsStrictlySortedBy}
@@ -10,7 +10,7 @@ use Rattle.dd_lattice.specs.declared.position.Cell.{Cell}
 use Rattle.dd_circuit.specs.declared.gates.Signal.{Signal}
 use Rattle.dd_compile.specs.Wiring.{Wiring, with_cell}
 
--- the next cell comes after all before it
+-- the next cell is greater than all before it
 pub comes_after : (cells : List Cell) (i : ℕ) (d : Cell) (before : List Cell) → IsStrictlySortedBy cell_cmp cells → i < length cells → d ≡ get_or cells i d →
     before ≡ take i cells → All (λ c. cell_cmp c d ≡ Less) before
 comes_after cells i d before up h here is = rw is (λ k e below.

@@ -16,7 +16,7 @@ use Rattle.dd_evidence.specs.Answers.{IsMemberCertificate, member_inside, member
 use Rattle.dd_verify.specs.Evidence.{IsBoxCertificate, box_yes, box_no, box_unknown, IsEqualCertificate, equal_yes, left_no, right_no, equal_unknown, IsYes}
 use Rattle.dd_verify.specs.Holding.{MemberClaim, says_inside, says_outside, BoxClaim, says_nowhere, says_witness, says_nothing, EqualClaim, says_equal, says_left, says_right, says_none}
 
--- Where the steps refute the clauses of a box, no admissible filling of it has the goal at the origin, so the goal holds
+-- If the steps refute the clauses of a box, no admissible filling of the box has the goal at the origin. So the goal holds
 -- nowhere.
 pub yes_claims : (l : Limits) (x : LocalRule) (g : GoalOf) (n : ℕ) (steps : List Step) → IsRule x → IsGoalFor x g → IsToldGoal x g → IsYes l x g n steps →
     HoldsNowhere x g n

@@ -16,7 +16,7 @@ abbrev setting : ℕ → ℕ → ℕ → CommonNumbers
 setting d n s = record { dimension = d; nodes = n; symbols = s }
 
 module _ (x : LocalRule) (t : Tile) (fits : Fits x t) where
-  -- the configuration's numbers are the premise's
+  -- the configuration has the dimension, nodes and symbols of the premise
   pub defined : (f : Automaton) → IsAutomaton (numbers_of x) f → IsDefinedOn f t
   defined f formed = record {
     symbols = x.symbols;
@@ -25,7 +25,7 @@ module _ (x : LocalRule) (t : Tile) (fits : Fits x t) where
     below = fits.symbols;
   }
 
-  -- of one that lives in the premise's subshift, the test decides whether it shows the goal
+  -- if the configuration lives in the premise's subshift, the test decides whether it shows the goal
   pub difference_decides : (f g : Automaton) → IsTile t → HasAllowed x t → Lives x t → (b : Bool) → (b ≡ true) ↔ DifferAtOrigin f g t →
       (b ≡ true) ↔ IsWitness x (differ (numbers_of x) f g) t
   difference_decides f g tile allowed lives b told = (

@@ -1,4 +1,4 @@
--- A rule is false exactly where the cells that it reads have the symbols of a listed pattern.
+-- A rule is false exactly where the cells that it reads show a listed pattern.
 use Rattle.std.proofs.Common.{◌≡◌, ℕ, zero, suc, ◌<◌, Bool, true, false, List, [], ◌∷◌, map, length, get_or, slice_get, Some, None, refl, ap, sym, ◌∙◌, arith, rules}
 use Rattle.std.specs.Prelude.{◌↔◌, Option, is_some, Contains}
 use Rattle.std.specs.List.{list_all, position_or_len}
@@ -32,7 +32,7 @@ abbrev pub ListedBreak : Type 0
 ListedBreak = (x : LocalRule) (patterns : List Listed) (a : ℕ) (ss : List ℕ) → IsForbiddenList x patterns → a < x.nodes →
     Contains patterns (listed a ss) ↔ IsBreaking x a ss
 
--- ---- the place of a cell among cells
+-- ---- the index of a cell in a list of cells
 
 cell_total : IsTotalOrder cell_cmp
 cell_total = search (comparing, rules) depth 9
@@ -48,7 +48,7 @@ same_cell x c Less is h = absurd (cc h)
 same_cell x c Equal is h = cells_equal x c is
 same_cell x c Greater is h = absurd (cc h)
 
--- where the place is one of the list, the cell stands there
+-- if the index is below the length, the cell is there
 stands_first : (x : Cell) (cs : List Cell) (c : Cell) (b : Bool) → is_cell c x ≡ b → (place_of cs c < length cs → get_or cs (place_of cs c) c ≡ c) →
     place_of (x ∷ cs) c < length (x ∷ cs) → get_or (x ∷ cs) (place_of (x ∷ cs) c) c ≡ c
 stands_first x cs c true is rest h =
@@ -62,7 +62,7 @@ stands : (cs : List Cell) (c : Cell) → place_of cs c < length cs → get_or cs
 stands [] c h = refl
 stands (x ∷ cs) c h = stands_first x cs c (is_cell c x) refl (stands cs c) h
 
--- the place of a cell of the list is one of it
+-- a cell of the list has an index below the length
 within_first : (x : Cell) (cs : List Cell) (i : ℕ) (c d : Cell) (b : Bool) → is_cell c x ≡ b →
     ((j : ℕ) → j < length cs → is_cell c (get_or cs j d) ≡ true → place_of cs c < length cs) →
     i < length (x ∷ cs) → is_cell c (get_or (x ∷ cs) i d) ≡ true → place_of (x ∷ cs) c < length (x ∷ cs)

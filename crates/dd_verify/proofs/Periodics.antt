@@ -1,4 +1,4 @@
--- What the symbols of a fundamental box say of every cell, and what the origin's truth is.
+-- What the symbols of a fundamental box say of every cell, and of the rule at the origin.
 use Rattle.std.proofs.Common.{◌≡◌, ℕ, ◌<◌, Bool, true, length, get_or, ap, sym, subst, ◌∙◌, arith, Some, None, inl, inr, pos}
 use Rattle.std.specs.Prelude.{Option, IfSome, cond, slice_get, ◌-ℤ◌, ◌*ℤ◌}
 use Rattle.std.proofs.lemmas.Int.{ints}
@@ -21,11 +21,11 @@ use Rattle.dd_boxes.specs.lemmas.RuleLaws.{place_same}
 
 -- ---- allowed symbols
 
--- the symbol with the number k is one that its node allows
+-- the symbol with the index k is one that its node allows
 abbrev pub IsAllowedAt : LocalRule → Tile → ℕ → Type 0
 IsAllowedAt r t k = rule_allows r (cell_in t k).node (get_or t.symbols k 0) ≡ true
 
--- what the test of a cell tells of its number
+-- what the test of a cell says of its index
 pub allowed_is : (r : LocalRule) (t : Tile) (k : ℕ) (c : Cell) (symbol : ℕ) (b : Bool) → c ≡ cell_in t k → symbol ≡ get_or t.symbols k 0 →
     b ≡ rule_allows r c.node symbol → rule_allows r (cell_in t k).node (get_or t.symbols k 0) ≡ b
 allowed_is r t k c symbol b is_cell is_symbol told =
@@ -74,7 +74,7 @@ base_of-origin p x y z =
 pub origin_in_box : (t : Tile) (a : ℕ) → IsTile t → a < t.nodes → IsInBox t (cell origin a)
 origin_in_box t a tile node = record { base = base_of-origin t.periods tile.periods.x_some tile.periods.y_some tile.periods.z_some; node = node }
 
--- so all that is read there is given
+-- so the symbols of all cells that are read there are given
 pub origin_told : (r : LocalRule) (t : Tile) (a : ℕ) (answer : Option Bool) → IsRule r → Fits r t → IsPeriodic t → a < r.nodes →
     answer ≡ cond (is_given r (cell origin a) (tile_look t)) (Some (is_true r (cell origin a) (tile_look t))) None →
     answer ≡ Some (is_true r (cell origin a) (tile_look t))

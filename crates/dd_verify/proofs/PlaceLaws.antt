@@ -13,7 +13,7 @@ use Rattle.dd_formula.specs.Living.{IsFirstFalse}
 use Rattle.dd_evidence.specs.Cells.{written_cell, IsOutside}
 use Rattle.dd_formula.specs.lemmas.FirstCells.{first_cell}
 
--- d coordinates of xs, and then n
+-- the first d coordinates of xs, followed by n
 module _ (d n : ℕ) (xs place : List ℤ) (few : d ≤ length xs) where
   pub place_length : place ≡ take d xs ++ pos n ∷ [] → length place ≡ d + 1
   place_length is =
@@ -39,7 +39,7 @@ module _ (d n : ℕ) (xs place : List ℤ) (few : d ≤ length xs) where
   place_whole z many last front =
       split z many ∙ (ap (λ f. f ++ get_or place d z ∷ []) front ∙ ap (λ l. take d xs ++ l ∷ []) last)
 
--- where the first cell at which the rule is false is known, its place is the only one
+-- if the first cell at which the rule is false is known, only its place is right
 pub outside_at : (x : LocalRule) (t : Tile) (c : Cell) (d : ℕ) (place : List ℤ) (b : Bool) → d ≡ x.dimension → IsFirstFalse x t c →
     (b ≡ true) ↔ (place ≡ written_cell d c) → (b ≡ true) ↔ IsOutside x t place
 outside_at x t c d place b same first told = (

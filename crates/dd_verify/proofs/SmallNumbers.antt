@@ -1,4 +1,4 @@
--- From the tests of numbers one by one to what an output can hold.
+-- From tests of single numbers to what an output can hold.
 use Rattle.std.proofs.Common.{◌≡◌, ℕ, ◌≤◌, Bool, true, List, length, sym, ◌∙◌, ℤ}
 use Rattle.std.specs.Prelude.{◌↔◌, nat_le, unsigned_abs}
 use Rattle.std.specs.List.{All, list_all}

@@ -31,7 +31,7 @@ AreNeeded = (r : LocalRule) (a : ℕ) (ps : List (List (Option ℕ))) → IsRule
 abbrev AllAreNew : Type 0
 AllAreNew = (r : LocalRule) (a : ℕ) (ps : List (List (Option ℕ))) → IsMinimalList r a ps → AreNew r a [] ps
 
--- and of what is listed of all nodes
+-- the same for the lists of all nodes
 abbrev HaveNodes : Type 0
 HaveNodes = (x : LocalRule) (patterns : List Starred) → IsStarredList x patterns → All (λ p. p.node < x.nodes) patterns
 

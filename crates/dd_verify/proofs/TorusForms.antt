@@ -1,5 +1,5 @@
--- Answers to how little a fundamental box can weigh: their configurations, the room that their clauses have, that an output can
--- hold them, and what they claim.
+-- Answers to the question how little a fundamental box can weigh: their configurations, the size of their clauses, that an
+-- output can hold them, and what they claim.
 use Rattle.std.proofs.Common.{◌≡◌, ◌≢◌, ℕ, suc, ◌*◌, ◌<◌, ◌≤◌, Bool, true, List, [], ◌∷◌, length, inl, inr, refl, ap, sym, subst, ◌∙◌, arith}
 use Rattle.std.specs.Prelude.{◌↔◌, max}
 use Rattle.std.specs.List.{All}
@@ -32,7 +32,7 @@ use Rattle.dd_verify.specs.Tori.{torus_tile, HasWeight, IsBoundedBy, IsTorusCert
 
 -- ---- the configuration
 
--- that the code makes of the symbols
+-- the configuration that the code makes from the symbols
 pub torus_made : (x : LocalRule) (along : List ℕ) (d n : ℕ) (items symbols : List ℕ) → d ≡ x.dimension → n ≡ x.nodes → items ≡ symbols →
     tile d (periods_of along 0) n items ≡ torus_tile x along symbols
 torus_made x along d n items symbols d_is n_is symbols_are =
@@ -53,7 +53,7 @@ torus_small x along symbols torus is =
 pub on_torus_of : {x : LocalRule} {along ws : List ℕ} {w : ℕ} {symbols : List ℕ} → HasWeight x along ws w symbols → IsOnTorus x along symbols
 on_torus_of told = (told.lives.tile, told.lives.fits)
 
--- what is tested of the configuration, is tested of its symbols
+-- a test of the configuration is a test of its symbols
 pub weight_decides : (x : LocalRule) (along ws : List ℕ) (w : ℕ) (symbols : List ℕ) (t : Tile) (b : Bool) → t ≡ torus_tile x along symbols →
     (b ≡ true) ↔ (IsWitness x always t × (total_weight ws t.symbols ≡ w)) → (b ≡ true) ↔ HasWeight x along ws w symbols
 weight_decides x along ws w symbols t b is told = (
@@ -101,7 +101,7 @@ pub none_of : {x : LocalRule} {along ws : List ℕ} {steps : List Step} → IsTo
     IsRefuting (weight_problem x (periods_of along 0) ws 0) steps
 none_of (torus_none h) = h
 
--- an answer of another form
+-- an answer of another form is no certificate
 pub no_torus : (x : LocalRule) (along ws : List ℕ) (a : Answer) → ((w : ℕ) (symbols : List ℕ) (steps : List Step) → a ≢ answer.Least w symbols steps) →
     ((steps : List Step) → a ≢ answer.Nothing steps) → IsTorusCertificate x along ws a → ⊥
 no_torus x along ws a least_form none_form (torus_least has bounded) = least_form _ _ _ refl
@@ -148,7 +148,7 @@ module _ (x : LocalRule) (along ws : List ℕ) (rule : IsRule x) (weighable : Is
     λ both. told.1 (both.0.2, bounded_of both.1),
   )
 
--- with 0 there is nothing to refute, and there are no steps
+-- with the weight 0 there is nothing to refute, and there are no steps
 pub nothing_below : (x : LocalRule) (along ws : List ℕ) (w : ℕ) (steps : List Step) (b : Bool) → w ≡ 0 → (b ≡ true) ↔ (steps ≡ []) →
     (b ≡ true) ↔ (IsWritableBelow w steps × IsBoundedBy x along ws w steps)
 nothing_below x along ws w steps b zero_is told = (
@@ -159,7 +159,7 @@ nothing_below x along ws w steps b zero_is told = (
   ],
 )
 
--- with more there are steps, of a refutation
+-- with a greater weight, the steps are those of a refutation
 pub something_below : (x : LocalRule) (along ws : List ℕ) (w : ℕ) (steps : List Step) (b : Bool) → w ≢ 0 →
     (b ≡ true) ↔ IsRefuting (weight_problem x (periods_of along 0) ws w) steps → (b ≡ true → IsWritableRefutation steps) →
     (b ≡ true) ↔ (IsWritableBelow w steps × IsBoundedBy x along ws w steps)

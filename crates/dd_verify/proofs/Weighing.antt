@@ -1,4 +1,4 @@
--- From the checks of densities and bounds to what is a certificate and can be written, and what it claims.
+-- From the checks of densities and bounds to certificates that can be written, and what they claim.
 use Rattle.std.proofs.Common.{◌≡◌, ℕ, ◌+◌, Bool, true, false, List, refl, sym, ◌∙◌, ℤ}
 use Rattle.std.specs.Prelude.{◌↔◌, Result, IfOk}
 use Rattle.std.proofs.lemmas.Bool.{false≢true}
@@ -21,7 +21,7 @@ use Rattle.dd_verify.proofs.Deciding.{if_both}
 use Rattle.dd_verify.proofs.WholeSides.{configurations_hold}
 use Rattle.dd_verify.specs.Bounds.{IsStripCertificate, strip_least, strip_empty, StripClaim, claims_least, claims_empty, IsDischargeCertificate, best, too_large, overflow, no_pivots, DischargeClaim, claims_bound, no_claim}
 
--- ---- a test of what can be written, and then one of what is shown
+-- ---- a test of what can be written, then a test of what is shown
 
 pub not_written : (b : Bool) (A B : Type 0) → (b ≡ true) ↔ A → b ≡ false → (false ≡ true) ↔ (A × B)
 not_written b A B told fails = (λ h. absurd (false≢true h), λ both. absurd (false≢true (sym fails ∙ told.1 both.0)))
@@ -29,12 +29,12 @@ not_written b A B told fails = (λ h. absurd (false≢true h), λ both. absurd (
 pub written : {E : Type 0} (r : Result Bool E) (A B : Type 0) → A → IfOk r (λ b. (b ≡ true) ↔ B) → IfOk r (λ b. (b ≡ true) ↔ (A × B))
 written r A B a told = IfOk-weaker r (λ b. (b ≡ true) ↔ B) (λ b. (b ≡ true) ↔ (A × B)) (λ b is. (λ h. (a, is.0 h), λ both. is.1 both.1)) told
 
--- a test that says no only of what does not hold says yes of what holds
+-- a test that is false only of what doesn't hold is true of what holds
 told_so : (b : Bool) (A : Type 0) → (b ≡ false → A → ⊥) → A → b ≡ true
 told_so true A refuted a = refl
 told_so false A refuted a = absurd (refuted refl a)
 
--- an answer that is yes of what holds alone, and no of what does not
+-- an answer that is yes only of what holds, and no only of what doesn't
 pub decided_so : {E : Type 0} (r : Result Bool E) (A : Type 0) → IfOk r (λ b. b ≡ true → A) → IfOk r (λ b. b ≡ false → A → ⊥) → IfOk r (λ b. (b ≡ true) ↔ A)
 decided_so r A shown refuted =
     if_both r (λ b. b ≡ true → A) (λ b. b ≡ false → A → ⊥) (λ b. (b ≡ true) ↔ A) (λ b here never. (here, told_so b A never)) shown refuted

@@ -1,4 +1,4 @@
--- What the admissible fillings within reach of a box weigh on it, each configuration that obeys the rule weighs too.
+-- A bound on what admissible fillings weigh on a box holds for each configuration that obeys the rule.
 use Rattle.std.proofs.Common.{◌≡◌, ◌<◌, ◌≤◌, ◌+◌, ◌*◌, ◌^◌, ℕ, Bool, true, false, List, length, refl, ap, ◌∙◌, arith, None}
 use Rattle.std.specs.Prelude.{◌&&◌, ◌||◌, ℤ, pos, ◌+ℤ◌, ◌-ℤ◌, cond, nat_lt, int_le, int_lt, is_some, unwrap_or}
 use Rattle.std.specs.List.{range_with_len}
@@ -43,7 +43,7 @@ grown_flat d n e u p h =
     let inner = and_parts on_x on_y outer.0 in
     and_from (nat_lt 1 d || int_eq p.y (pos 0)) (nat_lt 2 d || int_eq p.z (pos 0)) (near_flat (is_active d 1) n e u.y p.y inner.1) (near_flat (is_active d 2) n e u.z p.z outer.1)
 
--- ---- and the box lies in it
+-- ---- the box lies in the grown box
 
 on_near : (n e i : ℕ) (a c : ℤ) → i < n → c ≡ a +ℤ pos i → (int_le (a -ℤ pos e) c && int_lt c (a +ℤ pos (n + e))) ≡ true
 on_near n e i a c low is = grind (arith, ints)

@@ -42,7 +42,7 @@ fn refutes(
     Ok(check_refutation(&cnf, steps, &mut marks))
 }
 
-/// Whether the radius is one that was asked for, and the steps refute the clauses of its box.
+/// Whether the radius is within the limits, and the steps refute the clauses of its box.
 pub(crate) fn check_yes(
     alloc: Global,
     premise: &Rule,

@@ -1,4 +1,4 @@
--- The cells that a row looks at: they lie within its reach, and they hold the boxes round the origin and round its givers.
+-- The cells that a row looks at. They lie within its reach, and include the boxes around the origin and around its givers.
 use Rattle.std.proofs.Common.{◌≡◌, ◌<◌, ◌+◌, ◌≤◌, ℕ, zero, suc, Bool, true, false, List, [], ◌∷◌, map, refl, sym, ap, subst, inl, inr, arith}
 use Rattle.std.specs.Prelude.{ℤ, pos, ◌+ℤ◌, ◌-ℤ◌, ◌≤ℤ◌, ◌||◌, nat_lt, unsigned_abs}
 use Rattle.std.specs.List.{Contains, range_with_len}
@@ -134,7 +134,7 @@ pub centred_flat : (d n : ℕ) (p : Place) → IsCentred d n p → is_flat d p �
 centred_flat d n p h =
     and_from (nat_lt 1 d || int_eq p.y (pos 0)) (nat_lt 2 d || int_eq p.z (pos 0)) (flat_axis (is_active d 1) n p.y h.on_y) (flat_axis (is_active d 2) n p.z h.on_z)
 
--- ---- the boxes that they hold
+-- ---- the boxes that they include
 
 at_none : (active : Bool) (n : ℕ) (c : ℤ) → c ≡ pos 0 → OnAxis active (IsUpTo n) c
 at_none true n c e = record { low = omega (arith, ints, e); high = omega (arith, ints, e) }
@@ -166,7 +166,7 @@ at_giver d radius margin vs v p among h =
 pub origin_centred : (d n : ℕ) → IsCentred d n origin
 origin_centred d n = record { on_x = at_none (is_active d 0) n (pos 0) refl; on_y = at_none (is_active d 1) n (pos 0) refl; on_z = at_none (is_active d 2) n (pos 0) refl }
 
--- ---- a ground's cells
+-- ---- the cells of a ground
 
 pub ground_reach : (x : LocalRule) (radius margin : ℕ) (vs : List Place) (cs : List Cell) → IsGround x radius margin vs cs → 1 ≤ x.dimension →
     ((v : Place) → Contains vs v → is_flat x.dimension v ≡ true) → (c : Cell) → Contains cs c → IsCentred x.dimension (reach_of radius margin vs) c.position × (c.node < x.nodes)
@@ -201,7 +201,7 @@ same_below p = record { on_x = itself p.x; on_y = itself p.y; on_z = itself p.z 
 corners_ordered : (d n : ℕ) → IsAtMostOnEachAxis (centred d n).low (centred d n).high
 corners_ordered d n = record { on_x = under (spread (is_active d 0) n); on_y = under (spread (is_active d 1) n); on_z = under (spread (is_active d 2) n) }
 
--- the ground's positions are in range, and so are the corners of the box
+-- the positions of the ground are in range, and so are the corners of the box
 box_in_range : (x : LocalRule) (radius margin : ℕ) (vs : List Place) (cs : List Cell) → IsGround x radius margin vs cs → IsBox (centred x.dimension radius)
 box_in_range x radius margin vs cs sites =
     let b = centred x.dimension radius in

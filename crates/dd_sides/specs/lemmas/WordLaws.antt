@@ -1,4 +1,4 @@
--- Lists of symbols for cells: what is read of them, and that those which the nodes allow are among the words.
+-- Lists of symbols for cells: which symbol each cell has, and that the words include every list that the nodes allow.
 use Rattle.std.proofs.Common.{◌≡◌, ◌<◌, ◌+◌, ◌≤◌, ℕ, zero, suc, Bool, true, false, cond, List, [], ◌∷◌, map, refl, sym, ap, subst, ◌∙◌, inl, inr, Some, arith}
 use Rattle.std.specs.Prelude.{is_some, filter, slice_get}
 use Rattle.std.specs.List.{Contains, flat_map, range_with_len}
@@ -16,7 +16,7 @@ use Rattle.dd_rows.specs.Fillings.{look_of, allowed_symbols, words}
 use Rattle.dd_rows.specs.listing.Levels.{rank}
 use Rattle.dd_rows.specs.lemmas.Ready.{number_later, equal_from}
 
--- what is read
+-- which symbol each cell has
 
 same_cell : (x c : Cell) → x ≡ c → is_eq (cell_cmp x c) ≡ true
 same_cell x c e = ap is_eq (ap (λ z. cell_cmp z c) e ∙ tied_itself cell_total c)
@@ -48,7 +48,7 @@ word_has f (x ∷ cs) c h = elim (cases_Bool (is_eq (cell_cmp x c))) [
   | inr there ↦ Contains-later x cs c (word_has f cs c (ap is_some (sym (read_later f x c cs there)) ∙ h))
 ]
 
--- what the words have
+-- what the words contain
 
 range_from : (a n s : ℕ) → a ≤ s → s < a + n → Contains (range_with_len a n) s
 range_from a zero s low high = absurd (omega (arith, low, high))
@@ -90,7 +90,7 @@ words_have x f (c ∷ cs) ok =
     let rest = words_have x f cs (λ d h. ok d (Contains-later c cs d h)) in
     flat_map_has (λ s. map (λ ss. s ∷ ss) (words x cs)) (allowed_symbols x c.node) (f c) (f c ∷ map f cs) choice (Contains-map (λ ss. f c ∷ ss) (words x cs) (map f cs) rest)
 
--- lists that are mapped alike
+-- two functions that agree on a list map it to the same list
 pub mapped_alike : {X Y : Type 0} (f g : X → Y) (xs : List X) → ((x : X) → Contains xs x → f x ≡ g x) → map f xs ≡ map g xs
 mapped_alike f g [] same = refl
 mapped_alike {X} {Y} f g (x ∷ xs) same =

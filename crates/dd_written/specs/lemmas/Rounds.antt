@@ -1,4 +1,4 @@
--- Reading one of a kind after the other, as a loop does.
+-- Reading items one after the other, as a loop does.
 use Rattle.std.proofs.Common.{◌≡◌, ℕ, zero, suc, true, false, Bool, ◌-◌, ◌+◌, ◌<◌, List, [], ◌∷◌, ◌++◌, Option, Some, None, refl, sym, ap, ◌∙◌, append_assoc, arith}
 use Rattle.std.proofs.lemmas.List.{append-nil}
 use Rattle.dd_written.specs.Tree.{Lexeme}
@@ -19,7 +19,7 @@ pub none_more : {X : Type 0} (begins : List Lexeme → Bool) (item : Reader X) (
 none_more begins item zero tokens e = refl
 none_more begins item (suc n) tokens e = rw e refl
 
--- where none begins, what was read is all
+-- if none begins, all was read
 pub stops : {X : Type 0} (begins : List Lexeme → Bool) (item : Reader X) (front : List X) (n : ℕ) (tokens : List Lexeme) (total : Option (List X × List Lexeme)) → begins tokens ≡ false
     → with_front front (many begins item n tokens) ≡ total → total ≡ Some (front, tokens)
 stops {X} begins item front n tokens total e so_far =
