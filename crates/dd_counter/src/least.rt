@@ -5,7 +5,7 @@ ghost use Rattle.dd_values.specs.Bounds.{most_variables, most_weight};
 ghost use Rattle.dd_pattern.specs.Periods.{periods_of, periods_volume};
 ghost use Rattle.dd_boxes.specs.Goals.{always};
 ghost use Rattle.dd_boxes.specs.Counts.{most_clauses};
-ghost use Rattle.dd_problem.specs.TorusPeriods.{AreTorusPeriods};
+ghost use Rattle.dd_boxes.specs.TorusPeriods.{AreTorusPeriods};
 ghost use Rattle.dd_counter.specs.Weights.{weight_count};
 ghost use Rattle.dd_counter.specs.Least.{greatest, IsLiving, IsLeast};
 ghost use Rattle.dd_counter.specs.searching.Lighter.{IsLighter};
@@ -49,7 +49,7 @@ fn search_below(
     weights: &[u32],
     below: u64,
 ) -> Result<Lighter, AllocError>
-    requires periods { AreTorusPeriods rule.now (periods_of periods 0) }
+    requires periods { AreTorusPeriods rule.now.dimension rule.now.nodes (periods_of periods 0) }
     requires weights { length weights.now ≡ rule.now.symbols }
     requires count { weight_count rule.now (periods_of periods 0) weights.now below ≤ most_clauses }
     ensures { IfOk result (IsLighter rule.now (periods_of periods 0) weights.now below) }
@@ -81,7 +81,7 @@ fn descended(
     weights: &[u32],
     start: Periodic,
 ) -> Result<Periodic, AllocError>
-    requires periods { AreTorusPeriods rule.now (periods_of periods 0) }
+    requires periods { AreTorusPeriods rule.now.dimension rule.now.nodes (periods_of periods 0) }
     requires weights { length weights.now ≡ rule.now.symbols }
     requires small { All (λ w. w ≤ most_weight) weights.now }
     requires count { weight_count rule.now (periods_of periods 0) weights.now
@@ -114,7 +114,7 @@ pub fn least_weight(
     periods: [u32; 3],
     weights: &[u32],
 ) -> Result<LeastWeight, AllocError>
-    requires periods { AreTorusPeriods rule.now (periods_of periods 0) }
+    requires periods { AreTorusPeriods rule.now.dimension rule.now.nodes (periods_of periods 0) }
     requires weights { length weights.now ≡ rule.now.symbols }
     requires small { All (λ w. w ≤ most_weight) weights.now }
     requires count { weight_count rule.now (periods_of periods 0) weights.now

@@ -2,10 +2,9 @@
 use Rattle.std.specs.Prelude.{ℕ, ◌≡◌, ◌≤◌, ◌*◌, List, [], ◌∷◌, map, slice_get, slice_index}
 use Rattle.std.specs.{List.zip, Option.option_map_or}
 use Rattle.dd_query.specs.Tree.{Word, Name, Role, Vector, Request, Context}
-use Rattle.dd_pattern.specs.Periods.{periods_of, periods_volume, ArePeriodsIn}
 use Rattle.dd_written.specs.Values.{written_value}
 use Rattle.dd_commands.specs.Table.{row}
-use Rattle.dd_known.specs.{Known.named, Limits.longest_strip, Limits.most_in_box}
+use Rattle.dd_known.specs.{Known.named, Limits.longest_strip}
 use Rattle.dd_faults.specs.{Names.number_in, Commands.period_at}
 
 -- the number of what a word names, among what has its role
@@ -29,12 +28,6 @@ strip_periods bytes (v ∷ vs) = period_at bytes v 0 ∷ period_at bytes v 1 ∷
 abbrev pub torus_periods : List ℕ → List Vector → List ℕ
 torus_periods bytes [] = 1 ∷ 1 ∷ 1 ∷ []
 torus_periods bytes (v ∷ vs) = period_at bytes v 0 ∷ period_at bytes v 1 ∷ period_at bytes v 2 ∷ []
-
--- The periods of a torus in d dimensions: from 1 on, and 1 along an axis that there is not. Over so many nodes its fundamental box has
--- no more cells than the box of a configuration.
-pub record AreTorusPeriods (d nodes : ℕ) (along : List ℕ) : Type 0 where
-  pub periods : ArePeriodsIn d (periods_of along 0)
-  pub few : periods_volume (periods_of along 0) * nodes ≤ most_in_box
 
 -- the periods of a strip in d dimensions: from 1 on within the limit, and 1 along an axis that there is not
 pub record AreStripPeriods (d : ℕ) (strip : List ℕ) : Type 0 where
