@@ -8,4 +8,4 @@ pub search_below-requires-clause-count : goal.search_below-requires-clause-count
 search_below-requires-clause-count c =
     count_less c.args.rule.now (periods_of c.args.periods 0) c.args.weights.now c.max-below.result c.loop-weight.weight 2000000 (grind arith)
     (room_at c.args.rule.now (periods_of c.args.periods 0) c.args.weights.now c.loop-weight.best c.loop-weight.weight 2000000 c.loop-weight.invariant.lives c.loop-weight.invariant.weighs
-        c.requires.count)
+    c.requires.count)
