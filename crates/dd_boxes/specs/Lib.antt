@@ -6,6 +6,8 @@ pub mod Fillings
 pub mod Boxes
 -- cells at positions
 pub mod Cells
+-- which periods a torus may have
+pub mod TorusPeriods
 -- fillings and periodic configurations that show a goal
 pub mod Witnesses
 -- what one box says about every box, filling and configuration

@@ -1,5 +1,6 @@
 -- Fillings of a box and periodic configurations that have a goal at the origin.
 use Rattle.std.specs.Prelude.{ℕ, ◌≡◌}
+use Rattle.dd_values.specs.Bounds.{greatest_period}
 use Rattle.dd_pattern.specs.Reading.{Look}
 use Rattle.dd_pattern.specs.declared.periods.Periods.{Periods}
 use Rattle.dd_pattern.specs.Periods.{AreWithin}
@@ -28,9 +29,6 @@ pub record IsWitness (x : LocalRule) (g : GoalOf) (t : Tile) : Type 0 where
 abbrev pub HasPeriods : Periods → Tile → Type 0
 HasPeriods p t = t.periods ≡ p
 
--- the greatest period along an axis that a question asks for
-abbrev pub most_period : ℕ
-most_period = 8
-
+-- periods that a question may ask for
 abbrev pub ArePeriods : ℕ → Periods → Type 0
-ArePeriods d p = AreWithin d most_period p
+ArePeriods d p = AreWithin d greatest_period p

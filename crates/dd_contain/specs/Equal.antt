@@ -1,5 +1,6 @@
 -- Whether two rules allow the same configurations.
 use Rattle.std.specs.Prelude.{ℕ, ◌≡◌}
+use Rattle.dd_derivation.specs.Sizes.{AreNumbered}
 use Rattle.dd_formula.specs.LocalRule.{LocalRule}
 use Rattle.dd_boxes.specs.Goals.{breaks}
 use Rattle.dd_contain.specs.declared.decision.Decision.{Decision}
@@ -8,7 +9,7 @@ use Rattle.dd_contain.specs.declared.equal.Half.TheVariants.{Left, Right}
 use Rattle.dd_contain.specs.declared.equal.Equality.{Equality}
 use Rattle.dd_contain.specs.declared.equal.Equality.TheVariants.{Yes as Same, No as Differ, Unknown as Open}
 use Rattle.dd_problem.specs.Problems.{box_problem}
-use Rattle.dd_contain.specs.Questions.{IsDecided, AreNumbered}
+use Rattle.dd_contain.specs.Questions.{IsDecided}
 
 -- the join of two answers: NO left if the left one is NO, or NO right if the right one is, or YES if both are
 abbrev pub joined : Decision → Decision → Equality

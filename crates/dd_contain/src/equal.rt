@@ -2,9 +2,9 @@
 //! other.
 ghost use Rattle.std.specs.Prelude.{◌≡◌, ◌≤◌, IfOk, OnOk};
 ghost use Rattle.dd_boxes.specs.Goals.{breaks, IsGoalFor};
+ghost use Rattle.dd_boxes.specs.Counts.{IsSmallQuestion};
 ghost use Rattle.dd_engines.specs.Rosters.{roster_seen};
 ghost use Rattle.dd_engines.specs.Rounds.{Kept, FirstAsked};
-ghost use Rattle.dd_contain.specs.Questions.{IsSmallQuestion};
 ghost use Rattle.dd_contain.specs.Equal.{joined, IsEqualDecided, HasBothNumbers};
 
 use crate::decision::{Decision, Enough};

@@ -2,12 +2,14 @@
 ghost use Rattle.std.specs.Prelude.{◌≡◌, ◌↔◌, ◌≤◌, true, IfOk, OnOk, IfSome};
 ghost use Rattle.dd_boxes.specs.Boxes.{Suffices};
 ghost use Rattle.dd_boxes.specs.Goals.{IsGoalFor};
+ghost use Rattle.dd_boxes.specs.Counts.{IsSmallQuestion};
 ghost use Rattle.dd_boxes.specs.Views.{goal_of};
 ghost use Rattle.dd_derivation.specs.Derivations.{refutes};
+ghost use Rattle.dd_derivation.specs.Sizes.{AreNumbered};
 ghost use Rattle.dd_engines.specs.Rosters.{roster_seen};
 ghost use Rattle.dd_engines.specs.Rounds.{Kept, FirstAsked};
 ghost use Rattle.dd_solver.specs.Answers.{IsAnswer, IsFound, IsRefuted, IsSatisfiable};
-ghost use Rattle.dd_contain.specs.Questions.{AreNumbered, RefutesByNumbers, ShowsAt, Displays, AsksRadius, AsksPeriods, IsSmallQuestion, IsDecided, HasNumbers};
+ghost use Rattle.dd_contain.specs.Questions.{RefutesByNumbers, ShowsAt, Displays, AsksRadius, AsksPeriods, IsDecided, HasNumbers};
 
 use crate::decision::Decision;
 use crate::search::{Questions, search};

@@ -14,7 +14,7 @@ use Rattle.dd_pattern.specs.Tile.{fundamental}
 use Rattle.dd_formula.specs.LocalRule.{LocalRule, IsRule}
 use Rattle.dd_boxes.specs.Goals.{always}
 use Rattle.dd_boxes.specs.Counts.{question_clauses}
-use Rattle.dd_problem.specs.TorusPeriods.{AreTorusPeriods}
+use Rattle.dd_boxes.specs.TorusPeriods.{AreTorusPeriods}
 use Rattle.dd_problem.specs.Problems.{torus_problem}
 use Rattle.dd_problem.specs.pushing.Near.{torus_layout}
 use Rattle.dd_problem.specs.lemmas.Counting.{variables_below}
@@ -28,7 +28,7 @@ volume_is : (d : ℕ) (p : Periods) → ArePeriodsIn d p → volume (fundamental
 volume_is d p ok = rw (span_is p.x ok.x_some, span_is p.y ok.y_some, span_is p.z ok.z_some) (product_turned p.x p.y p.z)
 
 -- the inputs are variables of the torus's clauses
-pub inputs_there : (x : LocalRule) (p : Periods) (ws : List ℕ) (cnf : ClauseList) (nodes : ℕ) → IsRule x → AreTorusPeriods x p → length ws ≡ x.symbols → cnf ≡ torus_problem x always p →
+pub inputs_there : (x : LocalRule) (p : Periods) (ws : List ℕ) (cnf : ClauseList) (nodes : ℕ) → IsRule x → AreTorusPeriods x.dimension x.nodes p → length ws ≡ x.symbols → cnf ≡ torus_problem x always p →
     nodes ≡ x.nodes → periods_volume p * nodes * length ws ≤ cnf.variables
 inputs_there x p ws cnf nodes rule ok same is known =
     subst (λ c. periods_volume p * nodes * length ws ≤ c.variables) (sym is)
@@ -47,8 +47,8 @@ exactly base cnf now new ws below cells c signals is count made said wide last =
     (last ∙ (ap (λ k. k.clauses ++ last_refused below signals) made ∙ ap (λ xs. (grown cnf all.gates).clauses ++ last_refused below xs) said))
     ∙ (ap (λ k. weighed cnf ws below k) count ∙ ap (λ k. weighed k ws below c) is)
 
--- what the list says
-pub shown : (x : LocalRule) (p : Periods) (ws : List ℕ) (below : ℕ) (new : ClauseList) → IsRule x → AreTorusPeriods x p → length ws ≡ x.symbols → new ≡ weight_problem x p ws below →
+-- and what it says
+pub shown : (x : LocalRule) (p : Periods) (ws : List ℕ) (below : ℕ) (new : ClauseList) → IsRule x → AreTorusPeriods x.dimension x.nodes p → length ws ≡ x.symbols → new ≡ weight_problem x p ws below →
     ShowsWeights new.clauses x p ws below
 shown x p ws below new rule ok same exact = subst (λ k. ShowsWeights k.clauses x p ws below) (sym exact) (weight_shows x p ws below rule ok same)
 

@@ -1,13 +1,13 @@
 -- The faults of commands, in the order of their text.
 use Rattle.std.specs.Prelude.{ℕ, ◌+◌, List, [], ◌++◌, length, Bool, false, not, ◌&&◌, ◌||◌, ◌==◌, nat_le, nat_lt}
 use Rattle.std.specs.{List.flat_map, List.list_any, List.zip, Option.option_map_or}
-use Rattle.dd_values.specs.Bounds.{most_weight, most_commands, widest_radius}
+use Rattle.dd_values.specs.Bounds.{most_weight, most_commands, widest_radius, greatest_radius, greatest_period, most_pivots}
 use Rattle.dd_faults.specs.Tree.{Kind, Word, Number, Name, Role, Lists, Entry, Vector, Edge, Case, Request, Command, Written, Limit, Fault, Known, Context}
 use Rattle.dd_topology.specs.Builtin.{grid_of}
 use Rattle.dd_written.specs.Values.{written_value}
 use Rattle.dd_commands.specs.Table.{row}
 use Rattle.dd_known.specs.Known.{dimension_of, named}
-use Rattle.dd_known.specs.Limits.{most_axes, most_nodes, most_symbols, most_edges, most_in_box, most_vectors, longest_strip, greatest_radius, greatest_period, most_pivots}
+use Rattle.dd_known.specs.Limits.{most_axes, most_nodes, most_symbols, most_edges, most_in_box, most_vectors, longest_strip}
 use Rattle.dd_faults.specs.{Order.when, Order.over, Formulas.formula_faults}
 pub use Rattle.dd_faults.specs.Numbers.{unless, token_faults, entry_number, entry_value, signed_value, has_entries, is_far}
 pub use Rattle.dd_faults.specs.Boxes.{HasSets, is_allowed, symbol_faults, product, cells_of, period_at, shear_of, shear_fits, box_fits, box_faults}

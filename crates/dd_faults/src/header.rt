@@ -9,8 +9,9 @@ use crate::fault::{Found, Limit, note_over};
 use crate::names::note_missing;
 use crate::numbers::{has_entries, is_far, note_unless};
 use dd_commands::Edge;
-use dd_known::{Context, GREATEST_PERIOD, GREATEST_RADIUS, Known, MOST_PIVOTS};
+use dd_known::{Context, Known};
 use dd_topology::{Kind, Topology};
+use dd_values::{GREATEST_PERIOD, GREATEST_RADIUS, MOST_PIVOTS};
 use dd_written::{Name, Number, Text, name_text, number_value};
 use std::alloc::{AllocError, Global};
 

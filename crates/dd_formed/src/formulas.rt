@@ -3,19 +3,16 @@ ghost use Rattle.std.specs.Prelude.{◌≡◌, ◌+◌, ◌<◌, ◌^◌, ◌↔
 ghost use Rattle.std.specs.List.{list_all};
 ghost use Rattle.dd_expansion.specs.Limits.{term_fits, ball_fits, balls_fit, formula_fits, depth, IsFormula};
 
-use crate::depth::is_shallow;
+use crate::depth::keeps_depth;
 use dd_expansion::{BallOf, Formula, Term};
 use dd_topology::Topology;
 
-/// The greatest number of moves of a term and of balls of a quantifier, the greatest radius of a ball, and the greatest
-/// depth of a formula.
+/// The greatest number of moves of a term, and of balls of a quantifier, and the greatest radius of a ball.
 const MOST_MOVES: usize = 16;
 
 const MOST_BALLS: usize = 4;
 
 const WIDEST_RADIUS: u32 = 3;
-
-const MOST_NESTED: u32 = 64;
 
 /// What formulas may name: the labels and nodes of a topology, and symbols.
 #[derive(Drop)]
@@ -134,5 +131,5 @@ pub fn is_formula(topology: &Topology, labels: u32, symbols: u32, formula: &Form
         labels,
         symbols,
     };
-    is_shallow(formula, MOST_NESTED) && language.fits(1, formula)
+    keeps_depth(formula) && language.fits(1, formula)
 }

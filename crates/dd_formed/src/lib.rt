@@ -7,4 +7,5 @@ mod depth;
 mod formulas;
 
 pub use automata::{CommonNumbers, is_automaton};
+pub use depth::keeps_depth;
 pub use formulas::is_formula;

@@ -47,13 +47,3 @@ farthest = 4
 -- the greatest period of a strip
 abbrev pub longest_strip : ℕ
 longest_strip = 64
-
--- the greatest radius, period and number of pivots that `limits` may set
-abbrev pub greatest_radius : ℕ
-greatest_radius = 8
-
-abbrev pub greatest_period : ℕ
-greatest_period = 8
-
-abbrev pub most_pivots : ℕ
-most_pivots = 100000

@@ -36,14 +36,5 @@ pub const FARTHEST: u32 = 4;
 /// The greatest period of a strip.
 pub const LONGEST_STRIP: u32 = 64;
 
-/// The greatest radius that `limits` may set.
-pub const GREATEST_RADIUS: u32 = 8;
-
-/// The greatest period that `limits` may set.
-pub const GREATEST_PERIOD: u32 = 8;
-
-/// The greatest number of pivots that `limits` may set.
-pub const MOST_PIVOTS: u32 = 100_000;
-
-/// More names or symbols than any script contains.
+/// More names or symbols than any script has.
 pub const TOO_MANY: usize = 4_000_000;

@@ -3,7 +3,6 @@
 //! automaton after another isn't the identity.
 #![tactic(auto)]
 
-mod depth;
 mod guarded;
 mod pairs;
 

@@ -11,18 +11,15 @@ ghost use Rattle.dd_maps.specs.Pairs.{IsRuleOver, own_symbol, marked, always_zer
 ghost use Rattle.dd_maps.specs.Images.{DifferAt, BreaksAt, ChangesAt, HasSymbolAt, Differ, ImageBreaks, Changes, HasSymbols};
 ghost use Rattle.dd_maps.specs.Refusals.{PassesGuard, IsMarkedFault, IsImageFault};
 
-use crate::depth::depth;
 use crate::guarded::{guarded, symbol_is};
+use dd_formed::keeps_depth;
 use dd_formula::{Automaton, Formula, Rule, RuleFault};
 use dd_topology::{Sets, Topology};
 use std::alloc::{AllocError, Global};
 
-/// How deep a formula is at most.
-const MOST_NESTED: u32 = 64;
-
-/// The automaton that gives 0 where the rule is true and the symbol is allowed, else 1. Its one case is the guarded
-/// formula: the rule's formula, with a guard for each node that doesn't allow some symbol. The guard says that the cell
-/// doesn't have this node, or has a symbol that the node allows.
+/// The automaton that gives 0 where the rule is true and the symbol is allowed, else 1. It has one case, the guarded
+/// formula: the rule's formula, and for each node that doesn't allow some symbol a part that says that the cell doesn't have
+/// this node or has one of the symbols that the node allows. Where every node allows all symbols, it is the rule's formula.
 ///
 /// # Errors
 /// `Depth` where the guarded formula is more than 64 deep; else `Instances` where the automaton has more than 20,000
@@ -43,7 +40,7 @@ pub fn marked(
     ensures fault { IfErr result (IsMarkedFault topology.now sets.now rule.now) }
 {
     let formula = guarded(alloc, sets, rule)?;
-    if depth(&formula) > MOST_NESTED {
+    if !keeps_depth(&formula) {
         return Err(RuleFault::Depth);
     }
     let cases = [(formula, 0)];

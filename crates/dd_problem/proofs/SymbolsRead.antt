@@ -13,7 +13,7 @@ use Rattle.dd_expansion.specs.Truth.{is_symbol}
 use Rattle.dd_formula.specs.LocalRule.{LocalRule, IsRule}
 use Rattle.dd_formula.specs.Living.{Fits}
 use Rattle.dd_boxes.specs.Witnesses.{HasPeriods}
-use Rattle.dd_problem.specs.TorusPeriods.{AreTorusPeriods}
+use Rattle.dd_boxes.specs.TorusPeriods.{AreTorusPeriods}
 use Rattle.dd_problem.specs.lemmas.Filtered.{some_same}
 use Rattle.dd_problem.specs.lemmas.TorusLayout.{torus_of, torus_is_periodic}
 use Rattle.dd_problem.proofs.TorusCalls.{tile_ok}
@@ -74,7 +74,7 @@ pub made_is : {B : Type 0} (r : Result Tile B) (o : Option Tile) (t u : Tile) (S
 made_is (Ok a) o t u S h ok is = some_same t a (sym is ∙ ok) ∙ h.0
 made_is (Err e) o t u S h ok is = absurd (let no : Some t ≡ None = sym is ∙ ok in cc)
 
-module _ (x : LocalRule) (periods : Periods) (rule : IsRule x) (ok : AreTorusPeriods x periods) where
+module _ (x : LocalRule) (periods : Periods) (rule : IsRule x) (ok : AreTorusPeriods x.dimension x.nodes periods) where
   read_is : (d nodes : ℕ) (items : List ℕ) → d ≡ x.dimension → nodes ≡ x.nodes → tile d periods nodes items ≡ torus_of x periods items
   read_is d nodes items dim same = ap (λ k. tile k periods nodes items) dim ∙ ap (λ k. tile x.dimension periods k items) same
 

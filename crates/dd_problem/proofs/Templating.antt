@@ -30,7 +30,7 @@ use Rattle.dd_compile.specs.Templates.{RuleAt, rule_at}
 use Rattle.dd_compile.specs.lemmas.RuleWiring.{leaves_wired}
 use Rattle.dd_boxes.specs.Goals.{GoalOf}
 use Rattle.dd_boxes.specs.Counts.{question_clauses, most_clauses}
-use Rattle.dd_problem.specs.TorusPeriods.{AreTorusPeriods}
+use Rattle.dd_boxes.specs.TorusPeriods.{AreTorusPeriods}
 use Rattle.dd_problem.specs.Clauses.{input}
 use Rattle.dd_boxes.specs.Cells.{box_cells}
 use Rattle.dd_problem.specs.Layouts.{nth_cell, cells_in, torus_cells}
@@ -154,7 +154,7 @@ near_torus x p v sizes h =
 ordered_torus : (p : Periods) → IsAtMostOnEachAxis (fundamental p).low (fundamental p).high
 ordered_torus p = record { on_x = omega (arith, ints); on_y = omega (arith, ints); on_z = omega (arith, ints) }
 
-pub torus_near : (x : LocalRule) (p : Periods) (cells : List Cell) → IsRule x → AreTorusPeriods x p → cells ≡ torus_cells x p → All (λ (d : Cell). extent d.position ≤ 1048560) cells
+pub torus_near : (x : LocalRule) (p : Periods) (cells : List Cell) → IsRule x → AreTorusPeriods x.dimension x.nodes p → cells ≡ torus_cells x p → All (λ (d : Cell). extent d.position ≤ 1048560) cells
 torus_near x p cells rule ok read =
     let b = fundamental p in
     subst (All (λ (d : Cell). extent d.position ≤ 1048560)) (sym read)

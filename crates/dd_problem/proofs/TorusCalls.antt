@@ -19,7 +19,7 @@ use Rattle.dd_compile.specs.Wiring.{Wiring}
 use Rattle.dd_formula.specs.LocalRule.{LocalRule, IsRule}
 use Rattle.dd_boxes.specs.Goals.{GoalOf}
 use Rattle.dd_boxes.specs.Counts.{question_clauses, most_clauses}
-use Rattle.dd_problem.specs.TorusPeriods.{AreTorusPeriods}
+use Rattle.dd_boxes.specs.TorusPeriods.{AreTorusPeriods}
 use Rattle.dd_problem.specs.pushing.Told.{IsToldGoal}
 use Rattle.dd_problem.specs.Layouts.{cells_in, torus_cells}
 use Rattle.dd_problem.specs.pushing.Near.{torus_layout}
@@ -40,7 +40,7 @@ use Rattle.dd_problem.proofs.TorusInputs.{numbers_tile, number_is, torus_values,
 abbrev pub IsFew : LocalRule → GoalOf → Periods → Type 0
 IsFew x g periods = question_clauses x g (periods_volume periods) ≤ most_clauses
 
-module _ (x : LocalRule) (periods : Periods) (rule : IsRule x) (ok : AreTorusPeriods x periods) where
+module _ (x : LocalRule) (periods : Periods) (rule : IsRule x) (ok : AreTorusPeriods x.dimension x.nodes periods) where
   volume_is : box_volume (fundamental periods) ≡ periods_volume periods
   volume_is =
       rw (span_is periods.x ok.periods.x_some, span_is periods.y (ok.periods.y_some), span_is periods.z (ok.periods.z_some))
@@ -102,7 +102,7 @@ module _ (x : LocalRule) (periods : Periods) (rule : IsRule x) (ok : AreTorusPer
       omega (arith, row, all)
 
 -- what the premise and the goal read
-module _ (x : LocalRule) (periods : Periods) (rule : IsRule x) (ok : AreTorusPeriods x periods) (g : GoalOf) (good : IsToldGoal x g) where
+module _ (x : LocalRule) (periods : Periods) (rule : IsRule x) (ok : AreTorusPeriods x.dimension x.nodes periods) (g : GoalOf) (good : IsToldGoal x g) where
   abbrev near : List Cell
   near = near_cells x g (torus_cells x periods)
 

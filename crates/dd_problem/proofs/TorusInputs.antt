@@ -27,7 +27,7 @@ use Rattle.dd_boxes.specs.Boxes.{origin, goal_reach, Reaches}
 use Rattle.dd_boxes.specs.Fillings.{in_box, is_box_cell, is_cell_within}
 use Rattle.dd_boxes.specs.lemmas.RuleLaws.{shifted_by_origin, list_all_weaker}
 use Rattle.dd_boxes.specs.lemmas.FromBox.{box_alike, box_over}
-use Rattle.dd_problem.specs.TorusPeriods.{AreTorusPeriods}
+use Rattle.dd_boxes.specs.TorusPeriods.{AreTorusPeriods}
 use Rattle.dd_problem.specs.pushing.Told.{IsToldGoal}
 use Rattle.dd_problem.specs.Layouts.{torus, torus_cells}
 use Rattle.dd_problem.specs.Clauses.{input}
@@ -53,7 +53,7 @@ axis_in_range a b near wide = (omega (arith, ints), omega (arith, ints))
 pub sum_in_range : (p v : Place) → extent p ≤ 16 → extent v ≤ 1048560 → IsInRange (moved p v)
 sum_in_range p v near wide = (axis_in_range p.x v.x (omega arith) (omega arith), axis_in_range p.y v.y (omega arith) (omega arith), axis_in_range p.z v.z (omega arith) (omega arith))
 
-module _ (x : LocalRule) (periods : Periods) (rule : IsRule x) (ok : AreTorusPeriods x periods) where
+module _ (x : LocalRule) (periods : Periods) (rule : IsRule x) (ok : AreTorusPeriods x.dimension x.nodes periods) where
   pub numbers_tile : IsPeriodic (numbered_tile x periods)
   numbers_tile = torus_is_periodic x periods (range_with_len 0 (torus_size x periods)) rule ok (length-range_with_len 0 (torus_size x periods))
 
@@ -65,7 +65,7 @@ module _ (x : LocalRule) (periods : Periods) (rule : IsRule x) (ok : AreTorusPer
       omega (arith, at)
 
 -- what a question reads has its inputs
-module _ (x : LocalRule) (periods : Periods) (rule : IsRule x) (ok : AreTorusPeriods x periods) (g : GoalOf) (good : IsToldGoal x g) where
+module _ (x : LocalRule) (periods : Periods) (rule : IsRule x) (ok : AreTorusPeriods x.dimension x.nodes periods) (g : GoalOf) (good : IsToldGoal x g) where
   abbrev near : List Cell
   near = near_cells x g (torus_cells x periods)
 

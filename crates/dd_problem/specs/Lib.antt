@@ -1,7 +1,5 @@
 -- which cells have inputs
 pub mod Layouts
--- which periods a torus may have
-pub mod TorusPeriods
 -- the clauses over them
 pub mod Clauses
 -- the gates that say that the values of two automata at a cell are different

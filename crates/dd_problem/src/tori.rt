@@ -16,7 +16,7 @@ ghost use Rattle.dd_boxes.specs.Cells.{box_cells};
 ghost use Rattle.dd_boxes.specs.Goals.{IsGoalFor};
 ghost use Rattle.dd_boxes.specs.Counts.{question_clauses, most_clauses};
 ghost use Rattle.dd_boxes.specs.Views.{goal_of};
-ghost use Rattle.dd_problem.specs.TorusPeriods.{AreTorusPeriods};
+ghost use Rattle.dd_boxes.specs.TorusPeriods.{AreTorusPeriods};
 ghost use Rattle.dd_problem.specs.Layouts.{torus_cells};
 ghost use Rattle.dd_problem.specs.Problems.{torus_problem};
 ghost use Rattle.dd_problem.specs.pushing.Near.{near_cells, number_at, numbered_by, numbered_tile, torus_inputs};
@@ -148,7 +148,7 @@ fn counted(alloc: Global, count: u32) -> Result<Vec<u32>, AllocError>
 
 /// The configuration of these periods in which each cell of the fundamental box has its number, from 0 in cell order.
 fn numbering(alloc: Global, premise: &Rule, periods: &Periods) -> Result<Periodic, AllocError>
-    requires { AreTorusPeriods premise.now periods.now }
+    requires { AreTorusPeriods premise.now.dimension premise.now.nodes periods.now }
     ensures { IfOk result (λ t. t ≡ numbered_tile premise.now periods.now) }
 {
     let nodes = premise.nodes();
@@ -172,7 +172,7 @@ fn torus_inputs(
 ) -> Result<Inputs, AllocError>
     requires goal { IsToldGoal premise.now (goal_of premise.now goal.now) }
     requires cells { cells.now ≡ torus_cells premise.now periods.now }
-    requires periods { AreTorusPeriods premise.now periods.now }
+    requires periods { AreTorusPeriods premise.now.dimension premise.now.nodes periods.now }
     ensures { IfOk result (λ inputs. inputs ≡ torus_inputs premise.now (goal_of premise.now goal.now) periods.now) }
 {
     let symbols = premise.symbols();
@@ -192,7 +192,7 @@ pub fn torus_clauses(
     shear: u32,
 ) -> Result<Cnf, AllocError>
     requires goal { IsGoalFor premise.now (goal_of premise.now goal.now) }
-    requires periods { AreTorusPeriods premise.now (periods_of periods shear) }
+    requires periods { AreTorusPeriods premise.now.dimension premise.now.nodes (periods_of periods shear) }
     requires few { question_clauses premise.now (goal_of premise.now goal.now) (periods_volume (periods_of periods shear)) ≤ most_clauses }
     ensures exact { IfOk result (λ cnf. cnf ≡ torus_problem premise.now (goal_of premise.now goal.now) (periods_of periods shear)) }
     ensures shows { IfOk result (λ cnf. ShowsTorus cnf.clauses premise.now (goal_of premise.now goal.now) (periods_of periods shear)) }

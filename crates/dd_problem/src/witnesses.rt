@@ -5,7 +5,7 @@ ghost use Rattle.dd_pattern.specs.Periods.{periods_of, periods_volume};
 ghost use Rattle.dd_pattern.specs.Tile.{Tile};
 ghost use Rattle.dd_formula.specs.Living.{Fits};
 ghost use Rattle.dd_boxes.specs.Witnesses.{HasPeriods};
-ghost use Rattle.dd_problem.specs.TorusPeriods.{AreTorusPeriods};
+ghost use Rattle.dd_boxes.specs.TorusPeriods.{AreTorusPeriods};
 ghost use Rattle.dd_problem.specs.Symbols.{AreAllRead, AreRead, HasOneEach, IsSymbolRead};
 
 use dd_clause::Assignment;
@@ -59,7 +59,7 @@ pub fn read_torus(
     shear: u32,
     found: &Assignment,
 ) -> Result<Periodic, AllocError>
-    requires periods { AreTorusPeriods premise.now (periods_of periods shear) }
+    requires periods { AreTorusPeriods premise.now.dimension premise.now.nodes (periods_of periods shear) }
     requires one_each { HasOneEach (true_variables found.now) premise.now.symbols (periods_volume (periods_of periods shear) * premise.now.nodes) }
     ensures read { IfOk result (λ t. AreRead (true_variables found.now) premise.now.symbols t.symbols) }
     ensures periods { IfOk result (λ t. HasPeriods (periods_of periods shear) t) }

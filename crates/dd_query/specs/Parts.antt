@@ -2,10 +2,9 @@
 use Rattle.std.specs.Prelude.{ℕ, ◌≡◌, ◌≤◌, ◌*◌, List, [], ◌∷◌, map, slice_get, slice_index}
 use Rattle.std.specs.{List.zip, Option.option_map_or}
 use Rattle.dd_query.specs.Tree.{Word, Name, Role, Vector, Request, Context}
-use Rattle.dd_pattern.specs.Periods.{periods_of, periods_volume, ArePeriodsIn}
 use Rattle.dd_written.specs.Values.{written_value}
 use Rattle.dd_commands.specs.Table.{row}
-use Rattle.dd_known.specs.{Known.named, Limits.longest_strip, Limits.most_in_box}
+use Rattle.dd_known.specs.{Known.named, Limits.longest_strip}
 use Rattle.dd_faults.specs.{Names.number_in, Commands.period_at}
 
 -- the index of what a word names, among the things with its role
@@ -30,13 +29,7 @@ abbrev pub torus_periods : List ℕ → List Vector → List ℕ
 torus_periods bytes [] = 1 ∷ 1 ∷ 1 ∷ []
 torus_periods bytes (v ∷ vs) = period_at bytes v 0 ∷ period_at bytes v 1 ∷ period_at bytes v 2 ∷ []
 
--- The periods of a torus in d dimensions: at least 1, and 1 along a missing axis. With this many nodes its fundamental box has
--- no more cells than the box of a configuration may have.
-pub record AreTorusPeriods (d nodes : ℕ) (along : List ℕ) : Type 0 where
-  pub periods : ArePeriodsIn d (periods_of along 0)
-  pub few : periods_volume (periods_of along 0) * nodes ≤ most_in_box
-
--- the periods of a strip in d dimensions: from 1 up to the limit, and 1 along a missing axis
+-- the periods of a strip in d dimensions: from 1 on within the limit, and 1 along an axis that there is not
 pub record AreStripPeriods (d : ℕ) (strip : List ℕ) : Type 0 where
   pub second : (1 ≤ slice_index strip 0) × (slice_index strip 0 ≤ longest_strip)
   pub third : (1 ≤ slice_index strip 1) × (slice_index strip 1 ≤ longest_strip)

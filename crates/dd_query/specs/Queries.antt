@@ -1,9 +1,11 @@
 -- Queries from their syntax trees, and what holds of each.
 use Rattle.std.specs.Prelude.{◌<◌, ◌≤◌, length, map}
 use Rattle.dd_values.specs.Bounds.{widest_radius}
+use Rattle.dd_pattern.specs.Periods.{periods_of}
 use Rattle.dd_boxes.specs.Discharges.{AreVectors}
+use Rattle.dd_boxes.specs.TorusPeriods.{AreTorusPeriods}
 use Rattle.dd_query.specs.Tree.{QueryKind, Request, Known, Context}
-use Rattle.dd_query.specs.{Vectors.place_of, Parts.word_at, Parts.value_at, Parts.strip_periods, Parts.AreStripPeriods, Parts.torus_periods, Parts.AreTorusPeriods}
+use Rattle.dd_query.specs.{Vectors.place_of, Parts.word_at, Parts.value_at, Parts.strip_periods, Parts.AreStripPeriods, Parts.torus_periods}
 use Rattle.dd_query.specs.declared.queries.Query.{Query}
 
 -- the query with this syntax tree, by its kind
@@ -38,6 +40,6 @@ IsQueryWithin k (Query.Conjugate there back from to) =
 IsQueryWithin k (Query.Forbidden rule) = rule < length k.rules
 IsQueryWithin k (Query.Minimal rule) = rule < length k.rules
 IsQueryWithin k (Query.Density rule strip) = (rule < length k.rules) × AreStripPeriods k.setting.topology.dimension strip
-IsQueryWithin k (Query.Least rule periods) = (rule < length k.rules) × AreTorusPeriods k.setting.topology.dimension (length k.setting.nodes) periods
+IsQueryWithin k (Query.Least rule periods) = (rule < length k.rules) × AreTorusPeriods k.setting.topology.dimension (length k.setting.nodes) (periods_of periods 0)
 IsQueryWithin k (Query.Discharge rule radius margin vectors) =
     (rule < length k.rules) × (radius ≤ widest_radius) × (margin ≤ widest_radius) × AreVectors k.setting.topology.dimension vectors

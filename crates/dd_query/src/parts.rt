@@ -1,9 +1,11 @@
 //! The words, numbers and vectors of a query, with indices in place of names.
 ghost use Rattle.std.specs.Prelude.{◌≡◌, ◌≤◌, false, length, map, min, IfOk};
 ghost use Rattle.std.specs.List.{list_any};
+ghost use Rattle.dd_pattern.specs.Periods.{periods_of};
+ghost use Rattle.dd_boxes.specs.TorusPeriods.{AreTorusPeriods};
 ghost use Rattle.dd_faults.specs.Commands.{is_far};
 ghost use Rattle.dd_query.specs.Vectors.{place_of};
-ghost use Rattle.dd_query.specs.Parts.{word_at, value_at, strip_periods, AreStripPeriods, torus_periods, AreTorusPeriods};
+ghost use Rattle.dd_query.specs.Parts.{word_at, value_at, strip_periods, AreStripPeriods, torus_periods};
 
 use crate::vectors::position_of;
 use dd_commands::{Request, Vector};
@@ -48,7 +50,8 @@ pub(crate) fn strip_of(context: &Context, vectors: &[Vector]) -> [u32; 2]
 /// The periods of a torus along the three axes.
 pub(crate) fn torus_of(context: &Context, vectors: &[Vector]) -> [u32; 3]
     requires nodes { 1 ≤ length context.now.known.setting.nodes }
-    requires periods { AreTorusPeriods context.now.known.setting.topology.dimension (length context.now.known.setting.nodes) (torus_periods context.now.text vectors.now) }
+    requires periods { AreTorusPeriods context.now.known.setting.topology.dimension (length context.now.known.setting.nodes)
+        (periods_of (torus_periods context.now.text vectors.now) 0) }
     ensures { result ≡ torus_periods context.now.text vectors.now }
 {
     let text = &context.text;

@@ -19,7 +19,7 @@ use Rattle.dd_question.specs.Boxes.{is_long, IsFormedBox, IsAskable, IsSoundBox}
 use Rattle.dd_question.specs.Conjugacies.{ConjugacyOf, is_some_long, IsPart, EachPart, conjugacy_of}
 use Rattle.dd_question.specs.Lists.{has_many_patterns, HasFewPatterns}
 use Rattle.dd_question.specs.Densities.{has_many_states, strip_volume, IsNarrow}
-use Rattle.dd_question.specs.Tori.{IsTorus, is_heavy, IsWeighable}
+use Rattle.dd_question.specs.Tori.{is_heavy, IsWeighable}
 use Rattle.dd_question.specs.Discharges.{IsDischargeable, IsDischargeFault}
 
 pub data Asked : Type 0 where
@@ -76,7 +76,7 @@ IsFormed (listing x) = IsRule x
 IsFormed (smallest x) = IsRule x
 IsFormed (conjugacy c) = EachPart IsFormedBox c
 IsFormed (density x strip ws) = IsRule x × IsStrip x strip × HasWeights x ws
-IsFormed (least x along ws) = IsRule x × IsTorus x along × HasWeights x ws
+IsFormed (least x along ws) = IsRule x × AreTorusPeriods x.dimension x.nodes (periods_of along 0) × HasWeights x ws
 IsFormed (discharge x radius margin vs ws) = IsRule x × IsDischargeable x radius margin vs ws
 
 -- the first of its parts, in this order, that doesn't fit those before it; memory may run out at any
@@ -89,8 +89,8 @@ pub data IsPartFault : Asked → QuestionFault → Type 0 where
       IsPartFault (conjugacy c) f
   strip_fault : {x : LocalRule} {periods ws : List ℕ} → ¬ IsStrip x periods → IsPartFault (density x periods ws) fault.Strip
   weights_fault : {x : LocalRule} {periods ws : List ℕ} → IsStrip x periods → ¬ HasWeights x ws → IsPartFault (density x periods ws) fault.Weights
-  periods_fault : {x : LocalRule} {along ws : List ℕ} → ¬ IsTorus x along → IsPartFault (least x along ws) fault.Periods
-  symbol_weights_fault : {x : LocalRule} {along ws : List ℕ} → IsTorus x along → ¬ HasWeights x ws → IsPartFault (least x along ws) fault.Weights
+  periods_fault : {x : LocalRule} {along ws : List ℕ} → ¬ AreTorusPeriods x.dimension x.nodes (periods_of along 0) → IsPartFault (least x along ws) fault.Periods
+  symbol_weights_fault : {x : LocalRule} {along ws : List ℕ} → AreTorusPeriods x.dimension x.nodes (periods_of along 0) → ¬ HasWeights x ws → IsPartFault (least x along ws) fault.Weights
   discharge_fault : {x : LocalRule} {radius margin : ℕ} {vs : List Place} {ws : List ℕ} {f : QuestionFault} → IsDischargeFault x radius margin vs ws f →
       IsPartFault (discharge x radius margin vs ws) f
   memory_fault : {a : Asked} → IsPartFault a fault.Memory

@@ -1,6 +1,5 @@
-//! Checks of questions: the limits, whether the parts fit together, and whether a question passes a limit on its work.
-ghost use Rattle.std.specs.Prelude.{◌≡◌, ◌↔◌, IsTrue, IfOk, IfErr, OnOk};
-ghost use Rattle.dd_values.specs.Ranges.{AreLimits};
+//! Questions are checked: the limits, whether the parts go together, and the limit on its work that a question passes.
+ghost use Rattle.std.specs.Prelude.{◌≡◌, IfOk, IfErr, OnOk};
 ghost use Rattle.dd_question.specs.Questions.{asked_of, IsFormed, IsPartFault};
 ghost use Rattle.dd_question.specs.Checked.{asked_within, IsFaultWithin};
 
@@ -14,22 +13,6 @@ use crate::question::Question;
 use crate::tori::check_least;
 use dd_values::Limits;
 use std::alloc::Global;
-
-/// The greatest radius of a box, the greatest period of a torus, and the greatest number of pivots.
-const MOST_RADIUS: u32 = 8;
-
-const MOST_PERIOD: u32 = 8;
-
-const MOST_PIVOTS: u32 = 100_000;
-
-fn are_limits(limits: &Limits) -> bool
-    ensures { IsTrue result ↔ AreLimits limits.now }
-{
-    limits.radius <= MOST_RADIUS
-        && 1 <= limits.period
-        && limits.period <= MOST_PERIOD
-        && limits.pivots <= MOST_PIVOTS
-}
 
 impl<'a> Question<'a> {
     /// Whether its parts fit together.
@@ -80,7 +63,7 @@ impl<'a> Question<'a> {
         ensures ok { IfOk result (λ question. question ≡ asked_within limits.now (asked_of self.entry)) }
         ensures fault { IfErr result (IsFaultWithin limits.now (asked_of self.entry)) }
     {
-        if !are_limits(limits) {
+        if !limits.are_in_range() {
             return Err(QuestionFault::Limits);
         }
         self.check_parts(alloc)?;

@@ -5,9 +5,10 @@ ghost use Rattle.dd_pattern.specs.Tile.{most_symbols};
 ghost use Rattle.dd_expansion.specs.Limits.{greatest};
 ghost use Rattle.dd_formula.specs.Counts.{cut};
 ghost use Rattle.dd_boxes.specs.Counts.{most_clauses};
+ghost use Rattle.dd_boxes.specs.TorusPeriods.{AreTorusPeriods};
 ghost use Rattle.dd_question.specs.Questions as asked;
 ghost use Rattle.dd_question.specs.Questions.{IsFormed, IsPartFault};
-ghost use Rattle.dd_question.specs.Tori.{positions_in, cells_in, IsTorus, weight_clauses, is_heavy};
+ghost use Rattle.dd_question.specs.Tori.{positions_in, cells_in, weight_clauses, is_heavy};
 
 use crate::aims::MOST_CLAUSES;
 use crate::fault::QuestionFault;
@@ -45,7 +46,7 @@ fn are_periods(dimension: u32, periods: [u32; 3]) -> bool
 
 /// Whether the rule may have a torus with these periods.
 fn is_torus(rule: &Rule, periods: [u32; 3]) -> bool
-    ensures { IsTrue result ↔ IsTorus rule.now periods }
+    ensures { IsTrue result ↔ AreTorusPeriods rule.now.dimension rule.now.nodes (periods_of periods 0) }
 {
     are_periods(rule.dim(), periods) && cells_in(MOST_CELLS, rule, periods) <= MOST_CELLS
 }

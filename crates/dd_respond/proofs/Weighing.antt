@@ -62,10 +62,10 @@ weight_small cells weight rest some few =
 
 module _ (fit : RefutationsFit) (x : LocalRule) (along ws : List ℕ) (rule : IsRule x) (weighable : IsWeighable x along ws) where
   some_cell : 1 ≤ periods_volume (periods_of along 0) * x.nodes
-  some_cell = let torus = weighable.torus in cells_some x (periods_of along 0) rule (record { periods = torus.periods; few = torus.few })
+  some_cell = cells_some x (periods_of along 0) rule weighable.torus
 
   refuted_fits : (w : ℕ) (steps : List Step) → IsRefutedBelow x (periods_of along 0) ws w steps → IsWritableRefutation steps
-  refuted_fits w steps h = fit (weight_problem x (periods_of along 0) ws w).variables (weight_problem x (periods_of along 0) ws w).clauses steps h.refuting h.variables h.numbers
+  refuted_fits w steps h = fit (weight_problem x (periods_of along 0) ws w).variables (weight_problem x (periods_of along 0) ws w).clauses steps h.refuting h.numbered.variables h.numbered.numbers
 
   below_fits : (w : ℕ) (t : Tile) (steps : List Step) → IsLeastShown x (periods_of along 0) ws w t steps → IsWritableBelow w steps
   below_fits w t steps h = elim (cases_lt 0 w) as (λ _. IsWritableBelow w steps) [

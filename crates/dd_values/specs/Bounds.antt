@@ -24,3 +24,13 @@ most_weight = 1000
 -- the greatest radius of a ball, and the greatest radius and margin of a discharge
 abbrev pub widest_radius : ℕ
 widest_radius = 3
+
+-- the greatest radius of a box, period of a torus and number of pivots that a script may have tried
+abbrev pub greatest_radius : ℕ
+greatest_radius = 8
+
+abbrev pub greatest_period : ℕ
+greatest_period = 8
+
+abbrev pub most_pivots : ℕ
+most_pivots = 100000

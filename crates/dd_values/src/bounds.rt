@@ -17,3 +17,12 @@ pub const MOST_WEIGHT: u32 = 1000;
 
 /// The greatest radius of a ball, and the greatest radius and margin of a discharge.
 pub const WIDEST_RADIUS: u32 = 3;
+
+/// The greatest radius of a box that a script may have tried.
+pub const GREATEST_RADIUS: u32 = 8;
+
+/// The greatest period of a torus that a script may have tried.
+pub const GREATEST_PERIOD: u32 = 8;
+
+/// The greatest number of pivots that a script may have tried.
+pub const MOST_PIVOTS: u32 = 100_000;

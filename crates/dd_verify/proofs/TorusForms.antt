@@ -1,7 +1,7 @@
 -- Answers to the question how little a fundamental box can weigh: their configurations, the size of their clauses, that an
 -- output can hold them, and what they claim.
 use Rattle.std.proofs.Common.{◌≡◌, ◌≢◌, ℕ, suc, ◌*◌, ◌<◌, ◌≤◌, Bool, true, List, [], ◌∷◌, length, inl, inr, refl, ap, sym, subst, ◌∙◌, arith}
-use Rattle.std.specs.Prelude.{◌↔◌, max}
+use Rattle.std.specs.Prelude.{◌↔◌}
 use Rattle.std.specs.List.{All}
 use Rattle.std.proofs.lemmas.Nat.{mul-le}
 use Rattle.dd_values.specs.Bounds.{most_weight}
@@ -18,16 +18,15 @@ use Rattle.dd_derivation.specs.Derivations.{IsRefuting}
 use Rattle.dd_boxes.specs.Goals.{always}
 use Rattle.dd_boxes.specs.Counts.{most_clauses}
 use Rattle.dd_boxes.specs.Witnesses.{IsWitness}
-use Rattle.dd_problem.specs.TorusPeriods.{AreTorusPeriods}
+use Rattle.dd_boxes.specs.TorusPeriods.{AreTorusPeriods}
 use Rattle.dd_counter.specs.Weights.{weight_problem, weight_count}
-use Rattle.dd_counter.specs.Least as counted
 use Rattle.dd_counter.specs.Laws.{SaysWeights}
 use Rattle.dd_counter.specs.lemmas.Counted.{weight_most}
 use Rattle.dd_counter.specs.lemmas.Rooms.{room_at}
 use Rattle.dd_certificate.specs.declared.answer.Answer.{Answer}
 use Rattle.dd_certificate.specs.declared.answer.Answer.TheVariants as answer
 use Rattle.dd_certificate.specs.Bounds.{IsWritable, IsWritableNumber, IsWritableList, IsWritableBelow, IsWritableRefutation}
-use Rattle.dd_question.specs.Tori.{IsTorus, IsWeighable}
+use Rattle.dd_question.specs.Tori.{IsWeighable}
 use Rattle.dd_verify.specs.Tori.{torus_tile, HasWeight, IsBoundedBy, IsTorusCertificate, torus_least, torus_none, TorusClaim, claims_least_on, claims_none_on}
 
 -- ---- the configuration
@@ -46,7 +45,7 @@ pub fits_torus : (x : LocalRule) (along symbols : List ℕ) → All (λ s. s < x
 fits_torus x along symbols below = record { dimension = refl; nodes = refl; symbols = below }
 
 -- it has few enough symbols
-pub torus_small : (x : LocalRule) (along symbols : List ℕ) → IsTorus x along → IsTile (torus_tile x along symbols) → IsPeriodic (torus_tile x along symbols)
+pub torus_small : (x : LocalRule) (along symbols : List ℕ) → AreTorusPeriods x.dimension x.nodes (periods_of along 0) → IsTile (torus_tile x along symbols) → IsPeriodic (torus_tile x along symbols)
 torus_small x along symbols torus is =
     record { tile = is; small = (let full = is.full in let few = torus.few in omega (arith, full, few)) }
 
@@ -67,17 +66,9 @@ weights_for x ws t weights fits =
 
 -- ---- the clauses
 
-pub torus_of : (x : LocalRule) (along : List ℕ) → IsTorus x along → AreTorusPeriods x (periods_of along 0)
-torus_of x along torus = record { periods = torus.periods; few = torus.few }
-
-same_greatest : (ws : List ℕ) → counted.greatest ws ≡ greatest ws
-same_greatest [] = refl
-same_greatest (w ∷ ws) = ap (max w) (same_greatest ws)
-
 room_most : (x : LocalRule) (along ws : List ℕ) → IsWeighable x along ws →
-    weight_count x (periods_of along 0) ws (periods_volume (periods_of along 0) * x.nodes * counted.greatest ws) ≤ most_clauses
-room_most x along ws weighable =
-    subst (λ g. weight_count x (periods_of along 0) ws (periods_volume (periods_of along 0) * x.nodes * g) ≤ most_clauses) (sym (same_greatest ws)) weighable.small
+    weight_count x (periods_of along 0) ws (periods_volume (periods_of along 0) * x.nodes * greatest ws) ≤ most_clauses
+room_most x along ws weighable = weighable.small
 
 pub room_of : (x : LocalRule) (along ws : List ℕ) (w : ℕ) (symbols : List ℕ) → IsWeighable x along ws → HasWeight x along ws w symbols →
     weight_count x (periods_of along 0) ws w ≤ most_clauses
@@ -109,11 +100,11 @@ no_torus x along ws a least_form none_form (torus_none h) = none_form _ refl
 
 -- ---- what an output can hold
 
-all_most : (ws : List ℕ) → All (λ w. w ≤ most_weight) ws → counted.greatest ws ≤ most_weight
+all_most : (ws : List ℕ) → All (λ w. w ≤ most_weight) ws → greatest ws ≤ most_weight
 all_most [] small = omega arith
 all_most (w ∷ ws) small =
     let first : w ≤ most_weight = small 0 w (omega arith) in
-    let rest : counted.greatest ws ≤ most_weight = all_most ws (λ k d below. small (suc k) d (omega (arith, below))) in
+    let rest : greatest ws ≤ most_weight = all_most ws (λ k d below. small (suc k) d (omega (arith, below))) in
     omega (arith, first, rest)
 
 module _ (x : LocalRule) (along ws : List ℕ) (rule : IsRule x) (weighable : IsWeighable x along ws) (w : ℕ) (symbols : List ℕ) (has : HasWeight x along ws w symbols) where
@@ -122,11 +113,11 @@ module _ (x : LocalRule) (along ws : List ℕ) (rule : IsRule x) (weighable : Is
 
   pub weight_fits : IsWritableNumber w
   weight_fits =
-      let le : total_weight ws symbols ≤ length symbols * counted.greatest ws = weight_most ws symbols in
+      let le : total_weight ws symbols ≤ length symbols * greatest ws = weight_most ws symbols in
       let few : periods_volume (periods_of along 0) * x.nodes ≤ most_symbols = weighable.torus.few in
       let cells : length symbols ≤ 65536 = (let full = many in omega (arith, few, full)) in
-      let bound : length symbols * counted.greatest ws ≤ 65536 * most_weight =
-      mul-le (length symbols) (counted.greatest ws) 65536 most_weight cells (all_most ws weighable.weights.small) in
+      let bound : length symbols * greatest ws ≤ 65536 * most_weight =
+      mul-le (length symbols) (greatest ws) 65536 most_weight cells (all_most ws weighable.weights.small) in
       let is = has.weighs in
       omega (arith, le, bound, is)
 
@@ -175,12 +166,12 @@ none_decides x along ws steps b told fit = (λ h. (fit h, torus_none (told.0 h))
 
 -- the law of weights
 abbrev AreSaid : LocalRule → Type 0
-AreSaid x = (p : Periods) (ws : List ℕ) → AreTorusPeriods x p → length ws ≡ x.symbols → SaysWeights x p ws
+AreSaid x = (p : Periods) (ws : List ℕ) → AreTorusPeriods x.dimension x.nodes p → length ws ≡ x.symbols → SaysWeights x p ws
 
 pub torus_claims : (x : LocalRule) (along ws : List ℕ) → AreSaid x → IsWeighable x along ws → (a : Answer) → IsTorusCertificate x along ws a → TorusClaim x along ws a
 torus_claims x along ws said weighable a (torus_least {w = w} {symbols = symbols} {steps = steps} has bounded) =
-    let says = said (periods_of along 0) ws (torus_of x along weighable.torus) weighable.weights.each in
+    let says = said (periods_of along 0) ws weighable.torus weighable.weights.each in
     claims_least_on (says.least w (torus_tile x along symbols) steps (refl, has.lives) has.weighs bounded)
 torus_claims x along ws said weighable a (torus_none {steps = steps} h) =
-    let says = said (periods_of along 0) ws (torus_of x along weighable.torus) weighable.weights.each in
+    let says = said (periods_of along 0) ws weighable.torus weighable.weights.each in
     claims_none_on (says.none steps h)

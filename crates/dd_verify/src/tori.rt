@@ -9,11 +9,11 @@ ghost use Rattle.dd_derivation.specs.Derivations.{IsRefuting};
 ghost use Rattle.dd_boxes.specs.Goals.{always};
 ghost use Rattle.dd_boxes.specs.Counts.{most_clauses};
 ghost use Rattle.dd_boxes.specs.Witnesses.{IsWitness};
-ghost use Rattle.dd_problem.specs.TorusPeriods.{AreTorusPeriods};
+ghost use Rattle.dd_boxes.specs.TorusPeriods.{AreTorusPeriods};
 ghost use Rattle.dd_counter.specs.Weights.{weight_problem, weight_count};
 ghost use Rattle.dd_certificate.specs.declared.answer.Answer.TheVariants as answer;
 ghost use Rattle.dd_certificate.specs.Bounds.{IsWritable, IsWritableBelow, IsWritableRefutation};
-ghost use Rattle.dd_question.specs.Tori.{IsTorus, IsWeighable};
+ghost use Rattle.dd_question.specs.Tori.{IsWeighable};
 ghost use Rattle.dd_verify.specs.Tori.{torus_tile, HasWeight, IsBoundedBy, IsTorusCertificate};
 
 use crate::configurations::shows;
@@ -33,7 +33,7 @@ fn on_torus(
     periods: [u32; 3],
     symbols: &[u64],
 ) -> Result<Option<Periodic>, AllocError>
-    requires { IsTorus rule.now periods }
+    requires { AreTorusPeriods rule.now.dimension rule.now.nodes (periods_of periods 0) }
     ensures { IfOk result (λ found. MatchOption found (IsTile (torus_tile rule.now periods symbols.now) × Fits rule.now (torus_tile rule.now periods symbols.now) → ⊥)
         (λ periodic. (periodic ≡ torus_tile rule.now periods symbols.now) × Fits rule.now (torus_tile rule.now periods symbols.now))) }
 {
@@ -92,7 +92,7 @@ fn refutes_below(
     below: u64,
     steps: &[Step],
 ) -> Result<bool, AllocError>
-    requires periods { AreTorusPeriods rule.now (periods_of periods 0) }
+    requires periods { AreTorusPeriods rule.now.dimension rule.now.nodes (periods_of periods 0) }
     requires weights { length weights.now ≡ rule.now.symbols }
     requires count { weight_count rule.now (periods_of periods 0) weights.now below ≤ most_clauses }
     ensures exact { IfOk result (λ refuted. IsTrue refuted ↔ IsRefuting (weight_problem rule.now (periods_of periods 0) weights.now below) steps.now) }
@@ -116,7 +116,7 @@ fn bounds(
     weight: u64,
     steps: &[Step],
 ) -> Result<bool, AllocError>
-    requires periods { AreTorusPeriods rule.now (periods_of periods 0) }
+    requires periods { AreTorusPeriods rule.now.dimension rule.now.nodes (periods_of periods 0) }
     requires weights { length weights.now ≡ rule.now.symbols }
     requires count { weight_count rule.now (periods_of periods 0) weights.now weight ≤ most_clauses }
     ensures { IfOk result (λ shown. IsTrue shown ↔ (IsWritableBelow weight steps.now × IsBoundedBy rule.now periods weights.now weight steps.now)) }

@@ -8,7 +8,7 @@ use Rattle.dd_pattern.specs.declared.periods.Periods.{Periods}
 use Rattle.dd_pattern.specs.Tile.{Tile}
 use Rattle.dd_pattern.specs.Weight.{total_weight}
 use Rattle.dd_formula.specs.LocalRule.{LocalRule, IsRule}
-use Rattle.dd_problem.specs.TorusPeriods.{AreTorusPeriods}
+use Rattle.dd_boxes.specs.TorusPeriods.{AreTorusPeriods}
 use Rattle.dd_counter.specs.Weights.{weight_problem, IsLight, IsLightWitness, ShowsWeights}
 use Rattle.dd_counter.specs.Least.{IsLiving, LeastOn, NoneOn, IsRefutedBelow, IsLeastShown}
 use Rattle.dd_counter.specs.lemmas.WeightShows.{weight_shows}
@@ -58,8 +58,8 @@ least_shown x p ws w t steps lives weighs none some refuted = record {
   empty = λ zero. absurd (omega (arith, some, zero));
 }
 
--- the same for every rule
-module _ (x : LocalRule) (p : Periods) (ws : List ℕ) (rule : IsRule x) (ok : AreTorusPeriods x p) (same : length ws ≡ x.symbols) where
+-- the same of every rule, whatever was called
+module _ (x : LocalRule) (p : Periods) (ws : List ℕ) (rule : IsRule x) (ok : AreTorusPeriods x.dimension x.nodes p) (same : length ws ≡ x.symbols) where
   pub least_claimed : (w : ℕ) (t : Tile) (steps : List Step) → IsLiving x p t → total_weight ws t.symbols ≡ w → (0 < w → IsRefuting (weight_problem x p ws w) steps) → LeastOn x p ws w
   least_claimed w t steps lives weighs refuting = least_refuted x p ws w t steps lives weighs (λ _. weight_shows x p ws w rule ok same) refuting
 

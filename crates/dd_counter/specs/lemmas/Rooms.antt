@@ -12,13 +12,13 @@ use Rattle.dd_formula.specs.LocalRule.{LocalRule, IsRule}
 use Rattle.dd_formula.specs.Living.{Fits}
 use Rattle.dd_boxes.specs.Goals.{always}
 use Rattle.dd_boxes.specs.Witnesses.{HasPeriods, IsWitness}
-use Rattle.dd_problem.specs.TorusPeriods.{AreTorusPeriods}
+use Rattle.dd_boxes.specs.TorusPeriods.{AreTorusPeriods}
 use Rattle.dd_counter.specs.Weights.{weight_count}
 use Rattle.dd_counter.specs.Least.{greatest, IsLiving}
 use Rattle.dd_counter.specs.lemmas.Counted.{weight_most, count_less}
 
 -- there is a cell
-pub cells_some : (x : LocalRule) (p : Periods) → IsRule x → AreTorusPeriods x p → 0 < periods_volume p * x.nodes
+pub cells_some : (x : LocalRule) (p : Periods) → IsRule x → AreTorusPeriods x.dimension x.nodes p → 0 < periods_volume p * x.nodes
 cells_some x p rule ok =
     let zy : 1 * 1 ≤ p.z * p.y = mul-le 1 1 p.z p.y ok.periods.z_some ok.periods.y_some in
     let zyx : 1 * 1 ≤ p.z * p.y * p.x = mul-le 1 1 (p.z * p.y) p.x (omega (arith, zy)) ok.periods.x_some in

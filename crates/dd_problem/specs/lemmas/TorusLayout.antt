@@ -22,7 +22,7 @@ use Rattle.dd_pattern.specs.lemmas.BoxLaws.{cell_at_index, in_box, index_of_cell
 use Rattle.dd_expansion.specs.Placed.{is_flat}
 use Rattle.dd_formula.specs.LocalRule.{LocalRule, IsRule}
 use Rattle.dd_boxes.specs.Goals.{GoalOf}
-use Rattle.dd_problem.specs.TorusPeriods.{AreTorusPeriods}
+use Rattle.dd_boxes.specs.TorusPeriods.{AreTorusPeriods}
 use Rattle.dd_problem.specs.Layouts.{nth_cell, torus, torus_cells}
 use Rattle.dd_problem.specs.lemmas.CellOrder.{cells_by_number}
 use Rattle.dd_problem.specs.pushing.Near.{torus_layout}
@@ -36,13 +36,13 @@ torus_of x periods symbols = tile x.dimension periods x.nodes symbols
 abbrev pub torus_size : LocalRule → Periods → ℕ
 torus_size x periods = periods_volume periods * x.nodes
 
-pub torus_is_tile : (x : LocalRule) (periods : Periods) (symbols : List ℕ) → IsRule x → AreTorusPeriods x periods → length symbols ≡ torus_size x periods →
+pub torus_is_tile : (x : LocalRule) (periods : Periods) (symbols : List ℕ) → IsRule x → AreTorusPeriods x.dimension x.nodes periods → length symbols ≡ torus_size x periods →
     IsTile (torus_of x periods symbols)
 torus_is_tile x periods symbols rule ok full =
     record { some_dimension = rule.dimension.0; most_dimension = rule.dimension.1; periods = ok.periods; nodes_some = rule.nodes.0; full = full }
 
 -- one that lists few symbols
-pub torus_is_periodic : (x : LocalRule) (periods : Periods) (symbols : List ℕ) → IsRule x → AreTorusPeriods x periods → length symbols ≡ torus_size x periods →
+pub torus_is_periodic : (x : LocalRule) (periods : Periods) (symbols : List ℕ) → IsRule x → AreTorusPeriods x.dimension x.nodes periods → length symbols ≡ torus_size x periods →
     IsPeriodic (torus_of x periods symbols)
 torus_is_periodic x periods symbols rule ok full = record {
   tile = torus_is_tile x periods symbols rule ok full;
@@ -86,7 +86,7 @@ zeros x periods = map (λ _. 0) (range_with_len 0 (torus_size x periods))
 length-zeros : (x : LocalRule) (periods : Periods) → length (zeros x periods) ≡ torus_size x periods
 length-zeros x periods = length-map-range_with_len (λ _. 0) 0 (torus_size x periods)
 
-module _ (x : LocalRule) (periods : Periods) (rule : IsRule x) (ok : AreTorusPeriods x periods) where
+module _ (x : LocalRule) (periods : Periods) (rule : IsRule x) (ok : AreTorusPeriods x.dimension x.nodes periods) where
   blank : IsTile (torus_of x periods (zeros x periods))
   blank = torus_is_tile x periods (zeros x periods) rule ok (length-zeros x periods)
 

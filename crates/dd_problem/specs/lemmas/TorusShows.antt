@@ -19,7 +19,7 @@ use Rattle.dd_cnf.specs.lemmas.ModelLaws.{Satisfies-is_satisfied, is_satisfied-S
 use Rattle.dd_boxes.specs.Goals.{GoalOf, breaks, differ, always}
 use Rattle.dd_boxes.specs.Witnesses.{HasPeriods, IsWitness}
 use Rattle.dd_boxes.specs.lemmas.RuleLaws.{keeps_at, list_all_weaker}
-use Rattle.dd_problem.specs.TorusPeriods.{AreTorusPeriods}
+use Rattle.dd_boxes.specs.TorusPeriods.{AreTorusPeriods}
 use Rattle.dd_problem.specs.pushing.Told.{IsToldGoal}
 use Rattle.dd_problem.specs.Layouts.{torus, torus_cells, fits_in}
 use Rattle.dd_problem.specs.pushing.Near.{torus_layout}
@@ -46,7 +46,7 @@ goal_reads_torus x (breaks y) periods ok = λ a node. ap (λ n. list_all (λ c. 
 goal_reads_torus x (differ s f g) periods ok = tt
 goal_reads_torus x always periods ok = tt
 
-module _ (x : LocalRule) (g : GoalOf) (periods : Periods) (rule : IsRule x) (goal : IsToldGoal x g) (ok : AreTorusPeriods x periods) (values : GoalWired (torus_layout x g periods) x.symbols g) where
+module _ (x : LocalRule) (g : GoalOf) (periods : Periods) (rule : IsRule x) (goal : IsToldGoal x g) (ok : AreTorusPeriods x.dimension x.nodes periods) (values : GoalWired (torus_layout x g periods) x.symbols g) where
   torus_is_wired : IsWired (torus_layout x g periods) x g
   torus_is_wired =
       wired_layout (torus_layout x g periods) x g rule goal (torus_is_layout x periods rule ok g) (λ k d is. (torus_cell_at x periods rule ok k d is).node)
