@@ -19,7 +19,7 @@ pub fn apply(
     match automaton {
         Automaton::Given(cases) => image_by_cases(alloc, cases, periodic),
         Automaton::Composed(outer, inner) => {
-            // Made for its fact: the outer automaton keeps to its nodes.
+            // This call brings in a fact: the outer automaton keeps to its nodes.
             outer.get().reads_are_placed();
             let between = apply(alloc, inner.get(), periodic)?;
             apply(alloc, outer.get(), &between)
@@ -32,7 +32,7 @@ fn image_by_cases(alloc: Global, cases: &Cases, periodic: &Periodic) -> Result<P
     requires { IsDefinedOn (Automaton.Given cases.now) periodic.now }
     ensures { IfOk result (IsImage (Automaton.Given cases.now) periodic.now) }
 {
-    // Made for its fact: the rules keep to their nodes.
+    // This call brings in a fact: the rules keep to their nodes.
     cases.reads_are_placed();
     let count = periodic.symbols().len();
     let mut symbols = Vec::with_capacity(alloc, count)?;

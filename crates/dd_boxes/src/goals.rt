@@ -25,7 +25,7 @@ pub fn keeps_rule(goal: &Goal)
 {
     match goal {
         Goal::Breaks(rule) => {
-            // Made for its fact: what a rule keeps.
+            // This call brings in a fact: what a rule keeps.
             let _nodes = rule.nodes();
         }
         Goal::Differ(_, _) => {}

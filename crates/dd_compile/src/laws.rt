@@ -10,7 +10,7 @@ fn rules_are_kept(cases: &Cases)
     ensures { All (λ case. IsRule case.0) cases.now.cases }
 {
     for (rule, _) in cases.cases.as_slice() {
-        // Made for its fact: what a rule keeps.
+        // This call brings in a fact: what a rule keeps.
         let _nodes = rule.nodes();
     }
 }

@@ -95,7 +95,7 @@ impl<'a> Questions for BoxQuestion<'a> {
         radius: u32,
         roster: &mut Roster<E>,
     ) -> Result<Option<Items<Step>>, AllocError> {
-        // Law of a roster that is not asked.
+        // A law: a roster that is not asked stays as it is.
         kept_is_reflexive();
         let cnf = box_clauses(self.alloc, self.premise, self.goal, radius)?;
         match outcome(self.alloc, &cnf, Style::Broad, roster)? {
@@ -109,16 +109,16 @@ impl<'a> Questions for BoxQuestion<'a> {
         at: &Periods,
         roster: &mut Roster<E>,
     ) -> Result<Option<Periodic>, AllocError> {
-        // Law of a roster that is not asked.
+        // A law: a roster that is not asked stays as it is.
         kept_is_reflexive();
-        // Made for its fact: what a rule keeps.
+        // This call brings in a fact: what a rule keeps.
         let _nodes = self.premise.nodes();
         let periods = [at.x, at.y, at.z];
         let cnf = torus_clauses(self.alloc, self.premise, self.goal, periods, at.shear)?;
         match outcome(self.alloc, &cnf, style_of(at), roster)? {
             Outcome::Found(found) => {
                 let periodic = read_torus(self.alloc, self.premise, periods, at.shear, &found)?;
-                // Read for what its type keeps.
+                // This read brings in what the type guarantees.
                 let _symbols = periodic.symbols();
                 Ok(Some(periodic))
             }
@@ -152,7 +152,7 @@ pub fn decide<E: Engine>(
     ensures kept { Kept (roster_seen E.asked E.given E.sound roster.old) (roster_seen E.asked E.given E.sound roster.new) }
     ensures first { OnOk result (FirstAsked (roster_seen E.asked E.given E.sound roster.old) (roster_seen E.asked E.given E.sound roster.new)) }
 {
-    // Law of a roster that is not asked.
+    // A law: a roster that is not asked stays as it is.
     kept_is_reflexive();
     let least = least_radius(alloc, goal)?;
     let most = limits.radius.max(least);

@@ -12,6 +12,6 @@ use dd_formula::Rule;
 pub fn least_law(rule: &Rule)
     ensures { (p : AnyPeriods) (ws : List ℕ) → AreTorusPeriods rule.now.dimension rule.now.nodes p → length ws ≡ rule.now.symbols → SaysWeights rule.now p ws }
 {
-    // Read for what its type keeps.
+    // This read brings in what the type guarantees.
     let _nodes = rule.nodes();
 }

@@ -58,7 +58,7 @@ fn search_below(
     match solve(alloc, &cnf)? {
         Outcome::Found(found) => {
             let periodic = read_torus(alloc, rule, periods, 0, &found)?;
-            // Read for what its type keeps.
+            // This read brings in what the type guarantees.
             let _symbols = periodic.symbols();
             Ok(Lighter::Found(periodic))
         }

@@ -54,7 +54,7 @@ pub(crate) fn best_of(
 {
     let program = linear_program(alloc, rows, columns)?;
     let solved = maximise(alloc, &program, pivots)?;
-    // Read for what its type keeps.
+    // This read brings in what the type guarantees.
     let _denominator = solved.value.den();
     bound_of(
         alloc,

@@ -40,7 +40,7 @@ pub fn discharge(
     ensures small { IfOk result IsSmallBound }
     ensures err { IfErr result (IsDischargeFault rule.now weights.now radius margin vectors.now pivots) }
 {
-    // Read for what its type keeps.
+    // This read brings in what the type guarantees.
     let _nodes = rule.nodes();
     let program = program_of(alloc, rule, weights, radius, margin, vectors)?;
     let columns = 1 + vectors.len() * program.patterns.len();

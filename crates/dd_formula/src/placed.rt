@@ -9,7 +9,7 @@ impl Cases {
         ensures { CasesArePlaced self.now }
     {
         for (rule, _) in self.cases.as_slice() {
-            // Made for its fact: the rule keeps to its nodes.
+            // This call brings in a fact: the rule keeps to its nodes.
             let _nodes = rule.nodes();
         }
     }

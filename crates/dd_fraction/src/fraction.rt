@@ -95,7 +95,7 @@ impl Fraction {
     pub fn add(&self, other: &Fraction) -> Option<Fraction>
         ensures { result ≡ checked_sum self.now other.now }
     {
-        // Read for what its type keeps.
+        // This read brings in what the type guarantees.
         let _ = &other.num;
         // 0/1 adds nothing: the cross products are 0 and the other's numerator.
         if self.num == 0 && self.den == 1 {

@@ -61,7 +61,7 @@ impl Filling {
         requires { IsStrictlySortedBy cell_cmp cells.now }
         ensures { IfOk result (λ found. MatchOption found (IsWanting self.now cells.now) (IsRestriction self.now cells.now)) }
     {
-        // Read for what its type keeps.
+        // This read brings in what the type guarantees.
         let _domain = &self.cells;
         let mut symbols = Vec::with_capacity(alloc, cells.len())?;
         for cell in cells {

@@ -33,7 +33,7 @@ pub fn box_clauses(
     ensures shows { IfOk result (λ cnf. Shows cnf.clauses premise.now (goal_of premise.now goal.now) radius) }
     ensures decides { IfOk result (λ cnf. DecidesBox cnf.clauses premise.now (goal_of premise.now goal.now) radius) }
 {
-    // Made for its facts: the gates of the goal say what it asks.
+    // This call brings in a fact: the gates of the goal say what it asks.
     told_goal(premise, goal);
     let symbols = premise.symbols();
     let bounds = centred_box(premise.dim(), radius).unwrap();

@@ -197,7 +197,7 @@ pub fn torus_clauses(
     ensures exact { IfOk result (λ cnf. cnf ≡ torus_problem premise.now (goal_of premise.now goal.now) (periods_of periods shear)) }
     ensures shows { IfOk result (λ cnf. ShowsTorus cnf.clauses premise.now (goal_of premise.now goal.now) (periods_of periods shear)) }
 {
-    // Made for its facts: the gates of the goal say what it asks.
+    // This call brings in a fact: the gates of the goal say what it asks.
     told_goal(premise, goal);
     let [x, y, z] = periods;
     let torus = Periods { x, y, z, shear };

@@ -126,7 +126,7 @@ pub(crate) fn check_box(alloc: Global, premise: &Rule, goal: &Goal) -> Result<()
     ensures ok { OnOk result (IsFormed (asked.box premise.now (goal_of premise.now goal.now))) }
     ensures fault { IfErr result (IsPartFault (asked.box premise.now (goal_of premise.now goal.now))) }
 {
-    // Read for what its type keeps.
+    // This read brings in what the type guarantees.
     let _nodes = premise.nodes();
     if !is_goal_for(alloc, premise, goal)? {
         return Err(QuestionFault::Goal);
@@ -194,7 +194,7 @@ pub(crate) fn check_density(
     ensures ok { OnOk result (IsFormed (asked.density rule.now strip weights.now)) }
     ensures fault { IfErr result (IsPartFault (asked.density rule.now strip weights.now)) }
 {
-    // Read for what its type keeps.
+    // This read brings in what the type guarantees.
     let _nodes = rule.nodes();
     if !is_strip(rule, strip) {
         return Err(QuestionFault::Strip);
@@ -275,7 +275,7 @@ pub(crate) fn check_discharge(
     ensures ok { OnOk result (IsFormed (asked.discharge rule.now radius margin vectors.now weights.now)) }
     ensures fault { IfErr result (IsPartFault (asked.discharge rule.now radius margin vectors.now weights.now)) }
 {
-    // Read for what its type keeps.
+    // This read brings in what the type guarantees.
     let _nodes = rule.nodes();
     if radius > WIDEST_RADIUS {
         return Err(QuestionFault::Radius);

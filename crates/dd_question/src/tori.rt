@@ -60,7 +60,7 @@ pub(crate) fn check_least(
     ensures ok { OnOk result (IsFormed (asked.least rule.now periods weights.now)) }
     ensures fault { IfErr result (IsPartFault (asked.least rule.now periods weights.now)) }
 {
-    // Read for what its type keeps.
+    // This read brings in what the type guarantees.
     let _nodes = rule.nodes();
     if !is_torus(rule, periods) {
         return Err(QuestionFault::Periods);

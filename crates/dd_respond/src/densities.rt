@@ -42,7 +42,7 @@ pub(crate) fn least(
 {
     strip_least();
     strip_empty();
-    // Read for what its type keeps.
+    // This read brings in what the type guarantees.
     let _nodes = rule.nodes();
     let density = least_density(alloc, rule, strip, weights)?;
     Ok(written_density(density))

@@ -32,7 +32,7 @@ pub fn respond<E: Engine>(
     ensures kept { Kept (roster_seen E.asked E.given E.sound roster.old) (roster_seen E.asked E.given E.sound roster.new) }
     ensures asked { OnOk result (Engages (IsBoxQuestion question.now.question) (roster_seen E.asked E.given E.sound roster.old) (roster_seen E.asked E.given E.sound roster.new)) }
 {
-    // Law of a roster that is not asked.
+    // A law: a roster that is not asked stays as it is.
     kept_is_reflexive();
     let limits = question.limits();
     match question.question() {

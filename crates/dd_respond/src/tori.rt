@@ -42,7 +42,7 @@ pub(crate) fn lightest(
     ensures writable { IfOk result IsWritable }
 {
     refutations_fit();
-    // Read for what its type keeps.
+    // This read brings in what the type guarantees.
     let _nodes = rule.nodes();
     let found = least_weight(alloc, rule, periods, weights)?;
     written_weight(alloc, found)

@@ -62,7 +62,7 @@ fn walk(alloc: Global, draft: &mut Draft, commands: &[Written]) -> Result<(), Sc
         match draft.meaning_of(alloc, written) {
             Ok((meaning, pairs)) => {
                 draft.add(alloc, meaning, pairs)?;
-                // Read for what its type keeps.
+                // This read brings in what the type guarantees.
                 let _symbols = draft.context.known.setting.sets.symbols();
             }
             Err(Refusal::Memory) => return Err(ScriptFault::from(AllocError)),

@@ -176,7 +176,7 @@ impl Script {
         ensures { AreSound self.now }
     {
         sound_questions();
-        // Read for what its type keeps.
+        // This read brings in what the type guarantees.
         let _limits = self.limits();
     }
 }

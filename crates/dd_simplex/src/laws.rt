@@ -8,7 +8,7 @@ use crate::program::Program;
 pub fn one_stop(_program: &Program, _pivots: u32)
     ensures { HasOneStop _program.now _pivots }
 {
-    // Read for what its type keeps.
+    // This read brings in what the type guarantees.
     let _columns = _program.columns();
 }
 
@@ -17,6 +17,6 @@ pub fn one_stop(_program: &Program, _pivots: u32)
 pub fn sound_pivots(_program: &Program)
     ensures { AreSoundDictionaries _program.now }
 {
-    // Read for what its type keeps.
+    // This read brings in what the type guarantees.
     let _columns = _program.columns();
 }

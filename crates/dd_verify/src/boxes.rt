@@ -42,7 +42,7 @@ pub(crate) fn check_box(
     requires askable { IsAskable limits.now premise.now (goal_of premise.now goal.now) }
     ensures { IfOk result (λ accepted. IsTrue accepted ↔ (IsWritable answer.now × IsBoxCertificate limits.now premise.now (goal_of premise.now goal.now) answer.now)) }
 {
-    // Read for what its type keeps.
+    // This read brings in what the type guarantees.
     let _symbols = premise.symbols();
     match answer {
         Answer::Yes { radius, steps } => {

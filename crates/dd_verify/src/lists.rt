@@ -47,7 +47,7 @@ pub(crate) fn check_list(alloc: Global, rule: &Rule, answer: &Answer) -> Result<
     ensures { IfOk result (λ accepted. IsTrue accepted ↔ (IsWritable answer.now × IsListCertificate rule.now answer.now)) }
 {
     lists_fit();
-    // Read for what its type keeps.
+    // This read brings in what the type guarantees.
     let _nodes = rule.nodes();
     match answer {
         Answer::List { patterns } => is_list(alloc, rule, patterns.as_slice()),

@@ -47,7 +47,7 @@ pub(crate) fn check_minimal(alloc: Global, rule: &Rule, answer: &Answer) -> Resu
     ensures { IfOk result (λ accepted. IsTrue accepted ↔ (IsWritable answer.now × IsMinimalCertificate rule.now answer.now)) }
 {
     starred_fit();
-    // Read for what its type keeps.
+    // This read brings in what the type guarantees.
     let _nodes = rule.nodes();
     match answer {
         Answer::Minimal { patterns } => is_minimal(alloc, rule, patterns.as_slice()),

@@ -141,7 +141,7 @@ fn is_least(
     ensures { IfOk result (λ accepted. IsTrue accepted ↔ (IsWritable (answer.Least weight symbols.now steps.now)
         × IsTorusCertificate rule.now periods weights.now (answer.Least weight symbols.now steps.now))) }
 {
-    // Read for what its type keeps.
+    // This read brings in what the type guarantees.
     let _nodes = rule.nodes();
     if !has_weight(alloc, rule, periods, weights, weight, symbols)? {
         return Ok(false);

@@ -80,7 +80,7 @@ fn given(
     ensures { IfOk result (λ found. MatchOption found (IsGiven premise.now most periods.now shear symbols.now → ⊥)
         (λ periodic. (periodic ≡ given_tile premise.now periods.now shear symbols.now) × IsGiven premise.now most periods.now shear symbols.now)) }
 {
-    // Read for what its type keeps.
+    // This read brings in what the type guarantees.
     let nodes = premise.nodes();
     if !are_periods(premise.dim(), most, periods, shear) {
         return Ok(None);
