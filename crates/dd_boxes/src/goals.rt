@@ -1,4 +1,4 @@
-//! What a box question looks for at the origin, and how far that reads.
+//! The goals of box questions, and how far a goal reads from the origin.
 ghost use Rattle.std.specs.Prelude.{IfOk};
 ghost use Rattle.dd_boxes.specs.Boxes.{IsLeastRadius};
 ghost use Rattle.dd_boxes.specs.Goals.{IsGoalFor, KeepsRule};

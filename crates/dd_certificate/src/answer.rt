@@ -7,9 +7,9 @@ use dd_values::Items;
 pub enum Side {
     /// The query asks one thing only.
     Whole,
-    /// The configuration is one of the first rule alone.
+    /// The configuration obeys the first rule only.
     Left,
-    /// The configuration is one of the second rule alone.
+    /// The configuration obeys the second rule only.
     Right,
 }
 

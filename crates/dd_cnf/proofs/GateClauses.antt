@@ -26,7 +26,7 @@ gates_clauses-more n gs i g within here =
     ∙ (ap (λ k. gates_clauses n (take i gs) ++ gates_clauses (n + k) (get_or gs i g ∷ [])) (length-take-le i gs (omega arith))
     ∙ ap (λ x. gates_clauses n (take i gs) ++ x) (append-nil (gate_clauses (suc (n + i)) (get_or gs i g)) ∙ ap (gate_clauses (suc (n + i))) (sym here))))
 
--- a turn of the loop over gates
+-- a pass of the loop over gates
 pub clauses_step : (before now new : List (List Literal)) (n variable : ℕ) (gs : List Gate) (i : ℕ) (g : Gate) → i < length gs → g ≡ get_or gs i g →
     variable ≡ suc (n + i) → now ≡ before ++ gates_clauses n (take i gs) → new ≡ now ++ gate_clauses variable g →
     new ≡ before ++ gates_clauses n (take (i + 1) gs)

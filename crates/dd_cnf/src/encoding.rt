@@ -44,7 +44,7 @@ pub fn push_clause(alloc: Global, cnf: &mut Cnf, literals: &[Literal]) -> Result
     cnf.push(Clause::from_literals(alloc, literals)?)
 }
 
-/// Adds the clauses that say that the literal `gate` is true exactly where each member has its sign.
+/// Adds the clauses that say that the literal `gate` is true exactly if each member has its sign.
 fn push_joint(
     alloc: Global,
     cnf: &mut Cnf,

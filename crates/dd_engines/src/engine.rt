@@ -20,7 +20,7 @@ pub enum Proposal {
     Refutation(Items<Step>),
 }
 
-/// A helper of the search, with a state of its own. It keeps a `Tally`.
+/// Proposes assignments and refutations, from a state of its own. It keeps a `Tally`.
 pub trait Engine: Drop {
     /// How often it was asked. The count stops at its greatest number.
     ghost asked: { Self → ℕ };

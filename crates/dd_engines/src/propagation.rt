@@ -161,7 +161,7 @@ fn follow(
     Ok(Progress::More)
 }
 
-/// Looks at each clause.
+/// Looks at each clause, and goes on from each new literal.
 fn pass(counts: &mut Counts, trail: &mut Trail, clauses: &[Clause]) -> Result<Progress, AllocError>
     requires in_range { All (IsClauseInRange (length trail.old.values.items)) clauses.now }
     requires follows { Follows clauses.now trail.old.entries.items trail.old.values.items }

@@ -343,7 +343,7 @@ fn bound_or_broken_of(alloc: Global, bytes: &[u8]) -> Result<(Answer, &[u8]), Re
     }
 }
 
-/// An answer of any kind, told by its first byte.
+/// An answer of any kind. Its first byte tells the kind.
 #[tactic(auto, unfolding(crate::specs::reading::Grammar::answer_form))]
 pub(crate) fn answer_of(alloc: Global, bytes: &[u8]) -> Result<(Answer, &[u8]), ReadFault>
     ensures { Gives (λ x. (x.0, x.1.now)) result (grammar.answer_form.read bytes.now) }

@@ -1,4 +1,4 @@
-//! The periods of a configuration, the shear that may follow two or three of them, and the side of a query that they stand for.
+//! The periods of a configuration, the shear that may follow two or three of them, and the side of a query to which they belong.
 ghost use Rattle.std.specs.Prelude.{◌≡◌};
 ghost use Rattle.dd_output.specs.reading.Stops.{Gives};
 ghost use Rattle.dd_output.specs.reading.Periods.{period_at, shear_at, period_entry, periods};

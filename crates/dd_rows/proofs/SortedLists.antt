@@ -1,4 +1,4 @@
--- Ascending lists: where a key stands in one, and what one is once a key is put into it.
+-- Ascending lists: the place of a key, and the list after a key is inserted.
 use Rattle.std.proofs.Common.{◌≡◌, ◌<◌, ◌≤◌, ℕ, zero, suc, List, [], ◌∷◌, ◌++◌, length, get_or, take, drop, refl, sym, ◌∙◌, ap, subst, inl, inr, arith, Ok, Err, Result}
 use Rattle.std.specs.Result.{MatchResult}
 use Rattle.std.specs.List.{position_or_len, AllWithin}

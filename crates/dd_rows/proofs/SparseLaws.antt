@@ -274,7 +274,7 @@ module _ (ps : List (List ℕ)) (v : Views) (ws : List ℕ) (most : ℕ) where
   rows_begin old new cap none is bound w =
       w.rows ∙ (ap (λ rs. add_row (map (dense (length ps)) rs) (dense (length ps) cap)) none ∙ ap (λ (r : Row). r ∷ []) (cap_stands (length v.givers) (length ps) most cap is bound))
 
-  -- the first row alone is not too many
+  -- the first row alone is not too much
   pub first_fits : (old : List SparseRow) (cap : SparseRow) → old ≡ [] → most_rows < length (add_row (map (dense (length ps)) old) (dense (length ps) cap)) → ⊥
   first_fits old cap none many =
       let size : length (add_row (map (dense (length ps)) old) (dense (length ps) cap)) ≡ 1 = ap (λ rs. length (add_row (map (dense (length ps)) rs) (dense (length ps) cap))) none in

@@ -2,7 +2,7 @@
 pub mod Domains
 -- the admissible fillings of a list of cells, in the lexicographic order of their symbols
 pub mod Fillings
--- the patterns around a position that gives, and around those that give to it
+-- the patterns around a position that sends, and around those that send to it
 pub mod Patterns
 -- the program of a rule along some vectors: how much each position holds at least
 pub mod Programs

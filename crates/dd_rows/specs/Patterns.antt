@@ -1,4 +1,4 @@
--- The patterns around a position that gives along some vectors and around those that give to it.
+-- The patterns around a position that sends along some vectors, and around those that send to it.
 use Rattle.std.specs.Prelude.{ℕ, List, [], ◌∷◌, map, unwrap_or}
 use Rattle.std.specs.List.{fold, flat_map, position_or_len}
 use Rattle.std.specs.Ordering.{nat_cmp, is_eq}

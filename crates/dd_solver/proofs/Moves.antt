@@ -150,7 +150,7 @@ values_satisfy s values ok open' full value k d h =
     turned true h = refl
     turned false h = absurd (false≢true (sym h))
 
-    -- a literal that is not true is false, where its variable has a value
+    -- a literal that is not true is false, if its variable has a value
     denied : (b : Bool) (v : ℕ) → has_variable v (falses s.entries) ≡ true → true_variables values v ≡ is_among (falses s.entries) (record { variable = v; positive = false }) → is_true_under (true_variables values) (record { variable = v; positive = b }) ≡ false → is_among (falses s.entries) (record { variable = v; positive = b }) ≡ true
     denied false v h e f = sym e ∙ turned (true_variables values v) f
     denied true v h e f =

@@ -28,7 +28,7 @@ number_rises (suc n) [] true h = omega (arith, positive n)
 number_rises (suc n) [] false h = omega (arith, positive n)
 number_rises (suc n) (x ∷ ds) d h = omega (arith, number_rises n ds d (omega arith))
 
--- the number rises where a decided place becomes a propagated one and the places after it go
+-- the number rises if a decided place becomes a propagated one and the places after it are dropped
 number_rises-return : (n : ℕ) (ds es : List Bool) → length ds < n → trail_number n (ds ++ true ∷ es) < trail_number n (ds ++ false ∷ [])
 unfolding trail_number
 number_rises-return zero ds es h = absurd (omega arith)

@@ -130,6 +130,6 @@ suffices_more x g n m ok reach le suffices look filling admissible there =
     flat_origin false true = refl
     flat_origin false false = refl
 
--- the radii that reach are those from the least one on
+-- the radii that reach are the least one and all greater ones
 pub from_least : (g : GoalOf) (least n : ℕ) → IsLeastRadius g least → least ≤ n → Reaches g n
 from_least g least n is le = reaches_more g least n le is.reaches

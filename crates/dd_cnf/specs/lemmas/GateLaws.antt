@@ -1,4 +1,4 @@
--- The clauses of gates are satisfied exactly where the gates' variables have the gates' values.
+-- The clauses of gates are satisfied exactly if the gates' variables have the gates' values.
 use Rattle.std.proofs.Common.{◌≡◌, ℕ, suc, Bool, true, false, List, [], ◌∷◌, map, refl, ◌∙◌}
 use Rattle.std.specs.Prelude.{not, if◌then◌else◌, ◌||◌, ◌&&◌}
 use Rattle.std.specs.List.{list_all, list_any}
@@ -13,7 +13,7 @@ use Rattle.dd_circuit.specs.Circuits.{signal_value, gate_value, agrees}
 use Rattle.dd_cnf.specs.Encoding.{literal, literal_of, signed, joint_clauses, iff_clauses, gate_clauses, gates_clauses}
 use Rattle.dd_cnf.specs.Models.{is_satisfied}
 
--- a negation is true exactly where its literal is not
+-- a negation is true exactly if its literal is not
 is_true_under-negation : (set : ℕ → Bool) (l : Literal) → is_true_under set (negation l) ≡ not (is_true_under set l)
 is_true_under-negation set l = go l.positive (set l.variable) where
   go : (p v : Bool) → (if not p then v else not v) ≡ not (if p then v else not v)
@@ -62,7 +62,7 @@ beq-not true false = refl
 beq-not false true = refl
 beq-not false false = refl
 
--- where the gate's literal is true, so is each member
+-- if the gate's literal is true, so is each member
 pairs_law : (set : ℕ → Bool) (gate : Literal) (sign : Bool) (members : List Signal) →
     is_satisfied set (map (λ l. negation gate ∷ signed sign l ∷ []) members) ≡ (not (is_true_under set gate) || list_all (λ l. is_true_under set (signed sign l)) members)
 pairs_law set gate sign [] = go (is_true_under set gate) where
@@ -73,7 +73,7 @@ pairs_law set gate sign (l ∷ ls) =
     rw (is_true_under-negation set gate, pairs_law set gate sign ls)
     (pair_clause (is_true_under set gate) (is_true_under set (signed sign l)) (list_all (λ m. is_true_under set (signed sign m)) ls))
 
--- and where each member is true, so is the gate's literal
+-- and if each member is true, so is the gate's literal
 last_law : (set : ℕ → Bool) (sign : Bool) (members : List Signal) →
     list_any (is_true_under set) (map (signed (not sign)) members) ≡ not (list_all (λ l. is_true_under set (signed sign l)) members)
 last_law set sign [] = refl
@@ -90,7 +90,7 @@ joint_law set gate members =
 iff_law : (set : ℕ → Bool) (g a b : Literal) → is_satisfied set (iff_clauses g a b) ≡ beq (is_true_under set g) (beq (is_true_under set a) (is_true_under set b))
 iff_law set g a b = rw (is_true_under-negation set g, is_true_under-negation set a, is_true_under-negation set b) (iff_cases (is_true_under set g) (is_true_under set a) (is_true_under set b))
 
--- not all are false exactly where some is true
+-- not all are false exactly if some is true
 all_opposing : (set : ℕ → Bool) (members : List Signal) → list_all (λ l. is_true_under set (signed false l)) members ≡ not (list_any (signal_value set) members)
 all_opposing set [] = refl
 all_opposing set (l ∷ ls) =

@@ -1,4 +1,4 @@
--- How many gates there are, and that they depend on the wires of the leaves alone.
+-- How many gates there are, and that they depend only on the wires of the leaves.
 use Rattle.std.proofs.Common.{◌≡◌, ℕ, ◌+◌, Bool, true, List, [], ◌∷◌, ◌++◌, map, length, refl, ap, ◌∙◌, arith, length-append}
 use Rattle.std.specs.List.{list_all}
 use Rattle.std.proofs.lemmas.Bool.{and_parts}

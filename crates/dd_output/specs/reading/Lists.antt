@@ -41,7 +41,7 @@ literals = record { read = map_at items_of (entries_at (λ _. literal_entry) 0);
 abbrev pub numbers_until : ℕ → Form (List ℕ)
 numbers_until end = record { read = map_at items_of (entries_at (λ _. number_entry end) 0); least = 48 ∷ end ∷ [] }
 
--- ---- numbers that a line ends with: at least so many, and at most so many where there is a most
+-- ---- numbers that a line ends with: at least `least`, and at most `most` if there is such a bound
 
 abbrev pub is_last : Option ℕ → ℕ → Bool
 is_last None k = false

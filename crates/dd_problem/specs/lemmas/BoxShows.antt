@@ -1,4 +1,4 @@
--- The clauses of a box say what the question asks of it.
+-- The clauses of a box say what the question asks about it.
 use Rattle.std.proofs.Common.{◌≡◌, ℕ, ◌<◌, Bool, true, false, List, map, length, get_or, refl, ap, sym, subst, ◌∙◌, arith, Some, None}
 use Rattle.std.specs.Prelude.{cond, Option, IfSome, is_some, nat_lt, slice_get, unwrap_or}
 use Rattle.std.specs.List.{list_all}

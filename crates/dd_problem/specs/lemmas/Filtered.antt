@@ -1,4 +1,4 @@
--- A test of a filtered list, and variables of which none is true.
+-- A test of a filtered list, and variables none of which is true.
 use Rattle.std.proofs.Common.{◌≡◌, ℕ, zero, suc, ◌+◌, ◌<◌, Bool, true, false, List, [], ◌∷◌, map, refl, ap, sym, ◌∙◌, arith, Some}
 use Rattle.std.specs.Prelude.{not, cond, ◌&&◌, ◌||◌, slice_get}
 use Rattle.std.specs.List.{list_all, filter, range_with_len}

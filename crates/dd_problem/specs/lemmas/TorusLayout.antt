@@ -49,7 +49,7 @@ torus_is_periodic x periods symbols rule ok full = record {
   small = rw full ok.few;
 }
 
--- the cells of the fundamental box are those whose symbols stand in the list of a configuration
+-- the cells of the fundamental box are those whose symbols a configuration lists
 pub span_is : (n : ℕ) → 0 < n → span (pos 0) (pos (n - 1)) ≡ n
 span_is n h = omega (arith, ints)
 

@@ -1,4 +1,4 @@
--- The clauses of a torus say what the question asks of the configurations of its periods.
+-- The clauses of a torus say what the question asks about the configurations of its periods.
 use Rattle.std.proofs.Common.{◌≡◌, ℕ, ◌<◌, Bool, true, List, length, get_or, refl, ap, sym, subst, ◌∙◌, arith, Some}
 use Rattle.std.specs.Prelude.{is_some, IfSome, nat_lt, slice_get}
 use Rattle.std.specs.List.{list_all}

@@ -1,4 +1,4 @@
--- Where the cells of a box around a position stand among cells, and the symbols there.
+-- The places, among some cells, of the cells of a box around a position, and the symbols there.
 use Rattle.std.specs.Prelude.{ℕ, ◌≡◌, List, ◌∷◌, map, unwrap_or, slice_get}
 use Rattle.std.specs.List.{fold, range_with_len}
 use Rattle.std.specs.Ordering.{nat_cmp}
