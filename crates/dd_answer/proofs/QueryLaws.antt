@@ -1,20 +1,14 @@
 -- From what is asked to the query that asks it.
 use Rattle.std.proofs.Common.{◌≡◌, Some, None, refl, sym, subst}
-use Rattle.std.specs.Prelude.{Option, List, IsSomeAnd}
-use Rattle.std.specs.List.{Contains}
+use Rattle.std.specs.{Prelude.Option, Prelude.List, Prelude.IsSomeAnd, List.Contains}
 use Rattle.dd_certificate.specs.declared.answer.Answer.{Answer}
 use Rattle.dd_engines.specs.Rounds.{Seen}
 use Rattle.dd_query.specs.declared.queries.Query.{Query}
 use Rattle.dd_question.specs.Questions.{Asked, IsSoundAsked}
-use Rattle.dd_respond.specs.Asking.{IsBoxQuestion, Engages}
-use Rattle.dd_respond.specs.Laws.{SayTheSame}
-use Rattle.dd_respond.specs.Right.{IsRightTo}
-use Rattle.dd_script.specs.Asking.{AreSound}
-use Rattle.dd_script.specs.Parts.{Parts}
-use Rattle.dd_script.specs.Questions.{asked}
+use Rattle.dd_respond.specs.{Asking.IsBoxQuestion, Asking.Engages, Laws.SayTheSame, Right.IsRightTo}
+use Rattle.dd_script.specs.{Asking.AreSound, Parts.Parts, Questions.asked}
 use Rattle.dd_values.specs.declared.limits.Limits.{Limits}
-use Rattle.dd_answer.specs.Asking.{AsksBoxes}
-use Rattle.dd_answer.specs.Right.{Right}
+use Rattle.dd_answer.specs.{Asking.AsksBoxes, Right.Right}
 
 module _ (s : Parts) (q : Query) (k : Asked) (asks : asked s q ≡ Some k) where
   pub right_for : (l : Limits) → l ≡ s.known.limits → (a : Answer) → IsRightTo l k a → Right s q a

@@ -2,8 +2,7 @@
 use Rattle.std.specs.Prelude.{◌⊎◌, List, [], ◌∷◌, IsSomeAnd}
 use Rattle.dd_query.specs.declared.queries.Query.{Query}
 use Rattle.dd_respond.specs.Asking.{IsBoxQuestion}
-use Rattle.dd_script.specs.Parts.{Parts}
-use Rattle.dd_script.specs.Questions.{asked}
+use Rattle.dd_script.specs.{Parts.Parts, Questions.asked}
 
 -- the query asks a box question
 abbrev pub AsksBoxes : Parts → Query → Type 0

@@ -1,17 +1,11 @@
 -- When a box shows that a goal holds nowhere.
 use Rattle.std.specs.Prelude.{ℕ, ◌<◌, ◌≤◌, ◌≡◌, true, is_some, max, pos}
 use Rattle.std.specs.List.{list_all}
-use Rattle.dd_lattice.specs.Place.{Place, place}
-use Rattle.dd_lattice.specs.Cells.{shifted}
-use Rattle.dd_lattice.specs.declared.position.Cell.{Cell}
-use Rattle.dd_pattern.specs.Reading.{Look}
-use Rattle.dd_pattern.specs.Tile.{Tile, IsTile, tile_look}
+use Rattle.dd_lattice.specs.{Place.Place, Place.place, Cells.shifted, declared.position.Cell.Cell}
+use Rattle.dd_pattern.specs.{Reading.Look, Tile.Tile, Tile.IsTile, Tile.tile_look}
 use Rattle.dd_expansion.specs.Placed.{is_flat}
-use Rattle.dd_formula.specs.LocalRule.{LocalRule, reads_at}
-use Rattle.dd_formula.specs.Allowed.{AreAllowed, HasAllowed}
-use Rattle.dd_formula.specs.Living.{Fits, Obeys, Lives}
-use Rattle.dd_formula.specs.Reach.{reach, automaton_reach}
-use Rattle.dd_formula.specs.Automata.{counted}
+use Rattle.dd_formula.specs.{LocalRule.LocalRule, LocalRule.reads_at, Allowed.AreAllowed, Allowed.HasAllowed}
+use Rattle.dd_formula.specs.{Living.Fits, Living.Obeys, Living.Lives, Reach.reach, Reach.automaton_reach, Automata.counted}
 use Rattle.dd_boxes.specs.Goals.{GoalOf, breaks, differ, always, HasGoal}
 use Rattle.dd_boxes.specs.Fillings.{Admissible, is_box_cell, is_cell_within, IsBoxFilling, IsConfiguration}
 

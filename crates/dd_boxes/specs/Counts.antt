@@ -1,10 +1,8 @@
 -- How many clauses a box question takes at most.
 use Rattle.std.specs.Prelude.{ℕ, ◌≤◌, max}
-use Rattle.dd_formula.specs.Counts.{broken_clauses, region_clauses, largest_clauses}
-use Rattle.dd_formula.specs.ValueCounts.{differ_clauses}
+use Rattle.dd_formula.specs.{Counts.broken_clauses, Counts.region_clauses, Counts.largest_clauses, ValueCounts.differ_clauses}
 use Rattle.dd_formula.specs.LocalRule.{LocalRule}
-use Rattle.dd_boxes.specs.Goals.{GoalOf, breaks, differ, always}
-use Rattle.dd_boxes.specs.Boxes.{IsLeastRadius}
+use Rattle.dd_boxes.specs.{Goals.GoalOf, Goals.breaks, Goals.differ, Goals.always, Boxes.IsLeastRadius}
 
 -- the clauses that say that the goal holds at the origin
 abbrev pub goal_clauses : GoalOf → ℕ

@@ -1,15 +1,10 @@
 -- A filling gives each cell of a domain a symbol that the cell's node allows. A look is a filling of the cells to which it gives a symbol.
 use Rattle.std.specs.Prelude.{ℕ, ◌<◌, ◌≡◌, ◌&&◌, Bool, true, is_some, nat_lt, nat_le, ℤ, unsigned_abs}
 use Rattle.std.specs.List.{list_all}
-use Rattle.dd_lattice.specs.Place.{Place}
-use Rattle.dd_lattice.specs.Cells.{cell, shifted}
-use Rattle.dd_lattice.specs.Boxes.{is_active, spread}
-use Rattle.dd_lattice.specs.declared.position.Cell.{Cell}
+use Rattle.dd_lattice.specs.{Place.Place, Cells.cell, Cells.shifted, Boxes.is_active, Boxes.spread, declared.position.Cell.Cell}
 use Rattle.dd_pattern.specs.Reading.{Look}
 use Rattle.dd_expansion.specs.Placed.{is_flat}
-use Rattle.dd_formula.specs.LocalRule.{LocalRule, is_true, reads_at}
-use Rattle.dd_formula.specs.Allowed.{AreAllowed}
-use Rattle.dd_formula.specs.Automata.{CommonNumbers}
+use Rattle.dd_formula.specs.{LocalRule.LocalRule, LocalRule.is_true, LocalRule.reads_at, Allowed.AreAllowed, Automata.CommonNumbers}
 
 -- the place fits: the cell, and each cell that the rule reads there, has a symbol
 abbrev pub place_fits : LocalRule → Look → Cell → Bool

@@ -1,10 +1,8 @@
 -- What one box says about every box, filling and configuration.
 use Rattle.std.specs.Prelude.{ℕ, ◌≤◌, ◌≡◌, ◌↔◌, true}
-use Rattle.dd_lattice.specs.Place.{Place}
-use Rattle.dd_lattice.specs.Boxes.{IsCentred}
+use Rattle.dd_lattice.specs.{Place.Place, Boxes.IsCentred}
 use Rattle.dd_formula.specs.LocalRule.{LocalRule}
-use Rattle.dd_boxes.specs.Goals.{GoalOf, IsGoalFor}
-use Rattle.dd_boxes.specs.Fillings.{in_box}
+use Rattle.dd_boxes.specs.{Goals.GoalOf, Goals.IsGoalFor, Fillings.in_box}
 use Rattle.dd_boxes.specs.Boxes.{Suffices, Reaches, IsLeastRadius, HoldsNowhere}
 
 pub record OneBox (x : LocalRule) (g : GoalOf) (n : ℕ) : Type 0 where

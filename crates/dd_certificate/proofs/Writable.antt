@@ -1,15 +1,12 @@
 -- Steps that refute a list of clauses fit in an output: their variables are the list's, and each clause that they use
 -- or delete comes before them.
 use Rattle.std.proofs.Common.{◌≡◌, ℕ, zero, suc, ◌+◌, ◌<◌, ◌≤◌, Bool, true, false, not, ◌&&◌, ◌||◌, List, [], ◌∷◌, ◌++◌, length, map, Option, None, Some, is_some, slice_get, All, refl, sym, subst, ◌∙◌, ◌⊎◌, inl, inr, arith, nat_le, length-append}
-use Rattle.std.specs.List.{list_all}
-use Rattle.std.specs.Option.{option_map_or}
 use Rattle.std.proofs.lemmas.Bool.{false≢true, leb-true, and_parts, or_cases}
-use Rattle.std.proofs.lemmas.List.{length-set, length-map}
-use Rattle.std.proofs.lemmas.List.Elements.{All-nil, All-cons}
+use Rattle.std.proofs.lemmas.List.{length-set, length-map, Elements.All-nil, Elements.All-cons}
 use Rattle.std.proofs.lemmas.Option.{none-some, option_and_then_some, slice_get_within}
+use Rattle.std.specs.{List.list_all, Option.option_map_or}
 use Rattle.dd_values.specs.Bounds.{most_variables}
-use Rattle.dd_clause.specs.declared.clause.Literal.{Literal}
-use Rattle.dd_clause.specs.Clauses.{negation, IsLiteralInRange}
+use Rattle.dd_clause.specs.{declared.clause.Literal.Literal, Clauses.negation, Clauses.IsLiteralInRange}
 use Rattle.dd_derivation.specs.declared.propagation.Finding.{Finding}
 use Rattle.dd_derivation.specs.declared.propagation.Finding.TheVariants.{Falsified, Forced, Open}
 use Rattle.dd_derivation.specs.declared.step.Step.{Step}

@@ -4,9 +4,7 @@ use Rattle.dd_values.specs.Bounds.{most_variables}
 pub use Rattle.dd_values.specs.Bounds.{most_number}
 use Rattle.dd_clause.specs.Clauses.{IsLiteralInRange}
 use Rattle.dd_derivation.specs.declared.step.Step.{Step}
-use Rattle.dd_certificate.specs.declared.answer.Listed.{Listed}
-use Rattle.dd_certificate.specs.declared.answer.Starred.{Starred}
-use Rattle.dd_certificate.specs.declared.answer.Answer.{Answer}
+use Rattle.dd_certificate.specs.declared.answer.{Listed.Listed, Starred.Starred, Answer.Answer}
 use Rattle.dd_certificate.specs.declared.answer.Answer.TheVariants as answer
 
 -- the greatest number of a clause, and the greatest number of steps

@@ -1,34 +1,23 @@
 -- What a CONJUGATE that is a certificate says of configurations that no data holds.
 use Rattle.std.proofs.Common.{◌≡◌, ℕ, ◌<◌, true, refl, sym, subst, ◌∙◌, Some, None}
-use Rattle.std.specs.Prelude.{Option, IsSomeAnd, IfSome, slice_get}
 use Rattle.std.proofs.lemmas.Bool.{false≢true}
-use Rattle.dd_lattice.specs.declared.position.Cell.{Cell}
-use Rattle.dd_lattice.specs.Cells.{cell}
-use Rattle.dd_lattice.specs.Place.{Place}
+use Rattle.std.specs.Prelude.{Option, IsSomeAnd, IfSome, slice_get}
+use Rattle.dd_lattice.specs.{declared.position.Cell.Cell, Cells.cell, Place.Place}
 use Rattle.dd_pattern.specs.Reading.{Look, HasSymbolsBelow}
 use Rattle.dd_expansion.specs.Placed.{is_flat}
-use Rattle.dd_formula.specs.LocalRule.{LocalRule}
-use Rattle.dd_formula.specs.Living.{Obeys}
-use Rattle.dd_formula.specs.declared.automaton.Automaton.{Automaton}
-use Rattle.dd_formula.specs.lemmas.AllowedLaws.{look_below}
+use Rattle.dd_formula.specs.{LocalRule.LocalRule, Living.Obeys, declared.automaton.Automaton.Automaton, lemmas.AllowedLaws.look_below}
 use Rattle.dd_maps.specs.Images.{Differ, HasSymbols, AtEachNode, GivesBackAt}
 use Rattle.dd_maps.specs.lemmas.PairLaws.{image_differs, identity_differs}
 use Rattle.dd_maps.specs.lemmas.Claims.{symbol_at, image_keeps, gives_back}
 use Rattle.dd_boxes.specs.Boxes.{HoldsNowhere}
 use Rattle.dd_meanings.specs.Made.{IsRuleOf, IsAutomatonOf}
-use Rattle.dd_pairs.specs.Parts.{image, change, pair_of, goal_of}
-use Rattle.dd_pairs.specs.Queries.{of_four}
-use Rattle.dd_pairs.specs.lemmas.PartLaws.{rule_over, automaton_over}
-use Rattle.dd_pairs.specs.lemmas.QueryLaws.{item_at}
+use Rattle.dd_pairs.specs.{Parts.image, Parts.change, Parts.pair_of, Parts.goal_of, Queries.of_four}
+use Rattle.dd_pairs.specs.lemmas.{PartLaws.rule_over, PartLaws.automaton_over, QueryLaws.item_at}
 use Rattle.dd_certificate.specs.declared.answer.Answer.{Answer}
 use Rattle.dd_query.specs.declared.queries.Query.{Query}
-use Rattle.dd_script.specs.Parts.{Parts}
-use Rattle.dd_script.specs.Kept.{IsScriptOf}
-use Rattle.dd_script.specs.Questions.{query_at, conjugacy_question}
-use Rattle.dd_verify.specs.Holding.{says_conjugate, says_broken, says_no_more}
-use Rattle.dd_verify.specs.Certificates.{ClaimOf}
-use Rattle.dd_checker.specs.Claims.{ClaimFor, Claim}
-use Rattle.dd_checker.specs.Lifted.{whole_look, IsWhole}
+use Rattle.dd_script.specs.{Parts.Parts, Kept.IsScriptOf, Questions.query_at, Questions.conjugacy_question}
+use Rattle.dd_verify.specs.{Holding.says_conjugate, Holding.says_broken, Holding.says_no_more, Certificates.ClaimOf}
+use Rattle.dd_checker.specs.{Claims.ClaimFor, Claims.Claim, Lifted.whole_look, Lifted.IsWhole}
 use Rattle.dd_checker.specs.Inverses.{is_conjugate, IsConjugacy, a_conjugacy, IsConjugacyAt, IsCarriedAt, AreInverseAt, AreInverseFor, are_inverse, AreInverseIn}
 use Rattle.dd_checker.proofs.Lifting.{look_allowed, look_whole, not_at}
 

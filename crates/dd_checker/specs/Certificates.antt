@@ -1,10 +1,8 @@
 -- Which answers to the queries of a script are certificates.
 use Rattle.std.specs.Prelude.{ℕ, ◌≤◌, length, IsSomeAnd}
-use Rattle.dd_certificate.specs.declared.answer.Answer.{Answer}
-use Rattle.dd_certificate.specs.Bounds.{IsWritable}
+use Rattle.dd_certificate.specs.{declared.answer.Answer.Answer, Bounds.IsWritable}
 use Rattle.dd_query.specs.declared.queries.Query.{Query}
-use Rattle.dd_script.specs.Parts.{Parts}
-use Rattle.dd_script.specs.Questions.{asked, query_at}
+use Rattle.dd_script.specs.{Parts.Parts, Questions.asked, Questions.query_at}
 use Rattle.dd_verify.specs.Certificates.{IsCertificateOf}
 
 -- an output can hold the answer, and it is a certificate of what the query asks, within the script's limits

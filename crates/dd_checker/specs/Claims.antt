@@ -2,8 +2,7 @@
 use Rattle.std.specs.Prelude.{ℕ, IsSomeAnd}
 use Rattle.dd_certificate.specs.declared.answer.Answer.{Answer}
 use Rattle.dd_query.specs.declared.queries.Query.{Query}
-use Rattle.dd_script.specs.Parts.{Parts}
-use Rattle.dd_script.specs.Questions.{asked, query_at}
+use Rattle.dd_script.specs.{Parts.Parts, Questions.asked, Questions.query_at}
 use Rattle.dd_verify.specs.Certificates.{ClaimOf}
 
 -- the claim of an answer to a query of the script

@@ -3,15 +3,11 @@ use Rattle.std.specs.Prelude.{ℕ, ◌≡◌, Bool, nat_eq, codes, Some, IsSomeA
 use Rattle.std.specs.List.{starts_with}
 use Rattle.dd_lattice.specs.Place.{Place}
 use Rattle.dd_pattern.specs.Reading.{Look}
-use Rattle.dd_formula.specs.LocalRule.{LocalRule}
-use Rattle.dd_formula.specs.Living.{Obeys}
-use Rattle.dd_formula.specs.declared.automaton.Automaton.{Automaton}
+use Rattle.dd_formula.specs.{LocalRule.LocalRule, Living.Obeys, declared.automaton.Automaton.Automaton}
 use Rattle.dd_maps.specs.Images.{KeepsAt, GivesBackAt, AtEachNode}
-use Rattle.dd_certificate.specs.declared.answer.Answer.{Answer}
-use Rattle.dd_certificate.specs.Text.{verdict_text}
+use Rattle.dd_certificate.specs.{declared.answer.Answer.Answer, Text.verdict_text}
 use Rattle.dd_query.specs.declared.queries.Query.{Query}
-use Rattle.dd_script.specs.Parts.{Parts}
-use Rattle.dd_script.specs.Questions.{query_at}
+use Rattle.dd_script.specs.{Parts.Parts, Questions.query_at}
 
 -- the answer's first line begins with CONJUGATE
 abbrev pub is_conjugate : Answer → Bool

@@ -1,20 +1,16 @@
 -- What a YES says of configurations that no data holds.
 use Rattle.std.specs.Prelude.{ℕ, ◌≡◌, ◌<◌, Bool, true, cond, nat_eq, codes, Some, None, IsSomeAnd}
 use Rattle.std.specs.List.{starts_with}
-use Rattle.dd_lattice.specs.Place.{Place}
-use Rattle.dd_lattice.specs.declared.position.Cell.{Cell}
+use Rattle.dd_lattice.specs.{Place.Place, declared.position.Cell.Cell}
 use Rattle.dd_topology.specs.Sets.{allows}
 use Rattle.dd_pattern.specs.Reading.{Look}
 use Rattle.dd_expansion.specs.Placed.{is_flat, is_cell_in}
-use Rattle.dd_formula.specs.LocalRule.{LocalRule}
-use Rattle.dd_formula.specs.Living.{Obeys}
+use Rattle.dd_formula.specs.{LocalRule.LocalRule, Living.Obeys}
 use Rattle.dd_boxes.specs.Goals.{GoalOf, breaks, HasGoal}
-use Rattle.dd_certificate.specs.declared.answer.Answer.{Answer}
-use Rattle.dd_certificate.specs.Text.{verdict_text}
-use Rattle.dd_script.specs.Parts.{Parts}
+use Rattle.dd_certificate.specs.{declared.answer.Answer.Answer, Text.verdict_text}
+use Rattle.dd_script.specs.{Parts.Parts, Questions.asked, Questions.query_at}
 use Rattle.dd_question.specs.Questions.{Asked}
 use Rattle.dd_question.specs.Questions as question
-use Rattle.dd_script.specs.Questions.{asked, query_at}
 
 -- the answer's first line says YES
 abbrev pub is_yes : Answer → Bool

@@ -1,8 +1,7 @@
 -- The values of all variables of a circuit.
 use Rattle.std.specs.Prelude.{◌≡◌, ℕ, Bool, true, List, [], ◌∷◌, ◌++◌, length, take}
 use Rattle.dd_values.specs.Variables.{true_variables}
-use Rattle.dd_circuit.specs.declared.gates.Gate.{Gate}
-use Rattle.dd_circuit.specs.Circuits.{Network, size, gate_value, agrees}
+use Rattle.dd_circuit.specs.{declared.gates.Gate.Gate, Circuits.Network, Circuits.size, Circuits.gate_value, Circuits.agrees}
 
 -- the values of all variables, from those of the first ones; each gate's value follows from the values before it
 abbrev pub values_from : List Bool → List Gate → List Bool

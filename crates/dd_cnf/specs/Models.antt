@@ -1,11 +1,8 @@
 -- The models of clauses, and which models the clauses of a circuit have.
-use Rattle.std.specs.Prelude.{◌≡◌, ℕ, Bool, List, length, take}
-use Rattle.std.specs.List.{list_all}
-use Rattle.dd_clause.specs.declared.clause.Literal.{Literal}
-use Rattle.dd_clause.specs.Clauses.{is_clause_true, Satisfies, ClauseList}
+use Rattle.std.specs.{Prelude.◌≡◌, Prelude.ℕ, Prelude.Bool, Prelude.List, Prelude.length, Prelude.take, List.list_all}
+use Rattle.dd_clause.specs.{declared.clause.Literal.Literal, Clauses.is_clause_true, Clauses.Satisfies, Clauses.ClauseList}
 use Rattle.dd_values.specs.Variables.{true_variables}
-use Rattle.dd_circuit.specs.Circuits.{Network}
-use Rattle.dd_circuit.specs.Valuations.{AreValues}
+use Rattle.dd_circuit.specs.{Circuits.Network, Valuations.AreValues}
 
 -- each clause has a true literal, as a test
 abbrev pub is_satisfied : (ℕ → Bool) → List (List Literal) → Bool

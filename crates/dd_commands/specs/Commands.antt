@@ -2,9 +2,8 @@
 use Rattle.std.specs.Prelude.{◌≡◌, ℕ, ◌≤◌, List, [], ◌∷◌, ◌++◌, length, map, Bool, true, false, Option, Some, None, codes}
 use Rattle.std.specs.List.{flat_map, list_all}
 use Rattle.dd_commands.specs.Tree.{Word, Mark, Lexeme, Name, Lists, Entry, Vector, Edge, Case, Request, Command}
-use Rattle.dd_written.specs.{Values.word_text, Formulas.name_lexeme, Formulas.text, Formulas.IsWrittenFormula}
-use Rattle.dd_written.specs.reading.Readers.{ReadsAll}
 use Rattle.dd_commands.specs.{Table.row, Heads.head_text, Heads.head_of, Heads.kind_text}
+use Rattle.dd_written.specs.{Values.word_text, Formulas.name_lexeme, Formulas.text, Formulas.IsWrittenFormula, reading.Readers.ReadsAll}
 
 -- ---- vectors
 

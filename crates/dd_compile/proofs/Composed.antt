@@ -1,44 +1,32 @@
 -- What the gates of a composition require, and what they say.
 use Rattle.std.proofs.Common.{◌≡◌, ◌<◌, ◌≤◌, ℕ, zero, suc, ◌+◌, Bool, true, false, List, [], ◌∷◌, ◌++◌, Option, Some, map, length, take, get_or, slice_get, cond, refl, ap, sym, ◌∙◌, subst, inl, inr, arith, append_assoc, length-append, eq-eqb}
-use Rattle.std.specs.Prelude.{◌==◌, not, nat_le}
-use Rattle.std.specs.List.{All, Contains, flat_map, list_all, position_or_len}
-use Rattle.std.specs.List.Sorted.{IsStrictlySortedBy}
-use Rattle.std.specs.Cmp.{tied_itself, Equal-is}
-use Rattle.std.specs.Ordering.{is_eq, nat_cmp, ordering_then}
-use Rattle.std.specs.declared.cmp.Ordering.TheVariants.{Less}
-use Rattle.std.proofs.lemmas.Bool.{and_from, le-leb}
-use Rattle.std.proofs.lemmas.List.Elements.{All-map, All-weaker}
-use Rattle.dd_lattice.specs.Cells.{shifted}
-use Rattle.dd_lattice.specs.Order.{cell_cmp}
-use Rattle.dd_lattice.specs.declared.position.Cell.{Cell}
-use Rattle.dd_lattice.specs.lemmas.InOrderLaws.{cells_equal, in_order_members, list_all-in_order}
-use Rattle.dd_lattice.specs.lemmas.ListLaws.{Contains-cons_cases, Contains-map, Contains-nil, sorted_first, sorted_rest}
-use Rattle.dd_lattice.specs.lemmas.MoveLaws.{place_cmp-moved}
-use Rattle.dd_topology.specs.lemmas.ListLaws.{into_flat_map}
-use Rattle.dd_topology.specs.lemmas.OrderLaws.{cell_total}
-use Rattle.dd_pattern.specs.Reading.{Look, HasSymbolsBelow}
-use Rattle.dd_expansion.specs.Truth.{is_symbol}
-use Rattle.dd_expansion.specs.lemmas.ListTests.{list_all-alike, list_all-flat_map}
+use Rattle.std.proofs.lemmas.{Bool.and_from, Bool.le-leb, List.Elements.All-map, List.Elements.All-weaker}
 use Rattle.std.proofs.lemmas.List.Folds.{list_all-map}
+use Rattle.std.specs.Prelude.{◌==◌, not, nat_le}
+use Rattle.std.specs.List.{All, Contains, flat_map, list_all, position_or_len, Sorted.IsStrictlySortedBy}
+use Rattle.std.specs.{Cmp.tied_itself, Cmp.Equal-is, Ordering.is_eq, Ordering.nat_cmp, Ordering.ordering_then}
+use Rattle.std.specs.declared.cmp.Ordering.TheVariants.{Less}
+use Rattle.dd_lattice.specs.{Cells.shifted, Order.cell_cmp, declared.position.Cell.Cell}
+use Rattle.dd_lattice.specs.lemmas.InOrderLaws.{cells_equal, in_order_members, list_all-in_order}
+use Rattle.dd_lattice.specs.lemmas.MoveLaws.{place_cmp-moved}
+use Rattle.dd_values.specs.lemmas.Members.{Contains-cons_cases, Contains-map, Contains-nil, sorted_first, sorted_rest}
+use Rattle.dd_values.specs.lemmas.Lists.{members_pass}
+use Rattle.dd_topology.specs.lemmas.{ListLaws.into_flat_map, OrderLaws.cell_total}
+use Rattle.dd_pattern.specs.Reading.{Look, HasSymbolsBelow}
+use Rattle.dd_expansion.specs.{Truth.is_symbol, lemmas.ListTests.list_all-alike, lemmas.ListTests.list_all-flat_map}
 use Rattle.dd_formula.specs.Automata.{CommonNumbers, Counted, IsAutomaton, counted, cells_of, value}
-use Rattle.dd_formula.specs.declared.automaton.Automaton.{Automaton}
-use Rattle.dd_formula.specs.declared.automaton.Automaton.TheVariants as v
-use Rattle.dd_formula.specs.declared.automaton.Cases.{Cases}
+use Rattle.dd_formula.specs.declared.automaton.{Automaton.Automaton, Cases.Cases}
 use Rattle.dd_formula.specs.lemmas.AutomatonLaws.{counted_given, counted_composed}
 use Rattle.dd_formula.specs.lemmas.ValueLaws.{shifted_twice, value_given, value_composed, value_below}
-use Rattle.dd_circuit.specs.declared.gates.Signal.{Signal}
-use Rattle.dd_circuit.specs.Circuits.{Network, IsSignal, size}
+use Rattle.dd_circuit.specs.{declared.gates.Signal.Signal, Circuits.Network, Circuits.IsSignal, Circuits.size}
 use Rattle.dd_compile.specs.Wiring.{Wiring, unwired, signals_of, signal_for, wire_of}
-use Rattle.dd_compile.specs.Compiling.{Extends, AllMade}
-use Rattle.dd_compile.specs.RuleSignals.{is_signal, are_signals}
+use Rattle.dd_compile.specs.{Compiling.Extends, Compiling.AllMade, RuleSignals.is_signal, RuleSignals.are_signals}
 use Rattle.dd_compile.specs.ValueGates.{WiredMade, inner_made, composed_made, value_made}
 use Rattle.dd_compile.specs.ValueSignals.{SaysCases, SaysValue, SaysWhich, TellsCells, are_wired_there}
 use Rattle.dd_compile.specs.composing.Parts.{AreWired, AreValued, AreValues, IsValued}
-use Rattle.dd_compile.specs.lemmas.Progress.{size-append}
-use Rattle.dd_compile.specs.lemmas.CaseRules.{agrees_before}
-use Rattle.dd_compile.proofs.RuleSays.{members_pass}
-use Rattle.dd_compile.specs.lemmas.ValueParts.{made_composed}
+use Rattle.dd_compile.specs.lemmas.{Progress.size-append, CaseRules.agrees_before, ValueParts.made_composed}
 use Rattle.dd_compile.proofs.Composing.{there_of}
+use Rattle.dd_formula.specs.declared.automaton.Automaton.TheVariants as v
 
 -- what the cases say is what the automaton given by them says
 pub cases_say : (new : Network) (w : Wiring) (k : ℕ) (f : Automaton) (c : Cases) (at : Cell) (ss : List Signal) → f ≡ v.Given c → SaysCases new w k c at ss → SaysValue new w k f at ss

@@ -1,21 +1,11 @@
 -- Variables of their own for cells: the loops that list them, and what they are.
 use Rattle.std.proofs.Common.{◌≡◌, ◌<◌, ◌≤◌, ℕ, zero, suc, ◌+◌, ◌-◌, ◌*◌, true, List, [], ◌∷◌, ◌++◌, Some, length, take, drop, get_or, slice_get, refl, ap, sym, ◌∙◌, arith, length-append, append_assoc, append-nil, drop-cons, add-one, eq-eqb}
-use Rattle.std.specs.Prelude.{◌==◌, nat_le}
-use Rattle.std.specs.List.{All, list_all, flat_map}
-use Rattle.std.specs.List.Sorted.{IsStrictlySortedBy}
-use Rattle.std.specs.declared.cmp.Ordering.TheVariants.{Less}
-use Rattle.std.proofs.lemmas.Bool.{and_from, le-leb}
-use Rattle.std.proofs.lemmas.List.{take_more, take_all, drop_all, get_or-take, length-take, get_or_default}
-use Rattle.std.proofs.lemmas.Map.Keys.{Less-from_sorted}
-use Rattle.dd_lattice.specs.Order.{cell_cmp}
+use Rattle.std.proofs.lemmas.{Bool.and_from, Bool.le-leb, List.take_more, List.take_all, List.drop_all}
+use Rattle.std.specs.{Prelude.◌==◌, Prelude.nat_le, List.list_all, List.flat_map}
 use Rattle.dd_lattice.specs.declared.position.Cell.{Cell}
-use Rattle.dd_circuit.specs.declared.gates.Signal.{Signal}
-use Rattle.dd_circuit.specs.Circuits.{signal_of}
-use Rattle.dd_compile.specs.Wiring.{Wiring, signal_for, with_cell}
-use Rattle.dd_compile.specs.RuleSignals.{is_signal, are_signals}
-use Rattle.dd_compile.specs.ValueGates.{fresh}
-use Rattle.dd_compile.specs.placing.Own.{signals_in_turn, own_wiring}
-use Rattle.dd_compile.specs.lemmas.ChoiceLaws.{fresh_length}
+use Rattle.dd_circuit.specs.{declared.gates.Signal.Signal, Circuits.signal_of}
+use Rattle.dd_compile.specs.{Wiring.Wiring, Wiring.signal_for, Wiring.with_cell, RuleSignals.is_signal, RuleSignals.are_signals}
+use Rattle.dd_compile.specs.{ValueGates.fresh, placing.Own.signals_in_turn, placing.Own.own_wiring, lemmas.ChoiceLaws.fresh_length}
 
 pub fresh_step : (n k i v : ℕ) (now new : List Signal) → i < k → fresh n k ≡ now ++ fresh (n + i) (k - i) → v ≡ n + i + 1 → new ≡ now ++ signal_of v ∷ [] →
     fresh n k ≡ new ++ fresh (n + (i + 1)) (k - (i + 1))
@@ -57,12 +47,6 @@ turn_end m v i cells now past cs ss =
     let all : now.cells ≡ cells = cs ∙ take_all i cells past in
     let signals : now.signals ≡ signals_in_turn m 0 cells = sym (ss ∙ (ap (λ ds. now.signals ++ signals_in_turn m v ds) (drop_all i cells past) ∙ append-nil now.signals)) in
     λ j. record { cells = all j; signals = signals j }
-
--- the next cell comes after all before it
-pub turn_after : (cells : List Cell) (i : ℕ) (d : Cell) (cs : List Cell) → IsStrictlySortedBy cell_cmp cells → i < length cells → d ≡ get_or cells i d → cs ≡ take i cells → All (λ c. cell_cmp c d ≡ Less) cs
-turn_after cells i d cs up h here so_far = rw so_far (λ k e below.
-    let within : k < i = omega (arith, below, length-take i cells) in
-    rw (get_or-take i cells k e within) (ap (cell_cmp (get_or cells k e)) (here ∙ get_or_default cells i d e h) ∙ Less-from_sorted cell_cmp cells k i e up within h))
 
 pub in_turn_length : (m n : ℕ) (cs : List Cell) → length (signals_in_turn m n cs) ≡ length cs
 in_turn_length m n [] = refl

@@ -1,14 +1,11 @@
 -- The signals of the cells that a rule reads, and what the signal of its gates says.
 use Rattle.std.specs.Prelude.{◌≡◌, ◌==◌, ◌&&◌, if◌then◌else◌, ℕ, Bool, true, false, List, Option, Some, None, length, nat_le}
 use Rattle.std.specs.List.{Contains, list_all}
-use Rattle.dd_lattice.specs.Place.{Place, moved, is_in_range}
-use Rattle.dd_lattice.specs.Cells.{shifted}
-use Rattle.dd_lattice.specs.declared.position.Cell.{Cell}
+use Rattle.dd_lattice.specs.{Place.Place, Place.moved, Place.is_in_range, Cells.shifted, declared.position.Cell.Cell}
 use Rattle.dd_pattern.specs.Reading.{Look, HasSymbolsBelow}
 use Rattle.dd_expansion.specs.Truth.{is_symbol}
 use Rattle.dd_formula.specs.LocalRule.{LocalRule, reads_at, is_true}
-use Rattle.dd_circuit.specs.declared.gates.Signal.{Signal}
-use Rattle.dd_circuit.specs.Circuits.{Network, signal_value, agrees}
+use Rattle.dd_circuit.specs.{declared.gates.Signal.Signal, Circuits.Network, Circuits.signal_value, Circuits.agrees}
 use Rattle.dd_compile.specs.Wiring.{Wiring, signals_of, wire_of}
 
 -- the signal's variable is one of 1..n

@@ -1,18 +1,14 @@
 -- The signals of the cells that an automaton reads, and what the signals of its value say.
 use Rattle.std.specs.Prelude.{ℕ, ◌≡◌, ◌<◌, ◌==◌, Bool, true, List, Some, length, map, slice_get}
 use Rattle.std.specs.List.{Contains, list_all}
-use Rattle.dd_lattice.specs.Cells.{shifted}
-use Rattle.dd_lattice.specs.declared.position.Cell.{Cell}
+use Rattle.dd_lattice.specs.{Cells.shifted, declared.position.Cell.Cell}
 use Rattle.dd_pattern.specs.Reading.{Look, HasSymbolsBelow}
 use Rattle.dd_expansion.specs.Truth.{is_symbol}
 use Rattle.dd_formula.specs.LocalRule.{LocalRule, is_true}
 use Rattle.dd_formula.specs.Automata.{CommonNumbers, IsAutomaton, cases_fit, cases_reads, counted, first_case, value}
-use Rattle.dd_formula.specs.declared.automaton.Automaton.{Automaton}
-use Rattle.dd_formula.specs.declared.automaton.Cases.{Cases}
-use Rattle.dd_circuit.specs.declared.gates.Signal.{Signal}
-use Rattle.dd_circuit.specs.Circuits.{Network, signal_value, agrees}
-use Rattle.dd_compile.specs.Wiring.{Wiring, signals_of, wire_of}
-use Rattle.dd_compile.specs.RuleSignals.{are_signals}
+use Rattle.dd_formula.specs.declared.automaton.{Automaton.Automaton, Cases.Cases}
+use Rattle.dd_circuit.specs.{declared.gates.Signal.Signal, Circuits.Network, Circuits.signal_value, Circuits.agrees}
+use Rattle.dd_compile.specs.{Wiring.Wiring, Wiring.signals_of, Wiring.wire_of, RuleSignals.are_signals}
 
 -- the cases fit some numbers with an alphabet of k symbols, and a is one of the nodes
 pub record HasCasesSymbols (c : Cases) (k a : ℕ) : Type 0 where

@@ -1,15 +1,12 @@
 -- The gates of an automaton's value, and what they say wherever they stand.
 use Rattle.std.specs.Prelude.{ℕ, ◌≡◌, ◌<◌, ◌≤◌, ◌+◌, ◌-◌, ◌*◌, Bool, true, All, length}
-use Rattle.dd_lattice.specs.Place.{most_coordinate}
-use Rattle.dd_lattice.specs.declared.position.Cell.{Cell}
+use Rattle.dd_lattice.specs.{Place.most_coordinate, declared.position.Cell.Cell}
 use Rattle.dd_topology.specs.Topology.{extent}
 use Rattle.dd_pattern.specs.Reading.{Look, HasSymbolsBelow}
 use Rattle.dd_formula.specs.Automata.{CommonNumbers, IsAutomaton, counted, value}
 use Rattle.dd_formula.specs.declared.automaton.Automaton.{Automaton}
 use Rattle.dd_circuit.specs.Circuits.{IsSignal, AreGates, agrees}
-use Rattle.dd_compile.specs.Wiring.{Wiring}
-use Rattle.dd_compile.specs.Compiling.{AllMade}
-use Rattle.dd_compile.specs.ValueGates.{value_made}
+use Rattle.dd_compile.specs.{Wiring.Wiring, Compiling.AllMade, ValueGates.value_made}
 use Rattle.dd_compile.specs.ValueSignals.{TellsCells, SaysWhich, are_wired_there}
 
 -- After n variables these are gates over earlier variables, with a signal for each of k symbols. If the gates have

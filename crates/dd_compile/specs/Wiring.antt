@@ -1,10 +1,7 @@
 -- The signals that say which symbol a cell has.
 use Rattle.std.specs.Prelude.{◌≡◌, ◌<◌, ℕ, List, [], ◌∷◌, ◌++◌, Option, Some, None, length, slice_get, slice_index_or}
-use Rattle.std.specs.List.{Contains, position_or_len}
-use Rattle.std.specs.List.Sorted.{IsStrictlySortedBy}
-use Rattle.std.specs.Ordering.{is_eq}
-use Rattle.dd_lattice.specs.declared.position.Cell.{Cell}
-use Rattle.dd_lattice.specs.Order.{cell_cmp}
+use Rattle.std.specs.{List.Contains, List.position_or_len, List.Sorted.IsStrictlySortedBy, Ordering.is_eq}
+use Rattle.dd_lattice.specs.{declared.position.Cell.Cell, Order.cell_cmp}
 use Rattle.dd_circuit.specs.declared.gates.Signal.{Signal}
 
 -- cells in cell order, and a list of signals for each, by symbol

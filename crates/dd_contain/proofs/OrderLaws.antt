@@ -1,16 +1,13 @@
 -- If a list has all periods within the limits, the first that satisfies a condition in the list is the first of all.
 use Rattle.std.proofs.Common.{◌≡◌, ℕ, ◌<◌, List, length, get_or, Some, refl, sym, subst, inl, inr, Contains}
-use Rattle.std.specs.Prelude.{slice_get}
-use Rattle.std.specs.List.Sorted.{IsStrictlySortedBy}
-use Rattle.std.specs.Cmp.{IsTotalOrder}
 use Rattle.std.proofs.lemmas.Bool.{cases_order}
 use Rattle.std.proofs.lemmas.Cmp.{nat_cmp_total, on_total, then_total, tied_itself}
 use Rattle.std.proofs.lemmas.Map.Keys.{Less-from_sorted}
 use Rattle.std.proofs.lemmas.Option.{slice_get_within, slice_get_read, get_or_from_slice_get}
+use Rattle.std.specs.{Prelude.slice_get, List.Sorted.IsStrictlySortedBy, Cmp.IsTotalOrder}
 use Rattle.dd_pattern.specs.declared.periods.Periods.{Periods}
 use Rattle.dd_pattern.specs.Periods.{periods_volume, periods_cmp, IsBefore, AreAllWithin}
-use Rattle.dd_contain.specs.Decided.{IsFirst, NoneWithin}
-use Rattle.dd_contain.specs.searching.Listed.{NoneBefore, IsFirstOf}
+use Rattle.dd_contain.specs.{Decided.IsFirst, Decided.NoneWithin, searching.Listed.NoneBefore, searching.Listed.IsFirstOf}
 
 periods_total : IsTotalOrder periods_cmp
 periods_total =

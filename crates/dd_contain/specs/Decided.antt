@@ -1,9 +1,7 @@
 -- What is decided about a range of radii and of periods.
 use Rattle.std.specs.Prelude.{ℕ, ◌<◌, ◌≤◌, List}
 use Rattle.dd_derivation.specs.declared.step.Step.{Step}
-use Rattle.dd_pattern.specs.declared.periods.Periods.{Periods}
-use Rattle.dd_pattern.specs.Periods.{AreWithin, IsBefore}
-use Rattle.dd_pattern.specs.Tile.{Tile}
+use Rattle.dd_pattern.specs.{declared.periods.Periods.Periods, Periods.AreWithin, Periods.IsBefore, Tile.Tile}
 use Rattle.dd_contain.specs.declared.decision.Decision.{Decision}
 use Rattle.dd_contain.specs.declared.decision.Decision.TheVariants.{Yes, No, Unknown}
 

@@ -5,11 +5,10 @@ use Rattle.dd_formula.specs.LocalRule.{LocalRule}
 use Rattle.dd_boxes.specs.Goals.{breaks}
 use Rattle.dd_contain.specs.declared.decision.Decision.{Decision}
 use Rattle.dd_contain.specs.declared.decision.Decision.TheVariants.{Yes, No, Unknown}
-use Rattle.dd_contain.specs.declared.equal.Half.TheVariants.{Left, Right}
-use Rattle.dd_contain.specs.declared.equal.Equality.{Equality}
+use Rattle.dd_contain.specs.declared.equal.{Half.TheVariants.Left, Half.TheVariants.Right, Equality.Equality}
 use Rattle.dd_contain.specs.declared.equal.Equality.TheVariants.{Yes as Same, No as Differ, Unknown as Open}
-use Rattle.dd_problem.specs.Problems.{box_problem}
 use Rattle.dd_contain.specs.Questions.{IsDecided}
+use Rattle.dd_problem.specs.Problems.{box_problem}
 
 -- the join of two answers: NO left if the left one is NO, or NO right if the right one is, or YES if both are
 abbrev pub joined : Decision → Decision → Equality

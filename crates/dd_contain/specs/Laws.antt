@@ -1,10 +1,8 @@
 -- When a box question has which answer.
 use Rattle.std.specs.Prelude.{ℕ, ◌↔◌}
 use Rattle.dd_formula.specs.LocalRule.{LocalRule}
-use Rattle.dd_boxes.specs.Goals.{GoalOf}
-use Rattle.dd_boxes.specs.Boxes.{Suffices}
-use Rattle.dd_pattern.specs.declared.periods.Periods.{Periods}
-use Rattle.dd_pattern.specs.Periods.{AreWithin}
+use Rattle.dd_boxes.specs.{Goals.GoalOf, Boxes.Suffices}
+use Rattle.dd_pattern.specs.{declared.periods.Periods.Periods, Periods.AreWithin}
 use Rattle.dd_contain.specs.declared.decision.Decision.{Decision}
 use Rattle.dd_contain.specs.declared.decision.Decision.TheVariants.{Yes, No, Unknown}
 use Rattle.dd_contain.specs.Questions.{ShowsAt}

@@ -2,12 +2,9 @@
 -- says that the cells up to this one weigh more than t, that is, at least t + 1.
 use Rattle.std.specs.Prelude.{ℕ, zero, suc, ◌+◌, ◌-◌, Bool, true, false, nat_lt, List, [], ◌∷◌, ◌++◌, map, length, Option, Some, None, slice_get, slice_index}
 use Rattle.std.specs.List.{range_with_len}
-use Rattle.dd_clause.specs.declared.clause.Literal.{Literal}
-use Rattle.dd_clause.specs.Clauses.{ClauseList}
-use Rattle.dd_circuit.specs.declared.gates.Signal.{Signal}
-use Rattle.dd_circuit.specs.declared.gates.Gate.{Gate}
-use Rattle.dd_circuit.specs.declared.gates.Gate.TheVariants.{And, Or}
-use Rattle.dd_circuit.specs.Circuits.{signal_of}
+use Rattle.dd_clause.specs.{declared.clause.Literal.Literal, Clauses.ClauseList}
+use Rattle.dd_circuit.specs.declared.gates.{Signal.Signal, Gate.Gate}
+use Rattle.dd_circuit.specs.{declared.gates.Gate.TheVariants.And, declared.gates.Gate.TheVariants.Or, Circuits.signal_of}
 use Rattle.dd_cnf.specs.Encoding.{gates_clauses, opposing}
 use Rattle.dd_compile.specs.Compiling.{AllMade}
 use Rattle.dd_problem.specs.Clauses.{input}

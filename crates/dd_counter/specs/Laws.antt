@@ -1,20 +1,13 @@
 -- What steps that refute the clauses of a weight say about all configurations of given periods.
 use Rattle.std.specs.Prelude.{◌≡◌, ◌<◌, ◌≤◌, ◌+◌, ◌-◌, ◌*◌, ◌∷◌, [], ℕ, suc, List, length, get_or}
-use Rattle.dd_derivation.specs.declared.step.Step.{Step}
-use Rattle.dd_derivation.specs.Derivations.{IsRefuting}
-use Rattle.dd_circuit.specs.declared.gates.Signal.{Signal}
-use Rattle.dd_circuit.specs.Circuits.{signal_of}
+use Rattle.dd_derivation.specs.{declared.step.Step.Step, Derivations.IsRefuting}
+use Rattle.dd_circuit.specs.{declared.gates.Signal.Signal, Circuits.signal_of}
 use Rattle.dd_cnf.specs.Encoding.{opposing}
-use Rattle.dd_pattern.specs.declared.periods.Periods.{Periods}
-use Rattle.dd_pattern.specs.Periods.{periods_volume}
-use Rattle.dd_pattern.specs.Tile.{Tile}
-use Rattle.dd_pattern.specs.Weight.{total_weight}
+use Rattle.dd_pattern.specs.{declared.periods.Periods.Periods, Periods.periods_volume, Tile.Tile, Weight.total_weight}
 use Rattle.dd_formula.specs.LocalRule.{LocalRule}
 use Rattle.dd_boxes.specs.Goals.{always}
 use Rattle.dd_problem.specs.Problems.{torus_problem}
-use Rattle.dd_counter.specs.Counter.{rows, last_refused}
-use Rattle.dd_counter.specs.Weights.{weight_problem}
-use Rattle.dd_counter.specs.Least.{IsLiving, LeastOn, NoneOn}
+use Rattle.dd_counter.specs.{Counter.rows, Counter.last_refused, Weights.weight_problem, Least.IsLiving, Least.LeastOn, Least.NoneOn}
 
 -- the signals that say how much all cells weigh
 abbrev pub last_row : LocalRule → Periods → List ℕ → ℕ → List Signal

@@ -1,17 +1,10 @@
 -- The clauses that ask for a configuration of small weight on a torus.
 use Rattle.std.specs.Prelude.{◌<◌, ◌+◌, ◌*◌, ℕ, Bool, zero, suc, List, length}
-use Rattle.dd_clause.specs.declared.clause.Literal.{Literal}
-use Rattle.dd_clause.specs.Clauses.{ClauseList, Satisfies}
-use Rattle.dd_pattern.specs.declared.periods.Periods.{Periods}
-use Rattle.dd_pattern.specs.Periods.{periods_volume}
-use Rattle.dd_pattern.specs.Tile.{Tile}
-use Rattle.dd_pattern.specs.Weight.{total_weight}
+use Rattle.dd_clause.specs.{declared.clause.Literal.Literal, Clauses.ClauseList, Clauses.Satisfies}
+use Rattle.dd_pattern.specs.{declared.periods.Periods.Periods, Periods.periods_volume, Tile.Tile, Weight.total_weight}
 use Rattle.dd_formula.specs.LocalRule.{LocalRule}
-use Rattle.dd_boxes.specs.Goals.{always}
-use Rattle.dd_boxes.specs.Counts.{question_clauses}
-use Rattle.dd_boxes.specs.Witnesses.{IsWitness, HasPeriods}
-use Rattle.dd_problem.specs.Problems.{torus_problem}
-use Rattle.dd_problem.specs.Symbols.{AreRead}
+use Rattle.dd_boxes.specs.{Goals.always, Counts.question_clauses, Witnesses.IsWitness, Witnesses.HasPeriods}
+use Rattle.dd_problem.specs.{Problems.torus_problem, Symbols.AreRead}
 use Rattle.dd_counter.specs.Counter.{weighed}
 
 -- the clauses of the torus, and, if `below` is at least 1, those of the counter, with the unit clause last

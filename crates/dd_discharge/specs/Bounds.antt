@@ -2,17 +2,14 @@
 use Rattle.std.specs.Prelude.{ℕ, ◌⊎◌, pos, List, ◌++◌, map, length}
 use Rattle.dd_lattice.specs.Place.{Place}
 use Rattle.dd_fraction.specs.Exact.{Exact, whole_of}
-use Rattle.dd_simplex.specs.Programs.{LinearProgram}
-use Rattle.dd_simplex.specs.Programs as simplex
-use Rattle.dd_simplex.specs.Runs.{RunEnds, RunOverflows, RunPivots}
+use Rattle.dd_simplex.specs.{Programs.LinearProgram, Runs.RunEnds, Runs.RunOverflows, Runs.RunPivots}
 use Rattle.dd_formula.specs.LocalRule.{LocalRule}
-use Rattle.dd_rows.specs.declared.rows.Row.{Row}
-use Rattle.dd_rows.specs.declared.rows.Rows.{Rows}
-use Rattle.dd_discharge.specs.declared.bound.Bound.{Bound}
-use Rattle.dd_discharge.specs.declared.fault.DischargeFault.{DischargeFault}
-use Rattle.dd_discharge.specs.declared.fault.DischargeFault.TheVariants as fault
-use Rattle.dd_discharge.specs.Denominators.{HasUnprinted, IsPrintedAs}
+use Rattle.dd_rows.specs.declared.rows.{Row.Row, Rows.Rows}
 use Rattle.dd_rows.specs.Programs.{IsProgramOf, IsLargeProgram, column_count}
+use Rattle.dd_discharge.specs.declared.{bound.Bound.Bound, fault.DischargeFault.DischargeFault}
+use Rattle.dd_discharge.specs.Denominators.{HasUnprinted, IsPrintedAs}
+use Rattle.dd_simplex.specs.Programs as simplex
+use Rattle.dd_discharge.specs.declared.fault.DischargeFault.TheVariants as fault
 
 abbrev pub row_of_fractions : Row → simplex.ProgramRow
 row_of_fractions r = record { coefficients = map whole_of r.coefficients; bound = whole_of (pos r.bound) }

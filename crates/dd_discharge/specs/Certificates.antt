@@ -2,10 +2,8 @@
 use Rattle.std.specs.Prelude.{ℕ, List, length}
 use Rattle.dd_lattice.specs.Place.{Place}
 use Rattle.dd_formula.specs.LocalRule.{LocalRule}
-use Rattle.dd_rows.specs.declared.rows.Rows.{Rows}
-use Rattle.dd_discharge.specs.declared.bound.Bound.{Bound}
-use Rattle.dd_rows.specs.Programs.{IsProgramOf, column_count}
-use Rattle.dd_discharge.specs.Amounts.{IsCertifiedBound, HoldAtMost}
+use Rattle.dd_rows.specs.{declared.rows.Rows.Rows, Programs.IsProgramOf, Programs.column_count}
+use Rattle.dd_discharge.specs.{declared.bound.Bound.Bound, Amounts.IsCertifiedBound, Amounts.HoldAtMost}
 
 -- the program is within its limits, and the bound is certified for its rows
 pub record IsBoundCertificate (x : LocalRule) (ws : List ℕ) (radius margin : ℕ) (vs : List Place) (b : Bound) : Type 0 where

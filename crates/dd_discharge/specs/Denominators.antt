@@ -2,8 +2,7 @@
 use Rattle.std.specs.Prelude.{ℕ, ◌*◌, ◌/◌, ◌<◌, ◌≤◌, ◌≡◌, ◌⊎◌, pos, List, ◌++◌, map, drop, unsigned_abs, Option, Some, None, cond, nat_le}
 use Rattle.std.specs.List.{fold, All, Any}
 use Rattle.dd_values.specs.Bounds.{most_number}
-use Rattle.dd_fraction.specs.Divisor.{greatest_common}
-use Rattle.dd_fraction.specs.Exact.{Exact, den_of}
+use Rattle.dd_fraction.specs.{Divisor.greatest_common, Exact.Exact, Exact.den_of}
 use Rattle.dd_discharge.specs.declared.bound.Bound.{Bound}
 
 abbrev pub least_common : ℕ → ℕ → ℕ

@@ -1,6 +1,5 @@
 -- Bounds whose numbers can all be printed.
-use Rattle.std.specs.Prelude.{ℕ, ◌≤◌, List, length}
-use Rattle.std.specs.List.{All}
+use Rattle.std.specs.{Prelude.ℕ, Prelude.◌≤◌, Prelude.List, Prelude.length, List.All}
 use Rattle.dd_values.specs.Bounds.{most_number}
 use Rattle.dd_discharge.specs.declared.bound.Bound.{Bound}
 

@@ -2,17 +2,14 @@
 -- those of marked variables among them. Then the hints so far lead to the conflict. In the end no entry is left, and
 -- no literal is taken as false.
 use Rattle.std.proofs.Common.{◌≡◌, ℕ, zero, suc, ◌+◌, ◌<◌, Bool, true, false, cond, not, ◌&&◌, List, [], ◌∷◌, ◌++◌, Some, refl, ap, sym, ◌∙◌, subst, inl, inr, ◌⊎◌, length, get_or, take, reverse, arith, add-one}
-use Rattle.std.specs.List.{list_all, filter, All}
 use Rattle.std.proofs.lemmas.Bool.{cases_Bool, or_cases, or_left, or_right, false≢true}
-use Rattle.std.proofs.lemmas.List.{take_more, take_all, reverse-append}
-use Rattle.std.proofs.lemmas.List.Folds.{list_any-append}
-use Rattle.dd_clause.specs.declared.clause.Literal.{Literal}
-use Rattle.dd_clause.specs.Clauses.{negation, IsLiteralInRange, IsClauseInRange}
+use Rattle.std.proofs.lemmas.List.{take_more, take_all, reverse-append, Folds.list_any-append}
+use Rattle.std.specs.List.{list_all, filter, All}
+use Rattle.dd_clause.specs.{declared.clause.Literal.Literal, Clauses.negation, Clauses.IsLiteralInRange, Clauses.IsClauseInRange}
 use Rattle.dd_derivation.specs.declared.propagation.Finding.{Finding}
 use Rattle.dd_derivation.specs.declared.propagation.Finding.TheVariants.{Falsified, Forced, Open}
 use Rattle.dd_derivation.specs.Derivations.{same_literal, is_among, finding_of, finding, clause_of, is_conflict}
-use Rattle.dd_derivation.specs.lemmas.Soundness.{same_literal-eq}
-use Rattle.dd_derivation.specs.lemmas.Findings.{In, in_here}
+use Rattle.dd_derivation.specs.lemmas.{Soundness.same_literal-eq, Findings.In, Findings.in_here}
 use Rattle.dd_engines.specs.declared.analysis.Entry.{Entry}
 use Rattle.dd_engines.specs.propagation.Following.{alive, falses, IsForced, IsTrail, IsFalsified, Ends}
 use Rattle.dd_engines.specs.propagation.Analysis.{marks, Grows, AreMarked}

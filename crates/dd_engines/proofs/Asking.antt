@@ -1,12 +1,11 @@
 -- Engines asked in turn, as lists. A round of those that are left makes a round of all.
 use Rattle.std.proofs.Common.{◌≡◌, ℕ, suc, ◌+◌, ◌<◌, ◌≤◌, List, [], ◌∷◌, ◌++◌, Bool, false, refl, sym, ◌∙◌, ap, subst, length, take, drop, get_or, arith, add-one, append_assoc, append-nil, length-take, Result, Ok, Err, Option, Some, None, IsErr}
 use Rattle.std.proofs.Math.ListN.{set}
-use Rattle.std.specs.List.{remove}
 use Rattle.std.proofs.lemmas.List.{drop_more, drop-set, drop-set-lt, drop_all, drop_at, length-set, take-set, take_all, take-append-drop, take-append-le, map-append, take_more_set}
+use Rattle.std.specs.List.{remove}
 use Rattle.dd_values.specs.Counts.{Rose}
 use Rattle.dd_derivation.specs.declared.step.Outcome.{Outcome}
-use Rattle.dd_engines.specs.Proposals.{round_end}
-use Rattle.dd_engines.specs.Rosters.{seen_of_engine, seen_all}
+use Rattle.dd_engines.specs.{Proposals.round_end, Rosters.seen_of_engine, Rosters.seen_all}
 use Rattle.dd_engines.specs.Rounds.{Seen, AskedOnce, Round, End, found, nothing, memory, all_asked, was_found, at_asking, gave_nothing, was_dropped}
 
 -- an error ends the round: memory ran out

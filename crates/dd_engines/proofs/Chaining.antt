@@ -1,21 +1,14 @@
 -- Chains of links. One more link changes none of the earlier chains.
 use Rattle.std.proofs.Common.{◌≡◌, ◌≢◌, ◌⊎◌, ℕ, zero, suc, ◌+◌, ◌<◌, ◌≤◌, false, get_or, take, drop, List, [], ◌∷◌, ◌++◌, Option, Some, None, refl, sym, ◌∙◌, ap, inl, inr, length, arith, add-one}
-use Rattle.std.proofs.Math.ListN.{set}
-use Rattle.std.specs.List.{slice_get, All}
-use Rattle.std.specs.Option.{option_map_or}
-use Rattle.std.proofs.lemmas.List.{get_or-set_same, get_or-set_other, length-append}
-use Rattle.std.proofs.lemmas.List.Elements.{All-set, All-weaker}
-use Rattle.std.proofs.Math.ListN.{replicate}
-use Rattle.std.proofs.lemmas.Option.{slice_get-get_or}
-use Rattle.std.proofs.lemmas.Bool.{cases_Bool, false≢true}
-use Rattle.std.proofs.lemmas.Grind.{common_steps}
-use Rattle.std.proofs.lemmas.List.{drop_more}
+use Rattle.std.proofs.Math.ListN.{set, replicate}
+use Rattle.std.proofs.lemmas.List.{get_or-set_same, get_or-set_other, length-append, drop_more}
+use Rattle.std.proofs.lemmas.{List.Elements.All-set, List.Elements.All-weaker, Option.slice_get-get_or}
+use Rattle.std.proofs.lemmas.{Bool.cases_Bool, Bool.false≢true, Grind.common_steps}
 use Rattle.std.proofs.lemmas.List.Sums.{count_by_more_yes, count_by_more_no}
+use Rattle.std.specs.{List.slice_get, List.All, Option.option_map_or}
 use Rattle.dd_clause.specs.declared.clause.Literal.{Literal}
-use Rattle.dd_derivation.specs.Derivations.{same_literal}
-use Rattle.dd_derivation.specs.lemmas.Soundness.{same_literal-eq}
-use Rattle.dd_engines.specs.declared.chains.Link.{Link}
-use Rattle.dd_engines.specs.declared.chains.Chains.{Chains}
+use Rattle.dd_derivation.specs.{Derivations.same_literal, lemmas.Soundness.same_literal-eq}
+use Rattle.dd_engines.specs.declared.chains.{Link.Link, Chains.Chains}
 use Rattle.dd_engines.specs.walking.Truths.{times_in, place_of, standing}
 use Rattle.dd_engines.specs.walking.Chains.{along, chain_of, AreLinked, HasChain, numbers_of, AreChained}
 

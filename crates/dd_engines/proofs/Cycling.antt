@@ -1,16 +1,11 @@
 -- How many values differ from those of a landmark, and when the walk is back there.
 use Rattle.std.proofs.Common.{◌≡◌, ℕ, zero, suc, ◌+◌, ◌-◌, ◌%◌, ◌<◌, ◌≤◌, Bool, true, false, not, List, [], ◌∷◌, Option, Some, None, refl, sym, ◌∙◌, ap, subst, inl, inr, length, get_or, take, arith}
-use Rattle.std.proofs.Math.ListN.{set}
-use Rattle.std.specs.Bool.{beq}
-use Rattle.std.specs.Option.{IfSome}
-use Rattle.std.proofs.Math.Nat.{mod-add-mod}
+use Rattle.std.proofs.Math.{ListN.set, Nat.mod-add-mod}
 use Rattle.std.proofs.lemmas.Nat.Gcd.{dvd_of_mod-eq-zero, mod-eq-zero_of_dvd, dvd_trans}
 use Rattle.std.proofs.lemmas.List.Elements.{All-weaker, All-more, All-nil}
-use Rattle.dd_clause.specs.declared.clause.Literal.{Literal}
-use Rattle.dd_clause.specs.Clauses.{ClauseList}
-use Rattle.dd_engines.specs.declared.cycle.Landmark.{Landmark}
-use Rattle.dd_engines.specs.Walks.{values_after, NoneBefore}
-use Rattle.dd_engines.specs.Repeats.{PickAlike}
+use Rattle.std.specs.{Bool.beq, Option.IfSome}
+use Rattle.dd_clause.specs.{declared.clause.Literal.Literal, Clauses.ClauseList}
+use Rattle.dd_engines.specs.{declared.cycle.Landmark.Landmark, Walks.values_after, Walks.NoneBefore, Repeats.PickAlike}
 use Rattle.dd_engines.specs.walking.Cycles.{differences, IsTurn, IsCounted, IsBack, IsSameOrNew}
 use Rattle.dd_engines.proofs.Repeating.{none_later}
 

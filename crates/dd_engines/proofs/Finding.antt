@@ -1,11 +1,9 @@
 -- The first clause without a true literal, by the numbers of true literals.
 use Rattle.std.proofs.Common.{◌≡◌, ℕ, zero, suc, ◌+◌, ◌<◌, Bool, true, false, cond, not, eqb, List, [], ◌∷◌, Some, refl, sym, ◌∙◌, ap, inl, inr, length, get_or, map, arith}
-use Rattle.std.specs.List.{count_by, sum_by, list_any, slice_get}
 use Rattle.std.proofs.lemmas.Bool.{cases_Bool, ne_eqb, false≢true, not-true, not-false}
-use Rattle.std.proofs.lemmas.List.Sums.{sum_by-cons}
-use Rattle.std.proofs.lemmas.List.Elements.{All-cons, All-nil}
-use Rattle.dd_clause.specs.declared.clause.Literal.{Literal}
-use Rattle.dd_clause.specs.Clauses.{is_true_under, is_clause_true, Satisfies}
+use Rattle.std.proofs.lemmas.List.{Sums.sum_by-cons, Elements.All-cons, Elements.All-nil}
+use Rattle.std.specs.List.{count_by, sum_by, list_any, slice_get}
+use Rattle.dd_clause.specs.{declared.clause.Literal.Literal, Clauses.is_true_under, Clauses.is_clause_true, Clauses.Satisfies}
 use Rattle.dd_values.specs.Variables.{true_variables}
 use Rattle.dd_engines.specs.Walks.{is_unsatisfied, first_unsatisfied}
 use Rattle.dd_engines.specs.walking.Truths.{true_count, is_none_at, NoneIsNone}

@@ -1,33 +1,19 @@
 -- Unit propagation. A literal that one more clause makes true follows. If every clause is settled, no hints end in a conflict.
 use Rattle.std.proofs.Common.{◌≡◌, ℕ, zero, suc, ◌-◌, ◌<◌, ◌≤◌, Bool, true, false, cond, not, ◌&&◌, ◌||◌, eqb, List, [], ◌∷◌, ◌++◌, Option, Some, None, refl, ap, sym, ◌∙◌, subst, inl, inr, ◌⊎◌, get_or, length, arith}
 use Rattle.std.proofs.Math.ListN.{set, replicate}
-use Rattle.std.specs.Bool.{beq}
-use Rattle.std.specs.List.{list_all, filter, All}
 use Rattle.std.proofs.lemmas.Bool.{eq-eqb, ne_eqb, le-leb, leb-true, and_from, and_parts, or_cases, cases_Bool, cases_eq, cases_lt, not-true, false≢true}
 use Rattle.std.proofs.lemmas.List.{length-set, get_or_past, get_or-set_other, get_or-replicate, length-replicate, length-append, take-append-le, get_or_append_left}
-use Rattle.std.proofs.lemmas.List.Folds.{list_any-append}
-use Rattle.std.proofs.Math.Seq.{get_or-append_seam, take-append_seam}
-use Rattle.std.proofs.lemmas.Grind.{get_or-set_at}
-use Rattle.std.proofs.lemmas.List.Sums.{sum_by-set}
-use Rattle.std.proofs.lemmas.List.Elements.{All-head, All-tail, All-same, All-filter, filter_passes, filter_agree}
-use Rattle.dd_clause.specs.declared.clause.Literal.{Literal}
-use Rattle.dd_clause.specs.Clauses.{negation, IsLiteralInRange, ClauseList}
+use Rattle.std.proofs.{lemmas.List.Folds.list_any-append, Math.Seq.get_or-append_seam, Math.Seq.take-append_seam}
+use Rattle.std.proofs.lemmas.{Grind.get_or-set_at, List.Sums.sum_by-set}
+use Rattle.std.proofs.lemmas.List.Elements.{All-head, All-tail, All-same, All-filter, filter_passes}
+use Rattle.std.specs.{Bool.beq, List.list_all, List.filter, List.All}
+use Rattle.dd_clause.specs.{declared.clause.Literal.Literal, Clauses.negation, Clauses.IsLiteralInRange, Clauses.ClauseList}
 use Rattle.dd_derivation.specs.declared.propagation.Finding.TheVariants.{Falsified, Forced, Open}
 use Rattle.dd_derivation.specs.declared.step.Step.{Step}
 use Rattle.dd_derivation.specs.Derivations.{is_empty, same_literal, is_among, is_literal_in_range, finding_of, finding, clause_of, is_conflict, is_proper, is_right}
-use Rattle.dd_engines.specs.declared.analysis.Entry.{Entry}
-use Rattle.dd_engines.specs.SingleSteps.{IsSingleStep}
+use Rattle.dd_derivation.specs.lemmas.{Findings.finding-congr, Soundness.literal-eq, Soundness.same_literal-eq}
+use Rattle.dd_engines.specs.{declared.analysis.Entry.Entry, SingleSteps.IsSingleStep}
 use Rattle.dd_engines.specs.propagation.Following.{is_other, is_false_by, unknown_count, unknowns, alive, falses, IsForced, IsTrail, Conflicts, Follows, FollowsMore, IsSettled}
-use Rattle.dd_engines.proofs.Literals.{same_literal-eq, literal-eq}
-
--- two tests that agree find the same
-finding-congr : (p q : Literal → Bool) (clause : List Literal) → ((l : Literal) → p l ≡ q l) → finding p clause ≡ finding q clause
-finding-congr p q clause e =
-    of_same (filter (λ x. not (p x)) clause) ∙ ap (finding_of q) (filter_agree (λ x. not (p x)) (λ x. not (q x)) (λ x. ap not (e x)) clause)
-  where
-    of_same : (xs : List Literal) → finding_of p xs ≡ finding_of q xs
-    of_same [] = refl
-    of_same (x ∷ xs) = rw (e (negation x)) refl
 
 forced_by : (b : Bool) (l m : Literal) → cond b (Forced l) Open ≡ Forced m → (b ≡ true) × (l ≡ m)
 forced_by true l m h = (refl, cc)

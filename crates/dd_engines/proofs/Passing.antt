@@ -1,8 +1,7 @@
 -- A pass over all clauses, a clause at a time.
 use Rattle.std.proofs.Common.{◌≡◌, ℕ, ◌+◌, ◌<◌, Bool, true, false, List, [], Option, inl, inr, subst, ◌∙◌, ap, length, get_or, take, arith}
+use Rattle.std.proofs.lemmas.{Bool.cases_Bool, List.Elements.All-more}
 use Rattle.std.specs.List.{All}
-use Rattle.std.proofs.lemmas.Bool.{cases_Bool}
-use Rattle.std.proofs.lemmas.List.Elements.{All-more}
 use Rattle.dd_clause.specs.declared.clause.Literal.{Literal}
 use Rattle.dd_engines.specs.declared.analysis.Entry.{Entry}
 use Rattle.dd_engines.specs.propagation.Following.{FollowsMore, IsSettled, unknowns}

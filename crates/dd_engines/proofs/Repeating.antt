@@ -1,12 +1,9 @@
 -- A walk that comes back to a state repeats itself, and so has no new values from there on.
 use Rattle.std.proofs.Common.{◌≡◌, ℕ, zero, suc, ◌+◌, ◌-◌, ◌%◌, ◌<◌, Bool, true, false, cond, List, [], ◌∷◌, Option, Some, None, refl, sym, ◌∙◌, ap, subst, inl, inr, length, arith, add-one}
-use Rattle.std.specs.List.{All, find, slice_get}
-use Rattle.std.specs.Option.{option_and_then, option_map}
-use Rattle.std.proofs.Math.Nat.{mod-add-mod}
-use Rattle.std.proofs.lemmas.Bool.{cases_lt}
+use Rattle.std.proofs.{Math.Nat.mod-add-mod, lemmas.Bool.cases_lt}
 use Rattle.std.proofs.lemmas.List.Elements.{All-head, All-tail, All-weaker}
-use Rattle.dd_clause.specs.declared.clause.Literal.{Literal}
-use Rattle.dd_clause.specs.Clauses.{ClauseList}
+use Rattle.std.specs.{List.All, List.find, List.slice_get, Option.option_and_then, Option.option_map}
+use Rattle.dd_clause.specs.{declared.clause.Literal.Literal, Clauses.ClauseList}
 use Rattle.dd_engines.specs.Walks.{values_after, first_unsatisfied, is_unsatisfied, flipped, made_true, NoneBefore}
 use Rattle.dd_engines.specs.Repeats.{PickAlike, IsSameState}
 

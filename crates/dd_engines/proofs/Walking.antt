@@ -1,22 +1,17 @@
 -- The steps of a walk.
 use Rattle.std.proofs.Common.{◌≡◌, ℕ, zero, suc, ◌+◌, ◌-◌, ◌*◌, ◌%◌, ◌<◌, ◌≤◌, Bool, true, false, cond, eqb, List, [], ◌∷◌, Some, refl, sym, ◌∙◌, ap, subst, inl, inr, length, get_or, map, arith, add-one}
-use Rattle.std.proofs.Math.ListN.{set}
+use Rattle.std.proofs.{Math.ListN.set, lemmas.Bool.cases_Bool, lemmas.Bool.cases_lt, lemmas.Bool.false≢true}
+use Rattle.std.proofs.lemmas.List.{length-map, length-set, Sums.sum_by-cons}
+use Rattle.std.proofs.lemmas.{List.Elements.All-weaker, List.Elements.All-same, Option.slice_get-get_or}
 use Rattle.std.specs.List.{All, count_by, slice_get}
-use Rattle.std.proofs.lemmas.Bool.{cases_Bool, cases_lt, false≢true}
-use Rattle.std.proofs.lemmas.List.{length-map, length-set}
-use Rattle.std.proofs.lemmas.List.Sums.{sum_by-cons}
-use Rattle.std.proofs.lemmas.List.Elements.{All-weaker, All-same}
-use Rattle.std.proofs.lemmas.Option.{slice_get-get_or}
 use Rattle.dd_clause.specs.declared.clause.Literal.{Literal}
 use Rattle.dd_clause.specs.Clauses.{ClauseList, negation, IsLiteralInRange, IsClauseInRange, is_true_under, Satisfies}
 use Rattle.dd_values.specs.Variables.{true_variables}
 use Rattle.dd_engines.specs.Walks.{made_true, first_unsatisfied, values_after, NoneBefore, IsFirstOnWalk}
 use Rattle.dd_engines.specs.walking.Truths.{true_count, standing, more, less, changed, IsListed, NoneIsNone, IsFirstNone}
-use Rattle.dd_engines.specs.walking.Walking.{Walks}
-use Rattle.dd_engines.specs.declared.chains.Chains.{Chains}
+use Rattle.dd_engines.specs.{walking.Walking.Walks, declared.chains.Chains.Chains}
 use Rattle.dd_engines.specs.walking.Chains.{HasChain, numbers_of, IsListingOf}
-use Rattle.dd_engines.proofs.Places.{standing_within}
-use Rattle.dd_engines.proofs.Flipping.{flipped_counts}
+use Rattle.dd_engines.proofs.{Places.standing_within, Flipping.flipped_counts}
 use Rattle.dd_engines.proofs.Finding.{counts_of, first_by_counts, none_by_counts, not_satisfied}
 
 one_at_most : (b : Bool) → cond b 1 0 ≤ 1

@@ -1,11 +1,9 @@
 -- Which proposals are right.
 use Rattle.std.specs.Prelude.{◌≡◌, ℕ, ◌≤◌, Bool, List, length, Result, Ok, Err, Option, Some, None}
-use Rattle.dd_values.specs.Counts.{Rose}
+use Rattle.dd_values.specs.{Counts.Rose, Variables.true_variables}
 use Rattle.dd_clause.specs.Clauses.{ClauseList, Satisfies}
-use Rattle.dd_values.specs.Variables.{true_variables}
 use Rattle.dd_derivation.specs.declared.step.Outcome.{Outcome}
-use Rattle.dd_derivation.specs.declared.step.Outcome.TheVariants.{Found, Refuted}
-use Rattle.dd_derivation.specs.Derivations.{IsRefuting}
+use Rattle.dd_derivation.specs.{declared.step.Outcome.TheVariants.Found, declared.step.Outcome.TheVariants.Refuted, Derivations.IsRefuting}
 use Rattle.dd_engines.specs.declared.engine.Proposal.{Proposal}
 use Rattle.dd_engines.specs.declared.engine.Proposal.TheVariants.{Nothing, Found as Proposed, Refutation}
 use Rattle.dd_engines.specs.Rounds.{End, found, nothing, memory}

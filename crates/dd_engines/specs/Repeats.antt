@@ -1,7 +1,6 @@
 -- When a walk repeats itself.
 use Rattle.std.specs.Prelude.{◌≡◌, ℕ, ◌%◌, ◌<◌, List, length, All}
-use Rattle.dd_clause.specs.declared.clause.Literal.{Literal}
-use Rattle.dd_clause.specs.Clauses.{ClauseList}
+use Rattle.dd_clause.specs.{declared.clause.Literal.Literal, Clauses.ClauseList}
 use Rattle.dd_engines.specs.Walks.{values_after}
 
 -- the flips from these two numbers on make the same literal of each clause true

@@ -1,7 +1,6 @@
 -- How contracts see a roster.
 use Rattle.std.specs.Prelude.{ℕ, Bool, List, map}
-use Rattle.dd_engines.specs.declared.roster.Roster.{Roster}
-use Rattle.dd_engines.specs.Rounds.{Seen}
+use Rattle.dd_engines.specs.{declared.roster.Roster.Roster, Rounds.Seen}
 
 -- an engine as contracts see it, from its two counts and whether it is sound
 abbrev pub seen_of_engine : {E : Type 0} → (E → ℕ) → (E → ℕ) → (E → Bool) → E → Seen

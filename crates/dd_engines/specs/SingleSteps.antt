@@ -1,10 +1,9 @@
 -- Refutations by a single step: those that unit propagation finds.
 use Rattle.std.specs.Prelude.{◌≡◌, [], ◌∷◌}
 use Rattle.dd_clause.specs.Clauses.{ClauseList}
-use Rattle.dd_derivation.specs.declared.step.Step.{Step}
+use Rattle.dd_derivation.specs.{declared.step.Step.Step, Derivations.IsRefuting}
 use Rattle.dd_engines.specs.declared.engine.Proposal.{Proposal}
 use Rattle.dd_engines.specs.declared.engine.Proposal.TheVariants.{Nothing, Found, Refutation}
-use Rattle.dd_derivation.specs.Derivations.{IsRefuting}
 
 -- the step refutes the clauses by itself
 abbrev pub IsSingleStep : ClauseList → Step → Type 0

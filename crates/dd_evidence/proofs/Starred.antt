@@ -1,22 +1,19 @@
 -- There is only one list of the minimal patterns, those of a node are its minimal list, and an output can hold the list.
 use Rattle.std.proofs.Common.{◌≡◌, ℕ, zero, suc, ◌*◌, ◌≤◌, ◌<◌, inl, inr, Bool, true, false, cond, Option, Some, None, List, [], ◌∷◌, ◌++◌, map, length, nat_eq, refl, ap, sym, subst, ◌∙◌, arith}
 use Rattle.std.proofs.lemmas.List.{map-append, append-nil}
-use Rattle.std.specs.List.{All, Contains, filter}
 use Rattle.std.proofs.lemmas.List.Elements.{All-nil, All-cons, All-head, All-tail, All-append, All-weaker, All-contains_itself, All-map, filter-append}
 use Rattle.std.proofs.lemmas.Bool.{cases_lt, eq-eqb, ne_eqb}
+use Rattle.std.specs.List.{All, Contains, filter}
 use Rattle.dd_formula.specs.LocalRule.{LocalRule, IsRule}
 use Rattle.dd_forbidden.specs.Breaking.{IsBreaking}
-use Rattle.dd_minimal.specs.Patterns.{whole, is_covered}
-use Rattle.dd_minimal.specs.Minimal.{thinned, all_break, IsMinimalList}
-use Rattle.dd_minimal.specs.Minimal as minimal
+use Rattle.dd_minimal.specs.{Patterns.whole, Patterns.is_covered, Minimal.thinned, Minimal.all_break, Minimal.IsMinimalList}
 use Rattle.dd_certificate.specs.declared.answer.Starred.{Starred}
-use Rattle.dd_certificate.specs.declared.answer.Answer.TheVariants as answer
 use Rattle.dd_certificate.specs.Bounds.{IsWritable, IsWritableNumber, IsWritableKept, IsWritableStarred}
 use Rattle.dd_question.specs.Lists.{HasFewPatterns}
-use Rattle.dd_evidence.specs.NodeLists.{IsListTo}
-use Rattle.dd_evidence.specs.Lists.{starred, IsStarredList, patterns_at}
-use Rattle.dd_evidence.proofs.NodeLists.{list_one, list_fits}
-use Rattle.dd_evidence.proofs.Lists.{AreShort, AreKnown}
+use Rattle.dd_evidence.specs.{NodeLists.IsListTo, Lists.starred, Lists.IsStarredList, Lists.patterns_at}
+use Rattle.dd_evidence.proofs.{NodeLists.list_one, NodeLists.list_fits, Lists.AreShort, Lists.AreKnown}
+use Rattle.dd_minimal.specs.Minimal as minimal
+use Rattle.dd_certificate.specs.declared.answer.Answer.TheVariants as answer
 
 abbrev AreOne : Type 0
 AreOne = (r : LocalRule) (a : ℕ) (ps qs : List (List (Option ℕ))) → IsMinimalList r a ps → IsMinimalList r a qs → ps ≡ qs

@@ -1,11 +1,9 @@
 -- The patterns that a rule forbids, as answers list them.
-use Rattle.std.specs.Prelude.{ℕ, Option, List, map, nat_eq}
-use Rattle.std.specs.List.{filter}
+use Rattle.std.specs.{Prelude.ℕ, Prelude.Option, Prelude.List, Prelude.map, Prelude.nat_eq, List.filter}
 use Rattle.dd_formula.specs.LocalRule.{LocalRule}
 use Rattle.dd_forbidden.specs.Breaking.{BreakingFillings}
 use Rattle.dd_minimal.specs.Minimal.{IsMinimalList}
-use Rattle.dd_certificate.specs.declared.answer.Listed.{Listed}
-use Rattle.dd_certificate.specs.declared.answer.Starred.{Starred}
+use Rattle.dd_certificate.specs.declared.answer.{Listed.Listed, Starred.Starred}
 use Rattle.dd_evidence.specs.NodeLists.{IsListTo}
 
 -- a pattern: the node, and the symbols of the cells that the rule reads there, in cell order

@@ -1,7 +1,6 @@
 -- Periodic configurations, as answers give them.
 use Rattle.std.specs.Prelude.{ℕ, ◌≡◌, List, [], ◌∷◌, length, take, slice_index_or}
-use Rattle.dd_pattern.specs.declared.periods.Periods.{Periods}
-use Rattle.dd_pattern.specs.Tile.{Tile, tile}
+use Rattle.dd_pattern.specs.{declared.periods.Periods.Periods, Tile.Tile, Tile.tile}
 use Rattle.dd_formula.specs.LocalRule.{LocalRule}
 
 -- the periods that an answer gives; 1 along an axis for which it gives none

@@ -1,17 +1,12 @@
 -- One more right answer.
 use Rattle.std.proofs.Common.{◌≡◌, inl, inr, ℕ, ◌+◌, ◌-◌, ◌<◌, ◌≤◌, List, length, get_or, Bool, true, false, ◌&&◌, Some, refl, sym, ◌∙◌, ap, subst, arith}
-use Rattle.std.specs.Prelude.{IsSomeAnd, IsTrue, ◌↔◌, ◌≢◌}
-use Rattle.std.specs.List.{slice_get}
-use Rattle.std.specs.declared.option.Option.{Option}
-use Rattle.std.proofs.lemmas.Bool.{cases_lt}
-use Rattle.std.proofs.lemmas.Option.{slice_get_read}
+use Rattle.std.proofs.lemmas.{Bool.cases_lt, Option.slice_get_read}
+use Rattle.std.specs.{Prelude.IsSomeAnd, Prelude.IsTrue, Prelude.◌↔◌, Prelude.◌≢◌, List.slice_get, declared.option.Option.Option}
 use Rattle.dd_certificate.specs.declared.answer.Answer.{Answer}
 use Rattle.dd_query.specs.declared.queries.Query.{Query}
 use Rattle.dd_script.specs.Parts.{Parts}
-use Rattle.dd_checker.specs.declared.verdict.Verdict.{Verdict}
-use Rattle.dd_checker.specs.declared.verdict.Verdict.TheVariants.{Accepted}
-use Rattle.dd_checker.specs.Certificates.{HasQuery, IsCertificate}
-use Rattle.dd_checker.specs.Claims.{Claim}
+use Rattle.dd_checker.specs.declared.verdict.Verdict.{Verdict, TheVariants.Accepted}
+use Rattle.dd_checker.specs.{Certificates.HasQuery, Certificates.IsCertificate, Claims.Claim}
 use Rattle.dd_examples.specs.Checked.{IsRight, IsRightAt, AreRightTo, AreRight}
 
 pub has_query_at : (s : Parts) (before number : ℕ) → before < length s.queries → number ≡ before + 1 → HasQuery s number

@@ -2,14 +2,9 @@
 use Rattle.std.specs.Prelude.{◌≡◌, ℕ, ◌-◌, ◌≤◌, List, length, IsSomeAnd, Bool, IsTrue, ◌↔◌}
 use Rattle.std.specs.List.{slice_get}
 use Rattle.dd_certificate.specs.declared.answer.Answer.{Answer}
-use Rattle.dd_output.specs.declared.output.Output.{Output}
-use Rattle.dd_output.specs.Outputs.{output_text, IsWritableOutput}
-use Rattle.dd_output.specs.Offsets.{IsOutputFault}
-use Rattle.dd_script.specs.declared.fault.ScriptFault.{ScriptFault}
-use Rattle.dd_script.specs.Parts.{Parts}
-use Rattle.dd_script.specs.Scripts.{Spells, IsScriptRefusal}
-use Rattle.dd_checker.specs.Certificates.{IsCertificate}
-use Rattle.dd_checker.specs.Claims.{Claim}
+use Rattle.dd_output.specs.{declared.output.Output.Output, Outputs.output_text, Outputs.IsWritableOutput, Offsets.IsOutputFault}
+use Rattle.dd_script.specs.{declared.fault.ScriptFault.ScriptFault, Parts.Parts, Scripts.Spells, Scripts.IsScriptRefusal}
+use Rattle.dd_checker.specs.{Certificates.IsCertificate, Claims.Claim}
 use Rattle.dd_examples.specs.declared.checking.Unchecked.{Unchecked}
 use Rattle.dd_examples.specs.declared.checking.Unchecked.TheVariants as unchecked
 

@@ -1,7 +1,6 @@
 -- The first lines of right answers.
 use Rattle.std.specs.Prelude.{◌≡◌, ℕ, ◌+◌, List, [], ◌∷◌, ◌++◌}
-use Rattle.dd_certificate.specs.declared.answer.Answer.{Answer}
-use Rattle.dd_certificate.specs.Text.{answer_line}
+use Rattle.dd_certificate.specs.{declared.answer.Answer.Answer, Text.answer_line}
 use Rattle.dd_query.specs.declared.queries.Query.{Query}
 use Rattle.dd_script.specs.Parts.{Parts}
 use Rattle.dd_answer.specs.Right.{Right}

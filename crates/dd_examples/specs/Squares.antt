@@ -1,9 +1,7 @@
 -- The hard-square rule as a formula: a cell with a 1 has a 0 to its right and above it.
 use Rattle.std.specs.Prelude.{ℕ, List, [], ◌∷◌}
-use Rattle.dd_topology.specs.Builtin.{square}
-use Rattle.dd_topology.specs.Sets.{all_symbols}
-use Rattle.dd_pattern.specs.declared.periods.Periods.{Periods}
-use Rattle.dd_pattern.specs.Tile.{Tile, tile}
+use Rattle.dd_topology.specs.{Builtin.square, Sets.all_symbols}
+use Rattle.dd_pattern.specs.{declared.periods.Periods.Periods, Tile.Tile, Tile.tile}
 use Rattle.dd_expansion.specs.declared.formulas.Formula.{Formula}
 use Rattle.dd_expansion.specs.declared.formulas.Formula.TheVariants.{Symbol, And, Implies}
 use Rattle.dd_formula.specs.LocalRule.{LocalRule, local_rule}

@@ -1,16 +1,12 @@
 -- The expansion of a formula: the formula without variables that says the same at one cell.
 use Rattle.std.specs.Prelude.{ℕ, ◌==◌, Bool, false, List, [], ◌∷◌, ◌++◌, map, Option, Some, None}
 use Rattle.std.specs.List.{range_with_len}
-use Rattle.dd_lattice.specs.InOrder.{in_order}
-use Rattle.dd_lattice.specs.declared.position.Cell.{Cell}
-use Rattle.dd_topology.specs.declared.edge.Edge.{Edge}
-use Rattle.dd_topology.specs.Balls.{is_adjacent}
-use Rattle.dd_expansion.specs.declared.formulas.Formula.{Formula}
-use Rattle.dd_expansion.specs.declared.formulas.Formula.TheFolds.{fold-Formula}
+use Rattle.dd_lattice.specs.{InOrder.in_order, declared.position.Cell.Cell}
+use Rattle.dd_topology.specs.{declared.edge.Edge.Edge, Balls.is_adjacent}
+use Rattle.dd_expansion.specs.declared.formulas.Formula.{Formula, TheFolds.fold-Formula}
 use Rattle.dd_expansion.specs.declared.formulas.Formula.TheOpen.{Formula-F}
 use Rattle.dd_expansion.specs.declared.expanded.Expanded.{Expanded, roll-Expanded}
-use Rattle.dd_expansion.specs.declared.expanded.Expanded.TheOpen.{Expanded-F}
-use Rattle.dd_expansion.specs.Terms.{cell_of, same_cell, balls_of}
+use Rattle.dd_expansion.specs.{declared.expanded.Expanded.TheOpen.Expanded-F, Terms.cell_of, Terms.same_cell, Terms.balls_of}
 
 abbrev pub constant : Bool → Expanded
 constant b = roll-Expanded (Expanded-F.Constant b)

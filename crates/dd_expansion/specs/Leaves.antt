@@ -1,15 +1,10 @@
 -- Formulas without variables: their truth, their leaves and their sizes.
 use Rattle.std.specs.Prelude.{ℕ, ◌+◌, ◌&&◌, not, Bool, true, is_some, cond, None, List, [], ◌∷◌, ◌++◌, length}
-use Rattle.std.specs.Bool.{beq}
-use Rattle.std.specs.List.{list_all, list_any, flat_map}
-use Rattle.dd_lattice.specs.Place.{Place, moved, is_in_range}
-use Rattle.dd_lattice.specs.Cells.{shifted}
-use Rattle.dd_lattice.specs.declared.position.Cell.{Cell}
+use Rattle.std.specs.{Bool.beq, List.list_all, List.list_any, List.flat_map}
+use Rattle.dd_lattice.specs.{Place.Place, Place.moved, Place.is_in_range, Cells.shifted, declared.position.Cell.Cell}
 use Rattle.dd_pattern.specs.Reading.{Look}
-use Rattle.dd_expansion.specs.declared.expanded.Expanded.{Expanded}
-use Rattle.dd_expansion.specs.declared.expanded.Expanded.TheFolds.{fold-Expanded}
-use Rattle.dd_expansion.specs.declared.expanded.Expanded.TheOpen.{Expanded-F}
-use Rattle.dd_expansion.specs.Truth.{is_symbol}
+use Rattle.dd_expansion.specs.declared.expanded.Expanded.{Expanded, TheFolds.fold-Expanded}
+use Rattle.dd_expansion.specs.{declared.expanded.Expanded.TheOpen.Expanded-F, Truth.is_symbol}
 
 abbrev pub holds_step : Expanded-F (Look → Bool) → Look → Bool
 holds_step (Expanded-F.Constant b) look = b

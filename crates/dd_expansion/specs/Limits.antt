@@ -3,11 +3,8 @@ use Rattle.std.specs.Prelude.{ℕ, ◌+◌, ◌≤◌, ◌≡◌, ◌&&◌, Bool
 use Rattle.std.specs.List.{list_all}
 use Rattle.dd_values.specs.Bounds.{widest_radius}
 use Rattle.dd_topology.specs.Grid.{Grid}
-use Rattle.dd_expansion.specs.declared.formulas.Term.{Term}
-use Rattle.dd_expansion.specs.declared.formulas.BallOf.{BallOf}
-use Rattle.dd_expansion.specs.declared.formulas.Formula.{Formula}
-use Rattle.dd_expansion.specs.declared.formulas.Formula.TheFolds.{fold-Formula}
-use Rattle.dd_expansion.specs.declared.formulas.Formula.TheOpen.{Formula-F}
+use Rattle.dd_expansion.specs.declared.formulas.{Term.Term, BallOf.BallOf, Formula.Formula}
+use Rattle.dd_expansion.specs.declared.formulas.Formula.{TheFolds.fold-Formula, TheOpen.Formula-F}
 
 -- the greatest number of moves of a term and of balls of a quantifier, and the greatest depth of a formula
 abbrev pub most_moves : ℕ

@@ -1,15 +1,9 @@
 -- Terms, which name cells, and balls, which name sets of cells. The environment gives the variables' cells by their numbers.
 use Rattle.std.specs.Prelude.{ℕ, ◌==◌, ◌&&◌, Bool, false, List, [], ◌∷◌, Option, Some, None, slice_get, pos}
-use Rattle.std.specs.List.{flat_map}
-use Rattle.std.specs.Option.{option_and_then}
-use Rattle.dd_lattice.specs.Place.{place}
-use Rattle.dd_lattice.specs.Cells.{cell}
-use Rattle.dd_lattice.specs.declared.position.Cell.{Cell}
-use Rattle.dd_topology.specs.declared.edge.Edge.{Edge}
-use Rattle.dd_topology.specs.Topology.{step}
-use Rattle.dd_topology.specs.Balls.{ball, same_place}
-use Rattle.dd_expansion.specs.declared.formulas.Term.{Term}
-use Rattle.dd_expansion.specs.declared.formulas.BallOf.{BallOf}
+use Rattle.std.specs.{List.flat_map, Option.option_and_then}
+use Rattle.dd_lattice.specs.{Place.place, Cells.cell, declared.position.Cell.Cell}
+use Rattle.dd_topology.specs.{declared.edge.Edge.Edge, Topology.step, Balls.ball, Balls.same_place}
+use Rattle.dd_expansion.specs.declared.formulas.{Term.Term, BallOf.BallOf}
 
 -- the cell at the end of several moves; none where one of them is missing
 abbrev pub walk : List Edge → Cell → List ℕ → Option Cell

@@ -1,9 +1,8 @@
 -- Faults noted one list after the other.
 use Rattle.std.proofs.Common.{◌≡◌, ℕ, ◌+◌, ◌<◌, List, [], ◌∷◌, ◌++◌, length, take, slice_index_or, Option, refl, arith}
-use Rattle.std.specs.List.{flat_map}
 use Rattle.std.proofs.lemmas.Grind.{common_steps}
-use Rattle.dd_faults.specs.{Tree.Fault, Order.better, Order.noted}
-use Rattle.dd_faults.specs.lemmas.Layers.{faults_chain, faults_quantified}
+use Rattle.std.specs.List.{flat_map}
+use Rattle.dd_faults.specs.{Tree.Fault, Order.better, Order.noted, lemmas.Layers.faults_chain, lemmas.Layers.faults_quantified}
 use Rattle.dd_faults.proofs.{Configurations.first_symbol, Configurations.first_of_box, Repeats.twice_first, Repeats.fresh_first}
 
 pub noted_both : (found : Option Fault) (fs gs : List Fault) → noted found (fs ++ gs) ≡ noted (noted found fs) gs

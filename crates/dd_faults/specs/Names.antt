@@ -1,9 +1,8 @@
 -- Names and variables, compared by their texts.
 use Rattle.std.specs.Prelude.{ℕ, ◌+◌, List, Bool, not, ◌||◌, Option, Some, is_some, unwrap_or, option_map, if◌then◌else◌, codes, bytes_eq, position}
 use Rattle.dd_topology.specs.Naming.{number_of}
-use Rattle.dd_faults.specs.Tree.{Word, Name, Fault, Known}
+use Rattle.dd_faults.specs.{Tree.Word, Tree.Name, Tree.Fault, Tree.Known, Order.when}
 use Rattle.dd_written.specs.Values.{word_text, name_text}
-use Rattle.dd_faults.specs.Order.{when}
 
 -- the index of a name in a list of names
 abbrev pub place_of_name : List ℕ → List (List ℕ) → Name → Option ℕ

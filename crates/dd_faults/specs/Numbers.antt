@@ -2,9 +2,8 @@
 use Rattle.std.specs.Prelude.{ℕ, List, [], length, Bool, not, ◌==◌, nat_lt, ℤ, pos, ◌-ℤ◌}
 use Rattle.std.specs.List.{list_any}
 use Rattle.dd_known.specs.Limits.{most_letters, greatest_number, farthest}
-use Rattle.dd_faults.specs.Tree.{Number, Lexeme, Entry, Vector, Limit, Fault}
+use Rattle.dd_faults.specs.{Tree.Number, Tree.Lexeme, Tree.Entry, Tree.Vector, Tree.Limit, Tree.Fault, Order.when, Order.over}
 use Rattle.dd_written.specs.Values.{written_value}
-use Rattle.dd_faults.specs.Order.{when, over}
 
 abbrev pub unless : Bool → List Fault
 unless fits = when (not fits) Fault.Dimension

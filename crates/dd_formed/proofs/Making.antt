@@ -1,17 +1,14 @@
 -- Which automata aren't well formed.
 use Rattle.std.proofs.Common.{◌≡◌, ◌≢◌, ◌≤◌, ℕ, true, false, sym, subst, ◌∙◌, arith, refl, Result, Ok, Err, Some, None}
-use Rattle.std.specs.Prelude.{◌↔◌, ◌&&◌, Option, is_some, IfOk}
-use Rattle.std.specs.declared.alloc.AllocError.{AllocError}
 use Rattle.std.proofs.lemmas.Bool.{and_parts, false≢true}
+use Rattle.std.specs.{Prelude.◌↔◌, Prelude.◌&&◌, Prelude.Option, Prelude.is_some, Prelude.IfOk, declared.alloc.AllocError.AllocError}
 use Rattle.dd_formula.specs.Automata.{CommonNumbers, IsAutomaton, cases_fit, counted, is_few, is_short, is_shallow, keeps_limits}
-use Rattle.dd_formula.specs.Compositions.{IsCompositionFault, composition}
-use Rattle.dd_formula.specs.declared.automaton.Automaton.{Automaton}
-use Rattle.dd_formula.specs.declared.automaton.Automaton.TheVariants as v
-use Rattle.dd_formula.specs.declared.automaton.Cases.{Cases}
-use Rattle.dd_formula.specs.declared.fault.RuleFault.{RuleFault}
+use Rattle.dd_formula.specs.{Compositions.IsCompositionFault, Compositions.composition, declared.automaton.Automaton.Automaton}
+use Rattle.dd_formula.specs.declared.{automaton.Cases.Cases, fault.RuleFault.RuleFault}
 use Rattle.dd_formula.specs.declared.fault.RuleFault.TheVariants.{Reach, Instances, Depth, Memory}
 use Rattle.dd_formula.specs.lemmas.AutomatonLaws.{fits_given, outer_part, inner_part, within_is}
 use Rattle.dd_formed.specs.Formed.{IsOnceMore}
+use Rattle.dd_formula.specs.declared.automaton.Automaton.TheVariants as v
 
 -- a well-formed automaton has few instances, reads nothing too far away, and isn't too deep
 limits_of : (s : CommonNumbers) (f : Automaton) → IsAutomaton s f → (is_few s.nodes (counted f) ≡ true) × (is_short s.nodes (counted f) ≡ true) × (is_shallow (counted f) ≡ true)

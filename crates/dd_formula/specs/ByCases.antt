@@ -1,17 +1,13 @@
 -- Automata by cases that are given as formulas, and why they are refused.
 use Rattle.std.specs.Prelude.{ℕ, ◌<◌, ◌≡◌, false, List, map}
-use Rattle.dd_topology.specs.Grid.{Grid}
-use Rattle.dd_topology.specs.Sets.{SymbolSets}
-use Rattle.dd_expansion.specs.declared.formulas.Formula.{Formula}
-use Rattle.dd_expansion.specs.Limits.{IsFormula}
+use Rattle.dd_topology.specs.{Grid.Grid, Sets.SymbolSets}
+use Rattle.dd_expansion.specs.{declared.formulas.Formula.Formula, Limits.IsFormula}
 use Rattle.dd_formula.specs.LocalRule.{LocalRule, local_rule}
 use Rattle.dd_formula.specs.Automata.{CommonNumbers, Counted, counted_step, is_few, is_short}
-use Rattle.dd_formula.specs.Compositions.{PassesInstances}
-use Rattle.dd_formula.specs.declared.automaton.Automaton.{Automaton}
-use Rattle.dd_formula.specs.declared.automaton.Automaton.TheOpen.{Automaton-F}
-use Rattle.dd_formula.specs.declared.automaton.Automaton.TheVariants as v
-use Rattle.dd_formula.specs.declared.fault.RuleFault.{RuleFault}
+use Rattle.dd_formula.specs.{Compositions.PassesInstances, declared.automaton.Automaton.Automaton}
+use Rattle.dd_formula.specs.declared.{automaton.Automaton.TheOpen.Automaton-F, fault.RuleFault.RuleFault}
 use Rattle.dd_formula.specs.declared.fault.RuleFault.TheVariants.{Reach, Instances, Depth, Memory}
+use Rattle.dd_formula.specs.declared.automaton.Automaton.TheVariants as v
 
 -- the numbers of rules over a topology and the symbols that its nodes allow
 abbrev pub numbers_over : Grid → SymbolSets → CommonNumbers

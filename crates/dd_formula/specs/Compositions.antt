@@ -1,11 +1,9 @@
 -- Compositions of automata, and why they are refused.
 use Rattle.std.specs.Prelude.{ℕ, ◌≤◌, ◌≡◌, true, false}
 use Rattle.dd_formula.specs.Automata.{CommonNumbers, Counted, IsAutomaton, cases_fit, counted, is_few, is_short, is_shallow}
-use Rattle.dd_formula.specs.declared.automaton.Automaton.{Automaton}
-use Rattle.dd_formula.specs.declared.automaton.Cases.{Cases}
-use Rattle.dd_formula.specs.declared.automaton.Automaton.TheVariants as v
-use Rattle.dd_formula.specs.declared.fault.RuleFault.{RuleFault}
+use Rattle.dd_formula.specs.declared.{automaton.Automaton.Automaton, automaton.Cases.Cases, fault.RuleFault.RuleFault}
 use Rattle.dd_formula.specs.declared.fault.RuleFault.TheVariants.{Reach, Instances, Depth, Memory}
+use Rattle.dd_formula.specs.declared.automaton.Automaton.TheVariants as v
 
 -- both are well formed over the same numbers
 pub record AreAutomata (f g : Automaton) : Type 0 where

@@ -1,14 +1,10 @@
 -- How many clauses say what an automaton gives a cell, without a bound.
-use Rattle.std.specs.Prelude.{ℕ, ◌+◌, ◌*◌, List, map, length}
-use Rattle.std.specs.List.{range_with_len}
+use Rattle.std.specs.{Prelude.ℕ, Prelude.◌+◌, Prelude.◌*◌, Prelude.List, Prelude.map, Prelude.length, List.range_with_len}
 use Rattle.dd_lattice.specs.InOrder.{in_order}
 use Rattle.dd_expansion.specs.Leaves.{clause_count, total}
-use Rattle.dd_formula.specs.LocalRule.{LocalRule, expansion_at}
-use Rattle.dd_formula.specs.Automata.{Counted, counted_step}
-use Rattle.dd_formula.specs.declared.automaton.Automaton.{Automaton}
-use Rattle.dd_formula.specs.declared.automaton.Cases.{Cases}
-use Rattle.dd_formula.specs.declared.automaton.Automaton.TheFolds.{fold-Automaton}
-use Rattle.dd_formula.specs.declared.automaton.Automaton.TheOpen.{Automaton-F}
+use Rattle.dd_formula.specs.{LocalRule.LocalRule, LocalRule.expansion_at, Automata.Counted, Automata.counted_step}
+use Rattle.dd_formula.specs.declared.automaton.{Automaton.Automaton, Cases.Cases}
+use Rattle.dd_formula.specs.declared.automaton.Automaton.{TheFolds.fold-Automaton, TheOpen.Automaton-F}
 
 -- the clauses of a gate that says that all of k signals hold, or some
 abbrev pub gate_clause_count : ℕ → ℕ

@@ -1,11 +1,10 @@
 -- If one of two numbers is odd, no factor of 2 in the other is in a common divisor.
 use Rattle.std.proofs.Common.{◌≡◌, ℕ, zero, suc, ◌+◌, ◌-◌, ◌*◌, ◌/◌, ◌%◌, ◌^◌, ◌<◌, ◌≤◌, sym, ap, subst, ◌∙◌, arith}
-use Rattle.std.specs.Int.{IsGcd, ◌∣◌, bit_at, w64, trailing_zeros}
 use Rattle.std.proofs.lemmas.Nat.Bits.{bit_at-trailing_zeros, bit_at-suc, bit_at_lowest}
 use Rattle.std.proofs.lemmas.Nat.Gcd.{IsGcd-swap, IsGcd-from_sub, same_from_IsGcd}
 use Rattle.std.proofs.Math.Nat.{div-mul_cancel, dvd-sub, dvd-mul_left_of_dvd, dvd-mul_right_of_dvd, mul-dvd-mul_right, one-dvd, two-pow-succ}
-use Rattle.dd_fraction.specs.Divisor.{greatest_common}
-use Rattle.dd_fraction.specs.lemmas.Divisors.{greatest_common-is, greatest_common-scaled}
+use Rattle.std.specs.Int.{IsGcd, ◌∣◌, bit_at, w64, trailing_zeros}
+use Rattle.dd_fraction.specs.{Divisor.greatest_common, lemmas.Divisors.greatest_common-is, lemmas.Divisors.greatest_common-scaled}
 
 pub greatest_common-swap : (a b : ℕ) → greatest_common a b ≡ greatest_common b a
 greatest_common-swap a b = same_from_IsGcd a b _ _ (greatest_common-is a b) (IsGcd-swap b a _ (greatest_common-is b a))

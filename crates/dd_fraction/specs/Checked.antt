@@ -1,10 +1,8 @@
 -- Sums, products and quotients whose numbers on the way are all at most 2^127 - 1 in absolute value.
 use Rattle.std.specs.Prelude.{◌≡◌, ℕ, suc, ◌*◌, ◌<◌, ◌≤◌, ◌^◌, Bool, not, ◌&&◌, Option, Some, None, cond}
-use Rattle.std.specs.Bool.{nat_eq, nat_lt}
-use Rattle.std.specs.Int.RustNames.{unsigned_abs}
+use Rattle.std.specs.{Bool.nat_eq, Bool.nat_lt, Int.RustNames.unsigned_abs}
 use lib.IntN.{ℤ, pos, negsuc, neg_ℤ, ◌+ℤ◌, ◌*ℤ◌}
-use Rattle.dd_fraction.specs.Divisor.{greatest_common}
-use Rattle.dd_fraction.specs.Exact.{Exact, plus, times, minus, inverse, lowest}
+use Rattle.dd_fraction.specs.{Divisor.greatest_common, Exact.Exact, Exact.plus, Exact.times, Exact.minus, Exact.inverse, Exact.lowest}
 
 -- at most 2^127 - 1 in absolute value
 abbrev pub is_bounded : ℤ → Bool

@@ -1,14 +1,12 @@
 -- Configurations as functions on all cells of Z^d: for which scripts, and what excludes a goal from them or maps them back.
 use Rattle.std.specs.Prelude.{ℕ, ◌≡◌, ◌+◌, ◌%◌, true, pos, cond, unsigned_abs, slice_index}
-use Rattle.dd_lattice.specs.Place.{Place, place}
-use Rattle.dd_lattice.specs.declared.position.Cell.{Cell}
+use Rattle.dd_lattice.specs.{Place.Place, Place.place, declared.position.Cell.Cell}
 use Rattle.dd_topology.specs.Balls.{same_place}
 use Rattle.dd_pattern.specs.Tile.{Tile, tile_index}
 use Rattle.dd_expansion.specs.Placed.{is_flat}
 use Rattle.dd_certificate.specs.declared.answer.Answer.{Answer}
 use Rattle.dd_script.specs.Parts.{Parts}
-use Rattle.dd_checker.specs.Certificates.{HasQuery, IsCertificate}
-use Rattle.dd_checker.specs.Lifted.{is_yes, IsWhole}
+use Rattle.dd_checker.specs.{Certificates.HasQuery, Certificates.IsCertificate, Lifted.is_yes, Lifted.IsWhole}
 use Rattle.dd_checker.specs.Inverses.{is_conjugate, IsConjugacyAt}
 
 -- 1 only at the origin

@@ -1,6 +1,5 @@
 -- What always holds of what a script has defined.
-use Rattle.std.specs.Prelude.{ℕ, ◌≡◌, ◌≤◌, List, length}
-use Rattle.std.specs.List.{All}
+use Rattle.std.specs.{Prelude.ℕ, Prelude.◌≡◌, Prelude.◌≤◌, Prelude.List, Prelude.length, List.All}
 use Rattle.dd_values.specs.{Bounds.most_weight, Ranges.AreLimits}
 use Rattle.dd_topology.specs.{Grid.Grid, Grid.IsGrid, Sets.IsSets}
 use Rattle.dd_known.specs.{Tree.Setting, Tree.Known, Limits.most_nodes, Limits.most_symbols}

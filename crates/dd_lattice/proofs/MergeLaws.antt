@@ -1,19 +1,14 @@
 -- A walk through two ascending lists that takes the lesser of the next positions gives their union.
 use Rattle.std.proofs.Common.{◌≡◌, ◌↔◌, inl, inr, ℕ, ◌+◌, ◌<◌, ◌≤◌, List, [], ◌∷◌, ◌++◌, get_or, length, take, drop, sym, ap, subst, refl, ◌∙◌, arith}
-use Rattle.std.specs.List.{Contains}
-use Rattle.std.specs.List.Sorted.{IsStrictlySortedBy}
-use Rattle.std.specs.Ordering.{ordering_reverse}
-use Rattle.std.specs.declared.cmp.Ordering.{Ordering}
-use Rattle.std.specs.declared.cmp.Ordering.TheVariants.{Less, Equal, Greater}
 use Rattle.std.proofs.Math.Seq.{take-add}
 use Rattle.std.proofs.lemmas.List.{append-nil, drop-drop, drop_more, take-append-drop, drop_all, take_all}
 use Rattle.std.proofs.lemmas.List.Elements.{All-contains, Contains-append_left, Contains-append_right, Contains-append_cases, Contains-push, Contains-push_cases}
-use Rattle.dd_lattice.specs.Place.{Place, IsInRange}
-use Rattle.dd_lattice.specs.Order.{place_cmp}
-use Rattle.dd_lattice.specs.Regions.{IsRegion, IsRegionOf, IsInEither}
+use Rattle.std.specs.{List.Contains, List.Sorted.IsStrictlySortedBy, Ordering.ordering_reverse, declared.cmp.Ordering.Ordering}
+use Rattle.std.specs.declared.cmp.Ordering.TheVariants.{Less, Equal, Greater}
+use Rattle.dd_lattice.specs.{Place.Place, Place.IsInRange, Order.place_cmp, Regions.IsRegion, Regions.IsRegionOf, Regions.IsInEither}
 use Rattle.dd_lattice.specs.listing.Merge.{next_position, from_left, from_right}
 use Rattle.dd_lattice.specs.lemmas.InOrderLaws.{places_equal, place_total}
-use Rattle.dd_lattice.specs.lemmas.ListLaws.{All-from_contains, Contains-first, Contains-later, Contains-cons_cases, Contains-nil, sorted_append, sorted_push, sorted_first, sorted_rest}
+use Rattle.dd_values.specs.lemmas.Members.{All-from_contains, Contains-first, Contains-later, Contains-cons_cases, Contains-nil, sorted_append, sorted_push, sorted_first, sorted_rest}
 
 -- the walk has merged the parts that it took, which come before the parts that are left
 pub record IsMerged (left left_rest right right_rest made : List Place) : Type 0 where

@@ -1,10 +1,7 @@
 -- Regions: finite sets of positions in range, each a strictly ascending list.
-use Rattle.std.specs.Prelude.{ℕ, ◌≡◌, ◌↔◌, ◌⊎◌, ◌-ℤ◌, List}
-use Rattle.std.specs.List.{All, Contains}
+use Rattle.std.specs.{Prelude.ℕ, Prelude.◌≡◌, Prelude.◌↔◌, Prelude.◌⊎◌, Prelude.◌-ℤ◌, Prelude.List, List.All, List.Contains}
 use Rattle.std.specs.List.Sorted.{IsStrictlySortedBy}
-use Rattle.dd_lattice.specs.Place.{Place, place, moved, IsInRange}
-use Rattle.dd_lattice.specs.Order.{place_cmp}
-use Rattle.dd_lattice.specs.Boxes.{IsCentred}
+use Rattle.dd_lattice.specs.{Place.Place, Place.place, Place.moved, Place.IsInRange, Order.place_cmp, Boxes.IsCentred}
 use Rattle.dd_lattice.specs.declared.fault.LatticeFault.{LatticeFault}
 use Rattle.dd_lattice.specs.declared.fault.LatticeFault.TheVariants.{Range, Memory}
 

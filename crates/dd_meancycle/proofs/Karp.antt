@@ -1,9 +1,7 @@
 -- Karp's theorem, as far as it is needed: potentials from the table, and a cycle that is light enough.
 use Rattle.std.proofs.Common.{◌≡◌, ℕ, zero, suc, ◌+◌, ◌-◌, ◌*◌, ◌<◌, ◌≤◌, List, [], ◌∷◌, ◌++◌, length, Option, Some, None, arith, refl, sym, ap, ◌∙◌, subst, inl, inr}
-use Rattle.std.specs.Prelude.{◌⊎◌}
-use Rattle.std.specs.List.{Contains, All}
-use Rattle.std.proofs.lemmas.Bool.{cases_lt}
-use Rattle.std.proofs.Math.Nat.{mul-le-mul_left}
+use Rattle.std.proofs.{lemmas.Bool.cases_lt, Math.Nat.mul-le-mul_left}
+use Rattle.std.specs.{Prelude.◌⊎◌, List.Contains, List.All}
 use Rattle.dd_meancycle.specs.declared.edges.Edge.{Edge}
 use Rattle.dd_meancycle.specs.table.Levels.{at, row, least, IsAtMost, IsEdgeOf}
 use Rattle.dd_meancycle.specs.table.Walks.{IsWalk, AreAmong, edges_weight}

@@ -1,10 +1,8 @@
 -- A level from the one before it.
 use Rattle.std.proofs.Common.{◌≡◌, ℕ, zero, suc, ◌+◌, ◌*◌, ◌<◌, ◌≤◌, min, Bool, true, false, cond, eqb, List, [], ◌∷◌, ◌++◌, length, get_or, set, replicate, Option, Some, None, arith, refl, sym, ap, ◌∙◌, subst, inl, inr, get_or-set_same, get_or-set_other, ◌≢◌}
-use Rattle.std.specs.Prelude.{◌⊎◌}
-use Rattle.std.specs.List.{Contains, All, fold}
 use Rattle.std.proofs.lemmas.List.{length-set, get_or_past, get_or-replicate, length-replicate}
-use Rattle.std.proofs.lemmas.List.Elements.{All-head, All-tail}
-use Rattle.std.proofs.lemmas.Bool.{cases_eq, cases_lt}
+use Rattle.std.proofs.lemmas.{List.Elements.All-head, List.Elements.All-tail, Bool.cases_eq, Bool.cases_lt}
+use Rattle.std.specs.{Prelude.◌⊎◌, List.Contains, List.All, List.fold}
 use Rattle.dd_meancycle.specs.declared.edges.Edge.{Edge}
 use Rattle.dd_meancycle.specs.table.Levels.{at, lowered, lower_at, relaxed, level, row, least, IsAtMost, IsUpToIn, IsRowUpTo, IsEdgeOf}
 

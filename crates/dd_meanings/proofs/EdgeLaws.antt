@@ -1,23 +1,21 @@
 -- Edges, with indices in place of names: they are edges of a topology, and no two from one node have the same label.
 use Rattle.std.proofs.Common.{◌≡◌, ℕ, ◌<◌, true, List, [], ◌∷◌, ◌++◌, length, map, take, slice_index_or, Some, Contains, sym, ap, ◌∙◌, subst, arith, if◌then◌else◌, bytes_eq, is_some}
-use Rattle.std.specs.Prelude.{◌||◌}
-use Rattle.std.specs.List.{All, list_any, list_all, flat_map}
-use Rattle.std.specs.Option.{option_map}
-use Rattle.std.proofs.lemmas.{Grind.common_steps, Bool.Decides.nat_tests, List.length-map, List.take-map, List.Folds.list_all-map, List.Sums.list_all-from_AllPass}
+use Rattle.std.proofs.lemmas.{Grind.common_steps, Bool.Decides.nat_tests, List.length-map, List.take-map}
+use Rattle.std.proofs.lemmas.List.{Folds.list_all-map, Sums.list_all-from_AllPass}
 use Rattle.std.proofs.lemmas.List.Elements.{All-contains, All-contains_itself, All-take, Contains-get_or}
-use Rattle.std.proofs.lemmas.{Slice.Eq.bytes_eq-Decides}
+use Rattle.std.proofs.lemmas.Slice.Eq.{bytes_eq-Decides}
 use Rattle.std.proofs.lemmas.Option.{slice_get_within, slice_get-map, slice_get-get_or}
+use Rattle.std.specs.{Prelude.◌||◌, List.All, List.list_any, List.list_all, List.flat_map, Option.option_map}
 use Rattle.dd_written.specs.Values.{name_text}
 use Rattle.dd_meanings.specs.Tree.{Edge as Written, Command, Context}
-use Rattle.dd_topology.specs.{declared.edge.Edge.Edge, Topology.starts_alike, Naming.number_of, Grid.is_edge, Grid.IsFirstTwice}
-use Rattle.dd_lattice.specs.lemmas.ListLaws.{Contains-map, Contains-from_map}
-use Rattle.dd_topology.specs.lemmas.ListLaws.{some_passes}
-use Rattle.dd_faults.specs.Repeats.{edge_key, twice_label, twice_labelled}
-use Rattle.dd_known.specs.Known.{dimension_of}
-use Rattle.dd_faults.specs.Commands.{edge_faults, faults_of}
-use Rattle.dd_faults.specs.lemmas.Repeats.{among, once}
-use Rattle.dd_query.specs.lemmas.Offsets.{offset_is}
 use Rattle.dd_meanings.specs.Topologies.{first_seen_names, label_text, labels_of, edge_of}
+use Rattle.dd_topology.specs.{declared.edge.Edge.Edge, Topology.starts_alike, Naming.number_of, Grid.is_edge, Grid.IsFirstTwice}
+use Rattle.dd_topology.specs.lemmas.ListLaws.{some_passes}
+use Rattle.dd_values.specs.lemmas.Members.{Contains-map, Contains-from_map}
+use Rattle.dd_faults.specs.{Repeats.edge_key, Repeats.twice_label, Repeats.twice_labelled, Commands.edge_faults, Commands.faults_of}
+use Rattle.dd_faults.specs.lemmas.Repeats.{among, once}
+use Rattle.dd_known.specs.Known.{dimension_of}
+use Rattle.dd_query.specs.lemmas.Offsets.{offset_is}
 use Rattle.dd_meanings.proofs.{Nothing.parts, Nothing.none_at, NameLaws.is_found, NameLaws.same_name}
 
 -- ---- labels in order of first occurrence

@@ -1,13 +1,11 @@
 -- Names and their indices, and names that do not repeat.
 use Rattle.std.proofs.Common.{◌≡◌, ℕ, ◌<◌, ◌+◌, true, false, List, [], ◌∷◌, length, Some, Contains, refl, sym, ◌∙◌, arith, true≢false, bytes_eq, unwrap_or, is_some}
-use Rattle.std.specs.List.{list_any}
 use Rattle.std.proofs.lemmas.{Bool.Decides.nat_tests, Grind.common_steps}
-use Rattle.dd_meanings.specs.Tree.{Word, Context}
+use Rattle.std.specs.List.{list_any}
+use Rattle.dd_meanings.specs.{Tree.Word, Tree.Context, Formulas.variable_number, Sound.IsNew}
 use Rattle.dd_written.specs.Values.{word_text}
-use Rattle.dd_topology.specs.Naming.{number_of}
-use Rattle.dd_topology.specs.lemmas.NamingLaws.{slice_get-number_of}
+use Rattle.dd_topology.specs.{Naming.number_of, lemmas.NamingLaws.slice_get-number_of}
 use Rattle.dd_faults.specs.{Names.unknown_variable, Names.named_again, lemmas.Repeats.among}
-use Rattle.dd_meanings.specs.{Formulas.variable_number, Sound.IsNew}
 
 -- a name has an index exactly if it is in the list
 pub is_found : (names : List (List ℕ)) (text : List ℕ) → is_some (number_of names text) ≡ list_any (bytes_eq text) names

@@ -1,10 +1,9 @@
 -- What holds of a written command.
 use Rattle.std.proofs.Common.{◌≡◌, ℕ, ◌≤◌, List, [], ◌∷◌, subst}
-use Rattle.std.specs.List.{All}
 use Rattle.std.proofs.lemmas.List.Elements.{All-nil, All-cons}
+use Rattle.std.specs.List.{All}
 use Rattle.dd_meanings.specs.Tree.{Lexeme, Case, Command, Written}
-use Rattle.dd_written.specs.Formulas.{tree_depth}
-use Rattle.dd_written.specs.reading.Readers.{ReadsAll}
+use Rattle.dd_written.specs.{Formulas.tree_depth, reading.Readers.ReadsAll}
 use Rattle.dd_commands.specs.{Commands.IsCase, Commands.IsBody, Scripts.IsWritten}
 
 -- what holds of its parts

@@ -12,3 +12,5 @@ pub mod Definitions
 pub mod Formulas
 -- topologies
 pub mod Topologies
+-- lemmas on these definitions, with their proofs
+pub mod lemmas

@@ -1,12 +1,9 @@
 -- The rules and automata of a script.
-use Rattle.std.specs.Prelude.{ℕ, ◌≡◌, List, ◌++◌, length, map}
-use Rattle.std.specs.List.{All}
+use Rattle.std.specs.{Prelude.ℕ, Prelude.◌≡◌, Prelude.List, Prelude.◌++◌, Prelude.length, Prelude.map, List.All}
 use Rattle.dd_expansion.specs.Limits.{IsFormula}
 use Rattle.dd_formula.specs.LocalRule.{LocalRule, local_rule, IsRule}
-use Rattle.dd_formula.specs.Automata.{CommonNumbers as Numbers, IsAutomaton}
-use Rattle.dd_formula.specs.declared.automaton.Automaton.{Automaton}
-use Rattle.dd_formula.specs.declared.automaton.Automaton.TheFolds.{fold-Automaton}
-use Rattle.dd_formula.specs.declared.automaton.Automaton.TheOpen.{Automaton-F}
+use Rattle.dd_formula.specs.{Automata.CommonNumbers as Numbers, Automata.IsAutomaton, declared.automaton.Automaton.Automaton}
+use Rattle.dd_formula.specs.declared.automaton.Automaton.{TheFolds.fold-Automaton, TheOpen.Automaton-F}
 use Rattle.dd_meanings.specs.Tree.{Setting}
 
 -- the dimension, nodes and symbols that a script's rules, automata and configurations share

@@ -1,11 +1,9 @@
 -- What thinning leaves of a filling.
 use Rattle.std.proofs.Common.{◌≡◌, ◌<◌, ℕ, zero, suc, Bool, true, false, cond, Option, Some, None, List, [], ◌∷◌, slice_get, length, nat_eq, refl, sym, ◌∙◌, ap}
-use Rattle.std.specs.Prelude.{IfSome}
-use Rattle.std.specs.List.{All}
 use Rattle.std.proofs.lemmas.Bool.{and_parts, and_from, false≢true, eq-eqb, eqb-true}
 use Rattle.std.proofs.lemmas.List.Elements.{All-nil, All-cons, All-head, All-tail}
-use Rattle.dd_minimal.specs.Patterns.{is_kept, agrees, whole, left_out}
-use Rattle.dd_minimal.specs.Minimal.{thinned}
+use Rattle.std.specs.{Prelude.IfSome, List.All}
+use Rattle.dd_minimal.specs.{Patterns.is_kept, Patterns.agrees, Patterns.whole, Patterns.left_out, Minimal.thinned}
 use Rattle.dd_minimal.specs.finding.Numbers.{KeepsBelow}
 
 -- what agrees with the second agrees with the first

@@ -2,11 +2,10 @@
 use Rattle.std.proofs.Common.{◌≡◌, ℕ, zero, suc, Bool, List, [], ◌∷◌, ◌++◌, slice_get, ap, ◌∙◌, Some, None}
 use Rattle.std.specs.Prelude.{IfSome, Option, ◌==◌}
 use Rattle.dd_expansion.specs.Truth.{is_symbol}
-use Rattle.dd_numbered.specs.declared.numbered.Numbered.{Numbered}
-use Rattle.dd_numbered.specs.declared.numbered.Numbered.TheVariants as formula
-use Rattle.dd_numbered.specs.Numbered.{holds_in, IsSettled}
+use Rattle.dd_numbered.specs.{declared.numbered.Numbered.Numbered, Numbered.holds_in, Numbered.IsSettled}
 use Rattle.dd_numbered.specs.settling.Parts.{AreAllSettled, IsAnySettled, IsTold}
 use Rattle.dd_numbered.proofs.Layers.{holds_and, holds_or}
+use Rattle.dd_numbered.specs.declared.numbered.Numbered.TheVariants as formula
 
 -- the answer for all parts is that for the formula
 if_some : {P Q : Bool → Type 0} (o : Option Bool) → ((b : Bool) → P b → Q b) → IfSome o P → IfSome o Q

@@ -1,13 +1,10 @@
 -- The kinds of answers, and the bytes that tell them apart.
 use Rattle.std.proofs.Common.{◌≡◌, ℕ, List, ◌∷◌, ◌++◌, drop, false, ◌⊎◌, inl, inr, refl, ap, ◌∙◌}
 use Rattle.std.specs.Prelude.{◌==◌}
-use Rattle.dd_certificate.specs.declared.answer.Answer.{Answer}
-use Rattle.dd_certificate.specs.declared.answer.Answer.TheVariants as answer
-use Rattle.dd_certificate.specs.Text.{verdict_text, further_lines}
-use Rattle.dd_certificate.specs.Bounds.{IsWritable}
+use Rattle.dd_certificate.specs.{declared.answer.Answer.Answer, Text.verdict_text, Text.further_lines, Bounds.IsWritable}
 use Rattle.dd_output.specs.reading.Forms.{Form, after, either}
-use Rattle.dd_output.proofs.Tables.{Keyed}
-use Rattle.dd_output.proofs.Forms.{Good, good_same, good_after, good_either}
+use Rattle.dd_output.proofs.{Tables.Keyed, Forms.Good, Forms.good_same, Forms.good_after, Forms.good_either}
+use Rattle.dd_certificate.specs.declared.answer.Answer.TheVariants as answer
 
 -- all lines of an answer, without the query's number
 abbrev pub body_text : Answer → List ℕ

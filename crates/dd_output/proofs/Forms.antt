@@ -1,19 +1,14 @@
 -- Good forms. A good form reads exactly the texts of the values that fit, and each text is that of one value. Where
 -- reading stops, some text completes what was read. A form made of good ones is good.
 use Rattle.std.proofs.Common.{◌≡◌, ℕ, zero, suc, ◌+◌, ◌<◌, ◌≤◌, ◌^◌, List, [], ◌∷◌, ◌++◌, length, Bool, true, false, cond, inl, inr, ◌⊎◌, refl, sym, ap, subst, ◌∙◌, append_assoc, arith}
-use Rattle.std.specs.Prelude.{replicate, All, ◌==◌}
-use Rattle.std.specs.Fmt.{decimal}
-use Rattle.std.specs.List.{flat_map, AllByRecursion}
-use Rattle.std.proofs.lemmas.Bool.{eqb-true, eq-eqb, false≢true}
-use Rattle.std.proofs.lemmas.Fmt.{decimal_digit}
-use Rattle.std.proofs.lemmas.List.{length-replicate}
-use Rattle.std.proofs.lemmas.List.Concat.{flat_map-cons}
+use Rattle.std.proofs.lemmas.{Bool.eqb-true, Bool.eq-eqb, Bool.false≢true, Fmt.decimal_digit}
+use Rattle.std.proofs.lemmas.List.{length-replicate, Concat.flat_map-cons}
 use Rattle.std.proofs.lemmas.List.Elements.{All-from_recursion, recursion_from_All}
+use Rattle.std.specs.{Prelude.replicate, Prelude.All, Prelude.◌==◌, Fmt.decimal, List.flat_map, List.AllByRecursion}
 use Rattle.dd_output.specs.reading.Stops.{Read, before, word_at, is_digit, number_at, then_at, map_at, many_at, copies, Entry, item, last}
 use Rattle.dd_output.specs.reading.Forms.{Form, nothing, word, number, both, after, mapped, either, counted_of, counted, times, last_of, item_of, fork_of, forked}
 use Rattle.dd_output.proofs.Readers.{Reads, before_reads, then_reads, map_reads, same_reads, many_reads, choice_reads}
-use Rattle.dd_output.proofs.Tokens.{word_reads, after_reads}
-use Rattle.dd_output.proofs.Numbers.{IsEnd, number_reads}
+use Rattle.dd_output.proofs.{Tokens.word_reads, Tokens.after_reads, Numbers.IsEnd, Numbers.number_reads}
 
 -- the texts of the values that fit
 abbrev pub IsText : {A : Type 0} → (A → Type 0) → (A → List ℕ) → List ℕ → Type 0

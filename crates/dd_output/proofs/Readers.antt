@@ -1,11 +1,9 @@
 -- What a reader reads and where it halts, and how readers are put together.
 use Rattle.std.proofs.Common.{◌≡◌, ℕ, zero, suc, List, [], ◌∷◌, ◌++◌, length, Result, Ok, Err, true, false, ◌⊎◌, inl, inr, refl, sym, ap, subst, ◌∙◌, append_assoc, arith}
-use Rattle.std.specs.Prelude.{◌==◌}
-use Rattle.std.specs.List.{flat_map, AllByRecursion}
-use Rattle.std.proofs.lemmas.List.{nil_from_length}
-use Rattle.std.proofs.lemmas.List.Concat.{flat_map-cons}
-use Rattle.dd_output.specs.reading.Stops.{Stop, stop, Read, ◌>>=◌, before, then_at, map_at, copies, many_at, begins, choice_at}
+use Rattle.std.proofs.lemmas.List.{nil_from_length, Concat.flat_map-cons}
 use Rattle.std.proofs.lemmas.Bool.{cases_Bool, cond-true, cond-false, eq-eqb}
+use Rattle.std.specs.{Prelude.◌==◌, List.flat_map, List.AllByRecursion}
+use Rattle.dd_output.specs.reading.Stops.{Stop, stop, Read, ◌>>=◌, before, then_at, map_at, copies, many_at, begins, choice_at}
 
 -- Where a reader stopped: a prefix was read, the missing text completes it, and after the next byte no text does.
 pub record Halts {A : Type 0} (C : List ℕ → Type 0) (r : List ℕ → Read A) (bytes : List ℕ) (s : Stop) : Type 0 where

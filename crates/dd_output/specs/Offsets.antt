@@ -1,10 +1,8 @@
 -- The output that bytes spell; if they spell none, how many of them begin one.
 use Rattle.std.specs.Prelude.{◌≡◌, ℕ, ◌<◌, ◌≤◌, List, ◌++◌, length, take, Result, Ok, Err}
-use Rattle.dd_output.specs.declared.output.Output.{Output}
-use Rattle.dd_output.specs.declared.fault.CertificateFault.{CertificateFault}
+use Rattle.dd_output.specs.declared.{output.Output.Output, fault.CertificateFault.CertificateFault}
+use Rattle.dd_output.specs.{Outputs.output_text, Outputs.IsWritableOutput, Outputs.IsWellFormed, reading.Whole.completion}
 use Rattle.dd_output.specs.declared.fault.CertificateFault.TheVariants as faults
-use Rattle.dd_output.specs.Outputs.{output_text, IsWritableOutput, IsWellFormed}
-use Rattle.dd_output.specs.reading.Whole.{completion}
 
 -- The longest prefix of the bytes that begins a well-formed output has this length, and `completion` completes it.
 pub record IsOffset (bytes : List ℕ) (offset : ℕ) : Type 0 where

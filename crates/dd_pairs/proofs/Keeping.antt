@@ -1,12 +1,9 @@
 -- The pairs kept for a query.
 use Rattle.std.proofs.Common.{◌≡◌, ◌<◌, ◌≤◌, ℕ, ◌+◌, List, [], length, map, get_or, sym, ap, arith}
-use Rattle.std.proofs.lemmas.{Grind.common_steps}
-use Rattle.dd_formula.specs.LocalRule.{LocalRule}
-use Rattle.dd_formula.specs.declared.automaton.Automaton.{Automaton}
+use Rattle.std.proofs.lemmas.Grind.{common_steps}
+use Rattle.dd_formula.specs.{LocalRule.LocalRule, declared.automaton.Automaton.Automaton}
 use Rattle.dd_query.specs.declared.queries.Query.{Query}
-use Rattle.dd_pairs.specs.declared.pair.Pair.{Pair}
-use Rattle.dd_pairs.specs.Parts.{pair_of}
-use Rattle.dd_pairs.specs.Queries.{parts_asked, IsKeptFor}
+use Rattle.dd_pairs.specs.{declared.pair.Pair.Pair, Parts.pair_of, Queries.parts_asked, Queries.IsKeptFor}
 
 -- the query asks about no pair
 abbrev pub AsksNone : Query → Type 0

@@ -4,8 +4,7 @@ use Rattle.std.specs.List.{flat_map}
 use Rattle.dd_expansion.specs.Limits.{most_nested}
 use Rattle.dd_formula.specs.Automata.{counted}
 use Rattle.dd_maps.specs.Pairs.{guarded_depth}
-use Rattle.dd_known.specs.declared.known.Setting.{Setting}
-use Rattle.dd_known.specs.declared.known.Known.{Known}
+use Rattle.dd_known.specs.declared.known.{Setting.Setting, Known.Known}
 use Rattle.dd_faults.specs.{declared.fault.Limit.Limit, declared.fault.Fault.Fault, Order.over}
 use Rattle.dd_meanings.specs.Definitions.{count_faults}
 use Rattle.dd_question.specs.{Boxes.is_long, declared.excess.Excess.Excess}

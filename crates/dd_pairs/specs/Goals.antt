@@ -2,8 +2,7 @@
 use Rattle.std.specs.Prelude.{◌≡◌, List, [], ◌∷◌}
 use Rattle.dd_boxes.specs.{declared.goals.Goal.Goal, Views.goal_of}
 use Rattle.dd_formula.specs.LocalRule.{LocalRule}
-use Rattle.dd_question.specs.Conjugacies.{ConjugacyOf, conjugacy_of}
-use Rattle.dd_question.specs.declared.conjugacy.Conjugacy.{Conjugacy}
+use Rattle.dd_question.specs.{Conjugacies.ConjugacyOf, Conjugacies.conjugacy_of, declared.conjugacy.Conjugacy.Conjugacy}
 use Rattle.dd_pairs.specs.{declared.pair.Pair.Pair, Parts.difference}
 
 -- the goal stands for the difference, whatever rule the question is about

@@ -1,13 +1,10 @@
 -- What is made from parts that are values of the program.
-use Rattle.std.specs.Prelude.{◌≡◌, List, [], map, Result, MatchResult}
-use Rattle.std.specs.List.{All}
-use Rattle.dd_known.specs.declared.known.Setting.{Setting}
-use Rattle.dd_known.specs.declared.known.Known.{Known}
+use Rattle.std.specs.{Prelude.◌≡◌, Prelude.List, Prelude.[], Prelude.map, Prelude.Result, Prelude.MatchResult, List.All}
+use Rattle.dd_known.specs.declared.known.{Setting.Setting, Known.Known}
 use Rattle.dd_faults.specs.{declared.fault.Fault.Fault, declared.fault.Refusal.Refusal, Order.Refuses}
-use Rattle.dd_pairs.specs.declared.pair.Pair.{Pair}
-use Rattle.dd_pairs.specs.declared.parts.Part.{Part}
-use Rattle.dd_pairs.specs.declared.parts.Part.TheVariants as part
+use Rattle.dd_pairs.specs.declared.{pair.Pair.Pair, parts.Part.Part}
 use Rattle.dd_pairs.specs.{Parts.PartOf, Parts.image, Parts.change, Parts.pair_of, Parts.IsPair, Faults.parts_faults, Faults.earliest}
+use Rattle.dd_pairs.specs.declared.parts.Part.TheVariants as part
 
 -- the part that a value of the program stands for
 abbrev pub part_of : Part → PartOf

@@ -1,10 +1,7 @@
 -- The questions that queries consist of, and the pairs that they ask about.
 use Rattle.dd_boxes.specs.{Goals.GoalOf, Goals.differ, Views.numbers_of}
 use Rattle.dd_known.specs.declared.known.Setting.{Setting}
-use Rattle.dd_formula.specs.LocalRule.{LocalRule}
-use Rattle.dd_formula.specs.Automata.{IsAutomaton}
-use Rattle.dd_formula.specs.ByCases.{numbers_over}
-use Rattle.dd_formula.specs.declared.automaton.Automaton.{Automaton}
+use Rattle.dd_formula.specs.{LocalRule.LocalRule, Automata.IsAutomaton, ByCases.numbers_over, declared.automaton.Automaton.Automaton}
 use Rattle.dd_formula.specs.declared.automaton.Automaton.TheVariants.{Composed}
 use Rattle.dd_maps.specs.Pairs.{marked, always_zero, identity}
 use Rattle.dd_meanings.specs.Made.{IsRuleOf, IsAutomatonOf}

@@ -2,11 +2,9 @@
 use Rattle.std.specs.Prelude.{◌≡◌, Contains, List, [], ◌∷◌, map, Option, Some, None, option_map, unwrap_or}
 use Rattle.std.specs.List.{slice_get}
 use Rattle.dd_known.specs.declared.known.Setting.{Setting}
-use Rattle.dd_formula.specs.LocalRule.{LocalRule}
-use Rattle.dd_formula.specs.declared.automaton.Automaton.{Automaton}
+use Rattle.dd_formula.specs.{LocalRule.LocalRule, declared.automaton.Automaton.Automaton}
 use Rattle.dd_query.specs.declared.queries.Query.{Query}
-use Rattle.dd_pairs.specs.declared.pair.Pair.{Pair}
-use Rattle.dd_pairs.specs.Parts.{PartOf, image, change, pair_of}
+use Rattle.dd_pairs.specs.{declared.pair.Pair.Pair, Parts.PartOf, Parts.image, Parts.change, Parts.pair_of}
 
 -- f of two items, if both are there
 abbrev pub of_both : {X Y Z : Type 0} → (X → Y → Z) → Option X → Option Y → Option Z

@@ -1,8 +1,6 @@
 -- Periodic configurations: the symbols of one fundamental box, for every cell of Z^d.
 use Rattle.std.specs.Prelude.{ℕ, ◌+◌, ◌*◌, ◌-◌, ◌<◌, ◌≤◌, ◌≡◌, ◌/◌, ◌%◌, List, None, cond, nat_lt, pos, ◌+ℤ◌, length, slice_get}
-use Rattle.dd_lattice.specs.Place.{Place, place}
-use Rattle.dd_lattice.specs.Cells.{cell}
-use Rattle.dd_lattice.specs.Boxes.{Bounds, IsWithin, index_in}
+use Rattle.dd_lattice.specs.{Place.Place, Place.place, Cells.cell, Boxes.Bounds, Boxes.IsWithin, Boxes.index_in}
 use Rattle.dd_lattice.specs.declared.position.Cell.{Cell}
 use Rattle.dd_pattern.specs.declared.periods.Periods.{Periods}
 use Rattle.dd_pattern.specs.Periods.{ArePeriodsIn, periods_volume, residue, unsheared, base_of}

@@ -1,15 +1,12 @@
 -- A circuit that has grown by compiled gates, and then the clauses of these.
 use Rattle.std.proofs.Common.{◌≡◌, ℕ, ◌+◌, List, [], ◌∷◌, ◌++◌, length, drop, refl, ap, ◌∙◌, arith}
-use Rattle.std.specs.Prelude.{Result, Ok, Err, IfOk}
 use Rattle.std.proofs.lemmas.Result.{IfOk-at_ok}
+use Rattle.std.specs.Prelude.{Result, Ok, Err, IfOk}
 use Rattle.dd_clause.specs.Clauses.{ClauseList}
-use Rattle.dd_circuit.specs.declared.gates.Gate.{Gate}
-use Rattle.dd_circuit.specs.declared.gates.Signal.{Signal}
-use Rattle.dd_circuit.specs.Circuits.{Network, size}
+use Rattle.dd_circuit.specs.{declared.gates.Gate.Gate, declared.gates.Signal.Signal, Circuits.Network, Circuits.size}
 use Rattle.dd_cnf.specs.Encoding.{gates_clauses}
 use Rattle.dd_compile.specs.Compiling.{Extends, Maker}
-use Rattle.dd_problem.specs.Encodings.{Encoding, with_gates, with_made}
-use Rattle.dd_problem.specs.lemmas.Growing.{same_encoding}
+use Rattle.dd_problem.specs.{Encodings.Encoding, Encodings.with_gates, Encodings.with_made, lemmas.Growing.same_encoding}
 
 abbrev pub encoding_of : Network → ClauseList → Encoding
 encoding_of circuit cnf = record { circuit = circuit; clauses = cnf.clauses }

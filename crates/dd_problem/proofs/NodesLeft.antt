@@ -1,20 +1,15 @@
 -- The state while the gates at the nodes of a position are made, each with a literal of its signal.
 use Rattle.std.proofs.Common.{◌≡◌, ℕ, ◌+◌, ◌<◌, ◌≤◌, List, [], ◌∷◌, ◌++◌, map, length, refl, ap, sym, ◌∙◌, arith, length-append, append_assoc, true}
+use Rattle.std.proofs.lemmas.List.{append-nil, Elements.All-push, Elements.All-weaker}
 use Rattle.std.specs.List.{range_with_len}
-use Rattle.std.proofs.lemmas.List.{append-nil}
-use Rattle.std.proofs.lemmas.List.Elements.{All-push, All-weaker}
-use Rattle.dd_lattice.specs.Place.{Place}
-use Rattle.dd_lattice.specs.Cells.{cell}
+use Rattle.dd_lattice.specs.{Place.Place, Cells.cell}
 use Rattle.dd_expansion.specs.declared.expanded.Expanded.{Expanded}
-use Rattle.dd_clause.specs.declared.clause.Literal.{Literal}
-use Rattle.dd_clause.specs.Clauses.{IsLiteralInRange, IsClauseInRange, negation}
-use Rattle.dd_circuit.specs.declared.gates.Signal.{Signal}
-use Rattle.dd_circuit.specs.Circuits.{IsSignal, size}
+use Rattle.dd_clause.specs.{declared.clause.Literal.Literal, Clauses.IsLiteralInRange, Clauses.IsClauseInRange, Clauses.negation}
+use Rattle.dd_circuit.specs.{declared.gates.Signal.Signal, Circuits.IsSignal, Circuits.size}
 use Rattle.dd_cnf.specs.Encoding.{literal_of, opposing, gates_clauses}
 use Rattle.dd_compile.specs.Wiring.{Wiring}
 use Rattle.dd_compile.specs.Compiling.{Made, Maker, AllMade, all_made, wires_near, are_wired, certain, compiled, gate_count}
-use Rattle.dd_compile.specs.lemmas.MadeCount.{made_count}
-use Rattle.dd_compile.specs.lemmas.Layers.{wired_more}
+use Rattle.dd_compile.specs.lemmas.{MadeCount.made_count, Layers.wired_more}
 use Rattle.dd_formula.specs.LocalRule.{LocalRule, expansion_at}
 use Rattle.dd_problem.specs.Clauses.{Part, part_clauses}
 use Rattle.dd_problem.specs.Encodings.{Encoding, with_clause, with_gates, with_parts}

@@ -1,16 +1,11 @@
 -- The state while the premise's clauses are made.
 use Rattle.std.proofs.Common.{◌≡◌, ℕ, ◌+◌, ◌<◌, ◌≤◌, Bool, true, false, List, [], ◌∷◌, ◌++◌, map, length, drop, get_or, refl, ap, sym, ◌∙◌, arith, append_assoc, drop-cons, add-one, Some, None}
-use Rattle.std.specs.Prelude.{cond, Option}
-use Rattle.std.specs.List.{filter}
-use Rattle.std.proofs.lemmas.Bool.{and_from, le-leb}
-use Rattle.std.proofs.lemmas.List.{append-nil, drop_all}
-use Rattle.dd_lattice.specs.declared.position.Cell.{Cell}
+use Rattle.std.proofs.lemmas.{Bool.and_from, Bool.le-leb, List.append-nil, List.drop_all}
+use Rattle.std.specs.{Prelude.cond, Prelude.Option, List.filter}
+use Rattle.dd_lattice.specs.{declared.position.Cell.Cell, Place.moved, Place.is_in_range, Cells.shifted}
 use Rattle.dd_expansion.specs.Leaves.{leaves_pass}
-use Rattle.dd_lattice.specs.Place.{moved, is_in_range}
-use Rattle.dd_lattice.specs.Cells.{shifted}
 use Rattle.dd_clause.specs.declared.clause.Literal.{Literal}
-use Rattle.dd_circuit.specs.declared.gates.Signal.{Signal}
-use Rattle.dd_circuit.specs.Circuits.{IsSignal, size}
+use Rattle.dd_circuit.specs.{declared.gates.Signal.Signal, Circuits.IsSignal, Circuits.size}
 use Rattle.dd_cnf.specs.Encoding.{literal_of, gates_clauses}
 use Rattle.dd_compile.specs.Wiring.{Wiring, wire_of}
 use Rattle.dd_compile.specs.Compiling.{wires_near, is_wire, certain, compiled, gate_count}

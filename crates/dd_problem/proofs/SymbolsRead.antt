@@ -1,24 +1,16 @@
 -- Symbols read from an assignment.
 use Rattle.std.proofs.Common.{◌≡◌, ℕ, suc, ◌+◌, ◌*◌, ◌-◌, ◌<◌, Bool, true, false, List, length, get_or, ap, sym, subst, ◌∙◌, arith}
+use Rattle.std.proofs.lemmas.{List.ext_get_or, Option.slice_get-get_or}
 use Rattle.std.specs.Prelude.{◌==◌, slice_index_or, Option, Some, None, Result, Ok, Err, MatchResult, is_ok}
-use Rattle.std.specs.Result.{result_ok}
-use Rattle.std.specs.List.{All}
-use Rattle.std.proofs.lemmas.List.{ext_get_or}
-use Rattle.std.proofs.lemmas.Option.{slice_get-get_or}
+use Rattle.std.specs.{Result.result_ok, List.All}
 use Rattle.dd_values.specs.Variables.{true_variables}
-use Rattle.dd_pattern.specs.declared.periods.Periods.{Periods}
-use Rattle.dd_pattern.specs.Periods.{periods_volume}
-use Rattle.dd_pattern.specs.Tile.{Tile, IsPeriodic, tile}
+use Rattle.dd_pattern.specs.{declared.periods.Periods.Periods, Periods.periods_volume, Tile.Tile, Tile.IsPeriodic, Tile.tile}
 use Rattle.dd_expansion.specs.Truth.{is_symbol}
-use Rattle.dd_formula.specs.LocalRule.{LocalRule, IsRule}
-use Rattle.dd_formula.specs.Living.{Fits}
-use Rattle.dd_boxes.specs.Witnesses.{HasPeriods}
-use Rattle.dd_boxes.specs.TorusPeriods.{AreTorusPeriods}
-use Rattle.dd_problem.specs.lemmas.Filtered.{some_same}
-use Rattle.dd_problem.specs.lemmas.TorusLayout.{torus_of, torus_is_periodic}
-use Rattle.dd_problem.proofs.TorusCalls.{tile_ok}
-use Rattle.dd_problem.specs.Clauses.{input}
+use Rattle.dd_formula.specs.{LocalRule.LocalRule, LocalRule.IsRule, Living.Fits}
+use Rattle.dd_boxes.specs.{Witnesses.HasPeriods, TorusPeriods.AreTorusPeriods}
+use Rattle.dd_problem.specs.{lemmas.Filtered.some_same, lemmas.TorusLayout.torus_of, lemmas.TorusLayout.torus_is_periodic, Clauses.input}
 use Rattle.dd_problem.specs.Symbols.{IsSymbolRead, HasOneEach, AreRead, AreAllRead}
+use Rattle.dd_problem.proofs.TorusCalls.{tile_ok}
 
 equal_from : (a b : ℕ) → (a == b) ≡ true → a ≡ b
 equal_from a b h = grind arith

@@ -1,19 +1,13 @@
 -- The clauses of a whole problem, from those of its cells, its places and its goal.
 use Rattle.std.proofs.Common.{◌≡◌, ℕ, ◌+◌, ◌*◌, ◌≤◌, true, List, [], ◌∷◌, ◌++◌, length, refl, ap, sym, ◌∙◌, arith}
 use Rattle.std.proofs.lemmas.Bool.{and_parts, and_from}
-use Rattle.dd_lattice.specs.Cells.{cell}
-use Rattle.dd_lattice.specs.declared.position.Cell.{Cell}
+use Rattle.dd_lattice.specs.{Cells.cell, declared.position.Cell.Cell}
 use Rattle.dd_clause.specs.Clauses.{ClauseList}
 use Rattle.dd_circuit.specs.Circuits.{size}
-use Rattle.dd_compile.specs.Wiring.{Wiring}
-use Rattle.dd_compile.specs.Compiling.{wires_near}
-use Rattle.dd_compile.specs.ValueSignals.{are_wired_there}
-use Rattle.dd_compile.specs.lemmas.Layers.{wired_more}
+use Rattle.dd_compile.specs.{Wiring.Wiring, Compiling.wires_near, ValueSignals.are_wired_there, lemmas.Layers.wired_more}
 use Rattle.dd_compile.specs.lemmas.StillWired.{still_wired}
-use Rattle.dd_formula.specs.Automata.{counted}
-use Rattle.dd_formula.specs.LocalRule.{LocalRule, expansion_at}
-use Rattle.dd_boxes.specs.Boxes.{origin}
-use Rattle.dd_boxes.specs.Goals.{GoalOf, breaks, differ, always}
+use Rattle.dd_formula.specs.{Automata.counted, LocalRule.LocalRule, LocalRule.expansion_at}
+use Rattle.dd_boxes.specs.{Boxes.origin, Goals.GoalOf, Goals.breaks, Goals.differ, Goals.always}
 use Rattle.dd_problem.specs.Clauses.{Part, cell_clauses, part_gates, part_clauses}
 use Rattle.dd_problem.specs.Encodings.{Encoding, clause_list, extended, over_inputs, with_parts}
 use Rattle.dd_problem.specs.pushing.Pushed.{are_both_wired, is_wired_at, is_goal_wired, wired_parts, wired_goal, wired_problem}

@@ -3,12 +3,10 @@ use Rattle.std.specs.Prelude.{ℕ, suc, ◌+◌, ◌*◌, true, false, List, [],
 use Rattle.std.specs.List.{flat_map, enumerate_from, range_with_len}
 use Rattle.dd_lattice.specs.declared.position.Cell.{Cell}
 use Rattle.dd_clause.specs.declared.clause.Literal.{Literal}
-use Rattle.dd_circuit.specs.declared.gates.Signal.{Signal}
-use Rattle.dd_circuit.specs.declared.gates.Gate.{Gate}
+use Rattle.dd_circuit.specs.declared.gates.{Signal.Signal, Gate.Gate}
 use Rattle.dd_cnf.specs.Encoding.{literal, literal_of, opposing, gates_clauses}
 use Rattle.dd_compile.specs.Compiling.{AllMade, Maker, all_made}
-use Rattle.dd_formula.specs.LocalRule.{LocalRule}
-use Rattle.dd_formula.specs.Counts.{disallowed}
+use Rattle.dd_formula.specs.{LocalRule.LocalRule, Counts.disallowed}
 
 -- the variable that says that the cell with the number k has the symbol s, of m symbols
 abbrev pub input : ℕ → ℕ → ℕ → ℕ

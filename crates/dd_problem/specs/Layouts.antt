@@ -1,14 +1,10 @@
 -- Which cells have inputs, and in which order.
-use Rattle.std.specs.Prelude.{ℕ, ◌+◌, ◌*◌, ◌/◌, ◌%◌, Bool, List, []}
-use Rattle.std.specs.List.{list_all}
-use Rattle.dd_lattice.specs.Cells.{cell, shifted}
-use Rattle.dd_lattice.specs.Boxes.{Bounds, centred, index_in, place_in, positions_of}
+use Rattle.std.specs.{Prelude.ℕ, Prelude.◌+◌, Prelude.◌*◌, Prelude.◌/◌, Prelude.◌%◌, Prelude.Bool, Prelude.List, Prelude.[], List.list_all}
+use Rattle.dd_lattice.specs.{Cells.cell, Cells.shifted, Boxes.Bounds, Boxes.centred, Boxes.index_in, Boxes.place_in, Boxes.positions_of}
 use Rattle.dd_lattice.specs.declared.position.Cell.{Cell}
-use Rattle.dd_pattern.specs.declared.periods.Periods.{Periods}
-use Rattle.dd_pattern.specs.Tile.{Tile, tile, fundamental}
+use Rattle.dd_pattern.specs.{declared.periods.Periods.Periods, Tile.Tile, Tile.tile, Tile.fundamental}
 use Rattle.dd_formula.specs.LocalRule.{LocalRule, reads_at}
-use Rattle.dd_boxes.specs.Cells.{box_cells, cells_on}
-use Rattle.dd_boxes.specs.Fillings.{is_box_cell}
+use Rattle.dd_boxes.specs.{Cells.box_cells, Cells.cells_on, Fillings.is_box_cell}
 use Rattle.dd_compile.specs.Wiring.{Wiring}
 use Rattle.dd_problem.specs.pushing.Numbered.{in_turn}
 

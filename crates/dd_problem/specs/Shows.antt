@@ -1,20 +1,13 @@
 -- When clauses say what a box question asks.
 use Rattle.std.specs.Prelude.{◌≡◌, ◌<◌, ℕ, Bool, true, List}
 use Rattle.dd_lattice.specs.declared.position.Cell.{Cell}
-use Rattle.dd_pattern.specs.declared.periods.Periods.{Periods}
-use Rattle.dd_pattern.specs.Reading.{Look}
-use Rattle.dd_pattern.specs.Tile.{Tile}
+use Rattle.dd_pattern.specs.{declared.periods.Periods.Periods, Reading.Look, Tile.Tile}
 use Rattle.dd_expansion.specs.Truth.{is_symbol}
 use Rattle.dd_formula.specs.LocalRule.{LocalRule}
-use Rattle.dd_clause.specs.declared.clause.Literal.{Literal}
-use Rattle.dd_clause.specs.Clauses.{Satisfies}
-use Rattle.dd_boxes.specs.Goals.{GoalOf}
-use Rattle.dd_boxes.specs.Fillings.{is_box_cell}
-use Rattle.dd_boxes.specs.Boxes.{Suffices}
+use Rattle.dd_clause.specs.{declared.clause.Literal.Literal, Clauses.Satisfies}
+use Rattle.dd_boxes.specs.{Goals.GoalOf, Fillings.is_box_cell, Boxes.Suffices}
 use Rattle.dd_boxes.specs.Witnesses.{IsBoxWitness, IsWitness, HasPeriods}
-use Rattle.dd_problem.specs.Layouts.{box_index}
-use Rattle.dd_problem.specs.Clauses.{input}
-use Rattle.dd_problem.specs.Symbols.{AreRead}
+use Rattle.dd_problem.specs.{Layouts.box_index, Clauses.input, Symbols.AreRead}
 
 -- of the inputs of each cell of B(n), exactly that of the cell's symbol is true
 abbrev pub IsReadFrom : (ℕ → Bool) → LocalRule → ℕ → Look → Type 0

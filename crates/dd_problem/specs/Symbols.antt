@@ -5,8 +5,7 @@ use Rattle.dd_lattice.specs.declared.position.Cell.{Cell}
 use Rattle.dd_pattern.specs.Reading.{Look}
 use Rattle.dd_formula.specs.LocalRule.{LocalRule, rule_allows}
 use Rattle.dd_expansion.specs.Truth.{is_symbol}
-use Rattle.dd_problem.specs.Layouts.{Layout}
-use Rattle.dd_problem.specs.Clauses.{input}
+use Rattle.dd_problem.specs.{Layouts.Layout, Clauses.input}
 
 -- one symbol for each of the cells, which its node allows
 pub record AreSymbols (x : LocalRule) (cells : List Cell) (symbols : List ℕ) : Type 0 where

@@ -1,16 +1,15 @@
 -- The periods of tori.
 use Rattle.std.proofs.Common.{◌≡◌, ◌≤◌, ◌*◌, ℕ, zero, suc, false, List, [], ◌∷◌, length, refl, subst, arith, slice_index}
-use Rattle.std.specs.List.{list_any, flat_map}
 use Rattle.std.proofs.lemmas.Bool.{or_parts, ltb-false, eqb-true}
 use Rattle.std.proofs.Math.Nat.{le-mul_of_pos_right, mul_comm, mul_assoc, one-le-mul}
+use Rattle.std.specs.List.{list_any, flat_map}
 use Rattle.dd_pattern.specs.Periods.{periods_of, periods_volume}
-use Rattle.dd_query.specs.Tree.{Entry, Vector, Context}
+use Rattle.dd_query.specs.{Tree.Entry, Tree.Vector, Tree.Context, Parts.torus_periods}
 use Rattle.dd_known.specs.{Known.dimension_of, Limits.most_nodes, Limits.most_in_box}
 use Rattle.dd_faults.specs.Commands.{product, entry_value, cells_of, is_zero, torus_faults}
 use Rattle.dd_faults.specs.lemmas.Nothing.{both_nil, fits, within}
 use Rattle.dd_faults.specs.lemmas.Periods.{entry_at, no_entry}
 use Rattle.dd_boxes.specs.TorusPeriods.{AreTorusPeriods}
-use Rattle.dd_query.specs.{Parts.torus_periods}
 
 some_at : (bytes : List ℕ) (es : List Entry) (j : ℕ) → list_any (is_zero bytes) es ≡ false → 1 ≤ entry_at bytes es j
 some_at bytes [] j h = omega arith

@@ -1,14 +1,13 @@
 -- If no vector of a discharge repeats, all have different positions.
 use Rattle.std.proofs.Common.{◌≡◌, ◌≢◌, ◌<◌, ◌≤◌, ℕ, zero, suc, true, false, List, [], ◌∷◌, ◌++◌, length, map, take, get_or, refl, ap, arith, ℤ, AllPairs, codes, nat_lt}
-use Rattle.std.specs.{List.All, List.flat_map, Fmt.signed_decimal}
 use Rattle.std.proofs.lemmas.Bool.{or_parts, eqb-true}
-use Rattle.std.proofs.lemmas.List.{get_or-map, get_or-take, length-map, length-take-le, Elements.Contains-get_or}
+use Rattle.std.proofs.lemmas.List.{get_or-map, get_or-take, length-map, length-take-le}
+use Rattle.std.proofs.lemmas.List.Elements.{Contains-get_or}
+use Rattle.std.specs.{List.All, List.flat_map, Fmt.signed_decimal}
 use Rattle.dd_lattice.specs.{Place.Place, lemmas.ListLaws.Contains-map}
-use Rattle.dd_query.specs.Tree.{Entry, Vector}
+use Rattle.dd_query.specs.{Tree.Entry, Tree.Vector, Vectors.coordinate, Vectors.place_of}
 use Rattle.dd_faults.specs.Repeats.{entry_key, vector_key, twice_vector, twice_vectors}
-use Rattle.dd_faults.specs.Commands.{entry_value, has_entries, is_far}
-use Rattle.dd_faults.specs.lemmas.Repeats.{once}
-use Rattle.dd_query.specs.Vectors.{coordinate, place_of}
+use Rattle.dd_faults.specs.{Commands.entry_value, Commands.has_entries, Commands.is_far, lemmas.Repeats.once}
 
 abbrev vector : List Entry → Vector
 vector es = record { entries = es }

@@ -2,10 +2,9 @@
 use Rattle.std.specs.Prelude.{◌<◌, ◌≤◌, length, map}
 use Rattle.dd_values.specs.Bounds.{widest_radius}
 use Rattle.dd_pattern.specs.Periods.{periods_of}
-use Rattle.dd_boxes.specs.Discharges.{AreVectors}
-use Rattle.dd_boxes.specs.TorusPeriods.{AreTorusPeriods}
-use Rattle.dd_query.specs.Tree.{QueryKind, Request, Known, Context}
-use Rattle.dd_query.specs.{Vectors.place_of, Parts.word_at, Parts.value_at, Parts.strip_periods, Parts.AreStripPeriods, Parts.torus_periods}
+use Rattle.dd_boxes.specs.{Discharges.AreVectors, TorusPeriods.AreTorusPeriods}
+use Rattle.dd_query.specs.{Tree.QueryKind, Tree.Request, Tree.Known, Tree.Context, Vectors.place_of}
+use Rattle.dd_query.specs.Parts.{word_at, value_at, strip_periods, AreStripPeriods, torus_periods}
 use Rattle.dd_query.specs.declared.queries.Query.{Query}
 
 -- the query with this syntax tree, by its kind

@@ -1,6 +1,5 @@
 -- Written vectors, and the positions that they stand for.
-use Rattle.std.specs.Prelude.{◌≡◌, ℕ, List, false, ℤ, pos}
-use Rattle.std.specs.{List.slice_get, Option.option_map_or}
+use Rattle.std.specs.{Prelude.◌≡◌, Prelude.ℕ, Prelude.List, Prelude.false, Prelude.ℤ, Prelude.pos, List.slice_get, Option.option_map_or}
 use Rattle.dd_lattice.specs.Place.{Place, place}
 use Rattle.dd_faults.specs.{Tree.Vector, Commands.signed_value, Commands.is_far}
 

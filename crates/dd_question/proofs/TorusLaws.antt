@@ -1,7 +1,6 @@
 -- The clauses of a least weight, cut off as they are counted.
 use Rattle.std.proofs.Common.{◌≡◌, ℕ, ◌+◌, ◌*◌, ap, ◌∙◌, arith}
-use Rattle.dd_formula.specs.Counts.{cut}
-use Rattle.dd_formula.specs.lemmas.Cuts.{cut_times_left, cut_times_right}
+use Rattle.dd_formula.specs.{Counts.cut, lemmas.Cuts.cut_times_left, lemmas.Cuts.cut_times_right}
 
 -- the product of a count that was cut off
 pub next_factor : (l first second whole part : ℕ) → first ≡ cut l whole → second ≡ cut l (first * part) → second ≡ cut l (whole * part)

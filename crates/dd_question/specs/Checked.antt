@@ -1,11 +1,9 @@
 -- Questions with the limits within which they are asked, and how they are checked.
 use Rattle.std.specs.Prelude.{◌≡◌, Some}
-use Rattle.dd_values.specs.Ranges.{AreLimits}
-use Rattle.dd_values.specs.declared.limits.Limits.{Limits}
-use Rattle.dd_question.specs.declared.excess.Excess.{Excess}
-use Rattle.dd_question.specs.declared.fault.QuestionFault.{QuestionFault}
-use Rattle.dd_question.specs.declared.fault.QuestionFault.TheVariants as fault
+use Rattle.dd_values.specs.{Ranges.AreLimits, declared.limits.Limits.Limits}
+use Rattle.dd_question.specs.declared.{excess.Excess.Excess, fault.QuestionFault.QuestionFault}
 use Rattle.dd_question.specs.Questions.{Asked, IsFormed, IsPartFault, excess_of, IsSoundAsked}
+use Rattle.dd_question.specs.declared.fault.QuestionFault.TheVariants as fault
 
 pub record AskedWithin : Type 0 where
   pub question : Asked

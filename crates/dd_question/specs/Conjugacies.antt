@@ -3,10 +3,8 @@ use Rattle.std.specs.Prelude.{ℕ, ◌≡◌, ◌≤◌, ◌-◌, Some, Bool, Li
 use Rattle.std.specs.List.{list_any}
 use Rattle.dd_values.specs.declared.limits.Limits.{Limits}
 use Rattle.dd_formula.specs.LocalRule.{LocalRule}
-use Rattle.dd_boxes.specs.Goals.{GoalOf}
-use Rattle.dd_boxes.specs.Views.{goal_of}
-use Rattle.dd_question.specs.Boxes.{is_long}
-use Rattle.dd_question.specs.declared.conjugacy.Conjugacy.{Conjugacy}
+use Rattle.dd_boxes.specs.{Goals.GoalOf, Views.goal_of}
+use Rattle.dd_question.specs.{Boxes.is_long, declared.conjugacy.Conjugacy.Conjugacy}
 
 -- two subshifts, and the goals that must hold nowhere in them
 pub record ConjugacyOf : Type 0 where

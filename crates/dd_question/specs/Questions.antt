@@ -3,24 +3,18 @@ use Rattle.std.specs.Prelude.{ℕ, List, Bool, true, false, ◌||◌, Option, So
 use Rattle.dd_values.specs.declared.limits.Limits.{Limits}
 use Rattle.dd_lattice.specs.Place.{Place}
 use Rattle.dd_pattern.specs.Tile.{Tile, IsTile}
-use Rattle.dd_formula.specs.LocalRule.{LocalRule, IsRule}
-use Rattle.dd_formula.specs.Living.{Fits}
-use Rattle.dd_formula.specs.Allowed.{HasAllowed}
+use Rattle.dd_formula.specs.{LocalRule.LocalRule, LocalRule.IsRule, Living.Fits, Allowed.HasAllowed}
 use Rattle.dd_strip.specs.Strips.{IsStrip, HasWeights}
-use Rattle.dd_boxes.specs.Goals.{GoalOf, breaks, AreAlike, IsGoalFor}
-use Rattle.dd_boxes.specs.Views.{goal_of}
-use Rattle.dd_question.specs.declared.excess.Excess.{Excess}
-use Rattle.dd_question.specs.declared.excess.Excess.TheVariants as excess
-use Rattle.dd_question.specs.declared.fault.QuestionFault.{QuestionFault}
-use Rattle.dd_question.specs.declared.fault.QuestionFault.TheVariants as fault
-use Rattle.dd_question.specs.declared.question.Question.{Question}
-use Rattle.dd_question.specs.declared.question.Question.TheVariants as question
-use Rattle.dd_question.specs.Boxes.{is_long, IsFormedBox, IsAskable, IsSoundBox}
+use Rattle.dd_boxes.specs.{Goals.GoalOf, Goals.breaks, Goals.AreAlike, Goals.IsGoalFor, Views.goal_of}
+use Rattle.dd_question.specs.declared.{excess.Excess.Excess, fault.QuestionFault.QuestionFault}
+use Rattle.dd_question.specs.{declared.question.Question.Question, Boxes.is_long, Boxes.IsFormedBox, Boxes.IsAskable, Boxes.IsSoundBox}
 use Rattle.dd_question.specs.Conjugacies.{ConjugacyOf, is_some_long, IsPart, EachPart, conjugacy_of}
 use Rattle.dd_question.specs.Lists.{has_many_patterns, HasFewPatterns}
-use Rattle.dd_question.specs.Densities.{has_many_states, strip_volume, IsNarrow}
-use Rattle.dd_question.specs.Tori.{is_heavy, IsWeighable}
+use Rattle.dd_question.specs.{Densities.has_many_states, Densities.strip_volume, Densities.IsNarrow, Tori.is_heavy, Tori.IsWeighable}
 use Rattle.dd_question.specs.Discharges.{IsDischargeable, IsDischargeFault}
+use Rattle.dd_question.specs.declared.excess.Excess.TheVariants as excess
+use Rattle.dd_question.specs.declared.fault.QuestionFault.TheVariants as fault
+use Rattle.dd_question.specs.declared.question.Question.TheVariants as question
 
 pub data Asked : Type 0 where
   -- does the configuration live in the rule's subshift?

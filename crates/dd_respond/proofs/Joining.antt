@@ -6,13 +6,12 @@ use Rattle.dd_derivation.specs.declared.step.Step.{Step}
 use Rattle.dd_pattern.specs.Tile.{Tile}
 use Rattle.dd_values.specs.declared.limits.Limits.{Limits}
 use Rattle.dd_certificate.specs.Bounds.{IsWritable, IsWritableNumber, IsWritableRefutation}
-use Rattle.dd_contain.specs.declared.decision.Decision.TheVariants as decision
 use Rattle.dd_question.specs.Conjugacies.{ConjugacyOf}
 use Rattle.dd_respond.specs.Conjugacies.{ComesTo, IsNoAt, written_broken, IsRightConjugacy, first_no, all_yes, some_open}
-use Rattle.dd_respond.specs.declared.conjugacies.Findings.{Findings}
-use Rattle.dd_respond.specs.declared.conjugacies.Failed.{Failed}
+use Rattle.dd_respond.specs.declared.conjugacies.{Findings.Findings, Failed.Failed}
 use Rattle.dd_respond.specs.joining.Findings.{AreYes, none_yet, one_more, AreFound, IsFailed, written_findings}
 use Rattle.dd_respond.proofs.AgreeLaws.{yes_not_no, unknown_not_no}
+use Rattle.dd_contain.specs.declared.decision.Decision.TheVariants as decision
 
 -- one item more
 all_more : {A : Type 0} (P : A → Type 0) (xs : List A) (x : A) → All P xs → P x → All P (xs ++ x ∷ [])

@@ -6,16 +6,12 @@ use Rattle.dd_strip.specs.Strips.{strip_for}
 use Rattle.dd_transfer.specs.Certificates.{IsDensityCertificate, IsEmptyCertificate}
 use Rattle.dd_strips.specs.Strips.{IsLeastDensity, LivesNowhere}
 use Rattle.dd_density.specs.declared.answer.Density.{Density}
+use Rattle.dd_discharge.specs.{declared.bound.Bound.Bound, declared.fault.DischargeFault.DischargeFault, Amounts.bound_claimed}
+use Rattle.dd_discharge.specs.{Bounds.IsBoundOf, Bounds.IsDischargeFault, Certificates.IsBoundCertificate}
+use Rattle.dd_certificate.specs.declared.answer.{Reason.Reason, Answer.Answer}
 use Rattle.dd_density.specs.declared.answer.Density.TheVariants as density
-use Rattle.dd_discharge.specs.declared.bound.Bound.{Bound}
-use Rattle.dd_discharge.specs.declared.fault.DischargeFault.{DischargeFault}
 use Rattle.dd_discharge.specs.declared.fault.DischargeFault.TheVariants as fault
-use Rattle.dd_discharge.specs.Amounts.{bound_claimed}
-use Rattle.dd_discharge.specs.Bounds.{IsBoundOf, IsDischargeFault}
-use Rattle.dd_discharge.specs.Certificates.{IsBoundCertificate}
-use Rattle.dd_certificate.specs.declared.answer.Reason.{Reason}
 use Rattle.dd_certificate.specs.declared.answer.Reason.TheVariants as reason
-use Rattle.dd_certificate.specs.declared.answer.Answer.{Answer}
 use Rattle.dd_certificate.specs.declared.answer.Answer.TheVariants as answer
 
 -- ---- least densities

@@ -6,14 +6,12 @@ use Rattle.dd_formula.specs.LocalRule.{LocalRule}
 use Rattle.dd_values.specs.declared.limits.Limits.{Limits}
 use Rattle.dd_boxes.specs.Goals.{GoalOf}
 use Rattle.dd_certificate.specs.declared.answer.Answer.{Answer}
-use Rattle.dd_certificate.specs.declared.answer.Answer.TheVariants as answer
-use Rattle.dd_certificate.specs.declared.answer.Reason.TheVariants as reason
-use Rattle.dd_contain.specs.declared.decision.Decision.{Decision}
-use Rattle.dd_contain.specs.declared.decision.Decision.TheVariants as decision
-use Rattle.dd_contain.specs.Decided.{IsLeast, NoneIn}
-use Rattle.dd_contain.specs.Questions.{IsDecided}
+use Rattle.dd_contain.specs.{declared.decision.Decision.Decision, Decided.IsLeast, Decided.NoneIn, Questions.IsDecided}
 use Rattle.dd_question.specs.Conjugacies.{ConjugacyOf, IsPart}
 use Rattle.dd_evidence.specs.Tiles.{written_periods}
+use Rattle.dd_certificate.specs.declared.answer.Answer.TheVariants as answer
+use Rattle.dd_certificate.specs.declared.answer.Reason.TheVariants as reason
+use Rattle.dd_contain.specs.declared.decision.Decision.TheVariants as decision
 
 -- the question with this number is decided so within the limits
 pub record ComesTo (l : Limits) (c : ConjugacyOf) (k : ℕ) (d : Decision) : Type 0 where

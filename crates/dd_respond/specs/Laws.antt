@@ -1,7 +1,6 @@
 -- What all right answers to a question have in common.
 use Rattle.std.specs.Prelude.{ℕ, ◌≡◌}
-use Rattle.dd_certificate.specs.declared.answer.Answer.{Answer}
-use Rattle.dd_certificate.specs.Text.{answer_line}
+use Rattle.dd_certificate.specs.{declared.answer.Answer.Answer, Text.answer_line}
 use Rattle.dd_respond.specs.Right.{is_unknown}
 
 -- both have the same first line, whatever the query's number, and both are definite or neither is

@@ -1,31 +1,22 @@
 -- Which answers are right.
-use Rattle.std.specs.Prelude.{◌≡◌, Bool, nat_eq, codes}
-use Rattle.std.specs.List.{starts_with}
+use Rattle.std.specs.{Prelude.◌≡◌, Prelude.Bool, Prelude.nat_eq, Prelude.codes, List.starts_with}
 use Rattle.dd_pattern.specs.Tile.{Tile}
 use Rattle.dd_formula.specs.LocalRule.{LocalRule}
 use Rattle.dd_values.specs.declared.limits.Limits.{Limits}
 use Rattle.dd_boxes.specs.Goals.{GoalOf}
-use Rattle.dd_certificate.specs.declared.answer.Answer.{Answer}
+use Rattle.dd_certificate.specs.{declared.answer.Answer.Answer, declared.answer.Side.Side, Text.verdict_text}
+use Rattle.dd_contain.specs.declared.{decision.Decision.Decision, equal.Equality.Equality, equal.Half.Half}
+use Rattle.dd_contain.specs.{Questions.IsDecided, Equal.IsEqualDecided}
+use Rattle.dd_question.specs.Questions.{Asked}
+use Rattle.dd_evidence.specs.{Tiles.written_periods, Answers.IsMemberCertificate, Answers.IsListCertificate, Answers.IsMinimalCertificate}
+use Rattle.dd_respond.specs.{Bounds.IsRightDensity, Bounds.IsRightDischarge, Conjugacies.IsRightConjugacy, Tori.IsRightLeast}
 use Rattle.dd_certificate.specs.declared.answer.Answer.TheVariants as answer
-use Rattle.dd_certificate.specs.declared.answer.Side.{Side}
 use Rattle.dd_certificate.specs.declared.answer.Side.TheVariants as side
 use Rattle.dd_certificate.specs.declared.answer.Reason.TheVariants as reason
-use Rattle.dd_certificate.specs.Text.{verdict_text}
-use Rattle.dd_contain.specs.declared.decision.Decision.{Decision}
 use Rattle.dd_contain.specs.declared.decision.Decision.TheVariants as decision
-use Rattle.dd_contain.specs.declared.equal.Equality.{Equality}
 use Rattle.dd_contain.specs.declared.equal.Equality.TheVariants as equal
-use Rattle.dd_contain.specs.declared.equal.Half.{Half}
 use Rattle.dd_contain.specs.declared.equal.Half.TheVariants as half
-use Rattle.dd_contain.specs.Questions.{IsDecided}
-use Rattle.dd_contain.specs.Equal.{IsEqualDecided}
-use Rattle.dd_question.specs.Questions.{Asked}
 use Rattle.dd_question.specs.Questions as asked
-use Rattle.dd_evidence.specs.Tiles.{written_periods}
-use Rattle.dd_evidence.specs.Answers.{IsMemberCertificate, IsListCertificate, IsMinimalCertificate}
-use Rattle.dd_respond.specs.Bounds.{IsRightDensity, IsRightDischarge}
-use Rattle.dd_respond.specs.Conjugacies.{IsRightConjugacy}
-use Rattle.dd_respond.specs.Tori.{IsRightLeast}
 
 -- ---- box questions
 

@@ -1,16 +1,11 @@
 -- Which answers to the question how little a fundamental box can weigh are right.
 use Rattle.std.specs.Prelude.{ℕ, ◌≡◌, ◌<◌, List}
-use Rattle.dd_pattern.specs.Periods.{periods_of}
-use Rattle.dd_pattern.specs.Tile.{Tile}
-use Rattle.dd_pattern.specs.Weight.{total_weight}
+use Rattle.dd_pattern.specs.{Periods.periods_of, Tile.Tile, Weight.total_weight}
 use Rattle.dd_formula.specs.LocalRule.{LocalRule}
-use Rattle.dd_derivation.specs.declared.step.Step.{Step}
-use Rattle.dd_derivation.specs.Derivations.{IsRefuting}
-use Rattle.dd_counter.specs.declared.least.LeastWeight.{LeastWeight}
-use Rattle.dd_counter.specs.declared.least.LeastWeight.TheVariants as least
-use Rattle.dd_counter.specs.Weights.{weight_problem}
-use Rattle.dd_counter.specs.Least.{IsLiving, LeastOn, NoneOn}
+use Rattle.dd_derivation.specs.{declared.step.Step.Step, Derivations.IsRefuting}
+use Rattle.dd_counter.specs.{declared.least.LeastWeight.LeastWeight, Weights.weight_problem, Least.IsLiving, Least.LeastOn, Least.NoneOn}
 use Rattle.dd_certificate.specs.declared.answer.Answer.{Answer}
+use Rattle.dd_counter.specs.declared.least.LeastWeight.TheVariants as least
 use Rattle.dd_certificate.specs.declared.answer.Answer.TheVariants as answer
 
 -- the answer for a least weight, or if no configuration lives

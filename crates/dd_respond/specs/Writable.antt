@@ -1,8 +1,7 @@
 -- The decisions that an output can hold.
 use Rattle.dd_certificate.specs.Bounds.{IsWritableRefutation}
-use Rattle.dd_contain.specs.declared.decision.Decision.{Decision}
+use Rattle.dd_contain.specs.declared.{decision.Decision.Decision, equal.Equality.Equality}
 use Rattle.dd_contain.specs.declared.decision.Decision.TheVariants as decision
-use Rattle.dd_contain.specs.declared.equal.Equality.{Equality}
 use Rattle.dd_contain.specs.declared.equal.Equality.TheVariants as equality
 
 -- an output can hold the evidence of a YES

@@ -1,14 +1,9 @@
 -- Cells chosen by their numbers.
 use Rattle.std.proofs.Common.{◌≡◌, ◌<◌, ◌≤◌, ◌+◌, pos, ℕ, zero, suc, Bool, true, false, cond, List, [], ◌∷◌, ◌++◌, length, get_or, map, take, refl, sym, ◌∙◌, ap, arith}
-use Rattle.std.specs.Prelude.{filter}
-use Rattle.std.specs.Bool.{nat_eq}
-use Rattle.std.specs.List.{range_with_len}
-use Rattle.std.proofs.Math.ListN.{set}
-use Rattle.std.proofs.lemmas.Bool.{eq-eqb, ne_eqb, false≢true}
-use Rattle.dd_lattice.specs.Place.{place}
-use Rattle.std.proofs.lemmas.List.{append-nil}
+use Rattle.std.proofs.{Math.ListN.set, lemmas.Bool.eq-eqb, lemmas.Bool.ne_eqb, lemmas.Bool.false≢true, lemmas.List.append-nil}
 use Rattle.std.proofs.lemmas.List.FromFn.{get_or-map-range_with_len}
-use Rattle.dd_lattice.specs.declared.position.Cell.{Cell}
+use Rattle.std.specs.{Prelude.filter, Bool.nat_eq, List.range_with_len}
+use Rattle.dd_lattice.specs.{Place.place, declared.position.Cell.Cell}
 use Rattle.dd_rows.specs.listing.Levels.{chosen}
 
 moved_in : (b : Bool) (c : Cell) (xs ys zs : List Cell) → xs ≡ ys ++ zs → cond b (c ∷ xs) xs ≡ cond b (c ∷ ys) ys ++ zs

@@ -1,9 +1,8 @@
 -- Steps of the loops that collect lists.
 use Rattle.std.proofs.Common.{◌≡◌, ◌<◌, ◌≤◌, ◌+◌, ℕ, List, [], ◌∷◌, ◌++◌, length, get_or, map, take, drop, refl, sym, ◌∙◌, ap, arith}
-use Rattle.std.specs.List.{fold, range_with_len}
 use Rattle.std.proofs.lemmas.List.{append_assoc, map-append, map_more, take-append-drop}
-use Rattle.std.proofs.lemmas.List.Sums.{fold-append}
-use Rattle.std.proofs.lemmas.List.FromFn.{map-range_with_len_more}
+use Rattle.std.proofs.lemmas.List.{Sums.fold-append, FromFn.map-range_with_len_more}
+use Rattle.std.specs.List.{fold, range_with_len}
 
 -- one more item of a mapped list
 pub mapped_next : {X Y : Type 0} (f : X → Y) (xs : List X) (i : ℕ) (d : X) (old new : List Y) (n : Y) → i < length xs → old ≡ map f (take i xs) → d ≡ get_or xs i d → n ≡ f d →

@@ -1,21 +1,14 @@
 -- Ascending lists: the place of a key, and the list after a key is inserted.
-use Rattle.std.proofs.Common.{◌≡◌, ◌<◌, ◌≤◌, ℕ, zero, suc, List, [], ◌∷◌, ◌++◌, length, get_or, take, drop, refl, sym, ◌∙◌, ap, subst, inl, inr, arith, Ok, Err, Result}
-use Rattle.std.specs.Result.{MatchResult}
-use Rattle.std.specs.List.{position_or_len, AllWithin}
-use Rattle.std.specs.List.Sorted.{IsStrictlySortedBy, IsSortedBy, IsBinarySearchResult, IsSearchInRange}
-use Rattle.std.specs.BTreeSet.{insert_key}
-use Rattle.std.specs.Ordering.{is_eq, is_lt, ordering_reverse, match_ordering}
-use Rattle.std.specs.Cmp.{IsTotalOrder}
-use Rattle.std.specs.declared.cmp.Ordering.{Ordering}
-use Rattle.std.specs.declared.cmp.Ordering.TheVariants.{Less, Equal, Greater}
-use Rattle.std.proofs.Common.{add-one}
-use Rattle.std.proofs.lemmas.Bool.{cases_lt}
-use Rattle.std.proofs.lemmas.List.Elements.{All-from_recursion, recursion_from_All}
-use Rattle.std.proofs.lemmas.List.Sorted.{searchable_from_sorted}
-use Rattle.std.proofs.lemmas.List.Sums.{position_or_len_is}
-use Rattle.std.proofs.lemmas.Map.Keys.{Less-from_sorted}
+use Rattle.std.proofs.Common.{◌≡◌, ◌<◌, ◌≤◌, ℕ, zero, suc, List, [], ◌∷◌, ◌++◌, length, get_or, take, drop, refl, sym, ◌∙◌, ap, subst, inl, inr, arith, Ok, Err, Result, add-one}
+use Rattle.std.proofs.lemmas.{Bool.cases_lt, List.Elements.All-from_recursion, List.Elements.recursion_from_All}
+use Rattle.std.proofs.lemmas.{List.Sorted.searchable_from_sorted, List.Sums.position_or_len_is, Map.Keys.Less-from_sorted}
 use Rattle.std.proofs.lemmas.Map.Views.{All-insert_key}
-use Rattle.dd_rows.specs.lemmas.Growing.{all_cons}
+use Rattle.std.specs.{Result.MatchResult, List.position_or_len, List.AllWithin}
+use Rattle.std.specs.List.Sorted.{IsStrictlySortedBy, IsSortedBy, IsBinarySearchResult, IsSearchInRange}
+use Rattle.std.specs.{BTreeSet.insert_key, Ordering.is_eq, Ordering.is_lt, Ordering.ordering_reverse, Ordering.match_ordering}
+use Rattle.std.specs.{Cmp.IsTotalOrder, declared.cmp.Ordering.Ordering}
+use Rattle.std.specs.declared.cmp.Ordering.TheVariants.{Less, Equal, Greater}
+use Rattle.dd_values.specs.lemmas.Lists.{all_cons}
 
 module _ {K : Type 0} {R : K → K → Ordering} (o : IsTotalOrder R) where
   turned : (x y : K) (r : Ordering) → R x y ≡ r → R y x ≡ ordering_reverse r

@@ -2,8 +2,7 @@
 use Rattle.std.specs.Prelude.{ℕ, ◌≤◌, ◌<◌, Bool, not, ◌||◌, List, [], ◌∷◌, map, filter, length, take}
 use Rattle.std.specs.List.{flat_map, range_with_len, list_all}
 use Rattle.dd_lattice.specs.declared.position.Cell.{Cell}
-use Rattle.dd_pattern.specs.Reading.{Look}
-use Rattle.dd_pattern.specs.Filling.{filled, filling_look}
+use Rattle.dd_pattern.specs.{Reading.Look, Filling.filled, Filling.filling_look}
 use Rattle.dd_formula.specs.LocalRule.{LocalRule, rule_allows, is_true}
 use Rattle.dd_boxes.specs.Fillings.{place_fits}
 

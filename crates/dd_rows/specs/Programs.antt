@@ -2,26 +2,16 @@
 -- vector an amount that its pattern determines. Column 0 is what each position holds. Then there is a column for each
 -- vector and each pattern.
 use Rattle.std.specs.Prelude.{ℕ, ◌+◌, ◌*◌, ◌<◌, ◌≤◌, ◌≡◌, ◌⊎◌, Bool, ◌&&◌, cond, pos, ◌-ℤ◌, ℤ, List, [], ◌∷◌, ◌++◌, map, length, replicate, unwrap_or}
-use Rattle.std.specs.Bool.{nat_eq}
-use Rattle.std.specs.Ordering.{int_eq}
-use Rattle.std.specs.List.{fold, flat_map, list_any, range_with_len}
+use Rattle.std.specs.{Bool.nat_eq, Ordering.int_eq, List.fold, List.flat_map, List.list_any, List.range_with_len}
 use Rattle.std.specs.Cmp.Lexicographic.{pointwise}
-use Rattle.dd_lattice.specs.Place.{Place}
-use Rattle.dd_lattice.specs.Cells.{cell}
-use Rattle.dd_lattice.specs.declared.position.Cell.{Cell}
-use Rattle.dd_pattern.specs.Reading.{Look}
-use Rattle.dd_pattern.specs.Weight.{total_weight}
+use Rattle.dd_lattice.specs.{Place.Place, Cells.cell, declared.position.Cell.Cell}
+use Rattle.dd_pattern.specs.{Reading.Look, Weight.total_weight}
 use Rattle.dd_expansion.specs.Limits.{greatest}
 use Rattle.dd_formula.specs.LocalRule.{LocalRule}
-use Rattle.dd_rows.specs.declared.rows.Row.{Row}
-use Rattle.dd_rows.specs.declared.rows.Rows.{Rows}
-use Rattle.dd_rows.specs.declared.fault.RowsFault.{RowsFault}
-use Rattle.dd_boxes.specs.Cells.{box_cells}
-use Rattle.dd_rows.specs.Domains.{IsGround}
+use Rattle.dd_rows.specs.{declared.rows.Row.Row, declared.rows.Rows.Rows, declared.fault.RowsFault.RowsFault, Domains.IsGround}
 use Rattle.dd_rows.specs.Fillings.{look_of, fillings, HasManyFillings, HasFewFillings}
-use Rattle.dd_rows.specs.Patterns.{pattern_at, givers, patterns, pattern_number}
-use Rattle.dd_boxes.specs.Boxes.{origin}
-use Rattle.dd_rows.specs.Faults.{OnLarge}
+use Rattle.dd_rows.specs.{Patterns.pattern_at, Patterns.givers, Patterns.patterns, Patterns.pattern_number, Faults.OnLarge}
+use Rattle.dd_boxes.specs.{Cells.box_cells, Boxes.origin}
 
 abbrev pub one_at : ℕ → ℕ → ℤ
 one_at k n = pos (cond (nat_eq k n) 1 0)

@@ -1,7 +1,6 @@
 -- The sample scripts, and the words that give their numbers.
 use Rattle.std.specs.Prelude.{◌≡◌, ℕ, ◌*◌, ◌≤◌, List, ◌++◌, codes, Option, Some, None}
-use Rattle.std.specs.List.{repeat}
-use Rattle.std.specs.Fmt.{decimal}
+use Rattle.std.specs.{List.repeat, Fmt.decimal}
 
 -- There is a sample with this number. The configuration of the last sample has as many symbols as a script allows.
 abbrev pub IsSampleNumber : ℕ → Type 0

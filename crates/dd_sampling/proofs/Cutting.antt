@@ -1,12 +1,10 @@
 -- The tokens of a text after another text, of a number before a bracket, and of symbols.
 use Rattle.std.proofs.Common.{◌≡◌, ℕ, zero, suc, ◌+◌, ◌-◌, ◌*◌, ◌<◌, ◌≤◌, List, [], ◌∷◌, ◌++◌, length, map, true, codes, refl, sym, ap, subst, ◌∙◌, arith}
 use Rattle.std.specs.List.{prefix_len, repeat}
-use Rattle.dd_tokens.specs.declared.token.Token.{Token}
-use Rattle.dd_tokens.specs.declared.token.TokenKind.TheVariants as token
-use Rattle.dd_tokens.specs.declared.token.Tokens.{Tokens}
-use Rattle.dd_tokens.specs.declared.piece.Piece.{Piece}
+use Rattle.dd_tokens.specs.declared.{token.Token.Token, token.Tokens.Tokens, piece.Piece.Piece}
 use Rattle.dd_tokens.specs.declared.piece.Piece.TheVariants.{Gap, Cut, Fault}
 use Rattle.dd_tokens.specs.Format.{tokens_after, first, front, with_piece, piece_size, with_front, is_digit}
+use Rattle.dd_tokens.specs.declared.token.TokenKind.TheVariants as token
 
 -- ---- shifted by p bytes
 

@@ -1,16 +1,12 @@
 -- What tokens mean to the grammar, if their text follows another one.
 use Rattle.std.proofs.Common.{◌≡◌, ℕ, zero, suc, ◌+◌, List, [], ◌∷◌, ◌++◌, length, map, take, drop, Option, Some, None, refl, ap, ◌∙◌, arith}
-use Rattle.dd_tokens.specs.declared.token.Token.{Token}
-use Rattle.dd_tokens.specs.declared.token.TokenKind.{TokenKind}
-use Rattle.dd_tokens.specs.declared.token.TokenKind.TheVariants as token
-use Rattle.dd_written.specs.declared.lexeme.Mark.{Mark}
-use Rattle.dd_written.specs.declared.lexeme.Word.{Word}
-use Rattle.dd_written.specs.declared.lexeme.Number.{Number}
-use Rattle.dd_written.specs.declared.lexeme.Lexeme.{Lexeme}
-use Rattle.dd_written.specs.declared.lexeme.Lexeme.TheVariants as lexeme
-use Rattle.dd_written.specs.Lexemes.{lexeme_of, marked, mark_at}
+use Rattle.dd_tokens.specs.declared.token.{Token.Token, TokenKind.TokenKind}
+use Rattle.dd_written.specs.declared.lexeme.{Mark.Mark, Word.Word, Number.Number}
+use Rattle.dd_written.specs.{declared.lexeme.Lexeme.Lexeme, Lexemes.lexeme_of, Lexemes.marked, Lexemes.mark_at}
 use Rattle.dd_written.specs.Values.{word_text, number_text}
 use Rattle.dd_sampling.proofs.Cutting.{up_token, turn_tokens}
+use Rattle.dd_tokens.specs.declared.token.TokenKind.TheVariants as token
+use Rattle.dd_written.specs.declared.lexeme.Lexeme.TheVariants as lexeme
 
 -- from the position p on, the bytes are ys
 abbrev pub Stands : List ℕ → ℕ → List ℕ → Type 0

@@ -1,25 +1,14 @@
 -- What the rules of a sample mean: their formulas with indices, and then without variables.
 use Rattle.std.proofs.Common.{◌≡◌, ℕ, ◌+◌, List, [], ◌∷◌, ◌++◌, map, length, ap}
-use Rattle.std.specs.Prelude.{pos, negsuc}
-use Rattle.std.specs.List.{flat_map}
-use Rattle.std.specs.Option.{option_to_list}
-use Rattle.dd_lattice.specs.Place.{place}
-use Rattle.dd_lattice.specs.Cells.{cell}
-use Rattle.dd_lattice.specs.InOrder.{in_order}
-use Rattle.dd_lattice.specs.declared.position.Cell.{Cell}
-use Rattle.dd_topology.specs.declared.edge.Edge.{Edge}
-use Rattle.dd_topology.specs.Builtin.{square}
-use Rattle.dd_topology.specs.Sets.{all_symbols}
-use Rattle.dd_expansion.specs.declared.formulas.Term.{Term}
-use Rattle.dd_expansion.specs.declared.formulas.BallOf.{BallOf}
+use Rattle.std.specs.{Prelude.pos, Prelude.negsuc, List.flat_map, Option.option_to_list}
+use Rattle.dd_lattice.specs.{Place.place, Cells.cell, InOrder.in_order, declared.position.Cell.Cell}
+use Rattle.dd_topology.specs.{declared.edge.Edge.Edge, Builtin.square, Sets.all_symbols}
+use Rattle.dd_expansion.specs.declared.formulas.{Term.Term, BallOf.BallOf}
 use Rattle.dd_expansion.specs.declared.formulas.Formula.{Formula, roll-Formula}
-use Rattle.dd_expansion.specs.declared.formulas.Formula.TheFolds.{fold-roll-Formula}
-use Rattle.dd_expansion.specs.declared.formulas.Formula.TheOpen.{Formula-F}
+use Rattle.dd_expansion.specs.declared.formulas.Formula.{TheFolds.fold-roll-Formula, TheOpen.Formula-F}
 use Rattle.dd_expansion.specs.declared.expanded.Expanded.{Expanded, roll-Expanded}
-use Rattle.dd_expansion.specs.declared.expanded.Expanded.TheFolds.{fold-roll-Expanded}
-use Rattle.dd_expansion.specs.declared.expanded.Expanded.TheOpen.{Expanded-F}
-use Rattle.dd_expansion.specs.Terms.{cell_of, balls_of}
-use Rattle.dd_expansion.specs.Reads.{Reading, reads, reads_step}
+use Rattle.dd_expansion.specs.declared.expanded.Expanded.{TheFolds.fold-roll-Expanded, TheOpen.Expanded-F}
+use Rattle.dd_expansion.specs.{Terms.cell_of, Terms.balls_of, Reads.Reading, Reads.reads, Reads.reads_step}
 use Rattle.dd_expansion.specs.Expansion.{Expansion, expansion, expansion_step, at_cell, leaf, negated, all_of, any_of}
 use Rattle.dd_expansion.specs.Leaves.{instances, instances_step, clause_count, clause_count_step, total}
 use Rattle.dd_formula.specs.LocalRule.{LocalRule, local_rule, reads_at, expansion_at}

@@ -2,49 +2,40 @@
 use Rattle.std.proofs.Common.{◌≡◌, ℕ, List, [], ◌∷◌, ◌++◌, map, Bool, true, false, Option, Some, None, codes, refl, ap, ◌∙◌}
 use Rattle.std.specs.Fmt.{signed_decimal, digits}
 use Rattle.std.specs.Prelude.{pos, ◌-ℤ◌, nat_lt, not, ◌||◌, is_some, unwrap_or, if◌then◌else◌, bytes_eq}
-use Rattle.std.specs.List.{flat_map, list_any, slice_get}
-use Rattle.std.specs.Option.{option_map, option_and_then}
+use Rattle.std.specs.{List.flat_map, List.list_any, List.slice_get, Option.option_map, Option.option_and_then}
 use Rattle.dd_topology.specs.Naming.{number_of}
 use Rattle.dd_lattice.specs.Place.{Place}
 use Rattle.dd_pattern.specs.Tile.{Tile}
 use Rattle.dd_formula.specs.LocalRule.{LocalRule}
-use Rattle.dd_written.specs.declared.lexeme.Word.{Word}
-use Rattle.dd_written.specs.declared.lexeme.Number.{Number}
-use Rattle.dd_written.specs.declared.lexeme.Lexeme.{Lexeme}
-use Rattle.dd_written.specs.declared.lexeme.Lexeme.TheVariants as lexeme
-use Rattle.dd_written.specs.declared.tree.Name.TheVariants as name
+use Rattle.dd_written.specs.declared.lexeme.{Word.Word, Number.Number, Lexeme.Lexeme}
 use Rattle.dd_written.specs.Values.{word_text, written_value, unsigned, decimal as value_from}
-use Rattle.dd_commands.specs.declared.command.Entry.{Entry}
-use Rattle.dd_commands.specs.declared.command.Entry.TheVariants as entry
-use Rattle.dd_commands.specs.declared.command.Vector.{Vector}
-use Rattle.dd_commands.specs.declared.command.Request.{Request}
+use Rattle.dd_commands.specs.declared.command.{Entry.Entry, Vector.Vector, Request.Request}
 use Rattle.dd_commands.specs.Commands.{request_text}
-use Rattle.dd_faults.specs.declared.fault.Fault.{Fault}
-use Rattle.dd_faults.specs.declared.fault.Fault.TheVariants as fault
-use Rattle.dd_faults.specs.declared.fault.Limit.TheVariants as limit
-use Rattle.dd_known.specs.declared.known.Context.{Context}
-use Rattle.dd_faults.specs.Order.{when, over}
-use Rattle.dd_faults.specs.Names.{missing}
+use Rattle.dd_faults.specs.{declared.fault.Fault.Fault, Order.when, Order.over, Names.missing}
 use Rattle.dd_faults.specs.Numbers.{token_faults, entry_value, is_far}
 use Rattle.dd_faults.specs.Repeats.{first_repeat, vector_key, entry_key, twice_vector, twice_vectors}
 use Rattle.dd_faults.specs.Commands.{written_faults, radius_faults, vector_faults}
-use Rattle.dd_query.specs.declared.queries.Query.{Query}
-use Rattle.dd_query.specs.Queries.{query_of}
+use Rattle.dd_known.specs.declared.known.Context.{Context}
+use Rattle.dd_query.specs.{declared.queries.Query.Query, Queries.query_of}
 use Rattle.dd_boxes.specs.Goals.{breaks}
 use Rattle.dd_question.specs.declared.excess.Excess.{Excess}
-use Rattle.dd_question.specs.declared.excess.Excess.TheVariants as excess
 use Rattle.dd_question.specs.Questions.{membership, box, equality, density, discharge, passed, excess_of}
 use Rattle.dd_question.specs.Boxes.{is_long}
-use Rattle.dd_script.specs.Parts.{Parts}
-use Rattle.dd_script.specs.Questions.{of_both, query_excess}
+use Rattle.dd_script.specs.{Parts.Parts, Questions.of_both, Questions.query_excess}
 use Rattle.dd_sampling.proofs.Lexing.{Stands, number_at, up_word, up_number, up_lexeme, word_up, number_up}
 use Rattle.dd_sampling.proofs.Whole.{tail_text}
 use Rattle.dd_sampling.proofs.Tree.{word_at, up_entry, up_vector, up_request, question_written, vector, plus, minus, member_hard, row_hard, hard_row, hard_equals_row, zero_dies, density_dom, discharge_dom}
 use Rattle.dd_sampling.proofs.Meant.{plain_rule, hard_meant, row_meant, dies_meant, zero_meant, dom_meant}
 use Rattle.dd_sampling.proofs.Sizes.{limits, known, row_hard_short, hard_row_short, zero_dies_short, dom_narrow}
 use Rattle.dd_sampling.proofs.Faultless.{standing, names_5}
+use Rattle.dd_written.specs.declared.lexeme.Lexeme.TheVariants as lexeme
+use Rattle.dd_written.specs.declared.tree.Name.TheVariants as name
+use Rattle.dd_commands.specs.declared.command.Entry.TheVariants as entry
+use Rattle.dd_faults.specs.declared.fault.Fault.TheVariants as fault
+use Rattle.dd_faults.specs.declared.fault.Limit.TheVariants as limit
+use Rattle.dd_question.specs.declared.excess.Excess.TheVariants as excess
 
-none_and : (xs ys : List Fault) → xs ≡ [] → ys ≡ [] → xs ++ ys ≡ []
+pub none_and : (xs ys : List Fault) → xs ≡ [] → ys ≡ [] → xs ++ ys ≡ []
 none_and xs ys first second = ap (λ (zs : List Fault). zs ++ ys) first ∙ second
 
 -- ---- values, tokens and vectors, shifted by p bytes

@@ -4,40 +4,30 @@ use Rattle.std.specs.Option.{option_or, option_map}
 use Rattle.dd_pattern.specs.Tile.{Tile}
 use Rattle.dd_expansion.specs.declared.formulas.Formula.{Formula as Meant}
 use Rattle.dd_formula.specs.LocalRule.{LocalRule}
-use Rattle.dd_written.specs.declared.lexeme.Word.{Word}
-use Rattle.dd_written.specs.declared.lexeme.Lexeme.{Lexeme}
-use Rattle.dd_written.specs.declared.tree.Name.TheVariants as name
-use Rattle.dd_written.specs.declared.tree.Formula.{Formula}
-use Rattle.dd_commands.specs.declared.command.Request.{Request}
-use Rattle.dd_commands.specs.declared.command.Entry.TheVariants as entry
-use Rattle.dd_commands.specs.declared.script.Written.{Written}
-use Rattle.dd_commands.specs.declared.script.Syntax.{Syntax}
+use Rattle.dd_written.specs.declared.{lexeme.Word.Word, lexeme.Lexeme.Lexeme, tree.Formula.Formula}
+use Rattle.dd_commands.specs.declared.{command.Request.Request, script.Written.Written, script.Syntax.Syntax}
 use Rattle.dd_commands.specs.Scripts.{IsScript}
-use Rattle.dd_faults.specs.declared.fault.Fault.{Fault}
-use Rattle.dd_faults.specs.declared.fault.Fault.TheVariants as fault
-use Rattle.dd_faults.specs.Order.{first_fault}
-use Rattle.dd_faults.specs.Commands.{written_faults}
-use Rattle.dd_query.specs.declared.queries.Query.{Query}
-use Rattle.dd_query.specs.Queries.{query_of}
-use Rattle.dd_meanings.specs.declared.meaning.Meaning.TheVariants as meaning
-use Rattle.dd_meanings.specs.Definitions.{rule_faults, tile_of}
-use Rattle.dd_meanings.specs.Formulas.{formula_of}
+use Rattle.dd_faults.specs.{declared.fault.Fault.Fault, Order.first_fault, Commands.written_faults}
+use Rattle.dd_query.specs.{declared.queries.Query.Query, Queries.query_of}
+use Rattle.dd_meanings.specs.{Definitions.rule_faults, Definitions.tile_of, Formulas.formula_of}
 use Rattle.dd_question.specs.declared.excess.Excess.{Excess}
-use Rattle.dd_script.specs.Parts.{Parts, Pair}
-use Rattle.dd_script.specs.Questions.{pairs_for}
+use Rattle.dd_script.specs.{Parts.Parts, Parts.Pair, Questions.pairs_for}
 use Rattle.dd_script.specs.Walk.{located, start, limit_of, fault_of, next, with, first_from, first_located_fault, script_of}
 use Rattle.dd_script.specs.Scripts.{Spells}
 use Rattle.dd_sample.specs.Sample.{IsSampleNumber, sample_text}
 use Rattle.dd_sampling.proofs.Lexing.{Stands, number_at, turn_numbers}
 use Rattle.dd_sampling.proofs.Whole.{front_text, tail_text, from_digits, regrouped, tail_stands, symbols_stand, symbols_at, tail_at}
 use Rattle.dd_sampling.proofs.Tree.{word_at, vector, plus, hard, row, dies, zero_rule, dom, hard_text, row_text, dies_text, zero_text, dom_text, limits_written, rule_written, conf_written, question_written, commands, questions, up_request, member_hard, row_hard, hard_row, hard_equals_row, zero_dies, density_dom, discharge_dom}
-use Rattle.dd_sampling.proofs.Standing.{tree, whole_written}
-use Rattle.dd_sampling.proofs.Heights.{Height, height_of, sample_is}
+use Rattle.dd_sampling.proofs.{Standing.tree, Standing.whole_written, Heights.Height, Heights.height_of, Heights.sample_is}
 use Rattle.dd_sampling.proofs.Meant.{plain_rule, hard_meant, row_meant, dies_meant, zero_meant, dom_meant}
 use Rattle.dd_sampling.proofs.Sizes.{known, hard_few, row_few, dies_few, zero_few, dom_few}
 use Rattle.dd_sampling.proofs.Faultless.{behind, names_1, names_2, names_3, names_4, names_5, hard_faultless, row_faultless, dies_faultless, zero_faultless, dom_faultless, hard_meaning, row_meaning, dies_meaning, zero_meaning, dom_meaning}
 use Rattle.dd_sampling.proofs.Symbols.{conf_faultless}
 use Rattle.dd_sampling.proofs.Questions.{asked_in, rules_5, member_faultless, row_hard_faultless, hard_row_faultless, equal_faultless, zero_dies_faultless, density_faultless, discharge_faultless, member_few, row_hard_few, hard_row_few, equal_few, zero_dies_few, density_few, discharge_few}
+use Rattle.dd_written.specs.declared.tree.Name.TheVariants as name
+use Rattle.dd_commands.specs.declared.command.Entry.TheVariants as entry
+use Rattle.dd_faults.specs.declared.fault.Fault.TheVariants as fault
+use Rattle.dd_meanings.specs.declared.meaning.Meaning.TheVariants as meaning
 
 -- ---- one command more
 

@@ -1,31 +1,22 @@
 -- The commands of a sample: its limits, its rules and its queries.
 use Rattle.std.proofs.Common.{ℕ, List, [], ◌∷◌, ◌++◌, map, None}
-use Rattle.dd_written.specs.declared.lexeme.Word.{Word}
-use Rattle.dd_written.specs.declared.lexeme.Number.{Number}
-use Rattle.dd_written.specs.declared.lexeme.Lexeme.{Lexeme}
+use Rattle.dd_written.specs.declared.lexeme.{Word.Word, Number.Number, Lexeme.Lexeme}
+use Rattle.dd_written.specs.declared.tree.{Term.Term, Atom.Atom, Ball.Ball}
+use Rattle.dd_written.specs.declared.tree.Formula.{Formula, roll-Formula, TheOpen.Formula-F}
+use Rattle.dd_commands.specs.declared.{table.QueryKind.QueryKind, command.Entry.Entry, command.Vector.Vector}
+use Rattle.dd_commands.specs.declared.{command.Request.Request, command.Command.Command, script.Written.Written}
+use Rattle.dd_commands.specs.Commands.{request_text}
+use Rattle.dd_sampling.proofs.Lexing.{number_at, up_word, up_number}
 use Rattle.dd_written.specs.declared.lexeme.Lexeme.TheVariants as lexeme
 use Rattle.dd_written.specs.declared.lexeme.Mark.TheVariants as mark
 use Rattle.dd_written.specs.declared.tree.Name.TheVariants as name
-use Rattle.dd_written.specs.declared.tree.Term.{Term}
 use Rattle.dd_written.specs.declared.tree.Comparand.TheVariants as side
 use Rattle.dd_written.specs.declared.tree.Relation.TheVariants as relation
-use Rattle.dd_written.specs.declared.tree.Atom.{Atom}
-use Rattle.dd_written.specs.declared.tree.Ball.{Ball}
 use Rattle.dd_written.specs.declared.tree.Quantifier.TheVariants as quantifier
 use Rattle.dd_written.specs.declared.tree.Join.TheVariants as join
-use Rattle.dd_written.specs.declared.tree.Formula.{Formula, roll-Formula}
-use Rattle.dd_written.specs.declared.tree.Formula.TheOpen.{Formula-F}
-use Rattle.dd_commands.specs.declared.table.QueryKind.{QueryKind}
 use Rattle.dd_commands.specs.declared.table.QueryKind.TheVariants as kind
-use Rattle.dd_commands.specs.declared.command.Entry.{Entry}
 use Rattle.dd_commands.specs.declared.command.Entry.TheVariants as entry
-use Rattle.dd_commands.specs.declared.command.Vector.{Vector}
-use Rattle.dd_commands.specs.declared.command.Request.{Request}
-use Rattle.dd_commands.specs.declared.command.Command.{Command}
 use Rattle.dd_commands.specs.declared.command.Command.TheVariants as command
-use Rattle.dd_commands.specs.declared.script.Written.{Written}
-use Rattle.dd_commands.specs.Commands.{request_text}
-use Rattle.dd_sampling.proofs.Lexing.{number_at, up_word, up_number}
 
 abbrev pub word_at : ℕ → ℕ → Word
 word_at s l = record { start = s; length = l }

@@ -1,21 +1,17 @@
 -- The tokens of a sample.
 use Rattle.std.proofs.Common.{◌≡◌, ℕ, zero, suc, ◌+◌, ◌*◌, ◌≤◌, List, [], ◌∷◌, ◌++◌, length, map, take, drop, true, codes, refl, sym, ap, ◌∙◌, arith, append_assoc, length-append, append-nil, subst}
-use Rattle.std.proofs.lemmas.List.{map-append}
-use Rattle.std.specs.Prelude.{◌==◌, ◌&&◌, if◌then◌else◌, Bool}
-use Rattle.std.specs.Char.{is_ascii}
-use Rattle.std.specs.List.{repeat, list_all}
-use Rattle.std.proofs.lemmas.Bool.{eq-eqb, lt-ltb, and_from}
+use Rattle.std.proofs.lemmas.{List.map-append, Bool.eq-eqb, Bool.lt-ltb, Bool.and_from}
 use Rattle.std.proofs.lemmas.List.Folds.{list_all-append}
-use Rattle.dd_tokens.specs.declared.token.Token.{Token}
-use Rattle.dd_tokens.specs.declared.token.Tokens.{Tokens}
+use Rattle.std.specs.{Prelude.◌==◌, Prelude.◌&&◌, Prelude.if◌then◌else◌, Prelude.Bool, Char.is_ascii, List.repeat, List.list_all}
+use Rattle.dd_tokens.specs.declared.token.{Token.Token, Tokens.Tokens}
 use Rattle.dd_tokens.specs.Format.{tokens_after, tokens_of, with_front}
-use Rattle.dd_written.specs.declared.lexeme.Mark.TheVariants as mark
 use Rattle.dd_written.specs.declared.lexeme.Lexeme.{Lexeme}
-use Rattle.dd_written.specs.declared.lexeme.Lexeme.TheVariants as lexeme
 use Rattle.dd_written.specs.Lexemes.{lexeme_of, lexemes_of, stray, marked, mark_at}
 use Rattle.dd_sample.specs.Sample.{rules_text, queries_text}
 use Rattle.dd_sampling.proofs.Cutting.{up_token, tokens_up, number_token, mark_token, AreDigits, number_before, turn, turn_tokens, turns}
 use Rattle.dd_sampling.proofs.Lexing.{Stands, stands_behind, stands_after, up_lexeme, lexemes_up, number_at, turn_numbers, turn_lexemes}
+use Rattle.dd_written.specs.declared.lexeme.Mark.TheVariants as mark
+use Rattle.dd_written.specs.declared.lexeme.Lexeme.TheVariants as lexeme
 
 -- the text up to the height of the configuration
 abbrev pub front_text : List ℕ

@@ -1,16 +1,14 @@
 -- What holds of every script, after each command.
 use Rattle.std.proofs.Common.{◌≡◌, ℕ, ◌≤◌, [], length, Option, None, arith}
-use Rattle.std.specs.{List.All, List.range_with_len, Option.option_or, Option.option_map}
 use Rattle.std.proofs.lemmas.{Grind.common_steps, List.Elements.All-push}
 use Rattle.std.proofs.lemmas.List.FromFn.{length-range_with_len, get_or-range_with_len}
+use Rattle.std.specs.{List.All, List.range_with_len, Option.option_or, Option.option_map}
 use Rattle.dd_topology.specs.Sets.{IsSets}
-use Rattle.dd_script.specs.Tree.{Command}
+use Rattle.dd_script.specs.{Tree.Command, declared.draft.Draft.Draft, Drafts.parts_of, Parts.Parts, Parts.Known}
+use Rattle.dd_script.specs.{Kept.IsQueryOf, Kept.IsScriptOf, Walk.with, Walk.asked_fault, Walk.parts_in, Walk.pairs_in, Walk.word_text}
 use Rattle.dd_commands.specs.Heads.{head_of, stage, next_stage}
 use Rattle.dd_meanings.specs.{Meanings.meaning, Sound.IsSoundMeaning}
 use Rattle.dd_pairs.specs.Made.{ArePairs}
-use Rattle.dd_script.specs.{declared.draft.Draft.Draft, Drafts.parts_of, Parts.Parts, Parts.Known}
-use Rattle.dd_script.specs.Kept.{IsQueryOf, IsScriptOf}
-use Rattle.dd_script.specs.Walk.{with, asked_fault, parts_in, pairs_in, word_text}
 use Rattle.dd_script.proofs.Growing.{stay, one_more, more}
 
 -- nothing is defined or asked

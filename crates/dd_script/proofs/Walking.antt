@@ -1,17 +1,16 @@
 -- Reading the commands, one by one.
 use Rattle.std.proofs.Common.{◌≡◌, ℕ, ◌+◌, ◌<◌, ◌≤◌, List, [], ◌∷◌, length, drop, get_or, Option, Some, None, refl, sym, ap, subst, ◌∙◌, arith, All}
-use Rattle.std.specs.Option.{option_or, option_map}
 use Rattle.std.proofs.lemmas.{Grind.common_steps, List.drop_all, List.Elements.All-get_or}
-use Rattle.dd_script.specs.Tree.{Lexeme, Syntax}
+use Rattle.std.specs.Option.{option_or, option_map}
+use Rattle.dd_script.specs.{Tree.Lexeme, Tree.Syntax, declared.draft.Draft.Draft, Parts.Parts, Kept.IsScriptOf}
+use Rattle.dd_script.specs.Walk.{start, asked_fault, parts_in, pairs_in, Located, located, first_from, after_all, has_topology, first_located_fault, script_of, Written, stage_of, Fault, first_fault, written_faults, Meaning, meaning_of, counted_sizes}
+use Rattle.dd_script.specs.Scripts.{Spells, kind_of, HasFault}
+use Rattle.dd_script.specs.Drafts.{parts_of, draft_of, with_meaning, fault_at, Means}
 use Rattle.dd_written.specs.Lexemes.{lexemes_of}
 use Rattle.dd_commands.specs.Scripts.{parts, stage_after, AreCommands, IsScript, IsWritten}
 use Rattle.dd_faults.specs.lemmas.Nothing.{none_first, parts as no_faults}
 use Rattle.dd_meanings.specs.Sound.{IsSoundMeaning}
 use Rattle.dd_pairs.specs.Made.{ArePairs}
-use Rattle.dd_script.specs.{declared.draft.Draft.Draft, Parts.Parts, Kept.IsScriptOf}
-use Rattle.dd_script.specs.Walk.{start, asked_fault, parts_in, pairs_in, Located, located, first_from, after_all, has_topology, first_located_fault, script_of, Written, stage_of, Fault, first_fault, written_faults, Meaning, meaning_of, counted_sizes}
-use Rattle.dd_script.specs.Scripts.{Spells, kind_of, HasFault}
-use Rattle.dd_script.specs.Drafts.{parts_of, draft_of, with_meaning, fault_at, Means}
 use Rattle.dd_script.proofs.Kept.{IsReady, HasSets, ready_behind, kept_behind}
 
 -- ---- one command

@@ -1,12 +1,11 @@
 -- Scripts while their commands are read one by one.
 use Rattle.std.specs.Prelude.{ℕ, ◌+◌, ◌≡◌, ◌≤◌, List, Bool, Option, None}
 use Rattle.dd_values.specs.Bounds.{most_commands}
-use Rattle.dd_script.specs.Tree.{SyntaxFault}
+use Rattle.dd_script.specs.{Tree.SyntaxFault, declared.draft.Draft.Draft, declared.fault.ScriptFault.ScriptFault}
+use Rattle.dd_script.specs.{declared.fault.ScriptKind.ScriptKind, Parts.Parts, Parts.parts}
+use Rattle.dd_script.specs.Walk.{with, context, asked_fault, parts_in, pairs_in, meaning_at, fault_of, Written, Fault, Meaning}
 use Rattle.dd_meanings.specs.Sound.{IsSoundMeaning}
 use Rattle.dd_pairs.specs.Made.{ArePairs}
-use Rattle.dd_script.specs.{declared.draft.Draft.Draft, declared.fault.ScriptFault.ScriptFault, declared.fault.ScriptKind.ScriptKind}
-use Rattle.dd_script.specs.{Parts.Parts, Parts.parts}
-use Rattle.dd_script.specs.Walk.{with, context, asked_fault, parts_in, pairs_in, meaning_at, fault_of, Written, Fault, Meaning}
 
 abbrev pub parts_of : Draft → Parts
 parts_of d = parts d.context.known d.made

@@ -1,6 +1,5 @@
 -- What holds of every script.
-use Rattle.std.specs.Prelude.{◌≡◌, None, map}
-use Rattle.std.specs.List.{All}
+use Rattle.std.specs.{Prelude.◌≡◌, Prelude.None, Prelude.map, List.All}
 use Rattle.dd_known.specs.Sound.{IsSound}
 pub use Rattle.dd_query.specs.Queries.{IsQueryWithin}
 pub use Rattle.dd_meanings.specs.{Made.IsRuleOf, Made.IsAutomatonOf, Made.AreNamed, Sound.IsConfigurationOf}

@@ -1,10 +1,9 @@
 -- What the queries of a script ask.
-use Rattle.std.specs.Prelude.{ℕ, ◌-◌, List, Option, option_map}
-use Rattle.std.specs.{List.slice_get, Option.option_and_then}
+use Rattle.std.specs.{Prelude.ℕ, Prelude.◌-◌, Prelude.List, Prelude.Option, Prelude.option_map, List.slice_get, Option.option_and_then}
 use Rattle.dd_boxes.specs.{Goals.breaks, Goals.differ, Goals.always, Views.numbers_of}
-use Rattle.dd_question.specs.Questions as question
 use Rattle.dd_question.specs.{Questions.Asked, Questions.excess_of, declared.excess.Excess.Excess}
 use Rattle.dd_pairs.specs.{Parts.PartOf, Parts.image, Parts.change, Parts.pair_of, Parts.goal_of, Goals.conjugacy_by}
+use Rattle.dd_question.specs.Questions as question
 pub use Rattle.dd_pairs.specs.Queries.{of_both, of_three, of_four}
 use Rattle.dd_pairs.specs.Queries.{parts_asked, pairs_of}
 use Rattle.dd_script.specs.Parts.{Parts, LocalRule, Automaton, Query, Pair, Setting}

@@ -1,10 +1,9 @@
 -- Which bytes spell a script, and how all others are refused.
 use Rattle.std.specs.Prelude.{ℕ, ◌≡◌, List, Some, None, string_bytes, codes}
 use Rattle.dd_written.specs.Values.{name_text}
-use Rattle.dd_script.specs.Tree.{Syntax, Fault}
+use Rattle.dd_script.specs.{Tree.Syntax, Tree.Fault, declared.fault.ScriptKind.ScriptKind, declared.fault.ScriptFault.ScriptFault}
+use Rattle.dd_script.specs.{Parts.Parts, Walk.located, Walk.first_located_fault, Walk.script_of, Walk.Limit, Walk.Fault}
 use Rattle.dd_commands.specs.Scripts.{IsScript, IsSyntaxFault}
-use Rattle.dd_script.specs.{declared.fault.ScriptKind.ScriptKind, declared.fault.ScriptFault.ScriptFault, Parts.Parts}
-use Rattle.dd_script.specs.Walk.{located, first_located_fault, script_of, Limit, Fault}
 
 -- the bytes are a text of the grammar, without a fault, and this is its meaning
 pub record Spells (bytes : List ℕ) (s : Parts) : Type 0 where

@@ -1,8 +1,7 @@
 -- Gifts along vectors: what a position gives depends on its surroundings, and is bounded. If each position of a box holds and
 -- gives at most what it has and receives, the box has what its positions hold, up to what comes in from outside.
 use Rattle.std.proofs.Common.{◌≡◌, ℕ, ◌+◌, ◌-◌, ◌*◌, ◌≤◌, List, [], ◌∷◌, ap, arith}
-use Rattle.dd_lattice.specs.Place.{Place}
-use Rattle.dd_lattice.specs.Regions.{seen_from}
+use Rattle.dd_lattice.specs.{Place.Place, Regions.seen_from}
 use Rattle.dd_sides.specs.Sums.{Size, box_sum, size_volume}
 use Rattle.dd_sides.specs.lemmas.BoxLaws.{IsAt, kept, box_moved, box_at_most, box_add, box_times, box_const, box_shifted, kept_at_most}
 

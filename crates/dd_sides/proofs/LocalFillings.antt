@@ -1,25 +1,16 @@
 -- If a filling has symbols at some cells around a position, these symbols are an admissible filling of those cells.
 use Rattle.std.proofs.Common.{◌≡◌, ℕ, true, List, map, refl, sym, ap, ◌∙◌, Some, None}
-use Rattle.std.specs.Prelude.{Option, is_some, unwrap_or, IfSome}
-use Rattle.std.specs.List.{Contains, range_with_len}
 use Rattle.std.proofs.lemmas.Bool.{and_parts, and_from, false≢true}
-use Rattle.dd_lattice.specs.Place.{Place, moved}
-use Rattle.dd_lattice.specs.Cells.{cell, shifted}
-use Rattle.dd_lattice.specs.declared.position.Cell.{Cell}
-use Rattle.dd_pattern.specs.Reading.{Look}
-use Rattle.dd_pattern.specs.Weight.{total_weight}
-use Rattle.dd_expansion.specs.Placed.{is_flat}
-use Rattle.dd_formula.specs.LocalRule.{LocalRule, IsRule, rule_allows, reads_at}
-use Rattle.dd_formula.specs.Allowed.{AreAllowed}
+use Rattle.std.specs.{Prelude.Option, Prelude.is_some, Prelude.unwrap_or, Prelude.IfSome, List.Contains, List.range_with_len}
+use Rattle.dd_lattice.specs.{Place.Place, Place.moved, Cells.cell, Cells.shifted, declared.position.Cell.Cell}
+use Rattle.dd_pattern.specs.{Reading.Look, Weight.total_weight}
+use Rattle.dd_expansion.specs.{Placed.is_flat, lemmas.Placed.flat_moved}
+use Rattle.dd_formula.specs.{LocalRule.LocalRule, LocalRule.IsRule, LocalRule.rule_allows, LocalRule.reads_at, Allowed.AreAllowed}
 use Rattle.dd_formula.specs.lemmas.AllowedLaws.{allowed_below}
 use Rattle.dd_boxes.specs.Fillings.{place_fits, Admissible}
 use Rattle.dd_boxes.specs.lemmas.RuleLaws.{from_place, shifted_twice, moved_from_origin, reads_given, keeps_at, list_all_weaker}
-use Rattle.dd_boxes.specs.lemmas.CutLaws.{flat_moved}
-use Rattle.dd_rows.specs.Fillings.{look_of, words, fillings}
-use Rattle.dd_rows.specs.Laws.{AreCellsOf}
-use Rattle.dd_rows.specs.Patterns.{pattern_at}
 use Rattle.dd_boxes.specs.Boxes.{origin}
-use Rattle.dd_rows.specs.Programs.{origin_weight}
+use Rattle.dd_rows.specs.{Fillings.look_of, Fillings.words, Fillings.fillings, Laws.AreCellsOf, Patterns.pattern_at, Programs.origin_weight}
 use Rattle.dd_rows.specs.lemmas.AdmissibleLaws.{the_admissible}
 use Rattle.dd_sides.specs.Sides.{position_weight}
 use Rattle.dd_sides.specs.lemmas.WordLaws.{read_word, word_has, words_have, mapped_alike}

@@ -1,15 +1,11 @@
 -- Worked examples: the definitions on small boxes, vectors and fillings.
 use Rattle.std.proofs.Common.{◌≡◌, ◌+◌, ◌%◌, true, false, [], ◌∷◌, pos, negsuc, unsigned_abs, Some, refl}
-use Rattle.dd_lattice.specs.Place.{Place, place}
-use Rattle.dd_lattice.specs.Regions.{seen_from}
+use Rattle.dd_lattice.specs.{Place.Place, Place.place, Regions.seen_from}
 use Rattle.dd_pattern.specs.Reading.{Look}
-use Rattle.dd_expansion.specs.declared.formulas.Formula.{roll-Formula}
-use Rattle.dd_expansion.specs.declared.formulas.Formula.TheOpen.{Formula-F}
+use Rattle.dd_expansion.specs.declared.formulas.Formula.{roll-Formula, TheOpen.Formula-F}
 use Rattle.dd_formula.specs.LocalRule.{LocalRule}
-use Rattle.dd_sides.specs.Sums.{box_sum, size_volume, from_outside}
-use Rattle.dd_sides.specs.Sides.{side, is_in_grown, side_weight}
-use Rattle.dd_sides.specs.Boundaries.{outer_count, boundary}
-use Rattle.dd_sides.specs.Lifted.{reach_of}
+use Rattle.dd_sides.specs.{Sums.box_sum, Sums.size_volume, Sums.from_outside, Sides.side, Sides.is_in_grown, Sides.side_weight}
+use Rattle.dd_sides.specs.{Boundaries.outer_count, Boundaries.boundary, Lifted.reach_of}
 
 -- the sum of |x| over three coordinates from -1 on: 1 + 0 + 1
 three_in_a_row : box_sum (side 1 3) (place (negsuc 0) (pos 0) (pos 0)) (λ p. unsigned_abs p.x) ≡ 2

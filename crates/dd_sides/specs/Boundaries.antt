@@ -1,7 +1,6 @@
 -- The boundary term of a bound: each vector's greatest amount, for each position of Side(n) that may receive it from outside.
 use Rattle.std.specs.Prelude.{ℕ, ◌+◌, ◌-◌, ◌*◌, ◌^◌, Bool, cond, ℤ, unsigned_abs, List, [], ◌∷◌, take, drop}
-use Rattle.dd_lattice.specs.Place.{Place}
-use Rattle.dd_lattice.specs.Boxes.{is_active}
+use Rattle.dd_lattice.specs.{Place.Place, Boxes.is_active}
 use Rattle.dd_expansion.specs.Limits.{greatest}
 
 -- on an active axis max(0, n - |c|), where c is the entry of the vector; otherwise 1

@@ -3,16 +3,12 @@ use Rattle.std.specs.Prelude.{ℕ, ◌+◌, ◌*◌, ◌^◌, ◌≤◌, ◌≡�
 use Rattle.dd_lattice.specs.Place.{Place}
 use Rattle.dd_topology.specs.Topology.{extent}
 use Rattle.dd_pattern.specs.Reading.{Look}
-use Rattle.dd_expansion.specs.Limits.{greatest}
-use Rattle.dd_expansion.specs.Placed.{is_flat}
+use Rattle.dd_expansion.specs.{Limits.greatest, Placed.is_flat}
 use Rattle.dd_formula.specs.LocalRule.{LocalRule}
 use Rattle.dd_boxes.specs.Fillings.{Admissible}
-use Rattle.dd_rows.specs.declared.rows.Rows.{Rows}
-use Rattle.dd_discharge.specs.declared.bound.Bound.{Bound}
-use Rattle.dd_rows.specs.Programs.{IsProgramOf}
-use Rattle.dd_discharge.specs.Amounts.{held_over}
-use Rattle.dd_sides.specs.Sides.{IsSideFilling, side_weight}
-use Rattle.dd_sides.specs.Boundaries.{boundary}
+use Rattle.dd_rows.specs.{declared.rows.Rows.Rows, Programs.IsProgramOf}
+use Rattle.dd_discharge.specs.{declared.bound.Bound.Bound, Amounts.held_over}
+use Rattle.dd_sides.specs.{Sides.IsSideFilling, Sides.side_weight, Boundaries.boundary}
 
 -- how far around a position a row looks: the radius, the margin and the greatest entry of the vectors
 abbrev pub reach_of : ℕ → ℕ → List Place → ℕ

@@ -1,16 +1,10 @@
 -- Side(n) moved to a position of Z^d: n coordinates in a row on each active axis, and only 0 on the others.
 use Rattle.std.specs.Prelude.{ℕ, ◌+◌, ◌≡◌, ◌↔◌, Bool, true, ◌&&◌, cond, is_some, nat_lt, int_le, int_lt, ℤ, pos, ◌+ℤ◌, ◌-ℤ◌, unwrap_or, List, map}
-use Rattle.std.specs.List.{range_with_len}
-use Rattle.std.specs.Ordering.{int_eq}
-use Rattle.dd_lattice.specs.Place.{Place}
-use Rattle.dd_lattice.specs.Cells.{cell}
-use Rattle.dd_lattice.specs.Boxes.{is_active, IsInSide, IsCentred}
-use Rattle.dd_lattice.specs.Regions.{seen_from}
+use Rattle.std.specs.{List.range_with_len, Ordering.int_eq}
+use Rattle.dd_lattice.specs.{Place.Place, Cells.cell, Boxes.is_active, Boxes.IsInSide, Boxes.IsCentred, Regions.seen_from}
 use Rattle.dd_lattice.specs.declared.position.Cell.{Cell}
-use Rattle.dd_pattern.specs.Reading.{Look}
-use Rattle.dd_pattern.specs.Weight.{total_weight}
-use Rattle.dd_formula.specs.LocalRule.{LocalRule}
-use Rattle.dd_formula.specs.Allowed.{AreAllowed}
+use Rattle.dd_pattern.specs.{Reading.Look, Weight.total_weight}
+use Rattle.dd_formula.specs.{LocalRule.LocalRule, Allowed.AreAllowed}
 use Rattle.dd_sides.specs.Sums.{Size, box_sizes, box_sum, is_in_box}
 
 -- how many coordinates Side(n) has on an axis

@@ -1,7 +1,6 @@
 -- Sums over the positions of a box, and which of its positions receive from outside it.
 use Rattle.std.specs.Prelude.{ℕ, zero, suc, ◌+◌, ◌*◌, ℤ, pos, ◌+ℤ◌, ◌-ℤ◌, Bool, ◌&&◌, cond, int_le, int_lt}
-use Rattle.dd_lattice.specs.Place.{Place, place}
-use Rattle.dd_lattice.specs.Regions.{seen_from}
+use Rattle.dd_lattice.specs.{Place.Place, Place.place, Regions.seen_from}
 
 -- how many coordinates a box has on each axis
 pub record Size : Type 0 where

@@ -1,21 +1,13 @@
 -- Steps of the loops over cells.
-use Rattle.std.proofs.Common.{◌≡◌, ℕ, ◌+◌, ◌<◌, List, [], ◌∷◌, ◌++◌, length, take, drop, get_or, Option, Some, None, Bool, true, false, cond, ◌&&◌, refl, sym, ap, subst, ◌∙◌, arith, drop-cons, add-one, append_assoc}
-use Rattle.std.specs.Prelude.{map}
-use Rattle.std.specs.List.{slice_set, list_all}
+use Rattle.std.proofs.Common.{◌≡◌, ℕ, ◌+◌, ◌<◌, List, [], ◌∷◌, ◌++◌, length, take, drop, get_or, Option, Some, None, Bool, true, false, cond, ◌&&◌, refl, sym, ap, subst, ◌∙◌, arith, drop-cons, add-one, append_assoc, ◌^◌}
 use Rattle.std.proofs.lemmas.List.{length-map, length-set, take_more_set, drop-set-lt}
-use Rattle.std.proofs.lemmas.List.Edits.{map_over_more}
-use Rattle.std.proofs.lemmas.List.Folds.{list_all_more}
-use Rattle.std.proofs.lemmas.Grind.{common_steps}
-use Rattle.dd_fraction.specs.Exact.{Exact, times, plus, minus}
-use Rattle.dd_simplex.specs.table.Lines.{less, do_all_less_fit}
-use lib.IntN.{pos, neg_ℤ, ◌+ℤ◌, ◌*ℤ◌, *ℤ-one, +ℤ_idl, one}
-use Rattle.std.proofs.Common.{◌^◌}
-use Rattle.dd_fraction.specs.Exact.{inverse}
-use Rattle.std.specs.Int.RustNames.{unsigned_abs}
-use Rattle.std.proofs.lemmas.Int.{ints}
-use Rattle.dd_simplex.specs.Programs.{zero_of, one_of, fraction_at}
-use Rattle.dd_simplex.specs.table.Lines.{Line, solved_line}
+use Rattle.std.proofs.lemmas.{List.Edits.map_over_more, List.Folds.list_all_more, Grind.common_steps, Int.ints}
+use Rattle.std.specs.{Prelude.map, List.slice_set, List.list_all, Int.RustNames.unsigned_abs}
+use Rattle.dd_fraction.specs.Exact.{Exact, times, plus, minus, inverse}
 use Rattle.dd_fraction.specs.Checked.{does_product_fit, checked_product, does_sum_fit, does_less_product_fit, checked_less_product}
+use Rattle.dd_simplex.specs.table.Lines.{less, do_all_less_fit, Line, solved_line}
+use Rattle.dd_simplex.specs.Programs.{zero_of, one_of, fraction_at}
+use lib.IntN.{pos, neg_ℤ, ◌+ℤ◌, ◌*ℤ◌, *ℤ-one, +ℤ_idl, one}
 
 pub product_gives : (a b q : Exact) → Some q ≡ checked_product a b → (does_product_fit a b ≡ true) × (q ≡ times a b)
 product_gives a b q e = by (does_product_fit a b) refl

@@ -1,16 +1,15 @@
 -- What a dictionary says of its variables: an equation for each basic one, and the objective. A pivot keeps what it says.
 use Rattle.std.proofs.Common.{◌≡◌, ◌≢◌, ℕ, ◌<◌, Bool, true, false, ◌&&◌, ⊎_elim, refl, sym, ap, subst, ◌∙◌, arith}
-use Rattle.std.specs.Bool.{nat_eq}
 use Rattle.std.proofs.lemmas.Bool.{cases_eq}
-use Rattle.dd_fraction.specs.Exact.{Exact, plus, times, minus, inverse, low}
-use Rattle.dd_fraction.specs.Order.{IsPositive}
+use Rattle.std.specs.Bool.{nat_eq}
+use Rattle.dd_fraction.specs.{Exact.Exact, Exact.plus, Exact.times, Exact.minus, Exact.inverse, Exact.low, Order.IsPositive}
 use Rattle.dd_fraction.specs.lemmas.Laws.{times_comm, times_assoc, times_plus, zero_plus, plus_zero, zero_times, times_zero, times_one, plus_minus, plus_four, plus_cancel, plus_low_right, low_plus, low_times, minus_times}
-use Rattle.dd_fraction.specs.lemmas.Lowest.{zero_is, one_is}
-use Rattle.dd_fraction.specs.lemmas.OrderLaws.{times_inverse_positive}
+use Rattle.dd_fraction.specs.lemmas.{Lowest.zero_is, Lowest.one_is, OrderLaws.times_inverse_positive}
 use Rattle.dd_simplex.specs.Programs.{fraction_sum, zero_of, one_of}
 use Rattle.dd_simplex.specs.Dictionaries.{Dictionary, pivoted, new_bound, less_product}
 use Rattle.dd_simplex.specs.Laws.{dictionary_coefficient, price}
 use Rattle.dd_simplex.proofs.Totals.{sum_scaled, sum_with, total_low}
+use Rattle.dd_values.specs.lemmas.Booleans.{eq_other}
 
 abbrev pub left_side : ℕ → Dictionary → (ℕ → Exact) → ℕ → Exact
 left_side n d x v = fraction_sum (λ w. times (dictionary_coefficient d v w) (x w)) n
@@ -35,9 +34,6 @@ true_false e = absurd cc
 
 eq_same : (v w : ℕ) → v ≡ w → nat_eq v w ≡ true
 eq_same v w h = grind arith
-
-eq_other : (v w : ℕ) → v ≢ w → nat_eq v w ≡ false
-eq_other v w h = grind arith
 
 pub apart : (d : Dictionary) (v w : ℕ) → d.is_basic v ≡ true → d.is_basic w ≡ false → v ≢ w
 apart d v w p q s = true_false (sym p ∙ (ap d.is_basic s ∙ q))

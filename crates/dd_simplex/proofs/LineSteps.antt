@@ -1,12 +1,10 @@
 -- The rows behind the leaving one.
 use Rattle.std.proofs.Common.{◌≡◌, ℕ, zero, suc, ◌+◌, ◌<◌, List, [], ◌∷◌, ◌++◌, length, take, drop, add-one, refl, sym, ap, subst, ◌∙◌, arith, drop-cons}
-use Rattle.std.specs.Prelude.{map}
-use Rattle.std.specs.List.{All, slice_set}
-use Rattle.std.proofs.lemmas.List.Elements.{All-drop, All-weaker}
+use Rattle.std.proofs.lemmas.List.{Elements.All-drop, Elements.All-weaker, length-map, get_or-set_same}
+use Rattle.std.specs.{Prelude.map, List.All, List.slice_set}
 use Rattle.dd_simplex.specs.table.Lines.{Line, Table, line_at, other_at, solved_line, changed_line, changed_lines, changed_table, less}
 use Rattle.dd_simplex.specs.Programs.{zero_of, fraction_at}
 use Rattle.dd_fraction.specs.Exact.{Exact, plus, times}
-use Rattle.std.proofs.lemmas.List.{length-map, get_or-set_same}
 use Rattle.dd_simplex.proofs.CellSteps.{solved_size}
 
 -- the leaving line and those behind it

@@ -1,20 +1,15 @@
 -- Sums over the first n numbers.
-use Rattle.std.proofs.Common.{◌≡◌, ◌≢◌, ℕ, zero, suc, ◌+◌, ◌<◌, Bool, true, false, cond, ⊎_elim, refl, sym, ap, subst, ◌∙◌, arith}
+use Rattle.std.proofs.Common.{◌≡◌, ◌≢◌, ℕ, zero, suc, ◌+◌, ◌<◌, Bool, true, cond, ⊎_elim, refl, sym, ap, subst, ◌∙◌, arith}
+use Rattle.std.proofs.lemmas.{Bool.cases_eq, Int.ints}
 use Rattle.std.specs.Bool.{nat_eq}
-use Rattle.std.proofs.lemmas.Bool.{cases_eq}
-use Rattle.std.proofs.lemmas.Int.{ints}
-use Rattle.dd_fraction.specs.Exact.{Exact, plus, times, low}
-use Rattle.dd_fraction.specs.Order.{IsNonneg}
+use Rattle.dd_fraction.specs.{Exact.Exact, Exact.plus, Exact.times, Exact.low, Order.IsNonneg}
 use Rattle.dd_fraction.specs.lemmas.Laws.{plus_assoc, times_comm, times_plus, plus_times, zero_plus, plus_zero, times_zero, times_assoc, plus_four, plus_low_left, plus_low_right, low_plus}
-use Rattle.dd_fraction.specs.lemmas.Lowest.{zero_is}
-use Rattle.dd_fraction.specs.lemmas.OrderLaws.{nonneg_plus}
+use Rattle.dd_fraction.specs.lemmas.{Lowest.zero_is, OrderLaws.nonneg_plus}
 use Rattle.dd_simplex.specs.Programs.{fraction_sum, zero_of}
+use Rattle.dd_values.specs.lemmas.Booleans.{eq_other}
 
 pub eq_same : (v : ℕ) → nat_eq v v ≡ true
 eq_same v = grind arith
-
-pub eq_other : (v w : ℕ) → v ≢ w → nat_eq v w ≡ false
-eq_other v w h = grind arith
 
 pub zero_zero : plus zero_of zero_of ≡ zero_of
 zero_zero = zero_plus zero_of ∙ zero_is

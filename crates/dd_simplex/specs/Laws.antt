@@ -1,8 +1,7 @@
 -- Laws of runs: how they stop, and what each dictionary on the way is.
 use Rattle.std.specs.Prelude.{◌≡◌, ℕ, zero, suc, ◌+◌, ◌<◌, ◌⊎◌, List, length, true, cond, Option, Some, None}
 use Rattle.std.specs.Bool.{nat_eq}
-use Rattle.dd_fraction.specs.Exact.{Exact, plus, times, minus, low}
-use Rattle.dd_fraction.specs.Order.{IsNonneg}
+use Rattle.dd_fraction.specs.{Exact.Exact, Exact.plus, Exact.times, Exact.minus, Exact.low, Order.IsNonneg}
 use Rattle.dd_simplex.specs.Programs.{LinearProgram, coefficient, bound_at, unit, fraction_sum, zero_of, one_of}
 use Rattle.dd_simplex.specs.Dictionaries.{Dictionary, count, start_dictionary, pivoted}
 use Rattle.dd_simplex.specs.Runs.{entering, leaving, RunEnds, RunOverflows, RunPivots}

@@ -2,8 +2,7 @@
 use Rattle.std.specs.Prelude.{◌≡◌, ℕ, zero, suc, ◌<◌, ◌-◌, List, [], ◌∷◌, length, slice_index_or, replicate, cond}
 use Rattle.std.specs.Bool.{nat_eq}
 use lib.IntN.{ℤ, pos}
-use Rattle.dd_fraction.specs.Exact.{Exact, plus, times, whole_of}
-use Rattle.dd_fraction.specs.Order.{IsAtMost, IsNonneg}
+use Rattle.dd_fraction.specs.{Exact.Exact, Exact.plus, Exact.times, Exact.whole_of, Order.IsAtMost, Order.IsNonneg}
 
 -- the sum of coefficient times column is at most the bound
 pub record ProgramRow : Type 0 where

@@ -1,17 +1,14 @@
 -- The run by Bland's rule (1977): of the variables that may enter, or leave, the least is taken. It stops with the best
 -- value, at a limit on its pivots, or where one of its numbers passes 2^127 - 1 in absolute value.
 use Rattle.std.specs.Prelude.{◌≡◌, ℕ, zero, suc, ◌+◌, ◌<◌, List, length, Bool, true, not, ◌&&◌, ◌||◌, cond, Option, Some, None}
-use Rattle.std.specs.Bool.{nat_eq}
-use Rattle.std.specs.Int.RustNames.{int_lt}
-use Rattle.std.specs.Ordering.{is_gt}
+use Rattle.std.specs.{Bool.nat_eq, Int.RustNames.int_lt, Ordering.is_gt}
 use lib.IntN.{pos}
-use Rattle.dd_fraction.specs.Exact.{Exact, times, minus, inverse}
-use Rattle.dd_fraction.specs.Order.{exact_cmp}
+use Rattle.dd_fraction.specs.{Exact.Exact, Exact.times, Exact.minus, Exact.inverse, Order.exact_cmp}
 use Rattle.dd_fraction.specs.Checked.{does_product_fit, does_sum_fit}
 use Rattle.dd_simplex.specs.declared.fault.SimplexFault.{SimplexFault}
-use Rattle.dd_simplex.specs.declared.fault.SimplexFault.TheVariants as fault
 use Rattle.dd_simplex.specs.Programs.{LinearProgram, fraction_at, zero_of, one_of}
 use Rattle.dd_simplex.specs.Dictionaries.{Dictionary, count, start_dictionary, pivoted, fraction_quotient, new_bound, new_entry}
+use Rattle.dd_simplex.specs.declared.fault.SimplexFault.TheVariants as fault
 
 abbrev pub is_over : Exact → Bool
 is_over a = int_lt (pos 0) a.num

@@ -1,18 +1,13 @@
 -- The learned steps are a derivation, and later steps may use a learned clause as a hint.
 use Rattle.std.proofs.Common.{◌≡◌, ℕ, suc, ◌+◌, Bool, true, ◌&&◌, List, [], ◌∷◌, ◌++◌, Option, Some, None, refl, ◌∙◌, subst, length, get_or, take, inl, inr, arith}
-use Rattle.std.proofs.lemmas.Bool.{and_parts, and_from, or_right, leb-true}
-use Rattle.std.proofs.lemmas.List.{length-append}
+use Rattle.std.proofs.lemmas.{Bool.and_parts, Bool.and_from, Bool.or_right, Bool.leb-true, List.length-append}
 use Rattle.std.proofs.lemmas.List.Elements.{All-cons, All-nil}
-use Rattle.dd_clause.specs.declared.clause.Literal.{Literal}
-use Rattle.dd_clause.specs.Clauses.{IsLiteralInRange, IsClauseInRange}
-use Rattle.dd_derivation.specs.declared.propagation.Finding.TheVariants.{Forced}
-use Rattle.dd_derivation.specs.declared.step.Step.{Step}
+use Rattle.dd_clause.specs.{declared.clause.Literal.Literal, Clauses.IsLiteralInRange, Clauses.IsClauseInRange}
+use Rattle.dd_derivation.specs.declared.{propagation.Finding.TheVariants.Forced, step.Step.Step}
 use Rattle.dd_derivation.specs.Derivations.{is_empty, is_among, finding, hint_finding, is_literal_in_range, is_proper, is_conflict, is_right, are_deletable, known_after, refutes_from}
-use Rattle.dd_trail.specs.declared.trail.Entry.{Entry}
-use Rattle.dd_trail.specs.Trails.{falses}
+use Rattle.dd_trail.specs.{declared.trail.Entry.Entry, Trails.falses}
 use Rattle.dd_solver.specs.searching.Reasons.{AreInRange, Follows, IsTrail}
-use Rattle.dd_solver.specs.searching.Analysis.{is_rightly_learned}
-use Rattle.dd_solver.specs.searching.Deleting.{MayDelete}
+use Rattle.dd_solver.specs.searching.{Analysis.is_rightly_learned, Deleting.MayDelete}
 use Rattle.dd_solver.specs.searching.Search.{after_step, known_through, is_derived}
 use Rattle.dd_solver.proofs.Forcing.{hint_clause, at_clause}
 use Rattle.dd_solver.proofs.Numbers.{Known, known_push, known_left, known_last, known_before, length-after}

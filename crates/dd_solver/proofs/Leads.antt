@@ -2,22 +2,19 @@
 -- the bottom these are the learned clause's literals, so the hints show that it follows. It holds whatever is kept or
 -- resolved.
 use Rattle.std.proofs.Common.{◌≡◌, ℕ, ◌+◌, ◌<◌, ◌≤◌, Bool, true, false, not, ◌&&◌, List, [], ◌∷◌, ◌++◌, Option, Some, None, refl, ap, sym, ◌∙◌, subst, length, get_or, take, eqb, inl, inr, ◌⊎◌, arith}
-use Rattle.std.specs.Option.{MatchOption}
-use Rattle.std.specs.Bool.{⊤}
 use Rattle.std.proofs.lemmas.Bool.{and_parts, and_from, or_cases, or_left, or_right, not-true, false≢true, false_from_ne_true, cases_eq, le-leb, ne_eqb}
 use Rattle.std.proofs.lemmas.List.Folds.{list_any-append}
-use Rattle.dd_clause.specs.declared.clause.Literal.{Literal}
-use Rattle.dd_clause.specs.Clauses.{negation}
+use Rattle.std.specs.{Option.MatchOption, Bool.⊤}
+use Rattle.dd_clause.specs.{declared.clause.Literal.Literal, Clauses.negation}
 use Rattle.dd_derivation.specs.declared.propagation.Finding.TheVariants.{Falsified, Forced}
 use Rattle.dd_derivation.specs.Derivations.{same_literal, is_among, has_variable, clause_of, hint_finding, is_conflict, is_literal_in_range, is_proper}
 use Rattle.dd_derivation.specs.lemmas.Soundness.{same_literal-refl}
 use Rattle.dd_derivation.specs.lemmas.Findings.{In, in_here, Forces, forces_from}
-use Rattle.dd_trail.specs.declared.trail.Entry.{Entry}
-use Rattle.dd_trail.specs.Trails.{falses}
+use Rattle.dd_trail.specs.{declared.trail.Entry.Entry, Trails.falses}
+use Rattle.dd_trail.specs.lemmas.Trails.{falses-more, in_falses, in_falses_take, get_any}
 use Rattle.dd_solver.specs.searching.Reasons.{Follows, IsTrail}
 use Rattle.dd_solver.specs.searching.Analysis.{marks, Grows, AreMarked, IsMarkedClause}
 use Rattle.dd_solver.proofs.Forcing.{in_left, in_right, in_cases, in_one, falsified_all, all_falsified, forced_from, hint_clause, at_clause}
-use Rattle.dd_trail.specs.lemmas.Trails.{falses-more, in_falses, in_falses_take, get_any}
 use Rattle.dd_solver.proofs.Trails.{apart}
 
 -- the literals that may be false where the hints for the entries from place i on begin

@@ -1,33 +1,23 @@
 -- What holds before and after each move of the search.
 use Rattle.std.proofs.Common.{◌≡◌, ℕ, zero, suc, ◌+◌, ◌<◌, ◌≤◌, Bool, true, false, not, List, [], ◌∷◌, ◌++◌, Option, Some, None, refl, ap, sym, ◌∙◌, subst, length, get_or, take, inl, inr, arith}
-use Rattle.std.specs.Prelude.{replicate}
-use Rattle.std.specs.List.{All, slice_get}
-use Rattle.std.specs.Option.{MatchOption, option_map_or}
 use Rattle.std.proofs.lemmas.Bool.{or_cases, and_parts, cases_lt, false≢true, true_from_ne_false, false_from_ne_true}
 use Rattle.std.proofs.lemmas.List.{length-append, length-replicate, append-nil}
-use Rattle.std.proofs.lemmas.List.Elements.{All-head, All-tail}
-use Rattle.std.proofs.lemmas.Option.{slice_get-get_or}
+use Rattle.std.proofs.lemmas.{List.Elements.All-head, List.Elements.All-tail, Option.slice_get-get_or}
+use Rattle.std.specs.{Prelude.replicate, List.All, List.slice_get, Option.MatchOption, Option.option_map_or}
 use Rattle.dd_clause.specs.declared.clause.Literal.{Literal}
 use Rattle.dd_clause.specs.Clauses.{IsLiteralInRange, IsClauseInRange, is_true_under, is_clause_true, Satisfies}
 use Rattle.dd_values.specs.Variables.{true_variables}
 use Rattle.dd_derivation.specs.declared.propagation.Finding.TheVariants.{Falsified, Forced, Open}
 use Rattle.dd_derivation.specs.declared.step.Step.{Step}
 use Rattle.dd_derivation.specs.Derivations.{same_literal, is_among, has_variable, is_proper, is_conflict, hint_finding, finding, clause_of, clauses_before, are_deletable, known_after}
-use Rattle.dd_derivation.specs.checking.MarksOf.{known_of}
-use Rattle.dd_derivation.specs.lemmas.Soundness.{same_literal-eq, all_false}
-use Rattle.dd_derivation.specs.lemmas.Falses.{same_variable}
-use Rattle.dd_derivation.specs.lemmas.Findings.{In, forces_from}
-use Rattle.dd_trail.specs.declared.trail.Entry.{Entry}
+use Rattle.dd_derivation.specs.{checking.MarksOf.known_of, lemmas.Soundness.same_literal-eq, lemmas.Soundness.all_false}
+use Rattle.dd_derivation.specs.lemmas.{Falses.same_variable, Findings.In, Findings.forces_from, Numbers.length-before}
+use Rattle.dd_trail.specs.{declared.trail.Entry.Entry, Trails.falses, lemmas.Trails.in-has_variable}
 use Rattle.dd_solver.specs.declared.analysis.Turn.{Turn}
-use Rattle.dd_trail.specs.Trails.{falses}
 use Rattle.dd_solver.specs.searching.Reasons.{all_known, AreInRange, EntryOk}
-use Rattle.dd_solver.specs.searching.Analysis.{is_rightly_learned, Asserts}
-use Rattle.dd_solver.specs.searching.Deleting.{MayDelete}
+use Rattle.dd_solver.specs.searching.{Analysis.is_rightly_learned, Analysis.Asserts, Deleting.MayDelete}
 use Rattle.dd_solver.specs.searching.Search.{State, after_step, known_through, known, IsSearch, AreAlive, AreOpen, GoesOn}
-use Rattle.dd_solver.proofs.Forcing.{all_falsified, hint_clause, at_clause}
-use Rattle.dd_trail.specs.lemmas.Trails.{in-has_variable}
-use Rattle.dd_solver.proofs.Trails.{trail_push, trail_front}
-use Rattle.dd_derivation.specs.lemmas.Numbers.{length-before}
+use Rattle.dd_solver.proofs.{Forcing.all_falsified, Forcing.hint_clause, Forcing.at_clause, Trails.trail_push, Trails.trail_front}
 use Rattle.dd_solver.proofs.Numbers.{Known, known_left, known_within, past_none, in_list, length-all, holds_of_clause, before-more, known_of-push, all_alive, after_push, length-after}
 use Rattle.dd_solver.proofs.Derived.{through_more, length-through, trail_after, hint_new, in_range_after, right_from, derived_more, refutes_last}
 

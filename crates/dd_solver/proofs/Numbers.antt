@@ -1,11 +1,9 @@
 -- The clauses by number.
 use Rattle.std.proofs.Common.{◌≡◌, ℕ, zero, suc, ◌<◌, Bool, true, cond, List, [], ◌∷◌, ◌++◌, map, Option, Some, None, is_some, refl, ap, sym, ◌∙◌, subst, length, inl, inr, ◌⊎◌, arith}
-use Rattle.std.specs.Prelude.{replicate}
-use Rattle.std.specs.List.{slice_get, slice_set, All}
-use Rattle.std.specs.Option.{option_and_then}
 use Rattle.std.proofs.lemmas.Bool.{and_parts, and_from, false≢true}
 use Rattle.std.proofs.lemmas.List.{map-append, append_assoc}
 use Rattle.std.proofs.lemmas.Option.{slice_get_within, get_or_from_slice_get}
+use Rattle.std.specs.{Prelude.replicate, List.slice_get, List.slice_set, List.All, Option.option_and_then}
 use Rattle.dd_clause.specs.declared.clause.Literal.{Literal}
 use Rattle.dd_derivation.specs.declared.step.Step.{Step}
 use Rattle.dd_derivation.specs.Derivations.{clause_of, without, are_deletable, known_after, clauses_before}

@@ -1,8 +1,7 @@
 -- The search ends: the trail's number is below 3 ^ n, and rises at each propagation, decision and return.
 use Rattle.std.proofs.Common.{◌≡◌, ℕ, zero, suc, ◌-◌, ◌*◌, ◌^◌, ◌<◌, Bool, true, false, List, [], ◌∷◌, ◌++◌, length, refl, sym, arith, take, drop, get_or, take-append-drop, drop-cons, ap, ◌∙◌}
+use Rattle.std.proofs.{lemmas.List.map-append, Math.Nat.pow-succ'}
 use Rattle.std.specs.Option.{is_none}
-use Rattle.std.proofs.lemmas.List.{map-append}
-use Rattle.std.proofs.Math.Nat.{pow-succ'}
 use Rattle.dd_trail.specs.declared.trail.Entry.{Entry}
 use Rattle.dd_solver.specs.searching.Search.{trail_number, decisions}
 

@@ -1,11 +1,9 @@
 -- When an answer is right.
 use Rattle.std.specs.Prelude.{◌≡◌, ℕ, Bool, true, List, length}
-use Rattle.dd_clause.specs.declared.clause.Literal.{Literal}
-use Rattle.dd_clause.specs.Clauses.{Satisfies}
+use Rattle.dd_clause.specs.{declared.clause.Literal.Literal, Clauses.Satisfies}
 use Rattle.dd_values.specs.Variables.{true_variables}
 use Rattle.dd_derivation.specs.declared.step.Outcome.{Outcome}
-use Rattle.dd_derivation.specs.declared.step.Outcome.TheVariants.{Found, Refuted}
-use Rattle.dd_derivation.specs.Derivations.{refutes}
+use Rattle.dd_derivation.specs.{declared.step.Outcome.TheVariants.Found, declared.step.Outcome.TheVariants.Refuted, Derivations.refutes}
 
 -- some assignment satisfies the clauses
 abbrev pub IsSatisfiable : List (List Literal) → Type 0

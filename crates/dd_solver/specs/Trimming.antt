@@ -1,8 +1,7 @@
 -- When each step of a refutation is used.
 use Rattle.std.specs.Prelude.{ℕ, suc, ◌==◌, Bool, true, ◌&&◌, ◌||◌, List, [], ◌∷◌}
 use Rattle.std.specs.List.{list_any}
-use Rattle.dd_derivation.specs.declared.step.Step.{Step}
-use Rattle.dd_derivation.specs.Derivations.{is_empty}
+use Rattle.dd_derivation.specs.{declared.step.Step.Step, Derivations.is_empty}
 
 -- the number is one of the hints
 abbrev pub is_hint : ℕ → List ℕ → Bool

@@ -1,23 +1,16 @@
 -- The two laws: from walks and configurations to densities.
 use Rattle.std.proofs.Common.{◌≡◌, ℕ, suc, ◌+◌, ◌-◌, ◌*◌, ◌<◌, ◌≤◌, List, length, ℤ, pos, ◌+ℤ◌, ◌≤ℤ◌, refl, ap, sym, ◌∙◌, subst, arith, inl, inr}
-use Rattle.std.proofs.Math.Nat.{le_of_mul-le-mul_right, mul-le-mul_left}
-use Rattle.std.proofs.lemmas.Int.{ints}
-use Rattle.std.proofs.lemmas.Bool.{cases_lt}
-use Rattle.dd_pattern.specs.Reading.{Look}
-use Rattle.dd_pattern.specs.Periods.{periods_volume}
-use Rattle.dd_pattern.specs.Tile.{Tile, tile_look}
+use Rattle.std.proofs.{Math.Nat.le_of_mul-le-mul_right, Math.Nat.mul-le-mul_left, lemmas.Int.ints, lemmas.Bool.cases_lt}
+use Rattle.dd_pattern.specs.{Reading.Look, Periods.periods_volume, Tile.Tile, Tile.tile_look}
 use Rattle.dd_formula.specs.LocalRule.{LocalRule, IsRule}
 use Rattle.dd_counts.specs.Rules.{window}
 use Rattle.dd_expansion.specs.Limits.{greatest}
-use Rattle.dd_strip.specs.declared.strip.Strip.{Strip}
-use Rattle.dd_strip.specs.Strips.{IsFor, positions, IsStrip, strip_for}
+use Rattle.dd_strip.specs.{declared.strip.Strip.Strip, Strips.IsFor, Strips.positions, Strips.IsStrip, Strips.strip_for}
 use Rattle.dd_transfer.specs.Certificates.{AreStripPotentials, IsDensityCertificate, IsEmptyCertificate, potential_of, walk_weight}
-use Rattle.dd_transfer.specs.Slices.{RepeatsAcross, state_from, number_with_digits}
-use Rattle.dd_transfer.specs.Laws.{AreDigits, AreEdgesOf}
+use Rattle.dd_transfer.specs.{Slices.RepeatsAcross, Slices.state_from, Slices.number_with_digits, Laws.AreDigits, Laws.AreEdgesOf}
 use Rattle.dd_strips.specs.Strips.{IsAdmissibleStrip, LivesOnStrip, LivesNowhere, slices_weight, tile_weight}
 use Rattle.dd_strips.specs.Claims.{IsHeavy, IsShortStrip, StripLeast, StripEmpty, spread_of}
-use Rattle.dd_strips.proofs.Walks.{IsStep, walk_weighs, walk_is_heavy, walk_is_short}
-use Rattle.dd_strips.proofs.Fillings.{filling_steps}
+use Rattle.dd_strips.proofs.{Walks.IsStep, Walks.walk_weighs, Walks.walk_is_heavy, Walks.walk_is_short, Fillings.filling_steps}
 use Rattle.dd_strips.proofs.Tiles.{IsOnStrip, tile_repeats, tile_has, symbols_round, period_weighs}
 use Rattle.dd_strips.proofs.Cycles.{tile_of, on_strip, lives_on_strip, cycle_weighs}
 

@@ -1,9 +1,7 @@
 -- Sums over the first numbers, and over lists.
 use Rattle.std.proofs.Common.{◌≡◌, ℕ, zero, suc, ◌+◌, ◌*◌, ◌<◌, List, [], ◌∷◌, length, map, get_or, refl, ap, sym, ◌∙◌, arith}
-use Rattle.std.specs.Prelude.{sum_by}
-use Rattle.std.specs.List.{range_with_len}
-use Rattle.std.proofs.lemmas.List.Sums.{sum_by-cons}
-use Rattle.std.proofs.lemmas.List.FromFn.{sum_by-map-range_with_len_more}
+use Rattle.std.proofs.lemmas.List.{Sums.sum_by-cons, FromFn.sum_by-map-range_with_len_more}
+use Rattle.std.specs.{Prelude.sum_by, List.range_with_len}
 
 abbrev pub total_below : (ℕ → ℕ) → ℕ → ℕ
 total_below f zero = 0

@@ -1,18 +1,13 @@
 -- Worked rows: the definitions on small rules and looks.
 use Rattle.std.proofs.Common.{◌≡◌, ◌+◌, ◌%◌, true, false, [], ◌∷◌, pos, negsuc, unsigned_abs, Some, refl, ap, arith}
-use Rattle.dd_lattice.specs.Place.{place}
-use Rattle.dd_lattice.specs.Cells.{cell}
-use Rattle.dd_lattice.specs.declared.position.Cell.{Cell}
-use Rattle.dd_pattern.specs.Reading.{Look}
-use Rattle.dd_pattern.specs.Tile.{Tile, tile, tile_look}
+use Rattle.dd_lattice.specs.{Place.place, Cells.cell, declared.position.Cell.Cell}
+use Rattle.dd_pattern.specs.{Reading.Look, Tile.Tile, Tile.tile, Tile.tile_look}
 use Rattle.dd_expansion.specs.declared.formulas.Formula.{Formula, roll-Formula}
-use Rattle.dd_expansion.specs.declared.formulas.Formula.TheFolds.{fold-roll-Formula}
-use Rattle.dd_expansion.specs.declared.formulas.Formula.TheOpen.{Formula-F}
+use Rattle.dd_expansion.specs.declared.formulas.Formula.{TheFolds.fold-roll-Formula, TheOpen.Formula-F}
 use Rattle.dd_expansion.specs.Truth.{Truth, truth_step}
 use Rattle.dd_formula.specs.LocalRule.{LocalRule, is_true}
 use Rattle.dd_strip.specs.Strips.{strip_of}
-use Rattle.dd_strips.specs.Strips.{LivesNowhere, is_slice_cell, slices_weight, tile_weight}
-use Rattle.dd_strips.specs.Claims.{spread_of}
+use Rattle.dd_strips.specs.{Strips.LivesNowhere, Strips.is_slice_cell, Strips.slices_weight, Strips.tile_weight, Claims.spread_of}
 
 -- a rule of the line, over the symbols 0 and 1
 abbrev line : Formula → LocalRule

@@ -1,7 +1,6 @@
 -- What a certificate says about the strips of every length.
 use Rattle.std.specs.Prelude.{ℕ, ◌+◌, ◌*◌, ◌≤◌, ℤ, pos, ◌+ℤ◌, ◌-ℤ◌, unsigned_abs, List, [], ◌∷◌}
-use Rattle.std.specs.Int.{int_min, int_max}
-use Rattle.std.specs.List.{fold}
+use Rattle.std.specs.{Int.int_min, Int.int_max, List.fold}
 use Rattle.dd_pattern.specs.Reading.{Look}
 use Rattle.dd_formula.specs.LocalRule.{LocalRule}
 use Rattle.dd_counts.specs.Rules.{window}

@@ -1,13 +1,8 @@
 -- Strips: fillings of some slices, and configurations that repeat with the strip's periods along the axes after the first.
 use Rattle.std.specs.Prelude.{◌≡◌, ℕ, ◌*◌, ◌<◌, ◌≤◌, ◌&&◌, Bool, ℤ, pos, ◌+ℤ◌, int_le, int_lt, nat_lt, is_some, List}
 use Rattle.dd_lattice.specs.declared.position.Cell.{Cell}
-use Rattle.dd_pattern.specs.Reading.{Look}
-use Rattle.dd_pattern.specs.Periods.{periods_volume}
-use Rattle.dd_pattern.specs.Tile.{Tile, IsTile}
-use Rattle.dd_pattern.specs.Weight.{total_weight}
-use Rattle.dd_formula.specs.LocalRule.{LocalRule}
-use Rattle.dd_formula.specs.Allowed.{AreAllowed, HasAllowed}
-use Rattle.dd_formula.specs.Living.{Fits, Lives}
+use Rattle.dd_pattern.specs.{Reading.Look, Periods.periods_volume, Tile.Tile, Tile.IsTile, Weight.total_weight}
+use Rattle.dd_formula.specs.{LocalRule.LocalRule, Allowed.AreAllowed, Allowed.HasAllowed, Living.Fits, Living.Lives}
 use Rattle.dd_boxes.specs.Fillings.{Admissible}
 use Rattle.dd_strip.specs.declared.strip.Strip.{Strip}
 use Rattle.dd_transfer.specs.Slices.{RepeatsAcross, symbols_from}

@@ -1,22 +1,16 @@
 -- At most one edge for each label and node, and what it makes of a move.
 use Rattle.std.proofs.Common.{◌≡◌, ◌+◌, ◌<◌, ℕ, List, [], ◌∷◌, ◌++◌, Bool, true, false, ◌&&◌, map, length, get_or, take, Option, Some, None, Contains, refl, ap, sym, ◌∙◌, inl, inr, arith, true≢false, eq-eqb}
-use Rattle.std.specs.Prelude.{◌==◌, MatchOption, find, position, slice_get, if◌then◌else◌}
-use Rattle.std.specs.List.{list_any}
-use Rattle.std.specs.Option.{option_and_then, option_map}
 use Rattle.std.proofs.lemmas.Bool.{eqb-true, and_parts, and_from, cases_order}
-use Rattle.std.proofs.lemmas.Bool.Decides.{nat_tests}
-use Rattle.std.proofs.lemmas.List.{take_more, get_or_default, map-append}
-use Rattle.std.proofs.lemmas.List.Folds.{list_any_at}
-use Rattle.std.proofs.lemmas.List.Quantifiers.{all_pairs_push}
-use Rattle.dd_lattice.specs.Place.{IsInRange, is_in_range}
-use Rattle.dd_lattice.specs.declared.position.Cell.{Cell}
-use Rattle.dd_lattice.specs.lemmas.RangeLaws.{test_from_in_range}
+use Rattle.std.proofs.lemmas.{Bool.Decides.nat_tests, List.take_more, List.get_or_default, List.map-append}
+use Rattle.std.proofs.lemmas.List.{Folds.list_any_at, Quantifiers.all_pairs_push}
+use Rattle.std.specs.Prelude.{◌==◌, MatchOption, find, position, slice_get, if◌then◌else◌}
+use Rattle.std.specs.{List.list_any, Option.option_and_then, Option.option_map}
+use Rattle.dd_lattice.specs.{Place.IsInRange, Place.is_in_range, declared.position.Cell.Cell, lemmas.RangeLaws.test_from_in_range}
 use Rattle.dd_topology.specs.declared.edge.Edge.{Edge}
 use Rattle.dd_topology.specs.Topology.{leaves, end_of, in_range, IsMove, starts_alike, AreSingle}
-use Rattle.indexmap.specs.IndexSet.{insert_key}
-use Rattle.dd_topology.specs.keeping.Kept.{move_of}
-use Rattle.dd_topology.specs.declared.topology.Move.{Move}
+use Rattle.dd_topology.specs.{keeping.Kept.move_of, declared.topology.Move.Move}
 use Rattle.dd_topology.specs.lemmas.ListLaws.{found, missed, list_any-map, position-map, find-position, find_alike, insert_key-new}
+use Rattle.indexmap.specs.IndexSet.{insert_key}
 
 pub starts_alike-flip : (e f : Edge) → starts_alike e f ≡ false → starts_alike f e ≡ false
 starts_alike-flip e f h = grind (arith, nat_tests)

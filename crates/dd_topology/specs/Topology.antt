@@ -1,10 +1,7 @@
 -- Moves along the edges of a topology, over all of Z^3.
 use Rattle.std.specs.Prelude.{◌≡◌, ℕ, ◌==◌, ◌&&◌, Bool, false, max, nat_le, unsigned_abs, pos, ◌-ℤ◌, List, Option, Some, None, if◌then◌else◌, Contains, AllPairs}
-use Rattle.std.specs.List.{find, list_all}
-use Rattle.std.specs.Option.{option_map}
-use Rattle.dd_lattice.specs.Place.{Place, place, moved, is_in_range}
-use Rattle.dd_lattice.specs.Cells.{cell}
-use Rattle.dd_lattice.specs.declared.position.Cell.{Cell}
+use Rattle.std.specs.{List.find, List.list_all, Option.option_map}
+use Rattle.dd_lattice.specs.{Place.Place, Place.place, Place.moved, Place.is_in_range, Cells.cell, declared.position.Cell.Cell}
 use Rattle.dd_topology.specs.declared.edge.Edge.{Edge}
 
 -- the way back

@@ -1,16 +1,12 @@
 -- Numbers and their digits, and lists of the first values of a function.
 use Rattle.std.proofs.Common.{◌≡◌, ℕ, zero, suc, ◌+◌, ◌*◌, ◌/◌, ◌%◌, ◌^◌, ◌<◌, ◌≤◌, List, [], ◌∷◌, ◌++◌, length, map, Some, refl, ap, sym, ◌∙◌, subst, arith, append_assoc}
-use Rattle.std.specs.Prelude.{slice_get}
-use Rattle.std.specs.List.{All, fold, range_with_len}
 use Rattle.std.proofs.Math.Nat.{pow-suc, pow-zero, mul-le-mul_right}
 use Rattle.std.proofs.lemmas.Nat.{div-add-mod', mod-mul-add, div-mul-add, div_below}
 use Rattle.std.proofs.lemmas.Option.{slice_get-get_or}
 use Rattle.std.proofs.lemmas.List.FromFn.{map-range_with_len_more, length-map-range_with_len, get_or-map-range_with_len}
-use Rattle.std.proofs.lemmas.List.Elements.{All-head, All-tail}
-use Rattle.std.proofs.lemmas.List.Sums.{fold-append}
-use Rattle.dd_transfer.specs.Windows.{digits}
-use Rattle.dd_transfer.specs.Slices.{number_with_digits}
-use Rattle.dd_transfer.specs.Laws.{AreDigits}
+use Rattle.std.proofs.lemmas.List.{Elements.All-head, Elements.All-tail, Sums.fold-append}
+use Rattle.std.specs.{Prelude.slice_get, List.All, List.fold, List.range_with_len}
+use Rattle.dd_transfer.specs.{Windows.digits, Slices.number_with_digits, Laws.AreDigits}
 use Rattle.dd_transfer.proofs.Digits.{digits_length, digits_below}
 
 abbrev pub step : ℕ → ℕ → ℕ → ℕ

@@ -1,19 +1,14 @@
 -- The symbols of the slices of a look, in a list and as a number.
 use Rattle.std.proofs.Common.{◌≡◌, ℕ, zero, suc, ◌+◌, ◌*◌, ◌/◌, ◌%◌, ◌^◌, ◌<◌, List, ◌++◌, length, ℤ, pos, ◌+ℤ◌, ◌≤ℤ◌, Option, Some, None, refl, ap, sym, ◌∙◌, subst, arith}
-use Rattle.std.specs.Prelude.{◌<ℤ◌, unwrap_or, IsSomeAnd}
-use Rattle.std.specs.List.{All}
-use Rattle.std.proofs.lemmas.Int.{ints}
-use Rattle.std.proofs.lemmas.Nat.{mod_below, div_below, pow-add}
+use Rattle.std.proofs.lemmas.{Int.ints, Nat.mod_below, Nat.div_below, Nat.pow-add}
 use Rattle.std.proofs.Math.Nat.{pow-suc, pow-zero, mul-add-mod_self_right, add-mul-div_right}
+use Rattle.std.specs.{Prelude.◌<ℤ◌, Prelude.unwrap_or, Prelude.IsSomeAnd, List.All}
 use Rattle.dd_lattice.specs.declared.position.Cell.{Cell}
-use Rattle.dd_pattern.specs.Reading.{Look}
-use Rattle.dd_pattern.specs.Weight.{total_weight}
+use Rattle.dd_pattern.specs.{Reading.Look, Weight.total_weight}
 use Rattle.dd_formula.specs.LocalRule.{LocalRule}
 use Rattle.dd_counts.specs.Rules.{slices}
-use Rattle.dd_strip.specs.declared.strip.Strip.{Strip}
-use Rattle.dd_strip.specs.Strips.{IsSized, IsFor, cells, positions}
-use Rattle.dd_transfer.specs.Windows.{cell_at, digits}
-use Rattle.dd_transfer.specs.Transfers.{slice_weight}
+use Rattle.dd_strip.specs.{declared.strip.Strip.Strip, Strips.IsSized, Strips.IsFor, Strips.cells, Strips.positions}
+use Rattle.dd_transfer.specs.{Windows.cell_at, Windows.digits, Transfers.slice_weight}
 use Rattle.dd_transfer.specs.Slices.{IsInSlices, HasSlices, cell_from, symbols_from, number_with_digits, slices_from}
 use Rattle.dd_transfer.proofs.Alphabets.{some_cells}
 use Rattle.dd_transfer.proofs.Numbers.{joined, digits_of, number_below, listed, listed-same, listed-add, length-listed, listed-all}

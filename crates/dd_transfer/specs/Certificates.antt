@@ -4,8 +4,7 @@ use Rattle.std.specs.Prelude.{◌≡◌, ℕ, ◌+◌, ◌*◌, ◌%◌, ◌<◌
 use Rattle.std.specs.Int.{IsGcd}
 use Rattle.dd_formula.specs.LocalRule.{LocalRule}
 use Rattle.dd_counts.specs.Rules.{slices, states}
-use Rattle.dd_strip.specs.declared.strip.Strip.{Strip}
-use Rattle.dd_strip.specs.Strips.{positions}
+use Rattle.dd_strip.specs.{declared.strip.Strip.Strip, Strips.positions}
 use Rattle.dd_transfer.specs.Transfers.{IsEdge, slice_weight}
 
 -- each state has an edge to the next: from u through the states to v

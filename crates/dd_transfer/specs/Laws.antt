@@ -1,16 +1,12 @@
 -- The laws of slices: how the slices of a look relate to the transfer graph.
 use Rattle.std.specs.Prelude.{◌≡◌, ◌↔◌, ℕ, ◌+◌, ◌*◌, ◌<◌, ◌^◌, true, ℤ, pos, ◌+ℤ◌, List, ◌++◌, length, is_some, ◌&&◌}
 use Rattle.std.specs.List.{All, list_all}
-use Rattle.dd_lattice.specs.Place.{Place}
-use Rattle.dd_lattice.specs.Cells.{cell, shifted}
-use Rattle.dd_pattern.specs.Reading.{Look}
-use Rattle.dd_pattern.specs.Weight.{total_weight}
+use Rattle.dd_lattice.specs.{Place.Place, Cells.cell, Cells.shifted}
+use Rattle.dd_pattern.specs.{Reading.Look, Weight.total_weight}
 use Rattle.dd_formula.specs.LocalRule.{LocalRule, reads_at}
 use Rattle.dd_counts.specs.Rules.{slices, window}
-use Rattle.dd_strip.specs.declared.strip.Strip.{Strip}
-use Rattle.dd_strip.specs.Strips.{positions}
-use Rattle.dd_transfer.specs.Windows.{digits, stand, IsWindow}
-use Rattle.dd_transfer.specs.Transfers.{IsEdge, slice_weight}
+use Rattle.dd_strip.specs.{declared.strip.Strip.Strip, Strips.positions}
+use Rattle.dd_transfer.specs.{Windows.digits, Windows.stand, Windows.IsWindow, Transfers.IsEdge, Transfers.slice_weight}
 use Rattle.dd_transfer.specs.Slices.{HasSlices, IsKeptFrom, symbols_from, number_with_digits, slices_from, state_from, window_from}
 
 -- numbers and their digits

@@ -1,23 +1,18 @@
 -- The forms of certificates: what each contains, and that an output can hold it.
-use Rattle.std.proofs.Common.{◌≡◌, ◌≢◌, ℕ, Bool, true, List, refl}
+use Rattle.std.proofs.{Common.◌≡◌, Common.◌≢◌, Common.ℕ, Common.Bool, Common.true, Common.List, Common.refl, lemmas.Result.IfOk-weaker}
 use Rattle.std.specs.Prelude.{◌↔◌, Result, IfOk}
-use Rattle.std.proofs.lemmas.Result.{IfOk-weaker}
 use Rattle.dd_derivation.specs.declared.step.Step.{Step}
-use Rattle.dd_formula.specs.LocalRule.{LocalRule, IsRule}
-use Rattle.dd_values.specs.declared.limits.Limits.{Limits}
-use Rattle.dd_values.specs.Ranges.{AreLimits}
+use Rattle.dd_formula.specs.{LocalRule.LocalRule, LocalRule.IsRule, Living.Lives}
+use Rattle.dd_values.specs.{declared.limits.Limits.Limits, Ranges.AreLimits}
 use Rattle.dd_boxes.specs.Goals.{GoalOf, breaks, IsGoalFor, KeepsRule}
-use Rattle.dd_certificate.specs.declared.answer.Side.{Side}
-use Rattle.dd_certificate.specs.declared.answer.Side.TheVariants as side
-use Rattle.dd_certificate.specs.declared.answer.Reason.{Reason}
-use Rattle.dd_certificate.specs.declared.answer.Answer.{Answer}
-use Rattle.dd_certificate.specs.declared.answer.Answer.TheVariants as answer
+use Rattle.dd_certificate.specs.declared.answer.{Side.Side, Reason.Reason, Answer.Answer}
 use Rattle.dd_certificate.specs.Bounds.{IsWritable, IsWritableRefutation}
 use Rattle.dd_pattern.specs.Tile.{Tile}
-use Rattle.dd_formula.specs.Living.{Lives}
 use Rattle.dd_evidence.specs.Answers.{IsMemberCertificate, member_inside}
 use Rattle.dd_verify.specs.Evidence.{IsYes, IsNo, IsBoxCertificate, box_yes, box_no, IsEqualCertificate, equal_yes, left_no, right_no, equal_unknown}
 use Rattle.dd_verify.proofs.Writable.{radius_writable, no_writable}
+use Rattle.dd_certificate.specs.declared.answer.Side.TheVariants as side
+use Rattle.dd_certificate.specs.declared.answer.Answer.TheVariants as answer
 
 pub inside_of : {x : LocalRule} {t : Tile} → IsMemberCertificate x t answer.Inside → Lives x t
 inside_of (member_inside h) = h

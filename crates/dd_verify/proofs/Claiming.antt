@@ -1,16 +1,12 @@
 -- What certificates claim.
 use Rattle.std.proofs.Common.{ℕ, List}
-use Rattle.dd_derivation.specs.declared.step.Step.{Step}
-use Rattle.dd_derivation.specs.lemmas.Soundness.{refutes_sound}
+use Rattle.dd_derivation.specs.{declared.step.Step.Step, lemmas.Soundness.refutes_sound}
 use Rattle.dd_formula.specs.LocalRule.{LocalRule, IsRule}
 use Rattle.dd_values.specs.declared.limits.Limits.{Limits}
-use Rattle.dd_boxes.specs.Goals.{GoalOf, breaks, IsGoalFor}
-use Rattle.dd_boxes.specs.Boxes.{Suffices, HoldsNowhere}
+use Rattle.dd_boxes.specs.{Goals.GoalOf, Goals.breaks, Goals.IsGoalFor, Boxes.Suffices, Boxes.HoldsNowhere}
 use Rattle.dd_boxes.specs.lemmas.FromBox.{from_least, holds_nowhere}
 use Rattle.dd_pattern.specs.Tile.{Tile}
-use Rattle.dd_problem.specs.Problems.{box_problem}
-use Rattle.dd_problem.specs.pushing.Told.{IsToldGoal}
-use Rattle.dd_problem.specs.lemmas.BoxShows.{box_shows, shown_decides}
+use Rattle.dd_problem.specs.{Problems.box_problem, pushing.Told.IsToldGoal, lemmas.BoxShows.box_shows, lemmas.BoxShows.shown_decides}
 use Rattle.dd_certificate.specs.declared.answer.Answer.{Answer}
 use Rattle.dd_evidence.specs.Answers.{IsMemberCertificate, member_inside, member_outside}
 use Rattle.dd_verify.specs.Evidence.{IsBoxCertificate, box_yes, box_no, box_unknown, IsEqualCertificate, equal_yes, left_no, right_no, equal_unknown, IsYes}

@@ -4,11 +4,8 @@ use Rattle.std.specs.Prelude.{max}
 use Rattle.dd_lattice.specs.Boxes.{centred, volume}
 use Rattle.dd_formula.specs.LocalRule.{LocalRule, IsRule}
 use Rattle.dd_values.specs.declared.limits.Limits.{Limits}
-use Rattle.dd_boxes.specs.Goals.{GoalOf}
-use Rattle.dd_boxes.specs.Boxes.{IsLeastRadius}
-use Rattle.dd_boxes.specs.Counts.{question_clauses, most_clauses}
-use Rattle.dd_boxes.specs.lemmas.SizeLaws.{fewer, box_up}
-use Rattle.dd_boxes.specs.lemmas.ReachLaws.{one_least}
+use Rattle.dd_boxes.specs.{Goals.GoalOf, Boxes.IsLeastRadius, Counts.question_clauses, Counts.most_clauses}
+use Rattle.dd_boxes.specs.lemmas.{SizeLaws.fewer, SizeLaws.box_up, ReachLaws.one_least}
 use Rattle.dd_derivation.specs.declared.step.Step.{Step}
 use Rattle.dd_verify.specs.Evidence.{IsYes}
 use Rattle.dd_question.specs.Boxes.{IsAskable}

@@ -2,14 +2,9 @@
 use Rattle.std.proofs.Common.{◌≡◌, ℕ, ◌<◌, Bool, true, sym, subst}
 use Rattle.std.specs.Prelude.{◌↔◌}
 use Rattle.dd_pattern.specs.Tile.{Tile, IsTile}
-use Rattle.dd_formula.specs.LocalRule.{LocalRule}
-use Rattle.dd_formula.specs.Allowed.{HasAllowed}
-use Rattle.dd_formula.specs.Living.{Fits, Lives}
-use Rattle.dd_formula.specs.Automata.{CommonNumbers, IsAutomaton}
-use Rattle.dd_formula.specs.declared.automaton.Automaton.{Automaton}
-use Rattle.dd_boxes.specs.Goals.{differ}
-use Rattle.dd_boxes.specs.Views.{numbers_of}
-use Rattle.dd_boxes.specs.Witnesses.{IsWitness}
+use Rattle.dd_formula.specs.{LocalRule.LocalRule, Allowed.HasAllowed, Living.Fits, Living.Lives}
+use Rattle.dd_formula.specs.{Automata.CommonNumbers, Automata.IsAutomaton, declared.automaton.Automaton.Automaton}
+use Rattle.dd_boxes.specs.{Goals.differ, Views.numbers_of, Witnesses.IsWitness}
 use Rattle.dd_automaton.specs.Images.{IsDefinedOn, DifferAtOrigin}
 
 abbrev setting : ℕ → ℕ → ℕ → CommonNumbers

@@ -1,18 +1,14 @@
 -- The configuration that is made from the numbers of an answer.
 use Rattle.std.proofs.Common.{◌≡◌, ℕ, ◌*◌, ◌<◌, ◌≤◌, Bool, true, List, [], ◌∷◌, length, refl, ap, sym, subst, ◌∙◌, arith}
-use Rattle.std.specs.Prelude.{◌↔◌, slice_index_or}
-use Rattle.std.specs.List.{All}
 use Rattle.std.proofs.lemmas.Nat.{mul-le}
-use Rattle.dd_pattern.specs.declared.periods.Periods.{Periods}
-use Rattle.dd_pattern.specs.Periods.{AreWithin, periods_of, periods_volume}
+use Rattle.std.specs.{Prelude.◌↔◌, Prelude.slice_index_or, List.All}
+use Rattle.dd_pattern.specs.{declared.periods.Periods.Periods, Periods.AreWithin, Periods.periods_of, Periods.periods_volume}
 use Rattle.dd_pattern.specs.Tile.{Tile, tile, IsPeriodic}
 use Rattle.dd_formula.specs.LocalRule.{LocalRule, IsRule}
 use Rattle.dd_values.specs.declared.limits.Limits.{Limits}
-use Rattle.dd_boxes.specs.Goals.{GoalOf}
-use Rattle.dd_boxes.specs.Witnesses.{IsWitness}
+use Rattle.dd_boxes.specs.{Goals.GoalOf, Witnesses.IsWitness}
 use Rattle.dd_evidence.specs.Tiles.{given_periods, given_tile}
-use Rattle.dd_verify.specs.Evidence.{IsNo}
-use Rattle.dd_verify.specs.Given.{IsGiven}
+use Rattle.dd_verify.specs.{Evidence.IsNo, Given.IsGiven}
 
 abbrev sheared : ℕ → ℕ → ℕ → ℕ → Periods
 sheared x y z shear = record { x = x; y = y; z = z; shear = shear }

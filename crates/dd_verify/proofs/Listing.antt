@@ -1,31 +1,19 @@
 -- A rule is false exactly where the cells that it reads show a listed pattern.
 use Rattle.std.proofs.Common.{◌≡◌, ℕ, zero, suc, ◌<◌, Bool, true, false, List, [], ◌∷◌, map, length, get_or, slice_get, Some, None, refl, ap, sym, ◌∙◌, arith, rules}
-use Rattle.std.specs.Prelude.{◌↔◌, Option, is_some, Contains}
-use Rattle.std.specs.List.{list_all, position_or_len}
-use Rattle.std.specs.Ordering.{is_eq}
+use Rattle.std.proofs.lemmas.{Option.slice_get_within, Option.slice_get-get_or, List.length-map}
+use Rattle.std.proofs.lemmas.{List.Sums.list_all-from_AllPass, Cmp.tied_itself}
+use Rattle.std.specs.{Prelude.◌↔◌, Prelude.Option, Prelude.is_some, Prelude.Contains, List.list_all, List.position_or_len, Ordering.is_eq}
 use Rattle.std.specs.declared.cmp.Ordering.{Ordering}
 use Rattle.std.specs.declared.cmp.Ordering.TheVariants.{Less, Equal, Greater}
-use Rattle.std.proofs.lemmas.Option.{slice_get_within, slice_get-get_or}
-use Rattle.std.proofs.lemmas.List.{length-map}
-use Rattle.std.proofs.lemmas.List.Sums.{list_all-from_AllPass}
-use Rattle.std.specs.Cmp.{IsTotalOrder}
-use Rattle.std.specs.Cmp.Rules.{comparing}
-use Rattle.std.proofs.lemmas.Cmp.{tied_itself}
-use Rattle.dd_lattice.specs.declared.position.Cell.{Cell}
-use Rattle.dd_lattice.specs.Place.{Place}
-use Rattle.dd_lattice.specs.Cells.{cell, shifted}
-use Rattle.dd_lattice.specs.Order.{cell_cmp}
-use Rattle.dd_lattice.specs.lemmas.InOrderLaws.{cells_equal, list_all-in_order}
-use Rattle.dd_pattern.specs.Reading.{Look}
-use Rattle.dd_pattern.specs.Filling.{filled, filling_look}
+use Rattle.std.specs.Cmp.{IsTotalOrder, Rules.comparing}
+use Rattle.dd_lattice.specs.{declared.position.Cell.Cell, Place.Place, Cells.cell, Cells.shifted, Order.cell_cmp}
+use Rattle.dd_lattice.specs.lemmas.{InOrderLaws.cells_equal, InOrderLaws.list_all-in_order, MoveLaws.shifted_by_origin}
+use Rattle.dd_pattern.specs.{Reading.Look, Filling.filled, Filling.filling_look}
 use Rattle.dd_formula.specs.LocalRule.{LocalRule, is_true, reads_at, cells_at}
 use Rattle.dd_forbidden.specs.Breaking.{is_true_at_origin, IsBreaking}
-use Rattle.dd_boxes.specs.Boxes.{origin}
-use Rattle.dd_boxes.specs.lemmas.RuleLaws.{keeps_at, shifted_by_origin}
-use Rattle.dd_certificate.specs.declared.answer.Listed.{Listed}
-use Rattle.dd_certificate.specs.declared.answer.Answer.{Answer}
-use Rattle.dd_evidence.specs.Lists.{listed, IsForbiddenList}
-use Rattle.dd_evidence.specs.Answers.{IsListCertificate, all_forbidden}
+use Rattle.dd_boxes.specs.{Boxes.origin, lemmas.RuleLaws.keeps_at}
+use Rattle.dd_certificate.specs.declared.answer.{Listed.Listed, Answer.Answer}
+use Rattle.dd_evidence.specs.{Lists.listed, Lists.IsForbiddenList, Answers.IsListCertificate, Answers.all_forbidden}
 use Rattle.dd_verify.specs.Holding.{AreReadAt, TellsBreaking, ListClaim, says_list}
 
 abbrev pub ListedBreak : Type 0

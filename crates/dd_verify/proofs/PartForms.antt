@@ -1,28 +1,22 @@
 -- Certificates of conjugacies: the four questions, and that an output can hold their answers.
-use Rattle.std.proofs.Common.{◌≡◌, ◌≢◌, ℕ, zero, suc, ◌-◌, ◌≤◌, Bool, true, false, List, [], ◌∷◌, length, slice_get, Some, None, refl, ap, sym, subst, ◌∙◌, arith}
-use Rattle.std.specs.Prelude.{◌↔◌, slice_index_or}
-use Rattle.std.specs.List.{All}
-use Rattle.std.proofs.lemmas.Bool.{false≢true}
-use Rattle.std.proofs.lemmas.List.Elements.{All-nil, All-cons}
+use Rattle.std.proofs.Common.{◌≡◌, ◌≢◌, ℕ, zero, suc, ◌-◌, Bool, true, false, List, [], ◌∷◌, length, slice_get, Some, None, refl, ap, sym, subst, ◌∙◌, arith}
+use Rattle.std.proofs.lemmas.{Bool.false≢true, List.Elements.All-nil, List.Elements.All-cons}
+use Rattle.std.specs.{Prelude.◌↔◌, Prelude.slice_index_or, List.All}
 use Rattle.dd_derivation.specs.declared.step.Step.{Step}
 use Rattle.dd_formula.specs.LocalRule.{LocalRule}
-use Rattle.dd_values.specs.declared.limits.Limits.{Limits}
-use Rattle.dd_values.specs.Ranges.{AreLimits}
+use Rattle.dd_values.specs.{declared.limits.Limits.Limits, Ranges.AreLimits}
 use Rattle.dd_boxes.specs.Goals.{GoalOf}
 use Rattle.dd_problem.specs.pushing.Told.{IsToldGoal}
-use Rattle.dd_certificate.specs.declared.answer.Reason.{Reason}
-use Rattle.dd_certificate.specs.declared.answer.Reason.TheVariants as reason
-use Rattle.dd_certificate.specs.declared.answer.Answer.{Answer}
-use Rattle.dd_certificate.specs.declared.answer.Answer.TheVariants as answer
-use Rattle.dd_certificate.specs.declared.answer.Side.TheVariants as side
+use Rattle.dd_certificate.specs.declared.answer.{Reason.Reason, Answer.Answer}
 use Rattle.dd_certificate.specs.Bounds.{IsWritable, IsWritableNumber, IsWritableRefutation}
-use Rattle.dd_question.specs.Boxes.{IsSoundBox}
-use Rattle.dd_question.specs.Conjugacies.{ConjugacyOf, parts, IsPart, EachPart}
+use Rattle.dd_question.specs.{Boxes.IsSoundBox, Conjugacies.ConjugacyOf, Conjugacies.parts, Conjugacies.IsPart, Conjugacies.EachPart}
+use Rattle.dd_question.specs.lemmas.PartLaws.{part_within}
 use Rattle.dd_verify.specs.Evidence.{IsYes, IsNo, IsConjugacyCertificate, conjugate, broken, conjugacy_unknown}
 use Rattle.dd_verify.specs.Holding.{ConjugacyClaim, says_conjugate, says_broken, says_no_more}
-use Rattle.dd_verify.proofs.Deciding.{nothing_holds}
-use Rattle.dd_verify.proofs.Writable.{radius_writable, no_writable}
-use Rattle.dd_verify.proofs.Claiming.{yes_claims}
+use Rattle.dd_verify.proofs.{Deciding.nothing_holds, Writable.radius_writable, Writable.no_writable, Claiming.yes_claims}
+use Rattle.dd_certificate.specs.declared.answer.Reason.TheVariants as reason
+use Rattle.dd_certificate.specs.declared.answer.Answer.TheVariants as answer
+use Rattle.dd_certificate.specs.declared.answer.Side.TheVariants as side
 
 -- ---- the questions by their index
 
@@ -42,15 +36,6 @@ of_part P c (suc (suc (suc (suc zero)))) x g each is =
     let same : (c.to, c.round_back) ≡ (x, g) = cc is.1 in subst (λ (p : LocalRule × GoalOf). P p.0 p.1) same each.round_back
 of_part P c (suc (suc (suc (suc (suc k))))) x g each is = absurd (no_more c k x g is.1)
 
--- there are four
-pub part_few : (c : ConjugacyOf) (k : ℕ) (x : LocalRule) (g : GoalOf) → IsPart c k x g → k ≤ 4
-part_few c zero x g is = omega arith
-part_few c (suc zero) x g is = omega arith
-part_few c (suc (suc zero)) x g is = omega arith
-part_few c (suc (suc (suc zero))) x g is = omega arith
-part_few c (suc (suc (suc (suc zero)))) x g is = omega arith
-part_few c (suc (suc (suc (suc (suc k))))) x g is = absurd (no_more c k x g is.1)
-
 -- ---- NO to one of them
 
 abbrev pub BrokenAt : Limits → ConjugacyOf → ℕ → List ℕ → ℕ → List ℕ → Type 0
@@ -63,7 +48,7 @@ broken_of (broken {x = x} {g = g} is h) = (x, g, is, h)
 module _ (l : Limits) (c : ConjugacyOf) (limits : AreLimits l) (sound : EachPart (IsSoundBox l) c) (k : ℕ) (x : LocalRule) (g : GoalOf) (is : IsPart c k x g)
     (along : List ℕ) (shear : ℕ) (symbols : List ℕ) where
   pub broken_fits : IsNo l x g along shear symbols → IsWritable (answer.Broken k along shear symbols)
-  broken_fits no_of = ((is.0, part_few c k x g is), no_writable l x g along shear symbols limits (of_part (IsSoundBox l) c k x g sound is).0 no_of side.Whole)
+  broken_fits no_of = ((is.0, part_within c k x g is), no_writable l x g along shear symbols limits (of_part (IsSoundBox l) c k x g sound is).0 no_of side.Whole)
 
   -- the question with the index k is o
   pub no_taken : BrokenAt l c k along shear symbols → IsNo l x g along shear symbols

@@ -1,17 +1,13 @@
 -- The place of a cell, as an answer gives it.
 use Rattle.std.proofs.Common.{◌≡◌, ℕ, ◌+◌, ◌≤◌, Bool, true, List, [], ◌∷◌, ◌++◌, length, take, get_or, ap, sym, ◌∙◌, arith, ℤ, pos, length-append}
-use Rattle.std.specs.Prelude.{◌↔◌}
-use lib.Pointwise.{pointwise}
-use Rattle.std.specs.Ordering.{int_eq}
-use Rattle.std.proofs.lemmas.Bool.Decides.{Decides-int_eq}
-use Rattle.std.proofs.lemmas.Slice.Eq.{slice_eq-Decides}
+use Rattle.std.proofs.lemmas.{Bool.Decides.Decides-int_eq, Slice.Eq.slice_eq-Decides}
 use Rattle.std.proofs.lemmas.List.{take_all, take_more, take-append-le, append_cancel_left, length-take-le}
-use Rattle.dd_formula.specs.LocalRule.{LocalRule}
+use Rattle.std.specs.{Prelude.◌↔◌, Ordering.int_eq}
+use lib.Pointwise.{pointwise}
+use Rattle.dd_formula.specs.{LocalRule.LocalRule, Living.IsFirstFalse, lemmas.FirstCells.first_cell}
 use Rattle.dd_lattice.specs.declared.position.Cell.{Cell}
 use Rattle.dd_pattern.specs.Tile.{Tile}
-use Rattle.dd_formula.specs.Living.{IsFirstFalse}
 use Rattle.dd_evidence.specs.Cells.{written_cell, IsOutside}
-use Rattle.dd_formula.specs.lemmas.FirstCells.{first_cell}
 
 -- the first d coordinates of xs, followed by n
 module _ (d n : ℕ) (xs place : List ℤ) (few : d ≤ length xs) where

@@ -1,33 +1,23 @@
 -- Answers to the question how little a fundamental box can weigh: their configurations, the size of their clauses, that an
 -- output can hold them, and what they claim.
 use Rattle.std.proofs.Common.{◌≡◌, ◌≢◌, ℕ, suc, ◌*◌, ◌<◌, ◌≤◌, Bool, true, List, [], ◌∷◌, length, inl, inr, refl, ap, sym, subst, ◌∙◌, arith}
-use Rattle.std.specs.Prelude.{◌↔◌}
-use Rattle.std.specs.List.{All}
 use Rattle.std.proofs.lemmas.Nat.{mul-le}
+use Rattle.std.specs.{Prelude.◌↔◌, List.All}
 use Rattle.dd_values.specs.Bounds.{most_weight}
-use Rattle.dd_pattern.specs.declared.periods.Periods.{Periods}
-use Rattle.dd_pattern.specs.Periods.{periods_of, periods_volume}
-use Rattle.dd_pattern.specs.Tile.{Tile, tile, IsTile, IsPeriodic, most_symbols}
-use Rattle.dd_pattern.specs.Weight.{AreWeights, total_weight}
+use Rattle.dd_pattern.specs.{declared.periods.Periods.Periods, Periods.periods_of, Periods.periods_volume}
+use Rattle.dd_pattern.specs.{Tile.Tile, Tile.tile, Tile.IsTile, Tile.IsPeriodic, Tile.most_symbols, Weight.AreWeights, Weight.total_weight}
 use Rattle.dd_expansion.specs.Limits.{greatest}
-use Rattle.dd_formula.specs.LocalRule.{LocalRule, IsRule}
-use Rattle.dd_formula.specs.Living.{Fits}
+use Rattle.dd_formula.specs.{LocalRule.LocalRule, LocalRule.IsRule, Living.Fits}
 use Rattle.dd_strip.specs.Strips.{HasWeights}
-use Rattle.dd_derivation.specs.declared.step.Step.{Step}
-use Rattle.dd_derivation.specs.Derivations.{IsRefuting}
-use Rattle.dd_boxes.specs.Goals.{always}
-use Rattle.dd_boxes.specs.Counts.{most_clauses}
-use Rattle.dd_boxes.specs.Witnesses.{IsWitness}
-use Rattle.dd_boxes.specs.TorusPeriods.{AreTorusPeriods}
-use Rattle.dd_counter.specs.Weights.{weight_problem, weight_count}
-use Rattle.dd_counter.specs.Laws.{SaysWeights}
-use Rattle.dd_counter.specs.lemmas.Counted.{weight_most}
+use Rattle.dd_derivation.specs.{declared.step.Step.Step, Derivations.IsRefuting}
+use Rattle.dd_boxes.specs.{Goals.always, Counts.most_clauses, Witnesses.IsWitness, TorusPeriods.AreTorusPeriods}
+use Rattle.dd_counter.specs.{Weights.weight_problem, Weights.weight_count, Laws.SaysWeights, lemmas.Counted.weight_most}
 use Rattle.dd_counter.specs.lemmas.Rooms.{room_at}
 use Rattle.dd_certificate.specs.declared.answer.Answer.{Answer}
-use Rattle.dd_certificate.specs.declared.answer.Answer.TheVariants as answer
 use Rattle.dd_certificate.specs.Bounds.{IsWritable, IsWritableNumber, IsWritableList, IsWritableBelow, IsWritableRefutation}
 use Rattle.dd_question.specs.Tori.{IsWeighable}
 use Rattle.dd_verify.specs.Tori.{torus_tile, HasWeight, IsBoundedBy, IsTorusCertificate, torus_least, torus_none, TorusClaim, claims_least_on, claims_none_on}
+use Rattle.dd_certificate.specs.declared.answer.Answer.TheVariants as answer
 
 -- ---- the configuration
 

@@ -2,24 +2,18 @@
 use Rattle.std.specs.Prelude.{ℕ, ◌+◌, ◌*◌, ◌^◌, ◌≤◌, ◌≡◌, true, ℤ, List, length}
 use Rattle.dd_lattice.specs.Place.{Place}
 use Rattle.dd_pattern.specs.Reading.{Look}
-use Rattle.dd_expansion.specs.Limits.{greatest}
-use Rattle.dd_expansion.specs.Placed.{is_flat}
-use Rattle.dd_formula.specs.LocalRule.{LocalRule}
-use Rattle.dd_formula.specs.Living.{Obeys}
+use Rattle.dd_expansion.specs.{Limits.greatest, Placed.is_flat}
+use Rattle.dd_formula.specs.{LocalRule.LocalRule, Living.Obeys}
 use Rattle.dd_boxes.specs.Fillings.{IsConfiguration}
 use Rattle.dd_counts.specs.Rules.{window}
 use Rattle.dd_strip.specs.Strips.{strip_for}
 use Rattle.dd_transfer.specs.Certificates.{IsInLowestTerms, walk_weight, IsDensityCertificate, IsEmptyCertificate}
 use Rattle.dd_strips.specs.Claims.{StripLeast, StripEmpty, spread_of}
-use Rattle.dd_discharge.specs.declared.bound.Bound.{Bound}
-use Rattle.dd_discharge.specs.Amounts.{bound_claimed, held_over}
+use Rattle.dd_discharge.specs.{declared.bound.Bound.Bound, Amounts.bound_claimed, Amounts.held_over}
 use Rattle.dd_discharge.specs.Certificates.{IsBoundCertificate, BestOf}
-use Rattle.dd_sides.specs.Sides.{side_weight}
-use Rattle.dd_sides.specs.Boundaries.{boundary}
-use Rattle.dd_sides.specs.Lifted.{HoldsOnSides}
-use Rattle.dd_certificate.specs.declared.answer.Reason.{Reason}
+use Rattle.dd_sides.specs.{Sides.side_weight, Boundaries.boundary, Lifted.HoldsOnSides}
+use Rattle.dd_certificate.specs.declared.answer.{Reason.Reason, Answer.Answer}
 use Rattle.dd_certificate.specs.declared.answer.Reason.TheVariants as reason
-use Rattle.dd_certificate.specs.declared.answer.Answer.{Answer}
 use Rattle.dd_certificate.specs.declared.answer.Answer.TheVariants as answer
 
 -- ---- least densities: a closed walk through the strip's transfer graph, with potentials that show that no walk is lighter; or

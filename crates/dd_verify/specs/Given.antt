@@ -1,9 +1,7 @@
 -- The numbers that give a configuration.
 use Rattle.std.specs.Prelude.{ℕ, ◌≡◌, List, length}
-use Rattle.dd_pattern.specs.Periods.{AreWithin}
-use Rattle.dd_pattern.specs.Tile.{IsTile}
-use Rattle.dd_formula.specs.Living.{Fits}
-use Rattle.dd_formula.specs.LocalRule.{LocalRule}
+use Rattle.dd_pattern.specs.{Periods.AreWithin, Tile.IsTile}
+use Rattle.dd_formula.specs.{Living.Fits, LocalRule.LocalRule}
 use Rattle.dd_evidence.specs.Tiles.{given_periods, given_tile}
 
 -- the numbers are those of a configuration that fits the rule, with periods of at most `most`

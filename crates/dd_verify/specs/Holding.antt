@@ -1,29 +1,18 @@
 -- What the answers to a question claim.
 use Rattle.std.specs.Prelude.{ℕ, ◌≡◌, ◌<◌, ◌↔◌, true, false, ℤ, Option, Some, List, [], ◌∷◌, map, All, Contains}
-use Rattle.dd_lattice.specs.Place.{Place}
-use Rattle.dd_lattice.specs.Cells.{cell, shifted}
-use Rattle.dd_lattice.specs.declared.position.Cell.{Cell}
-use Rattle.dd_pattern.specs.Reading.{Look}
-use Rattle.dd_pattern.specs.Tile.{Tile, tile_look}
-use Rattle.dd_formula.specs.LocalRule.{LocalRule, is_true, cells_at}
-use Rattle.dd_formula.specs.Living.{Lives}
+use Rattle.dd_lattice.specs.{Place.Place, Cells.cell, Cells.shifted, declared.position.Cell.Cell}
+use Rattle.dd_pattern.specs.{Reading.Look, Tile.Tile, Tile.tile_look}
+use Rattle.dd_formula.specs.{LocalRule.LocalRule, LocalRule.is_true, LocalRule.cells_at, Living.Lives}
 use Rattle.dd_forbidden.specs.Breaking.{are_allowed}
-use Rattle.dd_minimal.specs.Patterns.{is_covered}
-use Rattle.dd_minimal.specs.Claims.{NeedsEach, AreNew}
-use Rattle.dd_boxes.specs.Goals.{GoalOf, breaks}
-use Rattle.dd_boxes.specs.Boxes.{HoldsNowhere}
-use Rattle.dd_boxes.specs.Witnesses.{IsWitness}
+use Rattle.dd_minimal.specs.{Patterns.is_covered, Claims.NeedsEach, Claims.AreNew}
+use Rattle.dd_boxes.specs.{Goals.GoalOf, Goals.breaks, Boxes.HoldsNowhere, Witnesses.IsWitness}
 use Rattle.dd_question.specs.Conjugacies.{ConjugacyOf, IsPart}
 use Rattle.dd_derivation.specs.declared.step.Step.{Step}
-use Rattle.dd_certificate.specs.declared.answer.Reason.{Reason}
-use Rattle.dd_certificate.specs.declared.answer.Side.TheVariants as side
-use Rattle.dd_certificate.specs.declared.answer.Listed.{Listed}
-use Rattle.dd_certificate.specs.declared.answer.Starred.{Starred}
+use Rattle.dd_certificate.specs.declared.answer.{Reason.Reason, Listed.Listed, Starred.Starred}
 use Rattle.dd_certificate.specs.declared.answer.Answer.{Answer}
+use Rattle.dd_evidence.specs.{Cells.written_cell, Tiles.given_tile, Lists.listed, Lists.patterns_at}
+use Rattle.dd_certificate.specs.declared.answer.Side.TheVariants as side
 use Rattle.dd_certificate.specs.declared.answer.Answer.TheVariants as answer
-use Rattle.dd_evidence.specs.Cells.{written_cell}
-use Rattle.dd_evidence.specs.Tiles.{given_tile}
-use Rattle.dd_evidence.specs.Lists.{listed, patterns_at}
 
 -- ---- membership
 

@@ -1,15 +1,10 @@
 -- Which answers to the question how little a fundamental box can weigh are certificates, and what they claim.
 use Rattle.std.specs.Prelude.{ℕ, ◌≡◌, ◌<◌, List}
-use Rattle.dd_pattern.specs.Periods.{periods_of}
-use Rattle.dd_pattern.specs.Tile.{Tile, tile}
-use Rattle.dd_pattern.specs.Weight.{total_weight}
+use Rattle.dd_pattern.specs.{Periods.periods_of, Tile.Tile, Tile.tile, Weight.total_weight}
 use Rattle.dd_formula.specs.LocalRule.{LocalRule}
-use Rattle.dd_derivation.specs.declared.step.Step.{Step}
-use Rattle.dd_derivation.specs.Derivations.{IsRefuting}
-use Rattle.dd_boxes.specs.Goals.{always}
-use Rattle.dd_boxes.specs.Witnesses.{IsWitness}
-use Rattle.dd_counter.specs.Weights.{weight_problem}
-use Rattle.dd_counter.specs.Least.{LeastOn, NoneOn}
+use Rattle.dd_derivation.specs.{declared.step.Step.Step, Derivations.IsRefuting}
+use Rattle.dd_boxes.specs.{Goals.always, Witnesses.IsWitness}
+use Rattle.dd_counter.specs.{Weights.weight_problem, Least.LeastOn, Least.NoneOn}
 use Rattle.dd_certificate.specs.declared.answer.Answer.{Answer}
 use Rattle.dd_certificate.specs.declared.answer.Answer.TheVariants as answer
 

@@ -1,26 +1,18 @@
 -- What no admissible filling of one box has at the origin, no admissible filling has anywhere.
 use Rattle.std.proofs.Common.{◌≡◌, ℕ, ◌<◌, ◌≤◌, Bool, true, false, List, length, refl, ap, sym, ◌∙◌}
-use Rattle.std.specs.Prelude.{◌&&◌, ◌||◌, is_some, nat_lt, slice_get}
-use Rattle.std.specs.List.{list_all}
-use Rattle.std.proofs.lemmas.Bool.{and_parts, lt-ltb, ltb-true}
-use Rattle.std.proofs.lemmas.Option.{slice_get-get_or}
-use Rattle.dd_lattice.specs.Place.{Place}
-use Rattle.dd_lattice.specs.Cells.{cell, shifted}
-use Rattle.dd_lattice.specs.declared.position.Cell.{Cell}
-use Rattle.dd_pattern.specs.Reading.{Look}
-use Rattle.dd_pattern.specs.Tile.{Tile, IsTile, tile_look, tile_index}
-use Rattle.dd_pattern.specs.lemmas.TileSizes.{index_below}
-use Rattle.dd_expansion.specs.Placed.{is_flat}
-use Rattle.dd_formula.specs.LocalRule.{LocalRule, reads_at}
-use Rattle.dd_formula.specs.Allowed.{HasAllowed}
-use Rattle.dd_formula.specs.Living.{Fits}
-use Rattle.dd_formula.specs.Automata.{CommonNumbers, value, counted}
-use Rattle.dd_formula.specs.declared.automaton.Automaton.{Automaton}
+use Rattle.std.proofs.lemmas.{Bool.and_parts, Bool.lt-ltb, Bool.ltb-true, Option.slice_get-get_or}
+use Rattle.std.specs.{Prelude.◌&&◌, Prelude.◌||◌, Prelude.is_some, Prelude.nat_lt, Prelude.slice_get, List.list_all}
+use Rattle.dd_lattice.specs.{Place.Place, Cells.cell, Cells.shifted, declared.position.Cell.Cell, lemmas.MoveLaws.shifted_by_origin}
+use Rattle.dd_pattern.specs.{Reading.Look, Tile.Tile, Tile.IsTile, Tile.tile_look, Tile.tile_index, lemmas.TileSizes.index_below}
+use Rattle.dd_expansion.specs.{Placed.is_flat, lemmas.Placed.flat_moved}
+use Rattle.dd_formula.specs.{LocalRule.LocalRule, LocalRule.reads_at, Allowed.HasAllowed, Living.Fits}
+use Rattle.dd_formula.specs.{Automata.CommonNumbers, Automata.value, Automata.counted, declared.automaton.Automaton.Automaton}
 use Rattle.dd_boxes.specs.Goals.{GoalOf, breaks, differ, always, HasGoal, AreAlike, AreOver, IsGoalFor}
 use Rattle.dd_boxes.specs.Fillings.{in_box, is_box_cell, is_cell_within, IsConfiguration}
 use Rattle.dd_boxes.specs.Boxes.{origin, Suffices, Reaches, IsLeastRadius, Covers, Never, IsInNoConfiguration, IsInNoTile, HoldsNowhere}
-use Rattle.dd_boxes.specs.lemmas.RuleLaws.{from_place, moved_from_origin, shifted_by_origin, reads_given, keeps_at, value_keeps, list_all_weaker}
-use Rattle.dd_boxes.specs.lemmas.CutLaws.{flat_moved, flat_box, wider_box, wider_cells, cut, cond_domain, cut_is_filling, cut_near, cut_admissible}
+use Rattle.dd_boxes.specs.lemmas.RuleLaws.{from_place, moved_from_origin, reads_given, keeps_at, value_keeps, list_all_weaker}
+use Rattle.dd_boxes.specs.lemmas.CutLaws.{flat_box, wider_box, wider_cells, cut, cut_is_filling, cut_near, cut_admissible}
+use Rattle.dd_values.specs.lemmas.Booleans.{cond_domain}
 
 -- alike rules have the same box
 pub box_alike : (x y : LocalRule) (n : ℕ) (c : Cell) → AreAlike x y → is_box_cell y n c ≡ is_box_cell x n c

@@ -1,14 +1,11 @@
 -- What the gates of a composition require of its two automata, and what holds once the inner values are made.
 use Rattle.std.specs.Prelude.{ℕ, ◌≡◌, ◌<◌, true, List, [], ◌∷◌, map}
 use Rattle.std.specs.List.{All, list_all}
-use Rattle.dd_lattice.specs.Cells.{shifted}
-use Rattle.dd_lattice.specs.declared.position.Cell.{Cell}
+use Rattle.dd_lattice.specs.{Cells.shifted, declared.position.Cell.Cell}
 use Rattle.dd_formula.specs.Automata.{CommonNumbers, IsAutomaton, counted, is_cell_of}
 use Rattle.dd_formula.specs.declared.automaton.Automaton.{Automaton}
-use Rattle.dd_circuit.specs.declared.gates.Signal.{Signal}
-use Rattle.dd_circuit.specs.Circuits.{Network, IsSignal, size}
-use Rattle.dd_compile.specs.Wiring.{Wiring}
-use Rattle.dd_compile.specs.ValueSignals.{SaysValue, are_wired_there}
+use Rattle.dd_circuit.specs.{declared.gates.Signal.Signal, Circuits.Network, Circuits.IsSignal, Circuits.size}
+use Rattle.dd_compile.specs.{Wiring.Wiring, ValueSignals.SaysValue, ValueSignals.are_wired_there}
 
 -- both automata are well formed over some numbers with an alphabet of k symbols, and a is one of the nodes
 pub record HaveSymbols (f g : Automaton) (k a : ℕ) : Type 0 where

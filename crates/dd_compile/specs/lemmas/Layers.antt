@@ -1,18 +1,16 @@
 -- The definitions, for each form of formula.
 use Rattle.std.proofs.Common.{◌≡◌, ◌≤◌, ◌<◌, ◌+◌, ◌*◌, ℕ, zero, suc, get_or, Bool, true, List, [], ◌∷◌, ◌++◌, map, length, refl, ap, sym, ◌∙◌, arith}
+use Rattle.std.proofs.lemmas.{Bool.and_parts, Bool.leb-true, Bool.le-leb, List.Folds.list_all-map}
 use Rattle.std.specs.Prelude.{◌&&◌, Option, Some, None, nat_le}
-use Rattle.std.proofs.lemmas.Bool.{and_parts, leb-true, le-leb}
-use Rattle.std.proofs.lemmas.List.Folds.{list_all-map}
 use Rattle.dd_lattice.specs.declared.position.Cell.{Cell}
-use Rattle.dd_expansion.specs.declared.expanded.Expanded.{Expanded}
-use Rattle.dd_expansion.specs.declared.expanded.Expanded.TheVariants as v
-use Rattle.dd_expansion.specs.declared.expanded.Expanded.TheFolds.{fold-roll-Expanded}
+use Rattle.dd_expansion.specs.declared.expanded.Expanded.{Expanded, TheFolds.fold-roll-Expanded}
 use Rattle.dd_expansion.specs.declared.expanded.Expanded.TheOpen.{Expanded-F}
 use Rattle.dd_expansion.specs.Leaves.{leaves_pass_step, instances, instances_step, total}
 use Rattle.dd_expansion.specs.lemmas.LeafLaws.{leaves_weaken}
 use Rattle.dd_circuit.specs.declared.gates.Signal.{Signal}
 use Rattle.dd_circuit.specs.declared.gates.Gate.TheVariants.{And, Or, Iff}
 use Rattle.dd_compile.specs.Compiling.{Maker, all_made, then_gate, made_step, made, gate_count_step, gate_count, all_counts, Wires, are_wired, all_wired, is_wire}
+use Rattle.dd_expansion.specs.declared.expanded.Expanded.TheVariants as v
 
 pub made_and : (w : Cell → ℕ → Signal) (fs : List Expanded) (n : ℕ) → made w (v.And fs) n ≡ then_gate n (all_made (map (made w) fs) n).gates (And (all_made (map (made w) fs) n).signals)
 made_and w fs n = ap (λ e. made w e n) (sym (v.rolls-And fs)) ∙ ap (λ m. m n) (fold-roll-Expanded Maker (made_step w) (Expanded-F.And fs))

@@ -1,20 +1,15 @@
 -- The state while the gates of formulas are made, and the gate that ends them.
 use Rattle.std.proofs.Common.{◌≡◌, ℕ, ◌+◌, ◌<◌, ◌≤◌, true, List, [], ◌∷◌, ◌++◌, map, length, drop, get_or, refl, ap, sym, subst, ◌∙◌, arith, length-append, append-nil, append_assoc, drop-cons, add-one, Ok, Err, Result}
-use Rattle.std.specs.List.{All}
-use Rattle.std.specs.Result.{IfOk, OnErr}
-use Rattle.std.specs.declared.alloc.AllocError.{AllocError}
-use Rattle.std.proofs.lemmas.Bool.{and_parts}
-use Rattle.std.proofs.lemmas.List.{drop_all}
-use Rattle.std.proofs.lemmas.List.Elements.{All-push, All-weaker}
+use Rattle.std.proofs.lemmas.{Bool.and_parts, List.drop_all, List.Elements.All-push, List.Elements.All-weaker}
+use Rattle.std.specs.{List.All, Result.IfOk, Result.OnErr, declared.alloc.AllocError.AllocError}
 use Rattle.dd_lattice.specs.declared.position.Cell.{Cell}
 use Rattle.dd_expansion.specs.declared.expanded.Expanded.{Expanded}
-use Rattle.dd_expansion.specs.declared.expanded.Expanded.TheVariants as v
-use Rattle.dd_circuit.specs.declared.gates.Signal.{Signal}
-use Rattle.dd_circuit.specs.declared.gates.Gate.{Gate}
+use Rattle.dd_circuit.specs.declared.gates.{Signal.Signal, Gate.Gate}
 use Rattle.dd_circuit.specs.declared.gates.Gate.TheVariants.{And, Or, Iff}
 use Rattle.dd_circuit.specs.Circuits.{Network, IsSignal, size, signal_of}
 use Rattle.dd_compile.specs.Compiling.{Made, Wires, Extends, then_gate, all_made, made, certain, gate_count, all_counts, are_wired, all_wired}
 use Rattle.dd_compile.specs.lemmas.Layers.{made_and, made_or, made_iff, all_wired-more}
+use Rattle.dd_expansion.specs.declared.expanded.Expanded.TheVariants as v
 
 pub size-append : (old new : Network) (gates : List Gate) → new.inputs ≡ old.inputs → new.gates ≡ old.gates ++ gates → size new ≡ size old + length gates
 size-append old new gates inputs is =

@@ -1,26 +1,18 @@
 -- Wires are read by the places of their cells.
 use Rattle.std.proofs.Common.{◌≡◌, ◌<◌, ℕ, List, [], ◌∷◌, ◌++◌, length, get_or, slice_get, Some, None, Ok, Err, Option, ap, sym, refl, ◌∙◌, arith, map, option_map, length-append}
-use Rattle.std.specs.List.{All, Contains, position_or_len}
-use Rattle.std.specs.List.Sorted.{IsStrictlySortedBy, IsBinarySearchResult, IsSearchInRange}
-use Rattle.std.specs.Ordering.{is_eq}
-use Rattle.std.specs.Cmp.{tied_itself}
-use Rattle.std.specs.declared.cmp.Ordering.TheVariants.{Less}
 use Rattle.std.proofs.lemmas.Option.{slice_get_past, slice_get_read, slice_get-map}
-use Rattle.std.proofs.lemmas.List.{get_or_default, length-map}
-use Rattle.std.proofs.lemmas.List.Elements.{All-contains}
-use Rattle.dd_lattice.specs.declared.position.Cell.{Cell}
-use Rattle.dd_lattice.specs.Order.{cell_cmp}
-use Rattle.dd_lattice.specs.lemmas.ListLaws.{sorted_push}
+use Rattle.std.proofs.lemmas.List.{get_or_default, length-map, Elements.All-contains}
+use Rattle.std.specs.List.{All, Contains, position_or_len, Sorted.IsBinarySearchResult, Sorted.IsSearchInRange}
+use Rattle.std.specs.{Ordering.is_eq, declared.cmp.Ordering.TheVariants.Less}
+use Rattle.dd_lattice.specs.{declared.position.Cell.Cell, Order.cell_cmp}
+use Rattle.dd_values.specs.lemmas.Members.{sorted_push}
 use Rattle.dd_pattern.specs.Filling.{filled}
-use Rattle.dd_pattern.specs.lemmas.FillingLaws.{cell_total, search_places, missing_reads_none}
+use Rattle.dd_pattern.specs.lemmas.FillingLaws.{search_places, missing_reads_none, place_found}
 use Rattle.dd_circuit.specs.declared.gates.Signal.{Signal}
 use Rattle.dd_compile.specs.Wiring.{Wiring, IsWiring, IsWiredByPlace, signal_for, signals_of, wire_of}
 
 abbrev place_of : List Cell → Cell → ℕ
 place_of cs c = position_or_len (λ d. is_eq (cell_cmp d c)) cs
-
-place_found : (cs : List Cell) → IsStrictlySortedBy cell_cmp cs → (i : ℕ) (c : Cell) → i < length cs → get_or cs i c ≡ c → place_of cs c ≡ i
-place_found cs up i c h e = search_places cs c (Ok i) up h (λ d. ap (λ x. cell_cmp x c) (get_or_default cs i d c h ∙ e) ∙ tied_itself cell_total c)
 
 abbrev zero_for : List Signal → ℕ
 zero_for ss = 0

@@ -1,13 +1,9 @@
 -- The gates of a rule at a node of the origin, over variables of their own for the cells that it reads.
 use Rattle.std.specs.Prelude.{ℕ, ◌+◌, ◌*◌, ◌<◌, ◌≡◌, pos, List, [], ◌∷◌, length}
-use Rattle.dd_lattice.specs.Place.{Place, place}
-use Rattle.dd_lattice.specs.declared.position.Cell.{Cell}
+use Rattle.dd_lattice.specs.{Place.Place, Place.place, declared.position.Cell.Cell}
 use Rattle.dd_formula.specs.LocalRule.{LocalRule, IsRule, cells_at, expansion_at}
-use Rattle.dd_circuit.specs.declared.gates.Signal.{Signal}
-use Rattle.dd_circuit.specs.Circuits.{Network}
-use Rattle.dd_compile.specs.Wiring.{Wiring}
-use Rattle.dd_compile.specs.Compiling.{Made, compiled}
-use Rattle.dd_compile.specs.ValueGates.{fresh}
+use Rattle.dd_circuit.specs.{declared.gates.Signal.Signal, Circuits.Network}
+use Rattle.dd_compile.specs.{Wiring.Wiring, Compiling.Made, Compiling.compiled, ValueGates.fresh}
 
 -- for each cell the signals of m variables, after n others and those of the cells before it
 abbrev pub signals_in_turn : ℕ → ℕ → List Cell → List (List Signal)

@@ -1,11 +1,8 @@
 -- Gates over variables of their own, placed over the signals of a circuit.
 use Rattle.std.specs.Prelude.{ℕ, ◌+◌, ◌-◌, ◌&&◌, is_some, if◌then◌else◌, Bool, List, [], map, length, Option, Some, None, slice_get}
 use Rattle.std.specs.List.{flat_map}
-use Rattle.dd_lattice.specs.Place.{Place, moved, is_in_range}
-use Rattle.dd_lattice.specs.Cells.{shifted}
-use Rattle.dd_lattice.specs.declared.position.Cell.{Cell}
-use Rattle.dd_circuit.specs.declared.gates.Signal.{Signal}
-use Rattle.dd_circuit.specs.declared.gates.Gate.{Gate}
+use Rattle.dd_lattice.specs.{Place.Place, Place.moved, Place.is_in_range, Cells.shifted, declared.position.Cell.Cell}
+use Rattle.dd_circuit.specs.declared.gates.{Signal.Signal, Gate.Gate}
 use Rattle.dd_circuit.specs.declared.gates.Gate.TheVariants.{And, Or, Iff}
 use Rattle.dd_circuit.specs.Circuits.{opposite}
 use Rattle.dd_compile.specs.Wiring.{Wiring, signals_of}

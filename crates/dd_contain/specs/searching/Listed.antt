@@ -1,8 +1,6 @@
 -- How far the search has come in a list of periods, and what it may ask.
-use Rattle.std.specs.Prelude.{ℕ, ◌<◌, ◌≤◌, ◌≡◌, List, Some, slice_get}
-use Rattle.std.specs.List.{Contains}
-use Rattle.dd_pattern.specs.declared.periods.Periods.{Periods}
-use Rattle.dd_pattern.specs.Periods.{AreWithin}
+use Rattle.std.specs.{Prelude.ℕ, Prelude.◌<◌, Prelude.◌≤◌, Prelude.◌≡◌, Prelude.List, Prelude.Some, Prelude.slice_get, List.Contains}
+use Rattle.dd_pattern.specs.{declared.periods.Periods.Periods, Periods.AreWithin}
 
 -- none of the first n shows the goal
 abbrev pub NoneBefore : (Periods → Type 0) → List Periods → ℕ → Type 0

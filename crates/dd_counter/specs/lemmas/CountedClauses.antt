@@ -1,15 +1,11 @@
 -- How many clauses the counter has: no more than `weight_count` says.
 use Rattle.std.proofs.Common.{ℕ, zero, suc, ◌+◌, ◌*◌, ◌≤◌, Bool, true, false, List, [], ◌∷◌, ◌++◌, map, length, ap, arith, Some, None, length-append}
-use Rattle.std.specs.Prelude.{◌-◌, nat_lt, Option, slice_get, slice_index}
-use Rattle.std.specs.List.{range_with_len}
 use Rattle.std.proofs.lemmas.List.{length-map}
-use Rattle.dd_clause.specs.declared.clause.Literal.{Literal}
-use Rattle.dd_clause.specs.Clauses.{ClauseList}
-use Rattle.dd_circuit.specs.declared.gates.Signal.{Signal}
-use Rattle.dd_circuit.specs.declared.gates.Gate.{Gate}
-use Rattle.dd_circuit.specs.declared.gates.Gate.TheVariants.{Or}
+use Rattle.std.specs.{Prelude.◌-◌, Prelude.nat_lt, Prelude.Option, Prelude.slice_get, Prelude.slice_index, List.range_with_len}
+use Rattle.dd_clause.specs.{declared.clause.Literal.Literal, Clauses.ClauseList}
+use Rattle.dd_circuit.specs.declared.gates.{Signal.Signal, Gate.Gate, Gate.TheVariants.Or}
 use Rattle.dd_cnf.specs.Encoding.{gates_clauses, literal, literal_of, opposing}
-use Rattle.dd_problem.specs.lemmas.Growing.{gates_clauses-append}
+use Rattle.dd_cnf.specs.lemmas.GateLaws.{gates_clauses-append}
 use Rattle.dd_counter.specs.Counter.{Making, joined, member_by, of_symbol, members, count, row, rows, refusal_of, weighed}
 
 -- the clauses of gates after others

@@ -1,22 +1,17 @@
 -- What the gates of the counter say if each cell has one symbol.
 use Rattle.std.proofs.Common.{◌≡◌, ℕ, zero, suc, ◌+◌, ◌<◌, Bool, true, false, List, [], ◌∷◌, map, length, take, get_or, refl, ap, sym, ◌∙◌, arith, Some, None}
+use Rattle.std.proofs.lemmas.{Bool.and_parts, Bool.le-ltb, List.FromFn.get_or-map-range_with_len}
+use Rattle.std.proofs.lemmas.{List.Sums.sum_by_more, List.take_all, Option.slice_get-get_or}
 use Rattle.std.specs.Prelude.{◌&&◌, ◌||◌, ◌-◌, ◌==◌, nat_lt, Option, slice_get, slice_index}
-use Rattle.std.specs.List.{All, list_any, range_with_len}
-use Rattle.std.specs.Bool.{beq}
-use Rattle.std.proofs.lemmas.Bool.{and_parts, le-ltb}
-use Rattle.std.proofs.lemmas.List.FromFn.{get_or-map-range_with_len}
-use Rattle.std.proofs.lemmas.List.Sums.{sum_by_more}
-use Rattle.std.proofs.lemmas.List.{take_all}
-use Rattle.std.proofs.lemmas.Option.{slice_get-get_or}
-use Rattle.dd_circuit.specs.declared.gates.Signal.{Signal}
-use Rattle.dd_circuit.specs.declared.gates.Gate.TheVariants.{And, Or}
+use Rattle.std.specs.{List.All, List.list_any, List.range_with_len, Bool.beq}
+use Rattle.dd_circuit.specs.declared.gates.{Signal.Signal, Gate.TheVariants.And, Gate.TheVariants.Or}
 use Rattle.dd_circuit.specs.Circuits.{signal_of, signal_value, gate_value, agrees}
 use Rattle.dd_pattern.specs.Weight.{total_weight}
-use Rattle.dd_problem.specs.Clauses.{input}
-use Rattle.dd_problem.specs.Symbols.{AreRead}
+use Rattle.dd_problem.specs.{Clauses.input, Symbols.AreRead}
 use Rattle.dd_counter.specs.Counter.{joined, member_by, member, of_symbol, members, count, row, rows}
-use Rattle.dd_counter.specs.lemmas.Bools.{same_from_beq, or_false, and_true, and_false, one_of_range, lt_sum}
+use Rattle.dd_counter.specs.lemmas.Bools.{one_of_range, lt_sum}
 use Rattle.dd_counter.specs.lemmas.Joined.{agrees_parts, any_joined, each_joined}
+use Rattle.dd_values.specs.lemmas.Booleans.{and_true, or_false, same_from_beq, and_false}
 
 -- what the signal at t says; false after the last one
 abbrev pub said : (ℕ → Bool) → List Signal → ℕ → Bool

@@ -1,34 +1,23 @@
 -- The clauses with the counter are satisfied exactly by the configurations of small weight.
 use Rattle.std.proofs.Common.{◌≡◌, ℕ, zero, suc, ◌+◌, ◌*◌, ◌<◌, ◌≤◌, Bool, true, false, List, [], ◌++◌, length, refl, ap, sym, subst, ◌∙◌, arith, Some, None}
+use Rattle.std.proofs.lemmas.Bool.{and_parts, and_from, ltb-false, le-ltb}
+use Rattle.std.proofs.lemmas.List.{Folds.list_all-append, Elements.All-nil}
 use Rattle.std.specs.Prelude.{◌&&◌, ◌||◌, ◌-◌, not, if◌then◌else◌, nat_lt, Option, slice_get}
 use Rattle.std.specs.List.{All}
-use Rattle.std.proofs.lemmas.Bool.{and_parts, and_from, ltb-false, le-ltb}
-use Rattle.std.proofs.lemmas.List.Folds.{list_all-append}
-use Rattle.std.proofs.lemmas.List.Elements.{All-nil}
-use Rattle.dd_clause.specs.declared.clause.Literal.{Literal}
-use Rattle.dd_clause.specs.Clauses.{ClauseList, is_clause_true, Satisfies}
-use Rattle.dd_circuit.specs.declared.gates.Signal.{Signal}
-use Rattle.dd_circuit.specs.Circuits.{agrees}
-use Rattle.dd_circuit.specs.lemmas.ValueLaws.{Alike}
-use Rattle.dd_cnf.specs.Encoding.{gates_clauses}
-use Rattle.dd_cnf.specs.Models.{is_satisfied}
-use Rattle.dd_cnf.specs.lemmas.GateLaws.{gates_law}
+use Rattle.dd_clause.specs.{declared.clause.Literal.Literal, Clauses.ClauseList, Clauses.is_clause_true, Clauses.Satisfies}
+use Rattle.dd_circuit.specs.{declared.gates.Signal.Signal, Circuits.agrees, lemmas.ValueLaws.Alike}
+use Rattle.dd_cnf.specs.{Encoding.gates_clauses, Models.is_satisfied, lemmas.GateLaws.gates_law}
 use Rattle.dd_cnf.specs.lemmas.ModelLaws.{Satisfies-is_satisfied, is_satisfied-Satisfies}
-use Rattle.dd_pattern.specs.declared.periods.Periods.{Periods}
-use Rattle.dd_pattern.specs.Periods.{periods_volume}
-use Rattle.dd_pattern.specs.Tile.{Tile}
-use Rattle.dd_pattern.specs.Weight.{total_weight}
+use Rattle.dd_pattern.specs.{declared.periods.Periods.Periods, Periods.periods_volume, Tile.Tile, Weight.total_weight}
 use Rattle.dd_formula.specs.LocalRule.{LocalRule}
-use Rattle.dd_boxes.specs.Goals.{always}
-use Rattle.dd_boxes.specs.Witnesses.{IsWitness, HasPeriods}
-use Rattle.dd_problem.specs.Symbols.{AreRead}
-use Rattle.dd_problem.specs.Shows.{ShowsTorus}
-use Rattle.dd_problem.specs.lemmas.OwnVariables.{read_alike}
+use Rattle.dd_boxes.specs.{Goals.always, Witnesses.IsWitness, Witnesses.HasPeriods}
+use Rattle.dd_problem.specs.{Symbols.AreRead, Shows.ShowsTorus, lemmas.OwnVariables.read_alike}
 use Rattle.dd_counter.specs.Counter.{rows, refusal_of, weighed}
 use Rattle.dd_counter.specs.Weights.{IsLight, IsLightWitness, ShowsWeights}
 use Rattle.dd_counter.specs.lemmas.Saying.{Weighs, SaysWeight, said_at, value_of, all_say}
 use Rattle.dd_counter.specs.lemmas.Fitting.{rows_fit}
 use Rattle.dd_counter.specs.lemmas.Extending.{extension, extension_alike, extension_agrees}
+use Rattle.dd_values.specs.lemmas.Booleans.{not_true}
 
 -- the three parts of the clauses
 parts : (set : ℕ → Bool) (base gates last : List (List Literal)) → is_satisfied set ((base ++ gates) ++ last) ≡ ((is_satisfied set base && is_satisfied set gates) && is_satisfied set last)
@@ -43,10 +32,6 @@ refusal_law set (Some r) = go r.positive (set r.variable) where
   go true false = refl
   go false true = refl
   go false false = refl
-
-not_true : (b : Bool) → not b ≡ true → b ≡ false
-not_true true h = sym h
-not_true false h = refl
 
 light : (below : ℕ) (ws : List ℕ) (t : Tile) → (0 < below → nat_lt (below - 1) (total_weight ws t.symbols) ≡ false) → IsLight below ws t
 light zero ws t h = tt

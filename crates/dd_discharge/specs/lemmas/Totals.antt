@@ -1,13 +1,11 @@
 -- Sums of whole numbers.
 use Rattle.std.proofs.Common.{◌≡◌, ℕ, zero, suc, ◌+◌, ◌*◌, ◌^◌, ◌<◌, ◌≤◌, refl, sym, ap, ◌∙◌, arith}
+use Rattle.std.proofs.lemmas.Int.{ints}
 use lib.IntN.{ℤ, pos, ◌+ℤ◌, ◌-ℤ◌, ◌*ℤ◌, *ℤ-zero}
 use lib.Signed.{◌≤ℤ◌}
 use mir.Val.{SFits}
-use Rattle.std.specs.Int.{w64, w128}
-use Rattle.std.specs.Int.RustNames.{unsigned_abs}
-use Rattle.std.proofs.lemmas.Int.{ints}
-use Rattle.dd_discharge.specs.Amounts.{total_below}
-use Rattle.dd_discharge.specs.lemmas.WholeNumbers.{times_sum}
+use Rattle.std.specs.Int.{w64, w128, RustNames.unsigned_abs}
+use Rattle.dd_discharge.specs.{Amounts.total_below, lemmas.WholeNumbers.times_sum}
 
 pub total_same : (f g : ℕ → ℤ) (n : ℕ) → ((j : ℕ) → j < n → f j ≡ g j) → total_below f n ≡ total_below g n
 total_same f g zero h = refl

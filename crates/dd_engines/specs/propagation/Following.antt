@@ -1,14 +1,11 @@
 -- What follows by unit propagation from no assumptions, as values of the variables.
 use Rattle.std.specs.Prelude.{◌≡◌, ℕ, ◌-◌, ◌<◌, Bool, true, false, not, if◌then◌else◌, List, [], Option, Some, None, length, map, take, All, slice_index_or}
-use Rattle.std.specs.Bool.{beq}
-use Rattle.std.specs.List.{sum_by}
-use Rattle.dd_clause.specs.declared.clause.Literal.{Literal}
-use Rattle.dd_clause.specs.Clauses.{negation}
+use Rattle.std.specs.{Bool.beq, List.sum_by}
+use Rattle.dd_clause.specs.{declared.clause.Literal.Literal, Clauses.negation}
 use Rattle.dd_derivation.specs.declared.propagation.Finding.{Finding}
 use Rattle.dd_derivation.specs.declared.propagation.Finding.TheVariants.{Falsified, Forced, Open}
 use Rattle.dd_derivation.specs.Derivations.{is_literal_in_range, is_among, is_conflict, finding}
-use Rattle.dd_engines.specs.declared.analysis.Entry.{Entry}
-use Rattle.dd_engines.specs.declared.propagation.Progress.{Progress}
+use Rattle.dd_engines.specs.declared.{analysis.Entry.Entry, propagation.Progress.Progress}
 use Rattle.dd_engines.specs.declared.propagation.Progress.TheVariants.{Conflict, More, Settled}
 
 -- there is a value, and it is not the sign

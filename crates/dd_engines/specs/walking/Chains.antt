@@ -2,9 +2,7 @@
 use Rattle.std.specs.Prelude.{◌≡◌, ℕ, zero, suc, ◌*◌, ◌≤◌, ◌<◌, List, [], ◌∷◌, Some, slice_get, slice_index_or, length, All}
 use Rattle.std.specs.Option.{option_map_or}
 use Rattle.dd_clause.specs.declared.clause.Literal.{Literal}
-use Rattle.dd_engines.specs.declared.chains.Link.{Link}
-use Rattle.dd_engines.specs.declared.chains.Chains.{Chains}
-use Rattle.dd_engines.specs.walking.Truths.{place_of, standing}
+use Rattle.dd_engines.specs.{declared.chains.Link.Link, declared.chains.Chains.Chains, walking.Truths.place_of, walking.Truths.standing}
 
 -- The numbers along a chain, over at most this many links. A chain is named by the number, from 1, of its first link;
 -- 0 names the empty chain.

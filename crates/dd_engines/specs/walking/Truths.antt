@@ -1,8 +1,7 @@
 -- How many literals of each clause are true, which clauses have a literal, and how a flip changes the counts.
 use Rattle.std.specs.Prelude.{◌≡◌, ℕ, ◌+◌, ◌-◌, ◌*◌, ◌/◌, ◌^◌, ◌<◌, ◌≤◌, ◌==◌, min, if◌then◌else◌, Bool, true, false, List, [], ◌∷◌, ◌++◌, length, replicate, count_by, slice_get, slice_index_or, slice_set}
 use Rattle.std.specs.Option.{option_map_or}
-use Rattle.dd_clause.specs.declared.clause.Literal.{Literal}
-use Rattle.dd_clause.specs.Clauses.{is_true_under}
+use Rattle.dd_clause.specs.{declared.clause.Literal.Literal, Clauses.is_true_under}
 use Rattle.dd_values.specs.Variables.{true_variables}
 use Rattle.dd_derivation.specs.Derivations.{same_literal}
 

@@ -1,7 +1,6 @@
 -- Where a walk stands.
 use Rattle.std.specs.Prelude.{◌≡◌, ℕ, ◌^◌, ◌<◌, Bool, List, length, map, All}
-use Rattle.dd_clause.specs.declared.clause.Literal.{Literal}
-use Rattle.dd_clause.specs.Clauses.{IsClauseInRange}
+use Rattle.dd_clause.specs.{declared.clause.Literal.Literal, Clauses.IsClauseInRange}
 use Rattle.dd_engines.specs.walking.Truths.{true_count, IsListed}
 
 -- the counts of true literals, and the marks of the blocks where a clause may have none, fit the clauses and the values

@@ -1,7 +1,6 @@
 -- Budgets of nodes: each node of a tree that is made takes one.
 use Rattle.std.specs.Prelude.{◌≡◌, ℕ, ◌+◌, ◌<◌, Result, Ok, Err}
-use Rattle.dd_expansion.specs.declared.fault.ExpansionFault.{ExpansionFault}
-use Rattle.dd_expansion.specs.declared.fault.ExpansionFault.TheVariants.{Instances}
+use Rattle.dd_expansion.specs.declared.fault.ExpansionFault.{ExpansionFault, TheVariants.Instances}
 
 -- the value was made and its cost paid; or the cost is more than there was, and the fault is `Instances`
 abbrev pub IsPaid : {T : Type 0} → ℕ → ℕ → T → ℕ → Result T ExpansionFault → Type 0

@@ -30,7 +30,7 @@ pub number_below : (bytes : List ℕ) (names : List (List ℕ)) (n : Name) → m
 number_below bytes names n none = grind (arith, parts)
 
 -- once a fault is noted, it stays or a better one takes its place
-some_stays : (g : Fault) (fs : List Fault) → noted (Some g) fs ≡ None → ⊥
+pub some_stays : (g : Fault) (fs : List Fault) → noted (Some g) fs ≡ None → ⊥
 some_stays g [] e = absurd cc
 some_stays g (f ∷ fs) e = grind (arith, some_stays f fs, some_stays g fs)
 

@@ -1,19 +1,11 @@
 -- What a rule says at a place, by its expansion at the origin and by the symbols that it reads there.
 use Rattle.std.proofs.Common.{◌≡◌, ◌≤◌, ℕ, Bool, true, [], ◌∷◌, ap, sym, ◌∙◌, Some, None}
-use Rattle.std.specs.Prelude.{Option, is_some}
-use Rattle.std.specs.List.{list_all}
 use Rattle.std.proofs.lemmas.Bool.{eqb-true}
-use Rattle.dd_lattice.specs.Place.{Place}
-use Rattle.dd_lattice.specs.Cells.{cell, shifted}
-use Rattle.dd_lattice.specs.declared.position.Cell.{Cell}
-use Rattle.dd_lattice.specs.lemmas.InOrderLaws.{list_all-in_order}
+use Rattle.std.specs.{Prelude.Option, Prelude.is_some, List.list_all}
+use Rattle.dd_lattice.specs.{Place.Place, Cells.cell, Cells.shifted, declared.position.Cell.Cell, lemmas.InOrderLaws.list_all-in_order}
 use Rattle.dd_pattern.specs.Reading.{Look, HasSymbolsBelow}
-use Rattle.dd_expansion.specs.Truth.{are_equal}
-use Rattle.dd_expansion.specs.Terms.{origin_at}
-use Rattle.dd_expansion.specs.Leaves.{holds, leaves_pass}
-use Rattle.dd_expansion.specs.lemmas.Shifting.{truth_shifted}
-use Rattle.dd_expansion.specs.lemmas.LeavesAreReads.{leaves_are_reads}
-use Rattle.dd_expansion.specs.lemmas.TruthKeeps.{truth_depends}
+use Rattle.dd_expansion.specs.{Truth.are_equal, Terms.origin_at, Leaves.holds, Leaves.leaves_pass, lemmas.Shifting.truth_shifted}
+use Rattle.dd_expansion.specs.lemmas.{LeavesAreReads.leaves_are_reads, TruthKeeps.truth_depends}
 use Rattle.dd_expansion.specs.lemmas.TruthAt.{at_origin, says_at}
 use Rattle.dd_formula.specs.LocalRule.{LocalRule, expansion_at, reads_at, cells_at, is_true}
 

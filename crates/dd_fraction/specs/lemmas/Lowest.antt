@@ -1,26 +1,23 @@
 -- Lowest terms: two pairs of numbers with equal cross products have the same lowest terms, so equations of fractions are
 -- equations of whole numbers.
 use Rattle.std.proofs.Common.{◌≡◌, ℕ, zero, suc, ◌*◌, ◌/◌, ◌<◌, refl, sym, ap, subst, ◌∙◌, max, arith}
+use Rattle.std.proofs.lemmas.{Int.ints, Int.unsigned_abs-mul, Nat.Gcd.same_from_IsGcd}
+use Rattle.std.proofs.Math.Nat.{eq_of_mul-eq-mul_right, div-mul_cancel, mul_comm, div-one}
 use Prim.Native.Nat.{◌∣◌}
 use lib.IntN.{ℤ, pos, negsuc, neg_ℤ, ◌*ℤ◌}
-use Rattle.std.specs.Int.{IsGcd}
-use Rattle.std.specs.Int.RustNames.{unsigned_abs, int_div}
-use Rattle.std.proofs.lemmas.Int.{ints, unsigned_abs-mul}
+use Rattle.std.specs.Int.{IsGcd, RustNames.unsigned_abs, RustNames.int_div}
 use borrow.Author.Differences.{same_in}
-use Rattle.std.proofs.lemmas.Nat.Gcd.{same_from_IsGcd}
-use Rattle.std.proofs.Math.Nat.{eq_of_mul-eq-mul_right, div-mul_cancel, mul_comm, div-one}
-use Rattle.dd_fraction.specs.Divisor.{greatest_common}
-use Rattle.dd_fraction.specs.Exact.{Exact, den_of, lowest, low, IsLowest, whole_of}
+use Rattle.dd_fraction.specs.{Divisor.greatest_common, Exact.Exact, Exact.den_of, Exact.lowest, Exact.low, Exact.IsLowest, Exact.whole_of}
 use Rattle.dd_fraction.specs.Checked.{IsFraction}
 use Rattle.dd_fraction.specs.lemmas.Divisors.{greatest_common-scaled, greatest_common-is, greatest_common_alone, quotient_above}
 use Rattle.dd_fraction.specs.lemmas.Ring.{times_times, product_above, cancel}
 
-neg_times : (q g : ℕ) → neg_ℤ (pos q) *ℤ pos g ≡ neg_ℤ (pos (q * g))
+pub neg_times : (q g : ℕ) → neg_ℤ (pos q) *ℤ pos g ≡ neg_ℤ (pos (q * g))
 neg_times zero g = same_in _ _ (omega (arith, ints))
 neg_times (suc q) g = refl
 
 -- a whole number that a number divides, over that number
-whole_over : (n : ℤ) (g : ℕ) → g ∣ unsigned_abs n → int_div n (pos g) *ℤ pos g ≡ n
+pub whole_over : (n : ℤ) (g : ℕ) → g ∣ unsigned_abs n → int_div n (pos g) *ℤ pos g ≡ n
 whole_over (pos n) g h = ap pos (div-mul_cancel g h)
 whole_over (negsuc n) g h =
     neg_times (suc n / g) g ∙ ap (λ (x : ℕ). neg_ℤ (pos x)) (div-mul_cancel g h)

@@ -1,21 +1,21 @@
 -- The laws of the order of exact fractions. a is at most b exactly if b - a is at least 0. So the order's laws follow
 -- from those of sums and products, and from the signs of both.
 use Rattle.std.proofs.Common.{◌≡◌, ℕ, ◌<◌, ◌⊎◌, inl, inr, sym, ap, subst, ◌∙◌, max, arith}
+use Rattle.std.proofs.lemmas.{Int.ints, Int.by_lt_z, Cmp.int_ranked}
 use lib.IntN.{ℤ, pos, negsuc, ◌*ℤ◌}
 use lib.Signed.{◌≤ℤ◌, ◌<ℤ◌}
 use Rattle.std.specs.declared.cmp.Ordering.{Ordering}
 use Rattle.std.specs.declared.cmp.Ordering.TheVariants.{Less, Equal, Greater}
 use Rattle.std.specs.Ordering.{MatchOrdering, int_cmp}
-use Rattle.std.proofs.lemmas.Int.{ints, by_lt_z}
-use Rattle.std.proofs.lemmas.Cmp.{int_ranked}
 use Rattle.dd_fraction.specs.Exact.{Exact, den_of, lowest, low, plus, times, minus, whole_of, inverse, one_over}
 use Rattle.dd_fraction.specs.Order.{exact_cmp, IsAtMost, IsBelow, IsNonneg, IsPositive}
 use Rattle.dd_fraction.specs.lemmas.Lowest.{lowest_same, lowest_is}
 use Rattle.dd_fraction.specs.lemmas.Laws.{plus_is, times_is, plus_comm, plus_assoc, plus_four, plus_undo, plus_zero, plus_low_left, plus_low_right, plus_times, minus_lowest, minus_minus, minus_plus, minus_times, neg_product, times_inverse}
 use Rattle.dd_fraction.specs.lemmas.Ring.{product_nonneg, product_positive, same_nonneg, same_positive}
+use Rattle.dd_values.specs.lemmas.Numbers.{cmp_less, cmp_equal}
 
 -- ---- signs
-den_above : (a : Exact) → 0 < den_of a
+pub den_above : (a : Exact) → 0 < den_of a
 den_above a = omega arith
 
 pub nonneg_lowest : (n : ℤ) (d : ℕ) → pos 0 ≤ℤ n → IsNonneg (lowest n d)
@@ -209,12 +209,6 @@ exact_cmp_ranked a b r e =
     ranked Less h = record { cross = h }
     ranked Equal h = lowest_same a.num b.num a.den b.den h
     ranked Greater h = record { cross = h }
-
-cmp_less : (u v : ℤ) → u <ℤ v → int_cmp u v ≡ Less
-cmp_less u v h = grind (arith, ints)
-
-cmp_equal : (u v : ℤ) → u ≡ v → int_cmp u v ≡ Equal
-cmp_equal u v h = grind (arith, ints)
 
 cmp_greater : (u v : ℤ) → v <ℤ u → int_cmp u v ≡ Greater
 cmp_greater u v h = grind (arith, ints)

@@ -1,16 +1,11 @@
 -- What the calls give: results are in lowest terms and within the bounds, and a refusal comes where a number doesn't fit.
 use Rattle.std.proofs.Common.{◌≡◌, ℕ, zero, suc, ◌*◌, ◌/◌, ◌%◌, ◌^◌, ◌<◌, ◌≤◌, refl, sym, ap, subst, ◌∙◌, arith, max, Some, None, Bool, true, false, cond}
+use Rattle.std.proofs.lemmas.{Bool.ltb-true, Int.ints, Nat.mod_below}
+use Rattle.std.proofs.{lemmas.Nat.Gcd.same_from_IsGcd, lemmas.Nat.Gcd.IsGcd-swap, Math.Nat.div-le_self}
 use lib.IntN.{ℤ, pos, negsuc, ◌+ℤ◌, ◌*ℤ◌}
-use Rattle.std.specs.Int.{IsGcd, w64}
-use Rattle.std.specs.Int.RustNames.{unsigned_abs, int_div}
-use Rattle.std.proofs.lemmas.Bool.{ltb-true}
-use Rattle.std.proofs.lemmas.Int.{ints}
-use Rattle.std.proofs.lemmas.Nat.{mod_below}
-use Rattle.std.proofs.lemmas.Nat.Gcd.{same_from_IsGcd, IsGcd-swap}
-use Rattle.std.proofs.Math.Nat.{div-le_self}
+use Rattle.std.specs.Int.{IsGcd, w64, RustNames.unsigned_abs, RustNames.int_div}
 use mir.Val.{SFits}
-use Rattle.dd_fraction.specs.Divisor.{greatest_common}
-use Rattle.dd_fraction.specs.Exact.{Exact, lowest, times, plus}
+use Rattle.dd_fraction.specs.{Divisor.greatest_common, Exact.Exact, Exact.lowest, Exact.times, Exact.plus}
 use Rattle.dd_fraction.specs.Checked.{IsFraction, is_bounded, bounded, bounded_size, checked_product, checked_sum}
 use Rattle.dd_fraction.specs.lemmas.Divisors.{greatest_common-is, greatest_common-step, greatest_common-zero, greatest_common_alone, quotient_above}
 use Rattle.dd_fraction.specs.lemmas.Lowest.{size_over, lowest_at, low_lowest}

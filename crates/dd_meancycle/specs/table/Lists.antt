@@ -1,14 +1,10 @@
 -- The edges of a transfer graph as a list.
 use Rattle.std.specs.Prelude.{◌≡◌, ℕ, ◌*◌, ◌/◌, ◌%◌, ◌<◌, List, map, slice_index, ℤ, pos, ◌-ℤ◌, ◌≤ℤ◌, Option, Some}
-use Rattle.std.specs.Option.{option_map}
-use Rattle.std.specs.List.{Contains, All}
-use Rattle.dd_transfer.specs.Graphs.{Transfer, next_of, weight_at}
-use Rattle.dd_transfer.specs.Certificates.{potential_of}
-use Rattle.dd_meancycle.specs.declared.edges.Edge.{Edge}
-use Rattle.dd_meancycle.specs.declared.table.EdgeMean.{EdgeMean}
-use Rattle.dd_meancycle.specs.declared.table.EdgeMean.TheVariants as edge_mean
-use Rattle.dd_meancycle.specs.declared.least.Mean.{Mean}
+use Rattle.std.specs.{Option.option_map, List.Contains, List.All}
+use Rattle.dd_transfer.specs.{Graphs.Transfer, Graphs.next_of, Graphs.weight_at, Certificates.potential_of}
+use Rattle.dd_meancycle.specs.declared.{edges.Edge.Edge, table.EdgeMean.EdgeMean, least.Mean.Mean}
 use Rattle.dd_meancycle.specs.declared.least.Mean.TheVariants.{Least, NoCycle}
+use Rattle.dd_meancycle.specs.declared.table.EdgeMean.TheVariants as edge_mean
 
 -- the edge of the window of a number, where it is one
 abbrev pub edge_at : Transfer → ℕ → Option Edge

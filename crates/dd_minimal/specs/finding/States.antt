@@ -2,12 +2,10 @@
 use Rattle.std.specs.Prelude.{ℕ, ◌≡◌, ◌++◌, ◌^◌, Bool, true, false, Option, List, [], length, drop, slice_index_or}
 use Rattle.std.specs.List.{All, filter}
 use Rattle.dd_formula.specs.LocalRule.{LocalRule, cells_at}
-use Rattle.dd_minimal.specs.declared.outcome.Outcome.{Outcome}
-use Rattle.dd_minimal.specs.Patterns.{is_covered, whole}
+use Rattle.dd_minimal.specs.{declared.outcome.Outcome.Outcome, Patterns.is_covered, Patterns.whole}
 use Rattle.dd_minimal.specs.Minimal.{words, thinned, listed}
 use Rattle.dd_minimal.specs.finding.Numbers.{IsWord, number, open_strides, least_number, KeepsBelow}
-use Rattle.dd_minimal.specs.finding.Outcomes.{outcome, outcomes, does_break}
-use Rattle.dd_minimal.specs.finding.Walks.{is_enough}
+use Rattle.dd_minimal.specs.finding.{Outcomes.outcome, Outcomes.outcomes, Outcomes.does_break, Walks.is_enough}
 
 -- the first cells are done and the rest is whole: the strides and the number of the pattern so far
 pub record IsThinnedTo (m : ℕ) (table : List Outcome) (ss : List ℕ) (k : ℕ) (p : List (Option ℕ)) (ds : List ℕ) (from : ℕ) : Type 0 where

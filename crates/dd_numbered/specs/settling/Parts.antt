@@ -1,9 +1,7 @@
 -- What the first symbols of a list settle of several formulas.
-use Rattle.std.specs.Prelude.{ℕ, ◌≡◌, ◌++◌, Bool, List, slice_get}
-use Rattle.std.specs.List.{list_all, list_any}
+use Rattle.std.specs.{Prelude.ℕ, Prelude.◌≡◌, Prelude.◌++◌, Prelude.Bool, Prelude.List, Prelude.slice_get, List.list_all, List.list_any}
 use Rattle.dd_expansion.specs.Truth.{is_symbol}
-use Rattle.dd_numbered.specs.declared.numbered.Numbered.{Numbered}
-use Rattle.dd_numbered.specs.Numbered.{holds_in}
+use Rattle.dd_numbered.specs.{declared.numbered.Numbered.Numbered, Numbered.holds_in}
 
 -- whatever symbols follow, the answer for the symbol at the number is the same
 abbrev pub IsTold : ℕ → ℕ → List ℕ → Bool → Type 0

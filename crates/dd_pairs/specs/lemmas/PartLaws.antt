@@ -2,12 +2,8 @@
 use Rattle.std.proofs.Common.{◌≡◌, ℕ, List, Bool, refl, sym, subst, ◌∙◌}
 use Rattle.dd_topology.specs.declared.edge.Edge.{Edge}
 use Rattle.dd_boxes.specs.{Goals.IsGoalFor, Views.numbers_of}
-use Rattle.dd_known.specs.Sound.{IsSetting}
-use Rattle.dd_known.specs.declared.known.Setting.{Setting}
-use Rattle.dd_formula.specs.LocalRule.{LocalRule}
-use Rattle.dd_formula.specs.Automata.{IsAutomaton}
-use Rattle.dd_formula.specs.ByCases.{numbers_over}
-use Rattle.dd_formula.specs.declared.automaton.Automaton.{Automaton}
+use Rattle.dd_known.specs.{Sound.IsSetting, declared.known.Setting.Setting}
+use Rattle.dd_formula.specs.{LocalRule.LocalRule, Automata.IsAutomaton, ByCases.numbers_over, declared.automaton.Automaton.Automaton}
 use Rattle.dd_maps.specs.Pairs.{IsRuleOver}
 use Rattle.dd_meanings.specs.Made.{IsRuleOf, IsAutomatonOf}
 use Rattle.dd_question.specs.Questions.{box, IsFormed}

@@ -1,19 +1,13 @@
 -- A periodic configuration is read modulo its periods.
 use Rattle.std.proofs.Common.{◌≡◌, ℕ, ◌+◌, ◌*◌, ◌-◌, ◌<◌, ℤ, pos, negsuc, ◌+ℤ◌, ◌≤ℤ◌, unsigned_abs, slice_get, None, ap, sym, ◌∙◌, arith}
+use Rattle.std.proofs.lemmas.{Int.ints, Bool.lt-ltb}
 use Rattle.std.specs.Prelude.{◌*ℤ◌, cond, nat_lt}
-use Rattle.std.proofs.lemmas.Int.{ints}
-use Rattle.std.proofs.lemmas.Bool.{lt-ltb}
-use Rattle.dd_lattice.specs.Place.{Place, place, moved}
-use Rattle.dd_lattice.specs.Cells.{cell}
-use Rattle.dd_lattice.specs.Boxes.{IsWithin, gap, span, index_in}
-use Rattle.dd_lattice.specs.declared.position.Cell.{Cell}
+use Rattle.dd_lattice.specs.{Place.Place, Place.moved, Cells.cell, Boxes.IsWithin, Boxes.gap, Boxes.span, Boxes.index_in}
+use Rattle.dd_lattice.specs.{declared.position.Cell.Cell, lemmas.MoveLaws.place_same}
 use Rattle.dd_pattern.specs.declared.periods.Periods.{Periods}
 use Rattle.dd_pattern.specs.Periods.{ArePeriodsIn, residue, quotient, unsheared, base_of}
 use Rattle.dd_pattern.specs.Tile.{Tile, IsTile, IsPeriodic, Times, with_vectors, IsCongruent, IsReadModulo, tile_index, tile_look, fundamental}
 use Rattle.dd_pattern.specs.lemmas.Residues.{residue_below, residue_small, residue_added, quotient_added, quotient_small, scaled, scaled_added, meets}
-
-pub place_same : (a b c x y z : ℤ) → a ≡ x → b ≡ y → c ≡ z → place a b c ≡ place x y z
-place_same a b c x y z p q r = cc
 
 -- v goes to its base by subtracting the second vector until y lies in the box, and then the others
 congruent_base : (d : ℕ) (p : Periods) → ArePeriodsIn d p → (v : Place) → IsCongruent p v (base_of p v)
@@ -89,7 +83,7 @@ no_turns : (c : ℤ) (n : ℕ) → pos 0 ≤ℤ c → c ≤ℤ pos (n - 1) → 0
 no_turns (pos k) n low high some = quotient_small k n (omega (arith, ints))
 no_turns (negsuc k) n low high some = absurd (omega (arith, ints))
 
-span_is : (n : ℕ) → 0 < n → span (pos 0) (pos (n - 1)) ≡ n
+pub span_is : (n : ℕ) → 0 < n → span (pos 0) (pos (n - 1)) ≡ n
 span_is n h = omega (arith, ints)
 
 -- in the fundamental box nothing is subtracted

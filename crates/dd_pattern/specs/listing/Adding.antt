@@ -1,6 +1,5 @@
 -- Lists of periods as loops add to them.
-use Rattle.std.specs.Prelude.{ℕ, ◌<◌, ◌≤◌, ◌≡◌, ◌↔◌, ◌⊎◌, List, cond}
-use Rattle.std.specs.List.{Contains}
+use Rattle.std.specs.{Prelude.ℕ, Prelude.◌<◌, Prelude.◌≤◌, Prelude.◌≡◌, Prelude.◌↔◌, Prelude.◌⊎◌, Prelude.List, Prelude.cond, List.Contains}
 use Rattle.dd_lattice.specs.Boxes.{is_active}
 use Rattle.dd_pattern.specs.declared.periods.Periods.{Periods}
 

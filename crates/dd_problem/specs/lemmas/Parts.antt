@@ -1,16 +1,10 @@
 -- The clauses of parts, one after the other.
 use Rattle.std.proofs.Common.{◌≡◌, ℕ, ◌+◌, ◌≤◌, Bool, true, false, List, [], ◌∷◌, ◌++◌, map, length, refl, sym, ◌∙◌, arith}
-use Rattle.std.specs.Prelude.{◌&&◌}
-use Rattle.std.specs.List.{list_all}
-use Rattle.std.proofs.lemmas.Bool.{and_parts}
-use Rattle.std.proofs.lemmas.List.Folds.{list_all-append}
+use Rattle.std.proofs.lemmas.{Bool.and_parts, List.Folds.list_all-append}
+use Rattle.std.specs.{Prelude.◌&&◌, List.list_all}
 use Rattle.dd_clause.specs.Clauses.{is_clause_true}
-use Rattle.dd_circuit.specs.Circuits.{agrees, AreGates}
-use Rattle.dd_cnf.specs.Encoding.{gates_clauses}
-use Rattle.dd_cnf.specs.Models.{is_satisfied}
-use Rattle.dd_cnf.specs.lemmas.GateLaws.{gates_law}
-use Rattle.dd_circuit.specs.lemmas.ValueLaws.{agrees-append}
-use Rattle.dd_circuit.specs.lemmas.GateLists.{AreGates-append}
+use Rattle.dd_circuit.specs.{Circuits.agrees, Circuits.AreGates, lemmas.ValueLaws.agrees-append, lemmas.GateLists.AreGates-append}
+use Rattle.dd_cnf.specs.{Encoding.gates_clauses, Models.is_satisfied, lemmas.GateLaws.gates_law}
 use Rattle.dd_problem.specs.Clauses.{Part, made_by, part_gates, part_clauses}
 
 -- the clauses over the signals of each part are satisfied

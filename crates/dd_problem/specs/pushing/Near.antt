@@ -1,19 +1,12 @@
 -- The cells that are read from a fundamental box, and its layout.
 use Rattle.std.specs.Prelude.{ℕ, nat_lt, ◌*◌, List, map, ◌++◌, slice_index}
 use Rattle.std.specs.List.{flat_map, range_with_len}
-use Rattle.dd_lattice.specs.Cells.{shifted}
-use Rattle.dd_lattice.specs.InOrder.{in_order}
-use Rattle.dd_lattice.specs.declared.position.Cell.{Cell}
-use Rattle.dd_pattern.specs.declared.periods.Periods.{Periods}
-use Rattle.dd_pattern.specs.Periods.{periods_volume}
-use Rattle.dd_pattern.specs.Tile.{Tile, tile, tile_index}
+use Rattle.dd_lattice.specs.{Cells.shifted, InOrder.in_order, declared.position.Cell.Cell}
+use Rattle.dd_pattern.specs.{declared.periods.Periods.Periods, Periods.periods_volume, Tile.Tile, Tile.tile, Tile.tile_index}
 use Rattle.dd_compile.specs.Wiring.{Wiring}
 use Rattle.dd_formula.specs.LocalRule.{LocalRule, cells_at}
-use Rattle.dd_boxes.specs.Cells.{box_cells}
-use Rattle.dd_boxes.specs.Goals.{GoalOf}
-use Rattle.dd_boxes.specs.Boxes.{goal_reach}
-use Rattle.dd_problem.specs.Layouts.{Layout, torus, torus_cells}
-use Rattle.dd_problem.specs.pushing.Numbered.{numbered_wiring}
+use Rattle.dd_boxes.specs.{Cells.box_cells, Goals.GoalOf, Boxes.goal_reach}
+use Rattle.dd_problem.specs.{Layouts.Layout, Layouts.torus, Layouts.torus_cells, pushing.Numbered.numbered_wiring}
 
 -- what a rule reads at a cell
 abbrev pub read_cells : LocalRule → Cell → List Cell

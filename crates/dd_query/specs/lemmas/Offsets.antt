@@ -1,14 +1,13 @@
 -- Offsets of at most 4 along each axis.
 use Rattle.std.proofs.Common.{◌≡◌, ◌≤◌, ℕ, true, false, List, Option, Some, None, length, refl, subst, arith}
-use Rattle.std.specs.Prelude.{nat_lt, nat_le, pos, unsigned_abs, slice_get}
-use Rattle.std.specs.{List.list_any, Option.option_map_or}
 use Rattle.std.proofs.lemmas.Bool.{eqb-true, ltb-false, lt-ltb, le-leb, and_from}
 use Rattle.std.proofs.lemmas.{Int.ints, Option.slice_get_within, Map.Keys.any_passes_from_place}
+use Rattle.std.specs.{Prelude.nat_lt, Prelude.nat_le, Prelude.pos, Prelude.unsigned_abs, Prelude.slice_get, List.list_any}
+use Rattle.std.specs.Option.{option_map_or}
 use Rattle.dd_topology.specs.Grid.{edge_reach, is_offset}
 use Rattle.dd_written.specs.Values.{written_value}
-use Rattle.dd_query.specs.Tree.{Entry, Vector}
+use Rattle.dd_query.specs.{Tree.Entry, Tree.Vector, Vectors.coordinate, Vectors.place_of}
 use Rattle.dd_faults.specs.Commands.{entry_value, signed_value, has_entries, is_far}
-use Rattle.dd_query.specs.Vectors.{coordinate, place_of}
 
 close_entry : (bytes : List ℕ) (e : Entry) → nat_lt 4 (entry_value bytes e) ≡ false → unsigned_abs (signed_value bytes e) ≤ 4
 close_entry bytes (Entry.Number n) h = ltb-false 4 (written_value bytes n) h

@@ -1,9 +1,7 @@
 -- The tests of vectors.
 use Rattle.std.specs.Prelude.{◌≤◌, ◌&&◌, Bool, true, not, List, [], ◌∷◌, unsigned_abs}
-use Rattle.std.specs.List.{list_any}
-use Rattle.std.specs.Ordering.{is_eq}
-use Rattle.dd_lattice.specs.Place.{Place}
-use Rattle.dd_lattice.specs.Order.{place_cmp}
+use Rattle.std.specs.{List.list_any, Ordering.is_eq}
+use Rattle.dd_lattice.specs.{Place.Place, Order.place_cmp}
 
 -- along each axis at most 4
 pub record IsNear (v : Place) : Type 0 where

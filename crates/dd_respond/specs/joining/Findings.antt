@@ -2,16 +2,14 @@
 use Rattle.std.specs.Prelude.{ℕ, suc, if◌then◌else◌, ◌≡◌, ◌≤◌, ◌<◌, true, false, All, List, [], ◌∷◌, ◌++◌}
 use Rattle.dd_derivation.specs.declared.step.Step.{Step}
 use Rattle.dd_values.specs.declared.limits.Limits.{Limits}
-use Rattle.dd_certificate.specs.Bounds.{IsWritableNumber, IsWritableRefutation}
-use Rattle.dd_certificate.specs.declared.answer.Answer.{Answer}
+use Rattle.dd_certificate.specs.{Bounds.IsWritableNumber, Bounds.IsWritableRefutation, declared.answer.Answer.Answer}
+use Rattle.dd_contain.specs.Decided.{IsLeast}
+use Rattle.dd_question.specs.Conjugacies.{ConjugacyOf}
+use Rattle.dd_respond.specs.{Conjugacies.ComesTo, Conjugacies.IsNoAt, declared.conjugacies.Findings.Findings}
+use Rattle.dd_respond.specs.declared.conjugacies.Failed.{Failed}
 use Rattle.dd_certificate.specs.declared.answer.Answer.TheVariants as answer
 use Rattle.dd_certificate.specs.declared.answer.Reason.TheVariants as reason
 use Rattle.dd_contain.specs.declared.decision.Decision.TheVariants as decision
-use Rattle.dd_contain.specs.Decided.{IsLeast}
-use Rattle.dd_question.specs.Conjugacies.{ConjugacyOf}
-use Rattle.dd_respond.specs.Conjugacies.{ComesTo, IsNoAt}
-use Rattle.dd_respond.specs.declared.conjugacies.Findings.{Findings}
-use Rattle.dd_respond.specs.declared.conjugacies.Failed.{Failed}
 
 -- the questions below this number are answered YES, with these radii and steps
 pub data AreYes (l : Limits) (c : ConjugacyOf) : ℕ → List ℕ → List (List Step) → Type 0 where

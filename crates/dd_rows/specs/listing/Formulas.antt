@@ -1,12 +1,8 @@
 -- The rule at places of a list of cells, as formulas over the cells' symbols.
-use Rattle.std.specs.Prelude.{ℕ, ◌<◌, ◌≡◌, Bool, List, length, All}
-use Rattle.std.specs.List.{list_all}
-use Rattle.dd_lattice.specs.Place.{Place}
-use Rattle.dd_lattice.specs.declared.position.Cell.{Cell}
+use Rattle.std.specs.{Prelude.ℕ, Prelude.◌<◌, Prelude.◌≡◌, Prelude.Bool, Prelude.List, Prelude.length, Prelude.All, List.list_all}
+use Rattle.dd_lattice.specs.{Place.Place, declared.position.Cell.Cell}
 use Rattle.dd_expansion.specs.Leaves.{seen}
-use Rattle.dd_numbered.specs.declared.numbered.Numbered.{Numbered}
-use Rattle.dd_numbered.specs.Numbered.{holds_in}
-use Rattle.dd_numbered.specs.Numbering.{Numbering, by_rank}
+use Rattle.dd_numbered.specs.{declared.numbered.Numbered.Numbered, Numbered.holds_in, Numbering.Numbering, Numbering.by_rank}
 use Rattle.dd_formula.specs.LocalRule.{LocalRule, is_true}
 use Rattle.dd_rows.specs.Fillings.{look_of}
 

@@ -1,10 +1,7 @@
 -- The fillings of the first cells, one cell after another.
 use Rattle.std.specs.Prelude.{ℕ, ◌<◌, ◌≡◌, Bool, not, cond, ◌||◌, List, [], ◌∷◌, ◌++◌, map, filter, length, All}
-use Rattle.std.specs.Bool.{nat_eq}
-use Rattle.std.specs.List.{range_with_len, list_all}
-use Rattle.dd_lattice.specs.Cells.{shifted}
-use Rattle.dd_lattice.specs.Place.{IsInRange}
-use Rattle.dd_lattice.specs.declared.position.Cell.{Cell}
+use Rattle.std.specs.{Bool.nat_eq, List.range_with_len, List.list_all}
+use Rattle.dd_lattice.specs.{Cells.shifted, Place.IsInRange, declared.position.Cell.Cell}
 use Rattle.dd_expansion.specs.Limits.{greatest}
 use Rattle.dd_pattern.specs.Reading.{Look}
 use Rattle.dd_formula.specs.LocalRule.{LocalRule, is_true, is_given, cells_at, rule_allows}

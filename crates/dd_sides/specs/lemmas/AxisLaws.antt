@@ -1,8 +1,7 @@
 -- Laws of sums along an axis.
 use Rattle.std.proofs.Common.{◌≡◌, ℕ, zero, suc, ◌+◌, ◌-◌, ◌*◌, ◌<◌, ◌≤◌, refl, ap, subst, inl, inr, arith}
+use Rattle.std.proofs.lemmas.{Int.ints, Bool.cases_lt}
 use Rattle.std.specs.Prelude.{ℤ, pos, negsuc, ◌+ℤ◌, ◌-ℤ◌, unsigned_abs}
-use Rattle.std.proofs.lemmas.Int.{ints}
-use Rattle.std.proofs.lemmas.Bool.{cases_lt}
 use Rattle.dd_sides.specs.Sums.{axis_sum}
 
 pub axis_split : (m k : ℕ) (a : ℤ) (f : ℤ → ℕ) → axis_sum (m + k) a f ≡ axis_sum m a f + axis_sum k (a +ℤ pos m) f

@@ -1,9 +1,8 @@
 -- Laws of sums over boxes.
 use Rattle.std.proofs.Common.{◌≡◌, ℕ, ◌+◌, ◌-◌, ◌*◌, ◌<◌, ◌≤◌, refl, ◌∙◌, arith}
-use Rattle.std.specs.Prelude.{ℤ, pos, ◌+ℤ◌, ◌-ℤ◌, unsigned_abs}
 use Rattle.std.proofs.Math.Nat.{mul-le-mul}
-use Rattle.dd_lattice.specs.Place.{Place, place}
-use Rattle.dd_lattice.specs.Regions.{seen_from}
+use Rattle.std.specs.Prelude.{ℤ, pos, ◌+ℤ◌, ◌-ℤ◌, unsigned_abs}
+use Rattle.dd_lattice.specs.{Place.Place, Place.place, Regions.seen_from}
 use Rattle.dd_sides.specs.Sums.{Size, axis_sum, box_sum, size_volume}
 use Rattle.dd_sides.specs.lemmas.AxisLaws.{axis_moved, axis_same, axis_at_most, axis_add, axis_const, axis_times, axis_most, axis_shifted}
 

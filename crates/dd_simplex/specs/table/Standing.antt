@@ -1,9 +1,7 @@
 -- A table stands for a dictionary.
 use Rattle.std.specs.Prelude.{◌≡◌, ℕ, ◌<◌, length, true, false}
 use Rattle.dd_fraction.specs.Checked.{IsFraction}
-use Rattle.dd_simplex.specs.Programs.{fraction_at}
-use Rattle.dd_simplex.specs.Dictionaries.{Dictionary}
-use Rattle.dd_simplex.specs.table.Lines.{Table, line_at, other_at}
+use Rattle.dd_simplex.specs.{Programs.fraction_at, Dictionaries.Dictionary, table.Lines.Table, table.Lines.line_at, table.Lines.other_at}
 
 -- each line, and the list of costs, has one fraction for each other variable
 pub record IsTable (t : Table) : Type 0 where

@@ -1,14 +1,11 @@
 -- The clause learned from a conflict, and where the search goes on.
 use Rattle.std.specs.Prelude.{◌≡◌, ℕ, ◌<◌, ◌≤◌, ◌-◌, ◌&&◌, Bool, true, false, List, Option, Some, None, length, take, slice_index_or, MatchOption, ⊤}
-use Rattle.dd_clause.specs.declared.clause.Literal.{Literal}
-use Rattle.dd_clause.specs.Clauses.{negation}
+use Rattle.dd_clause.specs.{declared.clause.Literal.Literal, Clauses.negation}
 use Rattle.dd_derivation.specs.declared.propagation.Finding.TheVariants.{Forced}
 use Rattle.dd_derivation.specs.Derivations.{is_among, finding, clause_of, is_proper, is_conflict}
-use Rattle.dd_trail.specs.declared.trail.Entry.{Entry}
-use Rattle.dd_solver.specs.declared.analysis.Turn.{Turn}
-use Rattle.dd_solver.specs.declared.analysis.Choice.{Choice}
+use Rattle.dd_trail.specs.{declared.trail.Entry.Entry, Trails.falses}
+use Rattle.dd_solver.specs.declared.analysis.{Turn.Turn, Choice.Choice}
 use Rattle.dd_solver.specs.declared.analysis.Choice.TheVariants.{Resolve, Keep}
-use Rattle.dd_trail.specs.Trails.{falses}
 
 -- the literal's variable is marked
 abbrev pub marks : List Bool → Literal → Bool

@@ -1,11 +1,9 @@
 -- Why each literal of a trail is true: it was decided, or a clause that is known forces it.
 use Rattle.std.specs.Prelude.{◌≡◌, ℕ, ◌<◌, false, List, map, Option, Some, None, length, take, slice_index_or, ⊤}
-use Rattle.dd_clause.specs.declared.clause.Literal.{Literal}
-use Rattle.dd_clause.specs.Clauses.{IsLiteralInRange, IsClauseInRange}
+use Rattle.dd_clause.specs.{declared.clause.Literal.Literal, Clauses.IsLiteralInRange, Clauses.IsClauseInRange}
 use Rattle.dd_derivation.specs.declared.propagation.Finding.TheVariants.{Forced}
 use Rattle.dd_derivation.specs.Derivations.{is_among, has_variable, clause_of, hint_finding}
-use Rattle.dd_trail.specs.declared.trail.Entry.{Entry}
-use Rattle.dd_trail.specs.Trails.{falses}
+use Rattle.dd_trail.specs.{declared.trail.Entry.Entry, Trails.falses}
 
 -- the clauses by number, none of them deleted
 abbrev pub all_known : List (List Literal) → List (Option (List Literal))

@@ -5,9 +5,8 @@ use Rattle.dd_derivation.specs.declared.propagation.Finding.TheVariants.{Falsifi
 use Rattle.dd_derivation.specs.declared.step.Step.{Step}
 use Rattle.dd_derivation.specs.Derivations.{clause_of, hint_finding, is_among, known_after, is_right, refutes}
 use Rattle.dd_derivation.specs.checking.MarksOf.{known_to}
-use Rattle.dd_trail.specs.declared.trail.Entry.{Entry}
+use Rattle.dd_trail.specs.{declared.trail.Entry.Entry, Trails.falses}
 use Rattle.dd_solver.specs.declared.analysis.Turn.{Turn}
-use Rattle.dd_trail.specs.Trails.{falses}
 use Rattle.dd_solver.specs.searching.Reasons.{all_known, AreInRange, IsTrail}
 
 -- the number of variables, the clauses, the steps learned so far, and the trail

@@ -1,14 +1,11 @@
 -- Searches in lists whose elements are seen through a function.
 use Rattle.std.proofs.Common.{◌≡◌, ◌+◌, List, [], ◌∷◌, ◌++◌, Bool, true, false, cond, not, ◌||◌, if◌then◌else◌, map, length, nat_lt, Some, None, Contains, refl, ap, sym, ◌∙◌, subst, inl, inr, arith}
-use Rattle.std.specs.Prelude.{position, slice_get, find}
-use Rattle.std.specs.List.{list_any, position_or_len, flat_map}
-use Rattle.std.specs.Option.{option_and_then}
-use Rattle.std.proofs.lemmas.Bool.Decides.{nat_tests}
-use Rattle.std.proofs.lemmas.List.{length-map}
-use Rattle.std.proofs.lemmas.List.Folds.{find_at, list_any_at}
+use Rattle.std.proofs.lemmas.{Bool.Decides.nat_tests, List.length-map, List.Folds.find_at, List.Folds.list_any_at}
 use Rattle.std.proofs.lemmas.List.Elements.{Contains-append_left, Contains-append_right, Contains-append_cases}
 use Rattle.std.proofs.lemmas.Option.{slice_get_past}
-use Rattle.dd_lattice.specs.lemmas.ListLaws.{Contains-first, Contains-later, Contains-nil, Contains-cons_cases}
+use Rattle.std.specs.{Prelude.position, Prelude.slice_get, Prelude.find, List.list_any, List.position_or_len, List.flat_map}
+use Rattle.std.specs.Option.{option_and_then}
+use Rattle.dd_values.specs.lemmas.Members.{Contains-first, Contains-later, Contains-nil, Contains-cons_cases}
 use Rattle.indexmap.specs.IndexSet.{insert_key}
 
 -- a new key goes last

@@ -1,20 +1,12 @@
 -- Lists in a strict order: the members of a list in order, which determine the list.
 use Rattle.std.proofs.Common.{◌≡◌, List, [], ◌∷◌, refl, ap, sym, ◌∙◌, subst, inl, inr, ◌⊎◌, rules, arith, Contains}
-use Rattle.std.specs.List.{fold, All}
-use Rattle.std.specs.List.Sorted.{IsStrictlySortedBy}
-use Rattle.std.specs.BTreeSet.{insert_key}
-use Rattle.std.specs.Cmp.{IsTotalOrder}
-use Rattle.std.specs.Cmp.Rules.{comparing}
-use Rattle.std.specs.Ordering.{match_ordering, ordering_reverse}
-use Rattle.std.specs.declared.cmp.Ordering.{Ordering}
-use Rattle.std.specs.declared.cmp.Ordering.TheVariants.{Less, Equal, Greater}
 use Rattle.std.proofs.lemmas.List.Elements.{All-from_recursion, recursion_from_All, All-cons, All-weaker}
 use Rattle.std.proofs.lemmas.Map.Views.{All-insert_key}
-use Rattle.dd_lattice.specs.declared.position.Cell.{Cell}
-use Rattle.dd_lattice.specs.Order.{cell_cmp}
-use Rattle.dd_lattice.specs.InOrder.{in_order}
-use Rattle.dd_lattice.specs.lemmas.InOrderLaws.{in_order_members}
-use Rattle.dd_lattice.specs.lemmas.ListLaws.{Contains-first, Contains-later, Contains-nil, Contains-cons_cases, sorted_first, sorted_rest}
+use Rattle.std.specs.{List.fold, List.All, List.Sorted.IsStrictlySortedBy, BTreeSet.insert_key, Cmp.IsTotalOrder, Cmp.Rules.comparing}
+use Rattle.std.specs.{Ordering.match_ordering, Ordering.ordering_reverse, declared.cmp.Ordering.Ordering}
+use Rattle.std.specs.declared.cmp.Ordering.TheVariants.{Less, Equal, Greater}
+use Rattle.dd_lattice.specs.{declared.position.Cell.Cell, Order.cell_cmp, InOrder.in_order, lemmas.InOrderLaws.in_order_members}
+use Rattle.dd_values.specs.lemmas.Members.{Contains-first, Contains-later, Contains-nil, Contains-cons_cases, sorted_first, sorted_rest}
 
 module _ {K : Type 0} (R : K → K → Ordering) where
   sorted_cons : (x : K) (xs : List K) → All (λ y. R x y ≡ Less) xs → IsStrictlySortedBy R xs → IsStrictlySortedBy R (x ∷ xs)

@@ -1,8 +1,7 @@
 -- Items one after the other: they are read from their text, and only from it.
 use Rattle.std.proofs.Common.{◌≡◌, ℕ, zero, suc, ◌≤◌, ◌<◌, Bool, true, false, List, [], ◌∷◌, ◌++◌, length, Some, refl, sym, ap, subst, ◌∙◌, append_assoc, arith, inl, inr}
 use Rattle.std.specs.List.{flat_map}
-use Rattle.dd_written.specs.Tree.{Lexeme}
-use Rattle.dd_written.specs.reading.Readers.{◌>>=◌, Reader, many, ReadsAll}
+use Rattle.dd_written.specs.{Tree.Lexeme, reading.Readers.◌>>=◌, reading.Readers.Reader, reading.Readers.many, reading.Readers.ReadsAll}
 use Rattle.dd_written.specs.lemmas.Options.{bind_some, some_is, chosen}
 
 pub many_sound : {X : Type 0} (reads : X → List Lexeme → List Lexeme → Type 0) (begins : List Lexeme → Bool) (item : Reader X)

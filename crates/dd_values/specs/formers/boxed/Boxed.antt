@@ -12,13 +12,11 @@ use denote.HolePlaces.{Recodes, struct_places, laid, one_value}
 use denote.Hole.Fix.{over}
 use denote.Param.Weighed.{Weighed}
 use denote.Model.Placed.{view_places}
-use Rattle.std.specs.declared.boxed.Box.{Box}
-use Rattle.std.specs.contracts.boxed.Box as box
-use Rattle.std.specs.declared.alloc.Global.{Global}
-use Rattle.std.specs.contracts.alloc.Global as heap
-use Rattle.std.specs.contracts.impls.GlobalAllocator.TheImpl.{ghosts}
+use Rattle.std.specs.{declared.boxed.Box.Box, declared.alloc.Global.Global, contracts.impls.GlobalAllocator.TheImpl.ghosts}
 use Rattle.dd_values.specs.declared.boxed.Boxed.TheInside.{Inside}
 use Rattle.dd_values.specs.declared.boxed.Boxed.TheView.{view, invariant}
+use Rattle.std.specs.contracts.boxed.Box as box
+use Rattle.std.specs.contracts.alloc.Global as heap
 use Rattle.dd_values.specs.contracts.boxed.Boxed as value
 use Rattle.dd_values.specs.contracts.boxed.Boxed.TheInside as inside
 

@@ -10,12 +10,11 @@ use denote.Hole.Carrier.{listed, list-listed}
 use denote.Hole.Fix.{over}
 use denote.Param.Weighed.{Weighed, w_list}
 use denote.Model.Placed.{view_places}
-use Rattle.std.specs.formers.vec.Vec as vec
-use Rattle.std.specs.declared.alloc.Global.{Global}
-use Rattle.std.specs.contracts.alloc.Global as heap
-use Rattle.std.specs.contracts.impls.GlobalAllocator.TheImpl.{ghosts}
+use Rattle.std.specs.{declared.alloc.Global.Global, contracts.impls.GlobalAllocator.TheImpl.ghosts}
 use Rattle.dd_values.specs.declared.items.Items.TheInside.{Inside}
 use Rattle.dd_values.specs.declared.items.Items.TheView.{view, invariant}
+use Rattle.std.specs.formers.vec.Vec as vec
+use Rattle.std.specs.contracts.alloc.Global as heap
 use Rattle.dd_values.specs.contracts.items.Items as value
 use Rattle.dd_values.specs.contracts.items.Items.TheInside as inside
 

@@ -1,10 +1,8 @@
 -- Membership in lists, and lists that ascend strictly in some order.
 use Rattle.std.proofs.Common.{◌≡◌, ◌<◌, ℕ, zero, suc, List, [], ◌∷◌, ◌++◌, map, length, get_or, refl, sym, ◌∙◌, subst, inl, inr, ◌⊎◌, arith}
-use Rattle.std.specs.List.{All, Contains}
-use Rattle.std.specs.List.Sorted.{IsStrictlySortedBy}
-use Rattle.std.specs.declared.cmp.Ordering.{Ordering}
-use Rattle.std.specs.declared.cmp.Ordering.TheVariants.{Less}
 use Rattle.std.proofs.lemmas.List.Elements.{All-append, All-map, All-weaker, All-contains_itself, All-contains, All-from_recursion, recursion_from_All}
+use Rattle.std.specs.{List.All, List.Contains, List.Sorted.IsStrictlySortedBy, declared.cmp.Ordering.Ordering}
+use Rattle.std.specs.declared.cmp.Ordering.TheVariants.{Less}
 
 pub Contains-first : {X : Type 0} (x : X) (xs : List X) → Contains (x ∷ xs) x
 Contains-first x xs = (0, omega arith, refl)
@@ -12,7 +10,7 @@ Contains-first x xs = (0, omega arith, refl)
 pub Contains-later : {X : Type 0} (x : X) (xs : List X) (q : X) → Contains xs q → Contains (x ∷ xs) q
 Contains-later x xs q c = (suc c.0, omega (arith, c.1), c.2)
 
-at_cases : {X : Type 0} (x : X) (xs : List X) (q : X) (k : ℕ) → k < length (x ∷ xs) → get_or (x ∷ xs) k q ≡ q → (x ≡ q) ⊎ Contains xs q
+pub at_cases : {X : Type 0} (x : X) (xs : List X) (q : X) (k : ℕ) → k < length (x ∷ xs) → get_or (x ∷ xs) k q ≡ q → (x ≡ q) ⊎ Contains xs q
 at_cases x xs q zero below is = inl is
 at_cases x xs q (suc k) below is = inr (k, omega arith, is)
 
