@@ -2,11 +2,11 @@
 pub mod Decided
 -- which radii suffice, and which periods show the goal
 pub mod Questions
--- of two rules
+-- what is decided about two rules
 pub mod Equal
 -- what a decision does with the engines of a roster
 pub mod Engines
--- and when each answer comes
+-- when a box question has which answer
 pub mod Laws
 -- the search
 pub mod searching

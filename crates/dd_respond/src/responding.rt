@@ -30,7 +30,7 @@ fn by_kind<E: Engine>(
     ensures kept { Kept (roster_seen E.asked E.given E.sound roster.old) (roster_seen E.asked E.given E.sound roster.new) }
     ensures asked { OnOk result (Engages (IsBoxQuestion question.now.question) (roster_seen E.asked E.given E.sound roster.old) (roster_seen E.asked E.given E.sound roster.new)) }
 {
-    // Law of a roster that is not asked.
+    // A law: a roster that is not asked stays as it is.
     kept_is_reflexive();
     let limits = question.limits();
     match question.question() {
@@ -63,9 +63,9 @@ fn by_kind<E: Engine>(
     }
 }
 
-/// The right answer to a question within its limits. Each number and each list of it is within the bounds of an output.
+/// The right answer to a question within its limits. An output can hold each of its numbers and lists.
 ///
-/// A box question is put to the roster as `decide` does. For any other question no engine is asked. The roster is kept.
+/// A box question goes to the roster as in `decide`. No other question asks an engine. The roster is kept.
 pub fn respond<E: Engine>(
     alloc: Global,
     question: &CheckedQuestion,

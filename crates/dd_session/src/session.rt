@@ -133,7 +133,7 @@ fn run_bytes<K: Sink, E: Engine>(
     ensures late { (roster.new ≡ roster.old) ⊎ Begun (K.held sink.old) (K.held sink.new) bytes.now }
     ensures asked { IsToEnd result → AsksFirstOver bytes.now (roster_seen E.asked E.given E.sound roster.old) (roster_seen E.asked E.given E.sound roster.new) }
 {
-    // Law of a roster that is not asked.
+    // A law: a roster that is not asked stays as it is.
     kept_is_reflexive();
     match parse(alloc, bytes) {
         Ok(script) => run_accepted(alloc, bytes, &script, sink, roster),
@@ -155,7 +155,7 @@ fn run<S: Source, K: Sink, E: Engine>(
     ensures late { (roster.new ≡ roster.old) ⊎ HasBegun (S.left source.old) (S.left source.new) (K.held sink.old) (K.held sink.new) }
     ensures asked { IsToEnd result → AsksFirst (S.left source.old) (S.left source.new) (roster_seen E.asked E.given E.sound roster.old) (roster_seen E.asked E.given E.sound roster.new) }
 {
-    // Law of a roster that is not asked.
+    // A law: a roster that is not asked stays as it is.
     kept_is_reflexive();
     match read_all(alloc, source, MOST_SCRIPT) {
         Ok(bytes) => run_bytes(alloc, &bytes, sink, roster),
@@ -226,7 +226,7 @@ fn run_sample<K: Sink, E: Engine>(
     ensures kept { AreKept (engines E.asked E.given E.sound roster.old roster.new) result }
     ensures asked { IsToEnd result → AsksFirstOver (sample_text number) (roster_seen E.asked E.given E.sound roster.old) (roster_seen E.asked E.given E.sound roster.new) }
 {
-    // Law of a roster that is not asked.
+    // A law: a roster that is not asked stays as it is.
     kept_is_reflexive();
     match sample(alloc, number) {
         Ok(script) => run_lines(alloc, &script, sink, roster),
@@ -267,7 +267,7 @@ pub fn run_diddy<S: Source, K: Sink>(
     ensures engines { Consults (map string_bytes words.now) (told S.left S.faults source.old source.new) (told K.held K.faults sink.old sink.new)
         (engines asked given sound roster.old roster.new) result }
 {
-    // Law of a roster that is not asked.
+    // A law: a roster that is not asked stays as it is.
     kept_is_reflexive();
     if is_only(words, "run") {
         spelled_or_refused();

@@ -1,13 +1,9 @@
-use Rattle.std.proofs.Common.{◌≡◌, arith, rules, subst, sym}
+use Rattle.std.proofs.{Common.◌≡◌, Common.arith, Common.rules, Common.subst, Common.sym, lemmas.Result.IfOk-weaker}
 use Rattle.std.specs.Prelude.{max, IfOk}
-use Rattle.std.proofs.lemmas.Result.{IfOk-weaker}
-use Rattle.dd_boxes.specs.Boxes.{Suffices}
-use Rattle.dd_boxes.specs.Views.{goal_of}
-use Rattle.dd_boxes.specs.lemmas.ReachLaws.{least_near}
-use Rattle.dd_contain.specs.Decided.{IsDecidedBy}
-use Rattle.dd_contain.specs.searching.Listed.{AsksWithin}
+use Rattle.dd_boxes.specs.{Boxes.Suffices, Views.goal_of, lemmas.ReachLaws.least_near}
+use Rattle.dd_contain.specs.{Decided.IsDecidedBy, searching.Listed.AsksWithin}
 use Rattle.dd_contain.specs.Questions.{AsksPeriods, RefutesByNumbers, ShowsAt, Displays, IsDecided, HasNumbers, IsDecision}
-use Rattle.dd_contain.proofs.AskingLaws.{both_ok}
+use Rattle.dd_values.specs.lemmas.Results.{if_ok_both}
 use Rattle.dd_contain.proofs.LimitLaws.{radii_asked, periods_asked, decided, numbered}
 use Rattle.dd_contain.proofs.questions.decide.Goals as goal
 
@@ -54,7 +50,7 @@ returns-clause-decided e c =
     let numbers : IfOk c.search.result (HasNumbers x g) =
     IfOk-weaker c.search.result (IsDecidedBy (Suffices x g) (RefutesByNumbers x g) (ShowsAt x g) (Displays x g) least most c.dim.result p) (HasNumbers x g)
     (numbered x g least most c.dim.result p) c.search.ensures.decided in
-    both_ok c.search.result (IsDecided x g n p) (HasNumbers x g) (IsDecision x g n p) (λ d one two. record { decided = one; numbered = two }) is numbers
+    if_ok_both c.search.result (IsDecided x g n p) (HasNumbers x g) (IsDecision x g n p) (λ d one two. record { decided = one; numbered = two }) is numbers
 
 pub returns-in_err-least-clause-engines : goal.returns-in_err-least-clause-engines
 returns-in_err-least-clause-engines e c = record { kept = c.kept_is_reflexive.ensures _; first = search rules }

@@ -1,8 +1,7 @@
-use Rattle.std.proofs.Common.{refl, sym, ◌∙◌, arith}
-use Rattle.std.proofs.lemmas.Bool.{false≢true}
+use Rattle.std.proofs.{Common.refl, Common.sym, Common.◌∙◌, Common.arith, lemmas.Bool.false≢true}
 use Rattle.dd_session.specs.Sides.{told}
-use Rattle.dd_session.proofs.ByWord.{run_session, check_session, sample_session, idle_session, same_counts, run_consults, check_consults, sample_consults, idle_consults}
 use Rattle.dd_session.proofs.Decided.{decided}
+use Rattle.dd_session.proofs.ByWord.{run_session, check_session, sample_session, idle_session, same_counts, run_consults, check_consults, sample_consults, idle_consults}
 use Rattle.dd_session.proofs.session.run_diddy.Goals as goal
 
 -- ---- the word `run`
