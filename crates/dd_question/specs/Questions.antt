@@ -2,12 +2,14 @@
 use Rattle.std.specs.Prelude.{ℕ, List, Bool, true, false, ◌||◌, Option, Some, None, if◌then◌else◌}
 use Rattle.dd_values.specs.declared.limits.Limits.{Limits}
 use Rattle.dd_lattice.specs.Place.{Place}
+use Rattle.dd_pattern.specs.Periods.{periods_of}
 use Rattle.dd_pattern.specs.Tile.{Tile, IsTile}
 use Rattle.dd_formula.specs.LocalRule.{LocalRule, IsRule}
 use Rattle.dd_formula.specs.Living.{Fits}
 use Rattle.dd_formula.specs.Allowed.{HasAllowed}
 use Rattle.dd_strip.specs.Strips.{IsStrip, HasWeights}
 use Rattle.dd_boxes.specs.Goals.{GoalOf, breaks, AreAlike, IsGoalFor}
+use Rattle.dd_boxes.specs.TorusPeriods.{AreTorusPeriods}
 use Rattle.dd_boxes.specs.Views.{goal_of}
 use Rattle.dd_question.specs.declared.excess.Excess.{Excess}
 use Rattle.dd_question.specs.declared.excess.Excess.TheVariants as excess
