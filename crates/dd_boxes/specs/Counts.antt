@@ -1,10 +1,8 @@
 -- How many clauses a box question takes at most.
 use Rattle.std.specs.Prelude.{ℕ, ◌≤◌, max}
-use Rattle.dd_formula.specs.Counts.{broken_clauses, region_clauses, largest_clauses}
-use Rattle.dd_formula.specs.ValueCounts.{differ_clauses}
+use Rattle.dd_formula.specs.{Counts.broken_clauses, Counts.region_clauses, Counts.largest_clauses, ValueCounts.differ_clauses}
 use Rattle.dd_formula.specs.LocalRule.{LocalRule}
-use Rattle.dd_boxes.specs.Goals.{GoalOf, breaks, differ, always}
-use Rattle.dd_boxes.specs.Boxes.{IsLeastRadius}
+use Rattle.dd_boxes.specs.{Goals.GoalOf, Goals.breaks, Goals.differ, Goals.always, Boxes.IsLeastRadius}
 
 -- the clauses that say that the goal holds at the origin
 abbrev pub goal_clauses : GoalOf → ℕ
@@ -12,11 +10,11 @@ goal_clauses (breaks y) = broken_clauses y
 goal_clauses (differ s f g) = differ_clauses s.symbols s.nodes f g
 goal_clauses always = 0
 
--- the clauses of a question on so many positions
+-- the clauses of a question on this many positions
 abbrev pub question_clauses : LocalRule → GoalOf → ℕ → ℕ
 question_clauses x g positions = region_clauses x (goal_clauses g) positions
 
--- at most so many may be made
+-- the greatest number of clauses that may be made
 abbrev pub most_clauses : ℕ
 most_clauses = 2000000
 

@@ -1,8 +1,6 @@
 -- The periods that a torus may have.
 use Rattle.std.specs.Prelude.{ℕ, ◌≤◌, ◌*◌}
-use Rattle.dd_pattern.specs.declared.periods.Periods.{Periods}
-use Rattle.dd_pattern.specs.Periods.{ArePeriodsIn, periods_volume}
-use Rattle.dd_pattern.specs.Tile.{most_symbols}
+use Rattle.dd_pattern.specs.{declared.periods.Periods.Periods, Periods.ArePeriodsIn, Periods.periods_volume, Tile.most_symbols}
 
 -- Periods in d dimensions: each is at least 1, and 1 along an axis that there is not. Over so many nodes the fundamental box has no more
 -- cells than a configuration may list.

@@ -1,17 +1,11 @@
 -- Box questions: which radii suffice, and which periods show the goal.
 use Rattle.std.specs.Prelude.{ℕ, ◌≤◌, max, List}
-use Rattle.dd_derivation.specs.declared.step.Step.{Step}
-use Rattle.dd_derivation.specs.Derivations.{IsRefuting}
-use Rattle.dd_derivation.specs.Sizes.{AreNumbered}
+use Rattle.dd_derivation.specs.{declared.step.Step.Step, Derivations.IsRefuting, Sizes.AreNumbered}
 use Rattle.dd_lattice.specs.Boxes.{centred, volume}
-use Rattle.dd_pattern.specs.declared.periods.Periods.{Periods}
-use Rattle.dd_pattern.specs.Periods.{periods_volume as tile_volume}
-use Rattle.dd_pattern.specs.Tile.{Tile}
+use Rattle.dd_pattern.specs.{declared.periods.Periods.Periods, Periods.periods_volume as tile_volume, Tile.Tile}
 use Rattle.dd_formula.specs.LocalRule.{LocalRule}
-use Rattle.dd_boxes.specs.Goals.{GoalOf, IsGoalFor}
-use Rattle.dd_boxes.specs.Boxes.{Suffices, Reaches, IsLeastRadius}
-use Rattle.dd_boxes.specs.Witnesses.{IsWitness, HasPeriods, ArePeriods}
-use Rattle.dd_boxes.specs.Counts.{question_clauses, most_clauses}
+use Rattle.dd_boxes.specs.{Goals.GoalOf, Goals.IsGoalFor, Boxes.Suffices, Boxes.Reaches, Boxes.IsLeastRadius}
+use Rattle.dd_boxes.specs.{Witnesses.IsWitness, Witnesses.HasPeriods, Witnesses.ArePeriods, Counts.question_clauses, Counts.most_clauses}
 use Rattle.dd_problem.specs.Problems.{box_problem}
 use Rattle.dd_contain.specs.declared.decision.Decision.{Decision}
 use Rattle.dd_contain.specs.declared.decision.Decision.TheVariants.{Yes, No, Unknown}
@@ -29,7 +23,7 @@ Displays x g p t = HasPeriods p t × IsWitness x g t
 abbrev pub ShowsAt : LocalRule → GoalOf → Periods → Type 0
 ShowsAt x g p = (t : Tile) × Displays x g p t
 
--- a question that is small enough
+-- a question about a radius that is small enough
 pub record AsksRadius (x : LocalRule) (g : GoalOf) (n : ℕ) : Type 0 where
   pub goal : IsGoalFor x g
   pub reaches : Reaches g n

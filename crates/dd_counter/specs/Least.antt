@@ -1,15 +1,10 @@
 -- The least weight of the configurations of given periods that live in a subshift.
 use Rattle.std.specs.Prelude.{◌≡◌, ◌<◌, ◌≤◌, ℕ, List, []}
-use Rattle.dd_derivation.specs.declared.step.Step.{Step}
-use Rattle.dd_derivation.specs.Derivations.{IsRefuting}
-use Rattle.dd_derivation.specs.Sizes.{AreNumbered}
-use Rattle.dd_pattern.specs.declared.periods.Periods.{Periods}
-use Rattle.dd_pattern.specs.Tile.{Tile}
-use Rattle.dd_pattern.specs.Weight.{total_weight}
+use Rattle.dd_derivation.specs.{declared.step.Step.Step, Derivations.IsRefuting, Sizes.AreNumbered}
+use Rattle.dd_pattern.specs.{declared.periods.Periods.Periods, Tile.Tile, Weight.total_weight}
 pub use Rattle.dd_expansion.specs.Limits.{greatest}
 use Rattle.dd_formula.specs.LocalRule.{LocalRule}
-use Rattle.dd_boxes.specs.Goals.{always}
-use Rattle.dd_boxes.specs.Witnesses.{IsWitness, HasPeriods}
+use Rattle.dd_boxes.specs.{Goals.always, Witnesses.IsWitness, Witnesses.HasPeriods}
 use Rattle.dd_counter.specs.declared.least.LeastWeight.{LeastWeight}
 use Rattle.dd_counter.specs.declared.least.LeastWeight.TheVariants.{Least, Nothing}
 use Rattle.dd_counter.specs.Weights.{weight_problem}
@@ -32,7 +27,7 @@ pub record IsRefutedBelow (x : LocalRule) (p : Periods) (ws : List ℕ) (w : ℕ
   pub refuting : IsRefuting (weight_problem x p ws w) steps
   pub numbered : AreNumbered (weight_problem x p ws w) steps
 
--- the configuration has the least weight, and, where it isn't 0, the steps refute the clauses of every smaller one
+-- the configuration has the least weight, and if that isn't 0, the steps refute the clauses of every smaller one
 pub record IsLeastShown (x : LocalRule) (p : Periods) (ws : List ℕ) (w : ℕ) (t : Tile) (steps : List Step) : Type 0 where
   pub least : LeastOn x p ws w
   pub lives : IsLiving x p t

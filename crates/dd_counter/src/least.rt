@@ -22,7 +22,7 @@ use std::alloc::{AllocError, Global};
 /// The least weight of the configurations of given periods that live in a rule's subshift.
 #[derive(Debug, Drop)]
 pub enum LeastWeight {
-    /// The weight, a configuration that has it, and, where it isn't 0, steps that refute every smaller one.
+    /// The weight, a configuration that has it, and, if it isn't 0, steps that refute every smaller one.
     Least {
         weight: u64,
         periodic: Periodic,
@@ -41,7 +41,7 @@ enum Lighter {
     Nothing(Items<Step>),
 }
 
-/// Looks for a configuration that lives and weighs less than `below`, where this is at least 1.
+/// Looks for a configuration that lives and, if `below` is at least 1, weighs less than `below`.
 fn search_below(
     alloc: Global,
     rule: &Rule,
@@ -58,7 +58,7 @@ fn search_below(
     match solve(alloc, &cnf)? {
         Outcome::Found(found) => {
             let periodic = read_torus(alloc, rule, periods, 0, &found)?;
-            // Read for what its type keeps.
+            // This read brings in what the type guarantees.
             let _symbols = periodic.symbols();
             Ok(Lighter::Found(periodic))
         }

@@ -14,9 +14,10 @@ use dd_formula::Rule;
 use dd_problem::torus_clauses;
 use std::alloc::{AllocError, Global};
 
-/// The clauses that ask for a configuration of these periods, with shear 0, that lives in the rule's subshift and of which the
-/// fundamental box weighs less than `below`, where this is at least 1. The symbol `s` weighs `weights[s]`. The gates of a
-/// sequential counter (Sinz, 2005; with weights: Hölldobler, Manthey and Steinke, 2012) follow the clauses of the torus.
+/// The clauses that ask for a configuration of these periods, with shear 0, that lives in the rule's subshift. If
+/// `below` is at least 1, its fundamental box has to weigh less than that. The symbol `s` weighs `weights[s]`. The
+/// gates of a sequential counter (Sinz, 2005; with weights: Hölldobler, Manthey and Steinke, 2012) follow the clauses
+/// of the torus.
 pub fn weight_clauses(
     alloc: Global,
     rule: &Rule,

@@ -1,5 +1,5 @@
-//! What a script has said where a command of it stands: its topology, its alphabets, its weights, how far it is searched, and the names
-//! that it has given. And the limits on what is written.
+//! What a script has defined when one of its commands is read: topology, alphabets, weights, search limits and names. Also the
+//! limits on scripts.
 #![tactic(auto)]
 
 mod known;

@@ -1,32 +1,20 @@
 -- The guarded formula is a formula over its topology and symbols, where it isn't too deep.
-use Rattle.std.proofs.Common.{◌≡◌, ◌<◌, ℕ, zero, suc, ◌+◌, Bool, true, false, List, [], ◌∷◌, map, refl, ap, sym, ◌∙◌, arith}
-use Rattle.std.specs.Prelude.{◌||◌, not, nat_lt}
-use Rattle.std.specs.List.{list_all, filter, range_with_len}
-use Rattle.std.proofs.lemmas.Bool.{and_from, lt-ltb}
-use Rattle.std.proofs.lemmas.List.Folds.{list_all-map}
-use Rattle.dd_topology.specs.Grid.{Grid}
-use Rattle.dd_topology.specs.Sets.{SymbolSets, allows}
-use Rattle.dd_expansion.specs.declared.formulas.Formula.{Formula}
-use Rattle.dd_expansion.specs.declared.formulas.Formula.TheVariants as v
-use Rattle.dd_expansion.specs.declared.formulas.Formula.TheFolds.{fold-roll-Formula}
+use Rattle.std.proofs.Common.{◌≡◌, ◌<◌, ℕ, Bool, true, List, [], ◌∷◌, map, ap, sym, ◌∙◌, arith}
+use Rattle.std.proofs.lemmas.{Bool.and_from, Bool.lt-ltb, List.Folds.list_all-map}
+use Rattle.std.specs.{Prelude.◌||◌, Prelude.not, Prelude.nat_lt, List.list_all, List.filter, List.range_with_len}
+use Rattle.dd_topology.specs.{Grid.Grid, Sets.SymbolSets, Sets.allows}
+use Rattle.dd_expansion.specs.declared.formulas.Formula.{Formula, TheFolds.fold-roll-Formula}
 use Rattle.dd_expansion.specs.declared.formulas.Formula.TheOpen.{Formula-F}
 use Rattle.dd_expansion.specs.Limits.{formula_fits, formula_fits_step, depth, depth_step}
-use Rattle.dd_expansion.specs.lemmas.Layers.{fits_and, fits_or}
-use Rattle.dd_expansion.specs.lemmas.ListTests.{list_all-weaker}
+use Rattle.dd_expansion.specs.lemmas.{Layers.fits_and, Layers.fits_or, ListTests.list_all-weaker}
 use Rattle.dd_maps.specs.Guarded.{here, symbol_is, allowed_symbols, guard, allows_all, guarded_nodes, with_guards, guarded}
 use Rattle.dd_maps.specs.lemmas.KeptTests.{all_kept}
-
--- what passes a test at each of the first numbers passes at all of them, and at those that are kept
-range_from : (p : ℕ → Bool) (k n : ℕ) → ((a : ℕ) → a < k + n → p a ≡ true) → list_all p (range_with_len k n) ≡ true
-range_from p k zero each = refl
-range_from p k (suc n) each = and_from (p k) _ (each k (omega arith)) (range_from p (k + 1) n (λ a below. each a (omega arith)))
+use Rattle.dd_formula.specs.lemmas.ReachLaws.{all_numbers}
+use Rattle.dd_values.specs.lemmas.Booleans.{or_true}
+use Rattle.dd_expansion.specs.declared.formulas.Formula.TheVariants as v
 
 pub range_all : (p : ℕ → Bool) (n : ℕ) → ((a : ℕ) → a < n → p a ≡ true) → list_all p (range_with_len 0 n) ≡ true
-range_all p n each = range_from p 0 n (λ a below. each a (omega arith))
-
-or_true : (b : Bool) → (b || true) ≡ true
-or_true true = refl
-or_true false = refl
+range_all p n each = all_numbers p 0 n (λ a below. each a (omega arith))
 
 kept_all : (p q : ℕ → Bool) (n : ℕ) → ((a : ℕ) → a < n → p a ≡ true) → list_all p (filter q (range_with_len 0 n)) ≡ true
 kept_all p q n each =

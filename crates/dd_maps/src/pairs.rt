@@ -59,7 +59,7 @@ fn always_zero(alloc: Global, topology: &Topology, sets: &Sets) -> Result<Automa
     Automaton::by_cases(alloc, topology, sets, &[], 0)
 }
 
-/// For each symbol from 1 on the formula that says that it is the cell's, with the symbol.
+/// For each symbol from 1 on, the formula that says that the cell has it, with the symbol.
 fn own_symbols(alloc: Global, symbols: u32) -> Result<Vec<(Formula, u32)>, AllocError>
     requires { 1 ≤ symbols }
     ensures { IfOk result (λ cases. cases.items ≡ map own_symbol (range_with_len 1 (symbols - 1))) }
@@ -98,14 +98,14 @@ fn composed_with(alloc: Global, outer: Automaton, inner: &Automaton) -> Result<A
     }
 }
 
-/// Two automata that give a cell different symbols exactly where its value under `map` is a symbol that the node doesn't
-/// allow, or the values break the target there: the composition that takes `map` first and then what `marked` makes of the
-/// target, and the automaton that gives 0 everywhere. So they differ at some node of a position exactly where the image
+/// Two automata: the composition that takes `map` first and then what `marked` makes of the target, and the automaton
+/// that gives 0 everywhere. They give a cell different symbols exactly if its value under `map` is a symbol that the node
+/// doesn't allow, or the values break the target there. So they differ at some node of a position exactly if the image
 /// breaks the target there.
 ///
 /// # Errors
-/// `Depth` where the target's guarded formula is more than 64 deep; else `Instances`, `Reach` and `Depth` at the limits of
-/// the composition, in this order; or `Memory`.
+/// `Depth` where the target's guarded formula is more than 64 deep; else `Instances`, `Reach` and `Depth` at the limits
+/// of the composition, in this order; or `Memory`.
 pub fn image_pair(
     alloc: Global,
     topology: &Topology,
@@ -133,8 +133,8 @@ pub fn image_pair(
     Ok((composed, zero))
 }
 
-/// Two automata that give a cell with a symbol different symbols exactly where `outer` on the values of `inner` doesn't give
-/// its symbol back: the composition that takes `inner` first, and the identity.
+/// Two automata: the composition that takes `inner` first and then `outer`, and the identity. They give a cell with a
+/// symbol different symbols exactly if the composition doesn't give its symbol back.
 ///
 /// # Errors
 /// `Instances`, `Reach` and `Depth` at the limits of the composition, in this order; or `Memory`.

@@ -1,23 +1,22 @@
 -- The periods of tori.
 use Rattle.std.proofs.Common.{◌≡◌, ◌≤◌, ◌*◌, ℕ, zero, suc, false, List, [], ◌∷◌, length, refl, subst, arith, slice_index}
-use Rattle.std.specs.List.{list_any, flat_map}
 use Rattle.std.proofs.lemmas.Bool.{or_parts, ltb-false, eqb-true}
 use Rattle.std.proofs.Math.Nat.{le-mul_of_pos_right, mul_comm, mul_assoc, one-le-mul}
+use Rattle.std.specs.List.{list_any, flat_map}
 use Rattle.dd_pattern.specs.Periods.{periods_of, periods_volume}
-use Rattle.dd_query.specs.Tree.{Entry, Vector, Context}
+use Rattle.dd_query.specs.{Tree.Entry, Tree.Vector, Tree.Context, Parts.torus_periods}
 use Rattle.dd_known.specs.{Known.dimension_of, Limits.most_nodes, Limits.most_in_box}
 use Rattle.dd_faults.specs.Commands.{product, entry_value, cells_of, is_zero, torus_faults}
 use Rattle.dd_faults.specs.lemmas.Nothing.{both_nil, fits, within}
 use Rattle.dd_faults.specs.lemmas.Periods.{entry_at, no_entry}
 use Rattle.dd_boxes.specs.TorusPeriods.{AreTorusPeriods}
-use Rattle.dd_query.specs.{Parts.torus_periods}
 
 some_at : (bytes : List ℕ) (es : List Entry) (j : ℕ) → list_any (is_zero bytes) es ≡ false → 1 ≤ entry_at bytes es j
 some_at bytes [] j h = omega arith
 some_at bytes (e ∷ es) zero h = ltb-false (entry_value bytes e) 1 (or_parts _ _ h).0
 some_at bytes (e ∷ es) (suc j) h = some_at bytes es j (or_parts _ _ h).1
 
--- at most three periods, and 1 for each of the others
+-- at most three periods are given, and the others are 1
 volume_is : (bytes : List ℕ) (es : List Entry) → length es ≤ 3 → entry_at bytes es 2 * entry_at bytes es 1 * entry_at bytes es 0 ≡ product bytes es
 volume_is bytes [] h = refl
 volume_is bytes (e ∷ []) h = grind (arith, mul_comm)

@@ -1,4 +1,4 @@
-//! The words, numbers and vectors of a query, with numbers in place of names.
+//! The words, numbers and vectors of a query, with indices in place of names.
 ghost use Rattle.std.specs.Prelude.{◌≡◌, ◌≤◌, false, length, map, min, IfOk};
 ghost use Rattle.std.specs.List.{list_any};
 ghost use Rattle.dd_pattern.specs.Periods.{periods_of};
@@ -16,7 +16,7 @@ use dd_values::Items;
 use dd_written::{Name, Text, number_value};
 use std::alloc::{AllocError, Global};
 
-/// The number of what the word at a place names.
+/// The index of what the word at `place` names.
 pub(crate) fn word_at(context: &Context, request: &Request, place: usize) -> u32
     ensures { result ≡ word_at context.now request.now place }
 {
@@ -27,7 +27,7 @@ pub(crate) fn word_at(context: &Context, request: &Request, place: usize) -> u32
     number_in(&context.text, context.known.named(*role), Name::Word(*word))
 }
 
-/// The value of the number at a place, and the greatest number of 32 bits for all that are greater.
+/// The value of the number at `place`, at most 4,294,967,295.
 pub(crate) fn value_at(context: &Context, request: &Request, place: usize) -> u32
     ensures { result ≡ min (value_at context.now request.now place) 4294967295 }
 {
@@ -65,7 +65,7 @@ pub(crate) fn torus_of(context: &Context, vectors: &[Vector]) -> [u32; 3]
     }
 }
 
-/// The positions of vectors without far entries.
+/// The positions that vectors without far entries stand for.
 pub(crate) fn positions(
     alloc: Global,
     text: &Text,

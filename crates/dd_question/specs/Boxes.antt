@@ -1,10 +1,8 @@
 -- Box questions: how many clauses they take, and when they may be asked.
 use Rattle.std.specs.Prelude.{ℕ, Bool, max, nat_lt}
 use Rattle.dd_values.specs.declared.limits.Limits.{Limits}
-use Rattle.dd_formula.specs.LocalRule.{LocalRule, IsRule}
-use Rattle.dd_formula.specs.Counts.{largest_clauses}
-use Rattle.dd_boxes.specs.Goals.{GoalOf, IsGoalFor, KeepsRule}
-use Rattle.dd_boxes.specs.Boxes.{goal_reach}
+use Rattle.dd_formula.specs.{LocalRule.LocalRule, LocalRule.IsRule, Counts.largest_clauses}
+use Rattle.dd_boxes.specs.{Goals.GoalOf, Goals.IsGoalFor, Goals.KeepsRule, Boxes.goal_reach}
 use Rattle.dd_boxes.specs.Counts.{goal_clauses, most_clauses, IsSmallQuestion}
 
 -- the clauses of a box question, in the largest box or torus that may be tried

@@ -4,9 +4,7 @@ use Rattle.dd_pattern.specs.Periods.{periods_of, periods_volume}
 use Rattle.dd_expansion.specs.Limits.{greatest}
 use Rattle.dd_formula.specs.LocalRule.{LocalRule}
 use Rattle.dd_strip.specs.Strips.{HasWeights}
-use Rattle.dd_boxes.specs.Goals.{always}
-use Rattle.dd_boxes.specs.Counts.{question_clauses, most_clauses}
-use Rattle.dd_boxes.specs.TorusPeriods.{AreTorusPeriods}
+use Rattle.dd_boxes.specs.{Goals.always, Counts.question_clauses, Counts.most_clauses, TorusPeriods.AreTorusPeriods}
 
 -- the positions of the fundamental box with these periods and no shear, and its cells
 abbrev pub positions_in : List ℕ → ℕ

@@ -15,7 +15,7 @@ use dd_values::Limits;
 use std::alloc::Global;
 
 impl<'a> Question<'a> {
-    /// Whether its parts go together.
+    /// Whether its parts fit together.
     fn check_parts(&self, alloc: Global) -> Result<(), QuestionFault>
         ensures ok { OnOk result (IsFormed (asked_of self.now)) }
         ensures fault { IfErr result (IsPartFault (asked_of self.now)) }
@@ -29,7 +29,7 @@ impl<'a> Question<'a> {
             Question::Equality { left, right } => check_equality(left, right),
             Question::Conjugacy { conjugacy } => check_conjugacy(alloc, &conjugacy),
             Question::Listing { rule } | Question::Smallest { rule } => {
-                // Read for what its type keeps.
+                // This read brings in what the type guarantees.
                 let _nodes = rule.nodes();
                 Ok(())
             }
@@ -56,8 +56,8 @@ impl<'a> Question<'a> {
     /// The question, checked within these limits.
     ///
     /// # Errors
-    /// `Limits` where the limits are out of range; else the first of its parts that doesn't go with those before it; else `Excess`
-    /// where it passes a limit on its work; or `Memory`.
+    /// `Limits` if the limits are out of range; else the fault of the first part that doesn't fit those before it;
+    /// else `Excess` if it passes a limit on its work; or `Memory`.
     #[tactic(auto, using(crate::specs::Checked::limits_fault, crate::specs::Checked::part_fault, crate::specs::Checked::excess_fault, crate::specs::Questions::memory_fault))]
     pub fn check(self, alloc: Global, limits: &Limits) -> Result<CheckedQuestion<'a>, QuestionFault>
         ensures ok { IfOk result (λ question. question ≡ asked_within limits.now (asked_of self.entry)) }
@@ -70,7 +70,7 @@ impl<'a> Question<'a> {
         if let Some(excess) = self.excess(alloc, limits)? {
             return Err(QuestionFault::Excess(excess));
         }
-        // Law: a question that goes together and passes no limit is sound.
+        // Law: a question whose parts fit together and that passes no limit is sound.
         sound_questions();
         Ok(CheckedQuestion::known(self, *limits))
     }

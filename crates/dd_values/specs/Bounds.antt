@@ -5,7 +5,7 @@ use Rattle.std.specs.Prelude.{ℕ, ◌^◌}
 abbrev pub most_variables : ℕ
 most_variables = 2 ^ 24
 
--- the greatest number, in absolute value, that an output holds outside its refutations
+-- the greatest absolute value of a number in an output, outside its refutations
 abbrev pub most_number : ℕ
 most_number = 2 ^ 40
 

@@ -1,7 +1,6 @@
 -- The ranges of the limits within which questions are answered.
 use Rattle.std.specs.Prelude.{◌≤◌}
-use Rattle.dd_values.specs.declared.limits.Limits.{Limits}
-use Rattle.dd_values.specs.Bounds.{greatest_radius, greatest_period, most_pivots}
+use Rattle.dd_values.specs.{declared.limits.Limits.Limits, Bounds.greatest_radius, Bounds.greatest_period, Bounds.most_pivots}
 
 pub record AreLimits (l : Limits) : Type 0 where
   pub radius : l.radius ≤ greatest_radius

@@ -3,7 +3,7 @@
 /// The greatest number of variables of a list of clauses, and of signals of a circuit.
 pub const MOST_VARIABLES: u64 = 1 << 24;
 
-/// The greatest number, in absolute value, that an output holds outside its refutations.
+/// The greatest absolute value of a number in an output, outside its refutations.
 pub const MOST_NUMBER: u64 = 1 << 40;
 
 /// The greatest length of a script, in bytes.

@@ -1,37 +1,27 @@
--- Answers to how little a fundamental box can weigh: their configurations, the room that their clauses have, that an output can
--- hold them, and what they claim.
+-- Answers to the question how little a fundamental box can weigh: their configurations, the size of their clauses, that an
+-- output can hold them, and what they claim.
 use Rattle.std.proofs.Common.{◌≡◌, ◌≢◌, ℕ, suc, ◌*◌, ◌<◌, ◌≤◌, Bool, true, List, [], ◌∷◌, length, inl, inr, refl, ap, sym, subst, ◌∙◌, arith}
-use Rattle.std.specs.Prelude.{◌↔◌}
-use Rattle.std.specs.List.{All}
 use Rattle.std.proofs.lemmas.Nat.{mul-le}
+use Rattle.std.specs.{Prelude.◌↔◌, List.All}
 use Rattle.dd_values.specs.Bounds.{most_weight}
-use Rattle.dd_pattern.specs.declared.periods.Periods.{Periods}
-use Rattle.dd_pattern.specs.Periods.{periods_of, periods_volume}
-use Rattle.dd_pattern.specs.Tile.{Tile, tile, IsTile, IsPeriodic, most_symbols}
-use Rattle.dd_pattern.specs.Weight.{AreWeights, total_weight}
+use Rattle.dd_pattern.specs.{declared.periods.Periods.Periods, Periods.periods_of, Periods.periods_volume}
+use Rattle.dd_pattern.specs.{Tile.Tile, Tile.tile, Tile.IsTile, Tile.IsPeriodic, Tile.most_symbols, Weight.AreWeights, Weight.total_weight}
 use Rattle.dd_expansion.specs.Limits.{greatest}
-use Rattle.dd_formula.specs.LocalRule.{LocalRule, IsRule}
-use Rattle.dd_formula.specs.Living.{Fits}
+use Rattle.dd_formula.specs.{LocalRule.LocalRule, LocalRule.IsRule, Living.Fits}
 use Rattle.dd_strip.specs.Strips.{HasWeights}
-use Rattle.dd_derivation.specs.declared.step.Step.{Step}
-use Rattle.dd_derivation.specs.Derivations.{IsRefuting}
-use Rattle.dd_boxes.specs.Goals.{always}
-use Rattle.dd_boxes.specs.Counts.{most_clauses}
-use Rattle.dd_boxes.specs.Witnesses.{IsWitness}
-use Rattle.dd_boxes.specs.TorusPeriods.{AreTorusPeriods}
-use Rattle.dd_counter.specs.Weights.{weight_problem, weight_count}
-use Rattle.dd_counter.specs.Laws.{SaysWeights}
-use Rattle.dd_counter.specs.lemmas.Counted.{weight_most}
+use Rattle.dd_derivation.specs.{declared.step.Step.Step, Derivations.IsRefuting}
+use Rattle.dd_boxes.specs.{Goals.always, Counts.most_clauses, Witnesses.IsWitness, TorusPeriods.AreTorusPeriods}
+use Rattle.dd_counter.specs.{Weights.weight_problem, Weights.weight_count, Laws.SaysWeights, lemmas.Counted.weight_most}
 use Rattle.dd_counter.specs.lemmas.Rooms.{room_at}
 use Rattle.dd_certificate.specs.declared.answer.Answer.{Answer}
-use Rattle.dd_certificate.specs.declared.answer.Answer.TheVariants as answer
 use Rattle.dd_certificate.specs.Bounds.{IsWritable, IsWritableNumber, IsWritableList, IsWritableBelow, IsWritableRefutation}
 use Rattle.dd_question.specs.Tori.{IsWeighable}
 use Rattle.dd_verify.specs.Tori.{torus_tile, HasWeight, IsBoundedBy, IsTorusCertificate, torus_least, torus_none, TorusClaim, claims_least_on, claims_none_on}
+use Rattle.dd_certificate.specs.declared.answer.Answer.TheVariants as answer
 
 -- ---- the configuration
 
--- that the code makes of the symbols
+-- the configuration that the code makes from the symbols
 pub torus_made : (x : LocalRule) (along : List ℕ) (d n : ℕ) (items symbols : List ℕ) → d ≡ x.dimension → n ≡ x.nodes → items ≡ symbols →
     tile d (periods_of along 0) n items ≡ torus_tile x along symbols
 torus_made x along d n items symbols d_is n_is symbols_are =
@@ -52,7 +42,7 @@ torus_small x along symbols torus is =
 pub on_torus_of : {x : LocalRule} {along ws : List ℕ} {w : ℕ} {symbols : List ℕ} → HasWeight x along ws w symbols → IsOnTorus x along symbols
 on_torus_of told = (told.lives.tile, told.lives.fits)
 
--- what is tested of the configuration, is tested of its symbols
+-- a test of the configuration is a test of its symbols
 pub weight_decides : (x : LocalRule) (along ws : List ℕ) (w : ℕ) (symbols : List ℕ) (t : Tile) (b : Bool) → t ≡ torus_tile x along symbols →
     (b ≡ true) ↔ (IsWitness x always t × (total_weight ws t.symbols ≡ w)) → (b ≡ true) ↔ HasWeight x along ws w symbols
 weight_decides x along ws w symbols t b is told = (
@@ -92,7 +82,7 @@ pub none_of : {x : LocalRule} {along ws : List ℕ} {steps : List Step} → IsTo
     IsRefuting (weight_problem x (periods_of along 0) ws 0) steps
 none_of (torus_none h) = h
 
--- an answer of another form
+-- an answer of another form is no certificate
 pub no_torus : (x : LocalRule) (along ws : List ℕ) (a : Answer) → ((w : ℕ) (symbols : List ℕ) (steps : List Step) → a ≢ answer.Least w symbols steps) →
     ((steps : List Step) → a ≢ answer.Nothing steps) → IsTorusCertificate x along ws a → ⊥
 no_torus x along ws a least_form none_form (torus_least has bounded) = least_form _ _ _ refl
@@ -139,7 +129,7 @@ module _ (x : LocalRule) (along ws : List ℕ) (rule : IsRule x) (weighable : Is
     λ both. told.1 (both.0.2, bounded_of both.1),
   )
 
--- with 0 there is nothing to refute, and there are no steps
+-- with the weight 0 there is nothing to refute, and there are no steps
 pub nothing_below : (x : LocalRule) (along ws : List ℕ) (w : ℕ) (steps : List Step) (b : Bool) → w ≡ 0 → (b ≡ true) ↔ (steps ≡ []) →
     (b ≡ true) ↔ (IsWritableBelow w steps × IsBoundedBy x along ws w steps)
 nothing_below x along ws w steps b zero_is told = (
@@ -150,7 +140,7 @@ nothing_below x along ws w steps b zero_is told = (
   ],
 )
 
--- with more there are steps, of a refutation
+-- with a greater weight, the steps are those of a refutation
 pub something_below : (x : LocalRule) (along ws : List ℕ) (w : ℕ) (steps : List Step) (b : Bool) → w ≢ 0 →
     (b ≡ true) ↔ IsRefuting (weight_problem x (periods_of along 0) ws w) steps → (b ≡ true → IsWritableRefutation steps) →
     (b ≡ true) ↔ (IsWritableBelow w steps × IsBoundedBy x along ws w steps)

@@ -1,10 +1,8 @@
 -- Each period of a torus, and each product of periods, is at most the number of its cells.
-use Rattle.std.proofs.Common.{ℕ, ◌*◌, ◌≤◌, arith}
-use Rattle.std.proofs.lemmas.Nat.{mul-le}
+use Rattle.std.proofs.{Common.ℕ, Common.◌*◌, Common.◌≤◌, Common.arith, lemmas.Nat.mul-le}
 use Rattle.dd_pattern.specs.declared.periods.Periods.{Periods}
 use Rattle.dd_formula.specs.LocalRule.{LocalRule, IsRule}
-use Rattle.dd_boxes.specs.Witnesses.{ArePeriods}
-use Rattle.dd_boxes.specs.TorusPeriods.{AreTorusPeriods}
+use Rattle.dd_boxes.specs.{Witnesses.ArePeriods, TorusPeriods.AreTorusPeriods}
 
 product_small : (a b c n : ℕ) → a ≤ 8 → b ≤ 8 → c ≤ 8 → n ≤ 4 → a * b * c * n ≤ 65536
 product_small a b c n ha hb hc hn =

@@ -1,7 +1,6 @@
 use Rattle.std.proofs.Common.{arith}
 use Rattle.dd_pattern.specs.Periods.{periods_of}
-use Rattle.dd_counter.specs.lemmas.Counted.{count_less}
-use Rattle.dd_counter.specs.lemmas.Rooms.{room_at}
+use Rattle.dd_counter.specs.lemmas.{Counted.count_less, Rooms.room_at}
 use Rattle.dd_counter.proofs.least.descended.Goals as goal
 
 pub search_below-requires-clause-count : goal.search_below-requires-clause-count

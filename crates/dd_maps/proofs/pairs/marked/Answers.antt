@@ -2,12 +2,8 @@ use Rattle.std.proofs.Common.{◌≡◌, ap, sym, subst, arith}
 use Rattle.std.specs.Prelude.{true}
 use Rattle.dd_expansion.specs.Limits.{depth, formula_fits}
 use Rattle.dd_formula.specs.ByCases.{IsCaseOver}
-use Rattle.dd_maps.specs.Guarded.{guarded}
-use Rattle.dd_maps.specs.Pairs.{guarded_of}
-use Rattle.dd_maps.specs.Refusals.{PassesGuard, IsMarkedFault}
-use Rattle.dd_maps.proofs.Formed.{guarded_fits}
-use Rattle.dd_maps.proofs.Cases.{single}
-use Rattle.dd_maps.proofs.Faults.{err_says, marked_refused}
+use Rattle.dd_maps.specs.{Guarded.guarded, Pairs.guarded_of, Refusals.PassesGuard, Refusals.IsMarkedFault}
+use Rattle.dd_maps.proofs.{Formed.guarded_fits, Cases.single, Faults.err_says, Faults.marked_refused}
 use Rattle.dd_maps.proofs.pairs.marked.Goals as goal
 
 pub by_cases-requires-clause-cases : goal.by_cases-requires-clause-cases

@@ -1,5 +1,4 @@
-use Rattle.std.proofs.Common.{arith}
-use Rattle.std.proofs.lemmas.Grind.{common_steps}
+use Rattle.std.proofs.{Common.arith, lemmas.Grind.common_steps}
 use Rattle.dd_query.specs.Parts.{torus_periods}
 use Rattle.dd_query.proofs.TorusLaws.{periods_small}
 use Rattle.dd_query.proofs.parts.torus_of.Goals as goal
