@@ -1,7 +1,6 @@
 -- Which answers to the queries of a script are right.
 use Rattle.std.specs.Prelude.{IsSomeAnd}
-use Rattle.dd_certificate.specs.declared.answer.Answer.{Answer}
-use Rattle.dd_certificate.specs.Bounds.{IsWritable}
+use Rattle.dd_certificate.specs.{declared.answer.Answer.Answer, Bounds.IsWritable}
 use Rattle.dd_query.specs.declared.queries.Query.{Query}
 use Rattle.dd_respond.specs.Right.{IsRightTo}
 use Rattle.dd_script.specs.{Parts.Parts, Questions.asked}

@@ -2,9 +2,7 @@
 use Rattle.std.specs.Prelude.{◌≡◌, ◌↔◌, ℕ}
 use Rattle.dd_certificate.specs.declared.answer.Answer.{Answer}
 use Rattle.dd_script.specs.Parts.{Parts}
-use Rattle.dd_checker.specs.declared.verdict.Verdict.{Verdict}
-use Rattle.dd_checker.specs.declared.verdict.Verdict.TheVariants.{Accepted}
-use Rattle.dd_checker.specs.Certificates.{IsCertificate}
+use Rattle.dd_checker.specs.{declared.verdict.Verdict.Verdict, declared.verdict.Verdict.TheVariants.Accepted, Certificates.IsCertificate}
 use Rattle.dd_checker.specs.Claims.{Claim}
 
 -- The verdict on an answer to the query with a number, from 1.

@@ -2,16 +2,11 @@
 use Rattle.std.proofs.Common.{◌≡◌, ◌≢◌, ◌⊎◌, ◌≤◌, ℕ, List, codes, refl, subst, inl, inr, arith}
 use Rattle.std.specs.declared.option.Option.{Option}
 use Rattle.dd_sample.specs.Sample.{sample_text}
-use Rattle.dd_session.specs.declared.status.Status.{Status}
-use Rattle.dd_session.specs.declared.status.Status.TheVariants.{BadWords}
-use Rattle.dd_session.specs.Sides.{Told, told, IsUntouched}
-use Rattle.dd_session.specs.Words.{IsOnly, IsSample, AreBad}
+use Rattle.dd_session.specs.declared.status.Status.{Status, TheVariants.BadWords}
+use Rattle.dd_session.specs.{Sides.Told, Sides.told, Sides.IsUntouched, Words.IsOnly, Words.IsSample, Words.AreBad}
 use Rattle.dd_session.specs.Asking.{Engines, AreUnasked, AreKept, HasBegun, IsToEnd, AsksFirstOver, AsksFirst}
 use Rattle.dd_session.specs.Sessions.{IsRun, IsCheck, IsSampleRun, IsIdle, KeepsCounts, IsSession, Consults}
-use Rattle.dd_session.proofs.CheckEnds.{never_bad}
-use Rattle.dd_session.proofs.Decided.{never_ran}
-use Rattle.dd_session.proofs.Engaging.{refused_unasked, same_sample}
-use Rattle.dd_session.proofs.Sampled.{never_sampled}
+use Rattle.dd_session.proofs.{CheckEnds.never_bad, Decided.never_ran, Engaging.refused_unasked, Engaging.same_sample, Sampled.never_sampled}
 use Rattle.dd_session.proofs.Words.{different, alone, one_sample}
 
 -- ---- what is read and written

@@ -1,17 +1,14 @@
 -- Which engines of a roster a session asks.
-use Rattle.std.specs.{Prelude.◌≡◌, Prelude.◌⊎◌, Prelude.Bool, Prelude.Some, Prelude.ℕ, Prelude.◌≤◌, Prelude.List, Prelude.◌++◌, Prelude.length, declared.option.Option.Option}
-use Rattle.std.specs.Io.KnownBytes.{Appends}
+use Rattle.std.specs.Prelude.{◌≡◌, ◌⊎◌, Bool, Some, ℕ, ◌≤◌, List, ◌++◌, length}
+use Rattle.std.specs.{declared.option.Option.Option, Io.KnownBytes.Appends}
 use Rattle.dd_values.specs.Bounds.{most_script}
 use Rattle.dd_outside.specs.Bytes.{ReadToEnd}
-use Rattle.dd_engines.specs.{declared.roster.Roster.Roster, Rosters.roster_seen}
-use Rattle.dd_engines.specs.Rounds.{Seen, Kept, FirstAsked}
+use Rattle.dd_engines.specs.{declared.roster.Roster.Roster, Rosters.roster_seen, Rounds.Seen, Rounds.Kept, Rounds.FirstAsked}
 use Rattle.dd_script.specs.{Parts.Parts, Scripts.Spells}
 use Rattle.dd_answer.specs.Asking.{AsksSomeBoxes}
 use Rattle.dd_session.specs.declared.status.Status.{Status}
 use Rattle.dd_session.specs.declared.status.Status.TheVariants.{Definite, SomeUnknown, Refused, ReadFault, WriteFault, Memory, BadWords, Rejected}
-use Rattle.dd_session.specs.Output.{header}
-use Rattle.dd_session.specs.Runs.{IsAccepted}
-use Rattle.dd_session.specs.Sides.{Told}
+use Rattle.dd_session.specs.{Output.header, Runs.IsAccepted, Sides.Told}
 
 -- The engines before and after a call: the roster itself, and what is seen of each engine.
 pub record Engines (E : Type 0) : Type 0 where

@@ -3,14 +3,9 @@ use Rattle.std.specs.Prelude.{◌≡◌, ◌↔◌, ◌≤◌, ◌+◌, ℕ, Lis
 use Rattle.dd_values.specs.Bounds.{most_script}
 use Rattle.dd_outside.specs.Bytes.{GivesAtMost}
 use Rattle.dd_sample.specs.Sample.{sample_text}
-use Rattle.dd_session.specs.declared.status.Status.{Status}
-use Rattle.dd_session.specs.declared.status.Status.TheVariants.{BadWords}
-use Rattle.dd_session.specs.Sides.{Told, IsUntouched}
-use Rattle.dd_session.specs.Words.{IsOnly, IsSample, AreBad}
-use Rattle.dd_session.specs.Runs.{Ended, DecidesStatus}
-use Rattle.dd_session.specs.Checks.{most_checked}
-use Rattle.dd_session.specs.Checked.{CheckEnded, CheckDecides}
-use Rattle.dd_session.specs.Samples.{SampleEnded}
+use Rattle.dd_session.specs.{declared.status.Status.Status, declared.status.Status.TheVariants.BadWords, Sides.Told, Sides.IsUntouched}
+use Rattle.dd_session.specs.{Words.IsOnly, Words.IsSample, Words.AreBad, Runs.Ended, Runs.DecidesStatus, Checks.most_checked}
+use Rattle.dd_session.specs.{Checked.CheckEnded, Checked.CheckDecides, Samples.SampleEnded}
 use Rattle.dd_session.specs.Asking.{Engines, AreUnasked, AreKept, RunConsults, IsToEnd, AsksFirstOver}
 
 -- ---- what each word does

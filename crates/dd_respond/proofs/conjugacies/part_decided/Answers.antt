@@ -2,10 +2,8 @@ use Rattle.std.proofs.lemmas.Result.{IfOk-weaker}
 use Rattle.dd_boxes.specs.Views.{goal_of}
 use Rattle.dd_contain.specs.Questions.{IsDecision}
 use Rattle.dd_question.specs.Conjugacies.{conjugacy_of}
-use Rattle.dd_respond.specs.Conjugacies.{ComesTo}
-use Rattle.dd_respond.specs.Writable.{IsWritableDecision}
-use Rattle.dd_respond.proofs.Parts.{some_part}
-use Rattle.dd_respond.proofs.WritableLaws.{decision_fits}
+use Rattle.dd_respond.specs.{Conjugacies.ComesTo, Writable.IsWritableDecision}
+use Rattle.dd_respond.proofs.{Parts.some_part, WritableLaws.decision_fits}
 use Rattle.dd_respond.proofs.conjugacies.part_decided.Goals as goal
 
 pub unreachable-requires : goal.unreachable-requires

@@ -1,6 +1,5 @@
-use Rattle.dd_session.proofs.Decided.{ended_run, took_all}
+use Rattle.dd_session.proofs.{Decided.ended_run, Decided.took_all, Engaging.has_begun, Engaging.asks_first, Engaging.never_to_end}
 use Rattle.dd_session.specs.Sides.{told}
-use Rattle.dd_session.proofs.Engaging.{has_begun, asks_first, never_to_end}
 use Rattle.dd_session.proofs.session.run.Goals as goal
 
 pub returns-in-Ok-clause-ended : goal.returns-in-Ok-clause-ended

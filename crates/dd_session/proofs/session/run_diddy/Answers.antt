@@ -61,8 +61,7 @@ returns-in-Some-clause-engines g c =
 
 pub returns-in-None-clause-session : goal.returns-in-None-clause-session
 returns-in-None-clause-session g c =
-    idle_session _ (told g.S.Source.left g.S.Source.faults c.args.source.now c.args.source.now) (told g.K.Sink.held g.K.Sink.faults c.args.sink.now c.args.sink.now)
-    (
+    idle_session _ (told g.S.Source.left g.S.Source.faults c.args.source.now c.args.source.now) (told g.K.Sink.held g.K.Sink.faults c.args.sink.now c.args.sink.now) (
       λ is. false≢true (sym c.if-is_only.false ∙ c.is_only.ensures.1 is),
       λ is. false≢true (sym c.if-is_only-2.false ∙ c.is_only-2.ensures.1 is),
       c.in-None.ensures,
@@ -71,8 +70,7 @@ returns-in-None-clause-session g c =
 
 pub returns-in-None-clause-engines : goal.returns-in-None-clause-engines
 returns-in-None-clause-engines g c =
-    idle_consults _ (told g.S.Source.left g.S.Source.faults c.args.source.now c.args.source.now) (told g.K.Sink.held g.K.Sink.faults c.args.sink.now c.args.sink.now) _ _
-    (
+    idle_consults _ (told g.S.Source.left g.S.Source.faults c.args.source.now c.args.source.now) (told g.K.Sink.held g.K.Sink.faults c.args.sink.now c.args.sink.now) _ _ (
       λ is. false≢true (sym c.if-is_only.false ∙ c.is_only.ensures.1 is),
       λ is. false≢true (sym c.if-is_only-2.false ∙ c.is_only-2.ensures.1 is),
       c.in-None.ensures,
