@@ -7,11 +7,8 @@
 set -eu
 
 here=$(cd "$(dirname "$0")" && pwd)
-root=$(cd "$here/../.." && pwd)
-work=$(mktemp -d)
-trap 'rm -rf "$work"' EXIT
-[ -n "${DIDDY:-}" ] || "$root/diddy" run < /dev/null > "$work/nothing" || true
-diddy=${DIDDY:-$root/crates/dd_program/out/dd_program}
+. "$here/../build.sh"
+find_program
 python3 "$here/scripts.py" "$work"
 cc -O2 -o "$work/refutes" "$here/check.c"
 python3 "$here/run.py" "$diddy" "$work" pigeons-7 pigeons-9 pigeons-10 windows-9 windows-11 "$@"
