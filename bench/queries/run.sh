@@ -4,7 +4,7 @@
 # rule 110 composed with itself against the rule of its two steps by a table of
 # five cells, and against that of three steps, and Life composed with itself against Life. Seconds of processor time of the whole program, the
 # least of five runs, or of TURNS. DIDDY names another program than the one that is built here. With the word life, Life composed with itself is
-# compared with the same composition as well, which takes a minute or two, and writes 263 MB.
+# compared with the same composition as well, which takes long and writes hundreds of MB.
 set -eu
 
 here=$(cd "$(dirname "$0")" && pwd)
