@@ -1,29 +1,18 @@
--- A right answer is a certificate: what is decided of a box has the radius and the refutation of a YES, and the
--- configuration of a NO is given back by what is written of it.
+-- A right answer is a certificate: a decided box gives the radius and the refutation of a YES, and the configuration of a NO can
+-- be read back from what is written of it.
 use Rattle.std.proofs.Common.{◌≡◌, ℕ, List, max, refl, ap, sym, subst, ◌∙◌, arith}
-use Rattle.dd_derivation.specs.Derivations.{IsRefuting}
+use Rattle.dd_derivation.specs.{Derivations.IsRefuting, declared.step.Step.Step}
 use Rattle.dd_problem.specs.Problems.{box_problem}
 use Rattle.dd_lattice.specs.Place.{Place}
-use Rattle.dd_derivation.specs.declared.step.Step.{Step}
-use Rattle.dd_pattern.specs.declared.periods.Periods.{Periods}
-use Rattle.dd_pattern.specs.Periods.{AreWithin, periods_of}
-use Rattle.dd_pattern.specs.Tile.{Tile, tile, IsTile}
-use Rattle.dd_formula.specs.LocalRule.{LocalRule}
-use Rattle.dd_formula.specs.Living.{Fits}
+use Rattle.dd_pattern.specs.{declared.periods.Periods.Periods, Periods.AreWithin, Periods.periods_of, Tile.Tile, Tile.tile, Tile.IsTile}
+use Rattle.dd_formula.specs.{LocalRule.LocalRule, Living.Fits}
 use Rattle.dd_values.specs.declared.limits.Limits.{Limits}
-use Rattle.dd_boxes.specs.Goals.{GoalOf, breaks, always}
-use Rattle.dd_boxes.specs.Boxes.{Suffices, IsLeastRadius}
-use Rattle.dd_boxes.specs.Witnesses.{IsWitness}
+use Rattle.dd_boxes.specs.{Goals.GoalOf, Goals.breaks, Goals.always, Boxes.Suffices, Boxes.IsLeastRadius, Witnesses.IsWitness}
 use Rattle.dd_counter.specs.Least.{IsLiving}
 use Rattle.dd_certificate.specs.declared.answer.Answer.{Answer}
-use Rattle.dd_contain.specs.declared.decision.Decision.{Decision}
-use Rattle.dd_contain.specs.declared.decision.Decision.TheVariants as decision
-use Rattle.dd_contain.specs.Decided.{IsLeast}
-use Rattle.dd_contain.specs.Questions.{Displays, IsDecided}
+use Rattle.dd_contain.specs.{declared.decision.Decision.Decision, Decided.IsLeast, Questions.Displays, Questions.IsDecided}
 use Rattle.dd_contain.specs.Equal.{joined, UnlessNo}
-use Rattle.dd_question.specs.Questions.{Asked}
-use Rattle.dd_question.specs.Questions as asked
-use Rattle.dd_question.specs.Conjugacies.{ConjugacyOf, IsPart}
+use Rattle.dd_question.specs.{Questions.Asked, Conjugacies.ConjugacyOf, Conjugacies.IsPart}
 use Rattle.dd_evidence.specs.Tiles.{given_periods, written_periods, IsWrittenBack}
 use Rattle.dd_respond.specs.Right.{IsRightTo, IsRightBox, IsRightEqual, written_decision, written_equality}
 use Rattle.dd_respond.specs.Conjugacies.{ComesTo, IsRightConjugacy, first_no, all_yes, some_open}
@@ -31,8 +20,9 @@ use Rattle.dd_respond.specs.Bounds.{IsRightDensity, right_least, right_empty, Is
 use Rattle.dd_respond.specs.Tori.{IsRightLeast, has_least, has_none}
 use Rattle.dd_verify.specs.Bounds.{IsStripCertificate, strip_least, strip_empty, IsDischargeCertificate, best, too_large, overflow, no_pivots}
 use Rattle.dd_verify.specs.Evidence.{IsYes, IsNo, IsBoxCertificate, box_yes, box_no, box_unknown, IsEqualCertificate, equal_yes, left_no, right_no, equal_unknown, IsConjugacyCertificate, conjugate, broken, conjugacy_unknown}
-use Rattle.dd_verify.specs.Tori.{torus_tile, IsTorusCertificate, torus_least, torus_none}
-use Rattle.dd_verify.specs.Certificates.{IsCertificateOf}
+use Rattle.dd_verify.specs.{Tori.torus_tile, Tori.IsTorusCertificate, Tori.torus_least, Tori.torus_none, Certificates.IsCertificateOf}
+use Rattle.dd_contain.specs.declared.decision.Decision.TheVariants as decision
+use Rattle.dd_question.specs.Questions as asked
 
 density_is : (x : LocalRule) (strip ws : List ℕ) (a : Answer) → IsRightDensity x strip ws a → IsStripCertificate x strip ws a
 density_is x strip ws a (right_least h c) = strip_least c
@@ -45,7 +35,7 @@ discharge_is x radius margin vs ws pivots a (is_large h) = too_large
 discharge_is x radius margin vs ws pivots a (overflows h) = overflow
 discharge_is x radius margin vs ws pivots a (used_up h) = no_pivots
 
--- the symbols of a configuration that lives on the torus give it back
+-- a configuration that lives on the torus can be read back from its symbols
 torus_same : (x : LocalRule) (along : List ℕ) (t : Tile) → IsLiving x (periods_of along 0) t → t ≡ torus_tile x along t.symbols
 torus_same x along t lives =
     let dimension : t.dimension ≡ x.dimension = lives.1.fits.dimension in

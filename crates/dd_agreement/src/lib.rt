@@ -1,4 +1,4 @@
-//! That what is answered the check accepts.
+//! The check accepts every right answer.
 #![tactic(auto)]
 
 mod laws;

@@ -1,31 +1,25 @@
 -- From what is asked to the query that asks it.
 use Rattle.std.proofs.Common.{◌≡◌, Some, None, refl, sym, subst}
-use Rattle.std.specs.Prelude.{Option, List, IsSomeAnd}
-use Rattle.std.specs.List.{Contains}
+use Rattle.std.specs.{Prelude.Option, Prelude.List, Prelude.IsSomeAnd, List.Contains}
 use Rattle.dd_certificate.specs.declared.answer.Answer.{Answer}
 use Rattle.dd_engines.specs.Rounds.{Seen}
 use Rattle.dd_query.specs.declared.queries.Query.{Query}
 use Rattle.dd_question.specs.Questions.{Asked, IsSoundAsked}
-use Rattle.dd_respond.specs.Asking.{IsBoxQuestion, Engages}
-use Rattle.dd_respond.specs.Laws.{SayTheSame}
-use Rattle.dd_respond.specs.Right.{IsRightTo}
-use Rattle.dd_script.specs.Asking.{AreSound}
-use Rattle.dd_script.specs.Parts.{Parts}
-use Rattle.dd_script.specs.Questions.{asked}
+use Rattle.dd_respond.specs.{Asking.IsBoxQuestion, Asking.Engages, Laws.SayTheSame, Right.IsRightTo}
+use Rattle.dd_script.specs.{Asking.AreSound, Parts.Parts, Questions.asked}
 use Rattle.dd_values.specs.declared.limits.Limits.{Limits}
-use Rattle.dd_answer.specs.Asking.{AsksBoxes}
-use Rattle.dd_answer.specs.Right.{Right}
+use Rattle.dd_answer.specs.{Asking.AsksBoxes, Right.Right}
 
 module _ (s : Parts) (q : Query) (k : Asked) (asks : asked s q ≡ Some k) where
   pub right_for : (l : Limits) → l ≡ s.known.limits → (a : Answer) → IsRightTo l k a → Right s q a
   right_for l limits a right =
       subst (λ (o : Option Asked). IsSomeAnd o (λ j. IsRightTo s.known.limits j a)) (sym asks) (subst (λ (m : Limits). IsRightTo m k a) limits right)
 
-  -- the query asks engines where what it asks does
+  -- the query asks engines if what it asks is a box question
   pub engages_for : (before after : List Seen) → Engages (IsBoxQuestion k) before after → Engages (AsksBoxes s q) before after
   engages_for before after told = subst (λ (o : Option Asked). Engages (IsSomeAnd o IsBoxQuestion) before after) (sym asks) told
 
--- both are of the same item
+-- two facts about the same item
 both_of_one : {X : Type 0} (o : Option X) (P Q : X → Type 0) (G : Type 0) → IsSomeAnd o P → IsSomeAnd o Q → ((x : X) → o ≡ Some x → P x → Q x → G) → G
 both_of_one (Some x) P Q G p q then = then x refl p q
 both_of_one None P Q G p q then = absurd p

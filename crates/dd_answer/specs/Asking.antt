@@ -2,14 +2,13 @@
 use Rattle.std.specs.Prelude.{◌⊎◌, List, [], ◌∷◌, IsSomeAnd}
 use Rattle.dd_query.specs.declared.queries.Query.{Query}
 use Rattle.dd_respond.specs.Asking.{IsBoxQuestion}
-use Rattle.dd_script.specs.Parts.{Parts}
-use Rattle.dd_script.specs.Questions.{asked}
+use Rattle.dd_script.specs.{Parts.Parts, Questions.asked}
 
--- the query asks such a question
+-- the query asks a box question
 abbrev pub AsksBoxes : Parts → Query → Type 0
 AsksBoxes s q = IsSomeAnd (asked s q) IsBoxQuestion
 
--- one of the queries does
+-- one of the queries asks a box question
 abbrev pub AsksSomeBoxes : Parts → List Query → Type 0
 AsksSomeBoxes s [] = ⊥
 AsksSomeBoxes s (q ∷ queries) = AsksBoxes s q ⊎ AsksSomeBoxes s queries

@@ -3,8 +3,7 @@ use Rattle.std.specs.Prelude.{IsSomeAnd}
 use Rattle.dd_certificate.specs.declared.answer.Answer.{Answer}
 use Rattle.dd_query.specs.declared.queries.Query.{Query}
 use Rattle.dd_respond.specs.Right.{IsRightTo}
-use Rattle.dd_script.specs.Parts.{Parts}
-use Rattle.dd_script.specs.Questions.{asked}
+use Rattle.dd_script.specs.{Parts.Parts, Questions.asked}
 
 -- the answer to what the query asks, within the script's limits
 abbrev pub Right : Parts → Query → Answer → Type 0

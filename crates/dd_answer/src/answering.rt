@@ -14,9 +14,9 @@ use dd_respond::respond;
 use dd_script::Script;
 use std::alloc::{AllocError, Global};
 
-/// The right answer to a query of a script, with each number and each list within the bounds of an output.
+/// The right answer to a query of a script. An output can hold each of its numbers and lists.
 ///
-/// A box question is put to the roster as `decide` does. For any other query no engine is asked. The roster is kept.
+/// A box question goes to the roster as in `decide`. No other query asks an engine. The roster is kept.
 pub fn answer<E: Engine>(
     alloc: Global,
     script: &Script,

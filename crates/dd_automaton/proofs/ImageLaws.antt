@@ -1,44 +1,24 @@
 -- The image of a configuration, from its fundamental box and through compositions.
 use Rattle.std.proofs.Common.{◌≡◌, ◌<◌, ℕ, zero, suc, ◌+◌, Bool, true, false, List, [], ◌∷◌, ◌++◌, Some, None, cond, length, slice_get, ap, sym, ◌∙◌, refl, subst, arith, inl, inr}
-use Rattle.std.specs.Prelude.{◌⊎◌, nat_lt, is_some, IfSome, Option}
-use Rattle.std.specs.List.{list_all, All}
 use Rattle.std.proofs.Math.Nat.{eq-or-lt_of_le}
 use Rattle.std.proofs.lemmas.Bool.{and_parts, and_from, ltb-true, lt-ltb, leb-true}
-use Rattle.dd_lattice.specs.Place.{Place, moved}
-use Rattle.dd_lattice.specs.Cells.{cell, shifted}
-use Rattle.dd_lattice.specs.declared.position.Cell.{Cell}
-use Rattle.dd_pattern.specs.Periods.{base_of, periods_of}
-use Rattle.dd_pattern.specs.Reading.{Look, HasSymbolsBelow}
+use Rattle.std.specs.{Prelude.◌⊎◌, Prelude.nat_lt, Prelude.is_some, Prelude.IfSome, List.list_all, List.All}
+use Rattle.dd_lattice.specs.{Place.Place, Place.moved, Cells.cell, Cells.shifted, declared.position.Cell.Cell}
+use Rattle.dd_pattern.specs.{Periods.base_of, Periods.periods_of, Reading.Look, Reading.HasSymbolsBelow}
 use Rattle.dd_pattern.specs.Tile.{Tile, IsTile, IsPeriodic, IsInBox, tile, tile_index, tile_look, cell_in}
-use Rattle.dd_pattern.specs.lemmas.TileLaws.{base_moved, look_same}
-use Rattle.dd_pattern.specs.lemmas.TileSizes.{index_below}
+use Rattle.dd_pattern.specs.lemmas.{TileLaws.base_moved, TileLaws.look_same, TileSizes.index_below}
 use Rattle.dd_pattern.specs.lemmas.BoxLaws.{cell_at_index}
-use Rattle.dd_expansion.specs.Truth.{are_equal}
-use Rattle.dd_expansion.specs.Placed.{is_flat}
-use Rattle.dd_expansion.specs.lemmas.ListTests.{list_all-weaker}
+use Rattle.dd_expansion.specs.{Truth.are_equal, Placed.is_flat, lemmas.ListTests.list_all-weaker}
 use Rattle.dd_formula.specs.LocalRule.{is_near}
 use Rattle.dd_formula.specs.Automata.{CommonNumbers, Counted, IsAutomaton, value, counted, cases_reads, is_cell_of}
 use Rattle.dd_formula.specs.Values.{IsPlaced, CasesArePlaced, HasCasesLook, are_given}
-use Rattle.dd_formula.specs.declared.automaton.Automaton.{Automaton}
-use Rattle.dd_formula.specs.declared.automaton.Automaton.TheVariants as v
-use Rattle.dd_formula.specs.declared.automaton.Cases.{Cases}
+use Rattle.dd_formula.specs.declared.automaton.{Automaton.Automaton, Cases.Cases}
 use Rattle.dd_formula.specs.lemmas.AutomatonLaws.{counted_given, near_reads, fits_given, outer_part, inner_part}
-use Rattle.dd_formula.specs.lemmas.Reached.{read_given, below_at}
-use Rattle.dd_formula.specs.lemmas.ValueLaws.{value_composed, value_by_reads, value_below, equal_values}
+use Rattle.dd_formula.specs.lemmas.Reached.{read_given, look_given}
+use Rattle.dd_formula.specs.lemmas.ValueLaws.{value_composed, value_by_reads, value_below, equal_to_some}
 use Rattle.dd_automaton.specs.Images.{tile_numbers, IsDefinedOn, IsImage}
-
--- a cell with one of the nodes has a symbol
-look_some : (t : Tile) → IsTile t → (c : Cell) → c.node < t.nodes → is_some (tile_look t c) ≡ true
-look_some t ok c node = ap (λ b. is_some (cond b (slice_get t.symbols (tile_index t c)) None)) (lt-ltb c.node t.nodes node) ∙ some_at t.symbols (tile_index t c) (index_below t ok c node)
-  where
-    some_at : (xs : List ℕ) (i : ℕ) → i < length xs → is_some (slice_get xs i) ≡ true
-    some_at [] i h = absurd (omega arith)
-    some_at (x ∷ xs) zero h = refl
-    some_at (x ∷ xs) (suc i) h = some_at xs i (omega arith)
-
-equal_to_some : (a b : Option ℕ) → a ≡ b → is_some a ≡ true → are_equal a b ≡ true
-equal_to_some None b e h = absurd (cc)
-equal_to_some (Some x) b e h = subst (λ o. are_equal (Some x) o ≡ true) e (equal_values x x refl)
+use Rattle.dd_values.specs.lemmas.Lists.{below_at}
+use Rattle.dd_formula.specs.declared.automaton.Automaton.TheVariants as v
 
 node_of : (s : CommonNumbers) (c : Cell) → is_cell_of s c ≡ true → c.node < s.nodes
 node_of s c h = ltb-true c.node s.nodes (and_parts (is_flat s.dimension c.position) (nat_lt c.node s.nodes) h).1
@@ -52,7 +32,7 @@ value_at_base f t n ok formed placed w a node =
     (list_all-weaker (is_cell_of (tile_numbers t n)) (λ d. are_equal (tile_look t (shifted w d)) (tile_look t (shifted base d)))
     (λ d here. equal_to_some (tile_look t (shifted w d)) (tile_look t (shifted base d))
     (look_same t (moved d.position w) (moved d.position base) d.node (base_moved t.dimension t.periods ok.periods d.position w))
-    (look_some t ok (shifted w d) (node_of (tile_numbers t n) d here)))
+    (look_given t ok (shifted w d) (node_of (tile_numbers t n) d here)))
     ((counted f).reads a) (placed (tile_numbers t n) formed a node))
 
 -- the symbols of the box decide the image
@@ -76,7 +56,7 @@ image_from_box f t n ok formed placed ss as_many each = record {
     below_by m (x ∷ xs) h zero d within = h zero (omega arith)
     below_by m (x ∷ xs) h (suc k) d within = below_by m xs (λ j below. h (suc j) (omega arith)) k d (omega arith)
 
--- the configuration gives symbols of the alphabet, and what is read at the cells of the box is there
+-- the configuration gives symbols of the alphabet, and what is read at the cells of the box has symbols
 pub tile_is_below : (n : ℕ) (t : Tile) → All (λ s. s < n) t.symbols → HasSymbolsBelow n (tile_look t)
 tile_is_below n t h c = by (nat_lt c.node t.nodes)
   where

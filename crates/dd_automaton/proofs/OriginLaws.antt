@@ -1,18 +1,14 @@
--- What an automaton reads at the origin of a periodic configuration is there.
+-- What an automaton reads at the origin of a periodic configuration has symbols.
 use Rattle.std.proofs.Common.{◌≡◌, ◌<◌, ℕ, true, Option, Some, None, if◌then◌else◌, refl, ap, sym, ◌∙◌, arith, pos}
-use Rattle.std.specs.Prelude.{◌-ℤ◌, ◌*ℤ◌}
 use Rattle.std.proofs.lemmas.Int.{ints}
-use Rattle.dd_lattice.specs.Place.{Place, place}
-use Rattle.dd_pattern.specs.declared.periods.Periods.{Periods}
-use Rattle.dd_pattern.specs.Periods.{base_of, residue, quotient, unsheared}
+use Rattle.std.specs.Prelude.{◌-ℤ◌, ◌*ℤ◌}
+use Rattle.dd_lattice.specs.{Place.Place, Place.place, lemmas.MoveLaws.place_same}
+use Rattle.dd_pattern.specs.{declared.periods.Periods.Periods, Periods.base_of, Periods.residue, Periods.quotient, Periods.unsheared}
 use Rattle.dd_pattern.specs.Tile.{Tile, IsTile, IsPeriodic, IsInBox, tile_look}
 use Rattle.dd_pattern.specs.lemmas.Residues.{residue_small, quotient_small}
-use Rattle.dd_pattern.specs.lemmas.TileLaws.{place_same}
 use Rattle.dd_expansion.specs.Terms.{origin_at}
-use Rattle.dd_formula.specs.Automata.{value, counted}
-use Rattle.dd_formula.specs.Values.{IsPlaced, HasLook, is_read}
-use Rattle.dd_formula.specs.declared.automaton.Automaton.{Automaton}
-use Rattle.dd_formula.specs.lemmas.AutomatonLaws.{near_reads}
+use Rattle.dd_formula.specs.{Automata.value, Automata.counted, Values.IsPlaced, Values.HasLook, Values.is_read}
+use Rattle.dd_formula.specs.{declared.automaton.Automaton.Automaton, lemmas.AutomatonLaws.near_reads}
 use Rattle.dd_automaton.specs.Images.{tile_numbers, IsDefinedOn}
 use Rattle.dd_automaton.proofs.ImageLaws.{given_all, tile_is_below}
 

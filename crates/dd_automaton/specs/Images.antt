@@ -1,11 +1,9 @@
 -- The image of a periodic configuration under an automaton.
-use Rattle.std.specs.Prelude.{ℕ, ◌<◌, ◌≡◌, Some}
-use Rattle.std.specs.List.{All}
+use Rattle.std.specs.{Prelude.ℕ, Prelude.◌<◌, Prelude.◌≡◌, Prelude.Some, List.All}
 use Rattle.dd_lattice.specs.declared.position.Cell.{Cell}
 use Rattle.dd_pattern.specs.Tile.{Tile, tile_look}
 use Rattle.dd_expansion.specs.Terms.{origin_at}
-use Rattle.dd_formula.specs.Automata.{CommonNumbers, IsAutomaton, value}
-use Rattle.dd_formula.specs.declared.automaton.Automaton.{Automaton}
+use Rattle.dd_formula.specs.{Automata.CommonNumbers, Automata.IsAutomaton, Automata.value, declared.automaton.Automaton.Automaton}
 
 -- the configuration's numbers, with an alphabet of so many symbols
 abbrev pub tile_numbers : Tile → ℕ → CommonNumbers

@@ -21,9 +21,9 @@ fn value_at_origin(
     requires node { node < periodic.now.nodes }
     ensures { IfOk result (λ s. s ≡ value automaton.now (tile_look periodic.now) (origin_at node)) }
 {
-    // Made for its fact: the automaton keeps to its nodes.
+    // This call brings in a fact: the automaton keeps to its nodes.
     automaton.reads_are_placed();
-    // Read for what its type keeps.
+    // This read brings in what the type guarantees.
     let _symbols = periodic.symbols();
     let position = Position { x: 0, y: 0, z: 0 };
     match automaton.value(alloc, &Cell { position, node }, periodic)? {

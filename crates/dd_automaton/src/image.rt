@@ -6,8 +6,8 @@ use dd_formula::{Automaton, Cases};
 use dd_pattern::Periodic;
 use std::alloc::{AllocError, Global};
 
-/// The configuration that has at every cell the automaton's value, with the same periods and shear. A value may be a
-/// symbol that the cell's node doesn't allow.
+/// The configuration with the automaton's value at every cell, and the same periods and shear. A value may be a symbol
+/// that the cell's node doesn't allow.
 pub fn apply(
     alloc: Global,
     automaton: &Automaton,
@@ -19,7 +19,7 @@ pub fn apply(
     match automaton {
         Automaton::Given(cases) => image_by_cases(alloc, cases, periodic),
         Automaton::Composed(outer, inner) => {
-            // Made for its fact: the outer automaton keeps to its nodes.
+            // This call brings in a fact: the outer automaton keeps to its nodes.
             outer.get().reads_are_placed();
             let between = apply(alloc, inner.get(), periodic)?;
             apply(alloc, outer.get(), &between)
@@ -27,12 +27,12 @@ pub fn apply(
     }
 }
 
-/// The same of an automaton that is given by cases.
+/// The image under an automaton that is given by cases.
 fn image_by_cases(alloc: Global, cases: &Cases, periodic: &Periodic) -> Result<Periodic, AllocError>
     requires { IsDefinedOn (Automaton.Given cases.now) periodic.now }
     ensures { IfOk result (IsImage (Automaton.Given cases.now) periodic.now) }
 {
-    // Made for its fact: the rules keep to their nodes.
+    // This call brings in a fact: the rules keep to their nodes.
     cases.reads_are_placed();
     let count = periodic.symbols().len();
     let mut symbols = Vec::with_capacity(alloc, count)?;

@@ -1,17 +1,11 @@
 -- When a box shows that a goal holds nowhere.
 use Rattle.std.specs.Prelude.{ℕ, ◌<◌, ◌≤◌, ◌≡◌, true, is_some, max, pos}
 use Rattle.std.specs.List.{list_all}
-use Rattle.dd_lattice.specs.Place.{Place, place}
-use Rattle.dd_lattice.specs.Cells.{shifted}
-use Rattle.dd_lattice.specs.declared.position.Cell.{Cell}
-use Rattle.dd_pattern.specs.Reading.{Look}
-use Rattle.dd_pattern.specs.Tile.{Tile, IsTile, tile_look}
+use Rattle.dd_lattice.specs.{Place.Place, Place.place, Cells.shifted, declared.position.Cell.Cell}
+use Rattle.dd_pattern.specs.{Reading.Look, Tile.Tile, Tile.IsTile, Tile.tile_look}
 use Rattle.dd_expansion.specs.Placed.{is_flat}
-use Rattle.dd_formula.specs.LocalRule.{LocalRule, reads_at}
-use Rattle.dd_formula.specs.Allowed.{AreAllowed, HasAllowed}
-use Rattle.dd_formula.specs.Living.{Fits, Obeys, Lives}
-use Rattle.dd_formula.specs.Reach.{reach, automaton_reach}
-use Rattle.dd_formula.specs.Automata.{counted}
+use Rattle.dd_formula.specs.{LocalRule.LocalRule, LocalRule.reads_at, Allowed.AreAllowed, Allowed.HasAllowed}
+use Rattle.dd_formula.specs.{Living.Fits, Living.Obeys, Living.Lives, Reach.reach, Reach.automaton_reach, Automata.counted}
 use Rattle.dd_boxes.specs.Goals.{GoalOf, breaks, differ, always, HasGoal}
 use Rattle.dd_boxes.specs.Fillings.{Admissible, is_box_cell, is_cell_within, IsBoxFilling, IsConfiguration}
 
@@ -44,7 +38,7 @@ abbrev pub Covers : LocalRule → ℕ → Look → Place → Type 0
 Covers x n look v = (c : Cell) → is_box_cell x n c ≡ true → is_some (look (shifted v c)) ≡ true
 
 -- n is at least the goal's least radius, and no admissible filling of any domain has the goal at any position of Z^d
--- round which it fills a box of radius n
+-- around which it fills a box of radius n
 pub record Never (x : LocalRule) (g : GoalOf) (n : ℕ) : Type 0 where
   pub reaches : Reaches g n
   pub nowhere : (look : Look) → AreAllowed x look → Admissible x look → (v : Place) → is_flat x.dimension v ≡ true → Covers x n look v → HasGoal g look v → ⊥
@@ -53,7 +47,7 @@ pub record Never (x : LocalRule) (g : GoalOf) (n : ℕ) : Type 0 where
 abbrev pub IsInNoConfiguration : LocalRule → GoalOf → Type 0
 IsInNoConfiguration x g = (look : Look) → IsConfiguration x look → Obeys x look → (v : Place) → is_flat x.dimension v ≡ true → HasGoal g look v → ⊥
 
--- nor does any periodic configuration that lives in the rule's subshift, of any periods and shear
+-- nor does any periodic configuration of the rule's subshift, with any periods and shear
 abbrev pub IsInNoTile : LocalRule → GoalOf → Type 0
 IsInNoTile x g = (t : Tile) → IsTile t → Fits x t → HasAllowed x t → Lives x t → (v : Place) → is_flat x.dimension v ≡ true → HasGoal g (tile_look t) v → ⊥
 

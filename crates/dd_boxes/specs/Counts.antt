@@ -1,9 +1,8 @@
 -- How many clauses a box question takes at most.
-use Rattle.std.specs.Prelude.{ℕ}
-use Rattle.dd_formula.specs.Counts.{broken_clauses, region_clauses}
-use Rattle.dd_formula.specs.ValueCounts.{differ_clauses}
+use Rattle.std.specs.Prelude.{ℕ, ◌≤◌, max}
+use Rattle.dd_formula.specs.{Counts.broken_clauses, Counts.region_clauses, Counts.largest_clauses, ValueCounts.differ_clauses}
 use Rattle.dd_formula.specs.LocalRule.{LocalRule}
-use Rattle.dd_boxes.specs.Goals.{GoalOf, breaks, differ, always}
+use Rattle.dd_boxes.specs.{Goals.GoalOf, Goals.breaks, Goals.differ, Goals.always, Boxes.IsLeastRadius}
 
 -- the clauses that say that the goal holds at the origin
 abbrev pub goal_clauses : GoalOf → ℕ
@@ -11,10 +10,14 @@ goal_clauses (breaks y) = broken_clauses y
 goal_clauses (differ s f g) = differ_clauses s.symbols s.nodes f g
 goal_clauses always = 0
 
--- the clauses of a question on so many positions
+-- the clauses of a question on this many positions
 abbrev pub question_clauses : LocalRule → GoalOf → ℕ → ℕ
 question_clauses x g positions = region_clauses x (goal_clauses g) positions
 
--- at most so many may be made
+-- the greatest number of clauses that may be made
 abbrev pub most_clauses : ℕ
 most_clauses = 2000000
+
+-- with the limits n and p the question takes at most so many on its largest box and torus
+abbrev pub IsSmallQuestion : LocalRule → GoalOf → ℕ → ℕ → Type 0
+IsSmallQuestion x g n p = (least : ℕ) → IsLeastRadius g least → largest_clauses x (goal_clauses g) (max n least) p ≤ most_clauses

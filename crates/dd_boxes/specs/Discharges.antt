@@ -1,10 +1,8 @@
--- What a discharge may be asked.
+-- What a discharging question may ask.
 use Rattle.std.specs.Prelude.{ℕ, ◌≤◌, ◌≡◌, true, unsigned_abs, List, length}
-use Rattle.std.specs.List.{All, IsDistinct}
-use Rattle.std.specs.Ordering.{is_eq}
+use Rattle.std.specs.{List.All, List.IsDistinct, Ordering.is_eq}
 use Rattle.dd_values.specs.Bounds.{most_weight}
-use Rattle.dd_lattice.specs.Place.{Place}
-use Rattle.dd_lattice.specs.Order.{place_cmp}
+use Rattle.dd_lattice.specs.{Place.Place, Order.place_cmp}
 use Rattle.dd_expansion.specs.Placed.{is_flat}
 use Rattle.dd_formula.specs.LocalRule.{LocalRule}
 

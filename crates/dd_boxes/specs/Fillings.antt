@@ -1,16 +1,10 @@
--- Fillings: symbols for the cells of a domain, each one that the cell's node allows. A look is a filling of those cells to
--- which it gives a symbol.
+-- A filling gives each cell of a domain a symbol that the cell's node allows. A look is a filling of the cells to which it gives a symbol.
 use Rattle.std.specs.Prelude.{ℕ, ◌<◌, ◌≡◌, ◌&&◌, Bool, true, is_some, nat_lt, nat_le, ℤ, unsigned_abs}
 use Rattle.std.specs.List.{list_all}
-use Rattle.dd_lattice.specs.Place.{Place}
-use Rattle.dd_lattice.specs.Cells.{cell, shifted}
-use Rattle.dd_lattice.specs.Boxes.{is_active, spread}
-use Rattle.dd_lattice.specs.declared.position.Cell.{Cell}
+use Rattle.dd_lattice.specs.{Place.Place, Cells.cell, Cells.shifted, Boxes.is_active, Boxes.spread, declared.position.Cell.Cell}
 use Rattle.dd_pattern.specs.Reading.{Look}
 use Rattle.dd_expansion.specs.Placed.{is_flat}
-use Rattle.dd_formula.specs.LocalRule.{LocalRule, is_true, reads_at}
-use Rattle.dd_formula.specs.Allowed.{AreAllowed}
-use Rattle.dd_formula.specs.Automata.{CommonNumbers}
+use Rattle.dd_formula.specs.{LocalRule.LocalRule, LocalRule.is_true, LocalRule.reads_at, Allowed.AreAllowed, Automata.CommonNumbers}
 
 -- the place fits: the cell, and each cell that the rule reads there, has a symbol
 abbrev pub place_fits : LocalRule → Look → Cell → Bool
@@ -29,7 +23,7 @@ abbrev pub in_box : ℕ → ℕ → Place → Bool
 in_box d n p =
     is_up_to (spread (is_active d 0) n) p.x && is_up_to (spread (is_active d 1) n) p.y && is_up_to (spread (is_active d 2) n) p.z
 
--- a cell of B(n) in d dimensions, with one of so many nodes
+-- a cell of B(n) in d dimensions, with one of this many nodes
 abbrev pub is_cell_in_box : ℕ → ℕ → ℕ → Cell → Bool
 is_cell_in_box d nodes n c = in_box d n c.position && nat_lt c.node nodes
 
@@ -37,11 +31,11 @@ is_cell_in_box d nodes n c = in_box d n c.position && nat_lt c.node nodes
 abbrev pub is_box_cell : LocalRule → ℕ → Cell → Bool
 is_box_cell x n c = is_cell_in_box x.dimension x.nodes n c
 
--- a cell over the numbers of automata
+-- a cell of B(n), over these numbers of automata
 abbrev pub is_cell_within : CommonNumbers → ℕ → Cell → Bool
 is_cell_within s n c = is_cell_in_box s.dimension s.nodes n c
 
--- exactly the cells of B(n) have symbols, allowed ones
+-- exactly the cells of B(n) have symbols, and these are allowed
 pub record IsBoxFilling (x : LocalRule) (n : ℕ) (look : Look) : Type 0 where
   pub domain : (c : Cell) → is_some (look c) ≡ is_box_cell x n c
   pub allowed : AreAllowed x look

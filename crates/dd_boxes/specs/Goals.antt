@@ -1,11 +1,9 @@
 -- What is looked for at a position.
 use Rattle.std.specs.Prelude.{ℕ, ◌≡◌, ◌<◌, false}
-use Rattle.dd_lattice.specs.Place.{Place}
-use Rattle.dd_lattice.specs.Cells.{cell}
+use Rattle.dd_lattice.specs.{Place.Place, Cells.cell}
 use Rattle.dd_pattern.specs.Reading.{Look}
 use Rattle.dd_formula.specs.LocalRule.{LocalRule, IsRule, is_true}
-use Rattle.dd_formula.specs.Automata.{CommonNumbers, IsAutomaton, value}
-use Rattle.dd_formula.specs.declared.automaton.Automaton.{Automaton}
+use Rattle.dd_formula.specs.{Automata.CommonNumbers, Automata.IsAutomaton, Automata.value, declared.automaton.Automaton.Automaton}
 
 pub data GoalOf : Type 0 where
   -- some node of the position breaks the rule
@@ -40,7 +38,7 @@ IsGoalFor x (breaks y) = AreAlike x y
 IsGoalFor x (differ s f g) = AreOver x s f g
 IsGoalFor x always = Unit {0}
 
--- the rule of a goal, where it has one, keeps what each rule keeps
+-- the rule of a goal, if it has one, keeps what each rule keeps
 abbrev pub KeepsRule : GoalOf → Type 0
 KeepsRule (breaks y) = IsRule y
 KeepsRule (differ s f g) = Unit {0}

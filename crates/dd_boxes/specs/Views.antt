@@ -1,8 +1,6 @@
 -- The goal that a value of the program stands for, in questions about a rule.
-use Rattle.dd_formula.specs.LocalRule.{LocalRule}
-use Rattle.dd_formula.specs.Automata.{CommonNumbers}
-use Rattle.dd_boxes.specs.Goals.{GoalOf, breaks, differ, always, IsGoalFor}
-use Rattle.dd_boxes.specs.declared.goals.Goal.{Goal}
+use Rattle.dd_formula.specs.{LocalRule.LocalRule, Automata.CommonNumbers}
+use Rattle.dd_boxes.specs.{Goals.GoalOf, Goals.breaks, Goals.differ, Goals.always, Goals.IsGoalFor, declared.goals.Goal.Goal}
 use Rattle.dd_boxes.specs.declared.goals.Goal.TheVariants.{Breaks, Differ, Always}
 
 abbrev pub numbers_of : LocalRule → CommonNumbers

@@ -1,15 +1,9 @@
 -- Fillings of a box and periodic configurations that have a goal at the origin.
 use Rattle.std.specs.Prelude.{ℕ, ◌≡◌}
-use Rattle.dd_pattern.specs.Reading.{Look}
-use Rattle.dd_pattern.specs.declared.periods.Periods.{Periods}
-use Rattle.dd_pattern.specs.Periods.{AreWithin}
-use Rattle.dd_pattern.specs.Tile.{Tile, IsTile, tile_look}
-use Rattle.dd_formula.specs.LocalRule.{LocalRule}
-use Rattle.dd_formula.specs.Allowed.{HasAllowed}
-use Rattle.dd_formula.specs.Living.{Fits, Lives}
-use Rattle.dd_boxes.specs.Goals.{GoalOf, HasGoal}
-use Rattle.dd_boxes.specs.Fillings.{Admissible, IsBoxFilling}
-use Rattle.dd_boxes.specs.Boxes.{origin}
+use Rattle.dd_values.specs.Bounds.{greatest_period}
+use Rattle.dd_pattern.specs.{Reading.Look, declared.periods.Periods.Periods, Periods.AreWithin, Tile.Tile, Tile.IsTile, Tile.tile_look}
+use Rattle.dd_formula.specs.{LocalRule.LocalRule, Allowed.HasAllowed, Living.Fits, Living.Lives}
+use Rattle.dd_boxes.specs.{Goals.GoalOf, Goals.HasGoal, Fillings.Admissible, Fillings.IsBoxFilling, Boxes.origin}
 
 -- an admissible filling of B(n) with the goal at the origin
 pub record IsBoxWitness (x : LocalRule) (g : GoalOf) (n : ℕ) (look : Look) : Type 0 where
@@ -28,9 +22,6 @@ pub record IsWitness (x : LocalRule) (g : GoalOf) (t : Tile) : Type 0 where
 abbrev pub HasPeriods : Periods → Tile → Type 0
 HasPeriods p t = t.periods ≡ p
 
--- the greatest period along an axis that a question asks for
-abbrev pub most_period : ℕ
-most_period = 8
-
+-- periods that a question may ask for
 abbrev pub ArePeriods : ℕ → Periods → Type 0
-ArePeriods d p = AreWithin d most_period p
+ArePeriods d p = AreWithin d greatest_period p

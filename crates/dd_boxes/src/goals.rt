@@ -1,4 +1,4 @@
-//! What a box question looks for at the origin, and how far that reads.
+//! The goals of box questions, and how far a goal reads from the origin.
 ghost use Rattle.std.specs.Prelude.{IfOk};
 ghost use Rattle.dd_boxes.specs.Boxes.{IsLeastRadius};
 ghost use Rattle.dd_boxes.specs.Goals.{IsGoalFor, KeepsRule};
@@ -19,13 +19,13 @@ pub enum Goal<'a> {
     Always,
 }
 
-/// Only looks at the goal's rule, where it has one, for what it keeps.
+/// Reads the goal's rule, if it has one, only for its invariants.
 pub fn keeps_rule(goal: &Goal)
     ensures { (x : LocalRule) → KeepsRule (goal_of x goal.now) }
 {
     match goal {
         Goal::Breaks(rule) => {
-            // Made for its fact: what a rule keeps.
+            // This call brings in a fact: what a rule keeps.
             let _nodes = rule.nodes();
         }
         Goal::Differ(_, _) => {}

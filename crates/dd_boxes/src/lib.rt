@@ -1,4 +1,4 @@
-//! Box questions: whether a goal can hold at a position of a configuration, and what one box says of it.
+//! Box questions: whether a goal can hold at a position of a configuration, and what one box says about it.
 #![tactic(auto)]
 
 mod goals;

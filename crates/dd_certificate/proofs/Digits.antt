@@ -1,8 +1,7 @@
--- Writing a number from its last digit on.
+-- Writing a number, starting with its last digit.
 use Rattle.std.proofs.Common.{◌≡◌, ℕ, zero, suc, ◌+◌, ◌*◌, ◌/◌, ◌%◌, ◌^◌, ◌<◌, ◌≤◌, List, [], ◌∷◌, ◌++◌, length, drop, get_or, refl, append_assoc, add-one, drop-cons, arith}
-use Rattle.std.proofs.Math.Nat.{pow-suc}
+use Rattle.std.proofs.{Math.Nat.pow-suc, lemmas.Fmt.decimal_digit, lemmas.Fmt.decimal_step}
 use Rattle.std.specs.Fmt.{decimal}
-use Rattle.std.proofs.lemmas.Fmt.{decimal_digit, decimal_step}
 
 -- a digit more at the front
 pub digit_more : (n rest at : ℕ) (digits : List ℕ) → 10 ≤ rest → rest < 2 ^ 64 → at < length digits → get_or digits at 0 ≡ 48 + rest % 10

@@ -1,15 +1,12 @@
--- Steps that refute a list of clauses fit in an output: their variables are the list's, and each number of a clause that they
--- use or delete is that of a clause before them.
+-- Steps that refute a list of clauses fit in an output: their variables are the list's, and each clause that they use
+-- or delete comes before them.
 use Rattle.std.proofs.Common.{◌≡◌, ℕ, zero, suc, ◌+◌, ◌<◌, ◌≤◌, Bool, true, false, not, ◌&&◌, ◌||◌, List, [], ◌∷◌, ◌++◌, length, map, Option, None, Some, is_some, slice_get, All, refl, sym, subst, ◌∙◌, ◌⊎◌, inl, inr, arith, nat_le, length-append}
-use Rattle.std.specs.List.{list_all}
-use Rattle.std.specs.Option.{option_map_or}
 use Rattle.std.proofs.lemmas.Bool.{false≢true, leb-true, and_parts, or_cases}
-use Rattle.std.proofs.lemmas.List.{length-set, length-map}
-use Rattle.std.proofs.lemmas.List.Elements.{All-nil, All-cons}
+use Rattle.std.proofs.lemmas.List.{length-set, length-map, Elements.All-nil, Elements.All-cons}
 use Rattle.std.proofs.lemmas.Option.{none-some, option_and_then_some, slice_get_within}
+use Rattle.std.specs.{List.list_all, Option.option_map_or}
 use Rattle.dd_values.specs.Bounds.{most_variables}
-use Rattle.dd_clause.specs.declared.clause.Literal.{Literal}
-use Rattle.dd_clause.specs.Clauses.{negation, IsLiteralInRange}
+use Rattle.dd_clause.specs.{declared.clause.Literal.Literal, Clauses.negation, Clauses.IsLiteralInRange}
 use Rattle.dd_derivation.specs.declared.propagation.Finding.{Finding}
 use Rattle.dd_derivation.specs.declared.propagation.Finding.TheVariants.{Falsified, Forced, Open}
 use Rattle.dd_derivation.specs.declared.step.Step.{Step}
@@ -31,7 +28,7 @@ alive known h (Some c) few is some = numbered known h c few is
 
 -- ---- hints
 
--- a hint that says something has a clause
+-- a hint that is followed has a clause
 hinted : (says : List Literal → Finding) (o : Option (List Literal)) (is_last : Bool) (next : Literal → Bool) →
     follow (option_map_or says o Open) is_last next ≡ true → is_some o ≡ true
 hinted says None is_last next goes_on = absurd (false≢true goes_on)
@@ -123,7 +120,7 @@ some_steps : (n : ℕ) (known : List (Option (List Literal))) (steps : List Step
 some_steps n known [] refuting = absurd (false≢true refuting)
 some_steps n known (s ∷ steps) refuting = omega arith
 
--- where an output can hold the greatest variable, and the number of the last step, it can hold the steps
+-- an output that can hold the greatest variable and the number of the last step can hold the steps
 pub refuting_writable : (n : ℕ) (clauses : List (List Literal)) (steps : List Step) → refutes n clauses steps ≡ true → n ≤ most_variables →
     length clauses + length steps ≤ most_count → IsWritableRefutation steps
 refuting_writable n clauses steps refuting small few =

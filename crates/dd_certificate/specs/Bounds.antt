@@ -4,12 +4,10 @@ use Rattle.dd_values.specs.Bounds.{most_variables}
 pub use Rattle.dd_values.specs.Bounds.{most_number}
 use Rattle.dd_clause.specs.Clauses.{IsLiteralInRange}
 use Rattle.dd_derivation.specs.declared.step.Step.{Step}
-use Rattle.dd_certificate.specs.declared.answer.Listed.{Listed}
-use Rattle.dd_certificate.specs.declared.answer.Starred.{Starred}
-use Rattle.dd_certificate.specs.declared.answer.Answer.{Answer}
+use Rattle.dd_certificate.specs.declared.answer.{Listed.Listed, Starred.Starred, Answer.Answer}
 use Rattle.dd_certificate.specs.declared.answer.Answer.TheVariants as answer
 
--- the greatest number of a clause, and of steps
+-- the greatest number of a clause, and the greatest number of steps
 abbrev pub most_count : ℕ
 most_count = 2 ^ 64 - 1
 
@@ -43,7 +41,7 @@ IsWritableKept (Some n) = IsWritableNumber n
 abbrev pub IsWritableStarred : Starred → Type 0
 IsWritableStarred p = IsWritableNumber p.node × All IsWritableKept p.symbols
 
--- a list that has to have an entry
+-- a list with at least one entry
 abbrev pub IsWritableList : List ℕ → Type 0
 IsWritableList ns = (1 ≤ length ns) × All IsWritableNumber ns
 

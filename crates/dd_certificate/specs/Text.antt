@@ -1,16 +1,12 @@
--- The text of an answer: lines of words with one space between two of them, each line ended by a line feed.
+-- The text of an answer: lines of words, with one space between words and a line feed after each line.
 use Rattle.std.specs.Prelude.{ℕ, ℤ, List, [], ◌∷◌, ◌++◌, length, codes, ◌==◌, if◌then◌else◌, Option, Some, None}
-use Rattle.std.specs.List.{flat_map}
-use Rattle.std.specs.Fmt.{decimal, signed_decimal}
+use Rattle.std.specs.{List.flat_map, Fmt.decimal, Fmt.signed_decimal}
 use Rattle.dd_clause.specs.declared.clause.Literal.{Literal}
 use Rattle.dd_derivation.specs.declared.step.Step.{Step}
-use Rattle.dd_certificate.specs.declared.answer.Side.{Side}
+use Rattle.dd_certificate.specs.declared.answer.{Side.Side, Reason.Reason, Listed.Listed}
+use Rattle.dd_certificate.specs.declared.answer.{Starred.Starred, Answer.Answer}
 use Rattle.dd_certificate.specs.declared.answer.Side.TheVariants as side
-use Rattle.dd_certificate.specs.declared.answer.Reason.{Reason}
 use Rattle.dd_certificate.specs.declared.answer.Reason.TheVariants as reason
-use Rattle.dd_certificate.specs.declared.answer.Listed.{Listed}
-use Rattle.dd_certificate.specs.declared.answer.Starred.{Starred}
-use Rattle.dd_certificate.specs.declared.answer.Answer.{Answer}
 use Rattle.dd_certificate.specs.declared.answer.Answer.TheVariants as answer
 
 abbrev pub line_feed : List ℕ
@@ -40,7 +36,7 @@ fraction_to_end numerator denominator = decimal numerator ++ (codes "/" ++ (deci
 
 -- ---- refutations
 
--- a variable's number, with a minus sign where the literal is its negation
+-- a variable's number, with a minus sign if the literal is negative
 abbrev pub literal_text : Literal → List ℕ
 literal_text l = if l.positive then decimal l.variable else (codes "-" ++ decimal l.variable)
 
@@ -51,7 +47,7 @@ spaced_literal l = literal_text l ++ codes " "
 abbrev pub spaced : ℕ → List ℕ
 spaced n = decimal n ++ codes " "
 
--- lists that a 0 ends, with the byte that follows the 0
+-- lists that end with a 0, and the byte that follows the 0
 abbrev pub numbers_to_zero : ℕ → List ℕ → List ℕ
 numbers_to_zero next ns = flat_map spaced ns ++ (codes "0" ++ next ∷ [])
 
@@ -79,7 +75,7 @@ reason_text reason.Large = codes "large"
 reason_text reason.Overflow = codes "overflow"
 reason_text reason.Pivots = codes "pivots"
 
--- a shear of 0 is not said
+-- a shear of 0 is not written
 abbrev pub shear_text : ℕ → List ℕ
 shear_text shear = if shear == 0 then [] else (codes " shear " ++ decimal shear)
 
@@ -154,7 +150,7 @@ amounts_and_duals_text amounts duals = numbers_line (codes "amounts") amounts ++
 abbrev pub bound_lines : ℕ → List ℕ → List ℕ → List ℕ
 bound_lines common amounts duals = number_line (codes "denominator ") common ++ amounts_and_duals_text amounts duals
 
--- nothing weighs less than 0
+-- no weight is less than 0
 abbrev pub least_lines : ℕ → List ℕ → List Step → List ℕ
 least_lines weight symbols steps = numbers_line (codes "conf") symbols ++ (if weight == 0 then [] else refutation_text steps)
 

@@ -1,15 +1,15 @@
-//! What an output says of a query, with all that is needed to test it without searching again.
+//! What an output says about a query, with all that is needed to check it without another search.
 use dd_derivation::Step;
 use dd_values::Items;
 
-/// Which of two rules the configuration of a NO obeys, where it breaks the other.
+/// Which of two rules the configuration of a NO obeys while it breaks the other.
 #[derive(Clone, Copy, Debug, PartialEq, Eq)]
 pub enum Side {
     /// The query asks one thing only.
     Whole,
-    /// The configuration is one of the first rule alone.
+    /// The configuration obeys the first rule only.
     Left,
-    /// The configuration is one of the second rule alone.
+    /// The configuration obeys the second rule only.
     Right,
 }
 
@@ -18,9 +18,9 @@ pub enum Side {
 pub enum Reason {
     /// The search ended at the limits of the script.
     Limits,
-    /// A structure that was to be made is too large.
+    /// A structure that the answer needs is too large.
     Large,
-    /// A fraction has no room in its integers.
+    /// A fraction does not fit in its integers.
     Overflow,
     /// The pivots of the script are used up.
     Pivots,
@@ -54,28 +54,28 @@ pub enum Answer {
     Outside {
         place: Items<i64>,
     },
-    /// It is so, by what refutes the contrary on the box of this radius.
+    /// The claim holds: steps refute the contrary on the box of this radius.
     Yes {
         radius: u64,
         steps: Items<Step>,
     },
-    /// It is so in both directions, each by a refutation on a box of its own.
+    /// The claim holds in both directions, each by a refutation on a box of its own.
     YesBoth {
         left: u64,
         right: u64,
         left_steps: Items<Step>,
         right_steps: Items<Step>,
     },
-    /// It is not so: a configuration with these periods and this shear, as the symbols of one of its boxes in the order of
-    /// the cells. The shear moves along the first axis, once for each period along the second. It is 0 where there is one
-    /// period only.
+    /// The claim does not hold: a configuration with these periods and this shear, as the symbols of one of its boxes
+    /// in the order of the cells. The shear moves along the first axis, once for each period along the second. It is
+    /// 0 if there is only one period.
     No {
         side: Side,
         periods: Items<u64>,
         shear: u64,
         symbols: Items<u64>,
     },
-    /// It is not known, for this reason.
+    /// The answer is not known, for this reason.
     Unknown {
         reason: Reason,
     },
@@ -108,26 +108,26 @@ pub enum Answer {
     Minimal {
         patterns: Items<Starred>,
     },
-    /// The four questions hold, each by what refutes the contrary on the box of its radius.
+    /// The four questions hold. For each, steps refute the contrary on the box of its radius.
     Conjugate {
         radii: Items<u64>,
         steps: Items<Items<Step>>,
     },
-    /// One of the four questions, by its number from 1, does not hold: a configuration with these periods and this shear, as
-    /// in a NO.
+    /// One of the four questions, by its number from 1, does not hold, as a configuration with these periods and this
+    /// shear shows, as in a NO.
     Broken {
         part: u64,
         periods: Items<u64>,
         shear: u64,
         symbols: Items<u64>,
     },
-    /// The least weight, a configuration that has it, and what refutes each smaller one. There are no steps where it is 0.
+    /// The least weight, a configuration that has it, and steps that refute each smaller one. There are none if it is 0.
     Least {
         weight: u64,
         symbols: Items<u64>,
         steps: Items<Step>,
     },
-    /// No configuration with the periods lives in the subshift, by what refutes that one does.
+    /// No configuration with the periods lives in the subshift, by steps that refute that there is one.
     Nothing {
         steps: Items<Step>,
     },

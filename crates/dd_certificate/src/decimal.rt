@@ -1,10 +1,10 @@
-//! Numbers in decimal, put at the end of a text with no memory of their own.
+//! Numbers in decimal, appended to a text without memory of their own.
 ghost use Rattle.std.specs.Prelude.{◌≡◌, ◌++◌, OnOk};
 ghost use Rattle.std.specs.Fmt.{decimal, signed_decimal};
 
 use std::alloc::AllocError;
 
-/// Puts the digits of a number at the end of a text, without a leading zero.
+/// Appends the digits of a number to a text, without a leading zero.
 pub fn push_decimal(text: &mut Vec<u8>, number: u64) -> Result<(), AllocError>
     ensures { OnOk result (text.new.items ≡ text.old.items ++ decimal number) }
 {
@@ -20,7 +20,7 @@ pub fn push_decimal(text: &mut Vec<u8>, number: u64) -> Result<(), AllocError>
     text.extend_from_slice(&digits[at..])
 }
 
-/// Puts a number at the end of a text, after a minus sign where it is below 0.
+/// Appends a number to a text, after a minus sign if it is below 0.
 pub(crate) fn push_signed(text: &mut Vec<u8>, number: i64) -> Result<(), AllocError>
     ensures { OnOk result (text.new.items ≡ text.old.items ++ signed_decimal number) }
 {

@@ -6,7 +6,7 @@ ghost use Rattle.dd_derivation.specs.declared.step.Step.{Step};
 ghost use Rattle.dd_derivation.specs.Derivations.{refutes};
 ghost use Rattle.dd_certificate.specs.Bounds.{most_count, IsWritableRefutation};
 
-/// Does nothing; its contract says that an output can hold the steps that refute clauses, where it can hold the greatest
+/// Does nothing; its contract says that an output can hold the steps that refute clauses if it can hold the greatest
 /// variable and the number of the last step.
 pub fn refutations_fit()
     ensures { (n : ℕ) (clauses : List (List Literal)) (steps : List Step) → refutes n clauses steps ≡ true → n ≤ most_variables

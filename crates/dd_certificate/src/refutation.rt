@@ -1,4 +1,4 @@
-//! A refutation is by far the longest part of an output, so each step's words go straight to the end of the one text.
+//! A refutation is by far the longest part of an output, so the words of each step are appended directly to the one text.
 ghost use Rattle.std.specs.Prelude.{◌≡◌, ◌++◌, OnOk};
 ghost use Rattle.std.specs.List.{flat_map};
 ghost use Rattle.dd_certificate.specs.Text.{literal_text, literals_to_zero, numbers_to_zero, refutation_text, step_text};
@@ -17,7 +17,7 @@ fn push_literal(text: &mut Vec<u8>, literal: &Literal) -> Result<(), AllocError>
     push_decimal(text, u64::from(literal.variable))
 }
 
-/// Puts literals at the end of a text, each with a space after it, and the 0 that ends them.
+/// Appends literals to a text, each with a space after it, and the 0 that ends them.
 fn push_literals(text: &mut Vec<u8>, literals: &[Literal]) -> Result<(), AllocError>
     ensures { OnOk result (text.new.items ≡ text.old.items ++ literals_to_zero literals.now) }
 {
@@ -28,7 +28,7 @@ fn push_literals(text: &mut Vec<u8>, literals: &[Literal]) -> Result<(), AllocEr
     text.extend_from_slice(b"0 ")
 }
 
-/// Puts the numbers of clauses at the end of a text, each with a space after it, the 0 that ends them, and one more byte.
+/// Appends numbers of clauses to a text, each with a space after it, the 0 that ends them, and one more byte.
 fn push_clause_numbers(text: &mut Vec<u8>, numbers: &[u64], next: u8) -> Result<(), AllocError>
     ensures { OnOk result (text.new.items ≡ text.old.items ++ numbers_to_zero next numbers.now) }
 {
@@ -57,7 +57,7 @@ fn push_steps(text: &mut Vec<u8>, steps: &[Step]) -> Result<(), AllocError>
     Ok(())
 }
 
-/// Puts the lines of a refutation at the end of a text.
+/// Appends the lines of a refutation to a text.
 pub(crate) fn push_refutation(text: &mut Vec<u8>, steps: &[Step]) -> Result<(), AllocError>
     ensures { OnOk result (text.new.items ≡ text.old.items ++ refutation_text steps.now) }
 {

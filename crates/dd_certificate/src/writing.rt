@@ -1,4 +1,4 @@
-//! The text of an answer, written from the front into one growing text.
+//! The text of an answer, written from left to right into one growing text.
 ghost use Rattle.std.specs.Prelude.{◌≡◌, ◌++◌, codes, length, OnOk, IfOk};
 ghost use Rattle.std.specs.List.{flat_map};
 ghost use Rattle.dd_certificate.specs.Text.{
@@ -38,7 +38,7 @@ use dd_derivation::Step;
 use dd_values::Items;
 use std::alloc::{AllocError, Global};
 
-/// Puts numbers at the end of a text, each after a space.
+/// Appends numbers to a text, each after a space.
 fn push_numbers(text: &mut Vec<u8>, numbers: &[u64]) -> Result<(), AllocError>
     ensures { OnOk result (text.new.items ≡ text.old.items ++ spaced_out numbers.now) }
 {
@@ -49,7 +49,7 @@ fn push_numbers(text: &mut Vec<u8>, numbers: &[u64]) -> Result<(), AllocError>
     Ok(())
 }
 
-/// Ends a line by these numbers, each after a space.
+/// Ends a line with these numbers, each after a space.
 fn push_numbers_to_end(text: &mut Vec<u8>, numbers: &[u64]) -> Result<(), AllocError>
     ensures { OnOk result (text.new.items ≡ text.old.items ++ numbers_to_end numbers.now) }
 {
@@ -69,7 +69,7 @@ fn push_signed_to_end(text: &mut Vec<u8>, numbers: &[i64]) -> Result<(), AllocEr
     Ok(())
 }
 
-/// Puts a line of a word and a number at the end of a text. The word has its space.
+/// Appends a line of a word and a number to a text. The word includes its space.
 fn push_number_line(text: &mut Vec<u8>, word: &[u8], number: u64) -> Result<(), AllocError>
     ensures { OnOk result (text.new.items ≡ text.old.items ++ number_line word.now number) }
 {
@@ -132,7 +132,7 @@ fn push_yes_both(text: &mut Vec<u8>, left: u64, right: u64) -> Result<(), AllocE
     Ok(())
 }
 
-/// Says a shear of at least 1.
+/// Appends a shear of at least 1.
 fn push_shear(text: &mut Vec<u8>, shear: u64) -> Result<(), AllocError>
     ensures { OnOk result (text.new.items ≡ text.old.items ++ shear_text shear) }
 {
@@ -143,7 +143,7 @@ fn push_shear(text: &mut Vec<u8>, shear: u64) -> Result<(), AllocError>
     Ok(())
 }
 
-/// Ends a line by the periods and the shear of a configuration.
+/// Ends a line with the periods and the shear of a configuration.
 fn push_periods_to_end(text: &mut Vec<u8>, periods: &[u64], shear: u64) -> Result<(), AllocError>
     ensures { OnOk result (text.new.items ≡ text.old.items ++ periods_to_end periods.now shear) }
 {
@@ -190,7 +190,7 @@ fn push_fraction_line(
     push_fraction_to_end(text, numerator, denominator)
 }
 
-/// Puts a line of a word and numbers at the end of a text.
+/// Appends a line of a word and numbers to a text.
 fn push_numbers_line(text: &mut Vec<u8>, word: &[u8], numbers: &[u64]) -> Result<(), AllocError>
     ensures { OnOk result (text.new.items ≡ text.old.items ++ numbers_line word.now numbers.now) }
 {
@@ -198,14 +198,14 @@ fn push_numbers_line(text: &mut Vec<u8>, word: &[u8], numbers: &[u64]) -> Result
     push_numbers_to_end(text, numbers)
 }
 
-/// Says how many patterns follow.
+/// Appends how many patterns follow.
 fn push_minimal(text: &mut Vec<u8>, patterns: &[Starred]) -> Result<(), AllocError>
     ensures { OnOk result (text.new.items ≡ text.old.items ++ number_line (codes "MINIMAL ") (length patterns.now)) }
 {
     push_number_line(text, b"MINIMAL ", patterns.len() as u64)
 }
 
-/// Puts the first line, from the answer on, at the end of a text.
+/// Appends the first line, from the answer on, to a text.
 fn push_verdict(text: &mut Vec<u8>, answer: &Answer) -> Result<(), AllocError>
     ensures { OnOk result (text.new.items ≡ text.old.items ++ verdict_text answer.now) }
 {
@@ -279,7 +279,7 @@ fn push_kept(text: &mut Vec<u8>, symbol: Option<u64>) -> Result<(), AllocError>
     }
 }
 
-/// Ends a line by these symbols, each after a space, with a star for a cell that is left out.
+/// Ends a line with these symbols, each after a space, with a star for a cell that is left out.
 fn push_kept_to_end(text: &mut Vec<u8>, symbols: &[Option<u64>]) -> Result<(), AllocError>
     ensures { OnOk result (text.new.items ≡ text.old.items ++ kept_to_end symbols.now) }
 {
@@ -370,7 +370,7 @@ fn push_bound_lines(
     push_amounts_and_duals(text, amounts, duals)
 }
 
-/// Puts the lines that follow an answer's first one at the end of a text.
+/// Appends the lines that follow an answer's first one to a text.
 fn push_further_lines(text: &mut Vec<u8>, answer: &Answer) -> Result<(), AllocError>
     ensures { OnOk result (text.new.items ≡ text.old.items ++ further_lines answer.now) }
 {

@@ -1,17 +1,14 @@
--- What is a certificate of a query of a script claims what is true.
+-- What a certificate of a query of a script claims is true.
 use Rattle.std.proofs.Common.{◌≡◌, ℕ, ◌+◌, ◌-◌, ◌<◌, ◌≤◌, length, refl, ap, sym, subst, ◌∙◌, arith, Some, None, inl, inr}
+use Rattle.std.proofs.lemmas.{Bool.cases_lt, Option.slice_get_within}
 use Rattle.std.specs.Prelude.{Option, IsSomeAnd, slice_get}
-use Rattle.std.proofs.lemmas.Bool.{cases_lt}
-use Rattle.std.proofs.lemmas.Option.{slice_get_within}
 use Rattle.dd_certificate.specs.declared.answer.Answer.{Answer}
 use Rattle.dd_question.specs.Questions.{Asked}
 use Rattle.dd_query.specs.declared.queries.Query.{Query}
-use Rattle.dd_script.specs.Parts.{Parts}
-use Rattle.dd_script.specs.Questions.{asked, query_at}
+use Rattle.dd_script.specs.{Parts.Parts, Questions.asked, Questions.query_at}
 use Rattle.dd_values.specs.declared.limits.Limits.{Limits}
 use Rattle.dd_verify.specs.Certificates.{IsCertificateOf, ClaimOf}
-use Rattle.dd_checker.specs.Certificates.{IsCertificateFor, IsCertificate}
-use Rattle.dd_checker.specs.Claims.{ClaimFor, Claim}
+use Rattle.dd_checker.specs.{Certificates.IsCertificateFor, Certificates.IsCertificate, Claims.ClaimFor, Claims.Claim}
 use Rattle.dd_checker.proofs.Verdicts.{claim_at}
 
 -- what a certificate of the query claims is true
@@ -24,7 +21,7 @@ query_claims s q k l asks limits told a h =
     let certificate = subst (λ (o : Option Asked). IsSomeAnd o (λ j. IsCertificateOf s.known.limits j a)) asks h.1 in
     subst (λ (o : Option Asked). IsSomeAnd o (λ j. ClaimOf j a)) (sym asks) (told a (subst (λ (m : Limits). IsCertificateOf m k a) (sym limits) certificate))
 
--- of the first n queries
+-- this holds of the first n queries
 abbrev pub AreTruthful : Parts → ℕ → Type 0
 AreTruthful s n = (number : ℕ) (a : Answer) → number - 1 < n → IsCertificate s number a → Claim s number a
 

@@ -1,38 +1,27 @@
 -- What a CONJUGATE that is a certificate says of configurations that no data holds.
 use Rattle.std.proofs.Common.{◌≡◌, ℕ, ◌<◌, true, refl, sym, subst, ◌∙◌, Some, None}
-use Rattle.std.specs.Prelude.{Option, IsSomeAnd, IfSome, slice_get}
 use Rattle.std.proofs.lemmas.Bool.{false≢true}
-use Rattle.dd_lattice.specs.declared.position.Cell.{Cell}
-use Rattle.dd_lattice.specs.Cells.{cell}
-use Rattle.dd_lattice.specs.Place.{Place}
+use Rattle.std.specs.Prelude.{Option, IsSomeAnd, IfSome, slice_get}
+use Rattle.dd_lattice.specs.{declared.position.Cell.Cell, Cells.cell, Place.Place}
 use Rattle.dd_pattern.specs.Reading.{Look, HasSymbolsBelow}
 use Rattle.dd_expansion.specs.Placed.{is_flat}
-use Rattle.dd_formula.specs.LocalRule.{LocalRule}
-use Rattle.dd_formula.specs.Living.{Obeys}
-use Rattle.dd_formula.specs.declared.automaton.Automaton.{Automaton}
-use Rattle.dd_formula.specs.lemmas.AllowedLaws.{look_below}
+use Rattle.dd_formula.specs.{LocalRule.LocalRule, Living.Obeys, declared.automaton.Automaton.Automaton, lemmas.AllowedLaws.look_below}
 use Rattle.dd_maps.specs.Images.{Differ, HasSymbols, AtEachNode, GivesBackAt}
 use Rattle.dd_maps.specs.lemmas.PairLaws.{image_differs, identity_differs}
 use Rattle.dd_maps.specs.lemmas.Claims.{symbol_at, image_keeps, gives_back}
 use Rattle.dd_boxes.specs.Boxes.{HoldsNowhere}
 use Rattle.dd_meanings.specs.Made.{IsRuleOf, IsAutomatonOf}
-use Rattle.dd_pairs.specs.Parts.{image, change, pair_of, goal_of}
-use Rattle.dd_pairs.specs.Queries.{of_four}
-use Rattle.dd_pairs.specs.lemmas.PartLaws.{rule_over, automaton_over}
-use Rattle.dd_pairs.specs.lemmas.QueryLaws.{item_at}
+use Rattle.dd_pairs.specs.{Parts.image, Parts.change, Parts.pair_of, Parts.goal_of, Queries.of_four}
+use Rattle.dd_pairs.specs.lemmas.{PartLaws.rule_over, PartLaws.automaton_over, QueryLaws.item_at}
 use Rattle.dd_certificate.specs.declared.answer.Answer.{Answer}
 use Rattle.dd_query.specs.declared.queries.Query.{Query}
-use Rattle.dd_script.specs.Parts.{Parts}
-use Rattle.dd_script.specs.Kept.{IsScriptOf}
-use Rattle.dd_script.specs.Questions.{query_at, conjugacy_question}
-use Rattle.dd_verify.specs.Holding.{says_conjugate, says_broken, says_no_more}
-use Rattle.dd_verify.specs.Certificates.{ClaimOf}
-use Rattle.dd_checker.specs.Claims.{ClaimFor, Claim}
-use Rattle.dd_checker.specs.Lifted.{whole_look, IsWhole}
+use Rattle.dd_script.specs.{Parts.Parts, Kept.IsScriptOf, Questions.query_at, Questions.conjugacy_question}
+use Rattle.dd_verify.specs.{Holding.says_conjugate, Holding.says_broken, Holding.says_no_more, Certificates.ClaimOf}
+use Rattle.dd_checker.specs.{Claims.ClaimFor, Claims.Claim, Lifted.whole_look, Lifted.IsWhole}
 use Rattle.dd_checker.specs.Inverses.{is_conjugate, IsConjugacy, a_conjugacy, IsConjugacyAt, IsCarriedAt, AreInverseAt, AreInverseFor, are_inverse, AreInverseIn}
 use Rattle.dd_checker.proofs.Lifting.{look_allowed, look_whole, not_at}
 
--- four items are there, and this is of what is asked of them
+-- the four items exist, and what is asked of them satisfies P
 record Found {X Y F G Z : Type 0} (h : X → Y → F → G → Z) (P : Z → Type 0) (o : Option X) (p : Option Y) (q : Option F) (r : Option G) : Type 0 where
   x : X
   y : Y
@@ -52,7 +41,7 @@ found h P (Some x) (Some y) None r k = absurd k
 found h P (Some x) None q r k = absurd k
 found h P None p q r k = absurd k
 
--- what is said of an item where there is one
+-- what holds of an item, if there is one
 of_item : {X : Type 0} (P : X → Type 0) (o : Option X) (x : X) → IfSome o P → o ≡ Some x → P x
 of_item P o x told is = subst (λ p. IfSome p P) is told
 
@@ -89,7 +78,7 @@ module _ (s : Parts) (kept : IsScriptOf s) (nodes : ℕ) (symbol_of : Cell → �
               (subst (λ k. Differ k other.left other.right look v) (sym ofx.nodes) ((identity_differs grid sets g f look v has).1 changed))));
         }
 
-  -- both ways
+  -- in both directions
   inverse : (x y : LocalRule) (f g : Automaton) → IsRuleOf s.known.setting x → IsRuleOf s.known.setting y → IsAutomatonOf s.known.setting f →
       IsAutomatonOf s.known.setting g → (a : Answer) → is_conjugate a ≡ true → ClaimOf (conjugacy_question s.known.setting x y f g) a → AreInverseAt x y f g look v
   inverse x y f g ofx ofy off ofg _ told (says_conjugate {n1 = n1} {n2 = n2} {n3 = n3} {n4 = n4} one two three four) = record {
@@ -109,7 +98,7 @@ module _ (s : Parts) (kept : IsScriptOf s) (nodes : ℕ) (symbol_of : Cell → �
       let ofg = of_item (IsAutomatonOf s.known.setting) (slice_get s.automata back) k.g (item_at kept.automata back) k.back in
       are_inverse k.from k.to k.there k.back (inverse k.x k.y k.f k.g ofx ofy off ofg a told k.says)
 
-  -- where a CONJUGATE claims what is true, the two automata are inverse maps at v
+  -- if what a CONJUGATE claims is true, the two automata are inverse maps at v
   pub inverse_law : (number : ℕ) (a : Answer) → is_conjugate a ≡ true → IsConjugacyAt s number → Claim s number a → AreInverseIn s number look v
   inverse_law number a told asks claim = at (query_at s number) asks claim
     where

@@ -1,44 +1,37 @@
 -- What a YES that is a certificate says of configurations that no data holds.
 use Rattle.std.proofs.Common.{◌≡◌, ℕ, ◌-◌, ◌<◌, Bool, true, false, List, refl, ap, sym, subst, ◌∙◌, arith, Some, None}
-use Rattle.std.specs.Prelude.{Option, IsSomeAnd, IfSome, cond, ◌&&◌, is_some, nat_lt, slice_get}
-use Rattle.std.specs.List.{Contains}
 use Rattle.std.proofs.lemmas.Bool.{and_from, lt-ltb, ltb-true, false≢true}
 use Rattle.std.proofs.lemmas.Option.{slice_get_within, get_or_from_slice_get}
-use Rattle.dd_lattice.specs.declared.position.Cell.{Cell}
-use Rattle.dd_lattice.specs.Place.{Place}
+use Rattle.std.specs.Prelude.{Option, IsSomeAnd, IfSome, cond, ◌&&◌, is_some, nat_lt, slice_get}
+use Rattle.std.specs.List.{Contains}
+use Rattle.dd_lattice.specs.{declared.position.Cell.Cell, Place.Place}
 use Rattle.dd_topology.specs.Sets.{row_allows}
 use Rattle.dd_pattern.specs.Reading.{Look}
 use Rattle.dd_expansion.specs.Placed.{is_flat}
-use Rattle.dd_formula.specs.LocalRule.{LocalRule, rule_allows}
-use Rattle.dd_formula.specs.Allowed.{AreAllowed}
-use Rattle.dd_boxes.specs.Goals.{GoalOf, breaks}
-use Rattle.dd_boxes.specs.Fillings.{IsConfiguration}
-use Rattle.dd_boxes.specs.Boxes.{HoldsNowhere}
+use Rattle.dd_formula.specs.{LocalRule.LocalRule, LocalRule.rule_allows, Allowed.AreAllowed}
+use Rattle.dd_boxes.specs.{Goals.GoalOf, Goals.breaks, Fillings.IsConfiguration, Boxes.HoldsNowhere}
 use Rattle.dd_meanings.specs.Made.{IsRuleOf}
 use Rattle.dd_query.specs.declared.queries.Query.{Query}
-use Rattle.dd_script.specs.Parts.{Parts}
+use Rattle.dd_script.specs.{Parts.Parts, Questions.asked, Questions.query_at, Asking.AreOf, Asking.AreSound}
 use Rattle.dd_derivation.specs.declared.step.Step.{Step}
 use Rattle.dd_certificate.specs.declared.answer.Answer.{Answer}
-use Rattle.dd_certificate.specs.declared.answer.Answer.TheVariants as answer
 use Rattle.dd_question.specs.Questions.{Asked}
-use Rattle.dd_question.specs.Questions as question
-use Rattle.dd_script.specs.Questions.{asked, query_at}
-use Rattle.dd_script.specs.Asking.{AreOf, AreSound}
-use Rattle.dd_verify.specs.Holding.{says_nowhere, says_equal}
-use Rattle.dd_verify.specs.Certificates.{ClaimOf}
+use Rattle.dd_verify.specs.{Holding.says_nowhere, Holding.says_equal, Certificates.ClaimOf}
 use Rattle.dd_checker.specs.Claims.{ClaimFor, Claim}
 use Rattle.dd_checker.specs.Lifted.{is_yes, whole_look, IsWhole, IsNotAt, IsAskedNotAt, of_box, of_equality, IsNowhereAt}
+use Rattle.dd_certificate.specs.declared.answer.Answer.TheVariants as answer
+use Rattle.dd_question.specs.Questions as question
 
--- what follows from what an item is and has
+-- a consequence of two facts about an item
 some_then : {X : Type 0} (o : Option X) (P Q : X → Type 0) → ((x : X) → o ≡ Some x → P x → Q x) → IsSomeAnd o P → IsSomeAnd o Q
 some_then (Some x) P Q h p = h x refl p
 some_then None P Q h p = p
 
--- an item stands in its list
+-- an item is in its list
 stands_at : (xs : List Query) (n : ℕ) (x : Query) → slice_get xs n ≡ Some x → Contains xs x
 stands_at xs n x is = (n, slice_get_within xs n x is, get_or_from_slice_get xs n x x is)
 
--- a YES to one question, or to both of an equality
+-- YES to one question, or to both of an equality
 data SaysYes : Answer → Type 0 where
   one : {n : ℕ} {steps : List Step} → SaysYes (answer.Yes n steps)
   both : {n m : ℕ} {steps others : List Step} → SaysYes (answer.YesBoth n m steps others)
@@ -82,7 +75,7 @@ module _ (s : Parts) (nodes : ℕ) (symbol_of : Cell → ℕ) (whole : IsWhole s
     asked_not_at a both (question.equality x y) ok (says_equal {n = n} {m = m} left right) = of_equality (not_at x (breaks y) n ok.0 left) (not_at y (breaks x) m ok.1 right)
     asked_not_at _ _ _ ok claim = elim claim [ ]
 
-    -- where a YES claims what is true, the goal does not hold at v
+    -- if what a YES claims is true, the goal does not hold at v
     pub lifted_law : AreSound s → (number : ℕ) (a : Answer) → is_yes a ≡ true → Claim s number a → IsNowhereAt s number look v
     lifted_law sound number a told h =
         some_then (query_at s number) (λ q. ClaimFor s q a) (λ q. IsSomeAnd (asked s q) (λ k. IsAskedNotAt k look v))

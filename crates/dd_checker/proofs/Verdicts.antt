@@ -1,30 +1,25 @@
 -- From the test of a query to the verdict.
 use Rattle.std.proofs.Common.{◌≡◌, ℕ, ◌-◌, ◌<◌, Bool, true, false, List, length, get_or, refl, ap, sym, subst, ◌∙◌, arith, Some}
-use Rattle.std.specs.Prelude.{◌↔◌, Option, IsSomeAnd, slice_get}
-use Rattle.std.specs.List.{Contains}
-use Rattle.std.proofs.lemmas.Bool.{false≢true}
-use Rattle.std.proofs.lemmas.Option.{slice_get_read}
-use Rattle.std.proofs.lemmas.List.Elements.{Contains-get_or}
-use Rattle.dd_certificate.specs.declared.answer.Answer.{Answer}
-use Rattle.dd_certificate.specs.Bounds.{IsWritable}
+use Rattle.std.proofs.lemmas.{Bool.false≢true, Option.slice_get_read, List.Elements.Contains-get_or}
+use Rattle.std.specs.{Prelude.◌↔◌, Prelude.Option, Prelude.IsSomeAnd, Prelude.slice_get, List.Contains}
+use Rattle.dd_certificate.specs.{declared.answer.Answer.Answer, Bounds.IsWritable}
 use Rattle.dd_question.specs.Questions.{Asked}
 use Rattle.dd_query.specs.declared.queries.Query.{Query}
-use Rattle.dd_script.specs.Parts.{Parts}
-use Rattle.dd_script.specs.Questions.{asked, query_at}
+use Rattle.dd_script.specs.{Parts.Parts, Questions.asked, Questions.query_at}
 use Rattle.dd_values.specs.declared.limits.Limits.{Limits}
 use Rattle.dd_verify.specs.Certificates.{IsCertificateOf}
-use Rattle.dd_checker.specs.declared.verdict.Verdict.TheVariants as verdict
 use Rattle.dd_checker.specs.Certificates.{IsCertificateFor, IsCertificate, HasQuery}
 use Rattle.dd_checker.specs.Claims.{ClaimFor, Claim}
+use Rattle.dd_checker.specs.declared.verdict.Verdict.TheVariants as verdict
 
--- a certificate of what the query asks is one of the query
+-- a certificate of what the query asks is a certificate of the query
 pub certificate_for : (s : Parts) (q : Query) (k : Asked) (a : Answer) (l : Limits) → asked s q ≡ Some k → l ≡ s.known.limits → (b : Bool) →
     (b ≡ true) ↔ (IsWritable a × IsCertificateOf l k a) → (b ≡ true) ↔ IsCertificateFor s q a
 certificate_for s q k a l asks limits b told =
     subst (λ (o : Option Asked). (b ≡ true) ↔ (IsWritable a × IsSomeAnd o (λ j. IsCertificateOf s.known.limits j a))) (sym asks)
     (subst (λ (m : Limits). (b ≡ true) ↔ (IsWritable a × IsCertificateOf m k a)) limits told)
 
--- ---- the query that is read of the list
+-- ---- the query that is read from the list
 
 module _ (qs queries : List Query) (n : ℕ) (q : Query) (same : qs ≡ queries) (is : q ≡ get_or qs n q) (within : n < length queries) where
   read : q ≡ get_or queries n q

@@ -2,14 +2,13 @@
 use Rattle.std.specs.Prelude.{ℕ, IsSomeAnd}
 use Rattle.dd_certificate.specs.declared.answer.Answer.{Answer}
 use Rattle.dd_query.specs.declared.queries.Query.{Query}
-use Rattle.dd_script.specs.Parts.{Parts}
-use Rattle.dd_script.specs.Questions.{asked, query_at}
+use Rattle.dd_script.specs.{Parts.Parts, Questions.asked, Questions.query_at}
 use Rattle.dd_verify.specs.Certificates.{ClaimOf}
 
--- to a query of the script
+-- the claim of an answer to a query of the script
 abbrev pub ClaimFor : Parts → Query → Answer → Type 0
 ClaimFor s q a = IsSomeAnd (asked s q) (λ k. ClaimOf k a)
 
--- to the query with a number, from 1
+-- the claim of an answer to the query with this number, from 1
 abbrev pub Claim : Parts → ℕ → Answer → Type 0
 Claim s number a = IsSomeAnd (query_at s number) (λ q. ClaimFor s q a)

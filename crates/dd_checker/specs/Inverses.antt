@@ -3,15 +3,11 @@ use Rattle.std.specs.Prelude.{ℕ, ◌≡◌, Bool, nat_eq, codes, Some, IsSomeA
 use Rattle.std.specs.List.{starts_with}
 use Rattle.dd_lattice.specs.Place.{Place}
 use Rattle.dd_pattern.specs.Reading.{Look}
-use Rattle.dd_formula.specs.LocalRule.{LocalRule}
-use Rattle.dd_formula.specs.Living.{Obeys}
-use Rattle.dd_formula.specs.declared.automaton.Automaton.{Automaton}
+use Rattle.dd_formula.specs.{LocalRule.LocalRule, Living.Obeys, declared.automaton.Automaton.Automaton}
 use Rattle.dd_maps.specs.Images.{KeepsAt, GivesBackAt, AtEachNode}
-use Rattle.dd_certificate.specs.declared.answer.Answer.{Answer}
-use Rattle.dd_certificate.specs.Text.{verdict_text}
+use Rattle.dd_certificate.specs.{declared.answer.Answer.Answer, Text.verdict_text}
 use Rattle.dd_query.specs.declared.queries.Query.{Query}
-use Rattle.dd_script.specs.Parts.{Parts}
-use Rattle.dd_script.specs.Questions.{query_at}
+use Rattle.dd_script.specs.{Parts.Parts, Questions.query_at}
 
 -- the answer's first line begins with CONJUGATE
 abbrev pub is_conjugate : Answer → Bool
@@ -21,26 +17,26 @@ is_conjugate a = starts_with nat_eq (verdict_text a) (codes "CONJUGATE")
 pub data IsConjugacy : Query → Type 0 where
   a_conjugacy : {there back from to : ℕ} → IsConjugacy (Query.Conjugate there back from to)
 
--- so does the query with a number, from 1
+-- the query with this number, from 1, asks that
 abbrev pub IsConjugacyAt : Parts → ℕ → Type 0
 IsConjugacyAt s number = IsSomeAnd (query_at s number) IsConjugacy
 
--- at each node of v the configuration's image under f has an allowed symbol and obeys y, and g's value on that image is the
+-- at each node of v the configuration's image under f has an allowed symbol and obeys y, and the value of g on that image is the
 -- configuration's symbol
 pub record IsCarriedAt (y : LocalRule) (f g : Automaton) (look : Look) (v : Place) : Type 0 where
   pub keeps : AtEachNode y.nodes (KeepsAt f y look) v
   pub gives_back : AtEachNode y.nodes (GivesBackAt g f look) v
 
--- where the configuration obeys x at every place of Z^d, f carries it to y and g back; and where it obeys y, g carries it to x and f back
+-- If the configuration obeys x everywhere, f carries it to y, and g back. If it obeys y, g carries it to x, and f back.
 pub record AreInverseAt (x y : LocalRule) (f g : Automaton) (look : Look) (v : Place) : Type 0 where
   pub there : Obeys x look → IsCarriedAt y f g look v
   pub back : Obeys y look → IsCarriedAt x g f look v
 
--- the rules and automata that a conjugacy names are there, and are so
+-- the rules and automata that a conjugacy names exist, and are inverse so
 pub data AreInverseFor (s : Parts) (look : Look) (v : Place) : Query → Type 0 where
   are_inverse : {there back from to : ℕ} {x y : LocalRule} {f g : Automaton} → slice_get s.rules from ≡ Some x → slice_get s.rules to ≡ Some y →
       slice_get s.automata there ≡ Some f → slice_get s.automata back ≡ Some g → AreInverseAt x y f g look v → AreInverseFor s look v (Query.Conjugate there back from to)
 
--- those of the query with a number, from 1
+-- those of the query with this number, from 1
 abbrev pub AreInverseIn : Parts → ℕ → Look → Place → Type 0
 AreInverseIn s number look v = IsSomeAnd (query_at s number) (AreInverseFor s look v)

@@ -1,20 +1,16 @@
 -- What a YES says of configurations that no data holds.
 use Rattle.std.specs.Prelude.{ℕ, ◌≡◌, ◌<◌, Bool, true, cond, nat_eq, codes, Some, None, IsSomeAnd}
 use Rattle.std.specs.List.{starts_with}
-use Rattle.dd_lattice.specs.Place.{Place}
-use Rattle.dd_lattice.specs.declared.position.Cell.{Cell}
+use Rattle.dd_lattice.specs.{Place.Place, declared.position.Cell.Cell}
 use Rattle.dd_topology.specs.Sets.{allows}
 use Rattle.dd_pattern.specs.Reading.{Look}
 use Rattle.dd_expansion.specs.Placed.{is_flat, is_cell_in}
-use Rattle.dd_formula.specs.LocalRule.{LocalRule}
-use Rattle.dd_formula.specs.Living.{Obeys}
+use Rattle.dd_formula.specs.{LocalRule.LocalRule, Living.Obeys}
 use Rattle.dd_boxes.specs.Goals.{GoalOf, breaks, HasGoal}
-use Rattle.dd_certificate.specs.declared.answer.Answer.{Answer}
-use Rattle.dd_certificate.specs.Text.{verdict_text}
-use Rattle.dd_script.specs.Parts.{Parts}
+use Rattle.dd_certificate.specs.{declared.answer.Answer.Answer, Text.verdict_text}
+use Rattle.dd_script.specs.{Parts.Parts, Questions.asked, Questions.query_at}
 use Rattle.dd_question.specs.Questions.{Asked}
 use Rattle.dd_question.specs.Questions as question
-use Rattle.dd_script.specs.Questions.{asked, query_at}
 
 -- the answer's first line says YES
 abbrev pub is_yes : Answer → Bool
@@ -24,21 +20,21 @@ is_yes a = starts_with nat_eq (verdict_text a) (codes "YES ")
 abbrev pub whole_look : ℕ → ℕ → (Cell → ℕ) → Look
 whole_look d nodes symbol_of c = cond (is_cell_in d nodes c) (Some (symbol_of c)) None
 
--- a symbol for each cell of Z^d with one of the script's nodes, one that the node allows
+-- a symbol for each cell of Z^d with one of the script's nodes, allowed at that node
 pub record IsWhole (s : Parts) (nodes : ℕ) (symbol_of : Cell → ℕ) : Type 0 where
   pub same_nodes : nodes ≡ s.known.setting.topology.nodes
   pub allowed : (c : Cell) → is_flat s.known.setting.topology.dimension c.position ≡ true → c.node < nodes →
       allows s.known.setting.sets c.node (symbol_of c) ≡ true
 
--- where the configuration obeys the premise, the goal does not hold at v
+-- if the configuration obeys the premise, the goal does not hold at v
 abbrev pub IsNotAt : LocalRule → GoalOf → Look → Place → Type 0
 IsNotAt x g look v = Obeys x look → HasGoal g look v → ⊥
 
--- of the goal that a box question asks for, or of both that an equality does; no YES answers another question
+-- the goal of a box question, or both goals of an equality; YES answers no other question
 pub data IsAskedNotAt : Asked → Look → Place → Type 0 where
   of_box : {x : LocalRule} {g : GoalOf} {look : Look} {v : Place} → IsNotAt x g look v → IsAskedNotAt (question.box x g) look v
   of_equality : {x y : LocalRule} {look : Look} {v : Place} → IsNotAt x (breaks y) look v → IsNotAt y (breaks x) look v → IsAskedNotAt (question.equality x y) look v
 
--- the same of the goals that the query with a number, from 1, asks for
+-- the goals of the query with this number, from 1
 abbrev pub IsNowhereAt : Parts → ℕ → Look → Place → Type 0
 IsNowhereAt s number look v = IsSomeAnd (query_at s number) (λ q. IsSomeAnd (asked s q) (λ k. IsAskedNotAt k look v))

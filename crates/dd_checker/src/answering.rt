@@ -10,8 +10,8 @@ use dd_script::Script;
 use dd_verify::check_question;
 use std::alloc::{AllocError, Global};
 
-/// Whether an answer is a certificate of the query with this number, from 1. What an accepted answer claims, of all finite
-/// domains, of all positions of Z^d and of all configurations, is true.
+/// Whether an answer is a certificate of the query with this number, from 1. What an accepted answer claims is true, of all
+/// finite domains, all positions of Z^d and all configurations.
 pub fn check_answer(
     alloc: Global,
     script: &Script,

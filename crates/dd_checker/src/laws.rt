@@ -23,8 +23,8 @@ pub(crate) fn query_certified(script: &Script, query: &Query)
     claims_hold(&question);
 }
 
-/// Only looks at what the script's queries ask; its contract says that what a certificate claims is true: of a bound also that boxes
-/// of every side length, wherever they lie, weigh at least what it says, up to what may come in from outside them.
+/// Only looks at what the script's queries ask; its contract says that what a certificate claims is true. For a bound this
+/// includes boxes of every side, at any position: they weigh at least what the bound says, less what may come in from outside.
 pub fn certified(script: &Script)
     ensures { (number : ℕ) (answer : AnyAnswer) → IsCertificate script.now number answer → Claim script.now number answer }
 {
@@ -34,9 +34,9 @@ pub fn certified(script: &Script)
     }
 }
 
-/// Only looks at what the script's queries ask; its contract draws the conclusion of a YES that is a certificate for any
-/// configuration, also for one that no data holds: where it obeys the premise of a side at every place of Z^d, that side's goal does
-/// not hold at `place`. It takes no memory.
+/// Only looks at what the script's queries ask. Its contract says what a YES that is a certificate means for any configuration,
+/// even one that no data holds: if it obeys the premise of a side at every position of Z^d, that side's goal does not hold at
+/// `place`. It takes no memory.
 pub fn lifted<C: Configuration>(
     script: &Script,
     _query: u32,
@@ -55,10 +55,10 @@ pub fn lifted<C: Configuration>(
     certified(script);
 }
 
-/// Only looks at what the script's queries ask; its contract draws the conclusion of a CONJUGATE that is a certificate of a conjugacy
-/// for any configuration, also for one that no data holds. Where it obeys the first rule at every place of Z^d, its image under the first
-/// automaton has allowed symbols and obeys the second rule at `place`, and the second automaton's value on that image is the
-/// configuration's symbol, at every node. The same holds with the rules and the automata exchanged. It takes no memory.
+/// Only looks at what the script's queries ask. Its contract says what a CONJUGATE that is a certificate means for any
+/// configuration, even one that no data holds. If it obeys the first rule at every position of Z^d, its image under the first
+/// automaton has allowed symbols and obeys the second rule at `place`, and at every node the second automaton takes the image
+/// back to the configuration's symbol. The same holds with rules and automata exchanged. It takes no memory.
 pub fn conjugate_at<C: Configuration>(
     script: &Script,
     _query: u32,

@@ -1,5 +1,5 @@
-//! The check of answers to the queries of scripts: which are certificates, and what they claim. It trusts nothing of a search, and
-//! does none.
+//! The check of answers to the queries of scripts: which are certificates, and what they claim. It trusts no search and makes
+//! none.
 #![tactic(auto)]
 
 mod answering;

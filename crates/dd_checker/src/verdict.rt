@@ -1,10 +1,10 @@
-//! What the check of an answer comes to.
+//! The result of checking an answer.
 
 /// Whether an answer is a certificate.
 #[derive(Clone, Copy, Debug, PartialEq, Eq)]
 pub enum Verdict {
-    /// It is a certificate of its query, so what it claims holds.
+    /// The answer is a certificate of its query, so what it claims holds.
     Accepted,
-    /// It is none. The query may have another answer, or the same one with a certificate.
+    /// It is not a certificate. The query may have another answer, or the same one with a certificate.
     Rejected,
 }

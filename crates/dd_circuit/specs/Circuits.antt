@@ -1,12 +1,10 @@
--- Signals, gates, circuits, and what their values are.
+-- Signals, gates, circuits and their values.
 use Rattle.std.specs.Prelude.{ℕ, suc, ◌+◌, ◌≤◌, Bool, true, ◌&&◌, not, if◌then◌else◌, List, [], ◌∷◌, All, length}
-use Rattle.std.specs.List.{list_all, list_any}
-use Rattle.std.specs.Bool.{beq}
-use Rattle.dd_circuit.specs.declared.gates.Signal.{Signal}
-use Rattle.dd_circuit.specs.declared.gates.Gate.{Gate}
+use Rattle.std.specs.{List.list_all, List.list_any, Bool.beq}
+use Rattle.dd_circuit.specs.declared.gates.{Signal.Signal, Gate.Gate}
 use Rattle.dd_circuit.specs.declared.gates.Gate.TheVariants.{And, Or, Iff}
 
--- A circuit: its inputs are the variables 1, 2, .., and each gate has the next variable.
+-- A circuit: its inputs are the variables 1, 2, ..; each gate has the next variable.
 pub record Network : Type 0 where
   pub inputs : ℕ
   pub gates : List Gate
@@ -18,11 +16,11 @@ size_of inputs gates = inputs + length gates
 abbrev pub size : Network → ℕ
 size circuit = size_of circuit.inputs circuit.gates
 
--- the signal that says what the variable says
+-- the signal that is true where the variable is
 abbrev pub signal_of : ℕ → Signal
 signal_of variable = record { variable = variable; positive = true }
 
--- the signal that says the contrary
+-- the signal with the opposite value
 abbrev pub opposite : Signal → Signal
 opposite s = record { variable = s.variable; positive = not s.positive }
 
@@ -41,11 +39,11 @@ abbrev pub AreGates : ℕ → List Gate → Type 0
 AreGates n [] = Unit {0}
 AreGates n (g ∷ gs) = IsGate n g × AreGates (suc n) gs
 
--- what a signal says, where `set` gives the value of each variable
+-- the value of a signal, where `set` gives the value of each variable
 abbrev pub signal_value : (ℕ → Bool) → Signal → Bool
 signal_value set s = if s.positive then set s.variable else not (set s.variable)
 
--- what a gate says: all members, some member, both the same
+-- the value of a gate: all members are true, some member is, both are equal
 abbrev pub gate_value : (ℕ → Bool) → Gate → Bool
 gate_value set (And members) = list_all (signal_value set) members
 gate_value set (Or members) = list_any (signal_value set) members

@@ -1,6 +1,6 @@
--- signals, gates, circuits, and what their values are
+-- signals, gates, circuits and their values
 pub mod Circuits
 -- the values of all variables of a circuit
 pub mod Valuations
--- lemmas on what stands above, with their proofs, for whoever cites them
+-- lemmas on these definitions, with their proofs, for other crates to cite
 pub mod lemmas

@@ -9,7 +9,7 @@ use crate::gates::{Circuit, Gate, Signal};
 use std::alloc::{AllocError, Global};
 
 impl Circuit {
-    /// The value of each variable, the inputs first, where the inputs have these values.
+    /// The value of each variable, the inputs first, for these values of the inputs.
     pub fn value(&self, alloc: Global, inputs: &[bool]) -> Result<Vec<bool>, AllocError>
         requires { length inputs.now ≡ self.now.inputs }
         ensures exact { IfOk result (λ values. values.items ≡ values_from inputs.now self.now.gates) }

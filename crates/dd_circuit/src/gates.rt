@@ -1,5 +1,5 @@
-//! The parts of a circuit, and how it grows. A gate's variable is the number of inputs and of gates up
-//! to it, so no gate stores one, and members that are variables of the circuit are earlier ones.
+//! The parts of a circuit, and how it grows. The variable of a gate is the number of inputs and of gates up to it, so
+//! no gate stores its variable. The members of a gate are earlier variables.
 ghost use Rattle.std.specs.Prelude.{◌≡◌, ◌+◌, ◌<◌, ◌≤◌, ◌∷◌, ◌++◌, [], All, IfOk, OnErr};
 ghost use Rattle.dd_values.specs.Bounds.{most_variables};
 ghost use Rattle.dd_circuit.specs.Circuits.{IsSignal, IsGate, AreGates, size, signal_of, opposite};
@@ -30,16 +30,16 @@ impl Signal {
 /// A gate over signals. `And` of no signal is true, and `Or` of none is false.
 #[derive(Debug, PartialEq, Drop)]
 pub enum Gate {
-    /// True where all signals are true.
+    /// True if all signals are true.
     And(Items<Signal>),
-    /// True where some signal is true.
+    /// True if some signal is true.
     Or(Items<Signal>),
-    /// True where both signals are true or both are false.
+    /// True if both signals are true or both are false.
     Iff(Signal, Signal),
 }
 
-/// Inputs, which are the variables 1 to `inputs`, and gates. The gate k, from 0, has the variable
-/// `inputs + 1 + k`, and its members are variables before that one.
+/// Inputs and gates. The inputs are the variables 1 to `inputs`. Gate k, from 0, has the variable `inputs + 1 + k`,
+/// and its members are variables before that one.
 #[derive(Debug, Drop)]
 pub struct Circuit {
     alloc: Global,
@@ -60,7 +60,7 @@ impl Model for Circuit {
 }
 
 impl Circuit {
-    /// A circuit of inputs alone. It takes no memory until a gate comes.
+    /// A circuit with inputs only. It takes no memory until a gate is added.
     pub fn new(alloc: Global, inputs: u32) -> Circuit
         requires { inputs ≤ most_variables }
         ensures inputs { result.inputs ≡ inputs }
@@ -80,7 +80,7 @@ impl Circuit {
         self.inputs
     }
 
-    /// The gates, in the order in which they were added. The first one is the variable behind the inputs.
+    /// The gates, in the order in which they were added. The first one has the variable after the inputs.
     pub fn gates(&self) -> &[Gate]
         ensures value { result.now ≡ self.now.gates }
         ensures in_range { AreGates self.now.inputs result.now }
@@ -98,8 +98,7 @@ impl Circuit {
         self.inputs + self.gates.len() as u32
     }
 
-    /// Adds a gate over signals of the circuit, and gives its signal. After want of memory the
-    /// circuit is as it was.
+    /// Adds a gate over signals of the circuit, and returns its signal. If memory runs out, the circuit is unchanged.
     fn add(&mut self, gate: Gate) -> Result<Signal, AllocError>
         requires few { size self.old < most_variables }
         requires in_range { IsGate (size self.old) gate }
@@ -118,7 +117,7 @@ impl Circuit {
         })
     }
 
-    /// A gate that is true where all members are.
+    /// Adds a gate that is true if all members are.
     pub fn and(&mut self, members: &[Signal]) -> Result<Signal, AllocError>
         requires few { size self.old < most_variables }
         requires in_range { All (IsSignal (size self.old)) members.now }
@@ -133,7 +132,7 @@ impl Circuit {
         self.add(Gate::And(members))
     }
 
-    /// A gate that is true where some member is.
+    /// Adds a gate that is true if some member is.
     pub fn or(&mut self, members: &[Signal]) -> Result<Signal, AllocError>
         requires few { size self.old < most_variables }
         requires in_range { All (IsSignal (size self.old)) members.now }
@@ -148,7 +147,7 @@ impl Circuit {
         self.add(Gate::Or(members))
     }
 
-    /// A gate that is true where `a` and `b` have one value.
+    /// Adds a gate that is true if `a` and `b` have the same value.
     pub fn iff(&mut self, a: Signal, b: Signal) -> Result<Signal, AllocError>
         requires few { size self.old < most_variables }
         requires first_in_range { IsSignal (size self.old) a }

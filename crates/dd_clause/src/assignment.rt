@@ -1,4 +1,4 @@
-//! An assignment is right for a clause list where it makes each clause true; looking needs one pass and no memory.
+//! An assignment satisfies a clause list if it makes each clause true. The check takes one pass and no memory.
 ghost use Rattle.std.specs.Prelude.{◌≡◌, ◌↔◌, length, IsTrue};
 ghost use Rattle.dd_clause.specs.Clauses.{IsClauseInRange, is_clause_true, Satisfies};
 ghost use Rattle.dd_values.specs.Variables.{true_variables};
@@ -22,14 +22,14 @@ impl Model for Assignment {
 }
 
 impl Assignment {
-    /// The assignment with these values, that of the variable 1 first.
+    /// The assignment with these values, starting with the variable 1.
     pub fn new(values: Vec<bool>) -> Assignment
         ensures { result ≡ values.items }
     {
         Assignment { values }
     }
 
-    /// The values, that of the variable 1 first.
+    /// The values, starting with the variable 1.
     pub fn values(&self) -> &[bool]
         ensures { result.now ≡ self.now }
     {

@@ -1,4 +1,4 @@
-//! A formula in conjunctive normal form: clauses over the variables 1, 2, .. up to a number that the type knows.
+//! A formula in conjunctive normal form: clauses over the variables 1, 2, .. up to a number that the list holds.
 ghost use Rattle.std.specs.Prelude.{◌≡◌, ◌≤◌, ◌↔◌, [], ◌∷◌, ◌++◌, All, IsTrue, OnOk, OnErr};
 ghost use Rattle.dd_values.specs.Bounds.{most_variables};
 ghost use Rattle.dd_clause.specs.Clauses.{IsClauseInRange};
@@ -7,7 +7,7 @@ use crate::clause::Clause;
 use std::alloc::{AllocError, Global};
 use std::marker::Model;
 
-/// Clauses over the variables 1 to `variables`, of which there are at most 2^24.
+/// Clauses over the variables 1 to `variables`, which is at most 2^24.
 #[derive(Debug, Drop)]
 pub struct Cnf {
     variables: u32,
@@ -51,7 +51,7 @@ impl Cnf {
         true
     }
 
-    /// Puts a clause at the end. After want of memory the list is as it was.
+    /// Adds a clause at the end. If memory runs out, the list is unchanged.
     pub fn push(&mut self, clause: Clause) -> Result<(), AllocError>
         requires { IsClauseInRange self.old.variables clause }
         ensures variables { self.new.variables ≡ self.old.variables }
@@ -62,7 +62,7 @@ impl Cnf {
         Ok(())
     }
 
-    /// Takes in more variables.
+    /// Raises the number of variables.
     pub fn widen(&mut self, variables: u32)
         requires more { self.old.variables ≤ variables }
         requires few { variables ≤ most_variables }

@@ -1,22 +1,12 @@
 -- The clauses of some gates, and of one more.
-use Rattle.std.proofs.Common.{◌≡◌, ℕ, suc, ◌+◌, ◌<◌, ◌≤◌, Bool, List, [], ◌∷◌, ◌++◌, map, length, refl, ap, sym, ◌∙◌, arith, get_or, take, drop, length-drop, append_assoc}
+use Rattle.std.proofs.Common.{◌≡◌, ℕ, suc, ◌+◌, ◌<◌, ◌≤◌, Bool, List, [], ◌∷◌, ◌++◌, map, length, ap, sym, ◌∙◌, arith, get_or, take, drop, length-drop, append_assoc}
 use Rattle.std.proofs.lemmas.List.{append-nil, take_more, take_rest, length-take-le}
 use Rattle.std.proofs.lemmas.List.Elements.{All-cons, All-map, All-take}
-use Rattle.std.specs.Prelude.{◌-◌}
-use Rattle.std.specs.List.{All}
-use Rattle.dd_clause.specs.declared.clause.Literal.{Literal}
-use Rattle.dd_clause.specs.Clauses.{IsLiteralInRange, IsClauseInRange}
-use Rattle.dd_circuit.specs.declared.gates.Signal.{Signal}
-use Rattle.dd_circuit.specs.Circuits.{IsSignal, IsGate, AreGates}
-use Rattle.dd_circuit.specs.lemmas.GateLists.{AreGates-drop, gate_within}
-use Rattle.dd_circuit.specs.declared.gates.Gate.{Gate}
-use Rattle.dd_cnf.specs.Encoding.{signed, gate_clauses, gates_clauses}
-
-pub gates_clauses-append : (n : ℕ) (gs hs : List Gate) → gates_clauses n (gs ++ hs) ≡ gates_clauses n gs ++ gates_clauses (n + length gs) hs
-gates_clauses-append n [] hs = let e : n + 0 ≡ n = omega arith in rw e refl
-gates_clauses-append n (g ∷ gs) hs =
-    let e : n + suc (length gs) ≡ suc n + length gs = omega arith in
-    rw (e, gates_clauses-append (suc n) gs hs) (sym (append_assoc (gate_clauses (suc n) g) (gates_clauses (suc n) gs) (gates_clauses (suc n + length gs) hs)))
+use Rattle.std.specs.{Prelude.◌-◌, List.All}
+use Rattle.dd_clause.specs.{declared.clause.Literal.Literal, Clauses.IsLiteralInRange, Clauses.IsClauseInRange}
+use Rattle.dd_circuit.specs.{declared.gates.Signal.Signal, Circuits.IsSignal, Circuits.IsGate, Circuits.AreGates}
+use Rattle.dd_circuit.specs.{lemmas.GateLists.AreGates-drop, lemmas.GateLists.gate_within, declared.gates.Gate.Gate}
+use Rattle.dd_cnf.specs.{Encoding.signed, Encoding.gate_clauses, Encoding.gates_clauses, lemmas.GateLaws.gates_clauses-append}
 
 pub gates_clauses-more : (n : ℕ) (gs : List Gate) (i : ℕ) (g : Gate) → i < length gs → g ≡ get_or gs i g →
     gates_clauses n (take (i + 1) gs) ≡ gates_clauses n (take i gs) ++ gate_clauses (suc (n + i)) g
@@ -26,7 +16,7 @@ gates_clauses-more n gs i g within here =
     ∙ (ap (λ k. gates_clauses n (take i gs) ++ gates_clauses (n + k) (get_or gs i g ∷ [])) (length-take-le i gs (omega arith))
     ∙ ap (λ x. gates_clauses n (take i gs) ++ x) (append-nil (gate_clauses (suc (n + i)) (get_or gs i g)) ∙ ap (gate_clauses (suc (n + i))) (sym here))))
 
--- a turn of the loop over gates
+-- a pass of the loop over gates
 pub clauses_step : (before now new : List (List Literal)) (n variable : ℕ) (gs : List Gate) (i : ℕ) (g : Gate) → i < length gs → g ≡ get_or gs i g →
     variable ≡ suc (n + i) → now ≡ before ++ gates_clauses n (take i gs) → new ≡ now ++ gate_clauses variable g →
     new ≡ before ++ gates_clauses n (take (i + 1) gs)

@@ -1,9 +1,7 @@
 -- The clauses of gates (Tseitin 1968): those of a gate say that its variable has the value of the gate.
 use Rattle.std.specs.Prelude.{ℕ, suc, Bool, true, false, not, if◌then◌else◌, List, [], ◌∷◌, ◌++◌, map}
-use Rattle.dd_clause.specs.declared.clause.Literal.{Literal}
-use Rattle.dd_clause.specs.Clauses.{negation, ClauseList}
-use Rattle.dd_circuit.specs.declared.gates.Signal.{Signal}
-use Rattle.dd_circuit.specs.declared.gates.Gate.{Gate}
+use Rattle.dd_clause.specs.{declared.clause.Literal.Literal, Clauses.negation, Clauses.ClauseList}
+use Rattle.dd_circuit.specs.declared.gates.{Signal.Signal, Gate.Gate}
 use Rattle.dd_circuit.specs.declared.gates.Gate.TheVariants.{And, Or, Iff}
 use Rattle.dd_circuit.specs.Circuits.{Network, size}
 
@@ -19,7 +17,7 @@ literal_of s = literal s.variable s.positive
 abbrev pub opposing : Signal → Literal
 opposing s = negation (literal_of s)
 
--- the clauses that say that g is true exactly where a and b have one value
+-- the clauses that say that g is true exactly if a and b have the same value
 abbrev pub iff_clauses : Literal → Literal → Literal → List (List Literal)
 iff_clauses g a b =
     (negation g ∷ negation a ∷ b ∷ [])
@@ -48,8 +46,7 @@ encoded circuit = record { variables = size circuit; clauses = gates_clauses cir
 abbrev pub signed : Bool → Signal → Literal
 signed sign s = literal s.variable (if sign then s.positive else not s.positive)
 
--- the clauses of And at its variable's literal, and those of Or at its negation: the ones have the
--- signs of the others turned
+-- the clauses of And for its variable's literal, and those of Or for its negation; the two differ only in their signs
 abbrev pub joint_clauses : Literal → List Signal → List (List Literal)
 joint_clauses gate members =
     map (λ l. negation gate ∷ signed gate.positive l ∷ []) members ++ (gate ∷ map (signed (not gate.positive)) members) ∷ []

@@ -1,6 +1,6 @@
 -- the clauses of gates, and of a circuit with given clauses
 pub mod Encoding
--- the models of clauses, and what they are for the clauses of a circuit
+-- the models of clauses, and which models the clauses of a circuit have
 pub mod Models
--- lemmas on what stands above, with their proofs, for whoever cites them
+-- lemmas on these definitions, with their proofs, for other crates to cite
 pub mod lemmas

@@ -1,23 +1,20 @@
--- The models of clauses, and what they are for the clauses of a circuit.
-use Rattle.std.specs.Prelude.{◌≡◌, ℕ, Bool, List, length, take}
-use Rattle.std.specs.List.{list_all}
-use Rattle.dd_clause.specs.declared.clause.Literal.{Literal}
-use Rattle.dd_clause.specs.Clauses.{is_clause_true, Satisfies, ClauseList}
+-- The models of clauses, and which models the clauses of a circuit have.
+use Rattle.std.specs.{Prelude.◌≡◌, Prelude.ℕ, Prelude.Bool, Prelude.List, Prelude.length, Prelude.take, List.list_all}
+use Rattle.dd_clause.specs.{declared.clause.Literal.Literal, Clauses.is_clause_true, Clauses.Satisfies, Clauses.ClauseList}
 use Rattle.dd_values.specs.Variables.{true_variables}
-use Rattle.dd_circuit.specs.Circuits.{Network}
-use Rattle.dd_circuit.specs.Valuations.{AreValues}
+use Rattle.dd_circuit.specs.{Circuits.Network, Valuations.AreValues}
 
 -- each clause has a true literal, as a test
 abbrev pub is_satisfied : (ℕ → Bool) → List (List Literal) → Bool
 is_satisfied set clauses = list_all (is_clause_true set) clauses
 
--- the list has a value for each variable, and they satisfy the clauses
+-- the list has a value for each variable, and these values satisfy the clauses
 pub record IsModel (cnf : ClauseList) (values : List Bool) : Type 0 where
   pub one_each : length values ≡ cnf.variables
   pub satisfies : Satisfies (true_variables values) cnf.clauses
 
--- The models of the clauses are the values of the circuit: those over any inputs are a model, each
--- model is the values over those of its inputs, and there are values over any inputs.
+-- The models of the clauses are the values of the circuit. The values over any inputs are a model, and there are
+-- some. Each model is the values over its own inputs.
 pub record HasValuesAsModels (circuit : Network) (cnf : ClauseList) : Type 0 where
   pub values_are_models : (inputs values : List Bool) → AreValues circuit inputs values → IsModel cnf values
   pub models_are_values : (values : List Bool) → IsModel cnf values → AreValues circuit (take circuit.inputs values) values

@@ -34,7 +34,7 @@ fn signed(signal: &Signal, sign: bool) -> Literal
     }
 }
 
-/// Adds the clause of these literals. After want of memory the clauses are as they were.
+/// Adds the clause of these literals. If memory runs out, the clauses are unchanged.
 pub fn push_clause(alloc: Global, cnf: &mut Cnf, literals: &[Literal]) -> Result<(), AllocError>
     requires { IsClauseInRange cnf.old.variables literals.now }
     ensures variables { cnf.new.variables ≡ cnf.old.variables }
@@ -44,7 +44,7 @@ pub fn push_clause(alloc: Global, cnf: &mut Cnf, literals: &[Literal]) -> Result
     cnf.push(Clause::from_literals(alloc, literals)?)
 }
 
-/// Adds the clauses that say that the literal `gate` is true exactly where each member has its sign.
+/// Adds the clauses that say that the literal `gate` is true exactly if each member has its sign.
 fn push_joint(
     alloc: Global,
     cnf: &mut Cnf,
@@ -70,7 +70,7 @@ fn push_joint(
     push_clause(alloc, cnf, &last)
 }
 
-/// Adds the clauses that say that `gate` is true exactly where `a` and `b` have one value.
+/// Adds the clauses that say that `gate` is true exactly if `a` and `b` have the same value.
 fn push_iff(
     alloc: Global,
     cnf: &mut Cnf,
@@ -90,7 +90,7 @@ fn push_iff(
     push_clause(alloc, cnf, &[gate, a.negation(), b.negation()])
 }
 
-/// Adds the clauses of the gate with this variable. After want of memory some may have been added.
+/// Adds the clauses of the gate with this variable. If memory runs out, some may have been added.
 pub fn push_gate(alloc: Global, cnf: &mut Cnf, variable: u32, gate: &Gate) -> Result<(), AllocError>
     requires variable { (1 ≤ variable) × (variable ≤ cnf.old.variables) }
     requires members { IsGate cnf.old.variables gate.now }
@@ -109,8 +109,7 @@ pub fn push_gate(alloc: Global, cnf: &mut Cnf, variable: u32, gate: &Gate) -> Re
     }
 }
 
-/// Adds the clauses of the circuit's gates from the gate `from` on, in gate order. After want of
-/// memory some may have been added.
+/// Adds the clauses of the circuit's gates from the gate `from` on, in gate order. If memory runs out, some may have been added.
 pub fn push_gates(
     alloc: Global,
     cnf: &mut Cnf,

@@ -1,4 +1,4 @@
--- Commands are what their tokens say, and a text of commands is ASCII.
+-- Commands have the meaning of their tokens, and a text of commands is ASCII.
 use Rattle.std.proofs.Common.{◌≡◌, ℕ, ◌<◌, Bool, true, false, List, [], ◌∷◌, ◌++◌, map, length, refl, sym, ap, subst, ◌==◌, ◌&&◌, if◌then◌else◌, All, IsAscii}
 use Rattle.std.specs.{List.list_all, Char.is_ascii}
 use Rattle.std.proofs.lemmas.{Bool.ltb-true, Bool.and_parts, Bool.and_from, List.Elements.All-nil, List.Elements.All-cons, List.Elements.All-weaker, List.Sums.AllPass-from_list_all}
@@ -15,7 +15,7 @@ all_written bytes from (p ∷ ps) (w ∷ ws) each =
     (All-cons (IsWritten bytes) w ws (record { is = subst (IsCommand bytes w.command) (sym each.0.tokens) each.0.is }) more.0, and_from _ _ each.0.whole more.1)
 all_written bytes from ps ws each = absurd search
 
--- no token is stray where none is in a part
+-- no token is stray if none in a part is
 abbrev with_end : Bool → List Lexeme → List Lexeme
 with_end ends tokens = tokens ++ (if ends then [] else Lexeme.Stray ∷ [])
 

@@ -1,10 +1,9 @@
--- Commands: what stands behind the mark of each.
+-- Commands: what follows the mark of each.
 use Rattle.std.specs.Prelude.{◌≡◌, ℕ, ◌≤◌, List, [], ◌∷◌, ◌++◌, length, map, Bool, true, false, Option, Some, None, codes}
 use Rattle.std.specs.List.{flat_map, list_all}
 use Rattle.dd_commands.specs.Tree.{Word, Mark, Lexeme, Name, Lists, Entry, Vector, Edge, Case, Request, Command}
-use Rattle.dd_written.specs.{Values.word_text, Formulas.name_lexeme, Formulas.text, Formulas.IsWrittenFormula}
-use Rattle.dd_written.specs.reading.Readers.{ReadsAll}
 use Rattle.dd_commands.specs.{Table.row, Heads.head_text, Heads.head_of, Heads.kind_text}
+use Rattle.dd_written.specs.{Values.word_text, Formulas.name_lexeme, Formulas.text, Formulas.IsWrittenFormula, reading.Readers.ReadsAll}
 
 -- ---- vectors
 
@@ -23,7 +22,7 @@ is_plain_entry (Entry.Negative n) = false
 abbrev pub is_plain : Vector → Bool
 is_plain v = list_all is_plain_entry v.entries
 
--- a second list, where there is one
+-- a second vector, if there is one
 abbrev pub second_vector_text : Option Vector → List Lexeme
 second_vector_text None = []
 second_vector_text (Some v) = vector_text v
@@ -37,7 +36,7 @@ edge_text e = Lexeme.Mark Mark.Open ∷ Lexeme.Word e.label ∷ name_lexeme e.fr
 
 -- ---- cases
 
--- the tokens are a word of this text, and the rest
+-- the tokens are this word followed by the rest
 abbrev pub IsBehind : List ℕ → List ℕ → List Lexeme → List Lexeme → Type 0
 IsBehind bytes wanted tokens rest = (w : Word) × (word_text bytes w ≡ wanted) × (tokens ≡ Lexeme.Word w ∷ rest)
 
@@ -67,7 +66,7 @@ AreLists Lists.Strip vs = IsOnePlain vs
 AreLists Lists.Torus vs = IsOnePlain vs
 AreLists Lists.Vectors vs = 1 ≤ length vs
 
--- a query has what the row of its kind says
+-- a query has the words, numbers and vectors that the row of its kind asks for
 pub record IsRequest (r : Request) : Type 0 where
   pub words : length r.words ≡ length (row r.kind).names
   pub numbers : length r.numbers ≡ (row r.kind).numbers
@@ -78,7 +77,7 @@ request_text r = map Lexeme.Word r.words ++ (map Lexeme.Number r.numbers ++ flat
 
 -- ---- commands
 
--- the tokens behind the first word
+-- the tokens after the first word
 abbrev pub IsBody : List ℕ → Command → List Lexeme → Type 0
 IsBody bytes (Command.Dimension n) tokens = tokens ≡ Lexeme.Number n ∷ []
 IsBody bytes (Command.Nodes names) tokens = (1 ≤ length names) × (tokens ≡ map name_lexeme names)
@@ -96,6 +95,6 @@ IsBody bytes (Command.Configuration name periods shear symbols) tokens =
     × (tokens ≡ Lexeme.Word name ∷ vector_text periods ++ (second_vector_text shear ++ map name_lexeme symbols))
 IsBody bytes (Command.Query r) tokens = IsRequest r × (tokens ≡ request_text r)
 
--- the tokens behind the mark
+-- the tokens after the mark
 abbrev pub IsCommand : List ℕ → Command → List Lexeme → Type 0
 IsCommand bytes c tokens = (rest : List Lexeme) × IsBehind bytes (head_text (head_of c)) tokens rest × IsBody bytes c rest

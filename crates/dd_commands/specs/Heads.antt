@@ -2,7 +2,7 @@
 use Rattle.std.specs.Prelude.{ℕ, ◌+◌, List, Bool, true, false, if◌then◌else◌, codes}
 use Rattle.dd_commands.specs.{Tree.Kind, Tree.Head, Tree.Command, Table.kind_word}
 
--- The first word; the place in the order of commands, where each stands behind all of a lower place; and whether it is given once.
+-- The first word; the stage, which never falls from one command to the next; and whether the command is given only once.
 pub record HeadRow : Type 0 where
   pub word : List ℕ
   pub stage : ℕ
@@ -11,7 +11,7 @@ pub record HeadRow : Type 0 where
 abbrev pub entry : List ℕ → ℕ → Bool → HeadRow
 entry word stage once = record { word = word; stage = stage; once = once }
 
--- the commands of the header are given once, but for the alphabets of nodes
+-- each command of the header may be given only once, except `only`
 abbrev pub head_row : Head → HeadRow
 head_row Head.Dimension = entry (codes "dim") 0 true
 head_row Head.Nodes = entry (codes "nodes") 1 true
@@ -35,7 +35,7 @@ stage h = (head_row h).stage
 abbrev pub is_once : Head → Bool
 is_once h = (head_row h).once
 
--- the first place at which a command may stand behind this one
+-- the lowest stage of the commands that may follow this one
 abbrev pub next_stage : Head → ℕ
 next_stage h = if is_once h then stage h + 1 else stage h
 

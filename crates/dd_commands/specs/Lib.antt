@@ -1,14 +1,14 @@
--- the types of what is written
+-- the types of syntax trees
 pub mod Tree
 -- the table of queries
 pub mod Table
 -- the first words of commands, and their order
 pub mod Heads
--- what stands behind the mark of each command
+-- what follows the mark of each command
 pub mod Commands
--- scripts as they are written, and the first command that is not well formed
+-- scripts, and the first command that is not well formed
 pub mod Scripts
--- mirrors of the readers
+-- the readers, as functions
 pub mod reading
--- lemmas on what stands above, with their proofs, for whoever cites them
+-- lemmas on these definitions, for other crates
 pub mod lemmas

@@ -1,4 +1,4 @@
--- Scripts: commands in order, or the first that is not well formed.
+-- Scripts: commands in order, or the first command that is not well formed.
 use Rattle.std.specs.Prelude.{◌≡◌, ℕ, zero, suc, ◌≤◌, List, [], ◌∷◌, Bool, true, false, if◌then◌else◌, Result, Ok, Err}
 use Rattle.std.specs.List.{list_all}
 use Rattle.dd_commands.specs.Tree.{Mark, Lexeme, Written, Syntax, SyntaxFault}
@@ -33,12 +33,12 @@ is_percent (Lexeme.Negative n) = false
 is_percent (Lexeme.Mark m) = is_percent_mark m
 is_percent Lexeme.Stray = false
 
--- what stands before the first command, and each command without its mark
+-- what stands before the first command, and then each command without its mark
 abbrev pub parts : List Lexeme → List Lexeme × List (List Lexeme)
 parts [] = ([], [])
 parts (t ∷ tokens) = if is_percent t then ([], (parts tokens).0 ∷ (parts tokens).1) else (t ∷ (parts tokens).0, (parts tokens).1)
 
--- a token, and no byte that belongs to none
+-- a token that is not stray
 abbrev pub is_whole : Lexeme → Bool
 is_whole (Lexeme.Word w) = true
 is_whole (Lexeme.Number n) = true
@@ -52,7 +52,7 @@ stage_of w = stage (head_of w.command)
 abbrev pub stage_after : Written → ℕ
 stage_after w = next_stage (head_of w.command)
 
--- a part is a command that may stand at this place or a later one
+-- a part is a command that may stand at this stage or a later one
 pub record MayStand (bytes : List ℕ) (from : ℕ) (part : List Lexeme) (w : Written) : Type 0 where
   pub tokens : w.tokens ≡ part
   pub whole : list_all is_whole part ≡ true
@@ -65,22 +65,22 @@ AreCommands bytes from [] (w ∷ ws) = ⊥
 AreCommands bytes from (p ∷ ps) [] = ⊥
 AreCommands bytes from (p ∷ ps) (w ∷ ws) = MayStand bytes from p w × AreCommands bytes (stage_after w) ps ws
 
--- the first part that is no command which may stand there, by its place
+-- the index of the first part that is no command, or may not stand there
 abbrev pub IsFirstBad : List ℕ → ℕ → List (List Lexeme) → ℕ → Type 0
 IsFirstBad bytes from [] place = ⊥
 IsFirstBad bytes from (p ∷ ps) zero = (w : Written) → MayStand bytes from p w → ⊥
 IsFirstBad bytes from (p ∷ ps) (suc place) = (w : Written) × MayStand bytes from p w × IsFirstBad bytes (stage_after w) ps place
 
--- nothing stands before the first command, and the parts are the commands
+-- nothing stands before the first command, and the parts are these commands
 abbrev pub AreWritten : List ℕ → List Lexeme → List Written → Type 0
 AreWritten bytes tokens ws = ((parts tokens).0 ≡ []) × AreCommands bytes 0 (parts tokens).1 ws
 
--- commands are numbered from 1, and 0 is what stands before the first
+-- the number of the bad command, from 1; 0 if something stands before the first
 abbrev pub IsBadCommand : List ℕ → List Lexeme → ℕ → Type 0
 IsBadCommand bytes tokens zero = (parts tokens).0 ≡ [] → ⊥
 IsBadCommand bytes tokens (suc place) = ((parts tokens).0 ≡ []) × IsFirstBad bytes 0 (parts tokens).1 place
 
--- the bytes are the script that the tree writes down
+-- the bytes are a script with this syntax tree
 abbrev pub IsScript : List ℕ → Syntax → Type 0
 IsScript bytes s = (s.text ≡ bytes) × AreWritten bytes (lexemes_of bytes) s.commands
 
@@ -93,6 +93,6 @@ Tells bytes (Ok s) = IsScript bytes s
 Tells bytes (Err (SyntaxFault.At n)) = IsSyntaxFault bytes n
 Tells bytes (Err SyntaxFault.Memory) = Unit {0}
 
--- the command is what its tokens say in this text
+-- the command has these tokens in this text
 pub record IsWritten (bytes : List ℕ) (w : Written) : Type 0 where
   pub is : IsCommand bytes w.command w.tokens

@@ -2,8 +2,8 @@
 use Rattle.std.specs.Prelude.{ℕ, List, [], ◌∷◌, codes}
 use Rattle.dd_commands.specs.Tree.{Role, Lists, QueryKind}
 
--- The first word, what each further word names, how many numbers follow them, which vectors follow these, and how many symbols the
--- alphabet has at least.
+-- The first word, what each other word names, how many numbers and then which vectors follow, and how many symbols the alphabet
+-- must have.
 pub record QueryRow : Type 0 where
   pub word : List ℕ
   pub names : List Role

@@ -93,7 +93,7 @@ fn configuration<'a>(from: Source, tokens: &'a [Lexeme]) -> Read<'a, Command>
     Ok((configuration, rest))
 }
 
-/// What stands behind the first word of a command.
+/// What follows the first word of a command.
 fn body<'a>(from: Source, head: Head, tokens: &'a [Lexeme]) -> Read<'a, Command>
     ensures { Gives (λ x. (x.0, x.1.now)) result (body from.entry.bytes.now head tokens.now) }
 {
@@ -138,7 +138,7 @@ fn body<'a>(from: Source, head: Head, tokens: &'a [Lexeme]) -> Read<'a, Command>
     }
 }
 
-/// A command, behind its mark.
+/// A command, after its mark.
 pub(crate) fn command(from: Source, tokens: &[Lexeme]) -> Result<Boxed<Command>, ReadFault>
     ensures { Gives (λ x. x) result (command_of from.entry.bytes.now tokens.now) }
 {

@@ -1,4 +1,4 @@
-//! Commands as they are written.
+//! The syntax trees of commands.
 use crate::table::QueryKind;
 use dd_topology::Kind;
 use dd_values::Items;
@@ -13,7 +13,7 @@ pub enum Entry {
     Negative(Number),
 }
 
-/// Whole numbers in brackets.
+/// Integers in brackets.
 #[derive(Debug, Drop)]
 pub struct Vector {
     pub entries: Items<Entry>,
@@ -35,7 +35,7 @@ pub struct Case {
     pub symbol: Name,
 }
 
-/// A query as it is written: its kind, and behind its first word as many words, numbers and vectors as the row of the kind says.
+/// The syntax tree of a query: its kind, and as many words, numbers and vectors as the row of the kind says.
 #[derive(Debug, Drop)]
 pub struct Request {
     pub kind: QueryKind,
@@ -47,7 +47,7 @@ pub struct Request {
 /// A command, without its `%` and its first word.
 #[derive(Debug, Drop)]
 pub enum Command {
-    /// `dim number`, where the number is 1, 2 or 3 if nothing is wrong.
+    /// `dim number`; without a fault the number is 1, 2 or 3.
     Dimension {
         number: Number,
     },
@@ -93,7 +93,7 @@ pub enum Command {
         cases: Items<Case>,
         default: Name,
     },
-    /// `compose name outer inner`: the values of `outer` on the configuration of the values of `inner`.
+    /// `compose name outer inner`: applies `inner`, then `outer`.
     Composition {
         name: Word,
         outer: Word,

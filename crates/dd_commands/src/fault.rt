@@ -8,10 +8,10 @@ use thiserror::Error;
 /// Why a script has no syntax tree.
 #[derive(Clone, Copy, Debug, PartialEq, Eq, Error)]
 pub enum SyntaxFault {
-    /// This command is the first that is not well formed. Commands are numbered from 1; 0 is what stands before the first.
+    /// The first command that is not well formed. Commands are numbered from 1; 0 stands for what comes before the first.
     #[error("command {command} is not well formed")]
     At { command: u32 },
-    /// Memory was wanting.
+    /// Memory ran out.
     #[error("out of memory")]
     Memory,
 }

@@ -1,4 +1,4 @@
-//! The first words of commands, with the order of commands, and the names of topologies.
+//! The first words of commands, the order of commands, and the names of topologies.
 ghost use Rattle.std.specs.Prelude.{◌≡◌, ◌≤◌};
 ghost use Rattle.dd_written.specs.reading.Readers.{Gives};
 ghost use Rattle.dd_commands.specs.Heads.{head_row, head_text, next_stage, kind_text};
@@ -15,9 +15,9 @@ use dd_written::{Lexeme, ReadFault, Word, same_bytes, word_bytes};
 #[derive(Clone, Copy)]
 pub(crate) struct HeadRow {
     pub(crate) word: &'static [u8],
-    /// The place in the order of commands: each stands behind all of a lower place.
+    /// The stage: a command may not stand before one of a lower stage.
     pub(crate) stage: u32,
-    /// Whether a script may give such a command only once.
+    /// Whether a script may have this command only once.
     pub(crate) once: bool,
 }
 
@@ -53,7 +53,7 @@ impl Head {
         }
     }
 
-    /// The first place at which a command may stand behind this one.
+    /// The lowest stage of the commands that may follow this one.
     pub(crate) fn next_stage(self) -> u32
         ensures { result ≡ next_stage self }
     {
@@ -62,7 +62,7 @@ impl Head {
     }
 }
 
-/// The first word of a query that these bytes are.
+/// The kind of query that begins with this word.
 fn query_kind(written: &[u8]) -> Option<QueryKind>
     ensures { result ≡ one_of kind_word query_kinds written.now }
 {
@@ -72,7 +72,7 @@ fn query_kind(written: &[u8]) -> Option<QueryKind>
         .find(|kind| same_bytes(written, kind.row().word))
 }
 
-/// The first word of another command that these bytes are.
+/// The head with this word, of all commands except queries.
 fn other_head(written: &[u8]) -> Option<Head>
     ensures { result ≡ one_of head_text other_heads written.now }
 {
@@ -82,7 +82,7 @@ fn other_head(written: &[u8]) -> Option<Head>
         .find(|head| same_bytes(written, head.row().word))
 }
 
-/// The first word of a command that these bytes are.
+/// The head of the command that begins with this word.
 #[tactic(auto, using(crate::specs::lemmas::Words::either_head))]
 fn head(written: &[u8]) -> Option<Head>
     ensures { result ≡ one_of head_text heads written.now }
@@ -117,7 +117,7 @@ fn kind_text(kind: Kind) -> &'static [u8]
     }
 }
 
-/// The topology that these bytes name.
+/// The topology with this name.
 fn kind(written: &[u8]) -> Option<Kind>
     ensures { result ≡ one_of kind_text kinds written.now }
 {
@@ -137,7 +137,7 @@ impl FromTokens for Kind {
     }
 }
 
-/// A word that is wanted.
+/// Reads the wanted word.
 pub(crate) fn wanted<'a>(from: Source, text: &[u8], tokens: &'a [Lexeme]) -> Read<'a, Word>
     ensures { Gives (λ x. (x.0, x.1.now)) result ((wanted from.entry.bytes.now text.now).item tokens.now) }
 {

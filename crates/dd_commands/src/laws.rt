@@ -1,4 +1,4 @@
-//! Laws of scripts as they are written, as contracts of calls that do nothing.
+//! Laws of written scripts, as contracts of calls that do nothing.
 #![tactic(auto, using(crate::proofs::OneTree::one_tree, crate::proofs::OneTree::one_fault, crate::proofs::OneTree::tree_or_fault))]
 
 ghost use Rattle.std.specs.Prelude.{◌≡◌, ℕ, List};
@@ -6,14 +6,14 @@ ghost use Rattle.dd_commands.specs.{declared.script.Syntax.Syntax, Scripts.IsScr
 
 use dd_written::formula_is_read;
 
-/// Does nothing; its contract says that bytes are the text of one tree at most.
+/// Does nothing; its contract says that bytes are the text of at most one tree.
 pub fn one_tree()
     ensures { (bytes : List ℕ) (s t : Syntax) → IsScript bytes s → IsScript bytes t → s ≡ t }
 {
     formula_is_read();
 }
 
-/// Does nothing; its contract says that bytes have one first fault at most.
+/// Does nothing; its contract says that bytes have at most one first fault.
 pub fn one_fault()
     ensures { (bytes : List ℕ) (m n : ℕ) → IsSyntaxFault bytes m → IsSyntaxFault bytes n → m ≡ n }
 {

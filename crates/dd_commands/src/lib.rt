@@ -1,5 +1,5 @@
-//! Commands and scripts as they are written. Queries go by a table, which says of each what its words name, how many numbers
-//! follow them, which vectors, and how many symbols there are.
+//! The syntax trees of commands and scripts. A table gives for each query what its words name, how many numbers and which
+//! vectors follow, and how many symbols there must be.
 #![tactic(auto)]
 
 mod bodies;

@@ -1,4 +1,4 @@
-//! What is read from the front of tokens, and one of a kind after the other.
+//! Reading one item, or several in a row, from the front of tokens.
 ghost use Rattle.std.specs.Prelude.{◌≡◌, ℕ, List};
 ghost use Rattle.dd_written.specs.reading.Readers.{Gives, Reader};
 ghost use Rattle.dd_commands.specs.reading.Forms.{at_most, each_at, some_at, exactly_at};
@@ -7,14 +7,14 @@ use dd_values::Items;
 use dd_written::{Lexeme, ReadFault};
 use std::alloc::Global;
 
-/// The bytes of a script, and where memory for what is read of them comes from.
+/// The bytes of a script, and the allocator for what is read of them.
 #[derive(Clone, Copy)]
 pub(crate) struct Source<'a> {
     pub(crate) alloc: Global,
     pub(crate) bytes: &'a [u8],
 }
 
-/// What was read, and the tokens behind it.
+/// What was read, and the tokens after it.
 pub(crate) type Read<'a, T> = Result<(T, &'a [Lexeme]), ReadFault>;
 
 /// What can be read from the front of tokens.
@@ -25,7 +25,7 @@ pub(crate) trait FromTokens: Drop {
         ensures { Gives (λ x. (x.0, x.1.now)) result (item from.entry.bytes.now tokens.now) };
 }
 
-/// As many as can be read, and no more than are asked for.
+/// As many items as can be read, up to `most`.
 fn at_most<'a, T: FromTokens>(from: Source, most: usize, tokens: &'a [Lexeme]) -> Read<'a, Items<T>>
     ensures { Gives (λ x. (x.0, x.1.now)) result (at_most (T.item from.entry.bytes.now) most tokens.now) }
 {
@@ -44,14 +44,14 @@ fn at_most<'a, T: FromTokens>(from: Source, most: usize, tokens: &'a [Lexeme]) -
     Ok((items, rest))
 }
 
-/// As many as stand there.
+/// All items that stand there.
 pub(crate) fn each<'a, T: FromTokens>(from: Source, tokens: &'a [Lexeme]) -> Read<'a, Items<T>>
     ensures { Gives (λ x. (x.0, x.1.now)) result (each_at (T.item from.entry.bytes.now) tokens.now) }
 {
     at_most(from, tokens.len(), tokens)
 }
 
-/// One or more.
+/// One item or more.
 pub(crate) fn some<'a, T: FromTokens>(from: Source, tokens: &'a [Lexeme]) -> Read<'a, Items<T>>
     ensures { Gives (λ x. (x.0, x.1.now)) result (some_at (T.item from.entry.bytes.now) tokens.now) }
 {
@@ -62,7 +62,7 @@ pub(crate) fn some<'a, T: FromTokens>(from: Source, tokens: &'a [Lexeme]) -> Rea
     Ok((items, rest))
 }
 
-/// So many.
+/// Exactly `count` items.
 pub(crate) fn exactly<'a, T: FromTokens>(
     from: Source,
     count: usize,

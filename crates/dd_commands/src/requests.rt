@@ -27,7 +27,7 @@ fn lists<'a>(from: Source, lists: Lists, tokens: &'a [Lexeme]) -> Read<'a, Items
     }
 }
 
-/// What stands behind the first word of a query.
+/// What follows the first word of a query.
 pub(crate) fn query<'a>(from: Source, kind: QueryKind, tokens: &'a [Lexeme]) -> Read<'a, Command>
     ensures { Gives (λ x. (x.0, x.1.now)) result (body from.entry.bytes.now (head.Query kind) tokens.now) }
 {

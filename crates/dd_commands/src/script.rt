@@ -1,4 +1,4 @@
-//! The script, command by command.
+//! Reading a script, command by command.
 ghost use Rattle.std.specs.Prelude.{◌≡◌, [], ◌∷◌, ◌+◌, ◌<◌, ◌≤◌, length, IfOk, All};
 ghost use Rattle.std.specs.List.{prefix_len, list_all};
 ghost use Rattle.dd_values.specs.Bounds.{most_script};
@@ -16,14 +16,14 @@ use dd_values::Items;
 use dd_written::{Lexeme, Mark, ReadFault, Text, formula_is_read, lexemes};
 use std::alloc::Global;
 
-/// A command and its tokens, behind its mark.
+/// A command with its tokens, without its mark.
 #[derive(Debug, Drop)]
 pub struct Written {
     pub tokens: Items<Lexeme>,
     pub command: Command,
 }
 
-/// What is written in a script: its text, and its commands in order. Commands are numbered from 1, as they stand.
+/// The syntax tree of a script: its text, and its commands in order. Commands are numbered from 1.
 #[derive(Debug, Drop)]
 pub struct Syntax {
     pub text: Text,
@@ -41,7 +41,7 @@ fn part_length(tokens: &[Lexeme]) -> usize
         .count()
 }
 
-/// The part behind a mark, and what follows it.
+/// The part after a mark, and what follows it.
 #[tactic(auto, using(crate::proofs::Parts::cut, crate::proofs::Parts::behind_mark))]
 fn next_part(tokens: &[Lexeme]) -> (&[Lexeme], &[Lexeme])
     requires some { 0 < length tokens.now }
@@ -75,14 +75,14 @@ impl Command {
     }
 }
 
-/// Whether each token is one, and no byte that belongs to none.
+/// Whether no token is stray.
 fn are_whole(part: &[Lexeme]) -> bool
     ensures { result ≡ list_all is_whole part.now }
 {
     part.iter().all(|token| !matches!(token, Lexeme::Stray))
 }
 
-/// A command that may stand at this place or a later one.
+/// A command that may stand at this stage or a later one.
 fn command_from(source: Source, from: u32, part: &[Lexeme]) -> Result<Written, ReadFault>
     ensures { Gives (λ x. x) result (written_of source.entry.bytes.now from part.now) }
 {

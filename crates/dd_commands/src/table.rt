@@ -1,5 +1,5 @@
-//! The table of queries: of each kind its first word, what its further words name, how many numbers follow them, which vectors
-//! follow these, and how many symbols there are at least. A query is read, checked and resolved by its row alone.
+//! The table of queries. The row of a kind gives its first word, what its other words name, how many numbers and which vectors
+//! follow, and how many symbols there must be. A query is read, checked and resolved by its row alone.
 ghost use Rattle.std.specs.Prelude.{◌≡◌};
 ghost use Rattle.dd_commands.specs.Table.{row};
 
@@ -67,9 +67,9 @@ pub struct QueryRow {
     pub names: &'static [Role],
     /// How many numbers follow them.
     pub numbers: usize,
-    /// Which vectors follow these.
+    /// Which vectors follow the numbers.
     pub lists: Lists,
-    /// How many symbols the alphabet has at least.
+    /// How many symbols the alphabet must have.
     pub symbols: u32,
 }
 

@@ -1,10 +1,9 @@
--- What wired formulas say, and that their gates are over earlier variables.
+-- The signal of a wired formula has the formula's value, and its gates are over earlier variables.
 use Rattle.std.proofs.Common.{◌≡◌, ℕ, Bool, true, Option, Some, None, refl, arith}
-use Rattle.std.specs.Prelude.{nat_le}
 use Rattle.std.proofs.lemmas.Bool.{and_parts, leb-true}
+use Rattle.std.specs.Prelude.{nat_le}
 use Rattle.dd_expansion.specs.declared.expanded.Expanded.{Expanded}
-use Rattle.dd_circuit.specs.declared.gates.Signal.{Signal}
-use Rattle.dd_circuit.specs.Circuits.{IsSignal}
+use Rattle.dd_circuit.specs.{declared.gates.Signal.Signal, Circuits.IsSignal}
 use Rattle.dd_compile.specs.Compiling.{Wires, is_wire, are_wired, certain, wire_or_zero, made}
 use Rattle.dd_compile.specs.lemmas.MadeFits.{IsMade, made_fits}
 

@@ -1,46 +1,34 @@
--- What the gates of a composition ask, and what they say.
+-- What the gates of a composition require, and what they say.
 use Rattle.std.proofs.Common.{◌≡◌, ◌<◌, ◌≤◌, ℕ, zero, suc, ◌+◌, Bool, true, false, List, [], ◌∷◌, ◌++◌, Option, Some, map, length, take, get_or, slice_get, cond, refl, ap, sym, ◌∙◌, subst, inl, inr, arith, append_assoc, length-append, eq-eqb}
-use Rattle.std.specs.Prelude.{◌==◌, not, nat_le}
-use Rattle.std.specs.List.{All, Contains, flat_map, list_all, position_or_len}
-use Rattle.std.specs.List.Sorted.{IsStrictlySortedBy}
-use Rattle.std.specs.Cmp.{tied_itself, Equal-is}
-use Rattle.std.specs.Ordering.{is_eq, nat_cmp, ordering_then}
-use Rattle.std.specs.declared.cmp.Ordering.TheVariants.{Less}
-use Rattle.std.proofs.lemmas.Bool.{and_from, le-leb}
-use Rattle.std.proofs.lemmas.List.Elements.{All-map, All-weaker}
-use Rattle.dd_lattice.specs.Cells.{shifted}
-use Rattle.dd_lattice.specs.Order.{cell_cmp}
-use Rattle.dd_lattice.specs.declared.position.Cell.{Cell}
-use Rattle.dd_lattice.specs.lemmas.InOrderLaws.{cells_equal, in_order_members, list_all-in_order}
-use Rattle.dd_lattice.specs.lemmas.ListLaws.{Contains-cons_cases, Contains-map, Contains-nil, sorted_first, sorted_rest}
-use Rattle.dd_lattice.specs.lemmas.MoveLaws.{place_cmp-moved}
-use Rattle.dd_topology.specs.lemmas.ListLaws.{into_flat_map}
-use Rattle.dd_topology.specs.lemmas.OrderLaws.{cell_total}
-use Rattle.dd_pattern.specs.Reading.{Look, HasSymbolsBelow}
-use Rattle.dd_expansion.specs.Truth.{is_symbol}
-use Rattle.dd_expansion.specs.lemmas.ListTests.{list_all-alike, list_all-flat_map}
+use Rattle.std.proofs.lemmas.{Bool.and_from, Bool.le-leb, List.Elements.All-map, List.Elements.All-weaker}
 use Rattle.std.proofs.lemmas.List.Folds.{list_all-map}
+use Rattle.std.specs.Prelude.{◌==◌, not, nat_le}
+use Rattle.std.specs.List.{All, Contains, flat_map, list_all, position_or_len, Sorted.IsStrictlySortedBy}
+use Rattle.std.specs.{Cmp.tied_itself, Cmp.Equal-is, Ordering.is_eq, Ordering.nat_cmp, Ordering.ordering_then}
+use Rattle.std.specs.declared.cmp.Ordering.TheVariants.{Less}
+use Rattle.dd_lattice.specs.{Cells.shifted, Order.cell_cmp, declared.position.Cell.Cell}
+use Rattle.dd_lattice.specs.lemmas.InOrderLaws.{cells_equal, in_order_members, list_all-in_order}
+use Rattle.dd_lattice.specs.lemmas.MoveLaws.{place_cmp-moved}
+use Rattle.dd_values.specs.lemmas.Members.{Contains-cons_cases, Contains-map, Contains-nil, sorted_first, sorted_rest}
+use Rattle.dd_values.specs.lemmas.Lists.{members_pass}
+use Rattle.dd_topology.specs.lemmas.{ListLaws.into_flat_map, OrderLaws.cell_total}
+use Rattle.dd_pattern.specs.Reading.{Look, HasSymbolsBelow}
+use Rattle.dd_expansion.specs.{Truth.is_symbol, lemmas.ListTests.list_all-alike, lemmas.ListTests.list_all-flat_map}
 use Rattle.dd_formula.specs.Automata.{CommonNumbers, Counted, IsAutomaton, counted, cells_of, value}
-use Rattle.dd_formula.specs.declared.automaton.Automaton.{Automaton}
-use Rattle.dd_formula.specs.declared.automaton.Automaton.TheVariants as v
-use Rattle.dd_formula.specs.declared.automaton.Cases.{Cases}
+use Rattle.dd_formula.specs.declared.automaton.{Automaton.Automaton, Cases.Cases}
 use Rattle.dd_formula.specs.lemmas.AutomatonLaws.{counted_given, counted_composed}
 use Rattle.dd_formula.specs.lemmas.ValueLaws.{shifted_twice, value_given, value_composed, value_below}
-use Rattle.dd_circuit.specs.declared.gates.Signal.{Signal}
-use Rattle.dd_circuit.specs.Circuits.{Network, IsSignal, size}
+use Rattle.dd_circuit.specs.{declared.gates.Signal.Signal, Circuits.Network, Circuits.IsSignal, Circuits.size}
 use Rattle.dd_compile.specs.Wiring.{Wiring, unwired, signals_of, signal_for, wire_of}
-use Rattle.dd_compile.specs.Compiling.{Extends, AllMade}
-use Rattle.dd_compile.specs.RuleSignals.{is_signal, are_signals}
+use Rattle.dd_compile.specs.{Compiling.Extends, Compiling.AllMade, RuleSignals.is_signal, RuleSignals.are_signals}
 use Rattle.dd_compile.specs.ValueGates.{WiredMade, inner_made, composed_made, value_made}
 use Rattle.dd_compile.specs.ValueSignals.{SaysCases, SaysValue, SaysWhich, TellsCells, are_wired_there}
 use Rattle.dd_compile.specs.composing.Parts.{AreWired, AreValued, AreValues, IsValued}
-use Rattle.dd_compile.specs.lemmas.Progress.{size-append}
-use Rattle.dd_compile.specs.lemmas.CaseRules.{agrees_before}
-use Rattle.dd_compile.proofs.RuleSays.{members_pass}
-use Rattle.dd_compile.specs.lemmas.ValueParts.{made_composed}
+use Rattle.dd_compile.specs.lemmas.{Progress.size-append, CaseRules.agrees_before, ValueParts.made_composed}
 use Rattle.dd_compile.proofs.Composing.{there_of}
+use Rattle.dd_formula.specs.declared.automaton.Automaton.TheVariants as v
 
--- what the cases say is what the automaton by them says
+-- what the cases say is what the automaton given by them says
 pub cases_say : (new : Network) (w : Wiring) (k : ℕ) (f : Automaton) (c : Cases) (at : Cell) (ss : List Signal) → f ≡ v.Given c → SaysCases new w k c at ss → SaysValue new w k f at ss
 cases_say new w k f c at ss is h =
     let here : SaysValue new w k (v.Given c) at ss = record {
@@ -51,7 +39,7 @@ cases_say new w k f c at ss is h =
     } in
     subst (λ h. SaysValue new w k h at ss) (sym is) here
 
--- Cells that are moved together keep their order, so each comes after all before it.
+-- Cells that are moved together keep their order, so each still comes after all those before it.
 shifted_cmp : (at c d : Cell) → cell_cmp (shifted at.position c) (shifted at.position d) ≡ cell_cmp c d
 shifted_cmp at c d = ap (λ o. ordering_then o (nat_cmp c.node d.node)) (place_cmp-moved at.position c.position d.position)
 
@@ -131,7 +119,7 @@ found_wired circuit w k g c o found =
     ap (are_signals (size circuit) k) found.1
     ∙ and_from (length ss == k) (list_all (is_signal (size circuit)) ss) (eq-eqb (length ss) k found.2.says.one_each) (all_signals (size circuit) ss found.2.in_range)
 
--- what tells the reads of the composition tells those of the inner automaton at each cell that the outer one reads
+-- an assignment that tells what the composition reads tells what the inner automaton reads at each cell of the outer one
 inner_tells : (set : ℕ → Bool) (w : Wiring) (f g : Automaton) (at : Cell) (look : Look) →
     TellsCells set w (flat_map (λ (c : Cell). map (shifted c.position) ((counted g).reads c.node)) ((counted f).reads at.node)) at look →
     (d : Cell) → Contains ((counted f).reads at.node) d → TellsCells set w ((counted g).reads d.node) (shifted at.position d) look
@@ -142,7 +130,7 @@ inner_tells set w f g at look read d there e t y among wire =
     (Contains-map (shifted d.position) ((counted g).reads d.node) e among) in
     read (shifted d.position e) t y member (ap (λ c. wire_of w c t) same ∙ wire) ∙ ap (λ c. is_symbol t (look c)) same
 
--- The inner values are made, and the outer one's over them.
+-- The inner values are made first, and then the outer value over them.
 module _ (k : ℕ) (f g : Automaton) (w : Wiring) (at : Cell) (start one : Network) (values : Wiring) (cs : List Cell) (is : cs ≡ cells_of f at.node) (are : AreValues one w k g cs at values) where
   found : (d : Cell) → Contains (cells_of f at.node) d → Found one w k g (shifted at.position d) (signals_of values (shifted at.position d))
   found d there =
@@ -172,7 +160,7 @@ module _ (k : ℕ) (f g : Automaton) (w : Wiring) (at : Cell) (start one : Netwo
         subst (SaysWhich set ss) (sym (value_composed f g look at)) (h.says set given ok given_below outer);
   }
 
--- what comes first over the cells that the outer one reads, and how it goes together
+-- the inner values at the cells that the outer automaton reads, which are made first
 abbrev first : ℕ → Automaton → Wiring → Cell → List Cell → ℕ → WiredMade
 first k g w at cs n = inner_made (value_made k g) w unwired (there_of at cs) n
 

@@ -1,32 +1,21 @@
 -- The values of the inner automaton of a composition, one after the other.
 use Rattle.std.proofs.Common.{◌≡◌, ◌<◌, ◌≤◌, ℕ, ◌+◌, ◌*◌, true, List, [], ◌∷◌, ◌++◌, map, length, take, drop, get_or, refl, ap, sym, ◌∙◌, subst, arith, length-append, append_assoc}
-use Rattle.std.specs.List.{All, list_all}
-use Rattle.std.proofs.lemmas.Bool.{leb-true}
-use Rattle.std.proofs.lemmas.List.{map-append, take_all, drop_all}
+use Rattle.std.proofs.lemmas.{Bool.leb-true, List.map-append, List.take_all, List.drop_all}
 use Rattle.std.proofs.lemmas.List.Elements.{All-weaker}
-use Rattle.dd_lattice.specs.Place.{moved}
-use Rattle.dd_lattice.specs.Cells.{shifted}
-use Rattle.dd_lattice.specs.declared.position.Cell.{Cell}
-use Rattle.dd_topology.specs.Topology.{extent}
-use Rattle.dd_formula.specs.LocalRule.{is_near}
-use Rattle.dd_formula.specs.Automata.{counted}
-use Rattle.dd_formula.specs.declared.automaton.Automaton.{Automaton}
-use Rattle.dd_formula.specs.lemmas.AutomatonLaws.{passes_at}
-use Rattle.dd_circuit.specs.declared.gates.Signal.{Signal}
-use Rattle.dd_circuit.specs.declared.gates.Gate.{Gate}
-use Rattle.dd_circuit.specs.Circuits.{Network, IsSignal, size}
-use Rattle.dd_compile.specs.Wiring.{Wiring, unwired, with_cell}
-use Rattle.dd_compile.specs.Compiling.{Extends}
+use Rattle.std.specs.List.{All, list_all}
+use Rattle.dd_lattice.specs.{Place.moved, Cells.shifted, declared.position.Cell.Cell}
+use Rattle.dd_topology.specs.{Topology.extent, lemmas.ExtentLaws.extent_moved}
+use Rattle.dd_formula.specs.{LocalRule.is_near, Automata.counted, declared.automaton.Automaton.Automaton, lemmas.AutomatonLaws.passes_at}
+use Rattle.dd_circuit.specs.{declared.gates.Signal.Signal, declared.gates.Gate.Gate, Circuits.Network, Circuits.IsSignal, Circuits.size}
+use Rattle.dd_compile.specs.{Wiring.Wiring, Wiring.unwired, Wiring.with_cell, Compiling.Extends}
 use Rattle.dd_compile.specs.ValueGates.{WiredMade, inner_made, value_made}
 use Rattle.dd_compile.specs.ValueSignals.{SaysValue, are_wired_there}
 use Rattle.dd_compile.specs.composing.Parts.{AreWired, AreValued, AreValues, IsValued}
 use Rattle.dd_compile.specs.lemmas.Progress.{size-append, Extends-trans}
-use Rattle.dd_compile.specs.lemmas.CaseGates.{itself, next_is, taken_is}
-use Rattle.dd_compile.specs.lemmas.CaseRules.{agrees_before}
+use Rattle.dd_compile.specs.lemmas.{CaseGates.itself, CaseGates.next_is, CaseGates.taken_is, CaseRules.agrees_before}
 use Rattle.dd_compile.specs.lemmas.StillWired.{still_wired}
-use Rattle.dd_compile.specs.lemmas.RuleWiring.{extent_moved}
 
--- what stands of values stands when gates have come
+-- what holds for values still holds when gates have been added
 still_valued : (now new : Network) (w : Wiring) (k : ℕ) (f : Automaton) (c : Cell) (ss : List Signal) → Extends now new → IsValued now w k f c ss → IsValued new w k f c ss
 still_valued now new w k f c ss more h =
     let n = size-append now new more.added more.inputs more.gates in
@@ -74,7 +63,7 @@ module _ (k : ℕ) (f : Automaton) (w : Wiring) (cs : List Cell) (at : Cell) (i 
   pub size_more : size start ≤ size now
   size_more = let n = size-append start now p.extends.added p.extends.inputs p.extends.gates in omega (arith, n)
 
-  -- what the value at the cell asks
+  -- what the value at the cell requires
   pub value_few : size start + length (inner_made (value_made k f) w unwired (there_of at cs) (size start)).gates ≤ 16777216 → size now + length (value_made k f w there (size now)).gates ≤ 16777216
   value_few few =
       let one = value_made k f w there (size now) in

@@ -1,20 +1,13 @@
 -- A rule reads no more cells at a node than its expansion there has nodes.
 use Rattle.std.proofs.Common.{◌≡◌, ◌≤◌, ℕ, ◌+◌, List, [], ◌∷◌, map, length, ap, arith, length-append}
-use Rattle.std.specs.Prelude.{fold}
-use Rattle.std.specs.List.{flat_map}
-use Rattle.std.specs.BTreeSet.{insert_key}
-use Rattle.std.specs.Ordering.{match_ordering}
-use Rattle.std.specs.declared.cmp.Ordering.{Ordering}
+use Rattle.std.specs.{Prelude.fold, List.flat_map, BTreeSet.insert_key, Ordering.match_ordering, declared.cmp.Ordering.Ordering}
 use Rattle.std.specs.declared.cmp.Ordering.TheVariants.{Less, Equal, Greater}
-use Rattle.dd_lattice.specs.InOrder.{in_order}
-use Rattle.dd_lattice.specs.Order.{cell_cmp}
-use Rattle.dd_lattice.specs.declared.position.Cell.{Cell}
+use Rattle.dd_lattice.specs.{InOrder.in_order, Order.cell_cmp, declared.position.Cell.Cell}
 use Rattle.dd_expansion.specs.declared.expanded.Expanded.{Expanded}
 use Rattle.dd_expansion.specs.declared.expanded.Expanded.TheFolds.{fold-roll-Expanded, ind-Expanded, map-Expanded}
 use Rattle.dd_expansion.specs.declared.expanded.Expanded.TheOpen.{Expanded-F}
 use Rattle.dd_expansion.specs.Leaves.{leaf_cells, leaf_cells_step, instances, instances_step, total}
-use Rattle.dd_expansion.specs.Terms.{origin_at}
-use Rattle.dd_expansion.specs.lemmas.LeavesAreReads.{same_cells}
+use Rattle.dd_expansion.specs.{Terms.origin_at, lemmas.LeavesAreReads.same_cells}
 use Rattle.dd_formula.specs.LocalRule.{LocalRule, cells_at, expansion_at}
 
 abbrev IsFew : Expanded → Type 0

@@ -1,28 +1,20 @@
 -- The gates of a formula over other wires are its gates, placed.
 use Rattle.std.proofs.Common.{◌≡◌, ℕ, ◌+◌, ◌-◌, Bool, true, false, List, [], ◌∷◌, ◌++◌, Option, Some, None, map, length, slice_get, refl, ap, sym, ◌∙◌, arith}
-use Rattle.std.specs.Prelude.{not}
-use Rattle.std.specs.List.{list_all}
-use Rattle.std.proofs.lemmas.Bool.{and_parts}
-use Rattle.std.proofs.lemmas.List.{map-append, length-map}
-use Rattle.std.proofs.lemmas.Option.{slice_get_past}
+use Rattle.std.proofs.lemmas.{Bool.and_parts, List.map-append, List.length-map, Option.slice_get_past}
+use Rattle.std.specs.{Prelude.not, List.list_all}
 use Rattle.dd_lattice.specs.declared.position.Cell.{Cell}
 use Rattle.dd_expansion.specs.declared.expanded.Expanded.{Expanded}
 use Rattle.dd_expansion.specs.declared.expanded.Expanded.TheFolds.{fold-roll-Expanded, ind-Expanded, map-Expanded}
-use Rattle.dd_expansion.specs.declared.expanded.Expanded.TheOpen.{Expanded-F}
-use Rattle.dd_expansion.specs.Leaves.{LeafTest, leaves_pass, leaves_pass_step}
-use Rattle.dd_circuit.specs.declared.gates.Signal.{Signal}
-use Rattle.dd_circuit.specs.declared.gates.Gate.{Gate}
+use Rattle.dd_expansion.specs.{declared.expanded.Expanded.TheOpen.Expanded-F, Leaves.LeafTest, Leaves.leaves_pass, Leaves.leaves_pass_step}
+use Rattle.dd_circuit.specs.declared.gates.{Signal.Signal, Gate.Gate}
 use Rattle.dd_circuit.specs.declared.gates.Gate.TheVariants.{And, Or, Iff}
 use Rattle.dd_circuit.specs.Circuits.{signal_of, opposite}
 use Rattle.dd_compile.specs.Compiling.{Made, AllMade, Maker, all_made, then_gate, made_step, made}
 use Rattle.dd_compile.specs.placing.Placed.{signed, placed_by, placed, placed_gate}
-
-not_twice : (b : Bool) → not (not b) ≡ b
-not_twice true = refl
-not_twice false = refl
+use Rattle.dd_values.specs.lemmas.Booleans.{not_not}
 
 opposite_twice : (s : Signal) → s ≡ opposite (opposite s)
-opposite_twice s = λ i. record { variable = s.variable; positive = sym (not_twice s.positive) i }
+opposite_twice s = λ i. record { variable = s.variable; positive = sym (not_not s.positive) i }
 
 signed_opposite : (b : Bool) (s : Signal) → signed (not b) s ≡ opposite (signed b s)
 signed_opposite true s = refl
@@ -42,7 +34,7 @@ module _ (inputs : List Signal) (n : ℕ) where
   placed_opposite : (s : Signal) → over (opposite s) ≡ opposite (over s)
   placed_opposite s = by_opposite (slice_get inputs (s.variable - 1)) (n + (s.variable - length inputs)) s.positive
 
-  -- the variables behind the inputs are placed one after the other
+  -- the variables after the inputs are placed one after the other
   placed_later : (v k : ℕ) → v ≡ length inputs + k + 1 → over (signal_of v) ≡ signal_of (n + k + 1)
   placed_later v k is =
       let past : slice_get inputs (v - 1) ≡ None = slice_get_past inputs (v - 1) (omega (arith, is)) in

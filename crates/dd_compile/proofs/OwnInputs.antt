@@ -1,21 +1,11 @@
--- Variables of their own for cells: how the loops that list them go on, and what they are.
+-- Variables of their own for cells: the loops that list them, and what they are.
 use Rattle.std.proofs.Common.{◌≡◌, ◌<◌, ◌≤◌, ℕ, zero, suc, ◌+◌, ◌-◌, ◌*◌, true, List, [], ◌∷◌, ◌++◌, Some, length, take, drop, get_or, slice_get, refl, ap, sym, ◌∙◌, arith, length-append, append_assoc, append-nil, drop-cons, add-one, eq-eqb}
-use Rattle.std.specs.Prelude.{◌==◌, nat_le}
-use Rattle.std.specs.List.{All, list_all, flat_map}
-use Rattle.std.specs.List.Sorted.{IsStrictlySortedBy}
-use Rattle.std.specs.declared.cmp.Ordering.TheVariants.{Less}
-use Rattle.std.proofs.lemmas.Bool.{and_from, le-leb}
-use Rattle.std.proofs.lemmas.List.{take_more, take_all, drop_all, get_or-take, length-take, get_or_default}
-use Rattle.std.proofs.lemmas.Map.Keys.{Less-from_sorted}
-use Rattle.dd_lattice.specs.Order.{cell_cmp}
+use Rattle.std.proofs.lemmas.{Bool.and_from, Bool.le-leb, List.take_more, List.take_all, List.drop_all}
+use Rattle.std.specs.{Prelude.◌==◌, Prelude.nat_le, List.list_all, List.flat_map}
 use Rattle.dd_lattice.specs.declared.position.Cell.{Cell}
-use Rattle.dd_circuit.specs.declared.gates.Signal.{Signal}
-use Rattle.dd_circuit.specs.Circuits.{signal_of}
-use Rattle.dd_compile.specs.Wiring.{Wiring, signal_for, with_cell}
-use Rattle.dd_compile.specs.RuleSignals.{is_signal, are_signals}
-use Rattle.dd_compile.specs.ValueGates.{fresh}
-use Rattle.dd_compile.specs.placing.Own.{signals_in_turn, own_wiring}
-use Rattle.dd_compile.specs.lemmas.ChoiceLaws.{fresh_length}
+use Rattle.dd_circuit.specs.{declared.gates.Signal.Signal, Circuits.signal_of}
+use Rattle.dd_compile.specs.{Wiring.Wiring, Wiring.signal_for, Wiring.with_cell, RuleSignals.is_signal, RuleSignals.are_signals}
+use Rattle.dd_compile.specs.{ValueGates.fresh, placing.Own.signals_in_turn, placing.Own.own_wiring, lemmas.ChoiceLaws.fresh_length}
 
 pub fresh_step : (n k i v : ℕ) (now new : List Signal) → i < k → fresh n k ≡ now ++ fresh (n + i) (k - i) → v ≡ n + i + 1 → new ≡ now ++ signal_of v ∷ [] →
     fresh n k ≡ new ++ fresh (n + (i + 1)) (k - (i + 1))
@@ -58,12 +48,6 @@ turn_end m v i cells now past cs ss =
     let signals : now.signals ≡ signals_in_turn m 0 cells = sym (ss ∙ (ap (λ ds. now.signals ++ signals_in_turn m v ds) (drop_all i cells past) ∙ append-nil now.signals)) in
     λ j. record { cells = all j; signals = signals j }
 
--- the next cell comes after all before it
-pub turn_after : (cells : List Cell) (i : ℕ) (d : Cell) (cs : List Cell) → IsStrictlySortedBy cell_cmp cells → i < length cells → d ≡ get_or cells i d → cs ≡ take i cells → All (λ c. cell_cmp c d ≡ Less) cs
-turn_after cells i d cs up h here so_far = rw so_far (λ k e below.
-    let within : k < i = omega (arith, below, length-take i cells) in
-    rw (get_or-take i cells k e within) (ap (cell_cmp (get_or cells k e)) (here ∙ get_or_default cells i d e h) ∙ Less-from_sorted cell_cmp cells k i e up within h))
-
 pub in_turn_length : (m n : ℕ) (cs : List Cell) → length (signals_in_turn m n cs) ≡ length cs
 in_turn_length m n [] = refl
 in_turn_length m n (c ∷ cs) = ap suc (in_turn_length m (n + m) cs)
@@ -75,7 +59,7 @@ fresh_test n (suc k) m h =
     (and_from (nat_le 1 (suc n)) (nat_le (suc n) m) (le-leb 1 (suc n) (omega arith)) (le-leb (suc n) m (omega (arith, h))))
     (fresh_test (suc n) k m (omega (arith, h)))
 
--- each cell has its m signals, of at most so many variables
+-- each cell has its m signals, with variables up to a bound
 pub in_turn_full : (m n most : ℕ) (cs : List Cell) → n + length cs * m ≤ most → (i : ℕ) → i < length cs → are_signals most m (slice_get (signals_in_turn m n cs) i) ≡ true
 in_turn_full m n most [] h i below = absurd (omega arith)
 in_turn_full m n most (c ∷ cs) h zero below =
@@ -96,7 +80,7 @@ get_left [] ys j h = absurd (omega arith)
 get_left (x ∷ xs) ys zero h = refl
 get_left (x ∷ xs) ys (suc j) h = get_left xs ys j (omega arith)
 
--- the signal of a symbol of a cell has the number that the symbol has in a list of as many items for each cell, one cell after the other
+-- the signal of a cell's symbol is at the symbol's place in a list of m items for each cell, one cell after the other
 pub own_read : (m n : ℕ) (cs : List Cell) (row : Cell → List Signal) (before : List Signal) → length before ≡ n → ((i : ℕ) (d : Cell) → i < length cs → length (row (get_or cs i d)) ≡ m) →
     (i s : ℕ) (d : Cell) → i < length cs → s < m →
     (k : ℕ) × (signal_for (slice_get (signals_in_turn m n cs) i) s ≡ Some (signal_of (suc k))) × (slice_get (before ++ flat_map row cs) k ≡ slice_get (row (get_or cs i d)) s)
@@ -114,7 +98,7 @@ own_read m n (c ∷ cs) row before long full (suc i) s d below h =
     let rest = own_read m (n + m) cs row (before ++ row c) (omega (arith, l, long, wide)) (λ j e inside. full (suc j) e (omega (arith, inside))) i s d (omega arith) h in
     (rest.0, rest.1, ap (λ xs. slice_get xs rest.0) (sym (append_assoc before (row c) (flat_map row cs))) ∙ rest.2)
 
--- and so many they are
+-- and the length of that list
 pub row_count : (m : ℕ) (cs : List Cell) (row : Cell → List Signal) → ((i : ℕ) (d : Cell) → i < length cs → length (row (get_or cs i d)) ≡ m) → length (flat_map row cs) ≡ length cs * m
 row_count m [] row full = omega arith
 row_count m (c ∷ cs) row full =

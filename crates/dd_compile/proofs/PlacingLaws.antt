@@ -1,17 +1,13 @@
--- How far the gates of a template have come, and what stands when all are there.
+-- The state while the gates of a template are placed, and what holds when all are there.
 use Rattle.std.proofs.Common.{◌≡◌, ◌<◌, ◌≤◌, ℕ, ◌+◌, Bool, true, List, [], ◌∷◌, ◌++◌, map, length, take, get_or, refl, ap, sym, ◌∙◌, subst, arith, append_assoc, append-nil}
-use Rattle.std.specs.Prelude.{◌^◌, Option, Some, None, is_some}
-use Rattle.std.specs.List.{list_all}
 use Rattle.std.proofs.lemmas.Bool.{and_from}
 use Rattle.std.proofs.lemmas.List.{map-append, length-map, length-take, take_all, get_or-map}
-use Rattle.dd_lattice.specs.Place.{moved, is_in_range}
-use Rattle.dd_lattice.specs.Cells.{cell, shifted}
-use Rattle.dd_lattice.specs.declared.position.Cell.{Cell}
+use Rattle.std.specs.{Prelude.◌^◌, Prelude.Option, Prelude.Some, Prelude.None, Prelude.is_some, List.list_all}
+use Rattle.dd_lattice.specs.{Place.moved, Place.is_in_range, Cells.cell, Cells.shifted, declared.position.Cell.Cell}
 use Rattle.dd_topology.specs.Topology.{extent}
 use Rattle.dd_formula.specs.LocalRule.{LocalRule, IsRule, is_near, cells_at, expansion_at}
 use Rattle.dd_formula.specs.lemmas.RuleLaws.{cells_pass_reads}
-use Rattle.dd_circuit.specs.declared.gates.Signal.{Signal}
-use Rattle.dd_circuit.specs.declared.gates.Gate.{Gate}
+use Rattle.dd_circuit.specs.declared.gates.{Signal.Signal, Gate.Gate}
 use Rattle.dd_circuit.specs.Circuits.{Network, IsSignal, IsGate, AreGates, size}
 use Rattle.dd_circuit.specs.lemmas.GateLists.{gate_at, gate_within}
 use Rattle.dd_compile.specs.Wiring.{Wiring, signals_of}
@@ -20,16 +16,13 @@ use Rattle.dd_compile.specs.RuleSignals.{are_signals, are_reads_wired, SaysTruth
 use Rattle.dd_compile.specs.Templates.{RuleAt, rule_at}
 use Rattle.dd_compile.specs.placing.Own.{origin, own_inputs, own_count, own_made, IsTemplate}
 use Rattle.dd_compile.specs.placing.Placed.{is_there, signals_there, placed, placed_gate}
-use Rattle.dd_compile.specs.lemmas.Progress.{size-append, Extends-trans}
-use Rattle.dd_compile.specs.lemmas.MadeCount.{made_count}
-use Rattle.dd_compile.specs.lemmas.MadeFits.{IsMade}
-use Rattle.dd_compile.proofs.CompiledLaws.{compiled_fits}
-use Rattle.dd_compile.specs.lemmas.FewGates.{few_gates}
+use Rattle.dd_compile.specs.lemmas.{Progress.size-append, Progress.Extends-trans, MadeCount.made_count}
+use Rattle.dd_compile.specs.lemmas.{MadeFits.IsMade, FewGates.few_gates}
 use Rattle.dd_compile.specs.lemmas.RuleWiring.{leaves_wired, near_in_range}
-use Rattle.dd_compile.proofs.RuleSays.{members_pass, says_in}
 use Rattle.dd_compile.specs.lemmas.CaseGates.{itself, taken_is}
-use Rattle.dd_compile.proofs.MadePlaced.{IsPlaced}
+use Rattle.dd_compile.proofs.{CompiledLaws.compiled_fits, RuleSays.says_in, MadePlaced.IsPlaced}
 use Rattle.dd_compile.proofs.TemplateLaws.{all_near, few_own, origin_near, own_wired, template_placed, test_at}
+use Rattle.dd_values.specs.lemmas.Lists.{members_pass}
 
 pub record Placing (inputs : List Signal) (n : ℕ) (gates : List Gate) (i : ℕ) (start now : Network) : Type 0 where
   pub extends : Extends start now

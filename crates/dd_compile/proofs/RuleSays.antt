@@ -1,32 +1,22 @@
 -- The signal of a rule's gates says whether the rule is true.
-use Rattle.std.proofs.Common.{◌≡◌, ◌≤◌, ℕ, Bool, true, false, List, [], ◌∷◌, ◌++◌, refl, ap, sym, ◌∙◌, subst, Some, None, Ok, Err}
-use Rattle.std.specs.Prelude.{◌&&◌, if◌then◌else◌, Option, Result, IfOk}
-use Rattle.std.specs.List.{Contains, list_all, list_any}
-use Rattle.std.specs.Cmp.{tied_itself, Equal-is}
-use Rattle.std.specs.Ordering.{is_eq}
+use Rattle.std.proofs.Common.{◌≡◌, ◌≤◌, ℕ, Bool, true, false, List, ◌++◌, refl, ap, sym, ◌∙◌, subst, Some, None, Ok, Err}
 use Rattle.std.proofs.lemmas.Bool.{and_parts, and_from}
-use Rattle.dd_lattice.specs.Place.{moved, is_in_range}
-use Rattle.dd_lattice.specs.Cells.{shifted}
-use Rattle.dd_lattice.specs.Order.{cell_cmp}
-use Rattle.dd_lattice.specs.declared.position.Cell.{Cell}
+use Rattle.std.specs.Prelude.{◌&&◌, if◌then◌else◌, Option, Result, IfOk}
+use Rattle.std.specs.{List.Contains, List.list_all, List.list_any, Cmp.tied_itself, Cmp.Equal-is, Ordering.is_eq}
+use Rattle.dd_lattice.specs.{Place.moved, Place.is_in_range, Cells.shifted, Order.cell_cmp, declared.position.Cell.Cell}
 use Rattle.dd_lattice.specs.lemmas.InOrderLaws.{cells_equal}
-use Rattle.dd_lattice.specs.lemmas.ListLaws.{Contains-first, Contains-later}
-use Rattle.dd_topology.specs.lemmas.ListLaws.{some_passes, passes_any}
-use Rattle.dd_topology.specs.lemmas.OrderLaws.{cell_total}
+use Rattle.dd_topology.specs.lemmas.{ListLaws.some_passes, ListLaws.passes_any, OrderLaws.cell_total}
 use Rattle.dd_pattern.specs.Reading.{Look, HasSymbolsBelow}
-use Rattle.dd_expansion.specs.declared.expanded.Expanded.{Expanded}
-use Rattle.dd_expansion.specs.Leaves.{LeafTest, leaves_pass}
-use Rattle.dd_expansion.specs.Truth.{is_symbol}
+use Rattle.dd_expansion.specs.{declared.expanded.Expanded.Expanded, Leaves.LeafTest, Leaves.leaves_pass, Truth.is_symbol}
 use Rattle.dd_expansion.specs.lemmas.LeafLaws.{leaves_both}
 use Rattle.dd_formula.specs.LocalRule.{LocalRule, reads_at, expansion_at, is_true}
 use Rattle.dd_formula.specs.lemmas.RuleLaws.{at_cell, leaves_pass_reads}
-use Rattle.dd_circuit.specs.declared.gates.Signal.{Signal}
-use Rattle.dd_circuit.specs.Circuits.{Network, size, signal_value, agrees}
+use Rattle.dd_circuit.specs.{declared.gates.Signal.Signal, Circuits.Network, Circuits.size, Circuits.signal_value, Circuits.agrees}
 use Rattle.dd_circuit.specs.lemmas.ValueLaws.{agrees-append}
 use Rattle.dd_compile.specs.Wiring.{Wiring, wire_of}
 use Rattle.dd_compile.specs.Compiling.{Extends, wire_or_zero, certain, is_wire, are_wired, wires_near, compiled}
-use Rattle.dd_compile.specs.RuleSignals.{TellsReads, SaysTruth}
-use Rattle.dd_compile.specs.lemmas.MadeSays.{made_says}
+use Rattle.dd_compile.specs.{RuleSignals.TellsReads, RuleSignals.SaysTruth, lemmas.MadeSays.made_says}
+use Rattle.dd_values.specs.lemmas.Lists.{members_pass}
 
 -- whether the rule reads a cell, counted from the origin, at a node
 abbrev pub is_among : List Cell → Cell → Bool
@@ -37,10 +27,6 @@ among cs d h =
     let found = some_passes (λ x. is_eq (cell_cmp x d)) cs h in
     subst (Contains cs) (cells_equal found.0 d ((Equal-is (cell_cmp found.0 d)).0 found.2)) found.1
 
-pub members_pass : (test : Cell → Bool) (cs : List Cell) → ((d : Cell) → Contains cs d → test d ≡ true) → list_all test cs ≡ true
-members_pass test [] h = refl
-members_pass test (d ∷ cs) h = and_from _ _ (h d (Contains-first d cs)) (members_pass test cs (λ x there. h x (Contains-later d cs x there)))
-
 pub all_among : (cs : List Cell) → list_all (is_among cs) cs ≡ true
 all_among cs = members_pass (is_among cs) cs (λ d there. passes_any (λ x. is_eq (cell_cmp x d)) cs d there (ap is_eq (tied_itself cell_total d)))
 
@@ -50,7 +36,7 @@ told n set true None value h tell = absurd (cc)
 told n set true (Some x) value h tell = tell x refl
 told n set false o value h tell = absurd (cc)
 
--- The gates alone that are added decide what the signal says.
+-- The added gates alone decide what the signal says.
 pub rule_says : (n : ℕ) (w : Wiring) (r : LocalRule) → 1 ≤ r.symbols → (c : Cell) → are_wired n (wires_near w c.position) (expansion_at r c.node) ≡ true →
     (set : ℕ → Bool) (look : Look) → agrees set n (compiled w c.position (expansion_at r c.node) n).gates ≡ true → HasSymbolsBelow r.symbols look → TellsReads set w r c look →
     signal_value set (compiled w c.position (expansion_at r c.node) n).signal ≡ is_true r c look
@@ -79,7 +65,7 @@ says_in old new w r some c wired inputs gates s is set look ok below tells =
     let parts = and_parts (agrees set old.inputs old.gates) (agrees set (size old) made.gates) (sym (agrees-append set old.inputs old.gates made.gates) ∙ whole) in
     ap (signal_value set) is ∙ rule_says (size old) w r some c wired set look parts.1 below tells
 
--- the same of an answer
+-- the same for an answer
 pub answer_says : (old new : Network) (w : Wiring) (r : LocalRule) → 1 ≤ r.symbols → (c : Cell) → are_wired (size old) (wires_near w c.position) (expansion_at r c.node) ≡ true →
     (e : Expanded) → e ≡ expansion_at r c.node → {E : Type 0} (result : Result Signal E) → Extends old new →
     IfOk result (λ _. new.gates ≡ old.gates ++ (compiled w c.position e (size old)).gates) → IfOk result (λ s. s ≡ (compiled w c.position e (size old)).signal) →

@@ -1,31 +1,22 @@
--- The gates of compositions say their values wherever they stand.
+-- The gates of compositions say their values wherever they stand in a circuit.
 use Rattle.std.proofs.Common.{◌≡◌, ◌<◌, ◌≤◌, ℕ, zero, suc, ◌+◌, ◌*◌, true, List, [], ◌++◌, length, get_or, refl, sym, ◌∙◌, subst, arith, length-append}
+use Rattle.std.proofs.lemmas.List.{get_or_default, Elements.All-weaker}
 use Rattle.std.specs.List.{list_all, All}
-use Rattle.std.proofs.lemmas.List.{get_or_default}
-use Rattle.std.proofs.lemmas.List.Elements.{All-weaker}
-use Rattle.dd_lattice.specs.Cells.{shifted}
-use Rattle.dd_lattice.specs.declared.position.Cell.{Cell}
-use Rattle.dd_lattice.specs.lemmas.InOrderLaws.{list_all-in_order}
+use Rattle.dd_lattice.specs.{Cells.shifted, declared.position.Cell.Cell, lemmas.InOrderLaws.list_all-in_order}
 use Rattle.dd_topology.specs.Topology.{extent}
 use Rattle.dd_expansion.specs.Terms.{origin_at}
 use Rattle.dd_formula.specs.LocalRule.{is_near}
 use Rattle.dd_formula.specs.Automata.{CommonNumbers, IsAutomaton, counted, cells_of, is_cell_of}
-use Rattle.dd_formula.specs.Values.{IsPlaced}
-use Rattle.dd_formula.specs.declared.automaton.Automaton.{Automaton}
-use Rattle.dd_formula.specs.declared.automaton.Automaton.TheVariants as v
+use Rattle.dd_formula.specs.{Values.IsPlaced, declared.automaton.Automaton.Automaton}
 use Rattle.dd_formula.specs.lemmas.AutomatonLaws.{outer_part, inner_part, depth_composed, near_cells, node_at, shallow}
-use Rattle.dd_circuit.specs.Circuits.{Network, IsSignal, AreGates, size}
-use Rattle.dd_circuit.specs.lemmas.GateLists.{AreGates-append}
-use Rattle.dd_compile.specs.Wiring.{Wiring, unwired, with_cell}
-use Rattle.dd_compile.specs.Compiling.{AllMade}
-use Rattle.dd_compile.specs.ValueGates.{value_made}
-use Rattle.dd_compile.specs.ValueSignals.{SaysValue, are_wired_there}
-use Rattle.dd_compile.specs.composing.Parts.{AreWired}
-use Rattle.dd_compile.specs.Valued.{IsMadeValue, SaysNear, SaysItsValue}
-use Rattle.dd_compile.specs.lemmas.CaseRules.{agrees_added}
+use Rattle.dd_circuit.specs.{Circuits.Network, Circuits.IsSignal, Circuits.AreGates, Circuits.size, lemmas.GateLists.AreGates-append}
+use Rattle.dd_compile.specs.{Wiring.Wiring, Wiring.unwired, Wiring.with_cell, Compiling.AllMade, ValueGates.value_made}
+use Rattle.dd_compile.specs.{ValueSignals.SaysValue, ValueSignals.are_wired_there, composing.Parts.AreWired}
+use Rattle.dd_compile.specs.{Valued.IsMadeValue, Valued.SaysNear, Valued.SaysItsValue, lemmas.CaseRules.agrees_added}
 use Rattle.dd_compile.proofs.Composing.{Composing, composing_start, composing_step, composing_end, value_wired, value_inside}
 use Rattle.dd_compile.proofs.Composed.{inner_wired, outer_wired, composed_says, composed_gates, composed_signals}
 use Rattle.dd_compile.proofs.SaidRules.{of_network}
+use Rattle.dd_formula.specs.declared.automaton.Automaton.TheVariants as v
 
 -- a value at the end of a circuit
 said_after : (now : Network) (k : ℕ) (f : Automaton) (w : Wiring) (at : Cell) (m : AllMade) → IsMadeValue (size now) k f w at m →

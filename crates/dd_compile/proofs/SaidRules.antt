@@ -1,43 +1,30 @@
--- The gates of cases say their value wherever they stand.
+-- The gates of cases say their value wherever they stand in a circuit.
 use Rattle.std.proofs.Common.{◌≡◌, ◌<◌, ◌≤◌, ℕ, zero, suc, ◌+◌, Bool, true, List, [], ◌∷◌, ◌++◌, map, length, refl, ap, sym, ◌∙◌, subst, arith, length-append}
-use Rattle.std.specs.Prelude.{◌&&◌, nat_lt}
-use Rattle.std.specs.List.{list_all, All, range_with_len}
-use Rattle.std.proofs.lemmas.Bool.{and_parts}
-use Rattle.std.proofs.lemmas.List.{map-append}
-use Rattle.std.proofs.lemmas.List.Folds.{list_all-append}
+use Rattle.std.proofs.lemmas.{Bool.and_parts, List.map-append, List.Folds.list_all-append}
 use Rattle.std.proofs.lemmas.List.Elements.{All-cons, All-push, All-weaker, Contains-append_left, Contains-append_right}
-use Rattle.dd_lattice.specs.Cells.{shifted}
-use Rattle.dd_lattice.specs.declared.position.Cell.{Cell}
+use Rattle.std.specs.{Prelude.◌&&◌, Prelude.nat_lt, List.list_all, List.All, List.range_with_len}
+use Rattle.dd_lattice.specs.{Cells.shifted, declared.position.Cell.Cell}
 use Rattle.dd_topology.specs.Topology.{extent}
 use Rattle.dd_pattern.specs.Reading.{Look, HasSymbolsBelow}
 use Rattle.dd_formula.specs.LocalRule.{LocalRule, IsRule, is_true, expansion_at, reads_at}
 use Rattle.dd_formula.specs.Automata.{CommonNumbers, Counted, counted, cases_fit, cases_reads, rule_has}
-use Rattle.dd_formula.specs.declared.automaton.Automaton.{Automaton}
-use Rattle.dd_formula.specs.declared.automaton.Automaton.TheVariants as v
-use Rattle.dd_formula.specs.declared.automaton.Cases.{Cases}
+use Rattle.dd_formula.specs.declared.automaton.{Automaton.Automaton, Cases.Cases}
 use Rattle.dd_formula.specs.lemmas.AutomatonLaws.{rule_nodes, fits_given, counted_given, depth_given}
 use Rattle.dd_formula.specs.lemmas.ValueLaws.{rule_symbols}
-use Rattle.dd_circuit.specs.declared.gates.Signal.{Signal}
-use Rattle.dd_circuit.specs.declared.gates.Gate.{Gate}
-use Rattle.dd_circuit.specs.declared.gates.Gate.TheVariants.{Or}
+use Rattle.dd_circuit.specs.declared.gates.{Signal.Signal, Gate.Gate, Gate.TheVariants.Or}
 use Rattle.dd_circuit.specs.Circuits.{Network, IsSignal, AreGates, size, signal_value, agrees, opposite}
-use Rattle.dd_circuit.specs.lemmas.ValueLaws.{agrees-append}
-use Rattle.dd_circuit.specs.lemmas.GateLists.{AreGates-append}
+use Rattle.dd_circuit.specs.lemmas.{ValueLaws.agrees-append, GateLists.AreGates-append}
 use Rattle.dd_compile.specs.Wiring.{Wiring, signals_of}
 use Rattle.dd_compile.specs.Compiling.{AllMade, compiled, are_wired, wires_near}
 use Rattle.dd_compile.specs.RuleSignals.{are_signals, are_reads_wired}
 use Rattle.dd_compile.specs.ValueGates.{fresh, choices, giving, symbol_gates, given_symbols, rules_made, value_made}
 use Rattle.dd_compile.specs.ValueSignals.{TellsCells, CasesSay, SaysValue, are_wired_there}
-use Rattle.dd_compile.specs.Valued.{IsMadeValue, SaysNear}
-use Rattle.dd_compile.proofs.CompiledLaws.{compiled_fits}
-use Rattle.dd_compile.specs.lemmas.RuleWiring.{leaves_wired}
-use Rattle.dd_compile.proofs.RuleSays.{rule_says}
+use Rattle.dd_compile.specs.{Valued.IsMadeValue, Valued.SaysNear, lemmas.RuleWiring.leaves_wired}
 use Rattle.dd_compile.specs.lemmas.CaseGates.{with_first, giving_in_range}
 use Rattle.dd_compile.specs.lemmas.CaseRules.{Steps, value_gates, value_signals, value_in_range, value_says}
-use Rattle.dd_compile.specs.lemmas.StillWired.{still_wired}
-use Rattle.dd_compile.specs.lemmas.ChoiceLaws.{fresh_in_range}
-use Rattle.dd_compile.proofs.Composed.{cases_say}
-use Rattle.dd_compile.specs.lemmas.ValueParts.{made_given}
+use Rattle.dd_compile.specs.lemmas.{StillWired.still_wired, ChoiceLaws.fresh_in_range, ValueParts.made_given}
+use Rattle.dd_compile.proofs.{CompiledLaws.compiled_fits, RuleSays.rule_says, Composed.cases_say}
+use Rattle.dd_formula.specs.declared.automaton.Automaton.TheVariants as v
 
 -- gates and signals of a circuit of inputs alone are those of a value
 pub of_network : (n k : ℕ) (f : Automaton) (w : Wiring) (at : Cell) (gs : List Gate) (ss : List Signal) (m : AllMade) → AreGates n gs → SaysValue (record { inputs = n; gates = gs }) w k f at ss →

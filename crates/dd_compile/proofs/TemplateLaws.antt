@@ -1,45 +1,25 @@
 -- The gates of a rule at a cell are those over variables of their own, placed.
 use Rattle.std.proofs.Common.{◌≡◌, ◌<◌, ◌≤◌, ℕ, zero, suc, ◌+◌, ◌-◌, ◌*◌, Bool, true, List, [], ◌∷◌, ◌++◌, Option, Some, None, length, get_or, slice_get, refl, ap, sym, ◌∙◌, arith}
-use Rattle.std.specs.Prelude.{◌==◌, ◌&&◌, ◌^◌, nat_lt}
-use Rattle.std.specs.List.{Contains, list_all}
-use Rattle.std.proofs.lemmas.Int.{ints}
-use Rattle.std.proofs.lemmas.Bool.{and_parts, and_from, eqb-true, ltb-true}
-use Rattle.std.proofs.lemmas.Nat.{mul-le}
-use Rattle.std.proofs.lemmas.Option.{slice_get-get_or}
-use Rattle.dd_lattice.specs.Place.{Place, moved}
-use Rattle.dd_lattice.specs.Cells.{cell, shifted}
-use Rattle.dd_lattice.specs.declared.position.Cell.{Cell}
-use Rattle.dd_topology.specs.Topology.{extent}
-use Rattle.dd_topology.specs.lemmas.OrderLaws.{sorted-in_order}
-use Rattle.dd_expansion.specs.Leaves.{LeafTest, leaves_pass}
-use Rattle.dd_expansion.specs.lemmas.LeafLaws.{leaves_both}
+use Rattle.std.proofs.lemmas.{Int.ints, Bool.and_parts, Bool.and_from, Bool.eqb-true, Bool.ltb-true}
+use Rattle.std.proofs.lemmas.{Nat.mul-le, Option.slice_get-get_or}
+use Rattle.std.specs.{Prelude.◌==◌, Prelude.◌&&◌, Prelude.◌^◌, Prelude.nat_lt, List.Contains, List.list_all}
+use Rattle.dd_lattice.specs.{Place.Place, Cells.cell, Cells.shifted, declared.position.Cell.Cell}
+use Rattle.dd_topology.specs.{Topology.extent, lemmas.OrderLaws.sorted-in_order}
+use Rattle.dd_expansion.specs.{Leaves.LeafTest, Leaves.leaves_pass, lemmas.LeafLaws.leaves_both}
 use Rattle.dd_formula.specs.LocalRule.{LocalRule, IsRule, is_near, reads_at, cells_at, expansion_at}
 use Rattle.dd_formula.specs.lemmas.RuleLaws.{leaves_pass_reads, cells_pass_reads}
-use Rattle.dd_circuit.specs.declared.gates.Signal.{Signal}
-use Rattle.dd_circuit.specs.Circuits.{Network, signal_of, size}
+use Rattle.dd_formula.specs.lemmas.ValueLaws.{moved_by_none, shifted_by_none}
+use Rattle.dd_circuit.specs.{declared.gates.Signal.Signal, Circuits.Network, Circuits.signal_of, Circuits.size}
 use Rattle.dd_compile.specs.Wiring.{Wiring, IsWiring, signal_for, signals_of, wire_of}
 use Rattle.dd_compile.specs.Compiling.{wire_or_zero, certain, wires_near, compiled, gate_count}
 use Rattle.dd_compile.specs.RuleSignals.{is_signal, are_signals, are_reads_wired}
 use Rattle.dd_compile.specs.placing.Own.{origin, signals_in_turn, own_wiring, own_inputs, own_count, own_made, IsTemplate}
 use Rattle.dd_compile.specs.placing.Placed.{all_of, signals_there, placed, placed_by}
-use Rattle.dd_compile.specs.lemmas.WiringLaws.{signals_at_place}
-use Rattle.dd_compile.specs.lemmas.RuleWiring.{near_in_range}
-use Rattle.dd_compile.proofs.RuleSays.{is_among, among, all_among, members_pass}
-use Rattle.dd_compile.specs.lemmas.FewGates.{few_gates}
-use Rattle.dd_compile.proofs.FewReads.{few_reads}
+use Rattle.dd_compile.specs.lemmas.{WiringLaws.signals_at_place, RuleWiring.near_in_range, FewGates.few_gates}
+use Rattle.dd_compile.proofs.{RuleSays.is_among, RuleSays.among, RuleSays.all_among, FewReads.few_reads}
 use Rattle.dd_compile.proofs.OwnInputs.{in_turn_length, in_turn_full, own_read, row_count}
 use Rattle.dd_compile.proofs.MadePlaced.{IsPlaced, made_placed}
-
--- a cell counted from the origin is that cell
-same_place : (p : Place) → moved p origin ≡ p
-same_place p =
-    let x : (moved p origin).x ≡ p.x = omega (arith, ints) in
-    let y : (moved p origin).y ≡ p.y = omega (arith, ints) in
-    let z : (moved p origin).z ≡ p.z = omega (arith, ints) in
-    λ i. record { x = x i; y = y i; z = z i }
-
-from_origin : (d : Cell) → shifted origin d ≡ d
-from_origin d = ap (λ p. cell p d.node) (same_place d.position)
+use Rattle.dd_values.specs.lemmas.Lists.{members_pass}
 
 pub origin_near : extent origin ≤ 1048560
 origin_near = omega (arith, ints)
@@ -70,7 +50,7 @@ module _ (r : LocalRule) (rule : IsRule r) (a : ℕ) (exists : a < r.nodes) wher
   -- the signals of the cell with the number k
   own_at : (k : ℕ) (d : Cell) → k < length cells → get_or cells k d ≡ d → signals_of (own_inputs r a) (shifted origin d) ≡ slice_get (signals_in_turn r.symbols 0 cells) k
   own_at k d h is =
-      ap (signals_of (own_inputs r a)) (from_origin d ∙ sym is) ∙ signals_at_place (own_inputs r a) own_is_wiring k d h
+      ap (signals_of (own_inputs r a)) (shifted_by_none d ∙ sym is) ∙ signals_at_place (own_inputs r a) own_is_wiring k d h
 
   pub own_wired : are_reads_wired (own_count r a) (own_inputs r a) r (cell origin a) ≡ true
   own_wired =

@@ -1,16 +1,10 @@
 -- The gates of a formula without variables, as a function of the number of variables before them.
-use Rattle.std.specs.Prelude.{ℕ, ◌+◌, ◌≡◌, ◌&&◌, Bool, false, if◌then◌else◌, nat_le}
-use Rattle.std.specs.Prelude.{List, [], ◌∷◌, ◌++◌, map, length, Option, Some, None}
+use Rattle.std.specs.Prelude.{ℕ, ◌+◌, ◌≡◌, ◌&&◌, Bool, false, if◌then◌else◌, nat_le, List, [], ◌∷◌, ◌++◌, map, length, Option, Some, None}
 use Rattle.std.specs.List.{list_all}
-use Rattle.dd_lattice.specs.Place.{Place, moved, is_in_range}
-use Rattle.dd_lattice.specs.Cells.{shifted}
-use Rattle.dd_lattice.specs.declared.position.Cell.{Cell}
-use Rattle.dd_expansion.specs.declared.expanded.Expanded.{Expanded}
-use Rattle.dd_expansion.specs.declared.expanded.Expanded.TheFolds.{fold-Expanded}
-use Rattle.dd_expansion.specs.declared.expanded.Expanded.TheOpen.{Expanded-F}
-use Rattle.dd_expansion.specs.Leaves.{leaves_pass, total}
-use Rattle.dd_circuit.specs.declared.gates.Signal.{Signal}
-use Rattle.dd_circuit.specs.declared.gates.Gate.{Gate}
+use Rattle.dd_lattice.specs.{Place.Place, Place.moved, Place.is_in_range, Cells.shifted, declared.position.Cell.Cell}
+use Rattle.dd_expansion.specs.declared.expanded.Expanded.{Expanded, TheFolds.fold-Expanded}
+use Rattle.dd_expansion.specs.{declared.expanded.Expanded.TheOpen.Expanded-F, Leaves.leaves_pass, Leaves.total}
+use Rattle.dd_circuit.specs.declared.gates.{Signal.Signal, Gate.Gate}
 use Rattle.dd_circuit.specs.declared.gates.Gate.TheVariants.{And, Or, Iff}
 use Rattle.dd_circuit.specs.Circuits.{Network, signal_of, opposite}
 use Rattle.dd_compile.specs.Wiring.{Wiring, wire_of}
@@ -27,7 +21,7 @@ pub record AllMade : Type 0 where
 abbrev pub made_of : Signal → List Gate → Made
 made_of s gs = record { signal = s; gates = gs }
 
--- from the number of variables before
+-- made from the number of variables before
 abbrev pub Maker : Type 0
 Maker = ℕ → Made
 
@@ -53,7 +47,7 @@ made_step wires (Expanded-F.Iff f g) n =
     let right = g (n + length left.gates) in
     then_gate n (left.gates ++ right.gates) (Iff left.signal right.signal)
 
--- over a signal for each leaf, by its cell and its symbol
+-- the gates of a formula, over a signal for each leaf, by its cell and its symbol
 abbrev pub made : (Cell → ℕ → Signal) → Expanded → Maker
 made wires = fold-Expanded Maker (made_step wires)
 
@@ -76,7 +70,7 @@ all_counts es = total (map gate_count es)
 abbrev pub Wires : Type 0
 Wires = Cell → ℕ → Option Signal
 
--- the wires of cells that are counted from a place; none where a cell leaves the range of positions
+-- the wires of cells that are counted from a place; a cell outside the range of positions has none
 abbrev pub wires_near : Wiring → Place → Wires
 wires_near w v c s = if is_in_range (moved c.position v) then wire_of w (shifted v c) s else None
 
@@ -96,7 +90,7 @@ abbrev pub wire_or_zero : Option Signal → Signal
 wire_or_zero None = signal_of 0
 wire_or_zero (Some s) = s
 
--- the wires, where each leaf has one
+-- the wires, if each leaf has one
 abbrev pub certain : Wires → Cell → ℕ → Signal
 certain wires c s = wire_or_zero (wires c s)
 
@@ -107,7 +101,7 @@ compiled w v = made (certain (wires_near w v))
 abbrev pub all_compiled : Wiring → Place → List Expanded → ℕ → AllMade
 all_compiled w v es = all_made (map (compiled w v) es)
 
--- the inputs are the same, and gates have come at the end
+-- the inputs are the same, and gates were added at the end
 pub record Extends (old new : Network) : Type 0 where
   pub inputs : new.inputs ≡ old.inputs
   pub added : List Gate

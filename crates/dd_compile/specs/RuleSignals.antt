@@ -1,14 +1,11 @@
 -- The signals of the cells that a rule reads, and what the signal of its gates says.
 use Rattle.std.specs.Prelude.{◌≡◌, ◌==◌, ◌&&◌, if◌then◌else◌, ℕ, Bool, true, false, List, Option, Some, None, length, nat_le}
 use Rattle.std.specs.List.{Contains, list_all}
-use Rattle.dd_lattice.specs.Place.{Place, moved, is_in_range}
-use Rattle.dd_lattice.specs.Cells.{shifted}
-use Rattle.dd_lattice.specs.declared.position.Cell.{Cell}
+use Rattle.dd_lattice.specs.{Place.Place, Place.moved, Place.is_in_range, Cells.shifted, declared.position.Cell.Cell}
 use Rattle.dd_pattern.specs.Reading.{Look, HasSymbolsBelow}
 use Rattle.dd_expansion.specs.Truth.{is_symbol}
 use Rattle.dd_formula.specs.LocalRule.{LocalRule, reads_at, is_true}
-use Rattle.dd_circuit.specs.declared.gates.Signal.{Signal}
-use Rattle.dd_circuit.specs.Circuits.{Network, signal_value, agrees}
+use Rattle.dd_circuit.specs.{declared.gates.Signal.Signal, Circuits.Network, Circuits.signal_value, Circuits.agrees}
 use Rattle.dd_compile.specs.Wiring.{Wiring, signals_of, wire_of}
 
 -- the signal's variable is one of 1..n
@@ -20,7 +17,7 @@ abbrev pub are_signals : ℕ → ℕ → Option (List Signal) → Bool
 are_signals n k None = false
 are_signals n k (Some ss) = (length ss == k) && list_all (is_signal n) ss
 
--- the same of the signals of a cell that is counted from a place; false where the cell leaves the range of positions
+-- the same for the signals of a cell that is counted from a place; false if the cell is outside the range of positions
 abbrev pub is_cell_wired : ℕ → ℕ → Wiring → Place → Cell → Bool
 is_cell_wired n k w v d = if is_in_range (moved d.position v) then are_signals n k (signals_of w (shifted v d)) else false
 
@@ -34,7 +31,7 @@ TellsReads set w r c look =
     (d : Cell) (s : ℕ) (x : Signal) → Contains (reads_at r c.node) d → wire_of w (shifted c.position d) s ≡ Some x →
     signal_value set x ≡ is_symbol s (look (shifted c.position d))
 
--- Where the circuit's gates have their values, and the inputs tell the symbols that the rule reads at c, the signal says
+-- If the circuit's gates have their values, and the inputs tell the symbols that the rule reads at c, the signal says
 -- whether the rule is true at c.
 abbrev pub SaysTruth : Network → Wiring → LocalRule → Cell → Signal → Type 0
 SaysTruth circuit w r c signal =

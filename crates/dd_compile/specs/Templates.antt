@@ -1,4 +1,4 @@
--- Of what the gates are made that are placed at cell after cell.
+-- The rule and the node whose gates are placed at one cell after another.
 use Rattle.std.specs.Prelude.{ℕ}
 use Rattle.dd_formula.specs.LocalRule.{LocalRule}
 

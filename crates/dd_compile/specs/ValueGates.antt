@@ -2,21 +2,13 @@
 -- them.
 use Rattle.std.specs.Prelude.{ℕ, zero, suc, ◌+◌, ◌==◌, if◌then◌else◌, List, [], ◌∷◌, ◌++◌, map, length}
 use Rattle.std.specs.List.{range_with_len}
-use Rattle.dd_lattice.specs.Cells.{shifted}
-use Rattle.dd_lattice.specs.InOrder.{in_order}
-use Rattle.dd_lattice.specs.declared.position.Cell.{Cell}
-use Rattle.dd_formula.specs.LocalRule.{LocalRule, expansion_at}
-use Rattle.dd_formula.specs.Automata.{Counted, counted_step}
-use Rattle.dd_formula.specs.declared.automaton.Automaton.{Automaton}
-use Rattle.dd_formula.specs.declared.automaton.Cases.{Cases}
-use Rattle.dd_formula.specs.declared.automaton.Automaton.TheFolds.{fold-Automaton}
-use Rattle.dd_formula.specs.declared.automaton.Automaton.TheOpen.{Automaton-F}
-use Rattle.dd_circuit.specs.declared.gates.Signal.{Signal}
-use Rattle.dd_circuit.specs.declared.gates.Gate.{Gate}
-use Rattle.dd_circuit.specs.declared.gates.Gate.TheVariants.{And, Or}
-use Rattle.dd_circuit.specs.Circuits.{signal_of, opposite}
-use Rattle.dd_compile.specs.Wiring.{Wiring, unwired, with_cell}
-use Rattle.dd_compile.specs.Compiling.{AllMade, all_made, compiled}
+use Rattle.dd_lattice.specs.{Cells.shifted, InOrder.in_order, declared.position.Cell.Cell}
+use Rattle.dd_formula.specs.{LocalRule.LocalRule, LocalRule.expansion_at, Automata.Counted, Automata.counted_step}
+use Rattle.dd_formula.specs.declared.automaton.{Automaton.Automaton, Cases.Cases}
+use Rattle.dd_formula.specs.declared.automaton.Automaton.{TheFolds.fold-Automaton, TheOpen.Automaton-F}
+use Rattle.dd_circuit.specs.declared.gates.{Signal.Signal, Gate.Gate}
+use Rattle.dd_circuit.specs.{declared.gates.Gate.TheVariants.And, declared.gates.Gate.TheVariants.Or, Circuits.signal_of, Circuits.opposite}
+use Rattle.dd_compile.specs.{Wiring.Wiring, Wiring.unwired, Wiring.with_cell, Compiling.AllMade, Compiling.all_made, Compiling.compiled}
 
 -- the signals of the k variables after the first n
 abbrev pub fresh : ℕ → ℕ → List Signal
@@ -36,7 +28,7 @@ choices before (l ∷ ls) = And (l ∷ map opposite before) ∷ choices (before 
 abbrev pub given_symbols : List (LocalRule × ℕ) → ℕ → List ℕ
 given_symbols cases otherwise = map (λ case. case.1) cases ++ otherwise ∷ []
 
--- those of the signals that stand for the symbol
+-- the signals that stand for the symbol
 abbrev pub giving : ℕ → List ℕ → List Signal → List Signal
 giving s [] fs = []
 giving s (x ∷ xs) [] = []
@@ -46,12 +38,12 @@ giving s (x ∷ xs) (f ∷ fs) = if x == s then f ∷ giving s xs fs else giving
 abbrev pub symbol_gates : ℕ → List ℕ → List Signal → List Gate
 symbol_gates k xs fs = map (λ s. Or (giving s xs fs)) (range_with_len 0 k)
 
--- the signals of a value, by symbol, and its gates: over the signals of cells, at a cell, from the number of variables before
+-- the signals of a value, by symbol, and its gates, from the signals of cells, a cell and the number of variables before
 abbrev pub ValueMaker : Type 0
 ValueMaker = Wiring → Cell → ℕ → AllMade
 
--- The value of an automaton by cases over an alphabet of k symbols: first the rules, then the choices, then the symbols, of which
--- each has the signal of its gate.
+-- The value of an automaton by cases over an alphabet of k symbols: first the gates of the rules, then the choices,
+-- then the symbols. Each symbol has the signal of its gate.
 abbrev pub given_made : ℕ → Cases → ValueMaker
 given_made k c w at n =
     let rules = rules_made w at c.cases n in
@@ -65,7 +57,7 @@ pub record WiredMade : Type 0 where
   pub wiring : Wiring
   pub gates : List Gate
 
--- to the cells of v come some others, one after the other, each with the signals of its value over w
+-- adds some cells to those of v, one after the other, each with the signals of its value over w
 abbrev pub inner_made : ValueMaker → Wiring → Wiring → List Cell → ℕ → WiredMade
 inner_made g w v [] n = record { wiring = v; gates = [] }
 inner_made g w v (c ∷ cs) n =
@@ -73,15 +65,15 @@ inner_made g w v (c ∷ cs) n =
     let rest = inner_made g w (with_cell v c here.signals) cs (n + length here.gates) in
     record { wiring = rest.wiring; gates = here.gates ++ rest.gates }
 
--- The value of a composition: first the second automaton's value, anew, at each of the cells that the first reads there, then the
--- first's over these.
+-- The value of a composition: first the second automaton's value, anew, at each cell that the first reads there; then
+-- the value of the first over these.
 abbrev pub composed_made : List Cell → ValueMaker → ValueMaker → ValueMaker
 composed_made reads f g w at n =
     let inner = inner_made g w unwired (map (shifted at.position) reads) n in
     let outer = f inner.wiring at (n + length inner.gates) in
     record { signals = outer.signals; gates = inner.gates ++ outer.gates }
 
--- what is counted of an automaton, and what its value makes
+-- the counts of an automaton, and the gates of its value
 pub record Gated : Type 0 where
   pub counts : Counted
   pub made : ValueMaker

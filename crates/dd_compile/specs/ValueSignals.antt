@@ -1,27 +1,23 @@
 -- The signals of the cells that an automaton reads, and what the signals of its value say.
 use Rattle.std.specs.Prelude.{ℕ, ◌≡◌, ◌<◌, ◌==◌, Bool, true, List, Some, length, map, slice_get}
 use Rattle.std.specs.List.{Contains, list_all}
-use Rattle.dd_lattice.specs.Cells.{shifted}
-use Rattle.dd_lattice.specs.declared.position.Cell.{Cell}
+use Rattle.dd_lattice.specs.{Cells.shifted, declared.position.Cell.Cell}
 use Rattle.dd_pattern.specs.Reading.{Look, HasSymbolsBelow}
 use Rattle.dd_expansion.specs.Truth.{is_symbol}
 use Rattle.dd_formula.specs.LocalRule.{LocalRule, is_true}
 use Rattle.dd_formula.specs.Automata.{CommonNumbers, IsAutomaton, cases_fit, cases_reads, counted, first_case, value}
-use Rattle.dd_formula.specs.declared.automaton.Automaton.{Automaton}
-use Rattle.dd_formula.specs.declared.automaton.Cases.{Cases}
-use Rattle.dd_circuit.specs.declared.gates.Signal.{Signal}
-use Rattle.dd_circuit.specs.Circuits.{Network, signal_value, agrees}
-use Rattle.dd_compile.specs.Wiring.{Wiring, signals_of, wire_of}
-use Rattle.dd_compile.specs.RuleSignals.{are_signals}
+use Rattle.dd_formula.specs.declared.automaton.{Automaton.Automaton, Cases.Cases}
+use Rattle.dd_circuit.specs.{declared.gates.Signal.Signal, Circuits.Network, Circuits.signal_value, Circuits.agrees}
+use Rattle.dd_compile.specs.{Wiring.Wiring, Wiring.signals_of, Wiring.wire_of, RuleSignals.are_signals}
 
--- over some numbers with an alphabet of k symbols the cases fit, and a is one of the nodes
+-- the cases fit some numbers with an alphabet of k symbols, and a is one of the nodes
 pub record HasCasesSymbols (c : Cases) (k a : ℕ) : Type 0 where
   pub setting : CommonNumbers
   pub fit : cases_fit setting c.cases c.otherwise ≡ true
   pub below : a < setting.nodes
   pub all : setting.symbols ≡ k
 
--- over some numbers with an alphabet of k symbols the automaton is well formed, and a is one of the nodes
+-- the automaton is well formed over some numbers with an alphabet of k symbols, and a is one of the nodes
 pub record HasSymbols (f : Automaton) (k a : ℕ) : Type 0 where
   pub setting : CommonNumbers
   pub formed : IsAutomaton setting f
@@ -37,21 +33,21 @@ abbrev pub TellsCells : (ℕ → Bool) → Wiring → List Cell → Cell → Loo
 TellsCells set w ds c look =
     (d : Cell) (s : ℕ) (x : Signal) → Contains ds d → wire_of w (shifted c.position d) s ≡ Some x → signal_value set x ≡ is_symbol s (look (shifted c.position d))
 
--- over some numbers the cases fit, and what they read at c has its signals
+-- the cases fit some numbers, and what they read at c has its signals
 pub record AreCasesWired (n : ℕ) (w : Wiring) (c : Cases) (at : Cell) : Type 0 where
   pub setting : CommonNumbers
   pub fit : cases_fit setting c.cases c.otherwise ≡ true
   pub below : at.node < setting.nodes
   pub wired : are_wired_there n setting.symbols w (cases_reads c.cases at.node) at ≡ true
 
--- Where the circuit's gates have their values, and the inputs tell the symbols that the cases read at a cell, the signals say
--- whether the rules of these of the cases are true there.
+-- If the circuit's gates have their values, and the inputs tell the symbols that the cases read at a cell, the
+-- signals say whether the rules of these cases are true there.
 abbrev pub CasesSay : Network → Wiring → Cases → Cell → List (LocalRule × ℕ) → List Signal → Type 0
 CasesSay circuit w c at some signals =
     (s : CommonNumbers) (set : ℕ → Bool) (look : Look) → cases_fit s c.cases c.otherwise ≡ true → agrees set circuit.inputs circuit.gates ≡ true → HasSymbolsBelow s.symbols look →
     TellsCells set w (cases_reads c.cases at.node) at look → map (signal_value set) signals ≡ map (λ case. is_true case.0 at look) some
 
--- The same of a value: of each of k symbols the signal says whether it is the value.
+-- For a value: the signal of each of k symbols says whether that symbol is the value.
 abbrev pub SaysWhich : (ℕ → Bool) → List Signal → ℕ → Type 0
 SaysWhich set signals symbol = (s : ℕ) (x : Signal) → slice_get signals s ≡ Some x → signal_value set x ≡ (symbol == s)
 
@@ -60,8 +56,8 @@ pub record SaysCases (circuit : Network) (w : Wiring) (k : ℕ) (cases : Cases) 
   pub says : (set : ℕ → Bool) (look : Look) → agrees set circuit.inputs circuit.gates ≡ true → HasSymbolsBelow k look → TellsCells set w (cases_reads cases.cases c.node) c look →
       SaysWhich set signals (first_case cases.cases cases.otherwise look c)
 
--- Where the circuit's gates have their values, and the inputs tell the symbols that the automaton reads at c, each of k symbols has
--- a signal, which says whether the automaton's value at c is that symbol.
+-- If the circuit's gates have their values, and the inputs tell the symbols that the automaton reads at c, each of k
+-- symbols has a signal. It says whether the automaton's value at c is that symbol.
 pub record SaysValue (circuit : Network) (w : Wiring) (k : ℕ) (f : Automaton) (c : Cell) (signals : List Signal) : Type 0 where
   pub one_each : length signals ≡ k
   pub says : (set : ℕ → Bool) (look : Look) → agrees set circuit.inputs circuit.gates ≡ true → HasSymbolsBelow k look → TellsCells set w ((counted f).reads c.node) c look →

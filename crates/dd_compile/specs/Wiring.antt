@@ -1,10 +1,7 @@
 -- The signals that say which symbol a cell has.
 use Rattle.std.specs.Prelude.{◌≡◌, ◌<◌, ℕ, List, [], ◌∷◌, ◌++◌, Option, Some, None, length, slice_get, slice_index_or}
-use Rattle.std.specs.List.{Contains, position_or_len}
-use Rattle.std.specs.List.Sorted.{IsStrictlySortedBy}
-use Rattle.std.specs.Ordering.{is_eq}
-use Rattle.dd_lattice.specs.declared.position.Cell.{Cell}
-use Rattle.dd_lattice.specs.Order.{cell_cmp}
+use Rattle.std.specs.{List.Contains, List.position_or_len, List.Sorted.IsStrictlySortedBy, Ordering.is_eq}
+use Rattle.dd_lattice.specs.{declared.position.Cell.Cell, Order.cell_cmp}
 use Rattle.dd_circuit.specs.declared.gates.Signal.{Signal}
 
 -- cells in cell order, and a list of signals for each, by symbol
@@ -26,7 +23,7 @@ abbrev pub signal_for : Option (List Signal) → ℕ → Option Signal
 signal_for None s = None
 signal_for (Some ss) s = slice_get ss s
 
--- the signals of a cell: the list with the number that the cell has among the cells
+-- the signals of a cell: the list at the place that the cell has among the cells
 abbrev pub signals_of : Wiring → Cell → Option (List Signal)
 signals_of w c = slice_get w.signals (position_or_len (λ d. is_eq (cell_cmp d c)) w.cells)
 

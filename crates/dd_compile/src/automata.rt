@@ -1,4 +1,4 @@
-//! The gates of the value of an automaton, of a composition too, at a cell.
+//! The gates of an automaton's value at a cell, for compositions too.
 ghost use Rattle.std.specs.Prelude.{ℕ, ◌≡◌, ◌≤◌, ◌+◌, ◌-◌, ◌*◌, ◌++◌, true, All, IfOk, length, map, max};
 ghost use Rattle.std.specs.List.{list_all};
 ghost use Rattle.std.specs.List.Sorted.{IsStrictlySortedBy};
@@ -26,10 +26,10 @@ use dd_lattice;
 use dd_lattice::{Position, shift};
 use std::alloc::{AllocError, Global};
 
-/// Adds the gates of the automaton's value at a cell over an alphabet of so many symbols, and gives for each symbol the signal
-/// that says that it is the value there. Over a composition come first, for each cell that the outer automaton reads, in cell
-/// order, the gates of the inner one's value, and then those of the outer one's over these. After want of memory the circuit may
-/// have gained gates.
+/// Adds the gates of the automaton's value at a cell over an alphabet of `symbols` symbols, and returns for each
+/// symbol the signal that says that it is the value there. For a composition, the gates of the inner automaton's
+/// value come first, for each cell that the outer one reads, in cell order. Those of the outer one's value over these
+/// follow. If memory runs out, gates may have been added.
 pub fn compile_value(
     circuit: &mut Circuit,
     alloc: Global,
@@ -58,7 +58,7 @@ pub fn value_gates(_automaton: &Automaton, _symbols: u32)
         length (value_made _symbols _automaton.now w at n).gates ≤ value_clauses _symbols _automaton.now at.node }
 {}
 
-/// The same at a cell near enough to the origin that nothing that compositions of this depth read leaves the range of positions.
+/// The same at a cell near enough to the origin that compositions of this depth read only cells in the range of positions.
 #[cycle(compile_near)]
 fn compile_near(
     circuit: &mut Circuit,
@@ -95,7 +95,7 @@ fn compile_near(
     }
 }
 
-/// The same of the composition of two automata.
+/// The same for the composition of two automata.
 #[cycle(compile_near)]
 fn compile_composed(
     circuit: &mut Circuit,
@@ -125,8 +125,8 @@ fn compile_composed(
     compile_near(circuit, alloc, outer, symbols, at, &values)
 }
 
-/// Adds the gates of the automaton's values at the cells, which are counted from `at`, one after the other, and gives the cells with
-/// the signals of their values.
+/// Adds the gates of the automaton's values at the cells, which are counted from `at`, one after the other. Returns
+/// the cells with the signals of their values.
 #[cycle(compile_near)]
 fn compile_inner(
     circuit: &mut Circuit,

@@ -10,7 +10,7 @@ use dd_expansion::Expanded;
 use dd_lattice::{Cell, Position, shift};
 use std::alloc::{AllocError, Global};
 
-/// The signal that says that a cell, counted from `at`, has the symbol, where there is one.
+/// The signal that says that a cell, counted from `at`, has the symbol, if there is one.
 fn wire_near(inputs: &Inputs, at: &Position, cell: &Cell, symbol: u32) -> Option<Signal>
     ensures { result ≡ wires_near inputs.now at.now cell.now symbol }
 {
@@ -59,8 +59,7 @@ fn are_wired(circuit: &Circuit, parts: &[Expanded], at: &Position, inputs: &Inpu
     true
 }
 
-/// Adds the gates of a formula whose cells are counted from `at`, and gives its signal. After want of memory the circuit
-/// may have gained gates.
+/// Adds the gates of a formula whose cells are counted from `at`, and returns its signal. If memory runs out, gates may have been added.
 #[cycle(compile)]
 pub fn compile_expanded(
     circuit: &mut Circuit,
@@ -107,7 +106,7 @@ pub fn compile_expanded(
     }
 }
 
-/// Adds the gates of formulas one after the other, and gives their signals.
+/// Adds the gates of formulas one after the other, and returns their signals.
 #[cycle(compile)]
 fn compile_all(
     circuit: &mut Circuit,

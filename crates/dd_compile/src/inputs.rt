@@ -41,8 +41,7 @@ impl Inputs {
         }
     }
 
-    /// Adds a cell that comes after all that are there, and its signals, by symbol. After want of memory the inputs are
-    /// as they were.
+    /// Adds a cell that comes after all others, and its signals, by symbol. If memory runs out, the inputs are unchanged.
     pub fn add(&mut self, cell: Cell, signals: Vec<Signal>) -> Result<(), AllocError>
         requires { All (λ c. cell_cmp c cell ≡ Less) self.old.cells }
         ensures ok { OnOk result (self.new ≡ with_cell self.old cell signals.items) }
@@ -54,7 +53,7 @@ impl Inputs {
         Ok(())
     }
 
-    /// The signal that says that the cell has the symbol, or `None` where the cell isn't there or the symbol isn't below
+    /// The signal that says that the cell has the symbol. `None` if the cell isn't there or the symbol isn't below
     /// the number of its signals.
     #[tactic(auto, using(crate::specs::lemmas::WiringLaws::read_by_place))]
     pub fn get(&self, cell: &Cell, symbol: u32) -> Option<Signal>
@@ -67,7 +66,7 @@ impl Inputs {
         }
     }
 
-    /// The signals of the cell, by symbol, or `None` where the cell isn't there.
+    /// The signals of the cell, by symbol, or `None` if the cell isn't there.
     pub fn signals(&self, cell: &Cell) -> Option<&[Signal]>
         ensures { option_copied result ≡ signals_of self.now cell.now }
     {
@@ -77,7 +76,7 @@ impl Inputs {
         }
     }
 
-    /// Whether the cell has so many signals, each of one of the variables from 1 to `variables`.
+    /// Whether the cell has `symbols` signals, each with a variable from 1 to `variables`.
     pub fn has_signals(&self, cell: &Cell, symbols: u32, variables: u32) -> bool
         ensures { result ≡ are_signals variables symbols (signals_of self.now cell.now) }
     {

@@ -5,17 +5,17 @@ ghost use Rattle.dd_compile.specs.Valued.{SaysNear, SaysItsValue};
 
 use dd_formula::{Automaton, Cases};
 
-/// Only looks at the rules, for what they keep.
+/// Reads the rules only for their invariants.
 fn rules_are_kept(cases: &Cases)
     ensures { All (λ case. IsRule case.0) cases.now.cases }
 {
     for (rule, _) in cases.cases.as_slice() {
-        // Made for its fact: what a rule keeps.
+        // This call brings in a fact: what a rule keeps.
         let _nodes = rule.nodes();
     }
 }
 
-/// Only looks at the rules, for what they keep: near the origin the gates of the automaton's value say its value.
+/// Reads the rules only for their invariants: near the origin the gates of the automaton's value say its value.
 fn says_near(automaton: &Automaton)
     ensures { SaysNear automaton.now }
 {
@@ -29,7 +29,7 @@ fn says_near(automaton: &Automaton)
     }
 }
 
-/// Only looks at the rules, for what they keep: the gates of the automaton's value are gates over earlier variables, and
+/// Reads the rules only for their invariants: the gates of the automaton's value are over earlier variables, and
 /// their signals say its value, wherever they stand.
 pub fn says_its_value(automaton: &Automaton)
     ensures { SaysItsValue automaton.now }

@@ -61,8 +61,8 @@ pub fn reads_are_wired(circuit: &Circuit, rule: &Rule, at: &Cell, inputs: &Input
     are_cells_wired(circuit, rule.symbols(), reads, &at.position, inputs)
 }
 
-/// Adds the gates of the rule's expansion at a cell, and gives its signal, which says whether the rule is true there.
-/// After want of memory the circuit may have gained gates.
+/// Adds the gates of the rule's expansion at a cell, and returns its signal, which says whether the rule is true
+/// there. If memory runs out, gates may have been added.
 pub fn compile_rule(
     circuit: &mut Circuit,
     alloc: Global,

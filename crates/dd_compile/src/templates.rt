@@ -1,4 +1,4 @@
-//! The gates of a rule at a node, made once and placed at cell after cell.
+//! The gates of a rule at a node, made once and placed at one cell after another.
 ghost use Rattle.std.specs.Prelude.{◌≡◌, ◌≤◌, ◌<◌, ◌+◌, ◌-◌, ◌*◌, ◌++◌, ◌∷◌, [], true, is_some, length, map, All, IfOk, OnOk, OnErr};
 ghost use Rattle.std.specs.List.{list_all};
 ghost use Rattle.std.specs.List.Sorted.{IsStrictlySortedBy};
@@ -25,9 +25,9 @@ use dd_lattice::{Cell, Position, shift};
 use std::alloc::{AllocError, Global};
 use std::marker::Model;
 
-/// The gates of a rule at one of its nodes, to be placed at that node of any position. They are a circuit of their own, over
-/// a variable for each symbol of each cell that the rule reads there: that of the symbol `s` of the `k`-th of them, from 0 in
-/// cell order, is `1 + k * symbols + s`.
+/// The gates of a rule at one of its nodes, to be placed at that node of any position. They are a circuit of their
+/// own, with a variable for each symbol of each cell that the rule reads there. Symbol `s` of cell number `k`, from 0
+/// in cell order, has the variable `1 + k * symbols + s`.
 #[derive(Debug, Drop)]
 pub struct Template<'a> {
     rule: &'a Rule,
@@ -51,7 +51,7 @@ impl<'a> Model for Template<'a> {
     ghost invariant = { λ t. IsTemplate t.rule.now t.node t.circuit t.signal };
 }
 
-/// Signals of the next variables after so many.
+/// Signals of the `count` variables after the first `before`.
 fn fresh(alloc: Global, before: u32, count: u32) -> Result<Vec<Signal>, AllocError>
     requires { before + count ≤ most_variables }
     ensures { IfOk result (λ v. v.items ≡ fresh before count) }
@@ -66,7 +66,7 @@ fn fresh(alloc: Global, before: u32, count: u32) -> Result<Vec<Signal>, AllocErr
     Ok(signals)
 }
 
-/// Inputs for the cells, with a variable for each of so many symbols of each cell.
+/// Inputs for the cells, with a variable for each of `symbols` symbols of each cell.
 fn own_inputs(alloc: Global, cells: &[Cell], symbols: u32) -> Result<Inputs, AllocError>
     requires ascending { IsStrictlySortedBy cell_cmp cells.now }
     requires few { length cells.now * symbols ≤ most_variables }
@@ -130,7 +130,7 @@ fn signals_there(
     Ok(signals)
 }
 
-/// What stands for a signal of a template: one of the inputs, or a variable after so many others.
+/// What stands for a signal of a template: one of the inputs, or a variable after the first `before`.
 fn placed(signal: Signal, inputs: &[Signal], before: u32) -> Signal
     requires signal { IsSignal most_variables signal }
     requires before { before ≤ most_variables }
@@ -151,7 +151,7 @@ fn placed(signal: Signal, inputs: &[Signal], before: u32) -> Signal
     }
 }
 
-/// What stands for the signals, in place of what was there.
+/// Fills `placed_signals` with what stands for the signals, in place of its old content.
 fn place_all(
     placed_signals: &mut Vec<Signal>,
     signals: &[Signal],
@@ -203,8 +203,9 @@ fn place_gate(
     Ok(())
 }
 
-/// Adds the gates of the template's rule at a cell of its node, and gives their signal, which says whether the rule is true
-/// there: the same gates in the same order as `compile_rule` adds. After want of memory the circuit may have gained gates.
+/// Adds the gates of the template's rule at a cell of its node: the same gates in the same order as `compile_rule`
+/// adds. Returns their signal, which says whether the rule is true there. If memory runs out, gates may have been
+/// added.
 pub fn place_template(
     circuit: &mut Circuit,
     alloc: Global,

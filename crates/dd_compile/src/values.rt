@@ -16,8 +16,8 @@ use dd_formula::Cases;
 use dd_lattice::Cell;
 use std::alloc::{AllocError, Global};
 
-/// Adds the gates of the value of an automaton that is given by cases, at a cell, and gives for each symbol the signal that
-/// says that it is the value. After want of memory the circuit may have gained gates.
+/// Adds the gates of the value at a cell of an automaton given by cases. Returns for each symbol the signal that says
+/// that it is the value. If memory runs out, gates may have been added.
 pub fn compile_cases(
     circuit: &mut Circuit,
     alloc: Global,
@@ -43,7 +43,7 @@ pub fn compile_cases(
     give(circuit, alloc, &given, symbols, &chosen)
 }
 
-/// Adds the gates of the cases' rules, one after the other, and gives their signals.
+/// Adds the gates of the cases' rules, one after the other, and returns their signals.
 fn compile_rules(
     circuit: &mut Circuit,
     alloc: Global,
@@ -104,7 +104,7 @@ fn given_symbols(alloc: Global, cases: &Cases) -> Result<Vec<u32>, AllocError>
     Ok(symbols)
 }
 
-/// Those of the choices that stand for the symbol.
+/// The choices that stand for the symbol.
 fn giving(
     alloc: Global,
     given: &[u32],

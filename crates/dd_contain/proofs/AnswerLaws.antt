@@ -1,18 +1,14 @@
--- A box that suffices makes all larger ones suffice, and no configuration shows what it excludes.
+-- If a box suffices, so do all larger ones, and no configuration shows what the box excludes.
 use Rattle.std.proofs.Common.{◌≡◌, ℕ, ◌≤◌, ◌||◌, ◌&&◌, Bool, true, false, refl, subst, arith}
 use Rattle.std.specs.Prelude.{max, nat_lt}
 use Rattle.dd_derivation.specs.Derivations.{IsRefuting}
 use Rattle.dd_problem.specs.Problems.{box_problem}
 use Rattle.dd_expansion.specs.Placed.{is_flat}
 use Rattle.dd_formula.specs.LocalRule.{LocalRule}
-use Rattle.dd_boxes.specs.Goals.{GoalOf, IsGoalFor}
-use Rattle.dd_boxes.specs.Boxes.{origin, Suffices, Reaches, IsLeastRadius}
-use Rattle.dd_boxes.specs.Laws.{OneBox}
+use Rattle.dd_boxes.specs.{Goals.GoalOf, Goals.IsGoalFor, Boxes.origin, Boxes.Suffices, Boxes.Reaches, Boxes.IsLeastRadius, Laws.OneBox}
 use Rattle.dd_contain.specs.declared.decision.Decision.{Decision}
 use Rattle.dd_contain.specs.declared.decision.Decision.TheVariants.{Yes, No, Unknown}
-use Rattle.dd_contain.specs.Decided.{IsDecidedBy}
-use Rattle.dd_contain.specs.Questions.{ShowsAt, Displays, IsDecided}
-use Rattle.dd_contain.specs.Laws.{IsShown, Trichotomy}
+use Rattle.dd_contain.specs.{Decided.IsDecidedBy, Questions.ShowsAt, Questions.Displays, Questions.IsDecided, Laws.IsShown, Laws.Trichotomy}
 
 flat_origin : (d : ℕ) → is_flat d origin ≡ true
 flat_origin d = cases (nat_lt 1 d) (nat_lt 2 d) where

@@ -1,8 +1,6 @@
 -- No torus within a question's periods has more positions than its largest region.
-use Rattle.std.proofs.Common.{◌≡◌, ℕ, zero, suc, ◌*◌, ◌^◌, ◌≤◌, arith}
-use Rattle.std.proofs.lemmas.Nat.{mul-le}
-use Rattle.dd_pattern.specs.declared.periods.Periods.{Periods}
-use Rattle.dd_pattern.specs.Periods.{AreWithin, periods_volume as tile_volume}
+use Rattle.std.proofs.{Common.◌≡◌, Common.ℕ, Common.zero, Common.suc, Common.◌*◌, Common.◌^◌, Common.◌≤◌, Common.arith, lemmas.Nat.mul-le}
+use Rattle.dd_pattern.specs.{declared.periods.Periods.Periods, Periods.AreWithin, Periods.periods_volume as tile_volume}
 use Rattle.dd_formula.specs.Counts.{largest_region}
 use Rattle.dd_boxes.specs.lemmas.SizeLaws.{first_power, second_power, third_power}
 

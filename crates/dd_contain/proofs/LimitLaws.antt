@@ -5,17 +5,13 @@ use Rattle.dd_derivation.specs.Derivations.{IsRefuting}
 use Rattle.dd_problem.specs.Problems.{box_problem}
 use Rattle.dd_lattice.specs.Boxes.{centred, volume}
 use Rattle.dd_formula.specs.LocalRule.{LocalRule, IsRule}
-use Rattle.dd_boxes.specs.Goals.{GoalOf, IsGoalFor}
-use Rattle.dd_boxes.specs.Boxes.{Suffices, IsLeastRadius}
-use Rattle.dd_boxes.specs.lemmas.FromBox.{from_least}
-use Rattle.dd_pattern.specs.declared.periods.Periods.{Periods}
-use Rattle.dd_pattern.specs.Periods.{AreWithin, periods_volume as tile_volume}
+use Rattle.dd_boxes.specs.{Goals.GoalOf, Goals.IsGoalFor, Boxes.Suffices, Boxes.IsLeastRadius, Counts.IsSmallQuestion}
+use Rattle.dd_boxes.specs.lemmas.{FromBox.from_least, SizeLaws.fewer, SizeLaws.box_up}
+use Rattle.dd_pattern.specs.{declared.periods.Periods.Periods, Periods.AreWithin, Periods.periods_volume as tile_volume}
 use Rattle.dd_contain.specs.declared.decision.Decision.{Decision}
 use Rattle.dd_contain.specs.declared.decision.Decision.TheVariants.{Yes, No, Unknown}
-use Rattle.dd_contain.specs.Decided.{IsDecidedBy}
-use Rattle.dd_contain.specs.searching.Listed.{AsksRadii, AsksWithin}
-use Rattle.dd_contain.specs.Questions.{AsksRadius, AsksPeriods, RefutesByNumbers, ShowsAt, Displays, IsSmallQuestion, IsDecided, HasNumbers}
-use Rattle.dd_boxes.specs.lemmas.SizeLaws.{fewer, box_up}
+use Rattle.dd_contain.specs.{Decided.IsDecidedBy, searching.Listed.AsksRadii, searching.Listed.AsksWithin}
+use Rattle.dd_contain.specs.Questions.{AsksRadius, AsksPeriods, RefutesByNumbers, ShowsAt, Displays, IsDecided, HasNumbers}
 use Rattle.dd_contain.proofs.CountLaws.{torus_up}
 
 within_most : (d p m : ℕ) (q : Periods) → p ≤ m → AreWithin d p q → AreWithin d m q

@@ -1,16 +1,13 @@
--- The first of a list of periods in their order, of all that there are, is the first of all.
+-- If a list has all periods within the limits, the first that satisfies a condition in the list is the first of all.
 use Rattle.std.proofs.Common.{◌≡◌, ℕ, ◌<◌, List, length, get_or, Some, refl, sym, subst, inl, inr, Contains}
-use Rattle.std.specs.Prelude.{slice_get}
-use Rattle.std.specs.List.Sorted.{IsStrictlySortedBy}
-use Rattle.std.specs.Cmp.{IsTotalOrder}
 use Rattle.std.proofs.lemmas.Bool.{cases_order}
 use Rattle.std.proofs.lemmas.Cmp.{nat_cmp_total, on_total, then_total, tied_itself}
 use Rattle.std.proofs.lemmas.Map.Keys.{Less-from_sorted}
 use Rattle.std.proofs.lemmas.Option.{slice_get_within, slice_get_read, get_or_from_slice_get}
+use Rattle.std.specs.{Prelude.slice_get, List.Sorted.IsStrictlySortedBy, Cmp.IsTotalOrder}
 use Rattle.dd_pattern.specs.declared.periods.Periods.{Periods}
 use Rattle.dd_pattern.specs.Periods.{periods_volume, periods_cmp, IsBefore, AreAllWithin}
-use Rattle.dd_contain.specs.Decided.{IsFirst, NoneWithin}
-use Rattle.dd_contain.specs.searching.Listed.{NoneBefore, IsFirstOf}
+use Rattle.dd_contain.specs.{Decided.IsFirst, Decided.NoneWithin, searching.Listed.NoneBefore, searching.Listed.IsFirstOf}
 
 periods_total : IsTotalOrder periods_cmp
 periods_total =
@@ -20,14 +17,14 @@ periods_total =
     (on_total (λ (p : Periods). p.z) nat_cmp_total))
     (on_total (λ (p : Periods). p.shear) nat_cmp_total)
 
--- nothing is before itself, nor before what is before it
+-- nothing is before itself, and no two items are each before the other
 never_itself : (p : Periods) → IsBefore p p → ⊥
 never_itself p before = let tied = tied_itself periods_total p in absurd (cc (tied, before))
 
 never_back : (p q : Periods) → IsBefore p q → IsBefore q p → ⊥
 never_back p q one other = never_itself p (periods_total.trans p q p one other)
 
--- an item of the list
+-- an item of the list and its index
 listed : (ps : List Periods) (q : Periods) → Contains ps q → (k : ℕ) × (k < length ps) × (slice_get ps k ≡ Some q)
 listed ps q there = (there.0, there.1, slice_get_read ps (length ps) there.0 q refl there.1 (sym there.2))
 

@@ -1,13 +1,11 @@
--- What is decided of a range of radii and of periods.
+-- What is decided about a range of radii and of periods.
 use Rattle.std.specs.Prelude.{ℕ, ◌<◌, ◌≤◌, List}
 use Rattle.dd_derivation.specs.declared.step.Step.{Step}
-use Rattle.dd_pattern.specs.declared.periods.Periods.{Periods}
-use Rattle.dd_pattern.specs.Periods.{AreWithin, IsBefore}
-use Rattle.dd_pattern.specs.Tile.{Tile}
+use Rattle.dd_pattern.specs.{declared.periods.Periods.Periods, Periods.AreWithin, Periods.IsBefore, Tile.Tile}
 use Rattle.dd_contain.specs.declared.decision.Decision.{Decision}
 use Rattle.dd_contain.specs.declared.decision.Decision.TheVariants.{Yes, No, Unknown}
 
--- n is the first in least..most with S
+-- n is the first of least..most that satisfies S
 pub record IsLeast (S : ℕ → Type 0) (least most n : ℕ) : Type 0 where
   pub low : least ≤ n
   pub high : n ≤ most
@@ -17,7 +15,7 @@ pub record IsLeast (S : ℕ → Type 0) (least most n : ℕ) : Type 0 where
 abbrev pub NoneIn : (ℕ → Type 0) → ℕ → ℕ → Type 0
 NoneIn S least most = (k : ℕ) → least ≤ k → k ≤ most → S k → ⊥
 
--- p is the first with T of the periods in d dimensions that are at most n along each axis, with each shear
+-- p is the first that satisfies T, of the periods in d dimensions that are at most n along each axis, with each shear
 pub record IsFirst (T : Periods → Type 0) (d n : ℕ) (p : Periods) : Type 0 where
   pub within : AreWithin d n p
   pub shows : T p
@@ -26,7 +24,7 @@ pub record IsFirst (T : Periods → Type 0) (d n : ℕ) (p : Periods) : Type 0 w
 abbrev pub NoneWithin : (Periods → Type 0) → ℕ → ℕ → Type 0
 NoneWithin T d n = (q : Periods) → AreWithin d n q → T q → ⊥
 
--- S: a radius suffices, as the steps of R show; T: periods show the goal, as the configuration of D does
+-- S: a radius suffices, and R: these steps show it. T: periods show the goal, and D: this configuration does
 abbrev pub IsDecidedBy : (ℕ → Type 0) → (ℕ → List Step → Type 0) → (Periods → Type 0) → (Periods → Tile → Type 0) → ℕ → ℕ → ℕ → ℕ → Decision → Type 0
 IsDecidedBy S R T D least most d p (Yes n steps) = IsLeast S least most n × R n steps
 IsDecidedBy S R T D least most d p (No tile) = NoneIn S least most × ((q : Periods) × IsFirst T d p q × D q tile)

@@ -1,16 +1,16 @@
 -- Whether two rules allow the same configurations.
 use Rattle.std.specs.Prelude.{ℕ, ◌≡◌}
+use Rattle.dd_derivation.specs.Sizes.{AreNumbered}
 use Rattle.dd_formula.specs.LocalRule.{LocalRule}
 use Rattle.dd_boxes.specs.Goals.{breaks}
 use Rattle.dd_contain.specs.declared.decision.Decision.{Decision}
 use Rattle.dd_contain.specs.declared.decision.Decision.TheVariants.{Yes, No, Unknown}
-use Rattle.dd_contain.specs.declared.equal.Half.TheVariants.{Left, Right}
-use Rattle.dd_contain.specs.declared.equal.Equality.{Equality}
+use Rattle.dd_contain.specs.declared.equal.{Half.TheVariants.Left, Half.TheVariants.Right, Equality.Equality}
 use Rattle.dd_contain.specs.declared.equal.Equality.TheVariants.{Yes as Same, No as Differ, Unknown as Open}
+use Rattle.dd_contain.specs.Questions.{IsDecided}
 use Rattle.dd_problem.specs.Problems.{box_problem}
-use Rattle.dd_contain.specs.Questions.{IsDecided, AreNumbered}
 
--- two answers as one: NO left where the left one is NO, else NO right where the right one is, else YES where both are
+-- the join of two answers: NO left if the left one is NO, or NO right if the right one is, or YES if both are
 abbrev pub joined : Decision → Decision → Equality
 joined (No tile) right = Differ Left tile
 joined (Yes n steps) (No tile) = Differ Right tile
@@ -26,8 +26,8 @@ UnlessNo (No tile) P = Unit {0}
 UnlessNo (Yes n steps) P = P
 UnlessNo Unknown P = P
 
--- Both questions are decided, whether a configuration of x breaks y and whether one of y breaks x, and this is the join of
--- their answers. Where the left answer is NO nothing is said of the right question.
+-- The question whether a configuration of x breaks y is decided, and so is the one whether a configuration of y breaks x. This
+-- is the join of their answers. If the left answer is NO, the right question is left open.
 pub record IsEqualDecided (x y : LocalRule) (n p : ℕ) (equality : Equality) : Type 0 where
   pub left : Decision
   pub right : Decision

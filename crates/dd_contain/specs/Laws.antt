@@ -1,10 +1,8 @@
--- When each answer to a box question comes.
+-- When a box question has which answer.
 use Rattle.std.specs.Prelude.{ℕ, ◌↔◌}
 use Rattle.dd_formula.specs.LocalRule.{LocalRule}
-use Rattle.dd_boxes.specs.Goals.{GoalOf}
-use Rattle.dd_boxes.specs.Boxes.{Suffices}
-use Rattle.dd_pattern.specs.declared.periods.Periods.{Periods}
-use Rattle.dd_pattern.specs.Periods.{AreWithin}
+use Rattle.dd_boxes.specs.{Goals.GoalOf, Boxes.Suffices}
+use Rattle.dd_pattern.specs.{declared.periods.Periods.Periods, Periods.AreWithin}
 use Rattle.dd_contain.specs.declared.decision.Decision.{Decision}
 use Rattle.dd_contain.specs.declared.decision.Decision.TheVariants.{Yes, No, Unknown}
 use Rattle.dd_contain.specs.Questions.{ShowsAt}
@@ -28,7 +26,7 @@ IsUndecided Unknown = Unit {0}
 abbrev pub IsShown : LocalRule → GoalOf → ℕ → Type 0
 IsShown x g p = (q : Periods) × AreWithin x.dimension p q × ShowsAt x g q
 
--- what the largest box, of the radius most, and the configurations of periods up to p make of the answer
+-- when each answer comes, by the largest box, of the radius `most`, and the configurations of periods up to p
 pub record Trichotomy (x : LocalRule) (g : GoalOf) (most p : ℕ) (decision : Decision) : Type 0 where
   pub yes : IsDecidedYes decision ↔ Suffices x g most
   pub no : IsDecidedNo decision ↔ IsShown x g p

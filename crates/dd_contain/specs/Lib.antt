@@ -2,9 +2,9 @@
 pub mod Decided
 -- which radii suffice, and which periods show the goal
 pub mod Questions
--- of two rules
+-- what is decided about two rules
 pub mod Equal
--- and when each answer comes
+-- when a box question has which answer
 pub mod Laws
 -- the search
 pub mod searching

@@ -1,28 +1,15 @@
 -- Box questions: which radii suffice, and which periods show the goal.
-use Rattle.std.specs.Prelude.{ℕ, ◌≤◌, ◌+◌, ◌-◌, ◌^◌, max, length, List}
-use Rattle.dd_values.specs.Bounds.{most_variables}
-use Rattle.dd_clause.specs.Clauses.{ClauseList}
-use Rattle.dd_derivation.specs.declared.step.Step.{Step}
-use Rattle.dd_derivation.specs.Derivations.{IsRefuting}
+use Rattle.std.specs.Prelude.{ℕ, ◌≤◌, max, List}
+use Rattle.dd_derivation.specs.{declared.step.Step.Step, Derivations.IsRefuting, Sizes.AreNumbered}
 use Rattle.dd_lattice.specs.Boxes.{centred, volume}
-use Rattle.dd_pattern.specs.declared.periods.Periods.{Periods}
-use Rattle.dd_pattern.specs.Periods.{periods_volume as tile_volume}
-use Rattle.dd_pattern.specs.Tile.{Tile}
-use Rattle.dd_formula.specs.Counts.{largest_clauses}
+use Rattle.dd_pattern.specs.{declared.periods.Periods.Periods, Periods.periods_volume as tile_volume, Tile.Tile}
 use Rattle.dd_formula.specs.LocalRule.{LocalRule}
-use Rattle.dd_boxes.specs.Goals.{GoalOf, IsGoalFor}
-use Rattle.dd_boxes.specs.Boxes.{Suffices, Reaches, IsLeastRadius}
-use Rattle.dd_boxes.specs.Witnesses.{IsWitness, HasPeriods, ArePeriods}
-use Rattle.dd_boxes.specs.Counts.{goal_clauses, question_clauses, most_clauses}
+use Rattle.dd_boxes.specs.{Goals.GoalOf, Goals.IsGoalFor, Boxes.Suffices, Boxes.Reaches, Boxes.IsLeastRadius}
+use Rattle.dd_boxes.specs.{Witnesses.IsWitness, Witnesses.HasPeriods, Witnesses.ArePeriods, Counts.question_clauses, Counts.most_clauses}
 use Rattle.dd_problem.specs.Problems.{box_problem}
 use Rattle.dd_contain.specs.declared.decision.Decision.{Decision}
 use Rattle.dd_contain.specs.declared.decision.Decision.TheVariants.{Yes, No, Unknown}
 use Rattle.dd_contain.specs.Decided.{IsDecidedBy}
-
--- the variables are at most 2^24, and the clauses and the steps after them have numbers of 64 bits
-pub record AreNumbered (clauses : ClauseList) (steps : List Step) : Type 0 where
-  pub variables : clauses.variables ≤ most_variables
-  pub numbers : length clauses.clauses + length steps ≤ 2 ^ 64 - 1
 
 -- the steps refute the clauses of the box, and both are numbered
 pub record RefutesByNumbers (x : LocalRule) (g : GoalOf) (n : ℕ) (steps : List Step) : Type 0 where
@@ -36,7 +23,7 @@ Displays x g p t = HasPeriods p t × IsWitness x g t
 abbrev pub ShowsAt : LocalRule → GoalOf → Periods → Type 0
 ShowsAt x g p = (t : Tile) × Displays x g p t
 
--- a question that is small enough
+-- a question about a radius that is small enough
 pub record AsksRadius (x : LocalRule) (g : GoalOf) (n : ℕ) : Type 0 where
   pub goal : IsGoalFor x g
   pub reaches : Reaches g n
@@ -46,10 +33,6 @@ pub record AsksPeriods (x : LocalRule) (g : GoalOf) (p : Periods) : Type 0 where
   pub goal : IsGoalFor x g
   pub periods : ArePeriods x.dimension p
   pub few : question_clauses x g (tile_volume p) ≤ most_clauses
-
--- with the limits n and p the question takes at most 2,000,000 clauses
-abbrev pub IsSmallQuestion : LocalRule → GoalOf → ℕ → ℕ → Type 0
-IsSmallQuestion x g n p = (least : ℕ) → IsLeastRadius g least → largest_clauses x (goal_clauses g) (max n least) p ≤ most_clauses
 
 -- the least radius that suffices, from the goal's least radius on; else the first periods that show the goal; else unknown
 abbrev pub IsDecided : LocalRule → GoalOf → ℕ → ℕ → Decision → Type 0

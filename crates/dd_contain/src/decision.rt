@@ -1,4 +1,4 @@
-//! What is decided of a box question.
+//! What is decided about a box question.
 use dd_derivation::Step;
 use dd_pattern::Periodic;
 use dd_values::Items;

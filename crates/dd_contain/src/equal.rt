@@ -1,10 +1,10 @@
-//! Whether two rules allow the same configurations: each question asks for a configuration of one rule that breaks the
+//! Whether two rules allow the same configurations. Each of two questions asks for a configuration of one rule that breaks the
 //! other.
 ghost use Rattle.std.specs.Prelude.{◌≡◌, ◌≤◌, IfOk, OnOk};
 ghost use Rattle.dd_boxes.specs.Goals.{breaks, IsGoalFor};
+ghost use Rattle.dd_boxes.specs.Counts.{IsSmallQuestion};
 ghost use Rattle.dd_engines.specs.Rosters.{roster_seen};
 ghost use Rattle.dd_engines.specs.Rounds.{Kept, FirstAsked};
-ghost use Rattle.dd_contain.specs.Questions.{IsSmallQuestion};
 ghost use Rattle.dd_contain.specs.Equal.{joined, IsEqualDecided, HasBothNumbers};
 
 use crate::decision::{Decision, Enough};
@@ -25,18 +25,18 @@ pub enum Half {
     Right,
 }
 
-/// What is decided of two rules.
+/// What is decided about two rules.
 #[derive(Debug, Drop)]
 pub enum Equality {
-    /// No configuration of either rule breaks the other; each with the least radius that suffices.
+    /// No configuration of either rule breaks the other. Each comes with the least radius that suffices.
     Yes { left: Enough, right: Enough },
-    /// A configuration of the side's rule that breaks the other.
+    /// A configuration of this side's rule that breaks the other rule.
     No { side: Half, periodic: Periodic },
     /// Neither within the limits.
     Unknown,
 }
 
-/// The answers of the two questions as one.
+/// Joins the answers of the two questions.
 fn joined(left: Decision, right: Decision) -> Equality
     ensures { result ≡ joined left right }
 {
@@ -68,10 +68,9 @@ fn joined(left: Decision, right: Decision) -> Equality
     }
 }
 
-/// Decides whether two rules allow the same configurations, by the left question, whether a configuration of `left` can
-/// break `right`, and the right one, with the two exchanged: NO left where the left answer is NO; otherwise NO right where
-/// the right one is NO; otherwise YES where both are YES; otherwise unknown. The limits are those of `decide`, and
-/// the roster is asked and kept as there.
+/// Decides whether two rules allow the same configurations. The left question asks whether a configuration of `left` can break
+/// `right`; the right question exchanges the two. The answer is NO left if the left answer is NO; otherwise NO right if the
+/// right one is; otherwise YES if both are; otherwise unknown. Limits and roster are used as in `decide`.
 pub fn decide_equal<E: Engine>(
     alloc: Global,
     left: &Rule,
@@ -94,7 +93,7 @@ pub fn decide_equal<E: Engine>(
     kept_is_transitive();
     first_asked_earlier();
     match decide(alloc, left, &Goal::Breaks(right), limits, roster)? {
-        // The right answer would change nothing.
+        // The right answer can't change this.
         Decision::No { periodic } => Ok(joined(Decision::No { periodic }, Decision::Unknown)),
         first => {
             let second = decide(alloc, right, &Goal::Breaks(left), limits, roster)?;

@@ -1,4 +1,4 @@
-//! The decision of every box question, and of the two of an equality.
+//! Decides box questions, and the two box questions of an equality.
 #![tactic(auto)]
 
 mod decision;

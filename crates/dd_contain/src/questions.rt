@@ -1,13 +1,15 @@
-//! The questions that the search asks of boxes and of periods.
+//! What the search asks about boxes and periods.
 ghost use Rattle.std.specs.Prelude.{◌≡◌, ◌↔◌, ◌≤◌, true, IfOk, OnOk, IfSome};
 ghost use Rattle.dd_boxes.specs.Boxes.{Suffices};
 ghost use Rattle.dd_boxes.specs.Goals.{IsGoalFor};
+ghost use Rattle.dd_boxes.specs.Counts.{IsSmallQuestion};
 ghost use Rattle.dd_boxes.specs.Views.{goal_of};
 ghost use Rattle.dd_derivation.specs.Derivations.{refutes};
+ghost use Rattle.dd_derivation.specs.Sizes.{AreNumbered};
 ghost use Rattle.dd_engines.specs.Rosters.{roster_seen};
 ghost use Rattle.dd_engines.specs.Rounds.{Kept, FirstAsked};
 ghost use Rattle.dd_solver.specs.Answers.{IsAnswer, IsFound, IsRefuted, IsSatisfiable};
-ghost use Rattle.dd_contain.specs.Questions.{AreNumbered, RefutesByNumbers, ShowsAt, Displays, AsksRadius, AsksPeriods, IsSmallQuestion, IsDecided, HasNumbers};
+ghost use Rattle.dd_contain.specs.Questions.{RefutesByNumbers, ShowsAt, Displays, AsksRadius, AsksPeriods, IsDecided, HasNumbers};
 
 use crate::decision::Decision;
 use crate::search::{Questions, search};
@@ -22,7 +24,7 @@ use dd_solver::{Style, solve_with, trimmed};
 use dd_values::{Items, Limits};
 use std::alloc::{AllocError, Global};
 
-/// Of steps that refute the clauses, those that the refutation uses.
+/// The steps that the refutation uses.
 fn evidence(alloc: Global, cnf: &Cnf, steps: Items<Step>) -> Result<Items<Step>, AllocError>
     requires { refutes cnf.now.variables cnf.now.clauses steps ≡ true }
     ensures refuting { IfOk result (λ used. refutes cnf.now.variables cnf.now.clauses used ≡ true) }
@@ -35,7 +37,7 @@ fn evidence(alloc: Global, cnf: &Cnf, steps: Items<Step>) -> Result<Items<Step>,
     Ok(used)
 }
 
-/// What there is to say of the clauses: what an engine of the roster proposes, where that is right, otherwise what the search
+/// Whether the clauses can be satisfied: what an engine of the roster proposes, if that is right; otherwise what the search
 /// finds in this style.
 fn outcome<E: Engine>(
     alloc: Global,
@@ -55,10 +57,10 @@ fn outcome<E: Engine>(
     }
 }
 
-/// A torus of so many positions is searched in the focused style.
+/// A torus of at least this many positions is searched in the focused style.
 const LARGE_TORUS: u32 = 25;
 
-/// The style of search for these periods. On a small torus a contradiction lies among few cells, as on a box.
+/// The style of search for these periods. A contradiction on a small torus involves few cells, as on a box.
 fn style_of(at: &Periods) -> Style {
     if at.x.saturating_mul(at.y).saturating_mul(at.z) >= LARGE_TORUS {
         Style::Focused
@@ -67,7 +69,7 @@ fn style_of(at: &Periods) -> Style {
     }
 }
 
-/// Can a configuration that obeys the premise have the goal?
+/// The question whether a configuration that obeys the premise can have the goal.
 #[derive(Clone, Copy)]
 struct BoxQuestion<'a> {
     alloc: Global,
@@ -93,7 +95,7 @@ impl<'a> Questions for BoxQuestion<'a> {
         radius: u32,
         roster: &mut Roster<E>,
     ) -> Result<Option<Items<Step>>, AllocError> {
-        // Law of a roster that is not asked.
+        // A law: a roster that is not asked stays as it is.
         kept_is_reflexive();
         let cnf = box_clauses(self.alloc, self.premise, self.goal, radius)?;
         match outcome(self.alloc, &cnf, Style::Broad, roster)? {
@@ -107,16 +109,16 @@ impl<'a> Questions for BoxQuestion<'a> {
         at: &Periods,
         roster: &mut Roster<E>,
     ) -> Result<Option<Periodic>, AllocError> {
-        // Law of a roster that is not asked.
+        // A law: a roster that is not asked stays as it is.
         kept_is_reflexive();
-        // Made for its fact: what a rule keeps.
+        // This call brings in a fact: what a rule keeps.
         let _nodes = self.premise.nodes();
         let periods = [at.x, at.y, at.z];
         let cnf = torus_clauses(self.alloc, self.premise, self.goal, periods, at.shear)?;
         match outcome(self.alloc, &cnf, style_of(at), roster)? {
             Outcome::Found(found) => {
                 let periodic = read_torus(self.alloc, self.premise, periods, at.shear, &found)?;
-                // Read for what its type keeps.
+                // This read brings in what the type guarantees.
                 let _symbols = periodic.symbols();
                 Ok(Some(periodic))
             }
@@ -125,16 +127,15 @@ impl<'a> Questions for BoxQuestion<'a> {
     }
 }
 
-/// Decides a box question, with boxes of at most the limits' radius, or the goal's least radius where that is greater, and
-/// periods of at most the limits': YES with the least radius that suffices; otherwise NO with the first periods and shear, by
-/// volume and then in lexicographic order, of a configuration that obeys the premise and has the goal at the origin;
-/// otherwise unknown.
+/// Decides a box question. Boxes have at most the limits' radius, or the goal's least radius if that is greater; periods are at
+/// most the limits'. The answer is YES with the least radius that suffices; otherwise NO with the first periods and shear, by
+/// volume and then in lexicographic order, of a configuration that obeys the premise and has the goal at the origin; otherwise
+/// unknown.
 ///
-/// Each list of clauses is put to the roster first, without a copy, and to the search where no engine proposes what is right. So
-/// the engines change how long the decision takes, and which steps or which configuration of those periods shows it, and nothing
-/// else of a decision that is made; one that wants memory may keep it from being made. The roster is kept: each sound engine is
-/// still there, in order. Where all goes well, the first engine that is left was asked, and only engines that aren't sound were let
-/// go before it.
+/// Each list of clauses goes to the roster first, without a copy; if no engine proposes a right answer, the search decides. So
+/// engines change only the time, and which steps or which configuration with those periods is shown. An engine that takes too
+/// much memory may prevent a decision. Each sound engine is kept, in order. On success the first remaining engine was asked, and
+/// only engines that aren't sound were dropped before it.
 pub fn decide<E: Engine>(
     alloc: Global,
     premise: &Rule,
@@ -151,7 +152,7 @@ pub fn decide<E: Engine>(
     ensures kept { Kept (roster_seen E.asked E.given E.sound roster.old) (roster_seen E.asked E.given E.sound roster.new) }
     ensures first { OnOk result (FirstAsked (roster_seen E.asked E.given E.sound roster.old) (roster_seen E.asked E.given E.sound roster.new)) }
 {
-    // Law of a roster that is not asked.
+    // A law: a roster that is not asked stays as it is.
     kept_is_reflexive();
     let least = least_radius(alloc, goal)?;
     let most = limits.radius.max(least);

@@ -1,4 +1,4 @@
-//! The search for the least radius, then for the first periods.
+//! The search for the least radius, and then for the first periods.
 ghost use Rattle.std.specs.Prelude.{◌≡◌, ◌≤◌, ◌<◌, ℕ, List, length, IfOk, OnOk, MatchOption};
 ghost use Rattle.dd_derivation.specs.declared.step.Step.{Step as AnyStep};
 ghost use Rattle.dd_pattern.specs.declared.periods.Periods.{Periods as AnyPeriods};
@@ -16,17 +16,17 @@ use dd_pattern::{Periodic, Periods};
 use dd_values::Items;
 use std::alloc::{AllocError, Global};
 
-/// What the search asks of a radius and of periods. Each answer comes with its evidence. The engines of the roster may help.
+/// What the search asks about a radius or about periods. Each answer comes with its evidence. The roster's engines may help.
 pub(crate) trait Questions {
-    /// The radius suffices; and the steps show it.
+    /// The radius suffices, and the steps show it.
     ghost suffices: { Self → ℕ → Type 0 };
 
     ghost refutes: { Self → ℕ → List AnyStep → Type 0 };
-    /// Some configuration of these periods shows the goal; and this is one.
+    /// Some configuration of these periods shows the goal, and this is one.
     ghost shows: { Self → AnyPeriods → Type 0 };
 
     ghost displays: { Self → AnyPeriods → Tile → Type 0 };
-    /// What may be asked.
+    /// What the search may ask.
     ghost asks_radius: { Self → ℕ → Type 0 };
 
     ghost asks_periods: { Self → AnyPeriods → Type 0 };
@@ -122,14 +122,14 @@ fn first_periods<Q: Questions, E: Engine>(
     ensures kept { Kept (roster_seen E.asked E.given E.sound roster.old) (roster_seen E.asked E.given E.sound roster.new) }
     ensures asked { OnOk result (AskedOrSame (roster_seen E.asked E.given E.sound roster.old) (roster_seen E.asked E.given E.sound roster.new)) }
 {
-    // Law of a roster that is not asked.
+    // A law: a roster that is not asked stays as it is.
     kept_is_reflexive();
     let all = Periods::within(alloc, dim, most)?;
     first_listed(questions, &all, roster)
 }
 
-/// The least radius from `least` to `most` that suffices; else the first periods in `dim` dimensions, at most `period` along
-/// each axis, that show the goal, by volume and then in lexicographic order, the shear last.
+/// The least radius from `least` to `most` that suffices; otherwise the first periods that show the goal, in `dim` dimensions
+/// and at most `period` along each axis. They are ordered by volume, then lexicographically, the shear last.
 #[tactic(auto, using(crate::proofs::AskingLaws::asked_still))]
 pub(crate) fn search<Q: Questions, E: Engine>(
     alloc: Global,

@@ -1,25 +1,11 @@
--- What the search for a lighter configuration asks for and gives.
-use Rattle.std.proofs.Common.{◌≡◌, ℕ, ◌*◌, ◌<◌, Bool, List, length, get_or, sym, subst, ◌∙◌, arith}
-use Rattle.std.proofs.lemmas.Option.{slice_get-get_or}
-use Rattle.dd_clause.specs.declared.clause.Literal.{Literal}
-use Rattle.dd_clause.specs.Clauses.{Satisfies}
-use Rattle.dd_pattern.specs.declared.periods.Periods.{Periods}
-use Rattle.dd_pattern.specs.Periods.{periods_volume}
-use Rattle.dd_pattern.specs.Tile.{Tile, IsTile}
-use Rattle.dd_formula.specs.LocalRule.{LocalRule}
-use Rattle.dd_formula.specs.Living.{Fits}
+-- What the search for a lighter configuration requires and returns.
+use Rattle.std.proofs.Common.{◌≡◌, ℕ, ◌*◌, Bool, List, length, sym, subst, ◌∙◌}
+use Rattle.dd_clause.specs.{declared.clause.Literal.Literal, Clauses.Satisfies}
+use Rattle.dd_pattern.specs.{declared.periods.Periods.Periods, Periods.periods_volume, Tile.Tile, Tile.IsTile}
+use Rattle.dd_formula.specs.{LocalRule.LocalRule, Living.Fits}
 use Rattle.dd_boxes.specs.Witnesses.{HasPeriods}
-use Rattle.dd_problem.specs.Symbols.{AreRead, HasOneEach}
+use Rattle.dd_problem.specs.{Symbols.AreRead, Symbols.HasOneEach, lemmas.SymbolLaws.size_is, lemmas.SymbolLaws.one_each_read}
 use Rattle.dd_counter.specs.Weights.{IsLightWitness, ShowsWeights}
-use Rattle.dd_counter.specs.lemmas.Rooms.{size_is}
-
--- exactly one input of each cell is true
-one_each_read : (x : LocalRule) (p : Periods) (set : ℕ → Bool) (t : Tile) → IsTile t → HasPeriods p t → Fits x t → AreRead set x.symbols t.symbols →
-    HasOneEach set x.symbols (periods_volume p * x.nodes)
-one_each_read x p set t tile has fit read k below =
-    let full = size_is x p t tile has fit in
-    let within : k < length t.symbols = omega (arith, below, full) in
-    (get_or t.symbols k 0, (fit.symbols k 0 within, λ s small. rw (slice_get-get_or t.symbols k 0 within) at (read k s within small)))
 
 module _ (x : LocalRule) (p : Periods) (ws : List ℕ) (below : ℕ) (clauses : List (List Literal)) (shows : ShowsWeights clauses x p ws below) where
   pub one_each : (set : ℕ → Bool) → Satisfies set clauses → HasOneEach set x.symbols (periods_volume p * x.nodes)

@@ -1,12 +1,9 @@
--- What a turn of the loop over symbols adds.
+-- What one pass of the loop over symbols adds.
 use Rattle.std.proofs.Common.{◌≡◌, ℕ, suc, ◌+◌, ◌<◌, ◌≤◌, List, [], ◌∷◌, ◌++◌, length, get_or, refl, ap, sym, subst, ◌∙◌, arith, Some}
+use Rattle.std.proofs.lemmas.{List.append-nil, Option.slice_get_read, Option.slice_get_past}
 use Rattle.std.specs.Prelude.{◌-◌, slice_get}
-use Rattle.std.proofs.lemmas.List.{append-nil}
-use Rattle.std.proofs.lemmas.Option.{slice_get_read, slice_get_past}
 use Rattle.dd_clause.specs.Clauses.{ClauseList}
-use Rattle.dd_circuit.specs.declared.gates.Signal.{Signal}
-use Rattle.dd_circuit.specs.declared.gates.Gate.{Gate}
-use Rattle.dd_circuit.specs.declared.gates.Gate.TheVariants.{And}
+use Rattle.dd_circuit.specs.declared.gates.{Signal.Signal, Gate.Gate, Gate.TheVariants.And}
 use Rattle.dd_circuit.specs.Circuits.{signal_of}
 use Rattle.dd_compile.specs.Compiling.{AllMade}
 use Rattle.dd_counter.specs.Counter.{making, member, grown}

@@ -1,43 +1,32 @@
 -- The whole list: the clauses of the torus, the counter, and the last clause.
 use Rattle.std.proofs.Common.{◌≡◌, ℕ, suc, ◌*◌, ◌≤◌, List, [], ◌++◌, length, refl, ap, sym, subst, ◌∙◌, arith}
+use Rattle.std.proofs.lemmas.{List.append-nil, Nat.mul-le, Option.slice_get_past}
 use Rattle.std.specs.Prelude.{◌-◌, ◌^◌}
-use Rattle.std.proofs.lemmas.List.{append-nil}
-use Rattle.std.proofs.lemmas.Nat.{mul-le}
-use Rattle.std.proofs.lemmas.Option.{slice_get_past}
-use Rattle.dd_clause.specs.Clauses.{ClauseList}
-use Rattle.dd_clause.specs.declared.clause.Literal.{Literal}
+use Rattle.dd_clause.specs.{Clauses.ClauseList, declared.clause.Literal.Literal}
 use Rattle.dd_circuit.specs.declared.gates.Signal.{Signal}
 use Rattle.dd_lattice.specs.Boxes.{volume}
-use Rattle.dd_pattern.specs.declared.periods.Periods.{Periods}
-use Rattle.dd_pattern.specs.Periods.{ArePeriodsIn, periods_volume}
-use Rattle.dd_pattern.specs.Tile.{fundamental}
+use Rattle.dd_pattern.specs.{declared.periods.Periods.Periods, Periods.ArePeriodsIn, Periods.periods_volume, Tile.fundamental}
+use Rattle.dd_pattern.specs.lemmas.TileLaws.{span_is}
 use Rattle.dd_formula.specs.LocalRule.{LocalRule, IsRule}
-use Rattle.dd_boxes.specs.Goals.{always}
-use Rattle.dd_boxes.specs.Counts.{question_clauses}
-use Rattle.dd_problem.specs.TorusPeriods.{AreTorusPeriods}
-use Rattle.dd_problem.specs.Problems.{torus_problem}
-use Rattle.dd_problem.specs.pushing.Near.{torus_layout}
-use Rattle.dd_problem.specs.lemmas.Counting.{variables_below}
-use Rattle.dd_problem.specs.lemmas.TorusLayout.{span_is, product_turned}
+use Rattle.dd_boxes.specs.{Goals.always, Counts.question_clauses, TorusPeriods.AreTorusPeriods}
+use Rattle.dd_problem.specs.{Problems.torus_problem, pushing.Near.torus_layout, lemmas.Counting.variables_below}
+use Rattle.dd_problem.specs.lemmas.TorusLayout.{product_turned}
 use Rattle.dd_counter.specs.Counter.{rows, grown, refusal_of, last_refused, weighed}
-use Rattle.dd_counter.specs.Weights.{weight_problem, weight_count, ShowsWeights}
-use Rattle.dd_counter.specs.lemmas.Counted.{rows_count}
+use Rattle.dd_counter.specs.{Weights.weight_problem, Weights.weight_count, Weights.ShowsWeights, lemmas.Counted.rows_count}
 use Rattle.dd_counter.specs.lemmas.WeightShows.{inputs_within, weight_shows}
+use Rattle.dd_cnf.specs.lemmas.ModelLaws.{same_list}
 
 volume_is : (d : ℕ) (p : Periods) → ArePeriodsIn d p → volume (fundamental p) ≡ periods_volume p
 volume_is d p ok = rw (span_is p.x ok.x_some, span_is p.y ok.y_some, span_is p.z ok.z_some) (product_turned p.x p.y p.z)
 
 -- the inputs are variables of the torus's clauses
-pub inputs_there : (x : LocalRule) (p : Periods) (ws : List ℕ) (cnf : ClauseList) (nodes : ℕ) → IsRule x → AreTorusPeriods x p → length ws ≡ x.symbols → cnf ≡ torus_problem x always p →
+pub inputs_there : (x : LocalRule) (p : Periods) (ws : List ℕ) (cnf : ClauseList) (nodes : ℕ) → IsRule x → AreTorusPeriods x.dimension x.nodes p → length ws ≡ x.symbols → cnf ≡ torus_problem x always p →
     nodes ≡ x.nodes → periods_volume p * nodes * length ws ≤ cnf.variables
 inputs_there x p ws cnf nodes rule ok same is known =
     subst (λ c. periods_volume p * nodes * length ws ≤ c.variables) (sym is)
     (subst (λ n. periods_volume p * n * length ws ≤ (torus_problem x always p).variables) (sym known) (inputs_within x p (length ws) rule ok same))
 
-same_list : (cnf : ClauseList) (variables : ℕ) (clauses : List (List Literal)) → cnf.variables ≡ variables → cnf.clauses ≡ clauses → cnf ≡ record { variables = variables; clauses = clauses }
-same_list cnf variables clauses wide all = rw (← wide, ← all) refl
-
--- what is there at the end
+-- the list at the end
 pub exactly : (base cnf now new : ClauseList) (ws : List ℕ) (below cells c : ℕ) (signals : List Signal) → cnf ≡ base → cells ≡ c → now ≡ grown cnf (rows ws below cells 0 [] cnf.variables).gates →
     signals ≡ (rows ws below cells 0 [] cnf.variables).signals → new.variables ≡ now.variables → new.clauses ≡ now.clauses ++ last_refused below signals →
     new ≡ weighed base ws below c
@@ -48,11 +37,11 @@ exactly base cnf now new ws below cells c signals is count made said wide last =
     ∙ (ap (λ k. weighed cnf ws below k) count ∙ ap (λ k. weighed k ws below c) is)
 
 -- and what it says
-pub shown : (x : LocalRule) (p : Periods) (ws : List ℕ) (below : ℕ) (new : ClauseList) → IsRule x → AreTorusPeriods x p → length ws ≡ x.symbols → new ≡ weight_problem x p ws below →
+pub shown : (x : LocalRule) (p : Periods) (ws : List ℕ) (below : ℕ) (new : ClauseList) → IsRule x → AreTorusPeriods x.dimension x.nodes p → length ws ≡ x.symbols → new ≡ weight_problem x p ws below →
     ShowsWeights new.clauses x p ws below
 shown x p ws below new rule ok same exact = subst (λ k. ShowsWeights k.clauses x p ws below) (sym exact) (weight_shows x p ws below rule ok same)
 
--- where there is no signal there is no clause
+-- without a signal there is no clause
 pub no_refusal : (signals : List Signal) (below at : ℕ) (clauses : List (List Literal)) → at ≡ below - 1 → length signals ≤ at → clauses ≡ clauses ++ last_refused below signals
 no_refusal signals below at clauses is past =
     sym (append-nil clauses) ∙ ap (λ r. clauses ++ refusal_of r) (sym (slice_get_past signals (below - 1) (subst (λ k. length signals ≤ k) is past)))

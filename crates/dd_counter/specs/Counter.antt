@@ -1,13 +1,10 @@
--- The counter: gates that say how much the first cells weigh. Each cell has a row of signals. The one at t, from 0, says that the
--- cells up to this one weigh more than t, which is at least t + 1.
+-- The counter: gates that say how much the first cells weigh. Each cell has a row of signals. The one at t, from 0,
+-- says that the cells up to this one weigh more than t, that is, at least t + 1.
 use Rattle.std.specs.Prelude.{ℕ, zero, suc, ◌+◌, ◌-◌, Bool, true, false, nat_lt, List, [], ◌∷◌, ◌++◌, map, length, Option, Some, None, slice_get, slice_index}
 use Rattle.std.specs.List.{range_with_len}
-use Rattle.dd_clause.specs.declared.clause.Literal.{Literal}
-use Rattle.dd_clause.specs.Clauses.{ClauseList}
-use Rattle.dd_circuit.specs.declared.gates.Signal.{Signal}
-use Rattle.dd_circuit.specs.declared.gates.Gate.{Gate}
-use Rattle.dd_circuit.specs.declared.gates.Gate.TheVariants.{And, Or}
-use Rattle.dd_circuit.specs.Circuits.{signal_of}
+use Rattle.dd_clause.specs.{declared.clause.Literal.Literal, Clauses.ClauseList}
+use Rattle.dd_circuit.specs.declared.gates.{Signal.Signal, Gate.Gate}
+use Rattle.dd_circuit.specs.{declared.gates.Gate.TheVariants.And, declared.gates.Gate.TheVariants.Or, Circuits.signal_of}
 use Rattle.dd_cnf.specs.Encoding.{gates_clauses, opposing}
 use Rattle.dd_compile.specs.Compiling.{AllMade}
 use Rattle.dd_problem.specs.Clauses.{input}
@@ -40,7 +37,7 @@ member input w t before = member_by input (nat_lt t w) (slice_get before (t - w)
 abbrev pub of_symbol : List ℕ → ℕ → ℕ → List Signal → ℕ → Making
 of_symbol ws k t before s = member (signal_of (input (length ws) k s)) (slice_index ws s) t before
 
--- those of all symbols of the cell
+-- the members of all symbols of the cell
 abbrev pub members : List ℕ → ℕ → ℕ → List Signal → List Making
 members ws k t before = map (of_symbol ws k t before) (range_with_len 0 (length ws))
 
@@ -66,16 +63,16 @@ rows ws below (suc c) k before n =
 abbrev pub grown : ClauseList → List Gate → ClauseList
 grown cnf gates = record { variables = cnf.variables + length gates; clauses = cnf.clauses ++ gates_clauses cnf.variables gates }
 
--- the clause of the opposite of the signal, where there is one
+-- the clause of the opposite of the signal, if there is one
 abbrev pub refusal_of : Option Signal → List (List Literal)
 refusal_of None = []
 refusal_of (Some r) = (opposing r ∷ []) ∷ []
 
--- that of the last of `below` signals: of the row of all cells it says that they weigh at least `below`
+-- the refusal of the last of `below` signals; in the row of all cells it says that they weigh at least `below`
 abbrev pub last_refused : ℕ → List Signal → List (List Literal)
 last_refused below signals = refusal_of (slice_get signals (below - 1))
 
--- clauses, and then, where `below` is at least 1, those that say that the c cells weigh less than that
+-- clauses, and then, if `below` is at least 1, those that say that the c cells weigh less than that
 abbrev pub weighed : ClauseList → List ℕ → ℕ → ℕ → ClauseList
 weighed cnf ws below c =
     let all = rows ws below c 0 [] cnf.variables in

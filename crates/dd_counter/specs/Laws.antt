@@ -1,35 +1,28 @@
--- What steps that refute the clauses of a weight say of all configurations of given periods.
+-- What steps that refute the clauses of a weight say about all configurations of given periods.
 use Rattle.std.specs.Prelude.{◌≡◌, ◌<◌, ◌≤◌, ◌+◌, ◌-◌, ◌*◌, ◌∷◌, [], ℕ, suc, List, length, get_or}
-use Rattle.dd_derivation.specs.declared.step.Step.{Step}
-use Rattle.dd_derivation.specs.Derivations.{IsRefuting}
-use Rattle.dd_circuit.specs.declared.gates.Signal.{Signal}
-use Rattle.dd_circuit.specs.Circuits.{signal_of}
+use Rattle.dd_derivation.specs.{declared.step.Step.Step, Derivations.IsRefuting}
+use Rattle.dd_circuit.specs.{declared.gates.Signal.Signal, Circuits.signal_of}
 use Rattle.dd_cnf.specs.Encoding.{opposing}
-use Rattle.dd_pattern.specs.declared.periods.Periods.{Periods}
-use Rattle.dd_pattern.specs.Periods.{periods_volume}
-use Rattle.dd_pattern.specs.Tile.{Tile}
-use Rattle.dd_pattern.specs.Weight.{total_weight}
+use Rattle.dd_pattern.specs.{declared.periods.Periods.Periods, Periods.periods_volume, Tile.Tile, Weight.total_weight}
 use Rattle.dd_formula.specs.LocalRule.{LocalRule}
 use Rattle.dd_boxes.specs.Goals.{always}
 use Rattle.dd_problem.specs.Problems.{torus_problem}
-use Rattle.dd_counter.specs.Counter.{rows, last_refused}
-use Rattle.dd_counter.specs.Weights.{weight_problem}
-use Rattle.dd_counter.specs.Least.{IsLiving, LeastOn, NoneOn}
+use Rattle.dd_counter.specs.{Counter.rows, Counter.last_refused, Weights.weight_problem, Least.IsLiving, Least.LeastOn, Least.NoneOn}
 
 -- the signals that say how much all cells weigh
 abbrev pub last_row : LocalRule → Periods → List ℕ → ℕ → List Signal
 last_row x p ws below = (rows ws below (periods_volume p * x.nodes) 0 [] (torus_problem x always p).variables).signals
 
 pub record SaysWeights (x : LocalRule) (p : Periods) (ws : List ℕ) : Type 0 where
-  -- where the clauses without a bound are refuted, no configuration lives
+  -- if the clauses without a bound are refuted, no configuration lives
   pub none : (steps : List Step) → IsRefuting (weight_problem x p ws 0) steps → NoneOn x p
-  -- where those with the weight of one that lives are, or this is 0, it is the least weight
+  -- the weight of a configuration that lives is the least one, if it is 0 or the clauses below it are refuted
   pub least : (w : ℕ) (t : Tile) (steps : List Step) → IsLiving x p t → total_weight ws t.symbols ≡ w → (0 < w → IsRefuting (weight_problem x p ws w) steps) → LeastOn x p ws w
-  -- the least weight is one number, and there is none where no configuration lives
+  -- there is one least weight at most, and none if no configuration lives
   pub unique : (v w : ℕ) → LeastOn x p ws v → LeastOn x p ws w → v ≡ w
   pub either : (w : ℕ) → NoneOn x p → LeastOn x p ws w → ⊥
-  -- where the bound is at least 1, the last clause is the unit clause of the opposite of the last gate of the last row
+  -- if the bound is at least 1, the last clause is the unit clause of the opposite of the last gate of the last row
   pub last : (below : ℕ) → 0 < below → let signals = last_row x p ws below in
       last_refused below signals ≡ (opposing (get_or signals (below - 1) (signal_of 0)) ∷ []) ∷ []
-  -- the counter has no more clauses than are counted
+  -- the counter has no more clauses than `weight_count` says
   pub few : (below : ℕ) → length (weight_problem x p ws below).clauses ≤ length (torus_problem x always p).clauses + periods_volume p * x.nodes * (below * suc (4 * length ws)) + 1

@@ -1,15 +1,10 @@
 -- The least weight of the configurations of given periods that live in a subshift.
-use Rattle.std.specs.Prelude.{◌≡◌, ◌<◌, ◌≤◌, ◌+◌, ◌-◌, ◌^◌, ℕ, List, [], length}
-use Rattle.dd_values.specs.Bounds.{most_variables}
-use Rattle.dd_derivation.specs.declared.step.Step.{Step}
-use Rattle.dd_derivation.specs.Derivations.{IsRefuting}
-use Rattle.dd_pattern.specs.declared.periods.Periods.{Periods}
-use Rattle.dd_pattern.specs.Tile.{Tile}
-use Rattle.dd_pattern.specs.Weight.{total_weight}
+use Rattle.std.specs.Prelude.{◌≡◌, ◌<◌, ◌≤◌, ℕ, List, []}
+use Rattle.dd_derivation.specs.{declared.step.Step.Step, Derivations.IsRefuting, Sizes.AreNumbered}
+use Rattle.dd_pattern.specs.{declared.periods.Periods.Periods, Tile.Tile, Weight.total_weight}
 pub use Rattle.dd_expansion.specs.Limits.{greatest}
 use Rattle.dd_formula.specs.LocalRule.{LocalRule}
-use Rattle.dd_boxes.specs.Goals.{always}
-use Rattle.dd_boxes.specs.Witnesses.{IsWitness, HasPeriods}
+use Rattle.dd_boxes.specs.{Goals.always, Witnesses.IsWitness, Witnesses.HasPeriods}
 use Rattle.dd_counter.specs.declared.least.LeastWeight.{LeastWeight}
 use Rattle.dd_counter.specs.declared.least.LeastWeight.TheVariants.{Least, Nothing}
 use Rattle.dd_counter.specs.Weights.{weight_problem}
@@ -27,14 +22,12 @@ pub record LeastOn (x : LocalRule) (p : Periods) (ws : List ℕ) (w : ℕ) : Typ
 abbrev pub NoneOn : LocalRule → Periods → Type 0
 NoneOn x p = (t : Tile) → IsLiving x p t → ⊥
 
--- The steps refute the clauses that ask for less than this. The variables are at most 2^24, and the clauses and the steps after them
--- have numbers of 64 bits.
+-- the steps refute the clauses that ask for less than this, and both are numbered
 pub record IsRefutedBelow (x : LocalRule) (p : Periods) (ws : List ℕ) (w : ℕ) (steps : List Step) : Type 0 where
   pub refuting : IsRefuting (weight_problem x p ws w) steps
-  pub variables : (weight_problem x p ws w).variables ≤ most_variables
-  pub numbers : length (weight_problem x p ws w).clauses + length steps ≤ 2 ^ 64 - 1
+  pub numbered : AreNumbered (weight_problem x p ws w) steps
 
--- the configuration has the least weight, and, where it isn't 0, the steps refute the clauses of every smaller one
+-- the configuration has the least weight, and if that isn't 0, the steps refute the clauses of every smaller one
 pub record IsLeastShown (x : LocalRule) (p : Periods) (ws : List ℕ) (w : ℕ) (t : Tile) (steps : List Step) : Type 0 where
   pub least : LeastOn x p ws w
   pub lives : IsLiving x p t

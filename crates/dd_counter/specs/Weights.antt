@@ -1,30 +1,23 @@
 -- The clauses that ask for a configuration of small weight on a torus.
 use Rattle.std.specs.Prelude.{◌<◌, ◌+◌, ◌*◌, ℕ, Bool, zero, suc, List, length}
-use Rattle.dd_clause.specs.declared.clause.Literal.{Literal}
-use Rattle.dd_clause.specs.Clauses.{ClauseList, Satisfies}
-use Rattle.dd_pattern.specs.declared.periods.Periods.{Periods}
-use Rattle.dd_pattern.specs.Periods.{periods_volume}
-use Rattle.dd_pattern.specs.Tile.{Tile}
-use Rattle.dd_pattern.specs.Weight.{total_weight}
+use Rattle.dd_clause.specs.{declared.clause.Literal.Literal, Clauses.ClauseList, Clauses.Satisfies}
+use Rattle.dd_pattern.specs.{declared.periods.Periods.Periods, Periods.periods_volume, Tile.Tile, Weight.total_weight}
 use Rattle.dd_formula.specs.LocalRule.{LocalRule}
-use Rattle.dd_boxes.specs.Goals.{always}
-use Rattle.dd_boxes.specs.Counts.{question_clauses}
-use Rattle.dd_boxes.specs.Witnesses.{IsWitness, HasPeriods}
-use Rattle.dd_problem.specs.Problems.{torus_problem}
-use Rattle.dd_problem.specs.Symbols.{AreRead}
+use Rattle.dd_boxes.specs.{Goals.always, Counts.question_clauses, Witnesses.IsWitness, Witnesses.HasPeriods}
+use Rattle.dd_problem.specs.{Problems.torus_problem, Symbols.AreRead}
 use Rattle.dd_counter.specs.Counter.{weighed}
 
--- the clauses of the torus, and, where `below` is at least 1, those of the counter, with the unit clause last
+-- the clauses of the torus, and, if `below` is at least 1, those of the counter, with the unit clause last
 abbrev pub weight_problem : LocalRule → Periods → List ℕ → ℕ → ClauseList
 weight_problem x periods ws below = weighed (torus_problem x always periods) ws below (periods_volume periods * x.nodes)
 
--- How many clauses are counted: those of the torus, the unit clause, and for each cell and each weight below the bound those of
--- an And gate of two members for each symbol, with those of an Or gate over all of them.
+-- The number of clauses counted: those of the torus, and the unit clause. For each cell and each weight below the
+-- bound, those of an And gate of two members for each symbol, and those of an Or gate over all of these.
 abbrev pub weight_count : LocalRule → Periods → List ℕ → ℕ → ℕ
 weight_count x periods ws below =
     question_clauses x always (periods_volume periods) + periods_volume periods * x.nodes * (below * suc (4 * length ws)) + 1
 
--- the weight is below the bound, where the bound is at least 1
+-- the weight is below the bound, unless the bound is 0
 abbrev pub IsLight : ℕ → List ℕ → Tile → Type 0
 IsLight zero ws t = Unit {0}
 IsLight (suc b) ws t = total_weight ws t.symbols < suc b

@@ -1,5 +1,5 @@
-//! The counter: gates that say how much the first cells weigh. Each cell has a row of them, over the row of the cell before; the gate at
-//! `most`, from 0, says that the cells up to this one weigh more than `most`.
+//! The counter: gates that say how much the first cells weigh. Each cell has a row of gates, over the row of the cell
+//! before. The gate at `most`, from 0, says that the cells up to this one weigh more than `most`.
 ghost use Rattle.std.specs.Prelude.{◌≡◌, ◌≤◌, ◌<◌, ◌+◌, ◌*◌, ◌++◌, ◌∷◌, [], suc, length, All, IfOk, OnOk};
 ghost use Rattle.dd_values.specs.Bounds.{most_variables};
 ghost use Rattle.dd_circuit.specs.Circuits.{IsSignal, IsGate, signal_of};
@@ -12,7 +12,7 @@ use dd_cnf::{literal_of, push_clause, push_gate};
 use dd_values::Items;
 use std::alloc::{AllocError, Global};
 
-/// Adds a gate with its clauses, and gives its signal.
+/// Adds a gate with its clauses, and returns its signal.
 fn push_next(alloc: Global, cnf: &mut Cnf, gate: &Gate) -> Result<Signal, AllocError>
     requires few { cnf.old.variables < most_variables }
     requires members { IsGate cnf.old.variables gate.now }
@@ -40,8 +40,7 @@ fn input_of(number: u32, symbols: u32, symbol: u32) -> Signal
     }
 }
 
-/// Adds the signal that says that a cell has a symbol of this weight, by which the cells up to it weigh more than `most`, where
-/// they can.
+/// Adds the signal that says that a cell has a symbol of this weight, with which the cells up to it weigh more than `most`, if they can.
 fn push_member(
     alloc: Global,
     cnf: &mut Cnf,
@@ -73,7 +72,7 @@ fn push_member(
     Ok(())
 }
 
-/// Adds the gates that say that the cells up to this one weigh more than `most`, and gives their signal.
+/// Adds the gates that say that the cells up to this one weigh more than `most`, and returns their signal.
 fn push_count(
     alloc: Global,
     cnf: &mut Cnf,
@@ -107,7 +106,7 @@ fn push_count(
     Ok(signal)
 }
 
-/// Adds the gates that say that the cells up to this one weigh more than 0, 1, .., and gives their signals.
+/// Adds the gates that say that the cells up to this one weigh more than 0, 1, .., and returns their signals.
 fn push_row(
     alloc: Global,
     cnf: &mut Cnf,
@@ -131,8 +130,8 @@ fn push_row(
     Ok(signals)
 }
 
-/// Adds the gates that say how much the first cells weigh, and gives the signals of the last row, which say that all weigh
-/// more than 0, 1, ... No more than two rows are held.
+/// Adds the gates that say how much the first cells weigh, and returns the signals of the last row, which say that
+/// all weigh more than 0, 1, ... Memory holds at most two rows.
 pub(crate) fn push_rows(
     alloc: Global,
     cnf: &mut Cnf,
@@ -153,7 +152,7 @@ pub(crate) fn push_rows(
     Ok(before)
 }
 
-/// Adds the clause that says that the last of `below` signals is false, where there is one.
+/// Adds the clause that says that the last of `below` signals is false, if there is one.
 pub(crate) fn push_refusal(
     alloc: Global,
     cnf: &mut Cnf,

@@ -1,13 +1,13 @@
-//! The least weight of a configuration on a torus: after each configuration that is found a lighter one is searched for, until the
-//! search is refuted.
+//! The least weight of a configuration on a torus. Each configuration that is found is followed by a search for a lighter one, until
+//! the search is refuted. The first searches ask for much less each time, so that few are needed.
 ghost use Rattle.std.specs.Prelude.{◌≡◌, ◌≤◌, ◌*◌, length, All, IfOk};
 ghost use Rattle.dd_values.specs.Bounds.{most_variables, most_weight};
 ghost use Rattle.dd_pattern.specs.Periods.{periods_of, periods_volume};
 ghost use Rattle.dd_boxes.specs.Goals.{always};
 ghost use Rattle.dd_boxes.specs.Counts.{most_clauses};
-ghost use Rattle.dd_problem.specs.TorusPeriods.{AreTorusPeriods};
+ghost use Rattle.dd_boxes.specs.TorusPeriods.{AreTorusPeriods};
 ghost use Rattle.dd_counter.specs.Weights.{weight_count};
-ghost use Rattle.dd_counter.specs.Least.{greatest, IsLeast};
+ghost use Rattle.dd_counter.specs.Least.{greatest, IsLiving, IsLeast};
 ghost use Rattle.dd_counter.specs.searching.Lighter.{IsLighter};
 
 use crate::weights::weight_clauses;
@@ -22,7 +22,7 @@ use std::alloc::{AllocError, Global};
 /// The least weight of the configurations of given periods that live in a rule's subshift.
 #[derive(Debug, Drop)]
 pub enum LeastWeight {
-    /// The weight, a configuration that has it, and, where it isn't 0, steps that refute every smaller one.
+    /// The weight, a configuration that has it, and, if it isn't 0, steps that refute every smaller one.
     Least {
         weight: u64,
         periodic: Periodic,
@@ -41,7 +41,7 @@ enum Lighter {
     Nothing(Items<Step>),
 }
 
-/// Looks for a configuration that lives and weighs less than `below`, where this is at least 1.
+/// Looks for a configuration that lives and, if `below` is at least 1, weighs less than `below`.
 fn search_below(
     alloc: Global,
     rule: &Rule,
@@ -49,7 +49,7 @@ fn search_below(
     weights: &[u32],
     below: u64,
 ) -> Result<Lighter, AllocError>
-    requires periods { AreTorusPeriods rule.now (periods_of periods 0) }
+    requires periods { AreTorusPeriods rule.now.dimension rule.now.nodes (periods_of periods 0) }
     requires weights { length weights.now ≡ rule.now.symbols }
     requires count { weight_count rule.now (periods_of periods 0) weights.now below ≤ most_clauses }
     ensures { IfOk result (IsLighter rule.now (periods_of periods 0) weights.now below) }
@@ -58,7 +58,7 @@ fn search_below(
     match solve(alloc, &cnf)? {
         Outcome::Found(found) => {
             let periodic = read_torus(alloc, rule, periods, 0, &found)?;
-            // Read for what its type keeps.
+            // This read brings in what the type guarantees.
             let _symbols = periodic.symbols();
             Ok(Lighter::Found(periodic))
         }
@@ -72,6 +72,40 @@ fn search_below(
     }
 }
 
+/// A configuration of the periods that lives, no heavier than `start`. Each search asks for twice as much less than the one before,
+/// until one is refuted.
+fn descended(
+    alloc: Global,
+    rule: &Rule,
+    periods: [u32; 3],
+    weights: &[u32],
+    start: Periodic,
+) -> Result<Periodic, AllocError>
+    requires periods { AreTorusPeriods rule.now.dimension rule.now.nodes (periods_of periods 0) }
+    requires weights { length weights.now ≡ rule.now.symbols }
+    requires small { All (λ w. w ≤ most_weight) weights.now }
+    requires count { weight_count rule.now (periods_of periods 0) weights.now
+        (periods_volume (periods_of periods 0) * rule.now.nodes * greatest weights.now) ≤ most_clauses }
+    requires lives { IsLiving rule.now (periods_of periods 0) start }
+    ensures { IfOk result (IsLiving rule.now (periods_of periods 0)) }
+{
+    let mut best = start;
+    let mut weight = best.weight(weights);
+    let mut step: u64 = 1;
+    while weight != 0 {
+        let below = weight.saturating_sub(step).max(1);
+        match search_below(alloc, rule, periods, weights, below)? {
+            Lighter::Found(periodic) => {
+                weight = periodic.weight(weights);
+                best = periodic;
+                step = step.saturating_mul(2);
+            }
+            Lighter::Nothing(_) => return Ok(best),
+        }
+    }
+    Ok(best)
+}
+
 /// The least weight of one fundamental box over the configurations of these periods, with shear 0, that live in the rule's
 /// subshift, or that none lives. The symbol `s` weighs `weights[s]`.
 pub fn least_weight(
@@ -80,17 +114,18 @@ pub fn least_weight(
     periods: [u32; 3],
     weights: &[u32],
 ) -> Result<LeastWeight, AllocError>
-    requires periods { AreTorusPeriods rule.now (periods_of periods 0) }
+    requires periods { AreTorusPeriods rule.now.dimension rule.now.nodes (periods_of periods 0) }
     requires weights { length weights.now ≡ rule.now.symbols }
     requires small { All (λ w. w ≤ most_weight) weights.now }
     requires count { weight_count rule.now (periods_of periods 0) weights.now
         (periods_volume (periods_of periods 0) * rule.now.nodes * greatest weights.now) ≤ most_clauses }
     ensures { IfOk result (IsLeast rule.now (periods_of periods 0) weights.now) }
 {
-    let mut found = match search_below(alloc, rule, periods, weights, 0)? {
+    let first = match search_below(alloc, rule, periods, weights, 0)? {
         Lighter::Found(periodic) => periodic,
         Lighter::Nothing(steps) => return Ok(LeastWeight::Nothing { steps }),
     };
+    let mut found = descended(alloc, rule, periods, weights, first)?;
     let mut weight = found.weight(weights);
     while weight > 0 {
         match search_below(alloc, rule, periods, weights, weight)? {

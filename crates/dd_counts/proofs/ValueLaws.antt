@@ -1,16 +1,14 @@
 -- The clauses of an automaton's value, by those of its parts.
 use Rattle.std.proofs.Common.{◌≡◌, ℕ, zero, suc, ◌+◌, ◌*◌, map, refl, ap, sym, ◌∙◌, arith}
 use Rattle.std.specs.List.{range_with_len}
-use Rattle.dd_lattice.specs.InOrder.{in_order}
-use Rattle.dd_lattice.specs.declared.position.Cell.{Cell}
+use Rattle.dd_lattice.specs.{InOrder.in_order, declared.position.Cell.Cell}
 use Rattle.dd_expansion.specs.Leaves.{total}
-use Rattle.dd_formula.specs.Counts.{cut}
-use Rattle.dd_formula.specs.Automata.{Counted, counted, counted_step, cells_of}
+use Rattle.dd_formula.specs.{Counts.cut, Automata.Counted, Automata.counted, Automata.counted_step, Automata.cells_of}
 use Rattle.dd_formula.specs.declared.automaton.Automaton.{Automaton}
-use Rattle.dd_formula.specs.declared.automaton.Automaton.TheVariants as v
 use Rattle.dd_formula.specs.declared.automaton.Automaton.TheFolds.{fold-Automaton, fold-roll-Automaton, ind-Automaton, map-Automaton}
 use Rattle.dd_formula.specs.declared.automaton.Automaton.TheOpen.{Automaton-F}
 use Rattle.dd_formula.specs.ValueCounts.{Valued, valued_step, value_clauses, gate_clause_count, choice_clauses, giving_clauses}
+use Rattle.dd_formula.specs.declared.automaton.Automaton.TheVariants as v
 
 abbrev valued : ℕ → Automaton → Valued
 valued n = fold-Automaton Valued (valued_step n)

@@ -1,10 +1,8 @@
 -- What is counted of a rule, without a bound, and the greatest counts that may be asked for.
 use Rattle.std.specs.Prelude.{ℕ, ◌+◌, ◌-◌, ◌*◌, ◌^◌, max, ℤ, pos, ◌-ℤ◌, unsigned_abs, List, length}
-use Rattle.std.specs.Int.{int_min, int_max}
-use Rattle.std.specs.List.{fold}
+use Rattle.std.specs.{Int.int_min, Int.int_max, List.fold}
 use Rattle.dd_lattice.specs.declared.position.Cell.{Cell}
-use Rattle.dd_formula.specs.LocalRule.{LocalRule, cells_at}
-use Rattle.dd_formula.specs.Reach.{all_cells}
+use Rattle.dd_formula.specs.{LocalRule.LocalRule, LocalRule.cells_at, Reach.all_cells}
 
 -- the greatest numbers of patterns at a node, of states of a transfer graph, and of fillings of one slice more
 abbrev pub most_patterns : ℕ

@@ -12,7 +12,7 @@ pub const MOST_PATTERNS: u32 = 65_536;
 /// The greatest number of states of a transfer graph.
 pub const MOST_STATES: u32 = 4_096;
 
-/// The greatest number of fillings of one slice more than a state has.
+/// The greatest number of fillings of a window, which has one slice more than a state.
 pub const MOST_LONGER_STATES: u32 = 131_072;
 
 /// The number of ways to fill the cells that the rule reads at a node, or `limit + 1` where it passes the limit, which is
@@ -81,8 +81,8 @@ fn slices(rule: &Rule, volume: u32, limit: u32) -> u32
     power(limit, rule.symbols(), rule.nodes() as u64 * volume as u64)
 }
 
-/// The number of states of the rule's transfer graph over strips of which a slice has so many positions, or `limit + 1` where
-/// it passes the limit, which is below 2^31.
+/// The number of states of the rule's transfer graph over strips whose slices have so many positions, or `limit + 1`
+/// where it passes the limit, which is below 2^31.
 pub fn states(rule: &Rule, volume: u32, limit: u32) -> u32
     requires { limit < 2 ^ 31 }
     ensures { result ≡ cut limit (states rule.now volume) }
@@ -90,8 +90,8 @@ pub fn states(rule: &Rule, volume: u32, limit: u32) -> u32
     power(limit, slices(rule, volume, limit), window(rule))
 }
 
-/// The number of states with one slice more, or `limit + 1` where it passes the limit, which is below 2^31: so many edges the
-/// graph has at most.
+/// The number of states with one slice more, or `limit + 1` where it passes the limit, which is below 2^31. The graph has
+/// at most so many edges.
 pub fn longer_states(rule: &Rule, volume: u32, limit: u32) -> u32
     requires { limit < 2 ^ 31 }
     ensures { result ≡ cut limit (longer_states rule.now volume) }

@@ -17,7 +17,8 @@ fn given_clauses(cases: &Cases, node: u32, symbols: u32, limit: u32) -> u32
     ensures { result ≡ cut limit (given_clauses symbols cases.now node) }
 {
     let mut clauses = plus(limit, 2, symbols);
-    // Those of the gate that finds the case, and one in the default's gate and in the gate of the case's symbol.
+    // The clauses of the gate that finds the case, and one each in the default's gate and in the gate of the case's
+    // symbol.
     let mut choosing = 4;
     for (rule, _) in cases.cases.as_slice() {
         let gates = cut_off(limit, rule.clause_count(node));
@@ -97,7 +98,7 @@ fn differ_at(
 /// which is below 2^31.
 ///
 /// # Errors
-/// `AllocError` where memory was wanting.
+/// `AllocError` if memory ran out.
 pub fn differ_clauses(
     alloc: Global,
     first: &Automaton,

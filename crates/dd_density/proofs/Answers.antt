@@ -1,24 +1,17 @@
 -- The density of a least mean.
 use Rattle.std.proofs.Common.{◌≡◌, ℕ, ◌*◌, ◌<◌, ◌≤◌, ◌^◌, List, length, arith, sym, ap, subst}
-use Rattle.std.specs.Prelude.{ℤ, pos, unsigned_abs}
-use Rattle.std.specs.List.{All}
-use Rattle.std.proofs.lemmas.List.{get_or_default}
-use Rattle.std.proofs.Math.Nat.{mul-le-mul}
+use Rattle.std.proofs.{lemmas.List.get_or_default, Math.Nat.mul-le-mul}
+use Rattle.std.specs.{Prelude.ℤ, Prelude.pos, Prelude.unsigned_abs, List.All}
 use Rattle.dd_formula.specs.LocalRule.{LocalRule}
-use Rattle.dd_strip.specs.declared.strip.Strip.{Strip}
-use Rattle.dd_strip.specs.Strips.{positions}
-use Rattle.dd_transfer.specs.Graphs.{Transfer, IsTransfer}
-use Rattle.dd_transfer.specs.Transfers.{IsGraphOf}
+use Rattle.dd_strip.specs.{declared.strip.Strip.Strip, Strips.positions}
+use Rattle.dd_transfer.specs.{Graphs.Transfer, Graphs.IsTransfer, Transfers.IsGraphOf}
 use Rattle.dd_transfer.specs.Certificates.{IsInLowestTerms, potential_of}
-use Rattle.dd_meancycle.specs.declared.least.Mean.{Mean}
-use Rattle.dd_meancycle.specs.declared.least.Mean.TheVariants as mean
-use Rattle.dd_meancycle.specs.Means.{IsLeastMeanCycle, IsMeanOf, weight_of}
+use Rattle.dd_meancycle.specs.{declared.least.Mean.Mean, Means.IsLeastMeanCycle, Means.IsMeanOf, Means.weight_of}
 use Rattle.dd_density.specs.declared.answer.Density.{Density}
 use Rattle.dd_density.specs.declared.answer.Density.TheVariants.{Least, Empty}
-use Rattle.dd_density.specs.Densities.{IsCertifiedDensity, IsSmallDensity}
-use Rattle.dd_density.specs.graphs.Means.{IsMeanOver, IsOfMean}
-use Rattle.dd_density.proofs.Fractions.{lowest_small, IsNoGreater}
-use Rattle.dd_density.proofs.Walks.{weight_most, certificate_of, empty_of}
+use Rattle.dd_density.specs.{Densities.IsCertifiedDensity, Densities.IsSmallDensity, graphs.Means.IsMeanOver, graphs.Means.IsOfMean}
+use Rattle.dd_density.proofs.{Fractions.lowest_small, Fractions.IsNoGreater, Walks.weight_most, Walks.certificate_of, Walks.empty_of}
+use Rattle.dd_meancycle.specs.declared.least.Mean.TheVariants as mean
 
 pub lowest_mean : (g : Transfer) (m l : ℕ) (cycle : List ℕ) (ps : List ℤ) → IsLeastMeanCycle g m l cycle ps → IsInLowestTerms m l (weight_of g cycle) (length cycle)
 lowest_mean g m l cycle ps is = record { same = sym is.mean; lowest = is.lowest; positive = is.positive }

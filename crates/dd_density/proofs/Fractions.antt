@@ -1,18 +1,13 @@
 -- Fractions in lowest terms: there is one for two numbers, and it is no greater than they are.
-use Rattle.std.proofs.Common.{◌≡◌, ℕ, zero, suc, ◌+◌, ◌*◌, ◌/◌, ◌%◌, ◌<◌, ◌≤◌, refl, sym, ap, subst, ◌∙◌, arith}
+use Rattle.std.proofs.Common.{◌≡◌, ℕ, zero, suc, ◌*◌, ◌/◌, ◌%◌, ◌<◌, ◌≤◌, refl, sym, ap, subst, ◌∙◌, arith}
 use Rattle.std.specs.Int.{IsGcd}
 use Prim.Native.Nat.{◌∣◌}
-use Rattle.std.proofs.lemmas.Nat.{mod_below, mod-mul-add, div-add-mod'}
-use Rattle.std.proofs.lemmas.Nat.Gcd.{IsGcd-from_zero, IsGcd-from_mod, same_from_IsGcd, dvd_antisymm, dvd-zero, mod-eq-zero_of_dvd}
+use Rattle.std.proofs.lemmas.Nat.{mod_below}
+use Rattle.std.proofs.lemmas.Nat.Gcd.{IsGcd-from_zero, IsGcd-from_mod, same_from_IsGcd, mod-eq-zero_of_dvd}
 use Rattle.std.proofs.Math.Nat.{mul-le-mul_left, mul-le-mul_right, le_of_mul-le-mul_right, eq_of_mul-eq-mul_right, mul_comm, dvd-mul_right, mul-dvd-mul_left, dvd_of_mul-dvd-mul_left}
 use Rattle.dd_transfer.specs.Certificates.{IsInLowestTerms}
-
-mod-scaled : (a b k : ℕ) → 0 < k → 0 < b → (a * k) % (b * k) ≡ a % b * k
-mod-scaled a b k z p =
-    let r : a % b < b = mod_below a b p in
-    let below : a % b * k < b * k = omega (arith, mul-le-mul_right k r) in
-    let split : a / b * (b * k) + a % b * k ≡ a * k = omega (arith, ap (λ (x : ℕ). x * k) (div-add-mod' a b)) in
-    subst (λ (x : ℕ). x % (b * k) ≡ a % b * k) split (mod-mul-add (a / b) (b * k) (a % b * k) below)
+use Rattle.dd_fraction.specs.lemmas.Divisors.{mod-scaled}
+use Rattle.dd_values.specs.lemmas.Numbers.{part_above}
 
 -- a greatest common divisor, also of both numbers k times
 pub record Common (a b k : ℕ) : Type 0 where
@@ -88,14 +83,6 @@ lowest_small n d a b some p =
     let product : n * b ≤ a * b = omega (arith, long, p.same) in
     record { numerator = le_of_mul-le-mul_right product some; denominator = short }
 
-positive_part : (g q l : ℕ) → g * q ≡ l → 0 < l → 0 < q
-positive_part g zero l e pos = absurd (omega (arith, e))
-positive_part g (suc q) l e pos = omega arith
-
-pub gcd_positive : (a b g : ℕ) → IsGcd a b g → 0 < b → 0 < g
-gcd_positive a b zero is some = absurd (let e : b ≡ 0 = dvd_antisymm (dvd-zero b) is.1 in omega arith)
-gcd_positive a b (suc g) is some = omega arith
-
 -- the quotients by the greatest common divisor
 pub quotients_lowest : (a b g : ℕ) → IsGcd a b g → 0 < b → 0 < g → IsInLowestTerms (a / g) (b / g) a b
 quotients_lowest a b g is some g_pos =
@@ -114,7 +101,7 @@ quotients_lowest a b g is some g_pos =
             (subst (λ (y : ℕ). g * d ∣ y) (sym ge)
             (is.2 (g * d) (subst (λ (y : ℕ). g * d ∣ y) ae (mul-dvd-mul_left d {c = a / g} g x)) (subst (λ (y : ℕ). g * d ∣ y) be (mul-dvd-mul_left d {c = b / g} g y)))),
       );
-      positive = positive_part g (b / g) b be some;
+      positive = part_above g (b / g) b be some;
     }
   where
     swap_product : (w l g a b : ℕ) → g * a ≡ w → g * b ≡ l → a * l ≡ w * b

@@ -1,24 +1,16 @@
 -- Walks of a transfer graph are the walks of its strip.
-use Rattle.std.proofs.Common.{◌≡◌, ℕ, zero, suc, ◌+◌, ◌*◌, ◌%◌, ◌≤◌, ◌^◌, List, [], ◌∷◌, length, get_or, Some, arith, refl, sym, ap, ◌∙◌, subst}
-use Rattle.std.specs.Prelude.{ℤ, pos, ◌-ℤ◌, ◌≤ℤ◌}
+use Rattle.std.proofs.Common.{◌≡◌, ℕ, ◌*◌, ◌%◌, ◌≤◌, ◌^◌, List, [], ◌∷◌, length, Some, arith, refl, sym, ap, ◌∙◌, subst}
 use Rattle.std.proofs.lemmas.Nat.{mod_below}
+use Rattle.std.specs.Prelude.{ℤ, pos, ◌-ℤ◌, ◌≤ℤ◌}
 use Rattle.dd_formula.specs.LocalRule.{LocalRule}
 use Rattle.dd_counts.specs.Rules.{slices}
-use Rattle.dd_strip.specs.declared.strip.Strip.{Strip}
-use Rattle.dd_strip.specs.Strips.{positions}
+use Rattle.dd_strip.specs.{declared.strip.Strip.Strip, Strips.positions}
 use Rattle.dd_transfer.specs.Graphs.{Transfer, IsTransfer, next_of, weight_at}
 use Rattle.dd_transfer.specs.Transfers.{IsGraphOf, slice_weight}
 use Rattle.dd_transfer.specs.Certificates.{IsWalk, IsClosedWalk, IsInLowestTerms, walk_weight, IsDensityCertificate, IsEmptyCertificate, AreStripPotentials as RisesAlong, potential_of}
 use Rattle.dd_meancycle.specs.Means.{IsPath, IsCycle, ArePotentials, weight_of}
-use Rattle.dd_density.specs.graphs.Shown.{IsShown, AreFallen}
 use Rattle.dd_meancycle.specs.lemmas.StepLaws.{last_slice, weight_small, step}
-
--- a path ends in its last state
-pub path_end : (g : Transfer) (ws : List ℕ) (u v d k : ℕ) → k + 1 ≡ length ws → IsPath g u ws v → v ≡ get_or ws k d
-path_end g [] u v d k e walk = absurd (omega arith)
-path_end g (w ∷ []) u v d zero e walk = sym walk.1
-path_end g (w ∷ x ∷ ws) u v d zero e walk = absurd (omega arith)
-path_end g (w ∷ ws) u v d (suc k) e walk = path_end g ws w v d k (omega arith) walk.1
+use Rattle.dd_density.specs.graphs.Shown.{IsShown, AreFallen}
 
 pub weight_most : (g : Transfer) (ws : List ℕ) → IsTransfer g → weight_of g ws ≤ 2 ^ 25 * length ws
 weight_most g [] well = omega arith

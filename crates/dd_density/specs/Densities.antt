@@ -1,11 +1,9 @@
--- What the least density of a strip is answered with.
-use Rattle.std.specs.Prelude.{ℕ, ◌≤◌, ℤ, unsigned_abs, List, length}
-use Rattle.std.specs.List.{All}
+-- What answers on the least density of a strip say.
+use Rattle.std.specs.{Prelude.ℕ, Prelude.◌≤◌, Prelude.ℤ, Prelude.unsigned_abs, Prelude.List, Prelude.length, List.All}
 use Rattle.dd_values.specs.Bounds.{most_number}
 use Rattle.dd_formula.specs.LocalRule.{LocalRule}
 use Rattle.dd_counts.specs.Rules.{states}
-use Rattle.dd_strip.specs.declared.strip.Strip.{Strip}
-use Rattle.dd_strip.specs.Strips.{positions}
+use Rattle.dd_strip.specs.{declared.strip.Strip.Strip, Strips.positions}
 use Rattle.dd_transfer.specs.Certificates.{IsDensityCertificate, IsEmptyCertificate}
 use Rattle.dd_density.specs.declared.answer.Density.{Density}
 use Rattle.dd_density.specs.declared.answer.Density.TheVariants.{Least, Empty}

@@ -1,4 +1,4 @@
 -- what the public calls promise of an answer
 pub mod Densities
--- the same over a transfer graph that is there
+-- the same over a given transfer graph
 pub mod graphs

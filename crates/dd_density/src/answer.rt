@@ -1,4 +1,4 @@
-//! What the least density of a strip is answered with.
+//! The answer to what the least density of a strip is.
 
 use dd_values::Items;
 
@@ -14,7 +14,7 @@ pub enum Density {
         walk: Items<u64>,
         potentials: Items<i64>,
     },
-    /// A rank for each state, which falls along each edge: no walk goes on for ever.
+    /// A rank for each state, which falls along each edge, so no walk is infinite.
     Empty {
         ranks: Items<u64>,
     },

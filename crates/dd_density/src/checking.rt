@@ -8,8 +8,8 @@ use crate::strips::{graph_of, no_weights};
 use dd_formula::Rule;
 use std::alloc::{AllocError, Global};
 
-/// Whether a closed walk of states and a potential for each state show that `numerator / denominator`, in lowest terms, is the
-/// least density of the configurations of a strip, where each symbol weighs as much as its weight says.
+/// Whether a closed walk of states and a potential for each state show that `numerator / denominator`, in lowest terms,
+/// is the least density of the configurations of a strip, with these weights of the symbols.
 pub fn check_density(
     alloc: Global,
     rule: &Rule,

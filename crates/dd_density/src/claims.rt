@@ -23,7 +23,7 @@ fn leads(graph: &Graph, from: u64, to: u64) -> bool
     }
 }
 
-/// What a slice weighs, which is the last of this state.
+/// The weight of the state's last slice.
 fn last_weight(graph: &Graph, state: u64) -> u64
     ensures value { result ≡ weight_at graph.now (state % graph.now.slices) }
     ensures small { result ≤ 2 ^ 25 }
@@ -64,7 +64,7 @@ fn is_rise(from: i64, to: i64, weight: u64, mean: Ratio) -> bool
     true
 }
 
-/// Whether the potential rises so from a state to another.
+/// Whether the potential rises by at most that from a state to another.
 fn is_rise_between(from: u32, to: u32, weight: u64, potentials: &[i64], mean: Ratio) -> bool
     requires from { from < length potentials.now }
     requires to { to < length potentials.now }
@@ -78,7 +78,7 @@ fn is_rise_between(from: u32, to: u32, weight: u64, potentials: &[i64], mean: Ra
     is_rise(from, to, weight, mean)
 }
 
-/// Whether the potential rises so along the edge from a state by a slice, where there is one.
+/// Whether the potential rises by at most that along the edge from a state by a slice, where there is one.
 fn is_rise_along(graph: &Graph, state: u32, slice: u32, potentials: &[i64], mean: Ratio) -> bool
     requires state { state < graph.now.states }
     requires slice { slice < graph.now.slices }
@@ -108,7 +108,7 @@ fn are_rises_from(graph: &Graph, state: u32, potentials: &[i64], mean: Ratio) ->
     true
 }
 
-/// Whether there is a potential for each state, and each rises so along each edge.
+/// Whether there is a potential for each state, and it rises by at most that along each edge.
 fn are_potentials(graph: &Graph, potentials: &[i64], mean: Ratio) -> bool
     requires numerator { mean.numerator < 2 ^ 89 }
     requires denominator { mean.denominator < 2 ^ 64 }
@@ -125,7 +125,8 @@ fn are_potentials(graph: &Graph, potentials: &[i64], mean: Ratio) -> bool
     true
 }
 
-/// Whether the walk is closed and has this density over so many positions a slice, and the potentials are right for its mean.
+/// Whether the walk is closed and has this density with so many positions in a slice, and the potentials are right for
+/// its mean.
 pub(crate) fn is_shown(
     graph: &Graph,
     volume: u32,

@@ -13,9 +13,9 @@ use dd_meancycle::{Mean, least_mean};
 use dd_values::Items;
 use std::alloc::{AllocError, Global};
 
-/// The least density of the configurations of a strip that have a period along it, where each symbol weighs as much as its
-/// weight says; `Empty` where there are none. Each number of the answer is at most 2^40 in absolute value, and the walk has at
-/// most as many states as the transfer graph.
+/// The least density, with these weights of the symbols, of the configurations of a strip that have a period along it;
+/// `Empty` if there are none. Each number of the answer is at most 2^40 in absolute value, and the walk has at most as
+/// many states as the transfer graph.
 pub fn least_density(
     alloc: Global,
     rule: &Rule,
@@ -44,7 +44,7 @@ fn widened(alloc: Global, numbers: &[u32]) -> Result<Items<u64>, AllocError>
     Ok(Items::from_vec(wide))
 }
 
-/// The density of a mean over so many positions a slice.
+/// The density of a mean, with so many positions in a slice.
 fn density_of(alloc: Global, mean: Mean, volume: u32) -> Result<Density, AllocError>
     requires { IsMeanOver volume mean }
     ensures { IfOk result (IsOfMean volume mean) }

@@ -26,7 +26,7 @@ pub(crate) fn graph_of(
     }
 }
 
-/// The weight 0 for each symbol.
+/// Weights of 0 for all symbols.
 pub(crate) fn no_weights(alloc: Global, rule: &Rule) -> Result<Vec<u32>, AllocError>
     ensures { IfOk result (λ ws. HasWeights rule.now ws.items) }
 {

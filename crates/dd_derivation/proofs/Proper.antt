@@ -1,21 +1,19 @@
 -- Marking a step's clause: its variables are distinct and in range.
-use Rattle.std.proofs.Common.{◌≡◌, ℕ, suc, ◌+◌, ◌-◌, ◌<◌, ◌≤◌, Bool, true, false, not, ◌&&◌, ◌||◌, List, [], ◌∷◌, ◌++◌, refl, ap, sym, ◌∙◌, subst, length, get_or, take, drop, eqb, inl, inr, ◌⊎◌, drop-cons, take-append-drop}
-use Rattle.std.specs.Bool.{beq}
+use Rattle.std.proofs.Common.{◌≡◌, ℕ, suc, ◌+◌, ◌-◌, ◌<◌, ◌≤◌, true, false, not, ◌&&◌, List, [], ◌∷◌, ◌++◌, refl, ap, sym, ◌∙◌, subst, length, get_or, take, drop, eqb, inl, inr, ◌⊎◌, drop-cons, take-append-drop}
 use Rattle.std.proofs.lemmas.Bool.{eq-eqb, eqb-true, ne_eqb, and_parts, and_from, and_left, and_right, or_cases, or_left, or_right, not-true, not_from_true, or_parts, false≢true, false_from_ne_true}
-use Rattle.std.proofs.lemmas.List.{take_more}
-use Rattle.std.proofs.lemmas.List.Folds.{list_any-append}
-use Rattle.dd_clause.specs.declared.clause.Literal.{Literal}
-use Rattle.dd_clause.specs.Clauses.{negation, IsLiteralInRange}
+use Rattle.std.proofs.lemmas.List.{take_more, Folds.list_any-append}
+use Rattle.std.specs.Bool.{beq}
+use Rattle.dd_clause.specs.{declared.clause.Literal.Literal, Clauses.negation, Clauses.IsLiteralInRange}
 use Rattle.dd_derivation.specs.declared.propagation.VariableMark.{VariableMark}
 use Rattle.dd_derivation.specs.Derivations.{same_literal, is_among, is_literal_in_range, has_variable, is_proper}
-use Rattle.dd_derivation.specs.checking.MarksOf.{FalsesAre, with_mark}
-use Rattle.dd_derivation.specs.lemmas.Soundness.{same_literal-eq, beq-refl}
-use Rattle.dd_derivation.specs.lemmas.Falses.{FalsesAre-start, in_range-true}
+use Rattle.dd_derivation.specs.{checking.MarksOf.FalsesAre, checking.MarksOf.with_mark, lemmas.Soundness.same_literal-eq}
+use Rattle.dd_derivation.specs.lemmas.Falses.{FalsesAre-start, in_range-true, among_snoc}
+use Rattle.dd_values.specs.lemmas.Booleans.{beq_same}
 
 in-has : (xs : List Literal) (v : ℕ) → has_variable v xs ≡ true → (y : Literal) × (is_among xs y ≡ true) × (y.variable ≡ v)
 in-has [] v h = absurd (false≢true h)
 in-has (x ∷ xs) v h = elim (or_cases (eqb x.variable v) (has_variable v xs) h) [
-  | inl a ↦ (x, or_left _ _ (and_from _ _ (eq-eqb x.variable x.variable refl) (beq-refl x.positive)), eqb-true _ _ a)
+  | inl a ↦ (x, or_left _ _ (and_from _ _ (eq-eqb x.variable x.variable refl) (beq_same x.positive)), eqb-true _ _ a)
   | inr a ↦ let r = in-has xs v a in (r.0, or_right _ _ r.1, r.2)
 ]
 
@@ -53,19 +51,6 @@ proper_snoc n (x ∷ xs) l r p a =
     let h : has_variable x.variable (xs ++ l ∷ []) ≡ false = rw (list_any-append (λ y. eqb y.variable x.variable) xs (l ∷ []), not-true _ q'.1, g) refl in
     rw (q'.0, h, proper_snoc n xs l r q.1 b.1) refl
 
-or_comm : (a b : Bool) → (a || b) ≡ (b || a)
-or_comm true true = refl
-or_comm true false = refl
-or_comm false true = refl
-or_comm false false = refl
-
-or_false : (a : Bool) → (a || false) ≡ a
-or_false true = refl
-or_false false = refl
-
-among_snoc : (xs : List Literal) (y x : Literal) → is_among (xs ++ y ∷ []) x ≡ is_among (y ∷ xs) x
-among_snoc xs y x = list_any-append (same_literal x) xs (y ∷ []) ∙ ap (λ (b : Bool). is_among xs x || b) (or_false (same_literal x y)) ∙ or_comm (is_among xs x) (same_literal x y)
-
 abbrev pub mark_of : List VariableMark → ℕ → VariableMark
 mark_of marks v = get_or marks (v - 1) (record { step = 0; positive = false })
 
@@ -77,7 +62,7 @@ marked_at marks step front x m r = sym (rw (in_range-true (length marks) x r) at
 pub marked_has : (marks : List VariableMark) (step : ℕ) (front : List Literal) (v : ℕ) → FalsesAre marks step [] front → 1 ≤ v → v ≤ length marks → (mark_of marks v).step ≡ step → has_variable v front ≡ true
 marked_has marks step front v m a b e =
     let y : Literal = record { variable = v; positive = (mark_of marks v).positive } in
-    has-in front y (marked_at marks step front y m (a, b) ∙ and_from _ _ (eq-eqb _ step e) (beq-refl (mark_of marks v).positive))
+    has-in front y (marked_at marks step front y m (a, b) ∙ and_from _ _ (eq-eqb _ step e) (beq_same (mark_of marks v).positive))
 
 -- one more literal is marked
 pub start_more : (marks : List VariableMark) (step : ℕ) (clause : List Literal) (i : ℕ) (d : Literal) → i < length clause → IsLiteralInRange (length marks) (get_or clause i d) → ((mark_of marks (get_or clause i d).variable).step ≡ step → ⊥) → FalsesAre marks step [] (take i clause) → is_proper (length marks) (take i clause) ≡ true → (is_proper (length marks) (take (i + 1) clause) ≡ true) × FalsesAre (with_mark marks step (get_or clause i d)) step [] (take (i + 1) clause)

@@ -6,9 +6,8 @@ use Rattle.std.proofs.lemmas.Option.{slice_get_read}
 use Rattle.dd_clause.specs.declared.clause.Literal.{Literal}
 use Rattle.dd_derivation.specs.declared.step.Step.{Step}
 use Rattle.dd_derivation.specs.Derivations.{is_empty, is_right, known_after, known_after_steps, refutes_from, clauses_before, is_step_right}
-use Rattle.dd_derivation.specs.checking.MarksOf.{known_of}
-use Rattle.dd_derivation.specs.lemmas.Numbers.{length-before}
-use Rattle.dd_derivation.specs.lemmas.Falses.{is_last-drop}
+use Rattle.dd_derivation.specs.{checking.MarksOf.known_of, lemmas.Numbers.length-before, lemmas.Falses.is_last-drop}
+use Rattle.dd_values.specs.lemmas.Booleans.{or_false}
 
 pub all_alive : (cs : List (List Literal)) (alive : List Bool) → length cs ≤ length alive → ((k : ℕ) → k < length alive → get_or alive k false ≡ true) → known_of cs alive ≡ map (λ c. Some c) cs
 all_alive [] alive l a = refl
@@ -38,10 +37,6 @@ before_none clauses = append-nil clauses
 empty_test : (xs : List Literal) → is_empty xs ≡ eqb (length xs) 0
 empty_test [] = refl
 empty_test (x ∷ xs) = sym (ne_eqb (suc (length xs)) 0 (λ e. omega arith))
-
-or_false : (a : Bool) → (a || false) ≡ a
-or_false true = refl
-or_false false = refl
 
 pub last_step : (n : ℕ) (known : List (Option (List Literal))) (steps : List Step) (i : ℕ) (s : Step) → i < length steps → s ≡ get_or steps i s → i + 1 ≡ length steps → is_right n known s ≡ true → refutes_from n known (drop i steps) ≡ eqb (length s.clause) 0
 last_step n known steps i s h g l r =

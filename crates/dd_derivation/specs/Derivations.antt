@@ -1,10 +1,7 @@
 -- Refutations of a clause list: steps whose clauses follow by unit propagation along hints.
 use Rattle.std.specs.Prelude.{ℕ, zero, suc, ◌==◌, nat_le, Bool, true, false, not, ◌&&◌, ◌||◌, if◌then◌else◌, ◌≡◌, List, [], ◌∷◌, ◌++◌, Option, Some, None, is_some, slice_get, slice_set, map, take}
-use Rattle.std.specs.Bool.{beq}
-use Rattle.std.specs.List.{list_any, list_all, filter}
-use Rattle.std.specs.Option.{option_map_or, option_and_then}
-use Rattle.dd_clause.specs.declared.clause.Literal.{Literal}
-use Rattle.dd_clause.specs.Clauses.{ClauseList, negation}
+use Rattle.std.specs.{Bool.beq, List.list_any, List.list_all, List.filter, Option.option_map_or, Option.option_and_then}
+use Rattle.dd_clause.specs.{declared.clause.Literal.Literal, Clauses.ClauseList, Clauses.negation}
 use Rattle.dd_derivation.specs.declared.propagation.Finding.{Finding}
 use Rattle.dd_derivation.specs.declared.propagation.Finding.TheVariants.{Falsified, Forced, Open}
 use Rattle.dd_derivation.specs.declared.step.Step.{Step}
@@ -25,8 +22,8 @@ finding_of is_false [] = Falsified
 finding_of is_false (l ∷ rest) =
     if list_all (same_literal l) rest && not (is_false (negation l)) then Forced l else Open
 
--- what a clause says where these literals are false: that all of its own are false, or that the one that is not false,
--- and is not true yet, has to be true
+-- what a clause says, given which literals are false: all of its own are false, or the only one that is not false, and is
+-- not true yet, has to be true
 abbrev pub finding : (Literal → Bool) → List Literal → Finding
 finding is_false clause = finding_of is_false (filter (λ l. not (is_false l)) clause)
 
@@ -35,7 +32,7 @@ abbrev pub clause_of : List (Option (List Literal)) → ℕ → Option (List Lit
 clause_of known zero = None
 clause_of known (suc k) = option_and_then (λ c. c) (slice_get known k)
 
--- the clauses but for the one of a number
+-- the clauses without the one of a number
 abbrev pub without : List (Option (List Literal)) → ℕ → List (Option (List Literal))
 without known zero = known
 without known (suc k) = slice_set known k None
@@ -61,7 +58,7 @@ abbrev pub are_deletable : List (Option (List Literal)) → List ℕ → Bool
 are_deletable known [] = true
 are_deletable known (d ∷ ds) = is_some (clause_of known d) && are_deletable (without known d) ds
 
--- the clauses but for those of the deleted numbers
+-- the clauses without those of the deleted numbers
 abbrev pub known_after : List (Option (List Literal)) → List ℕ → List (Option (List Literal))
 known_after known [] = known
 known_after known (d ∷ ds) = known_after (without known d) ds
@@ -77,7 +74,7 @@ abbrev pub is_proper : ℕ → List Literal → Bool
 is_proper n [] = true
 is_proper n (l ∷ rest) = (is_literal_in_range n l && not (has_variable l.variable rest)) && is_proper n rest
 
--- where the literals of the step's clause are false, its hints end in a conflict, so that the clause follows
+-- with the literals of the step's clause false, its hints end in a conflict, so the clause follows
 abbrev pub is_right : ℕ → List (Option (List Literal)) → Step → Bool
 is_right n known s = is_proper n s.clause && (is_conflict known s.clause s.hints && are_deletable known s.deletes)
 
@@ -100,13 +97,13 @@ IsRefuting cnf steps = refutes cnf.variables cnf.clauses steps ≡ true
 abbrev pub clauses_before : List (List Literal) → List Step → List (List Literal)
 clauses_before clauses steps = clauses ++ map (λ s. s.clause) steps
 
--- the clauses but for those that the steps delete
+-- the clauses without those that the steps delete
 abbrev pub known_after_steps : List (Option (List Literal)) → List Step → List (Option (List Literal))
 known_after_steps known [] = known
 known_after_steps known (s ∷ steps) = known_after_steps (known_after known s.deletes) steps
 
--- The step at a place, from 0, is right where the list's clauses and the earlier steps' are known, but for those that
--- an earlier step deletes.
+-- The step at a place, from 0, is right. Known are the clauses of the list and of earlier steps, except those that an
+-- earlier step deletes.
 abbrev pub is_step_right : ℕ → List (List Literal) → List Step → ℕ → Bool
 is_step_right n clauses steps index =
     let earlier = take index steps in

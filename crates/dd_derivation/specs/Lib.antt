@@ -4,5 +4,5 @@ pub mod Derivations
 pub mod Sizes
 -- what the marks of a check stand for
 pub mod checking
--- lemmas on what stands above, with their proofs, for whoever cites them
+-- lemmas on these definitions, with their proofs
 pub mod lemmas

@@ -1,5 +1,5 @@
-//! The clauses that a step may hint at: those of the list and the earlier steps', as far as they are alive. A number is
-//! a place in one array of truth values, so deleting a clause writes one of them.
+//! The clauses that a step may hint at: those of the list and of earlier steps that are alive. One truth value for each
+//! number says whether its clause is alive, so deleting a clause writes one value.
 ghost use Rattle.std.specs.Prelude.{◌≡◌, ℕ, ◌+◌, ◌≤◌, List, length, true, false, slice_index_or};
 ghost use Rattle.std.specs.Option.{option_copied};
 ghost use Rattle.dd_clause.specs.declared.clause.Literal.{Literal};
@@ -10,7 +10,7 @@ use crate::step::Step;
 use dd_clause::{Clause, Literal};
 use std::marker::Model;
 
-/// The clauses of a list and of steps, of which those are known whose number is alive.
+/// The clauses of a list and of steps. A clause is known if its number is alive.
 #[derive(Drop)]
 pub struct Known<'a> {
     clauses: &'a [Clause],
@@ -31,7 +31,7 @@ impl<'a> Model for Known<'a> {
 }
 
 impl<'a> Known<'a> {
-    /// What is known after these steps: of the clauses, and then of the steps, those that are alive.
+    /// What is known after these steps: the clauses and then those of the steps, as far as they are alive.
     pub fn new(clauses: &'a [Clause], steps: &'a [Step], alive: &'a [bool]) -> Known<'a>
         requires { length clauses.now + length steps.now ≤ length alive.now }
         ensures { result ≡ known_to clauses.now steps.now alive.now }
@@ -90,7 +90,7 @@ pub fn delete_all(alive: &mut [bool], count: usize, numbers: &[u64]) -> bool
     true
 }
 
-/// Deletes the clauses of those of these numbers that there are.
+/// Deletes the clauses of these numbers. A number without a clause is skipped.
 pub fn delete_named(alive: &mut [bool], numbers: &[u64])
     ensures { (cs : List (List Literal)) →
         known_of cs alive.new ≡ spec.known_after (known_of cs alive.old) numbers.now }

@@ -1,5 +1,5 @@
-//! Unit propagation along hints: the literals of a step's clause are taken as false, and each hinted clause makes one
-//! more literal true, until one is left with none. A mark says of which step it is, so nothing is undone between steps.
+//! Unit propagation along hints. The literals of a step's clause are taken as false. Each hinted clause makes one more
+//! literal true, until all literals of one are false. A mark holds its step's number, so nothing is undone between steps.
 ghost use Rattle.std.specs.Prelude.{◌≡◌, ◌<◌, [], Bool, length, take, true, slice_index_or};
 ghost use Rattle.dd_clause.specs.declared.clause.Literal.{Literal};
 ghost use Rattle.dd_derivation.specs.Derivations as spec;
@@ -10,19 +10,18 @@ use crate::known::Known;
 use crate::step::Step;
 use dd_clause::Literal;
 
-/// What a clause says where some literals are false: that all of its own are, that the one that is left has to be true,
-/// or nothing.
+/// What a clause says, given which literals are false.
 #[derive(Clone, Copy, PartialEq, Eq)]
 pub enum Finding {
     /// All of its literals are false.
     Falsified,
-    /// All but this literal, which is not false, are false; so it has to be true.
+    /// All of its literals but this one are false, so this one has to be true.
     Forced(Literal),
-    /// Nothing: two different literals are not false, or only one is not, and its opposite is false.
+    /// Nothing: two different literals are not false, or the only one that is not false is true already.
     Open,
 }
 
-/// Says of a variable that, in the step of this number, its literal of this sign is false.
+/// In the step of this number, the variable's literal of this sign is false.
 #[derive(Clone, Copy)]
 pub struct VariableMark {
     pub step: u64,
@@ -42,7 +41,7 @@ fn mark(marks: &mut [VariableMark], step: u64, literal: Literal)
     }
 }
 
-/// The first of the literals that is of this variable.
+/// The first literal of this variable.
 fn first_of(literals: &[Literal], variable: u32) -> Option<Literal>
     ensures { result ≡ marks_of.first_literal_of variable literals.now }
 {
@@ -89,8 +88,8 @@ struct After<'a> {
 impl<'a> FalseLiterals for After<'a> {
     ghost is_false = { λ a. marks_of.is_false a.marks.now a.step (literals_of a.known.now a.hints.now) };
 
-    /// A variable has no mark only where an earlier step that is not right names it. Then the first hinted clause with
-    /// it made its literal true.
+    /// A variable has no mark only if an earlier step that is not right names it. The first hinted clause with it then
+    /// made its literal true.
     fn is_false(&self, literal: Literal) -> bool {
         let variable = literal.variable as usize;
         if variable >= 1 && variable <= self.marks.len() {
@@ -104,7 +103,7 @@ impl<'a> FalseLiterals for After<'a> {
     }
 }
 
-/// What the clause says where these literals are false.
+/// What the clause says, given which literals are false.
 pub fn find<F: FalseLiterals>(falses: &F, clause: &[Literal]) -> Finding
     ensures { result ≡ spec.finding (F.is_false falses.now) clause.now }
 {

@@ -1,5 +1,5 @@
 //! The check of a refutation: each step is right, and the last one's clause is empty. It takes no memory: its room is
-//! made before, and may be used for any derivation of the same sizes.
+//! made beforehand, and serves any derivation of the same sizes.
 ghost use Rattle.std.specs.Prelude.{◌≡◌, ℕ, ◌+◌, ◌<◌, ◌≤◌, Bool, true, false, List, length, slice_index_or, IfOk, ◌-◌, ◌^◌};
 ghost use Rattle.dd_clause.specs.declared.clause.Literal.{Literal};
 ghost use Rattle.dd_clause.specs.Clauses.{Satisfies};
@@ -30,8 +30,7 @@ impl Model for Marks {
 }
 
 impl Marks {
-    /// Room for a check of steps like these over a list like this: as many variables, and as many clauses and steps
-    /// together.
+    /// Room for checks with as many variables as this list, and as many clauses and steps together.
     pub fn new(alloc: Global, cnf: &Cnf, steps: &[Step]) -> Result<Marks, AllocError>
         ensures variables { IfOk result (λ m. m.variables ≡ cnf.now.variables) }
         ensures numbers { IfOk result (λ m. m.numbers ≡ length cnf.now.clauses + length steps.now) }
@@ -46,7 +45,7 @@ impl Marks {
     }
 }
 
-/// The number of the last step, where the clauses have the numbers from 1 on and the steps those after them.
+/// The number of the last step. The clauses are numbered from 1, and the steps after them.
 pub fn last_number(cnf: &Cnf, steps: &[Step]) -> u64
     ensures value { result ≡ length cnf.now.clauses + length steps.now }
     ensures few { length cnf.now.clauses + length steps.now ≤ 2 ^ 64 - 1 }
@@ -187,8 +186,8 @@ fn check_step_with(
     check_one(cnf.clauses(), earlier, alive, marks, 1, &steps[index])
 }
 
-/// Whether the step at this index, from 0, is right where the clauses of the list and of the steps before it are known,
-/// but for those that a step before it deletes. It takes no memory.
+/// Whether the step at this index, from 0, is right. Known are the clauses of the list and of the steps before it, except
+/// those that a step before it deletes. It takes no memory.
 pub fn check_step(cnf: &Cnf, steps: &[Step], index: usize, marks: &mut Marks) -> bool
     requires exists { index < length steps.now }
     requires variables { marks.old.variables ≡ cnf.now.variables }

@@ -1,26 +1,26 @@
-//! What a search hands out: an assignment, or a derivation of the empty clause that anyone can check.
+//! What a search returns: an assignment, or a derivation of the empty clause that anyone can check.
 use dd_clause::{Assignment, Clause};
 use dd_values::Items;
 
 /// A clause that follows from clauses before it, by unit propagation along the hints.
 ///
 /// The clauses of a list of C clauses have the numbers 1 to C, and the steps the numbers after them. The hints and the
-/// deleted clauses are given by number; what a step deletes, no later step may hint at.
+/// deleted clauses are given by number; no later step may hint at a deleted clause.
 ///
-/// That clauses which follow by unit propagation make a proof is due to Goldberg and Novikov (2003). The hints are those
-/// of the format LRAT of Cruz-Filipe, Heule, Hunt, Kaufmann and Schneider-Kamp (2017).
+/// Proofs by clauses that follow by unit propagation are due to Goldberg and Novikov (2003). The hints are those of the
+/// format LRAT of Cruz-Filipe, Heule, Hunt, Kaufmann and Schneider-Kamp (2017).
 #[derive(Debug, Drop)]
 pub struct Step {
     /// The clause that follows.
     pub clause: Clause,
-    /// The numbers, from 1, of the clauses that become unit one after the other when the clause's literals are false; at the
-    /// last of them no literal is left.
+    /// The numbers, from 1, of the clauses that become unit one after the other when the clause's literals are false. All
+    /// literals of the last one are then false.
     pub hints: Items<u64>,
     /// The numbers of the clauses that no later step may hint at.
     pub deletes: Items<u64>,
 }
 
-/// What there is to say of a clause list: an assignment that satisfies it, or steps that refute it.
+/// The outcome for a clause list: an assignment that satisfies it, or steps that refute it.
 #[derive(Debug, Drop)]
 pub enum Outcome {
     /// An assignment that satisfies each clause.

@@ -2,8 +2,7 @@
 use Rattle.std.proofs.Common.{ℕ, List}
 use Rattle.dd_lattice.specs.Place.{Place}
 use Rattle.dd_formula.specs.LocalRule.{LocalRule}
-use Rattle.dd_discharge.specs.declared.bound.Bound.{Bound}
-use Rattle.dd_discharge.specs.Certificates.{IsBoundCertificate, BestOf}
+use Rattle.dd_discharge.specs.{declared.bound.Bound.Bound, Certificates.IsBoundCertificate, Certificates.BestOf}
 use Rattle.dd_discharge.proofs.Duality.{holds_at_most}
 
 pub best_bound : (x : LocalRule) (ws : List ℕ) (radius margin : ℕ) (vs : List Place) (b : Bound) → IsBoundCertificate x ws radius margin vs b

@@ -1,28 +1,25 @@
--- The end of a run, over the least common denominator, is a certificate: each statement of the fractions, that the columns meet
--- the rows, that the duals sum to enough in each column and that both have one value, becomes one of whole numbers.
+-- The end of a run, over the least common denominator, is a certificate. The columns meet the rows, the duals sum to
+-- enough in each column, and both have the same value. Each of these statements about fractions becomes one about
+-- whole numbers.
 use Rattle.std.proofs.Common.{◌≡◌, ℕ, zero, suc, ◌+◌, ◌*◌, ◌/◌, ◌%◌, ◌<◌, ◌≤◌, List, [], ◌∷◌, ◌++◌, length, get_or, map, drop, slice_index, max, refl, sym, ap, subst, ◌∙◌, arith}
+use Rattle.std.proofs.lemmas.{Int.ints, Nat.Gcd.mod-eq-zero_of_dvd}
+use Rattle.std.proofs.{lemmas.List.get_or-map, lemmas.List.length-map, lemmas.List.get_or-append-add, Math.ListN.get_or-append}
+use Rattle.std.proofs.{lemmas.Grind.common_steps, Math.Dec.eqb-zero-suc}
 use Rattle.std.specs.Int.RustNames.{unsigned_abs}
 use Prim.Native.Nat.{◌∣◌}
 use lib.IntN.{ℤ, pos, negsuc, ◌+ℤ◌, ◌*ℤ◌}
 use lib.Signed.{◌≤ℤ◌}
-use Rattle.std.proofs.lemmas.Int.{ints}
-use Rattle.std.proofs.lemmas.Nat.Gcd.{mod-eq-zero_of_dvd}
-use Rattle.std.proofs.lemmas.List.{get_or-map, length-map, get_or-append-add}
-use Rattle.std.proofs.Math.ListN.{get_or-append}
-use Rattle.std.proofs.Math.ListN as numbered
-use Rattle.std.proofs.lemmas.Grind.{common_steps}
-use Rattle.std.proofs.Math.Dec.{eqb-zero-suc}
-use Rattle.dd_fraction.specs.Exact.{Exact, den_of, whole_of, times, IsLowest}
-use Rattle.dd_fraction.specs.Order.{IsAtMost, IsNonneg}
+use Rattle.dd_fraction.specs.{Exact.Exact, Exact.den_of, Exact.whole_of, Exact.times, Exact.IsLowest, Order.IsAtMost, Order.IsNonneg}
 use Rattle.dd_simplex.specs.Programs.{LinearProgram, fraction_at, coefficient, bound_at, unit, zero_of, one_of, fraction_sum, dual_objective, IsBest}
 use Rattle.dd_rows.specs.declared.rows.Row.{Row}
 use Rattle.dd_discharge.specs.declared.bound.Bound.{Bound}
 use Rattle.dd_discharge.specs.Amounts.{total_below, row_in, coefficient_in, column_value, MeetRows, column_sum, AreDualsOver, held_over, IsCertifiedBound}
-use Rattle.dd_discharge.specs.Amounts as amounts
 use Rattle.dd_discharge.specs.Denominators.{common_denominator, numerator_over, IsPrintedAs}
 use Rattle.dd_discharge.specs.Bounds.{row_of_fractions}
 use Rattle.dd_discharge.proofs.Multiples.{each_divides, joined_above}
 use Rattle.dd_discharge.proofs.Over.{IsOver, over_times, times_over, over_whole, over_total, over_at_most, over_same, over_numerator}
+use Rattle.std.proofs.Math.ListN as numbered
+use Rattle.dd_discharge.specs.Amounts as amounts
 
 abbrev in_fractions : List Row → ℕ → LinearProgram
 in_fractions rows n = record { columns = n; rows = map row_of_fractions rows }
@@ -38,13 +35,13 @@ coefficient_is rows n k j =
 bound_is : (rows : List Row) (n k : ℕ) → bound_at (in_fractions rows n) k ≡ whole_of (pos (row_in rows k).bound)
 bound_is rows n k = ap (λ (r : _). r.bound) (numbered.get_or-map row_of_fractions rows k no_row)
 
--- the whole numbers that stand for the columns, and for the duals
+-- the whole numbers for the columns and for the duals
 nonneg_at : (c : ℕ) (xs : List Exact) (j : ℕ) → j < length xs → den_of (fraction_at xs j) ∣ c → IsNonneg (fraction_at xs j)
     → IsOver c (pos (slice_index (map (numerator_over c) xs) j)) (fraction_at xs j)
 nonneg_at c xs j p d s =
     subst (λ (n : ℕ). IsOver c (pos n) (fraction_at xs j)) (sym (get_or-map (numerator_over c) xs j zero_of 0 p)) (over_numerator c (fraction_at xs j) s d)
 
--- what a fraction of at least 0 in lowest terms is over c
+-- a fraction of at least 0 in lowest terms, over the denominator c
 held_at : (z : ℤ) (n c d q : ℕ) → pos n ≡ z → q ≡ d → unsigned_abs z * (c / d) ≡ n * (c / q)
 held_at z n c d q e f = let s : unsigned_abs z ≡ n = ap unsigned_abs (sym e) in rw (s, f) refl
 

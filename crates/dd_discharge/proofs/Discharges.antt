@@ -3,18 +3,14 @@ use Rattle.std.proofs.Common.{◌≡◌, ℕ, List, length, sym, subst, inl, inr
 use Rattle.dd_lattice.specs.Place.{Place}
 use Rattle.dd_formula.specs.LocalRule.{LocalRule}
 use Rattle.dd_simplex.specs.Programs.{LinearProgram}
-use Rattle.dd_rows.specs.declared.rows.Row.{Row}
-use Rattle.dd_rows.specs.declared.rows.Rows.{Rows}
-use Rattle.dd_discharge.specs.declared.bound.Bound.{Bound}
-use Rattle.dd_rows.specs.declared.fault.RowsFault.TheVariants as rows
-use Rattle.dd_discharge.specs.declared.fault.DischargeFault.{DischargeFault}
-use Rattle.dd_discharge.specs.declared.fault.DischargeFault.TheVariants as fault
-use Rattle.dd_rows.specs.Programs.{IsProgramOf, column_count}
-use Rattle.dd_discharge.specs.Amounts.{IsCertifiedBound}
+use Rattle.dd_rows.specs.{declared.rows.Row.Row, declared.rows.Rows.Rows, Programs.IsProgramOf, Programs.column_count}
+use Rattle.dd_discharge.specs.{declared.bound.Bound.Bound, declared.fault.DischargeFault.DischargeFault, Amounts.IsCertifiedBound}
 use Rattle.dd_discharge.specs.Bounds.{in_fractions, EndsWith, GivesNone, linear_program, IsBoundOf, IsDischargeFault}
 use Rattle.dd_discharge.specs.Certificates.{IsBoundCertificate}
+use Rattle.dd_rows.specs.declared.fault.RowsFault.TheVariants as rows
+use Rattle.dd_discharge.specs.declared.fault.DischargeFault.TheVariants as fault
 
--- the rows and the number of columns that the run is given
+-- the rows and the number of columns given to the run
 pub record IsGiven (vs : List Place) (p : Rows) (n : ℕ) (rs : List Row) : Type 0 where
   pub columns : n ≡ column_count (length vs) (length p.patterns)
   pub rows_are : rs ≡ p.rows

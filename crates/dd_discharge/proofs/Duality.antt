@@ -1,16 +1,16 @@
--- Weak duality: for duals of at least 0, the sum of dual times row bounds what any amounts can hold. Each column's sum of duals
--- times coefficients is at least what column 0 counts, so q times what is held is at most the double sum of dual, coefficient
--- and column; row by row that is at most the duals' worth.
+-- Weak duality: for duals of at least 0, the sum of dual times row bounds what any amounts can hold. Each column's
+-- sum of duals times coefficients is at least what column 0 counts. So q times what is held is at most the double sum
+-- of dual, coefficient and column. Row by row that is at most the duals' worth.
 use Rattle.std.proofs.Common.{◌≡◌, ℕ, zero, suc, ◌+◌, ◌*◌, ◌/◌, ◌%◌, ◌<◌, ◌≤◌, List, [], ◌∷◌, length, refl, sym, ap, subst, ◌∙◌, slice_index, arith}
-use Rattle.std.proofs.lemmas.Nat.{div-add-mod'}
+use Rattle.std.proofs.lemmas.{Nat.div-add-mod', Int.ints}
 use lib.IntN.{ℤ, pos, negsuc, ◌+ℤ◌, ◌*ℤ◌, *ℤ_comm}
 use lib.Signed.{◌≤ℤ◌}
-use Rattle.std.proofs.lemmas.Int.{ints}
 use Rattle.dd_rows.specs.declared.rows.Row.{Row}
 use Rattle.dd_discharge.specs.declared.bound.Bound.{Bound}
 use Rattle.dd_discharge.specs.Amounts.{total_below, row_in, coefficient_in, column_value, MeetRows, column_sum, dual_worth, AreDualsOver, held_over, IsCertifiedBound, HoldAtMost}
-use Rattle.dd_discharge.specs.lemmas.WholeNumbers.{times_times, scaled_le, scaled_right, cancel_le}
+use Rattle.dd_discharge.specs.lemmas.WholeNumbers.{scaled_le, scaled_right, cancel_le}
 use Rattle.dd_discharge.specs.lemmas.Totals.{total_same, total_at_most, total_scaled, total_swap, total_first}
+use Rattle.dd_fraction.specs.lemmas.Ring.{times_times}
 
 value_nonneg : (held : ℤ) (amounts : List ℕ) (j : ℕ) → pos 0 ≤ℤ held → pos 0 ≤ℤ column_value held amounts j
 value_nonneg held amounts zero h = h
@@ -69,7 +69,7 @@ weak_duality rows columns common other duals held amounts h d m =
     let high = by_rows rows columns other duals held amounts m in
     omega (arith, ints, low, same, high)
 
--- what a fraction in lowest terms is over the common denominator
+-- a fraction in lowest terms, over the common denominator
 whole_part : (q n : ℕ) → n % q ≡ 0 → n ≡ n / q * q
 whole_part q n e = let parts = div-add-mod' n q in omega (arith, parts, e)
 

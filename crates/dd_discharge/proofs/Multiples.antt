@@ -1,33 +1,16 @@
 -- Least common denominators: each denominator divides them.
-use Rattle.std.proofs.Common.{◌≡◌, ℕ, zero, suc, ◌+◌, ◌*◌, ◌/◌, ◌%◌, ◌<◌, ◌≤◌, List, [], ◌∷◌, length, get_or, drop, drop-cons, max, Bool, true, false, cond, Some, None, refl, sym, ap, subst, ◌∙◌, arith}
+use Rattle.std.proofs.Common.{◌≡◌, ℕ, zero, suc, ◌+◌, ◌*◌, ◌/◌, ◌<◌, ◌≤◌, List, [], ◌∷◌, length, get_or, drop, drop-cons, max, Bool, true, false, cond, Some, None, refl, sym, ap, subst, ◌∙◌, arith}
+use Rattle.std.proofs.{lemmas.Bool.lt-leb, lemmas.Bool.le-leb, lemmas.Bool.leb-true, lemmas.Bool.leb-false, Math.Dec.leb}
+use Rattle.std.proofs.{Math.Seq.drop-length, lemmas.Nat.Gcd.dvd_trans, lemmas.Nat.Gcd.dvd_refl, lemmas.Nat.Gcd.le_of_dvd}
+use Rattle.std.proofs.Math.Nat.{div-mul_cancel, dvd-mul_left, div-one}
 use Prim.Native.Nat.{◌∣◌}
 use lib.IntN.{ℤ, pos}
-use Rattle.std.specs.Int.{IsGcd}
-use Rattle.std.specs.Int.RustNames.{unsigned_abs}
-use Rattle.std.proofs.lemmas.Bool.{lt-leb, le-leb, leb-true, leb-false}
-use Rattle.std.proofs.Math.Dec.{leb}
-use Rattle.std.proofs.Math.Seq.{drop-length}
-use Rattle.std.specs.List.{fold}
-use Rattle.std.proofs.lemmas.Nat.{mod_below}
-use Rattle.std.proofs.lemmas.Nat.Gcd.{IsGcd-from_zero, IsGcd-from_mod, dvd_trans, dvd_refl, le_of_dvd}
-use Rattle.std.proofs.Math.Nat.{div-mul_cancel, dvd-mul_left, div-one}
+use Rattle.std.specs.{Int.RustNames.unsigned_abs, List.fold}
 use Rattle.dd_values.specs.Bounds.{most_number}
-use Rattle.dd_fraction.specs.Divisor.{common_within, greatest_common}
-use Rattle.dd_fraction.specs.Exact.{Exact, den_of, lowest, IsLowest}
-use Rattle.dd_fraction.specs.Checked.{IsFraction, does_pair_fit, fraction_of}
+use Rattle.dd_fraction.specs.{Divisor.greatest_common, Exact.Exact, Exact.den_of, Exact.lowest, Exact.IsLowest}
+use Rattle.dd_fraction.specs.{Checked.IsFraction, Checked.does_pair_fit, Checked.fraction_of, lemmas.Divisors.greatest_common-is}
+use Rattle.dd_fraction.specs.lemmas.OrderLaws.{den_above}
 use Rattle.dd_discharge.specs.Denominators.{least_common, joined_denominator, common_denominator, printed}
-
--- ---- Euclid's rule gives the greatest common divisor
-is_common : (n a b : ℕ) → b < n → IsGcd a b (common_within n a b)
-is_common zero a b p = absurd (omega (arith, p))
-is_common (suc n) a zero p = IsGcd-from_zero a 0 refl
-is_common (suc n) a (suc b) p =
-    let r : a % suc b < suc b = mod_below a (suc b) (omega arith) in
-    IsGcd-from_mod a (suc b) _ (is_common n (suc b) (a % suc b) (omega (arith, p, r)))
-
-pub greatest_common-is : (a b : ℕ) → IsGcd a b (greatest_common a b)
-unfolding greatest_common
-greatest_common-is a b = is_common (suc b) a b (omega arith)
 
 -- ---- a least common multiple is a multiple of both
 crossed : (p q g : ℕ) {a b : ℕ} → p * g ≡ a → q * g ≡ b → q * a ≡ p * b
@@ -54,10 +37,6 @@ least_common_above a b p q =
     let g = greatest_common a b in
     positive_product (a / g) b (front_of (a / g) g (div-mul_cancel g (greatest_common-is a b).0) p) q
 
--- ---- over a list
-pub den_above : (a : Exact) → 0 < den_of a
-den_above a = omega arith
-
 pub joined_above : (n : ℕ) (xs : List Exact) → 0 < n → 0 < fold joined_denominator n xs
 joined_above n [] p = p
 joined_above n (x ∷ xs) p = joined_above (joined_denominator n x) xs (least_common_above n (den_of x) p (den_above x))
@@ -66,7 +45,7 @@ joined_divides : (n : ℕ) (xs : List Exact) → n ∣ fold joined_denominator n
 joined_divides n [] = dvd_refl n
 joined_divides n (x ∷ xs) = dvd_trans n (least_common_front n (den_of x)) (joined_divides (joined_denominator n x) xs)
 
--- more denominators, and no smaller common one
+-- more denominators have no smaller common denominator
 pub joined_grows : (n : ℕ) (xs : List Exact) → 0 < n → n ≤ fold joined_denominator n xs
 joined_grows n xs p = le_of_dvd (joined_above n xs p) (joined_divides n xs)
 
@@ -75,7 +54,7 @@ each_divides n [] k d p = absurd (omega (arith, p))
 each_divides n (x ∷ xs) zero d p = dvd_trans (den_of x) (least_common_back n (den_of x)) (joined_divides (joined_denominator n x) xs)
 each_divides n (x ∷ xs) (suc k) d p = each_divides (joined_denominator n x) xs k d (omega (arith, p))
 
--- over the denominator d in lowest terms, n leaves what the two have not in common
+-- the numerator of n over d in lowest terms, times d, is their least common multiple
 pub ratio_num : (n d : ℕ) (r : Exact) → 0 < d → r ≡ lowest (pos n) d → unsigned_abs r.num * d ≡ least_common n (max 1 d)
 unfolding lowest
 ratio_num n d r p e =
@@ -127,7 +106,7 @@ joined_more n c i xs x p e h = h ∙ (ap (fold joined_denominator c) (drop-cons 
     next : (i : ℕ) → suc i ≡ i + 1
     next i = omega arith
 
--- where a denominator on the way can't be printed, the last one can't
+-- if a denominator on the way can't be printed, the last one can't be either
 pub joined_past : (n c i : ℕ) (xs : List Exact) (x : Exact) → 0 < c → i < length xs → x ≡ get_or xs i x → fold joined_denominator n xs ≡ fold joined_denominator c (drop i xs)
     → None ≡ printed (joined_denominator c x) → None ≡ printed (fold joined_denominator n xs)
 joined_past n c i xs x z p e h none =

@@ -1,22 +1,14 @@
--- A rule has one program along some vectors, and then it isn't large: the cells of its domain, grown, make one list.
+-- A rule has at most one program along some vectors, and if it has one, it isn't large: the cells of its grown domain make one list.
 use Rattle.std.proofs.Common.{◌≡◌, ℕ, ◌+◌, ◌<◌, ◌≤◌, List, length, take, inl, inr, refl, sym, ap, subst, ◌∙◌, rules, arith}
-use Rattle.std.specs.Cmp.{IsTotalOrder}
-use Rattle.std.specs.Cmp.Rules.{comparing}
-use Rattle.std.proofs.lemmas.Bool.{cases_lt}
-use Rattle.std.proofs.lemmas.List.{take_all}
-use Rattle.dd_lattice.specs.Place.{Place}
-use Rattle.dd_lattice.specs.Order.{place_cmp}
-use Rattle.dd_lattice.specs.Regions.{IsRegionOf}
-use Rattle.dd_lattice.specs.declared.position.Cell.{Cell}
+use Rattle.std.proofs.lemmas.{Bool.cases_lt, List.take_all}
+use Rattle.std.specs.Cmp.{IsTotalOrder, Rules.comparing}
+use Rattle.dd_lattice.specs.{Place.Place, Order.place_cmp, Regions.IsRegionOf, declared.position.Cell.Cell}
 use Rattle.dd_formula.specs.LocalRule.{LocalRule}
 use Rattle.dd_topology.specs.lemmas.OrderLaws.{same_sorted}
-use Rattle.dd_rows.specs.declared.rows.Row.{Row}
-use Rattle.dd_rows.specs.declared.rows.Rows.{Rows}
-use Rattle.dd_boxes.specs.Cells.{cells_on}
-use Rattle.dd_rows.specs.Domains.{IsGround}
-use Rattle.dd_rows.specs.Fillings.{fillings, most_fillings, HasManyFillings, HasFewFillings}
-use Rattle.dd_rows.specs.Patterns.{patterns}
+use Rattle.dd_rows.specs.{declared.rows.Row.Row, declared.rows.Rows.Rows, Domains.IsGround}
+use Rattle.dd_rows.specs.{Fillings.fillings, Fillings.most_fillings, Fillings.HasManyFillings, Fillings.HasFewFillings, Patterns.patterns}
 use Rattle.dd_rows.specs.Programs.{rows, column_count, IsProgramOf, IsLargeProgram}
+use Rattle.dd_boxes.specs.Cells.{cells_on}
 
 place_total : IsTotalOrder place_cmp
 place_total = search (comparing, rules)

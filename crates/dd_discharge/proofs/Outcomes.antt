@@ -1,28 +1,22 @@
--- A discharge comes to one thing: a rule has one program along some vectors, and a run stops in one way.
+-- A discharge has one outcome: a rule has one program along some vectors, and a run stops in one way.
 use Rattle.std.proofs.Common.{◌≡◌, ℕ, ◌+◌, ◌<◌, ◌≤◌, List, ◌++◌, length, get_or, map, drop, inl, inr, sym, ap, subst, ◌∙◌, arith}
-use Rattle.std.specs.Prelude.{◌⊎◌, unsigned_abs}
-use Rattle.std.specs.List.{All, Any}
 use Rattle.std.proofs.lemmas.List.{ext_get_or}
+use Rattle.std.specs.{Prelude.◌⊎◌, Prelude.unsigned_abs, List.All, List.Any}
 use Rattle.dd_lattice.specs.Place.{Place}
 use Rattle.dd_fraction.specs.Exact.{Exact}
 use Rattle.dd_formula.specs.LocalRule.{LocalRule}
-use Rattle.dd_simplex.specs.Programs.{LinearProgram, zero_of}
-use Rattle.dd_simplex.specs.Dictionaries.{Dictionary}
+use Rattle.dd_simplex.specs.{Programs.LinearProgram, Programs.zero_of, Dictionaries.Dictionary}
 use Rattle.dd_simplex.specs.Runs.{Ends, Overflows, AtLimit, RunOverflows, RunPivots, column_of, dual_of}
-use Rattle.dd_simplex.specs.Laws.{DoesEnd}
+use Rattle.dd_simplex.specs.{Laws.DoesEnd, lemmas.Dictionaries.ends_same}
 use Rattle.dd_discharge.specs.declared.bound.Bound.{Bound}
-use Rattle.dd_rows.specs.declared.rows.Rows.{Rows}
 use Rattle.dd_discharge.specs.Denominators.{common_denominator, numerator_over, ArePrinted, HasUnprinted}
-use Rattle.dd_rows.specs.Programs.{IsProgramOf, IsLargeProgram}
-use Rattle.dd_discharge.specs.Bounds as bounds
 use Rattle.dd_discharge.specs.Bounds.{EndsWith, EndsUnprinted, linear_program, IsBoundOf, StopsAtPivots}
 use Rattle.dd_discharge.specs.Outcomes.{HasOneOutcome}
+use Rattle.dd_rows.specs.{declared.rows.Rows.Rows, Programs.IsProgramOf, Programs.IsLargeProgram}
 use Rattle.dd_discharge.proofs.OneProgram.{one_program, never_large}
+use Rattle.dd_discharge.specs.Bounds as bounds
 
 -- ---- one end
-
-ends_same : (d e : Dictionary) → Ends d ≡ Ends e → d ≡ e
-ends_same d e h = cc
 
 record IsSameEnd (p : LinearProgram) (k : ℕ) (a b : DoesEnd p k) : Type 0 where
   value : a.value ≡ b.value

@@ -1,35 +1,21 @@
 -- Fractions as whole numbers over a common denominator: sums, products and comparisons of the fractions are those of the whole
 -- numbers.
-use Rattle.std.proofs.Common.{◌≡◌, ℕ, zero, suc, ◌+◌, ◌*◌, ◌/◌, ◌%◌, ◌<◌, ◌≤◌, max, refl, sym, ap, ◌∙◌, arith}
+use Rattle.std.proofs.Common.{◌≡◌, ℕ, zero, suc, ◌+◌, ◌*◌, ◌/◌, ◌%◌, ◌<◌, ◌≤◌, max, sym, ap, ◌∙◌, arith}
+use Rattle.std.proofs.{lemmas.Int.ints, Math.Nat.div-mul_cancel}
 use Prim.Native.Nat.{◌∣◌}
-use lib.IntN.{ℤ, pos, negsuc, neg_ℤ, ◌+ℤ◌, ◌*ℤ◌, *ℤ_comm}
+use lib.IntN.{ℤ, pos, negsuc, ◌+ℤ◌, ◌*ℤ◌, *ℤ_comm}
 use lib.Signed.{◌≤ℤ◌}
 use Rattle.std.specs.Int.RustNames.{unsigned_abs, int_div}
-use Rattle.std.proofs.lemmas.Int.{ints}
-use borrow.Author.Differences.{same_in}
-use Rattle.std.proofs.Math.Nat.{div-mul_cancel}
-use Rattle.dd_fraction.specs.Divisor.{greatest_common}
-use Rattle.dd_fraction.specs.Exact.{Exact, den_of, lowest, plus, times, whole_of}
-use Rattle.dd_fraction.specs.Order.{IsAtMost, IsNonneg}
+use Rattle.dd_fraction.specs.{Divisor.greatest_common, Exact.Exact, Exact.den_of, Exact.lowest, Exact.plus, Exact.times, Exact.whole_of}
+use Rattle.dd_fraction.specs.{Order.IsAtMost, Order.IsNonneg, lemmas.Lowest.whole_over, lemmas.Ring.cancel, lemmas.Ring.times_times}
+use Rattle.dd_fraction.specs.lemmas.{Divisors.greatest_common-is, OrderLaws.den_above}
 use Rattle.dd_simplex.specs.Programs.{fraction_sum}
-use Rattle.dd_discharge.specs.Amounts.{total_below}
-use Rattle.dd_discharge.specs.Denominators.{numerator_over}
-use Rattle.dd_discharge.specs.lemmas.WholeNumbers.{times_times, sum_times, scaled_right, cancel_le, cancel}
-use Rattle.dd_discharge.proofs.Multiples.{greatest_common-is, den_above}
+use Rattle.dd_discharge.specs.{Amounts.total_below, Denominators.numerator_over}
+use Rattle.dd_discharge.specs.lemmas.WholeNumbers.{sum_times, scaled_right, cancel_le}
 
 -- n over c is the fraction
 pub record IsOver (c : ℕ) (n : ℤ) (a : Exact) : Type 0 where
   pub cross : a.num *ℤ pos c ≡ n *ℤ pos (den_of a)
-
--- ---- lowest terms
-neg_times : (q g : ℕ) → neg_ℤ (pos q) *ℤ pos g ≡ neg_ℤ (pos (q * g))
-neg_times zero g = same_in _ _ (omega (arith, ints))
-neg_times (suc q) g = refl
-
--- a whole number that a number divides, over that number
-whole_over : (n : ℤ) (g : ℕ) → g ∣ unsigned_abs n → int_div n (pos g) *ℤ pos g ≡ n
-whole_over (pos n) g h = ap pos (div-mul_cancel g h)
-whole_over (negsuc n) g h = neg_times (suc n / g) g ∙ ap (λ (x : ℕ). neg_ℤ (pos x)) (div-mul_cancel g h)
 
 swapped : (x : ℤ) (g e : ℕ) → x *ℤ pos (e * g) ≡ (x *ℤ pos g) *ℤ pos e
 swapped x g e = ap (λ (n : ℕ). x *ℤ pos n) (two e g) ∙ times_times x (pos g) (pos e)

@@ -1,29 +1,20 @@
--- What is printed of a run's end.
+-- What is printed at the end of a run.
 use Rattle.std.proofs.Common.{◌≡◌, ℕ, zero, suc, ◌+◌, ◌*◌, ◌/◌, ◌-◌, ◌<◌, ◌≤◌, List, [], ◌∷◌, ◌++◌, length, get_or, map, take, drop, max, Some, None, inl, inr, refl, sym, ap, subst, ◌∙◌, arith}
+use Rattle.std.proofs.lemmas.{Int.ints, List.take_more, List.map-append, List.get_or-append-add}
+use Rattle.std.proofs.lemmas.List.{Elements.All-append, Elements.All-nil, Sums.fold-append}
+use Rattle.std.proofs.{lemmas.Nat.Gcd.le_of_dvd, lemmas.Grind.common_steps, Math.ListN.get_or-append, Math.Seq.take-length}
+use Rattle.std.proofs.Math.Nat.{div-mul_cancel}
 use Prim.Native.Nat.{◌∣◌}
 use lib.IntN.{ℤ, pos, negsuc}
 use lib.Signed.{◌≤ℤ◌}
-use Rattle.std.specs.Int.RustNames.{unsigned_abs}
-use Rattle.std.specs.List.{fold, All, Any}
-use Rattle.std.proofs.lemmas.Int.{ints}
-use Rattle.std.proofs.lemmas.List.{take_more, map-append, get_or-append-add}
-use Rattle.std.proofs.lemmas.List.Elements.{All-append, All-nil}
-use Rattle.std.proofs.lemmas.List.Sums.{fold-append}
-use Rattle.std.proofs.lemmas.Nat.Gcd.{le_of_dvd}
-use Rattle.std.proofs.lemmas.Grind.{common_steps}
-use Rattle.std.proofs.Math.ListN.{get_or-append}
-use Rattle.std.proofs.Math.Seq.{take-length}
-use Rattle.std.proofs.Math.Nat.{div-mul_cancel}
+use Rattle.std.specs.{Int.RustNames.unsigned_abs, List.fold, List.All, List.Any}
 use Rattle.dd_values.specs.Bounds.{most_number}
-use Rattle.dd_fraction.specs.Exact.{Exact, den_of}
-use Rattle.dd_fraction.specs.Order.{IsNonneg}
-use Rattle.dd_fraction.specs.Checked.{IsFraction}
+use Rattle.dd_fraction.specs.{Exact.Exact, Exact.den_of, Order.IsNonneg, Checked.IsFraction}
 use Rattle.dd_simplex.specs.Programs.{fraction_at, zero_of}
-use Rattle.dd_discharge.specs.declared.fault.DischargeFault.{DischargeFault}
-use Rattle.dd_discharge.specs.declared.fault.DischargeFault.TheVariants as fault
-use Rattle.dd_discharge.specs.Faults.{OnOverflow}
+use Rattle.dd_discharge.specs.{declared.fault.DischargeFault.DischargeFault, Faults.OnOverflow}
 use Rattle.dd_discharge.specs.Denominators.{joined_denominator, common_denominator, numerator_over, printed, ArePrinted, HasUnprinted, IsPrintedAs}
 use Rattle.dd_discharge.proofs.Multiples.{printed_is, printed_none, unprinted, joined_above, joined_grows, each_divides}
+use Rattle.dd_discharge.specs.declared.fault.DischargeFault.TheVariants as fault
 
 -- ---- the least common denominator of two lists
 pub common_past : (xs ys : List Exact) → None ≡ printed (common_denominator xs) → None ≡ printed (common_denominator (xs ++ ys))

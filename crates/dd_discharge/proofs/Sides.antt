@@ -1,11 +1,10 @@
 -- What the tests of a claimed bound compare.
 use Rattle.std.proofs.Common.{◌≡◌, ℕ, ◌+◌, ◌*◌, ◌<◌, ◌≤◌, ◌^◌, List, length, slice_index_or, true, false, ap, ◌∙◌, arith}
+use Rattle.std.proofs.{Math.Nat.mul-le-mul_right, lemmas.Int.ints}
 use lib.IntN.{ℤ, pos, ◌*ℤ◌}
 use lib.Signed.{lt_z, ◌<ℤ◌, ◌≤ℤ◌}
 use mir.Val.{SFits}
 use Rattle.std.specs.Int.{w128}
-use Rattle.std.proofs.Math.Nat.{mul-le-mul_right}
-use Rattle.std.proofs.lemmas.Int.{ints}
 use Rattle.dd_rows.specs.declared.rows.Row.{Row}
 use Rattle.dd_discharge.specs.Amounts.{total_below, row_in, coefficient_in, column_value}
 

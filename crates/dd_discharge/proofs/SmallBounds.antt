@@ -1,13 +1,10 @@
--- Each number of a bound that is printed can be printed.
+-- Each number of a printed bound can be printed.
 use Rattle.std.proofs.Common.{◌≡◌, ℕ, ◌<◌, ◌≤◌, List, ◌++◌, length, map, drop, Some, sym, ap, subst, ◌∙◌, arith}
-use Rattle.std.specs.Int.RustNames.{unsigned_abs}
-use Rattle.std.specs.List.{All}
-use Rattle.std.proofs.lemmas.List.{length-map}
-use Rattle.std.proofs.lemmas.List.Elements.{All-map}
+use Rattle.std.proofs.lemmas.List.{length-map, Elements.All-map}
+use Rattle.std.specs.{Int.RustNames.unsigned_abs, List.All}
 use Rattle.dd_values.specs.Bounds.{most_number}
 use Rattle.dd_fraction.specs.Exact.{Exact}
-use Rattle.dd_discharge.specs.Denominators.{common_denominator, numerator_over, printed}
-use Rattle.dd_discharge.specs.Printed.{IsSmallBound}
+use Rattle.dd_discharge.specs.{Denominators.common_denominator, Denominators.numerator_over, Denominators.printed, Printed.IsSmallBound}
 use Rattle.dd_discharge.proofs.Multiples.{printed_is}
 use Rattle.dd_discharge.proofs.Printing.{Given, common_some, small_numerator, small_denominator}
 

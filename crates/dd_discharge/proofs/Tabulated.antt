@@ -1,15 +1,13 @@
 -- The linear program of rows, row by row.
 use Rattle.std.proofs.Common.{◌≡◌, ℕ, zero, suc, ◌+◌, ◌-◌, ◌<◌, ◌≤◌, List, [], ◌∷◌, ◌++◌, length, get_or, map, take, replicate, refl, sym, ap, subst, ◌∙◌, arith}
-use lib.IntN.{ℤ, pos}
 use Rattle.std.proofs.lemmas.List.{get_or_default}
+use lib.IntN.{ℤ, pos}
 use Rattle.dd_fraction.specs.Exact.{Exact, whole_of}
 use Rattle.dd_simplex.specs.Programs.{LinearProgram, cap_row, zero_of}
-use Rattle.dd_simplex.specs.Programs as simplex
 use Rattle.dd_rows.specs.declared.rows.Row.{Row}
-use Rattle.dd_discharge.specs.Amounts.{row_in}
-use Rattle.dd_discharge.specs.Bounds.{row_of_fractions, in_fractions}
-use Rattle.dd_discharge.specs.listing.Tables.{AreRowsOf}
+use Rattle.dd_discharge.specs.{Amounts.row_in, Bounds.row_of_fractions, Bounds.in_fractions, listing.Tables.AreRowsOf}
 use Rattle.dd_discharge.proofs.Printing.{map_more}
+use Rattle.dd_simplex.specs.Programs as simplex
 
 pub row_is : (rows : List Row) (i : ℕ) (r : Row) → i < length rows → r ≡ get_or rows i r → r ≡ row_in rows i
 row_is rows i r p e = e ∙ get_or_default rows i r (record { coefficients = []; bound = 0 }) p

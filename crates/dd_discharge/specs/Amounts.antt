@@ -1,5 +1,5 @@
--- What is held and the amounts as whole numbers over a common denominator, and duals that show that no others hold more. Column 0
--- is what is held, each other column an amount.
+-- What is held and the amounts, as whole numbers over a common denominator, and duals that show that no other amounts
+-- hold more. Column 0 is what is held. Each other column is an amount.
 use Rattle.std.specs.Prelude.{ℕ, zero, suc, ◌+◌, ◌*◌, ◌/◌, ◌%◌, ◌<◌, ◌≤◌, ◌≡◌, ℤ, pos, ◌+ℤ◌, ◌*ℤ◌, ◌≤ℤ◌, List, [], length, slice_index, slice_index_or}
 use Rattle.dd_fraction.specs.Exact.{IsLowest}
 use Rattle.dd_rows.specs.declared.rows.Row.{Row}
@@ -13,7 +13,7 @@ total_below f (suc n) = total_below f n +ℤ f n
 abbrev pub row_in : List Row → ℕ → Row
 row_in rows k = slice_index_or rows k (record { coefficients = []; bound = 0 })
 
--- that of the column j in the row k
+-- the coefficient of the column j in the row k
 abbrev pub coefficient_in : List Row → ℕ → ℕ → ℤ
 coefficient_in rows k j = slice_index_or (row_in rows k).coefficients j (pos 0)
 

@@ -1,18 +1,15 @@
--- What a discharge gives: the end of the run of its program, over the least common denominator.
+-- The result of a discharge: the end of the run of its program, over the least common denominator.
 use Rattle.std.specs.Prelude.{ℕ, ◌⊎◌, pos, List, ◌++◌, map, length}
 use Rattle.dd_lattice.specs.Place.{Place}
 use Rattle.dd_fraction.specs.Exact.{Exact, whole_of}
-use Rattle.dd_simplex.specs.Programs.{LinearProgram}
-use Rattle.dd_simplex.specs.Programs as simplex
-use Rattle.dd_simplex.specs.Runs.{RunEnds, RunOverflows, RunPivots}
+use Rattle.dd_simplex.specs.{Programs.LinearProgram, Runs.RunEnds, Runs.RunOverflows, Runs.RunPivots}
 use Rattle.dd_formula.specs.LocalRule.{LocalRule}
-use Rattle.dd_rows.specs.declared.rows.Row.{Row}
-use Rattle.dd_rows.specs.declared.rows.Rows.{Rows}
-use Rattle.dd_discharge.specs.declared.bound.Bound.{Bound}
-use Rattle.dd_discharge.specs.declared.fault.DischargeFault.{DischargeFault}
-use Rattle.dd_discharge.specs.declared.fault.DischargeFault.TheVariants as fault
-use Rattle.dd_discharge.specs.Denominators.{HasUnprinted, IsPrintedAs}
+use Rattle.dd_rows.specs.declared.rows.{Row.Row, Rows.Rows}
 use Rattle.dd_rows.specs.Programs.{IsProgramOf, IsLargeProgram, column_count}
+use Rattle.dd_discharge.specs.declared.{bound.Bound.Bound, fault.DischargeFault.DischargeFault}
+use Rattle.dd_discharge.specs.Denominators.{HasUnprinted, IsPrintedAs}
+use Rattle.dd_simplex.specs.Programs as simplex
+use Rattle.dd_discharge.specs.declared.fault.DischargeFault.TheVariants as fault
 
 abbrev pub row_of_fractions : Row → simplex.ProgramRow
 row_of_fractions r = record { coefficients = map whole_of r.coefficients; bound = whole_of (pos r.bound) }
@@ -20,7 +17,7 @@ row_of_fractions r = record { coefficients = map whole_of r.coefficients; bound 
 abbrev pub in_fractions : ℕ → List Row → LinearProgram
 in_fractions columns rows = record { columns = columns; rows = map row_of_fractions rows }
 
--- the run ends, and the bound is what it ends with
+-- the run ends, and its end gives the bound
 pub record EndsWith (p : LinearProgram) (pivots : ℕ) (b : Bound) : Type 0 where
   pub value : Exact
   pub columns : List Exact
@@ -52,7 +49,7 @@ pub record IsBoundOf (x : LocalRule) (ws : List ℕ) (radius margin : ℕ) (vs :
   pub is_program : IsProgramOf x ws radius margin vs program
   pub ends : EndsWith (linear_program (length vs) program) pivots b
 
--- the run passes 127 bits, or its end what can be printed
+-- a number of the run passes 127 bits, or one of its end is too large to be printed
 pub record Overflows (x : LocalRule) (ws : List ℕ) (radius margin : ℕ) (vs : List Place) (pivots : ℕ) : Type 0 where
   pub program : Rows
   pub is_program : IsProgramOf x ws radius margin vs program

@@ -2,14 +2,13 @@
 use Rattle.std.specs.Prelude.{ℕ, ◌*◌, ◌/◌, ◌<◌, ◌≤◌, ◌≡◌, ◌⊎◌, pos, List, ◌++◌, map, drop, unsigned_abs, Option, Some, None, cond, nat_le}
 use Rattle.std.specs.List.{fold, All, Any}
 use Rattle.dd_values.specs.Bounds.{most_number}
-use Rattle.dd_fraction.specs.Divisor.{greatest_common}
-use Rattle.dd_fraction.specs.Exact.{Exact, den_of}
+use Rattle.dd_fraction.specs.{Divisor.greatest_common, Exact.Exact, Exact.den_of}
 use Rattle.dd_discharge.specs.declared.bound.Bound.{Bound}
 
 abbrev pub least_common : ℕ → ℕ → ℕ
 least_common a b = a / greatest_common a b * b
 
--- with the denominator of one fraction more
+-- the least common multiple with the denominator of one more fraction
 abbrev pub joined_denominator : ℕ → Exact → ℕ
 joined_denominator n a = least_common n (den_of a)
 

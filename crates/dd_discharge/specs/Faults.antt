@@ -6,7 +6,7 @@ use Rattle.dd_discharge.specs.declared.fault.DischargeFault.TheVariants as fault
 use Rattle.dd_simplex.specs.declared.fault.SimplexFault.{SimplexFault}
 use Rattle.dd_simplex.specs.declared.fault.SimplexFault.TheVariants as simplex
 
--- it overflows only for the reason
+-- if the fault is an overflow, the reason holds
 abbrev pub OnOverflow : DischargeFault → Type 0 → Type 0
 OnOverflow fault.Large reason = ⊥
 OnOverflow fault.Overflow reason = reason
@@ -19,7 +19,7 @@ fault_of_run simplex.Overflow = fault.Overflow
 fault_of_run simplex.Pivots = fault.Pivots
 fault_of_run simplex.Memory = fault.Memory
 
--- and that of a program
+-- the fault of a program
 abbrev pub fault_of_rows : RowsFault → DischargeFault
 fault_of_rows rows.Large = fault.Large
 fault_of_rows rows.Memory = fault.Memory

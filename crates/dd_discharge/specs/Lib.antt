@@ -2,17 +2,17 @@
 pub mod Denominators
 -- bounds whose numbers can all be printed
 pub mod Printed
--- what a discharge gives: the end of the run of its program, over the least common denominator
+-- the result of a discharge: the end of the run of its program, over the least common denominator
 pub mod Bounds
--- that a discharge comes to one thing: its bound, or one reason why it has none
+-- that a discharge has one outcome: its bound, or one reason why it has none
 pub mod Outcomes
 -- what certifies a bound, and that none is better
 pub mod Amounts
 -- what certifies a bound of a rule along some vectors, and what it shows
 pub mod Certificates
--- why there is none
+-- why a rule has no bound
 pub mod Faults
 -- the shape of a program's rows
 pub mod listing
--- lemmas on what stands above, with their proofs, for whoever cites them
+-- lemmas on these definitions, with their proofs, for other crates to cite
 pub mod lemmas

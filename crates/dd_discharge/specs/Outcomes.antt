@@ -1,10 +1,9 @@
--- A discharge comes to one thing: to its bound, or to one reason why it has none.
+-- A discharge has one outcome: its bound, or one reason why it has none.
 use Rattle.std.specs.Prelude.{ℕ, ◌≡◌, ◌⊎◌, List}
 use Rattle.dd_lattice.specs.Place.{Place}
 use Rattle.dd_formula.specs.LocalRule.{LocalRule}
-use Rattle.dd_discharge.specs.declared.bound.Bound.{Bound}
+use Rattle.dd_discharge.specs.{declared.bound.Bound.Bound, Bounds.IsBoundOf, Bounds.Overflows, Bounds.StopsAtPivots}
 use Rattle.dd_rows.specs.Programs.{IsLargeProgram}
-use Rattle.dd_discharge.specs.Bounds.{IsBoundOf, Overflows, StopsAtPivots}
 
 pub record HasOneOutcome (x : LocalRule) (ws : List ℕ) (radius margin : ℕ) (vs : List Place) (pivots : ℕ) : Type 0 where
   pub one_bound : (b c : Bound) → IsBoundOf x ws radius margin vs pivots b → IsBoundOf x ws radius margin vs pivots c → b ≡ c

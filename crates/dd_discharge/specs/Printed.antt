@@ -1,10 +1,9 @@
 -- Bounds whose numbers can all be printed.
-use Rattle.std.specs.Prelude.{ℕ, ◌≤◌, List, length}
-use Rattle.std.specs.List.{All}
+use Rattle.std.specs.{Prelude.ℕ, Prelude.◌≤◌, Prelude.List, Prelude.length, List.All}
 use Rattle.dd_values.specs.Bounds.{most_number}
 use Rattle.dd_discharge.specs.declared.bound.Bound.{Bound}
 
--- each number can be printed, the denominators are from 1 on, and there is a dual
+-- each number can be printed, the denominators are at least 1, and there is a dual
 pub record IsSmallBound (b : Bound) : Type 0 where
   pub numerator : b.numerator ≤ most_number
   pub denominator : (1 ≤ b.denominator) × (b.denominator ≤ most_number)

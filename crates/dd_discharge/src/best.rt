@@ -39,7 +39,7 @@ fn linear_program(alloc: Global, rows: &[Row], columns: u32) -> Result<Program, 
     Ok(program)
 }
 
-/// The bound with which the run of the rows ends. It is certified for them.
+/// The bound that the run of the rows ends with. It is certified for them.
 pub(crate) fn best_of(
     alloc: Global,
     rows: &[Row],
@@ -54,7 +54,7 @@ pub(crate) fn best_of(
 {
     let program = linear_program(alloc, rows, columns)?;
     let solved = maximise(alloc, &program, pivots)?;
-    // Read for what its type keeps.
+    // This read brings in what the type guarantees.
     let _denominator = solved.value.den();
     bound_of(
         alloc,

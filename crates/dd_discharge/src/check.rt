@@ -1,5 +1,5 @@
-//! The check of a bound that is claimed: sums of whole numbers, with no fraction and no copy. With coefficients from -1 to 1 and
-//! at most 2,048 rows and 256 columns, no sum passes 2^92.
+//! The check of a claimed bound: sums of whole numbers, with no fraction and no copy. With coefficients from -1 to 1
+//! and at most 2,048 rows and 256 columns, no sum passes 2^92.
 ghost use Rattle.std.specs.Prelude.{◌≡◌, ℕ, ◌+◌, ◌*◌, ◌<◌, ◌≤◌, ◌^◌, pos, ◌-ℤ◌, ◌*ℤ◌, ◌≤ℤ◌, length, slice_index_or, unsigned_abs, true, false};
 ghost use Rattle.std.specs.List.{All};
 ghost use Rattle.dd_values.specs.Bounds.{most_number};
@@ -22,7 +22,7 @@ fn term(coefficient: i64, number: u128) -> i128
     coefficient as i128 * number as i128
 }
 
-/// What a column stands for: what is held, or an amount.
+/// The value of a column: what is held, or an amount.
 fn value_of(held: u128, amounts: &[u64], column: usize) -> u128
     requires held { held ≤ 2 ^ 80 }
     requires column { column < 1 + length amounts.now }
@@ -125,7 +125,7 @@ fn is_in_lowest_terms(numerator: u64, denominator: u64) -> bool
     }
 }
 
-/// Whether the bound that is claimed is certified for the rows.
+/// Whether the claimed bound is certified for the rows.
 pub(crate) fn is_certified(rows: &[Row], columns: usize, claimed: &ClaimedBound) -> bool
     requires rows { AreRowsOf columns rows.now }
     requires numerator { claimed.now.numerator ≤ most_number }

@@ -12,9 +12,9 @@ use dd_lattice::Position;
 use dd_rows::{RowsFault, program_of};
 use std::alloc::{AllocError, Global};
 
-/// Whether the bound is certified for the rule along the vectors: its program is within its limits, the bound is in lowest terms
-/// over a divisor of the common denominator, the amounts hold it, and the duals, which are worth it, show that no amounts hold
-/// more.
+/// Whether the bound is certified for the rule along the vectors. That is: its program is within its limits, the
+/// bound is in lowest terms over a divisor of the common denominator, the amounts hold it, and the duals are worth
+/// it, so no amounts hold more.
 pub fn check_bound(
     alloc: Global,
     rule: &Rule,
@@ -35,7 +35,7 @@ pub fn check_bound(
     ensures no { IfOk result (λ accepted. accepted ≡ false → IsBoundCertificate rule.now weights.now radius margin vectors.now
         (bound_claimed claimed.now.numerator claimed.now.denominator claimed.now.common claimed.now.amounts.now claimed.now.duals.now) → ⊥) }
 {
-    // Read for what its type keeps.
+    // This read brings in what the type guarantees.
     let _nodes = rule.nodes();
     let program = match program_of(alloc, rule, weights, radius, margin, vectors) {
         Ok(program) => program,

@@ -1,7 +1,7 @@
-//! A bound that is claimed.
+//! A claimed bound.
 
-/// A bound that is claimed: a fraction, and over a common denominator the amounts, one for each column of the program after the
-/// first, and the duals, one for each of its rows.
+/// A claimed bound: a fraction, and over a common denominator the amounts and the duals. There is an amount for each
+/// column of the program after the first, and a dual for each of its rows.
 #[derive(Clone, Copy, Debug)]
 pub struct ClaimedBound<'a> {
     pub numerator: u64,

@@ -26,12 +26,12 @@ fn printed(number: u128) -> Option<u64>
     }
 }
 
-/// The least common multiple of a denominator and the fraction's, if it can be printed.
+/// The least common multiple of a denominator and that of the fraction, if it can be printed.
 fn joined(common: u64, fraction: &Fraction) -> Option<u64>
     requires { 0 < common }
     ensures { result ≡ printed (joined_denominator common fraction.now) }
 {
-    // Over the fraction's denominator, in lowest terms, the numerator is what the two have not in common.
+    // In lowest terms, the numerator of this ratio times the fraction's denominator is the least common multiple.
     let ratio = Fraction::new(common as i128, fraction.den())?;
     let multiple = ratio
         .num()
@@ -90,7 +90,7 @@ fn numerators(
     Ok(numbers)
 }
 
-/// What a run gives, over the least common denominator of its columns and its duals.
+/// The result of a run, over the least common denominator of its columns and its duals.
 pub(crate) fn bound_of(
     alloc: Global,
     value: &Fraction,

@@ -14,14 +14,14 @@ use dd_lattice::Position;
 use dd_rows::program_of;
 use std::alloc::Global;
 
-/// The most that each position can hold at least, once each has given along each vector an amount that its pattern determines:
-/// the value of the rule's program, with the amounts, and with the duals that show that no amounts hold more. The run is the
-/// pivot run of `dd_simplex` with at most `pivots` pivots.
+/// The most that each position can hold at least, after each has sent along each vector an amount that its pattern
+/// determines. It is the value of the rule's program, with the amounts, and with the duals that show that no amounts
+/// hold more. The run is the pivot run of `dd_simplex` with at most `pivots` pivots.
 ///
 /// # Errors
-/// `Large` where the program passes a limit on its size; else `Overflow` where a number of the run passes 2^127 - 1, or one of
-/// its end over the least common denominator 2^40; else `Pivots` where the run is not at its end after that many pivots; or
-/// `Memory`.
+/// `Large` if the program passes a limit on its size; else `Overflow` if a number of the run passes 2^127 - 1, or one
+/// of its end, over the least common denominator, passes 2^40; else `Pivots` if the run is not at its end after that
+/// many pivots; or `Memory`.
 pub fn discharge(
     alloc: Global,
     rule: &Rule,
@@ -40,7 +40,7 @@ pub fn discharge(
     ensures small { IfOk result IsSmallBound }
     ensures err { IfErr result (IsDischargeFault rule.now weights.now radius margin vectors.now pivots) }
 {
-    // Read for what its type keeps.
+    // This read brings in what the type guarantees.
     let _nodes = rule.nodes();
     let program = program_of(alloc, rule, weights, radius, margin, vectors)?;
     let columns = 1 + vectors.len() * program.patterns.len();

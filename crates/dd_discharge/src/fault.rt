@@ -18,7 +18,7 @@ pub enum DischargeFault {
     /// The run needs more pivots than its limit.
     #[error("the run of the discharge passes its limit of pivots")]
     Pivots,
-    /// Memory was wanting.
+    /// Memory ran out.
     #[error("out of memory")]
     Memory,
 }

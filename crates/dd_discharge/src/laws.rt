@@ -6,7 +6,7 @@ ghost use Rattle.dd_discharge.specs.declared.bound.Bound.{Bound as AnyBound};
 ghost use Rattle.dd_discharge.specs.Outcomes.{HasOneOutcome};
 ghost use Rattle.dd_discharge.specs.Certificates.{IsBoundCertificate, BestOf};
 
-/// Does nothing; its contract is the law of certificates: a bound that is certified is the best, since no amounts over any
+/// Does nothing; its contract is the law of certificates: a certified bound is the best, since no amounts over any
 /// common denominator that meet the rows hold more.
 #[tactic(auto, using(crate::proofs::BestBounds::best_bound))]
 pub fn best_bound()
@@ -14,7 +14,7 @@ pub fn best_bound()
         IsBoundCertificate x weights radius margin vectors bound → BestOf x weights radius margin vectors bound.numerator bound.denominator }
 {}
 
-/// Does nothing; its contract is the law that a discharge comes to one thing: to one bound, or to one reason why there is none.
+/// Does nothing; its contract is the law that a discharge has one outcome: one bound, or one reason why there is none.
 #[tactic(auto, using(crate::proofs::Outcomes::one_outcome))]
 pub fn one_outcome()
     ensures { (x : LocalRule) (weights : List ℕ) (radius margin : ℕ) (vectors : List Place) (pivots : ℕ) → HasOneOutcome x weights radius margin vectors pivots }

@@ -1,4 +1,4 @@
-//! Discharging bounds: the best bound of a rule's program along some vectors, what certifies it, and the check of a claimed one.
+//! Bounds by discharging: the best bound of a rule's program along some vectors, what certifies it, and the check of a claimed one.
 #![tactic(auto)]
 
 mod best;

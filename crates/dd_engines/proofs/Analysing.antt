@@ -1,24 +1,21 @@
--- The walk back from a conflict. Take as false some of the literals that the entries so far made false, all those of marked
--- variables among them: then the hints so far lead to the conflict. In the end no entry is left, and nothing is taken as
--- false.
+-- The walk back from a conflict. Take as false some of the literals that the entries so far made false, with all
+-- those of marked variables among them. Then the hints so far lead to the conflict. In the end no entry is left, and
+-- no literal is taken as false.
 use Rattle.std.proofs.Common.{◌≡◌, ℕ, zero, suc, ◌+◌, ◌<◌, Bool, true, false, cond, not, ◌&&◌, List, [], ◌∷◌, ◌++◌, Some, refl, ap, sym, ◌∙◌, subst, inl, inr, ◌⊎◌, length, get_or, take, reverse, arith, add-one}
-use Rattle.std.specs.List.{list_all, filter, All}
 use Rattle.std.proofs.lemmas.Bool.{cases_Bool, or_cases, or_left, or_right, false≢true}
-use Rattle.std.proofs.lemmas.List.{take_more, take_all, reverse-append}
-use Rattle.std.proofs.lemmas.List.Folds.{list_any-append}
-use Rattle.dd_clause.specs.declared.clause.Literal.{Literal}
-use Rattle.dd_clause.specs.Clauses.{negation, IsLiteralInRange, IsClauseInRange}
+use Rattle.std.proofs.lemmas.List.{take_more, take_all, reverse-append, Folds.list_any-append}
+use Rattle.std.specs.List.{list_all, filter, All}
+use Rattle.dd_clause.specs.{declared.clause.Literal.Literal, Clauses.negation, Clauses.IsLiteralInRange, Clauses.IsClauseInRange}
 use Rattle.dd_derivation.specs.declared.propagation.Finding.{Finding}
 use Rattle.dd_derivation.specs.declared.propagation.Finding.TheVariants.{Falsified, Forced, Open}
 use Rattle.dd_derivation.specs.Derivations.{same_literal, is_among, finding_of, finding, clause_of, is_conflict}
-use Rattle.dd_derivation.specs.lemmas.Soundness.{same_literal-eq}
-use Rattle.dd_derivation.specs.lemmas.Findings.{In, in_here}
+use Rattle.dd_derivation.specs.lemmas.{Soundness.same_literal-eq, Findings.In, Findings.in_here}
 use Rattle.dd_engines.specs.declared.analysis.Entry.{Entry}
 use Rattle.dd_engines.specs.propagation.Following.{alive, falses, IsForced, IsTrail, IsFalsified, Ends}
 use Rattle.dd_engines.specs.propagation.Analysis.{marks, Grows, AreMarked}
 use Rattle.dd_engines.proofs.Following.{falses-append, forced_has}
 
--- Two tests that agree on a clause leave the same of it. Where the second calls fewer literals false, it finds the same.
+-- Two tests that agree on a clause leave the same literals of it. If the second calls fewer literals false, it finds the same.
 filter_same : (p q : Literal → Bool) (c : List Literal) → ((x : Literal) → In c x → p x ≡ q x) → filter (λ x. not (p x)) c ≡ filter (λ x. not (q x)) c
 filter_same p q [] same = refl
 filter_same p q (y ∷ c) same = rw (same y (in_here c y), filter_same p q c (λ x i. same x (or_right _ _ i))) refl
@@ -44,7 +41,7 @@ pub record Start (entries : List Entry) (i : ℕ) (marked : List Bool) (start : 
 pub record Leads (cs : List (List Literal)) (entries : List Entry) (i : ℕ) (marked : List Bool) (hints : List ℕ) : Type 0 where
   pub leads : (start : List Literal) → Start entries i marked start → is_conflict (alive cs) start hints ≡ true
 
--- a clause whose variables are marked says the same from each such start
+-- the finding for a clause whose variables are marked is the same from each such start
 from_start : (entries : List Entry) (i : ℕ) (marked : List Bool) (start c : List Literal) (f : Finding) → Start entries i marked start → AreMarked marked c → (f ≡ Open → ⊥) → finding (is_among (falses (take i entries))) c ≡ f → finding (is_among start) c ≡ f
 from_start entries i marked start c f s m shut is = same_finding (is_among (falses (take i entries))) (is_among start) c f fewer same shut is
   where
@@ -57,7 +54,7 @@ from_start entries i marked start c f s m shut is = same_finding (is_among (fals
       | inr n ↦ n ∙ sym (fewer x n)
     ]
 
--- the clause of a number, from 1
+-- the clause with a number, from 1
 clause_at : (cs : List (List Literal)) (k : ℕ) → k < length cs → clause_of (alive cs) (k + 1) ≡ Some (get_or cs k [])
 clause_at cs k lt = rw (add-one k) (at cs k lt)
   where
@@ -78,7 +75,7 @@ leads_conflict cs entries marked k conflict m = record {
 falses-more : (entries : List Entry) (j : ℕ) (d : Entry) (x : Literal) → j < length entries → is_among (falses (take (j + 1) entries)) x ≡ is_among (falses (take j entries) ++ negation (get_or entries j d).literal ∷ []) x
 falses-more entries j d x lt = ap (λ (es : List Entry). is_among (falses es) x) (take_more entries j d lt) ∙ ap (λ (xs : List Literal). is_among xs x) (falses-append (take j entries) (get_or entries j d ∷ []))
 
--- what is false after an entry was so before, or is its literal's negation
+-- a literal that is false after an entry was false before it, or is the negation of its literal
 later_from : (entries : List Entry) (j : ℕ) (d : Entry) (x : Literal) → j < length entries → In (falses (take j entries)) x → In (falses (take (j + 1) entries)) x
 later_from entries j d x lt i = falses-more entries j d x lt ∙ list_any-append (same_literal x) (falses (take j entries)) (negation (get_or entries j d).literal ∷ []) ∙ or_left _ _ i
 
@@ -97,7 +94,7 @@ later_cases entries j d x lt i =
       ]
     ]
 
--- the entry at a place isn't needed
+-- the case of an entry that is not needed
 pub leads_past : (cs : List (List Literal)) (entries : List Entry) (j : ℕ) (d : Entry) (marked : List Bool) (hints : List ℕ) → j < length entries → marks marked (get_or entries j d).literal ≡ false → Leads cs entries (j + 1) marked hints → Leads cs entries j marked hints
 leads_past cs entries j d marked hints lt unmarked w = record {
   leads = λ start s. w.leads start (record {
@@ -109,7 +106,7 @@ leads_past cs entries j d marked hints lt unmarked w = record {
   });
 }
 
--- the entry at a place is needed, and so are the values of the other variables of its clause
+-- the case of an entry that is needed, and so are the values of the other variables of its clause
 pub leads_forced : (cs : List (List Literal)) (entries : List Entry) (j : ℕ) (d : Entry) (marked more : List Bool) (hints : List ℕ) → j < length entries → IsTrail cs entries → Grows marked more → AreMarked more (get_or cs (get_or entries j d).number []) → Leads cs entries (j + 1) marked hints
     → Leads cs entries j more (((get_or entries j d).number + 1) ∷ hints)
 leads_forced cs entries j d marked more hints lt trail grows m w = record {
@@ -130,7 +127,7 @@ leads_forced cs entries j d marked more hints lt trail grows m w = record {
       }));
 }
 
--- no entry is left
+-- the end, when no entry is left
 pub leads_all : (cs : List (List Literal)) (entries : List Entry) (marked : List Bool) (hints : List ℕ) → Leads cs entries 0 marked hints → Ends cs hints
 leads_all cs entries marked hints w = w.leads [] (record { within = λ x i. absurd (false≢true i); marked_in = λ x i m. absurd (false≢true i) })
 

@@ -1,21 +1,14 @@
--- Chains of links: one more link changes no chain that was there.
+-- Chains of links. One more link changes none of the earlier chains.
 use Rattle.std.proofs.Common.{◌≡◌, ◌≢◌, ◌⊎◌, ℕ, zero, suc, ◌+◌, ◌<◌, ◌≤◌, false, get_or, take, drop, List, [], ◌∷◌, ◌++◌, Option, Some, None, refl, sym, ◌∙◌, ap, inl, inr, length, arith, add-one}
-use Rattle.std.proofs.Math.ListN.{set}
-use Rattle.std.specs.List.{slice_get, All}
-use Rattle.std.specs.Option.{option_map_or}
-use Rattle.std.proofs.lemmas.List.{get_or-set_same, get_or-set_other, length-append}
-use Rattle.std.proofs.lemmas.List.Elements.{All-set, All-weaker}
-use Rattle.std.proofs.Math.ListN.{replicate}
-use Rattle.std.proofs.lemmas.Option.{slice_get-get_or}
-use Rattle.std.proofs.lemmas.Bool.{cases_Bool, false≢true}
-use Rattle.std.proofs.lemmas.Grind.{common_steps}
-use Rattle.std.proofs.lemmas.List.{drop_more}
+use Rattle.std.proofs.Math.ListN.{set, replicate}
+use Rattle.std.proofs.lemmas.List.{get_or-set_same, get_or-set_other, length-append, drop_more}
+use Rattle.std.proofs.lemmas.{List.Elements.All-set, List.Elements.All-weaker, Option.slice_get-get_or}
+use Rattle.std.proofs.lemmas.{Bool.cases_Bool, Bool.false≢true, Grind.common_steps}
 use Rattle.std.proofs.lemmas.List.Sums.{count_by_more_yes, count_by_more_no}
+use Rattle.std.specs.{List.slice_get, List.All, Option.option_map_or}
 use Rattle.dd_clause.specs.declared.clause.Literal.{Literal}
-use Rattle.dd_derivation.specs.Derivations.{same_literal}
-use Rattle.dd_derivation.specs.lemmas.Soundness.{same_literal-eq}
-use Rattle.dd_engines.specs.declared.chains.Link.{Link}
-use Rattle.dd_engines.specs.declared.chains.Chains.{Chains}
+use Rattle.dd_derivation.specs.{Derivations.same_literal, lemmas.Soundness.same_literal-eq}
+use Rattle.dd_engines.specs.declared.chains.{Link.Link, Chains.Chains}
 use Rattle.dd_engines.specs.walking.Truths.{times_in, place_of, standing}
 use Rattle.dd_engines.specs.walking.Chains.{along, chain_of, AreLinked, HasChain, numbers_of, AreChained}
 
@@ -69,7 +62,7 @@ along_push links e linked (suc f) (suc at) few =
     go None back rest = refl
     go (Some link) back rest = ap (λ (ks : List ℕ). link.number ∷ ks) (rest link.next (back link refl))
 
--- chains that were there stay
+-- earlier chains stay as they were
 pub chain_stays : (links : List Link) (e : Link) (at : ℕ) → AreLinked links → at ≤ length links → chain_of (links ++ e ∷ []) at ≡ chain_of links at
 chain_stays links e at linked few = along_push links e linked at at few
 
@@ -133,7 +126,7 @@ added_more m x d xs i number first before after lt is a b so_far here other = el
       other (place_differs m x a b f) ∙ so_far ∙ ap (λ (n : ℕ). replicate n number ++ first) (sym times)
 ]
 
--- the clause of a number is put before those behind it
+-- a clause is put before those with greater numbers
 pub chained_more : (old new : Chains) (clauses : List (List Literal)) (i : ℕ) (clause : List Literal) → i < length clauses → clause ≡ get_or clauses i clause → length new.firsts.items ≡ length old.firsts.items
     → AreChained old (i + 1) (drop (i + 1) clauses) → ((l : Literal) → HasChain old l → numbers_of new l ≡ replicate (times_in l clause) i ++ numbers_of old l) → AreChained new i (drop i clauses)
 chained_more old new clauses i clause lt is long chained added l has =

@@ -54,7 +54,7 @@ cleared counts marks block listed none =
       marked = λ k h. get_or-set_other marks block (k / 32) false false (λ e. omega (arith, e, past k h)) ∙ listed.marked k h;
     }
 
--- the first of the first block that has one is the first of all
+-- the first count of 0 in the first block that has one is the first of all
 pub first_of_all : (counts : List ℕ) (marks : List Bool) (block place : ℕ) → IsListed counts marks block → IsFirstIn counts block place → IsFirstNone counts place
 first_of_all counts marks block place listed first = record {
   within = first.within;

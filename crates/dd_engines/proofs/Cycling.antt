@@ -1,16 +1,11 @@
 -- How many values differ from those of a landmark, and when the walk is back there.
 use Rattle.std.proofs.Common.{◌≡◌, ℕ, zero, suc, ◌+◌, ◌-◌, ◌%◌, ◌<◌, ◌≤◌, Bool, true, false, not, List, [], ◌∷◌, Option, Some, None, refl, sym, ◌∙◌, ap, subst, inl, inr, length, get_or, take, arith}
-use Rattle.std.proofs.Math.ListN.{set}
-use Rattle.std.specs.Bool.{beq}
-use Rattle.std.specs.Option.{IfSome}
-use Rattle.std.proofs.Math.Nat.{mod-add-mod}
+use Rattle.std.proofs.Math.{ListN.set, Nat.mod-add-mod}
 use Rattle.std.proofs.lemmas.Nat.Gcd.{dvd_of_mod-eq-zero, mod-eq-zero_of_dvd, dvd_trans}
 use Rattle.std.proofs.lemmas.List.Elements.{All-weaker, All-more, All-nil}
-use Rattle.dd_clause.specs.declared.clause.Literal.{Literal}
-use Rattle.dd_clause.specs.Clauses.{ClauseList}
-use Rattle.dd_engines.specs.declared.cycle.Landmark.{Landmark}
-use Rattle.dd_engines.specs.Walks.{values_after, NoneBefore}
-use Rattle.dd_engines.specs.Repeats.{PickAlike}
+use Rattle.std.specs.{Bool.beq, Option.IfSome}
+use Rattle.dd_clause.specs.{declared.clause.Literal.Literal, Clauses.ClauseList}
+use Rattle.dd_engines.specs.{declared.cycle.Landmark.Landmark, Walks.values_after, Walks.NoneBefore, Repeats.PickAlike}
 use Rattle.dd_engines.specs.walking.Cycles.{differences, IsTurn, IsCounted, IsBack, IsSameOrNew}
 use Rattle.dd_engines.proofs.Repeating.{none_later}
 
@@ -64,7 +59,7 @@ turn_more clauses turn next some multiple is = (
       (λ clause h has. mod-eq-zero_of_dvd (length clause) (dvd_trans (length clause) (dvd_of_mod-eq-zero (length clause) (h has)) (dvd_of_mod-eq-zero turn multiple))) clauses is.1,
 )
 
--- the next clause is gone through too
+-- a turn of the clauses so far is one of the next clause too
 pub turn_next : (clauses : List (List Literal)) (i turn next : ℕ) (clause : List Literal) → i < length clauses → clause ≡ get_or clauses i clause → 0 < next → next % turn ≡ 0 → (0 < length clause → next % length clause ≡ 0) → IsTurn (take i clauses) turn → IsTurn (take (i + 1) clauses) next
 turn_next clauses i turn next clause lt at some multiple here is =
     let behind = turn_more (take i clauses) turn next some multiple is in
@@ -91,7 +86,7 @@ pub kept_reached : (cnf : ClauseList) (old new : Landmark) (values : List Bool) 
 kept_reached cnf old new values k (inl same) old_reached reached = ap (values_after cnf) same.1 ∙ old_reached ∙ ap (λ (v : List Bool). Some v) (sym same.0)
 kept_reached cnf old new values k (inr now) old_reached reached = ap (values_after cnf) now.1 ∙ reached ∙ ap (λ (v : List Bool). Some v) (sym now.0)
 
--- Where the walk is back in a state, it goes round, and what it found to be of no use is all there is.
+-- A walk that is back in an earlier state goes round. If no values satisfied until then, none ever do.
 pub none_ever : (cnf : ClauseList) (landmark : Landmark) (values : List Bool) (turn : Option ℕ) (k : ℕ) → IfSome turn (IsTurn cnf.clauses) → IsBack landmark turn k → IsCounted landmark values
     → values_after cnf landmark.flips ≡ Some landmark.values.items → values_after cnf k ≡ Some values → NoneBefore cnf k → (n : ℕ) → NoneBefore cnf n
 none_ever cnf landmark values None k turns back counted kept reached none = absurd back.turned

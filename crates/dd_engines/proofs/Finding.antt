@@ -1,16 +1,14 @@
 -- The first clause without a true literal, by the numbers of true literals.
 use Rattle.std.proofs.Common.{◌≡◌, ℕ, zero, suc, ◌+◌, ◌<◌, Bool, true, false, cond, not, eqb, List, [], ◌∷◌, Some, refl, sym, ◌∙◌, ap, inl, inr, length, get_or, map, arith}
-use Rattle.std.specs.List.{count_by, sum_by, list_any, slice_get}
 use Rattle.std.proofs.lemmas.Bool.{cases_Bool, ne_eqb, false≢true, not-true, not-false}
-use Rattle.std.proofs.lemmas.List.Sums.{sum_by-cons}
-use Rattle.std.proofs.lemmas.List.Elements.{All-cons, All-nil}
-use Rattle.dd_clause.specs.declared.clause.Literal.{Literal}
-use Rattle.dd_clause.specs.Clauses.{is_true_under, is_clause_true, Satisfies}
+use Rattle.std.proofs.lemmas.List.{Sums.sum_by-cons, Elements.All-cons, Elements.All-nil}
+use Rattle.std.specs.List.{count_by, sum_by, list_any, slice_get}
+use Rattle.dd_clause.specs.{declared.clause.Literal.Literal, Clauses.is_true_under, Clauses.is_clause_true, Clauses.Satisfies}
 use Rattle.dd_values.specs.Variables.{true_variables}
 use Rattle.dd_engines.specs.Walks.{is_unsatisfied, first_unsatisfied}
 use Rattle.dd_engines.specs.walking.Truths.{true_count, is_none_at, NoneIsNone}
 
--- a clause has no true literal where it has none by the count
+-- a clause has no true literal exactly if its count is 0
 none_true : (p : Literal → Bool) (xs : List Literal) → eqb (count_by p xs) 0 ≡ not (list_any p xs)
 none_true p [] = refl
 none_true p (x ∷ xs) = elim (cases_Bool (p x)) [
@@ -43,7 +41,7 @@ none_by_counts values (c ∷ cs) none =
     let here : is_unsatisfied values c ≡ false = sym (none_true (is_true_under (true_variables values)) c) ∙ none 0 in
     All-cons (λ d. is_clause_true (true_variables values) d ≡ true) c cs (not-false _ here) (none_by_counts values cs (λ k. none (suc k)))
 
--- where there is a first one, the values do not satisfy
+-- if there is such a clause, the values do not satisfy
 pub not_satisfied : (values : List Bool) (cs : List (List Literal)) (c : List Literal) → first_unsatisfied values cs ≡ Some c → Satisfies (true_variables values) cs → ⊥
 not_satisfied values [] c h all = absurd (cc)
 not_satisfied values (d ∷ cs) c h all = elim (cases_Bool (is_unsatisfied values d)) [

@@ -2,13 +2,10 @@
 -- for each time that it has its negation.
 use Rattle.std.proofs.Common.{◌≡◌, ℕ, zero, suc, ◌+◌, ◌-◌, ◌^◌, ◌<◌, ◌≤◌, Bool, true, false, cond, not, List, [], ◌∷◌, ◌++◌, refl, sym, ◌∙◌, ap, subst, inl, inr, length, get_or, map, arith, append_assoc, length-append}
 use Rattle.std.proofs.Math.ListN.{set, replicate}
-use Rattle.std.specs.Bool.{beq}
-use Rattle.std.specs.List.{All}
 use Rattle.std.proofs.lemmas.Bool.{cases_eq, ne_eqb, eq-eqb, false≢true}
-use Rattle.std.proofs.lemmas.List.{set_at, get_or-set_other}
-use Rattle.std.proofs.lemmas.Grind.{get_or-set_at}
-use Rattle.std.proofs.lemmas.List.Sums.{sum_by-cons}
+use Rattle.std.proofs.lemmas.{List.set_at, List.get_or-set_other, Grind.get_or-set_at, List.Sums.sum_by-cons}
 use Rattle.std.proofs.lemmas.List.Elements.{All-head, All-tail}
+use Rattle.std.specs.{Bool.beq, List.All}
 use Rattle.dd_clause.specs.declared.clause.Literal.{Literal}
 use Rattle.dd_clause.specs.Clauses.{negation, IsLiteralInRange, IsClauseInRange, is_true_under}
 use Rattle.dd_values.specs.Variables.{true_variables}

@@ -1,40 +1,25 @@
--- Unit propagation: what one more clause makes true follows, and where every clause is settled no hints end in a
--- conflict.
+-- Unit propagation. A literal that one more clause makes true follows. If every clause is settled, no hints end in a conflict.
 use Rattle.std.proofs.Common.{◌≡◌, ℕ, zero, suc, ◌-◌, ◌<◌, ◌≤◌, Bool, true, false, cond, not, ◌&&◌, ◌||◌, eqb, List, [], ◌∷◌, ◌++◌, Option, Some, None, refl, ap, sym, ◌∙◌, subst, inl, inr, ◌⊎◌, get_or, length, arith}
 use Rattle.std.proofs.Math.ListN.{set, replicate}
-use Rattle.std.specs.Bool.{beq}
-use Rattle.std.specs.List.{list_all, filter, All}
 use Rattle.std.proofs.lemmas.Bool.{eq-eqb, ne_eqb, le-leb, leb-true, and_from, and_parts, or_cases, cases_Bool, cases_eq, cases_lt, not-true, false≢true}
 use Rattle.std.proofs.lemmas.List.{length-set, get_or_past, get_or-set_other, get_or-replicate, length-replicate, length-append, take-append-le, get_or_append_left}
-use Rattle.std.proofs.lemmas.List.Folds.{list_any-append}
-use Rattle.std.proofs.Math.Seq.{get_or-append_seam, take-append_seam}
-use Rattle.std.proofs.lemmas.Grind.{get_or-set_at}
-use Rattle.std.proofs.lemmas.List.Sums.{sum_by-set}
-use Rattle.std.proofs.lemmas.List.Elements.{All-head, All-tail, All-same, All-filter, filter_passes, filter_agree}
-use Rattle.dd_clause.specs.declared.clause.Literal.{Literal}
-use Rattle.dd_clause.specs.Clauses.{negation, IsLiteralInRange, ClauseList}
+use Rattle.std.proofs.{lemmas.List.Folds.list_any-append, Math.Seq.get_or-append_seam, Math.Seq.take-append_seam}
+use Rattle.std.proofs.lemmas.{Grind.get_or-set_at, List.Sums.sum_by-set}
+use Rattle.std.proofs.lemmas.List.Elements.{All-head, All-tail, All-same, All-filter, filter_passes}
+use Rattle.std.specs.{Bool.beq, List.list_all, List.filter, List.All}
+use Rattle.dd_clause.specs.{declared.clause.Literal.Literal, Clauses.negation, Clauses.IsLiteralInRange, Clauses.ClauseList}
 use Rattle.dd_derivation.specs.declared.propagation.Finding.TheVariants.{Falsified, Forced, Open}
 use Rattle.dd_derivation.specs.declared.step.Step.{Step}
 use Rattle.dd_derivation.specs.Derivations.{is_empty, same_literal, is_among, is_literal_in_range, finding_of, finding, clause_of, is_conflict, is_proper, is_right}
-use Rattle.dd_engines.specs.declared.analysis.Entry.{Entry}
-use Rattle.dd_engines.specs.SingleSteps.{IsSingleStep}
+use Rattle.dd_derivation.specs.lemmas.{Findings.finding-congr, Soundness.literal-eq, Soundness.same_literal-eq}
+use Rattle.dd_engines.specs.{declared.analysis.Entry.Entry, SingleSteps.IsSingleStep}
 use Rattle.dd_engines.specs.propagation.Following.{is_other, is_false_by, unknown_count, unknowns, alive, falses, IsForced, IsTrail, Conflicts, Follows, FollowsMore, IsSettled}
-use Rattle.dd_engines.proofs.Literals.{same_literal-eq, literal-eq}
-
--- two tests that agree find the same
-finding-congr : (p q : Literal → Bool) (clause : List Literal) → ((l : Literal) → p l ≡ q l) → finding p clause ≡ finding q clause
-finding-congr p q clause e =
-    of_same (filter (λ x. not (p x)) clause) ∙ ap (finding_of q) (filter_agree (λ x. not (p x)) (λ x. not (q x)) (λ x. ap not (e x)) clause)
-  where
-    of_same : (xs : List Literal) → finding_of p xs ≡ finding_of q xs
-    of_same [] = refl
-    of_same (x ∷ xs) = rw (e (negation x)) refl
 
 forced_by : (b : Bool) (l m : Literal) → cond b (Forced l) Open ≡ Forced m → (b ≡ true) × (l ≡ m)
 forced_by true l m h = (refl, cc)
 forced_by false l m h = absurd (cc)
 
--- what a clause makes true is one of its literals, and has no value
+-- a literal that a clause makes true is one of its own, and has no value
 pub record IsFree (p : Literal → Bool) (l : Literal) : Type 0 where
   pub free : p l ≡ false
   pub other : p (negation l) ≡ false
@@ -191,7 +176,7 @@ follows_from_nothing cs n = record {
   trail = λ k d h. absurd (omega (arith, h));
 }
 
--- Where more literals are false, a settled clause was settled too, or has made one of these true.
+-- A clause settled by g is settled by f too, which calls fewer literals false; or f forces a literal that is true by g.
 filter_again : (f g : Literal → Bool) → ((l : Literal) → f l ≡ true → g l ≡ true) → (c : List Literal) → filter (λ x. not (g x)) (filter (λ x. not (f x)) c) ≡ filter (λ x. not (g x)) c
 filter_again f g below [] = refl
 filter_again f g below (x ∷ xs) = elim (cases_Bool (f x)) [
@@ -214,7 +199,7 @@ same_left g y (x ∷ rest) all =
       | inr n ↦ rw n (and_from (same_literal y x) _ p.0 (same_left g y rest p.1))
     ]
 
--- the literal that the less knowing test finds is true by the other
+-- the literal that the test with fewer false literals finds is true by the other
 record MadeTrue (f g : Literal → Bool) (xs : List Literal) : Type 0 where
   literal : Literal
   forced : finding_of f xs ≡ Forced literal

@@ -1,4 +1,4 @@
--- The clauses where a literal stands, by number.
+-- The clauses that have a literal, by number.
 use Rattle.std.proofs.Common.{ℕ, suc, ◌+◌, ◌<◌, List, [], ◌∷◌, length, arith}
 use Rattle.std.proofs.Math.ListN.{replicate}
 use Rattle.std.specs.List.{All}
@@ -6,7 +6,7 @@ use Rattle.std.proofs.lemmas.List.Elements.{All-nil, All-append, All-replicate, 
 use Rattle.dd_clause.specs.declared.clause.Literal.{Literal}
 use Rattle.dd_engines.specs.walking.Truths.{times_in, standing}
 
--- each clause where a literal stands is one of the list
+-- each clause that has a literal is one of the list
 pub standing_within : (l : Literal) (cs : List (List Literal)) (n : ℕ) → All (λ k. k < n + length cs) (standing l n cs)
 standing_within l [] n = All-nil (λ k. k < n + 0)
 standing_within l (c ∷ cs) n =

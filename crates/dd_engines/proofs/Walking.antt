@@ -1,22 +1,17 @@
 -- The steps of a walk.
 use Rattle.std.proofs.Common.{◌≡◌, ℕ, zero, suc, ◌+◌, ◌-◌, ◌*◌, ◌%◌, ◌<◌, ◌≤◌, Bool, true, false, cond, eqb, List, [], ◌∷◌, Some, refl, sym, ◌∙◌, ap, subst, inl, inr, length, get_or, map, arith, add-one}
-use Rattle.std.proofs.Math.ListN.{set}
+use Rattle.std.proofs.{Math.ListN.set, lemmas.Bool.cases_Bool, lemmas.Bool.cases_lt, lemmas.Bool.false≢true}
+use Rattle.std.proofs.lemmas.List.{length-map, length-set, Sums.sum_by-cons}
+use Rattle.std.proofs.lemmas.{List.Elements.All-weaker, List.Elements.All-same, Option.slice_get-get_or}
 use Rattle.std.specs.List.{All, count_by, slice_get}
-use Rattle.std.proofs.lemmas.Bool.{cases_Bool, cases_lt, false≢true}
-use Rattle.std.proofs.lemmas.List.{length-map, length-set}
-use Rattle.std.proofs.lemmas.List.Sums.{sum_by-cons}
-use Rattle.std.proofs.lemmas.List.Elements.{All-weaker, All-same}
-use Rattle.std.proofs.lemmas.Option.{slice_get-get_or}
 use Rattle.dd_clause.specs.declared.clause.Literal.{Literal}
 use Rattle.dd_clause.specs.Clauses.{ClauseList, negation, IsLiteralInRange, IsClauseInRange, is_true_under, Satisfies}
 use Rattle.dd_values.specs.Variables.{true_variables}
 use Rattle.dd_engines.specs.Walks.{made_true, first_unsatisfied, values_after, NoneBefore, IsFirstOnWalk}
 use Rattle.dd_engines.specs.walking.Truths.{true_count, standing, more, less, changed, IsListed, NoneIsNone, IsFirstNone}
-use Rattle.dd_engines.specs.walking.Walking.{Walks}
-use Rattle.dd_engines.specs.declared.chains.Chains.{Chains}
+use Rattle.dd_engines.specs.{walking.Walking.Walks, declared.chains.Chains.Chains}
 use Rattle.dd_engines.specs.walking.Chains.{HasChain, numbers_of, IsListingOf}
-use Rattle.dd_engines.proofs.Places.{standing_within}
-use Rattle.dd_engines.proofs.Flipping.{flipped_counts}
+use Rattle.dd_engines.proofs.{Places.standing_within, Flipping.flipped_counts}
 use Rattle.dd_engines.proofs.Finding.{counts_of, first_by_counts, none_by_counts, not_satisfied}
 
 one_at_most : (b : Bool) → cond b 1 0 ≤ 1
@@ -30,7 +25,7 @@ has_chain n chains l long range = (range.0, omega (arith, long, range.0, range.1
 pub chain_there : (n : ℕ) (clauses : List (List Literal)) (chains : Chains) (l : Literal) → IsListingOf chains n clauses → IsLiteralInRange n l → HasChain chains l
 chain_there n clauses chains l listing range = has_chain n chains l listing.long range
 
--- the clauses where a literal stands have counts
+-- the clauses that have a literal have counts
 pub within_counts : (clauses : List (List Literal)) (values : List Bool) (counts : List ℕ) (marks : List Bool) (start : ℕ) (chains : Chains) (l : Literal) → Walks clauses values counts marks start → IsListingOf chains (length values) clauses → IsLiteralInRange (length values) l → All (λ k. k < length counts) (numbers_of chains l)
 within_counts clauses values counts marks start chains l walks listing range =
     let long : length counts ≡ length clauses = ap length walks.counted ∙ length-map clauses (true_count values) in
@@ -148,7 +143,7 @@ first_at cnf values counts marks start k flips walks long none few reached befor
   none_before = before;
 }
 
--- where some clause has no true literal at the end of the walk, nothing was found
+-- if some clause has no true literal at the end of the walk, nothing was found
 pub none_at_end : (cnf : ClauseList) (values : List Bool) (counts : List ℕ) (marks : List Bool) (start : ℕ) (k place : ℕ) → Walks cnf.clauses values counts marks start → IsFirstNone counts place → values_after cnf k ≡ Some values → NoneBefore cnf k → NoneBefore cnf (k + 1)
 none_at_end cnf values counts marks start k place walks none reached before =
     let clause = get_or cnf.clauses place [] in

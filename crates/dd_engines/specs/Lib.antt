@@ -4,7 +4,7 @@ pub mod Rounds
 pub mod Proposals
 -- the counts of an engine
 pub mod Tallies
--- a roster as contracts see it
+-- how contracts see a roster
 pub mod Rosters
 -- refutations by a single step
 pub mod SingleSteps
@@ -14,7 +14,7 @@ pub mod Walks
 pub mod Repeats
 -- how many flips a walker makes
 pub mod Walkers
--- what the asking of one engine shows
+-- what asking one engine shows
 pub mod asking
 -- what follows by unit propagation from nothing
 pub mod propagation

@@ -1,11 +1,9 @@
 -- Which proposals are right.
 use Rattle.std.specs.Prelude.{◌≡◌, ℕ, ◌≤◌, Bool, List, length, Result, Ok, Err, Option, Some, None}
-use Rattle.dd_values.specs.Counts.{Rose}
+use Rattle.dd_values.specs.{Counts.Rose, Variables.true_variables}
 use Rattle.dd_clause.specs.Clauses.{ClauseList, Satisfies}
-use Rattle.dd_values.specs.Variables.{true_variables}
 use Rattle.dd_derivation.specs.declared.step.Outcome.{Outcome}
-use Rattle.dd_derivation.specs.declared.step.Outcome.TheVariants.{Found, Refuted}
-use Rattle.dd_derivation.specs.Derivations.{IsRefuting}
+use Rattle.dd_derivation.specs.{declared.step.Outcome.TheVariants.Found, declared.step.Outcome.TheVariants.Refuted, Derivations.IsRefuting}
 use Rattle.dd_engines.specs.declared.engine.Proposal.{Proposal}
 use Rattle.dd_engines.specs.declared.engine.Proposal.TheVariants.{Nothing, Found as Proposed, Refutation}
 use Rattle.dd_engines.specs.Rounds.{End, found, nothing, memory}
@@ -18,7 +16,7 @@ IsSatisfying cnf values = (length values ≡ cnf.variables) × Satisfies (true_v
 abbrev pub IsUnsatisfied : ClauseList → Type 0
 IsUnsatisfied cnf = (set : ℕ → Bool) → Satisfies set cnf.clauses → ⊥
 
--- a proposal keeps its word
+-- a proposal is right
 abbrev pub IsRight : ClauseList → Proposal → Type 0
 IsRight cnf Nothing = Unit {0}
 IsRight cnf (Proposed values) = IsSatisfying cnf values
@@ -28,13 +26,13 @@ IsRight cnf (Refutation steps) = IsRefuting cnf steps
 abbrev pub RisesOn : ℕ → ℕ → Type 0
 RisesOn old new = (old ≤ new) × Rose old new
 
--- the count of what was given, after a proposal
+-- the count of proposals, after one more proposal or none
 abbrev pub GivenAfter : ℕ → ℕ → Proposal → Type 0
 GivenAfter old new Nothing = new ≡ old
 GivenAfter old new (Proposed values) = RisesOn old new
 GivenAfter old new (Refutation steps) = RisesOn old new
 
--- an outcome keeps its word; where clauses are refuted, no assignment satisfies them
+-- an outcome is right; refuted clauses are satisfied by no assignment
 abbrev pub IsRightOutcome : ClauseList → Outcome → Type 0
 IsRightOutcome cnf (Found values) = IsSatisfying cnf values
 IsRightOutcome cnf (Refuted steps) = IsRefuting cnf steps × IsUnsatisfied cnf

@@ -1,10 +1,9 @@
 -- When a walk repeats itself.
 use Rattle.std.specs.Prelude.{◌≡◌, ℕ, ◌%◌, ◌<◌, List, length, All}
-use Rattle.dd_clause.specs.declared.clause.Literal.{Literal}
-use Rattle.dd_clause.specs.Clauses.{ClauseList}
+use Rattle.dd_clause.specs.{declared.clause.Literal.Literal, Clauses.ClauseList}
 use Rattle.dd_engines.specs.Walks.{values_after}
 
--- flips of these two numbers, and those after them, make the same literal of each clause true
+-- the flips from these two numbers on make the same literal of each clause true
 abbrev pub PickAlike : List (List Literal) → ℕ → ℕ → Type 0
 PickAlike clauses j k = All (λ clause. 0 < length clause → j % length clause ≡ k % length clause) clauses
 

@@ -1,13 +1,12 @@
--- A roster as contracts see it.
+-- How contracts see a roster.
 use Rattle.std.specs.Prelude.{ℕ, Bool, List, map}
-use Rattle.dd_engines.specs.declared.roster.Roster.{Roster}
-use Rattle.dd_engines.specs.Rounds.{Seen}
+use Rattle.dd_engines.specs.{declared.roster.Roster.Roster, Rounds.Seen}
 
--- what is seen of an engine, by its three meanings
+-- an engine as contracts see it, from its two counts and whether it is sound
 abbrev pub seen_of_engine : {E : Type 0} → (E → ℕ) → (E → ℕ) → (E → Bool) → E → Seen
 seen_of_engine asked given sound engine = record { asked = asked engine; given = given engine; sound = sound engine }
 
--- what is seen of each engine, in order
+-- each engine as contracts see it, in order
 abbrev pub seen_all : {E : Type 0} → (E → ℕ) → (E → ℕ) → (E → Bool) → List E → List Seen
 seen_all asked given sound engines = map (seen_of_engine asked given sound) engines
 

@@ -1,4 +1,4 @@
--- What asking does to a list of engines.
+-- What asking the engines does to their list.
 use Rattle.std.specs.Prelude.{◌≡◌, ◌≢◌, ◌⊎◌, ℕ, ◌+◌, ◌-◌, ◌^◌, ◌≤◌, List, [], ◌∷◌, Bool, true, false, IsSomeAnd, slice_get}
 use Rattle.dd_values.specs.Counts.{Rose}
 
@@ -25,14 +25,14 @@ pub record Later (old new : Seen) : Type 0 where
   pub asked : old.asked ≤ new.asked
   pub given : old.given ≤ new.given
 
--- How a round ends: a proposal is right, none is, or memory is wanting.
+-- How a round ends: a proposal is right, none is, or memory runs out.
 pub data End : Type 0 where
   found : End
   nothing : End
   memory : End
 
--- The engines are asked from the first on, each at most once, until one gives a right proposal. One that isn't sound may
--- be dropped, the others stay in order.
+-- The engines are asked from the first on, each at most once, until one gives a right proposal. One that isn't sound
+-- may be dropped; the others stay in order.
 pub data Round : List Seen → List Seen → End → Type 0 where
   all_asked : (end : End) → end ≢ found → Round [] [] end
   was_found : (old new : Seen) (rest : List Seen) → AskedOnce old new → Rose old.given new.given → Round (old ∷ rest) (new ∷ rest) found
@@ -52,8 +52,8 @@ pub record AskedSince (old new : Seen) : Type 0 where
   pub later : Later old new
   pub asked : Rose old.asked new.asked
 
--- The engines at a later time, as `Kept` says, and the first one that is left, if one is left, was asked since: only engines
--- that aren't sound were let go before it.
+-- The engines at a later time, as `Kept` says. The first one left, if there is one, was asked since. Only engines
+-- that aren't sound were dropped before it.
 pub data FirstAsked : List Seen → List Seen → Type 0 where
   nobody : FirstAsked [] []
   first : {old new : Seen} {before after : List Seen} → AskedSince old new → Kept before after → FirstAsked (old ∷ before) (new ∷ after)

@@ -1,9 +1,7 @@
 -- A walk through assignments: each flip makes a literal of the first clause without a true literal true.
 use Rattle.std.specs.Prelude.{◌≡◌, ℕ, zero, suc, ◌+◌, ◌-◌, ◌%◌, ◌<◌, ◌≤◌, Bool, false, not, List, Option, Some, length, replicate, slice_get, slice_set}
-use Rattle.std.specs.List.{find}
-use Rattle.std.specs.Option.{option_map, option_and_then}
-use Rattle.dd_clause.specs.declared.clause.Literal.{Literal}
-use Rattle.dd_clause.specs.Clauses.{ClauseList, is_clause_true}
+use Rattle.std.specs.{List.find, Option.option_map, Option.option_and_then}
+use Rattle.dd_clause.specs.{declared.clause.Literal.Literal, Clauses.ClauseList, Clauses.is_clause_true}
 use Rattle.dd_values.specs.Variables.{true_variables}
 use Rattle.dd_engines.specs.declared.engine.Proposal.{Proposal}
 use Rattle.dd_engines.specs.declared.engine.Proposal.TheVariants.{Nothing, Found, Refutation}
@@ -25,13 +23,13 @@ made_true values l = slice_set values (l.variable - 1) l.positive
 abbrev pub flipped : ℕ → List Bool → List Literal → Option (List Bool)
 flipped k values clause = option_map (made_true values) (slice_get clause (k % length clause))
 
--- The values after k flips, from all variables false on. There are none where an earlier flip finds no clause without a
--- true literal, or an empty one.
+-- The values after k flips, starting with all variables false. There are none if an earlier flip finds no clause
+-- without a true literal, or an empty one.
 abbrev pub values_after : ClauseList → ℕ → Option (List Bool)
 values_after cnf zero = Some (replicate cnf.variables false)
 values_after cnf (suc k) = option_and_then (λ values. option_and_then (flipped k values) (first_unsatisfied values cnf.clauses)) (values_after cnf k)
 
--- after none of the first so many flips the values satisfy the clauses
+-- no values after fewer than this many flips satisfy the clauses
 abbrev pub NoneBefore : ClauseList → ℕ → Type 0
 NoneBefore cnf count = (k : ℕ) (values : List Bool) → k < count → values_after cnf k ≡ Some values → IsSatisfying cnf values → ⊥
 
@@ -43,7 +41,7 @@ pub record IsFirstOnWalk (cnf : ClauseList) (flips : ℕ) (values : List Bool) :
   pub satisfying : IsSatisfying cnf values
   pub none_before : NoneBefore cnf count
 
--- the first assignment of the walk, after at most so many flips, that satisfies the clauses; nothing where none does
+-- the first assignment of the walk, after at most this many flips, that satisfies the clauses; nothing if none does
 abbrev pub ProposesFirst : ClauseList → ℕ → Proposal → Type 0
 ProposesFirst cnf flips Nothing = NoneBefore cnf (flips + 1)
 ProposesFirst cnf flips (Found values) = IsFirstOnWalk cnf flips values

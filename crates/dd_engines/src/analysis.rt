@@ -1,5 +1,5 @@
-//! The clauses that a conflict needs, found by walking back over the trail, as in the analysis of conflicts (Marques-Silva
-//! and Sakallah 1999): the conflict's clause needs its variables' values, and so does the clause of each value needed.
+//! The clauses that a conflict needs, found by walking back over the trail (Marques-Silva and Sakallah 1999). The
+//! conflict's clause needs the values of its variables. So does each clause that gave a needed value.
 ghost use Rattle.std.specs.Prelude.{◌≡◌, All, length, IfOk};
 ghost use Rattle.dd_clause.specs.Clauses.{IsClauseInRange};
 ghost use Rattle.dd_engines.specs.propagation.Following.{IsTrail, IsFalsified, Ends};
@@ -26,7 +26,7 @@ fn mark(marked: &mut [bool], literals: &[Literal])
     }
 }
 
-/// Walks back over the entries from the conflict, and marks what it needs.
+/// Walks back over the entries from the conflict, and marks the variables whose values it needs.
 fn walk_back(
     alloc: Global,
     clauses: &[Clause],

@@ -1,6 +1,7 @@
-//! Where each literal stands: chains in one list of links, each of which has the number of a clause, from 0, and leads to the
-//! next clause of the same literal. They are made in one pass over the clauses, from the last one on, so that a chain has its
-//! numbers in order; a clause that has the literal several times stands there several times, in a row.
+//! Where each literal stands: chains in one list of links. A link has the number of a clause, from 0, and leads to
+//! the next clause of the same literal. The chains are made in one pass over the clauses, from the last one on, so
+//! the numbers of a chain are in order. A clause that has a literal several times stands in its chain as often, in a
+//! row.
 ghost use Rattle.std.specs.Prelude.{◌≡◌, ◌≢◌, ◌++◌, ◌∷◌, slice_index_or, All, replicate, length, IfOk, OnOk};
 ghost use Rattle.dd_clause.specs.declared.clause.Literal.{Literal};
 ghost use Rattle.dd_engines.specs.walking.Truths as spec;
@@ -33,7 +34,7 @@ fn place_of(literal: Literal) -> usize
 }
 
 impl Chains {
-    /// Of no literals.
+    /// Chains of no literals.
     pub fn new(alloc: Global) -> Chains {
         Chains {
             firsts: Vec::new(alloc),
@@ -41,7 +42,7 @@ impl Chains {
         }
     }
 
-    /// Lists the clauses of a list, in place of what was listed before. The room is used again.
+    /// Lists the clauses of a list, in place of those listed before. The memory is used again.
     fn list(&mut self, cnf: &Cnf) -> Result<(), AllocError>
         ensures { OnOk result (IsListingOf self.new cnf.now.variables cnf.now.clauses) }
     {
@@ -55,7 +56,7 @@ impl Chains {
         Ok(())
     }
 
-    /// Takes in the clause of this number.
+    /// Adds the clause with this number.
     fn add(&mut self, number: usize, clause: &Clause) -> Result<(), AllocError>
         requires places { All (HasChain self.old) clause.now }
         requires linked { IsLinked self.old }
@@ -69,7 +70,7 @@ impl Chains {
         Ok(())
     }
 
-    /// Takes in one literal of a clause.
+    /// Adds one literal of a clause.
     fn add_one(&mut self, number: usize, literal: Literal) -> Result<(), AllocError>
         requires place { HasChain self.old literal }
         requires linked { IsLinked self.old }
@@ -95,7 +96,7 @@ impl Chains {
         }
     }
 
-    /// The link of this number, from 1.
+    /// The link with this number, from 1.
     pub fn link(&self, at: usize) -> Option<Link> {
         if at == 0 {
             return None;
@@ -112,7 +113,7 @@ impl Chains {
     }
 }
 
-/// The chains of a list, in the room of those that were made before, if there is one.
+/// The chains of a list, in the memory of earlier chains, if there are any.
 pub fn listed(alloc: Global, room: &mut Option<Chains>, cnf: &Cnf) -> Result<Chains, AllocError>
     ensures { IfOk result (λ chains. IsListingOf chains cnf.now.variables cnf.now.clauses) }
 {

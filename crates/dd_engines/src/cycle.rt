@@ -1,13 +1,13 @@
-//! Whether a walk goes round: it stands at values where it stood before, and its flips pick the same literals again. One
-//! earlier assignment is kept, a new one each time that the number of flips has doubled (Brent 1980), and beside it in how
-//! many variables the present one differs.
+//! Whether a walk goes round: it is back at earlier values, and its flips pick the same literals again. One earlier
+//! assignment is kept, and replaced each time that the number of flips has doubled (Brent 1980). A count says in how
+//! many variables the present one differs from it.
 ghost use Rattle.std.specs.Prelude.{◌≡◌, ◌*◌, ◌<◌, ◌%◌, true, false, not, length, replicate, slice_set, slice_index_or, IfOk, IfSome};
 ghost use Rattle.dd_engines.specs.walking.Cycles.{IsTurn, IsCounted, IsBack, IsSameOrNew};
 
 use dd_clause::Clause;
 use std::alloc::{AllocError, Global};
 
-/// An assignment that the walk came by after so many flips, and in how many variables the present one differs from it.
+/// An assignment of the walk, the number of flips before it, and in how many variables the present one differs from it.
 #[derive(Drop)]
 pub struct Landmark {
     values: Vec<bool>,
@@ -44,7 +44,7 @@ impl Landmark {
         }
     }
 
-    /// Whether the walk is back in the state that it had here. Each clause is gone through in `turn` flips, if that is known.
+    /// Whether the walk is back in the state that it had here. `turn` is a multiple of the lengths of the clauses, if one is known.
     pub fn is_back(&self, k: u32, turn: Option<u32>) -> bool
         requires { IfSome turn (λ t. 0 < t) }
         ensures { result ≡ true → IsBack self.now turn k }
@@ -69,7 +69,7 @@ impl Landmark {
     }
 }
 
-/// The first multiple of a number, up to `most`, that is one of another number too, if that isn't 0.
+/// The least multiple of `first`, up to `most`, that is a multiple of `other` too. If `other` is 0, it is `first`.
 fn common_multiple(first: u32, other: u32, most: u32) -> Option<u32>
     requires { 0 < first }
     ensures { IfSome result (λ found. (0 < found) × (found % first ≡ 0) × (0 < other → found % other ≡ 0)) }
@@ -87,8 +87,7 @@ fn common_multiple(first: u32, other: u32, most: u32) -> Option<u32>
     None
 }
 
-/// In how many flips, at most `most`, each clause is gone through, so that the flips pick the same literals again: a multiple
-/// of all lengths.
+/// After how many flips, at most `most`, the flips pick the same literals again: a multiple of all lengths of clauses.
 pub fn turn_of(clauses: &[Clause], most: u32) -> Option<u32>
     ensures { IfSome result (IsTurn clauses.now) }
 {

@@ -1,5 +1,5 @@
-//! What an engine is: it proposes something of a clause list, and whoever asks looks at it again. So an engine may be of
-//! any kind, may guess and may be wrong.
+//! What an engine is: it proposes something about a clause list, and its caller checks the proposal. So an engine may
+//! be of any kind, may guess and may be wrong.
 ghost use Rattle.std.specs.Prelude.{◌≡◌, ◌-◌, ◌^◌, ◌≤◌, ℕ, Bool, true, IfOk, OnErr};
 ghost use Rattle.dd_engines.specs.Proposals.{IsRight, GivenAfter};
 ghost use Rattle.dd_engines.specs.Rounds.{RisesByOne};
@@ -9,19 +9,18 @@ use dd_derivation::Step;
 use dd_values::Items;
 use std::alloc::{AllocError, Global};
 
-/// What an engine proposes of a clause list: nothing, an assignment that is to satisfy it, or steps that are to refute
-/// it.
+/// What an engine proposes about a clause list: nothing, an assignment that should satisfy it, or steps that should refute it.
 #[derive(Debug, Drop)]
 pub enum Proposal {
     /// It proposes nothing.
     Nothing,
-    /// An assignment that is to satisfy each clause.
+    /// An assignment that should satisfy each clause.
     Found(Assignment),
-    /// Steps that are to refute the list.
+    /// Steps that should refute the list.
     Refutation(Items<Step>),
 }
 
-/// A helper of the search, with a state of its own. It keeps a `Tally`.
+/// Proposes assignments and refutations, from a state of its own. It keeps a `Tally`.
 pub trait Engine: Drop {
     /// How often it was asked. The count stops at its greatest number.
     ghost asked: { Self → ℕ };
@@ -32,7 +31,7 @@ pub trait Engine: Drop {
     /// Whether each of its proposals is right.
     ghost sound: { Self → Bool };
 
-    /// Proposes something of the clauses, or nothing. After want of memory nothing was proposed.
+    /// Proposes something about the clauses, or nothing. If memory runs out, nothing was proposed.
     fn propose(&mut self, alloc: Global, cnf: &Cnf) -> Result<Proposal, AllocError>
         ensures asked { RisesByOne (asked self.old) (asked self.new) }
         ensures given { IfOk result (GivenAfter (given self.old) (given self.new)) }

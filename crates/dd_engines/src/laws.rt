@@ -1,4 +1,4 @@
-//! Laws of rounds and of rosters that are kept, for those who ask a roster several times, and of walks that go round.
+//! Laws of rounds and kept rosters, for callers that ask a roster several times, and of walks that go round.
 ghost use Rattle.std.specs.Prelude.{◌≡◌, ◌<◌, ◌+◌, ℕ, true, List, ◌∷◌};
 ghost use Rattle.dd_clause.specs.Clauses.{ClauseList};
 ghost use Rattle.dd_engines.specs.Rounds.{Seen, End, Round, Kept, FirstAsked, IsHeadAsked, one_was_asked};
@@ -25,20 +25,20 @@ pub fn first_asked_keeps()
     ensures { (before after : List Seen) → FirstAsked before after → Kept before after }
 {}
 
-/// Does nothing; its contract is the law that the first engine was asked: one that is sound is still the first, and was
-/// asked since. So where it was not, as in two sound engines of which nobody was asked, the first was not asked.
+/// Does nothing; its contract is the law that the first engine is not skipped. If it is sound, it is still the first,
+/// and was asked since. So two sound engines that stay as they were do not count as asked.
 pub fn first_is_not_skipped()
     ensures head { (old : Seen) (before after : List Seen) → old.sound ≡ true → FirstAsked (old ∷ before) after → IsHeadAsked old after }
     ensures pair { FirstAsked one_was_asked one_was_asked → ⊥ }
 {}
 
-/// Does nothing; its contract is the law that what was asked of late was asked since any earlier time.
+/// Does nothing; its contract is the law that an engine asked recently was asked since any earlier time.
 pub fn first_asked_earlier()
     ensures { (before between after : List Seen) → Kept before between → FirstAsked between after → FirstAsked before after }
 {}
 
-/// Does nothing; its contract is the law that a walk which comes back to a state repeats itself: from equal states on it goes
-/// through equal states, and where none of its values satisfied until then, none does later.
+/// Does nothing; its contract is the law that a walk which comes back to a state repeats itself. From equal states on
+/// it goes through equal states. If none of its values satisfied until then, none does later.
 pub fn walk_repeats()
     ensures same { (cnf : ClauseList) (j k : ℕ) → IsSameState cnf j k → (d : ℕ) → IsSameState cnf (j + d) (k + d) }
     ensures none { (cnf : ClauseList) (j k : ℕ) → j < k → IsSameState cnf j k → NoneBefore cnf k → (n : ℕ) → NoneBefore cnf n }

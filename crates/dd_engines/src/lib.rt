@@ -1,4 +1,4 @@
-//! Engines that propose what there is to say of a clause list, and a roster of them that is asked in turn.
+//! Engines that propose assignments or refutations for a clause list, and a roster that asks them in turn.
 #![tactic(auto)]
 
 mod analysis;

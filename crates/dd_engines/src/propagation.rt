@@ -1,6 +1,7 @@
-//! Unit propagation from nothing: a clause with one literal that is not false makes it true, until a clause has none.
-//! Passes over all clauses go on until one changes nothing. Counts of the literals that are left bring each new literal
-//! at once to the clauses that it leaves with one, so the second pass already finds nothing, and all is linear.
+//! Unit propagation from no assumptions: a clause with one literal that is not false makes it true, until a clause
+//! has none. Passes over all clauses go on until one changes nothing. Counts of the literals left bring each new
+//! literal at once to the clauses that it leaves with one. So the second pass already finds nothing, and all takes
+//! linear time.
 ghost use Rattle.std.specs.Prelude.{◌≡◌, [], List, All, length, IfOk, MatchOption};
 ghost use Rattle.dd_clause.specs.Clauses.{IsClauseInRange};
 ghost use Rattle.dd_clause.specs.declared.clause.Literal.{Literal};
@@ -47,7 +48,7 @@ impl Trail {
         })
     }
 
-    /// Looks at a clause, and takes in what it says.
+    /// Looks at a clause, and adds the literal that it makes true, if there is one.
     fn look(&mut self, clauses: &[Clause], number: usize) -> Result<Finding, AllocError>
         requires in_range { All (IsClauseInRange (length self.old.values.items)) clauses.now }
         requires follows { Follows clauses.now self.old.entries.items self.old.values.items }
@@ -70,9 +71,9 @@ impl Trail {
     }
 }
 
-/// What a turn of propagation came to.
+/// How far propagation came.
 enum Progress {
-    /// The clause of this number, from 0, has no literal left.
+    /// The clause with this number, from 0, has no literal left.
     Conflict(usize),
     /// More literals became true.
     More,
@@ -80,7 +81,7 @@ enum Progress {
     Settled,
 }
 
-/// How many literals of each clause are not known to be false, each counted once, and the clauses that wait with one.
+/// For each clause, the number of its literals that are not known to be false, each counted once; and the clauses that wait with one.
 #[derive(Drop)]
 struct Counts<'a> {
     chains: &'a Chains,
@@ -130,7 +131,7 @@ impl<'a> Counts<'a> {
     }
 }
 
-/// Looks at a clause, and at those that wait after it, each of which waits at most once.
+/// Looks at a clause, and at the clauses that wait after it. Each waits at most once.
 fn follow(
     counts: &mut Counts,
     trail: &mut Trail,
@@ -160,7 +161,7 @@ fn follow(
     Ok(Progress::More)
 }
 
-/// Looks at each clause.
+/// Looks at each clause, and goes on from each new literal.
 fn pass(counts: &mut Counts, trail: &mut Trail, clauses: &[Clause]) -> Result<Progress, AllocError>
     requires in_range { All (IsClauseInRange (length trail.old.values.items)) clauses.now }
     requires follows { Follows clauses.now trail.old.entries.items trail.old.values.items }
@@ -182,7 +183,7 @@ fn pass(counts: &mut Counts, trail: &mut Trail, clauses: &[Clause]) -> Result<Pr
     })
 }
 
-/// The step whose hints these are, and whose clause is empty.
+/// The step with these hints and the empty clause.
 fn step_of(alloc: Global, hints: Vec<u64>) -> Result<Step, AllocError>
     ensures clause { IfOk result (λ step. step.clause ≡ []) }
     ensures hints { IfOk result (λ step. step.hints ≡ hints.items) }
@@ -195,7 +196,7 @@ fn step_of(alloc: Global, hints: Vec<u64>) -> Result<Step, AllocError>
     })
 }
 
-/// A single step that refutes the clauses, whose chains these are, exactly where there is one.
+/// A single step that refutes the clauses, exactly if there is one. `chains` are those of the clauses.
 pub fn single_step(alloc: Global, cnf: &Cnf, chains: &Chains) -> Result<Option<Step>, AllocError>
     ensures { IfOk result (λ found. MatchOption found ((step : _) → IsSingleStep cnf.now step → ⊥) (IsSingleStep cnf.now)) }
 {

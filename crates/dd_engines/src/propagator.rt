@@ -1,5 +1,5 @@
-//! The engine that knows unit propagation alone: it refutes a list in one step where that can be done, and its cost is linear
-//! in the number of literals.
+//! The engine that uses unit propagation only. It refutes a list in one step if that can be done, and its cost is
+//! linear in the number of literals.
 ghost use Rattle.std.specs.Prelude.{◌≡◌, ◌-◌, ◌^◌, ◌≤◌, true, IfOk, OnErr};
 ghost use Rattle.dd_engines.specs.Proposals.{IsRight, GivenAfter};
 ghost use Rattle.dd_engines.specs.Rounds.{RisesByOne};
@@ -13,7 +13,7 @@ use dd_clause::Cnf;
 use dd_values::Items;
 use std::alloc::{AllocError, Global};
 
-/// Proposes a refutation of a single step exactly where there is one: where unit propagation from nothing ends in a
+/// Proposes a refutation of a single step exactly if there is one: if unit propagation from no assumptions ends in a
 /// conflict. Else it proposes nothing.
 #[derive(Drop)]
 pub struct Propagator {

@@ -1,5 +1,5 @@
 //! A roster of engines, which are asked from the first on until a proposal is right. One whose proposal is wrong is
-//! dropped. What comes out is right whatever the engines claim, since each proposal is looked at here.
+//! dropped. The result is right whatever the engines claim, since each proposal is checked here.
 ghost use Rattle.std.specs.Prelude.{◌≡◌, length, IfOk, OnOk, IfSome};
 ghost use Rattle.dd_engines.specs.Rounds.{AskedOnce, Round, Kept, FirstAsked};
 ghost use Rattle.dd_engines.specs.Rosters.{seen_of_engine, seen_all, roster_seen};
@@ -11,8 +11,7 @@ use dd_clause::{Cnf, satisfies};
 use dd_derivation::{Marks, Outcome, check_refutation};
 use std::alloc::{AllocError, Global};
 
-/// Engines that are asked in turn. Contracts see of each how often it was asked, how often it proposed something, and
-/// whether it is sound.
+/// Engines that are asked in turn. Contracts say how often each was asked, how often it proposed something, and whether it is sound.
 #[derive(Drop)]
 pub struct Roster<E = Box<dyn Engine>> {
     engines: Vec<E>,
@@ -28,7 +27,7 @@ pub enum Asked {
     Wrong,
 }
 
-/// Asks one engine, and looks at what it proposes.
+/// Asks one engine, and checks its proposal.
 fn ask_one<E: Engine>(alloc: Global, cnf: &Cnf, engine: &mut E) -> Result<Asked, AllocError>
     ensures once { AskedOnce (seen_of_engine E.asked E.given E.sound engine.old) (seen_of_engine E.asked E.given E.sound engine.new) }
     ensures shows { IfOk result (Shows cnf.now (seen_of_engine E.asked E.given E.sound engine.old) (seen_of_engine E.asked E.given E.sound engine.new)) }
@@ -68,9 +67,9 @@ impl<E: Engine> Roster<E> {
         self.engines.len()
     }
 
-    /// Asks the engines from the first on, each at most once, until a proposal is right, and gives that one. An engine
-    /// whose proposal is not right is dropped; the others stay in order, also after want of memory. Where memory is not wanting,
-    /// the first engine that is left was asked, and only engines that aren't sound were dropped before it.
+    /// Asks the engines from the first on, each at most once, until a proposal is right, and returns that one. An
+    /// engine whose proposal is wrong is dropped; the others stay in order, even if memory runs out. Unless it does,
+    /// the first engine left was asked, and only engines that aren't sound were dropped before it.
     pub fn ask(&mut self, alloc: Global, cnf: &Cnf) -> Result<Option<Outcome>, AllocError>
         ensures right { IfOk result (λ answer. IfSome answer (IsRightOutcome cnf.now)) }
         ensures round { Round (roster_seen E.asked E.given E.sound self.old) (roster_seen E.asked E.given E.sound self.new) (round_end result) }

@@ -1,6 +1,7 @@
-//! How many literals of each clause are true, and where to look for the first clause that has none. The clauses stand in
-//! blocks of 32, by their numbers. A mark stands at each block where a clause may have no true literal: it is made when a
-//! clause loses its last one, and goes when a look at the block finds none. Blocks before the first have no mark.
+//! How many literals of each clause are true, and where to look for the first clause that has none. The clauses are
+//! in blocks of 32, by their numbers. A block where a clause may have no true literal has a mark. The mark is made
+//! when a clause loses its last true literal, and removed when a look at the block finds none. Blocks before the
+//! first have no mark.
 ghost use Rattle.std.specs.Prelude.{◌≡◌, ◌^◌, ◌*◌, ◌<◌, ◌+◌, ◌≤◌, length, map, slice_set, slice_index_or, All, IfOk, MatchOption};
 ghost use Rattle.dd_clause.specs.Clauses.{IsClauseInRange};
 ghost use Rattle.dd_engines.specs.walking.Truths.{IsListed, NoneWithin, IsFirstIn, NoneIsNone, IsFirstNone, changed, more, less, true_count};
@@ -19,7 +20,7 @@ pub struct Truths {
 }
 
 impl Truths {
-    /// What the values make true.
+    /// The counts and marks for these values.
     pub fn new(alloc: Global, clauses: &[Clause], values: &[bool]) -> Result<Truths, AllocError>
         requires { All (IsClauseInRange (length values.now)) clauses.now }
         ensures counts { IfOk result (λ truths. truths.counts.items ≡ map (true_count values.now) clauses.now) }
@@ -84,7 +85,7 @@ impl Truths {
         None
     }
 
-    /// A literal becomes true: one more of each clause that has it.
+    /// Counts a literal that becomes true, in each clause that has it.
     pub fn raise(&mut self, chains: &Chains, literal: Literal)
         requires linked { IsLinked chains.now }
         requires chain { HasChain chains.now literal }
@@ -101,7 +102,7 @@ impl Truths {
         }
     }
 
-    /// A literal becomes false: one less of each clause that has it.
+    /// Counts a literal that becomes false, in each clause that has it.
     pub fn lower(&mut self, chains: &Chains, literal: Literal)
         requires linked { IsLinked chains.now }
         requires chain { HasChain chains.now literal }
@@ -135,7 +136,7 @@ fn first_in_block(counts: &[usize], block: usize) -> Option<usize>
     None
 }
 
-/// How many of the literals the values make true. A list of literals is never longer than a count can say.
+/// How many of the literals the values make true. A count can hold the length of any list of literals.
 fn count_true(literals: &[Literal], values: &[bool]) -> usize
     requires { IsClauseInRange (length values.now) literals.now }
     ensures value { result ≡ true_count values.now literals.now }

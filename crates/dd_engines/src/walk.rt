@@ -1,6 +1,6 @@
-//! A walk through assignments, from all variables false on: each flip makes a literal of the first clause without a true
-//! literal true. Numbers of true literals, and chains of where each literal stands, let a flip cost what it touches. Where the
-//! walk goes round, it ends: no new assignment would come.
+//! A walk through assignments, starting with all variables false: each flip makes a literal of the first clause
+//! without a true literal true. Counts of true literals, and chains of where each literal stands, keep the cost of a
+//! flip to what it changes. If the walk goes round, it ends: no new assignment would come.
 ghost use Rattle.std.specs.Prelude.{◌≡◌, ◌+◌, false, length, replicate, IfOk, MatchOption};
 ghost use Rattle.dd_clause.specs.Clauses.{IsLiteralInRange, is_true_under};
 ghost use Rattle.dd_values.specs.Variables.{true_variables};
@@ -62,7 +62,7 @@ impl Walk {
         self.truths.first()
     }
 
-    /// Makes a literal true that is false.
+    /// Makes a false literal true.
     fn flip(&mut self, clauses: &[Clause], chains: &Chains, literal: Literal)
         requires listing { IsListingOf chains.now (length self.old.values.items) clauses.now }
         requires range { IsLiteralInRange (length self.old.values.items) literal }
@@ -83,7 +83,7 @@ impl Walk {
     }
 }
 
-/// The first assignment, after at most so many flips, that satisfies the clauses, whose chains these are.
+/// The first assignment, after at most `flips` flips, that satisfies the clauses. `chains` are those of the clauses.
 pub fn first_found(
     alloc: Global,
     cnf: &Cnf,

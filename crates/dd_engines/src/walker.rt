@@ -1,5 +1,6 @@
-//! The engine that walks: it tries the assignments of one walk, and keeps nothing of it but the room. A step takes a clause that is not
-//! satisfied and makes one of its literals true (Papadimitriou 1991, Selman, Kautz and Cohen 1994), here with no chance in it.
+//! The engine that walks: it tries the assignments of one walk, and keeps only the memory for the next one. A step
+//! takes a clause that is not satisfied and makes one of its literals true (Papadimitriou 1991, Selman, Kautz and
+//! Cohen 1994), here without randomness.
 ghost use Rattle.std.specs.Prelude.{◌≡◌, ◌-◌, ◌^◌, ◌≤◌, true, IfOk, OnErr};
 ghost use Rattle.dd_engines.specs.Proposals.{IsRight, GivenAfter};
 ghost use Rattle.dd_engines.specs.Rounds.{RisesByOne};
@@ -13,9 +14,9 @@ use crate::walk::first_found;
 use dd_clause::Cnf;
 use std::alloc::{AllocError, Global};
 
-/// Proposes the first assignment that satisfies, on a walk of at most so many flips. It starts with all variables false.
-/// The flip number k, from 0, takes the first clause without a true literal and makes its literal number k modulo its
-/// length true. Where none of these assignments satisfies, or the clause taken is empty, it proposes nothing.
+/// Proposes the first satisfying assignment on a walk of a limited number of flips, starting with all variables
+/// false. Flip number k, from 0, takes the first clause without a true literal and makes its literal number k modulo
+/// its length true. If none of these assignments satisfies, or the clause taken is empty, it proposes nothing.
 #[derive(Drop)]
 pub struct Walker {
     flips: u32,
@@ -24,7 +25,7 @@ pub struct Walker {
 }
 
 impl Walker {
-    /// An engine that makes at most so many flips each time it is asked, and was not asked yet.
+    /// An engine that makes at most `flips` flips each time it is asked. It was not asked yet.
     pub fn new(flips: u32) -> Self
         ensures flips { flips_of result ≡ flips }
         ensures asked { ⟦<Walker as Engine>⟧.asked result ≡ 0 }

@@ -1,18 +1,15 @@
--- The patterns that a rule forbids are listed in one way, and an output can hold the list.
+-- There is only one list of the patterns that a rule forbids, and an output can hold it.
 use Rattle.std.proofs.Common.{◌≡◌, ℕ, zero, suc, ◌*◌, ◌^◌, ◌≤◌, ◌<◌, inl, inr, List, [], ◌∷◌, ◌++◌, map, length, ap, sym, subst, arith}
-use Rattle.std.specs.List.{All, Contains}
 use Rattle.std.proofs.lemmas.List.Elements.{All-weaker, All-contains_itself, Contains-append_left, Contains-append_right, Contains-append_cases}
 use Rattle.std.proofs.lemmas.Bool.{cases_lt}
-use Rattle.std.specs.Prelude.{◌↔◌}
+use Rattle.std.specs.{List.All, List.Contains, Prelude.◌↔◌}
 use Rattle.dd_formula.specs.LocalRule.{LocalRule, IsRule, cells_at}
 use Rattle.dd_forbidden.specs.Breaking.{IsBreaking, BreakingFillings}
-use Rattle.dd_certificate.specs.declared.answer.Listed.{Listed}
-use Rattle.dd_certificate.specs.declared.answer.Answer.TheVariants as answer
-use Rattle.dd_certificate.specs.Bounds.{IsWritable, IsWritableNumber, IsWritablePattern}
+use Rattle.dd_certificate.specs.{declared.answer.Listed.Listed, Bounds.IsWritable, Bounds.IsWritableNumber, Bounds.IsWritablePattern}
 use Rattle.dd_question.specs.Lists.{HasFewPatterns}
-use Rattle.dd_evidence.specs.NodeLists.{IsListTo}
-use Rattle.dd_evidence.specs.Lists.{listed, IsForbiddenList}
+use Rattle.dd_evidence.specs.{NodeLists.IsListTo, Lists.listed, Lists.IsForbiddenList}
 use Rattle.dd_evidence.proofs.NodeLists.{list_one, list_fits}
+use Rattle.dd_certificate.specs.declared.answer.Answer.TheVariants as answer
 
 abbrev AreOne : Type 0
 AreOne = (r : LocalRule) (a : ℕ) (xs ys : List (List ℕ)) → BreakingFillings r a xs → BreakingFillings r a ys → xs ≡ ys
@@ -20,7 +17,7 @@ AreOne = (r : LocalRule) (a : ℕ) (xs ys : List (List ℕ)) → BreakingFilling
 pub one_forbidden : AreOne → (x : LocalRule) (some others : List Listed) → IsForbiddenList x some → IsForbiddenList x others → some ≡ others
 one_forbidden one x some others h k = list_one (BreakingFillings x) listed (one x) x.nodes some others h k
 
--- ---- its numbers
+-- ---- the numbers of the list
 
 abbrev pub AreShort : Type 0
 AreShort = (r : LocalRule) (a : ℕ) (xs : List (List ℕ)) → IsRule r → BreakingFillings r a xs → length xs ≤ r.symbols ^ length (cells_at r a)

@@ -1,8 +1,7 @@
--- Lists that are made node by node are one list where there is one at each node, and short where these are.
+-- Lists made node by node: the whole list is unique if the list of each node is, and short if these are short.
 use Rattle.std.proofs.Common.{◌≡◌, ℕ, zero, suc, ◌+◌, ◌*◌, ◌≤◌, ◌<◌, List, ◌++◌, map, length, ap, sym, subst, ◌∙◌, arith, length-append, add-one}
-use Rattle.std.proofs.lemmas.List.{length-map}
+use Rattle.std.proofs.lemmas.List.{length-map, Elements.All-nil, Elements.All-append, Elements.All-map}
 use Rattle.std.specs.List.{All}
-use Rattle.std.proofs.lemmas.List.Elements.{All-nil, All-append, All-map}
 use Rattle.dd_evidence.specs.NodeLists.{IsListedAfter, IsListTo}
 
 module _ {A B : Type 0} (IsHere : ℕ → List A → Type 0) (entry : ℕ → A → B) where

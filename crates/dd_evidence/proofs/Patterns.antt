@@ -1,16 +1,14 @@
--- The patterns of a node, as they are made and appended.
+-- The patterns of a node, as the code makes and appends them.
 use Rattle.std.proofs.Common.{◌≡◌, ℕ, ◌^◌, ◌≤◌, ◌<◌, true, List, ◌++◌, map, length, refl, ap, ◌∙◌, arith}
-use Rattle.std.proofs.lemmas.Bool.{ltb-true}
-use Rattle.std.proofs.lemmas.Simd.{map-map}
+use Rattle.std.proofs.lemmas.{Bool.ltb-true, Simd.map-map}
 use Rattle.dd_pattern.specs.Filling.{Filled, filled}
 use Rattle.dd_formula.specs.LocalRule.{LocalRule, cells_at}
 use Rattle.dd_forbidden.specs.Breaking.{BreakingFillings, AreBreakingFillings, is_large}
 use Rattle.dd_certificate.specs.declared.answer.Listed.{Listed}
 use Rattle.dd_question.specs.Lists.{HasFewPatterns}
-use Rattle.dd_evidence.specs.NodeLists.{IsListedAfter}
-use Rattle.dd_evidence.specs.Lists.{listed}
+use Rattle.dd_evidence.specs.{NodeLists.IsListedAfter, Lists.listed}
 
--- where the cells that are read have few fillings, they are listed
+-- if the cells that are read have few fillings, all are listed
 pub never_large : (r : LocalRule) (a : ℕ) → HasFewPatterns r → a < r.nodes → is_large r a ≡ true → ⊥
 never_large r a few below large =
     let many : 65536 < r.symbols ^ length (cells_at r a) = ltb-true 65536 (r.symbols ^ length (cells_at r a)) large in

@@ -1,19 +1,15 @@
 -- An output can hold the place of a cell of the fundamental box.
 use Rattle.std.proofs.Common.{◌≡◌, ℕ, ◌+◌, ◌≤◌, ◌<◌, List, [], ◌∷◌, ◌++◌, length, take, ap, sym, subst, ◌∙◌, arith, ℤ, pos, unsigned_abs, length-append}
-use Rattle.std.specs.List.{All}
 use Rattle.std.proofs.lemmas.List.{length-take-le}
 use Rattle.std.proofs.lemmas.List.Elements.{All-nil, All-cons, All-append, All-take}
-use Rattle.dd_lattice.specs.declared.position.Cell.{Cell}
-use Rattle.dd_lattice.specs.Place.{Place}
-use Rattle.dd_pattern.specs.Periods.{residue, unsheared}
-use Rattle.dd_pattern.specs.Tile.{Tile, IsPeriodic, IsInBox}
-use Rattle.dd_pattern.specs.lemmas.Residues.{residue_below}
+use Rattle.std.specs.List.{All}
+use Rattle.dd_lattice.specs.{declared.position.Cell.Cell, Place.Place}
+use Rattle.dd_pattern.specs.{Periods.residue, Periods.unsheared, Tile.Tile, Tile.IsPeriodic, Tile.IsInBox, lemmas.Residues.residue_below}
 use Rattle.dd_pattern.specs.lemmas.TileSizes.{sizes_of}
-use Rattle.dd_formula.specs.LocalRule.{LocalRule, IsRule}
-use Rattle.dd_formula.specs.Living.{Fits}
-use Rattle.dd_certificate.specs.declared.answer.Answer.TheVariants as answer
+use Rattle.dd_formula.specs.{LocalRule.LocalRule, LocalRule.IsRule, Living.Fits}
 use Rattle.dd_certificate.specs.Bounds.{IsWritable, IsWritableSigned}
 use Rattle.dd_evidence.specs.Cells.{written_cell, IsOutside}
+use Rattle.dd_certificate.specs.declared.answer.Answer.TheVariants as answer
 
 -- a coordinate in the fundamental box
 coordinate_fits : (z w : ℤ) (n : ℕ) → 0 < n → n ≤ 65536 → pos (residue w n) ≡ z → IsWritableSigned z

@@ -1,22 +1,19 @@
--- The minimal patterns are listed in one way, those of a node are its minimal list, and an output can hold the list.
+-- There is only one list of the minimal patterns, those of a node are its minimal list, and an output can hold the list.
 use Rattle.std.proofs.Common.{◌≡◌, ℕ, zero, suc, ◌*◌, ◌≤◌, ◌<◌, inl, inr, Bool, true, false, cond, Option, Some, None, List, [], ◌∷◌, ◌++◌, map, length, nat_eq, refl, ap, sym, subst, ◌∙◌, arith}
 use Rattle.std.proofs.lemmas.List.{map-append, append-nil}
-use Rattle.std.specs.List.{All, Contains, filter}
 use Rattle.std.proofs.lemmas.List.Elements.{All-nil, All-cons, All-head, All-tail, All-append, All-weaker, All-contains_itself, All-map, filter-append}
 use Rattle.std.proofs.lemmas.Bool.{cases_lt, eq-eqb, ne_eqb}
+use Rattle.std.specs.List.{All, Contains, filter}
 use Rattle.dd_formula.specs.LocalRule.{LocalRule, IsRule}
 use Rattle.dd_forbidden.specs.Breaking.{IsBreaking}
-use Rattle.dd_minimal.specs.Patterns.{whole, is_covered}
-use Rattle.dd_minimal.specs.Minimal.{thinned, all_break, IsMinimalList}
-use Rattle.dd_minimal.specs.Minimal as minimal
+use Rattle.dd_minimal.specs.{Patterns.whole, Patterns.is_covered, Minimal.thinned, Minimal.all_break, Minimal.IsMinimalList}
 use Rattle.dd_certificate.specs.declared.answer.Starred.{Starred}
-use Rattle.dd_certificate.specs.declared.answer.Answer.TheVariants as answer
 use Rattle.dd_certificate.specs.Bounds.{IsWritable, IsWritableNumber, IsWritableKept, IsWritableStarred}
 use Rattle.dd_question.specs.Lists.{HasFewPatterns}
-use Rattle.dd_evidence.specs.NodeLists.{IsListTo}
-use Rattle.dd_evidence.specs.Lists.{starred, IsStarredList, patterns_at}
-use Rattle.dd_evidence.proofs.NodeLists.{list_one, list_fits}
-use Rattle.dd_evidence.proofs.Lists.{AreShort, AreKnown}
+use Rattle.dd_evidence.specs.{NodeLists.IsListTo, Lists.starred, Lists.IsStarredList, Lists.patterns_at}
+use Rattle.dd_evidence.proofs.{NodeLists.list_one, NodeLists.list_fits, Lists.AreShort, Lists.AreKnown}
+use Rattle.dd_minimal.specs.Minimal as minimal
+use Rattle.dd_certificate.specs.declared.answer.Answer.TheVariants as answer
 
 abbrev AreOne : Type 0
 AreOne = (r : LocalRule) (a : ℕ) (ps qs : List (List (Option ℕ))) → IsMinimalList r a ps → IsMinimalList r a qs → ps ≡ qs
@@ -24,7 +21,7 @@ AreOne = (r : LocalRule) (a : ℕ) (ps qs : List (List (Option ℕ))) → IsMini
 pub one_starred : AreOne → (x : LocalRule) (some others : List Starred) → IsStarredList x some → IsStarredList x others → some ≡ others
 one_starred one x some others h k = list_one (IsMinimalList x) starred (one x) x.nodes some others h k
 
--- ---- its numbers
+-- ---- the numbers of the list
 
 -- a choice between two lists
 either_short : {X : Type 0} (b : Bool) (xs ys : List X) (n : ℕ) → length xs ≤ n → length ys ≤ n → length (cond b xs ys) ≤ n
@@ -45,7 +42,7 @@ listed_short thin before (ss ∷ more) =
     either_short (is_covered before ss) (minimal.listed thin before more) (thin ss ∷ minimal.listed thin (before ++ thin ss ∷ []) more) (suc (length more))
     (omega (arith, others)) (omega (arith, later))
 
--- each is what a filling leaves
+-- each pattern is what is left of a filling
 listed_fit : (P : List (Option ℕ) → Type 0) (thin : List ℕ → List (Option ℕ)) (before : List (List (Option ℕ))) (lists : List (List ℕ)) →
     All (λ ss. P (thin ss)) lists → All P (minimal.listed thin before lists)
 listed_fit P thin before [] h = All-nil P
@@ -99,7 +96,7 @@ module _ (short : AreShort) (known : AreKnown) (x : LocalRule) (rule : IsRule x)
       let nodes : x.nodes ≤ 4 = rule.nodes.1 in
       (omega (arith, many, nodes), both.1)
 
--- ---- those of a node
+-- ---- the patterns of a node
 
 at_both : (a : ℕ) (some others : List Starred) → patterns_at a (some ++ others) ≡ patterns_at a some ++ patterns_at a others
 at_both a some others =
@@ -115,7 +112,7 @@ none_own n a [] h = refl
 none_own n a (p ∷ ps) h = rw h (none_own n a ps h)
 
 module _ (x : LocalRule) (a : ℕ) where
-  -- nothing is listed of it before it is come to
+  -- none of its patterns is listed before the node is reached
   none_before : (n : ℕ) (patterns : List Starred) → n ≤ a → IsListTo (IsMinimalList x) starred n patterns → patterns_at a patterns ≡ []
   none_before zero patterns le is = ap (patterns_at a) is
   none_before (suc n) patterns le is =

@@ -1,10 +1,8 @@
--- The numbers that write a configuration give it back.
+-- A configuration can be read back from the numbers that an answer writes for it.
 use Rattle.std.proofs.Common.{◌≡◌, ℕ, zero, suc, ◌<◌, ◌≤◌, [], ◌∷◌, take, refl, ap, sym, ◌∙◌, arith}
 use Rattle.std.proofs.lemmas.List.{length-take-le}
-use Rattle.dd_pattern.specs.declared.periods.Periods.{Periods}
-use Rattle.dd_pattern.specs.Tile.{Tile, tile, IsTile}
-use Rattle.dd_formula.specs.LocalRule.{LocalRule}
-use Rattle.dd_formula.specs.Living.{Fits}
+use Rattle.dd_pattern.specs.{declared.periods.Periods.Periods, Tile.Tile, Tile.tile, Tile.IsTile}
+use Rattle.dd_formula.specs.{LocalRule.LocalRule, Living.Fits}
 use Rattle.dd_evidence.specs.Tiles.{given_periods, written_periods, IsWrittenBack}
 
 abbrev sheared : ℕ → ℕ → ℕ → ℕ → Periods

@@ -1,17 +1,13 @@
--- The answers to questions that have one only: whether a configuration lives in a subshift, and which patterns a rule forbids, and
--- which of them without a cell too many.
+-- The answers to questions with only one right answer: whether a configuration lives in a subshift, which patterns a rule
+-- forbids, and which of these are minimal.
 use Rattle.std.specs.Prelude.{ℤ, List}
 use Rattle.dd_pattern.specs.Tile.{Tile}
-use Rattle.dd_formula.specs.LocalRule.{LocalRule}
-use Rattle.dd_formula.specs.Living.{Lives}
-use Rattle.dd_certificate.specs.declared.answer.Listed.{Listed}
-use Rattle.dd_certificate.specs.declared.answer.Starred.{Starred}
-use Rattle.dd_certificate.specs.declared.answer.Answer.{Answer}
+use Rattle.dd_formula.specs.{LocalRule.LocalRule, Living.Lives}
+use Rattle.dd_certificate.specs.declared.answer.{Listed.Listed, Starred.Starred, Answer.Answer}
+use Rattle.dd_evidence.specs.{Cells.IsOutside, Lists.IsForbiddenList, Lists.IsStarredList}
 use Rattle.dd_certificate.specs.declared.answer.Answer.TheVariants as answer
-use Rattle.dd_evidence.specs.Cells.{IsOutside}
-use Rattle.dd_evidence.specs.Lists.{IsForbiddenList, IsStarredList}
 
--- that the configuration lives in the rule's subshift, or the first cell at which the rule is false
+-- the configuration lives in the rule's subshift, or the place is the first cell at which the rule is false
 pub data IsMemberCertificate (x : LocalRule) (t : Tile) : Answer → Type 0 where
   member_inside : Lives x t → IsMemberCertificate x t answer.Inside
   member_outside : {place : List ℤ} → IsOutside x t place → IsMemberCertificate x t (answer.Outside place)

@@ -2,10 +2,9 @@
 use Rattle.std.specs.Prelude.{ℕ, ◌≡◌, ℤ, pos, List, [], ◌∷◌, ◌++◌, take}
 use Rattle.dd_lattice.specs.declared.position.Cell.{Cell}
 use Rattle.dd_pattern.specs.Tile.{Tile}
-use Rattle.dd_formula.specs.LocalRule.{LocalRule}
-use Rattle.dd_formula.specs.Living.{IsFirstFalse}
+use Rattle.dd_formula.specs.{LocalRule.LocalRule, Living.IsFirstFalse}
 
--- the coordinates of a cell of Z^d, and then its node
+-- the coordinates of a cell of Z^d, followed by its node
 abbrev pub written_cell : ℕ → Cell → List ℤ
 written_cell d c = take d (c.position.x ∷ c.position.y ∷ c.position.z ∷ []) ++ pos c.node ∷ []
 

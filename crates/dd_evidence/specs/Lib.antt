@@ -1,4 +1,4 @@
--- the answers to questions that have one only
+-- the answers to questions with only one right answer
 pub mod Answers
 -- cells, as answers give them
 pub mod Cells

@@ -1,29 +1,27 @@
 -- The patterns that a rule forbids, as answers list them.
-use Rattle.std.specs.Prelude.{ℕ, Option, List, map, nat_eq}
-use Rattle.std.specs.List.{filter}
+use Rattle.std.specs.{Prelude.ℕ, Prelude.Option, Prelude.List, Prelude.map, Prelude.nat_eq, List.filter}
 use Rattle.dd_formula.specs.LocalRule.{LocalRule}
 use Rattle.dd_forbidden.specs.Breaking.{BreakingFillings}
 use Rattle.dd_minimal.specs.Minimal.{IsMinimalList}
-use Rattle.dd_certificate.specs.declared.answer.Listed.{Listed}
-use Rattle.dd_certificate.specs.declared.answer.Starred.{Starred}
+use Rattle.dd_certificate.specs.declared.answer.{Listed.Listed, Starred.Starred}
 use Rattle.dd_evidence.specs.NodeLists.{IsListTo}
 
 -- a pattern: the node, and the symbols of the cells that the rule reads there, in cell order
 abbrev pub listed : ℕ → List ℕ → Listed
 listed a ss = record { node = a; symbols = ss }
 
--- one that leaves cells out
+-- a pattern that may leave cells out
 abbrev pub starred : ℕ → List (Option ℕ) → Starred
 starred a p = record { node = a; symbols = p }
 
--- node by node all breaking fillings, in lexicographic order
+-- node by node, all fillings that break the rule, in lexicographic order
 abbrev pub IsForbiddenList : LocalRule → List Listed → Type 0
 IsForbiddenList x patterns = IsListTo (BreakingFillings x) listed x.nodes patterns
 
--- node by node the minimal patterns, in the order in which they are found
+-- node by node, the minimal patterns, in the order in which they are found
 abbrev pub IsStarredList : LocalRule → List Starred → Type 0
 IsStarredList x patterns = IsListTo (IsMinimalList x) starred x.nodes patterns
 
--- those of one node
+-- the patterns of one node
 abbrev pub patterns_at : ℕ → List Starred → List (List (Option ℕ))
 patterns_at a patterns = map (λ (p : Starred). p.symbols) (filter (λ (p : Starred). nat_eq p.node a) patterns)

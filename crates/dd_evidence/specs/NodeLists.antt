@@ -1,7 +1,7 @@
 -- Lists that are made node by node.
 use Rattle.std.specs.Prelude.{ℕ, zero, suc, ◌≡◌, List, [], ◌++◌, map}
 
--- after what is listed of the nodes before n comes what there is at n, in its order
+-- the list of the nodes before n, followed by the list of n
 pub record IsListedAfter {A B : Type 0} (IsHere : ℕ → List A → Type 0) (entry : ℕ → A → B) (n : ℕ) (IsBefore : List B → Type 0) (list : List B) : Type 0 where
   pub before : List B
   pub is_before : IsBefore before
@@ -9,7 +9,7 @@ pub record IsListedAfter {A B : Type 0} (IsHere : ℕ → List A → Type 0) (en
   pub is_here : IsHere n here
   pub whole : list ≡ before ++ map (entry n) here
 
--- what there is at the first nodes, node by node
+-- the list of the first nodes
 abbrev pub IsListTo : {A B : Type 0} → (ℕ → List A → Type 0) → (ℕ → A → B) → ℕ → List B → Type 0
 IsListTo IsHere entry zero list = list ≡ []
 IsListTo IsHere entry (suc n) list = IsListedAfter IsHere entry n (IsListTo IsHere entry n) list

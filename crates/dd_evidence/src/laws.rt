@@ -14,7 +14,7 @@ ghost use Rattle.dd_evidence.specs.Cells.{IsOutside};
 ghost use Rattle.dd_evidence.specs.Tiles.{IsWrittenBack};
 ghost use Rattle.dd_evidence.specs.Lists.{listed, IsForbiddenList, IsStarredList, patterns_at};
 
-/// Does nothing; its contract says that the numbers that write a configuration in an answer give it back.
+/// Does nothing; its contract says that a configuration can be read back from the numbers that an answer writes for it.
 pub fn written_back()
     ensures { (x : LocalRule) (t : Tile) → IsTile t → Fits x t → IsWrittenBack x t }
 {}
@@ -24,7 +24,7 @@ pub fn places_fit()
     ensures { (x : LocalRule) (t : Tile) (place : List ℤ) → IsRule x → IsPeriodic t → Fits x t → IsOutside x t place → IsWritable (answer.Outside place) }
 {}
 
-/// Does nothing; its contract says that the patterns that a rule forbids are listed in one way.
+/// Does nothing; its contract says that there is only one list of the patterns that a rule forbids.
 pub fn one_list()
     ensures { (x : LocalRule) (some others : List AnyListed) → IsForbiddenList x some → IsForbiddenList x others → some ≡ others }
 {
@@ -37,8 +37,8 @@ pub fn listed_break()
         Contains patterns (listed a ss) ↔ IsBreaking x a ss }
 {}
 
-/// Does nothing; its contract says that an output can hold the list, where at each node the cells that the rule reads have
-/// few fillings.
+/// Does nothing; its contract says that an output can hold the list, if at each node the cells that the rule reads have few
+/// fillings.
 pub fn lists_fit()
     ensures { (x : LocalRule) (patterns : List AnyListed) → IsRule x → HasFewPatterns x → IsForbiddenList x patterns → IsWritable (answer.List patterns) }
 {
@@ -46,21 +46,21 @@ pub fn lists_fit()
     dd_forbidden::known_symbols();
 }
 
-/// Does nothing; its contract says that the minimal patterns of a rule are listed in one way.
+/// Does nothing; its contract says that there is only one list of the minimal patterns of a rule.
 pub fn one_starred()
     ensures { (x : LocalRule) (some others : List AnyStarred) → IsStarredList x some → IsStarredList x others → some ≡ others }
 {
     dd_minimal::one_list();
 }
 
-/// Does nothing; its contract says that each listed pattern is one of a node of the rule, and that those of a node are its minimal
-/// list, so that what holds of that list holds of them.
+/// Does nothing; its contract says that each listed pattern belongs to a node of the rule, and that those of a node are its
+/// minimal list. So what holds of that list holds of them.
 pub fn starred_are_minimal()
     ensures nodes { (x : LocalRule) (patterns : List AnyStarred) → IsStarredList x patterns → All (λ p. p.node < x.nodes) patterns }
     ensures minimal { (x : LocalRule) (patterns : List AnyStarred) (a : ℕ) → IsStarredList x patterns → a < x.nodes → IsMinimalList x a (patterns_at a patterns) }
 {}
 
-/// Does nothing; its contract says that an output can hold the list of the minimal patterns, where at each node the cells that the
+/// Does nothing; its contract says that an output can hold the list of the minimal patterns, if at each node the cells that the
 /// rule reads have few fillings.
 pub fn starred_fit()
     ensures { (x : LocalRule) (patterns : List AnyStarred) → IsRule x → HasFewPatterns x → IsStarredList x patterns → IsWritable (answer.Minimal patterns) }

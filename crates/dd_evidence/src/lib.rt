@@ -1,5 +1,5 @@
-//! What answers write of parts of questions: cells, configurations, and the patterns that rules forbid, whole and without a cell
-//! too many.
+//! How answers write parts of questions: cells, configurations, and the patterns that a rule forbids, all of them or only the
+//! minimal ones.
 #![tactic(auto)]
 
 mod laws;

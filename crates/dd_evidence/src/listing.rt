@@ -58,8 +58,8 @@ fn push_node(
     Ok(())
 }
 
-/// The patterns that a rule forbids: node by node all fillings of the cells that it reads there that break it, in the
-/// lexicographic order of their symbols. Where it reads nothing at a node and is false there, this is the pattern without
+/// The patterns that a rule forbids. Node by node these are the fillings, of the cells that the rule reads there, that break it,
+/// in lexicographic order of their symbols. A rule that reads nothing at a node and is false there forbids the pattern without
 /// symbols.
 pub fn forbidden_patterns(alloc: Global, rule: &Rule) -> Result<Items<Listed>, AllocError>
     requires { HasFewPatterns rule.now }

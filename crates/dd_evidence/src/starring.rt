@@ -12,7 +12,7 @@ use dd_minimal::{Partial, minimal};
 use dd_values::Items;
 use std::alloc::{AllocError, Global};
 
-/// The symbol of a cell, if it isn't left out.
+/// The symbol of a cell, or `None` if the pattern leaves it out.
 fn kept(symbol: Option<u32>) -> Option<u64>
     ensures { result ≡ symbol }
 {
@@ -66,7 +66,7 @@ fn push_starred(
     Ok(())
 }
 
-/// The minimal patterns that a rule forbids, node by node: from none can a cell be left out, and together they forbid what the
+/// The minimal patterns that a rule forbids, node by node. No cell can be left out of any of them; together they forbid what the
 /// rule forbids.
 pub fn minimal_patterns(alloc: Global, rule: &Rule) -> Result<Items<Starred>, AllocError>
     requires { HasFewPatterns rule.now }

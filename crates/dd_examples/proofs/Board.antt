@@ -1,7 +1,6 @@
 -- The chessboard is a periodic configuration that fits its rule.
 use Rattle.std.proofs.Common.{refl, arith}
-use Rattle.dd_pattern.specs.Tile.{IsTile, IsPeriodic}
-use Rattle.dd_pattern.specs.Periods.{ArePeriodsIn}
+use Rattle.dd_pattern.specs.{Tile.IsTile, Tile.IsPeriodic, Periods.ArePeriodsIn}
 use Rattle.dd_formula.specs.Living.{Fits}
 use Rattle.dd_examples.specs.Squares.{hard, two_by_two, chessboard}
 

@@ -1,23 +1,18 @@
--- One right answer more.
+-- One more right answer.
 use Rattle.std.proofs.Common.{◌≡◌, inl, inr, ℕ, ◌+◌, ◌-◌, ◌<◌, ◌≤◌, List, length, get_or, Bool, true, false, ◌&&◌, Some, refl, sym, ◌∙◌, ap, subst, arith}
-use Rattle.std.specs.Prelude.{IsSomeAnd, IsTrue, ◌↔◌, ◌≢◌}
-use Rattle.std.specs.List.{slice_get}
-use Rattle.std.specs.declared.option.Option.{Option}
-use Rattle.std.proofs.lemmas.Bool.{cases_lt}
-use Rattle.std.proofs.lemmas.Option.{slice_get_read}
+use Rattle.std.proofs.lemmas.{Bool.cases_lt, Option.slice_get_read}
+use Rattle.std.specs.{Prelude.IsSomeAnd, Prelude.IsTrue, Prelude.◌↔◌, Prelude.◌≢◌, List.slice_get, declared.option.Option.Option}
 use Rattle.dd_certificate.specs.declared.answer.Answer.{Answer}
 use Rattle.dd_query.specs.declared.queries.Query.{Query}
 use Rattle.dd_script.specs.Parts.{Parts}
-use Rattle.dd_checker.specs.declared.verdict.Verdict.{Verdict}
-use Rattle.dd_checker.specs.declared.verdict.Verdict.TheVariants.{Accepted}
-use Rattle.dd_checker.specs.Certificates.{HasQuery, IsCertificate}
-use Rattle.dd_checker.specs.Claims.{Claim}
+use Rattle.dd_checker.specs.declared.verdict.Verdict.{Verdict, TheVariants.Accepted}
+use Rattle.dd_checker.specs.{Certificates.HasQuery, Certificates.IsCertificate, Claims.Claim}
 use Rattle.dd_examples.specs.Checked.{IsRight, IsRightAt, AreRightTo, AreRight}
 
 pub has_query_at : (s : Parts) (before number : ℕ) → before < length s.queries → number ≡ before + 1 → HasQuery s number
 has_query_at s before number less at = record { numbered = omega (arith, at); within = omega (arith, at, less) }
 
--- the answer behind as many others has the next number
+-- the answer after `done` others has the next number
 there : (answers : List Answer) (done : ℕ) (a : Answer) → done < length answers → a ≡ get_or answers done a → slice_get answers (done + 1 - 1) ≡ Some a
 there answers done a less at =
     let place : done ≡ done + 1 - 1 = omega arith in
@@ -33,7 +28,7 @@ right_at s answers done a less at = (
 pub none_yet : (s : Parts) (answers : List Answer) → IsTrue true ↔ AreRightTo s answers 0
 none_yet s answers = (λ yes number low high. absurd (omega (arith, low, high)), λ all. refl)
 
--- where the first are looked at, and the next
+-- the answers so far are checked, and then the next
 pub right_next : (s : Parts) (answers : List Answer) (done : ℕ) (a : Answer) (before this : Bool) → done < length answers → a ≡ get_or answers done a
     → (IsTrue before ↔ AreRightTo s answers done) → (IsTrue this ↔ IsRight s (done + 1) a)
     → IsTrue (before && this) ↔ AreRightTo s answers (done + 1)
@@ -65,7 +60,7 @@ all_right s qs answers all are as_many each = (
 pub too_many_or_few : (s : Parts) (qs : List Query) (answers : List Answer) → qs ≡ s.queries → length answers ≢ length qs → IsTrue false ↔ AreRight s answers
 too_many_or_few s qs answers are other = (λ yes. absurd (cc yes), λ right. absurd (other (right.as_many ∙ sym (ap length are))))
 
--- what the verdict says of the answer
+-- from the verdict to whether the answer is right
 pub right_as : (s : Parts) (a : Answer) (before number : ℕ) (v : Verdict) (b : Bool) → number ≡ before + 1
     → ((v ≡ Accepted) ↔ IsCertificate s number a) → (v ≡ Accepted → Claim s number a) → ((b ≡ true) ↔ (v ≡ Accepted))
     → IsTrue b ↔ IsRight s (before + 1) a

@@ -1,11 +1,11 @@
--- One line more.
-use Rattle.std.proofs.Common.{◌≡◌, ℕ, ◌+◌, ◌<◌, List, [], ◌∷◌, ◌++◌, length, take, get_or, refl, sym, ◌∙◌, ap, subst, append-nil, append_assoc, length-take-le, Contains, arith}
+-- One more line.
+use Rattle.std.proofs.Common.{◌≡◌, ℕ, ◌+◌, ◌<◌, List, [], ◌∷◌, ◌++◌, length, take, get_or, refl, sym, ◌∙◌, ap, subst, append-nil, append_assoc, length-take-le, arith}
 use Rattle.std.proofs.lemmas.List.{take_more}
 use Rattle.dd_query.specs.declared.queries.Query.{Query}
 use Rattle.dd_script.specs.Parts.{Parts}
 use Rattle.dd_examples.specs.Lines.{IsLine, AreLines}
 
--- the lines of some queries and of one more
+-- the lines of some queries, followed by the line of one more
 line_added : (s : Parts) (number next : ℕ) (qs : List Query) (q : Query) (text line : List ℕ)
     → AreLines s number qs text → IsLine s next q line → next ≡ number + length qs → AreLines s number (qs ++ q ∷ []) (text ++ line)
 line_added s number next [] q text line is_text is_line at =
@@ -25,7 +25,7 @@ line_added s number next (p ∷ qs) q text line is_text is_line at =
       whole = ap (λ (t : List ℕ). t ++ line) is_text.whole ∙ append_assoc is_text.line is_text.rest line;
     }
 
--- the lines of the first queries, and of the next
+-- the lines of the first queries, followed by the line of the next
 pub line_next : (s : Parts) (queries : List Query) (done next : ℕ) (q : Query) (text line : List ℕ)
     → done < length queries → q ≡ get_or queries done q → next ≡ done + 1
     → AreLines s 1 (take done queries) text → IsLine s next q line → AreLines s 1 (take (done + 1) queries) (text ++ line)
@@ -34,6 +34,3 @@ line_next s queries done next q text line less is at is_text is_line =
     subst (λ (qs : List Query). AreLines s 1 qs (text ++ line))
     (ap (λ (x : Query). take done queries ++ x ∷ []) is ∙ sym (take_more queries done q less))
     (line_added s 1 next (take done queries) q text line is_text is_line behind)
-
-pub asked_at : (queries : List Query) (done : ℕ) (q : Query) → done < length queries → q ≡ get_or queries done q → Contains queries q
-asked_at queries done q less is = (done, less, sym is)

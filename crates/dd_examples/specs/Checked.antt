@@ -1,15 +1,10 @@
--- Outputs whose answers are certificates, so that what these claim is true.
+-- Outputs whose answers are certificates, so that what they claim is true.
 use Rattle.std.specs.Prelude.{◌≡◌, ℕ, ◌-◌, ◌≤◌, List, length, IsSomeAnd, Bool, IsTrue, ◌↔◌}
 use Rattle.std.specs.List.{slice_get}
 use Rattle.dd_certificate.specs.declared.answer.Answer.{Answer}
-use Rattle.dd_output.specs.declared.output.Output.{Output}
-use Rattle.dd_output.specs.Outputs.{output_text, IsWritableOutput}
-use Rattle.dd_output.specs.Offsets.{IsOutputFault}
-use Rattle.dd_script.specs.declared.fault.ScriptFault.{ScriptFault}
-use Rattle.dd_script.specs.Parts.{Parts}
-use Rattle.dd_script.specs.Scripts.{Spells, IsScriptRefusal}
-use Rattle.dd_checker.specs.Certificates.{IsCertificate}
-use Rattle.dd_checker.specs.Claims.{Claim}
+use Rattle.dd_output.specs.{declared.output.Output.Output, Outputs.output_text, Outputs.IsWritableOutput, Offsets.IsOutputFault}
+use Rattle.dd_script.specs.{declared.fault.ScriptFault.ScriptFault, Parts.Parts, Scripts.Spells, Scripts.IsScriptRefusal}
+use Rattle.dd_checker.specs.{Certificates.IsCertificate, Claims.Claim}
 use Rattle.dd_examples.specs.declared.checking.Unchecked.{Unchecked}
 use Rattle.dd_examples.specs.declared.checking.Unchecked.TheVariants as unchecked
 
@@ -18,40 +13,40 @@ pub record IsRight (s : Parts) (number : ℕ) (a : Answer) : Type 0 where
   pub certificate : IsCertificate s number a
   pub claim : Claim s number a
 
--- so is the answer with the number
+-- the answer with this number is right
 abbrev pub IsRightAt : Parts → List Answer → ℕ → Type 0
 IsRightAt s answers number = IsSomeAnd (slice_get answers (number - 1)) (λ a. IsRight s number a)
 
--- so are the first answers
+-- the first `count` answers are right
 abbrev pub AreRightTo : Parts → List Answer → ℕ → Type 0
 AreRightTo s answers count = (number : ℕ) → 1 ≤ number → number ≤ count → IsRightAt s answers number
 
--- there is one such answer to each query
+-- each query has one right answer
 pub record AreRight (s : Parts) (answers : List Answer) : Type 0 where
   pub as_many : length answers ≡ length s.queries
   pub each : AreRightTo s answers (length answers)
 
--- the output has a script, and it is accepted exactly where its answers are right
+-- the output has a script, and is accepted exactly if its answers are right
 pub record IsJudged (o : Output) (accepted : Bool) : Type 0 where
   pub script : Parts
   pub spelled : Spells o.script script
   pub exact : IsTrue accepted ↔ AreRight script o.answers
 
--- the bytes are the text of such an output
+-- the bytes are the text of an output with this verdict
 pub record IsJudgedText (bytes : List ℕ) (accepted : Bool) : Type 0 where
   pub output : Output
   pub text : bytes ≡ output_text output
   pub judged : IsJudged output accepted
 
--- the bytes are the text of an output within bounds, whose script is refused so, or memory was wanting for it
+-- the bytes are the text of an output within bounds, whose script is refused for this fault, or memory ran out
 pub record HasRefusedScript (bytes : List ℕ) (fault : ScriptFault) : Type 0 where
   pub output : Output
   pub bounds : IsWritableOutput output
   pub text : bytes ≡ output_text output
   pub refused : IsScriptRefusal output.script fault
 
--- why bytes have no verdict: they are no output, with the offset where they stop being one, or memory was wanting to read them; else
--- their script is refused
+-- Why bytes have no verdict: they are no output, with the offset at which they stop being one; memory ran out; or their script
+-- is refused.
 abbrev pub IsUnchecked : List ℕ → Unchecked → Type 0
 IsUnchecked bytes (unchecked.Output fault) = IsOutputFault bytes fault
 IsUnchecked bytes (unchecked.Script fault) = HasRefusedScript bytes fault

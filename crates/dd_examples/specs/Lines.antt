@@ -1,18 +1,17 @@
 -- The first lines of right answers.
 use Rattle.std.specs.Prelude.{◌≡◌, ℕ, ◌+◌, List, [], ◌∷◌, ◌++◌}
-use Rattle.dd_certificate.specs.declared.answer.Answer.{Answer}
-use Rattle.dd_certificate.specs.Text.{answer_line}
+use Rattle.dd_certificate.specs.{declared.answer.Answer.Answer, Text.answer_line}
 use Rattle.dd_query.specs.declared.queries.Query.{Query}
 use Rattle.dd_script.specs.Parts.{Parts}
 use Rattle.dd_answer.specs.Right.{Right}
 
--- the first line of a right answer to the query, which has this number
+-- the first line of a right answer to the query with this number
 pub record IsLine (s : Parts) (number : ℕ) (q : Query) (line : List ℕ) : Type 0 where
   pub answer : Answer
   pub right : Right s q answer
   pub written : line ≡ answer_line number answer
 
--- a first line and a text behind it
+-- a first line, followed by a text
 pub record IsFollowed (IsFirst IsRest : List ℕ → Type 0) (text : List ℕ) : Type 0 where
   pub line : List ℕ
   pub rest : List ℕ
@@ -20,7 +19,7 @@ pub record IsFollowed (IsFirst IsRest : List ℕ → Type 0) (text : List ℕ) :
   pub others : IsRest rest
   pub whole : text ≡ line ++ rest
 
--- such lines of the queries, which are numbered from a first number on, one after the other
+-- such a line for each query, one after the other; the queries are numbered from `number` on
 abbrev pub AreLines : Parts → ℕ → List Query → List ℕ → Type 0
 AreLines s number [] text = text ≡ []
 AreLines s number (q ∷ qs) text = IsFollowed (IsLine s number q) (AreLines s (number + 1) qs) text

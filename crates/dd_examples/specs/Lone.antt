@@ -1,6 +1,5 @@
--- A configuration without a period: one 1, at the position 0, and 0 at each other.
-use Rattle.std.specs.Prelude.{ℕ, cond, ◌&&◌, pos}
-use Rattle.std.specs.Ordering.{int_eq}
+-- A configuration without a period: 1 at the origin, and 0 everywhere else.
+use Rattle.std.specs.{Prelude.ℕ, Prelude.cond, Prelude.◌&&◌, Prelude.pos, Ordering.int_eq}
 use Rattle.dd_lattice.specs.declared.position.Cell.{Cell}
 
 abbrev pub lone : Cell → ℕ

@@ -1,9 +1,7 @@
 -- The hard-square rule as a formula: a cell with a 1 has a 0 to its right and above it.
 use Rattle.std.specs.Prelude.{ℕ, List, [], ◌∷◌}
-use Rattle.dd_topology.specs.Builtin.{square}
-use Rattle.dd_topology.specs.Sets.{all_symbols}
-use Rattle.dd_pattern.specs.declared.periods.Periods.{Periods}
-use Rattle.dd_pattern.specs.Tile.{Tile, tile}
+use Rattle.dd_topology.specs.{Builtin.square, Sets.all_symbols}
+use Rattle.dd_pattern.specs.{declared.periods.Periods.Periods, Tile.Tile, Tile.tile}
 use Rattle.dd_expansion.specs.declared.formulas.Formula.{Formula}
 use Rattle.dd_expansion.specs.declared.formulas.Formula.TheVariants.{Symbol, And, Implies}
 use Rattle.dd_formula.specs.LocalRule.{LocalRule, local_rule}
@@ -22,11 +20,11 @@ symbol_after moves s = Symbol (record { variable = 0; moves = moves }) s
 abbrev pub hard_formula : Formula
 hard_formula = Implies (symbol_after [] 1) (And (symbol_after (right ∷ []) 0 ∷ symbol_after (up ∷ []) 0 ∷ []))
 
--- over the square lattice and the symbols 0 and 1
+-- the rule of hard squares, over the square lattice and the symbols 0 and 1
 abbrev pub hard : LocalRule
 hard = local_rule square (all_symbols 1 2) hard_formula
 
--- the periods 2 and 2, with the rows 1 0 and 0 1
+-- the chessboard: the periods 2 and 2, with the rows 1 0 and 0 1
 abbrev pub two_by_two : Periods
 two_by_two = record { x = 2; y = 2; z = 1; shear = 0 }
 

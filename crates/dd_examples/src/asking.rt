@@ -1,4 +1,4 @@
-//! A rule and a question that are made without a script: each condition that they must meet is tested by the call that is there for it.
+//! A rule and a question that are made without a script. For each condition that they must meet there is a call that tests it.
 ghost use Rattle.std.specs.Prelude.{◌≡◌, length, IfOk};
 ghost use Rattle.dd_topology.specs.Sets.{all_symbols};
 ghost use Rattle.dd_formula.specs.LocalRule.{local_rule};
@@ -17,18 +17,18 @@ use dd_topology::{Kind, Sets, Topology};
 use dd_values::Limits;
 use std::alloc::{AllocError, Global};
 
-/// Why nothing was asked.
+/// Why the question was not asked.
 #[derive(Debug, Drop)]
 pub enum Unasked {
     /// There are more than 4 nodes, no symbol, or more than 16.
     Numbers,
-    /// The formula names what there isn't, or is too deep.
+    /// The formula names something that doesn't exist, or is too deep.
     Formula,
     /// The rule is too large.
     Rule(RuleFault),
-    /// The question doesn't go together, or passes a limit.
+    /// The question isn't well formed, or exceeds a limit.
     Question(QuestionFault),
-    /// Memory was wanting.
+    /// Memory ran out.
     Memory,
 }
 
@@ -50,7 +50,7 @@ impl From<QuestionFault> for Unasked {
     }
 }
 
-/// The rule of a formula over a topology, which has so many labels, and so many symbols, all of which its nodes allow.
+/// The rule of a formula over a topology with this many labels, and with this many symbols, all allowed at each node.
 fn rule_of(
     alloc: Global,
     topology: &Topology,
@@ -72,7 +72,7 @@ fn rule_of(
     Ok(Rule::new(alloc, topology, &sets, formula)?)
 }
 
-/// The right answer to a question that goes together and passes none of these limits. No engine is asked before the search.
+/// The right answer to a question, which must be well formed and within these limits. No engine is asked before the search.
 fn answer_to(alloc: Global, question: Question, limits: &Limits) -> Result<Answer, Unasked>
     ensures { IfOk result (λ answer. IsRightTo limits.now (asked_of question.entry) answer) }
 {
@@ -90,7 +90,7 @@ fn tested_squares(alloc: Global) -> Result<Rule, Unasked>
     rule_of(alloc, &topology, 4, 2, formula)
 }
 
-/// The right answer to whether the chessboard is a configuration of hard squares.
+/// The right answer to the question whether the chessboard is a configuration of hard squares.
 pub fn chessboard_answer(alloc: Global, limits: &Limits) -> Result<Answer, Unasked>
     ensures { IfOk result (IsRightTo limits.now (membership hard chessboard)) }
 {

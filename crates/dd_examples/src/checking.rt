@@ -1,4 +1,4 @@
-//! An output, read and checked: whether each of its answers is a certificate.
+//! An output that is read and checked: whether each of its answers is a certificate.
 ghost use Rattle.std.specs.Prelude.{◌+◌, ◌<◌, length, IsTrue, ◌↔◌, IfOk, IfErr};
 ghost use Rattle.dd_output.specs.Outputs.{IsWritableOutput};
 ghost use Rattle.dd_script.specs.Scripts.{IsScriptRefusal};
@@ -10,16 +10,16 @@ use dd_output::{CertificateFault, Output, read_output};
 use dd_script::{Script, ScriptFault, ScriptKind, parse};
 use std::alloc::{AllocError, Global};
 
-/// Why an output is not checked.
+/// Why an output isn't checked.
 #[derive(Debug, Drop)]
 pub enum Unchecked {
     /// The bytes are no output.
     Output(CertificateFault),
-    /// The output's bytes of a script spell none.
+    /// The bytes that the output gives as its script spell no script.
     Script(ScriptFault),
 }
 
-/// Whether an answer is a certificate of the query behind as many others. Then what it claims is true.
+/// Whether an answer is a certificate of the query that comes after `before` others. If so, what it claims is true.
 #[tactic(auto, using(crate::proofs::Checked::has_query_at))]
 fn is_right(
     alloc: Global,
@@ -39,7 +39,7 @@ fn is_right(
     Ok(verdict == Verdict::Accepted)
 }
 
-/// Whether there is one answer to each query of the script, and each is a certificate.
+/// Whether each query of the script has one answer, and each answer is a certificate.
 #[tactic(auto, using(crate::proofs::Checked::none_yet, crate::proofs::Checked::below_queries, crate::proofs::Checked::all_right, crate::proofs::Checked::too_many_or_few))]
 pub fn are_right(alloc: Global, script: &Script, answers: &[Answer]) -> Result<bool, AllocError>
     ensures { IfOk result (λ right. IsTrue right ↔ AreRight script.now answers.now) }
@@ -55,7 +55,7 @@ pub fn are_right(alloc: Global, script: &Script, answers: &[Answer]) -> Result<b
     Ok(all)
 }
 
-/// Whether the answers of an output are right, or why its script is none.
+/// Whether the answers of an output are right, or why its script isn't one.
 fn judged(alloc: Global, output: &Output) -> Result<bool, ScriptFault>
     requires { IsWritableOutput output.now }
     ensures judged { IfOk result (IsJudged output.now) }
@@ -71,7 +71,7 @@ fn judged(alloc: Global, output: &Output) -> Result<bool, ScriptFault>
     }
 }
 
-/// Whether the bytes are an output with a right answer to each query of its script, or why they are no output of a script.
+/// Whether the bytes are an output with a right answer to each query of its script, or why they aren't checked.
 pub fn checked(alloc: Global, bytes: &[u8]) -> Result<bool, Unchecked>
     ensures judged { IfOk result (IsJudgedText bytes.now) }
     ensures refused { IfErr result (IsUnchecked bytes.now) }

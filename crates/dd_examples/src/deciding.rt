@@ -1,4 +1,4 @@
-//! A script, read and answered: the first line of the answer to each query.
+//! A script that is read and answered: the first line of the answer to each query.
 ghost use Rattle.std.specs.Prelude.{◌≤◌, length, Contains, IfOk, IfErr};
 ghost use Rattle.dd_values.specs.Bounds.{most_script};
 ghost use Rattle.dd_script.specs.Parts.{Parts};
@@ -12,7 +12,7 @@ use dd_query::Query;
 use dd_script::{Script, ScriptFault, ScriptKind, parse};
 use std::alloc::{AllocError, Global};
 
-/// The first line of the right answer to a query of the script, which has this number.
+/// The first line of the right answer to a query of the script with this number.
 fn line_of(
     alloc: Global,
     script: &Script,

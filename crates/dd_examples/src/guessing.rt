@@ -1,4 +1,4 @@
-//! An engine of one's own, which may be wrong, and a roster that asks it.
+//! A user's own engine, which may be wrong, and a roster that asks it.
 ghost use Rattle.std.specs.Prelude.{false, IfOk, IfSome};
 ghost use Rattle.dd_engines.specs.Proposals.{IsRightOutcome};
 
@@ -15,7 +15,7 @@ pub struct Guess {
 }
 
 impl Guess {
-    /// An engine that was not asked yet.
+    /// An engine that has not been asked yet.
     pub fn new(value: bool) -> Self {
         Guess {
             value,
@@ -39,8 +39,8 @@ impl Engine for Guess {
     }
 }
 
-/// What the guesses that all variables are false, and that all are true, settle of the clauses: an assignment that satisfies
-/// them, or nothing. That it is right needs no proof of the engines: the roster looks at what they propose.
+/// An assignment that satisfies the clauses, if all variables false or all variables true do. This is right without a proof
+/// about the engines, since the roster checks what they propose.
 pub fn guessed(alloc: Global, cnf: &Cnf) -> Result<Option<Outcome>, AllocError>
     ensures { IfOk result (λ answer. IfSome answer (IsRightOutcome cnf.now)) }
 {

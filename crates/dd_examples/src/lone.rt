@@ -11,7 +11,7 @@ use dd_lattice::{Cell, Position};
 use dd_pattern::Configuration;
 use dd_script::Script;
 
-/// One 1, at the position 0, and 0 at each other.
+/// The symbol 1 at the origin, and 0 everywhere else.
 #[derive(Clone, Copy, Debug)]
 pub struct Lone;
 
@@ -30,8 +30,8 @@ impl Configuration for Lone {
     }
 }
 
-/// Does nothing; its contract says what an answer YES that is a certificate says of this configuration: where it obeys the
-/// premise, the goal doesn't hold at the position.
+/// Does nothing; its contract says what a YES that is a certificate means for this configuration: if it obeys the premise, the
+/// goal doesn't hold at the position.
 pub fn nowhere_in_lone(script: &Script, query: u32, answer: &Answer, place: &Position)
     requires certificate { IsCertificate script.now query answer.now }
     requires yes { is_yes answer.now ≡ true }

@@ -1,6 +1,6 @@
-//! What programs do with the crates. Without a word this one reads an output from standard input and writes it again, byte for byte;
-//! with `check` it reads an output and says whether each answer is a certificate; with `answer` it reads a script and writes the first
-//! line of each answer; and with `squares` it says whether the chessboard is a configuration of hard squares.
+//! Examples of the use of the crates. Without a word, this program reads an output and writes it again. With `check` it reads an
+//! output and says whether each answer is a certificate. With `answer` it reads a script and writes the first line of each
+//! answer. With `squares` it says whether the chessboard is a configuration of hard squares.
 #![tactic(auto)]
 
 mod asking;

@@ -1,10 +1,10 @@
-//! An output, read and written again.
+//! An output that is read and written again.
 ghost use Rattle.std.specs.Prelude.{◌≡◌, IfOk};
 
 use dd_output::{CertificateFault, read_output, write_output};
 use std::alloc::Global;
 
-/// The text of the output that the bytes are, which is these bytes again; or where they stop being one.
+/// The output in these bytes, written again as the same bytes; or the offset at which they stop being an output.
 pub fn rewritten(alloc: Global, bytes: &[u8]) -> Result<Vec<u8>, CertificateFault>
     ensures { IfOk result (λ text. text.items ≡ bytes.now) }
 {

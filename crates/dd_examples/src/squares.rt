@@ -1,4 +1,4 @@
-//! A rule that is made without a script, and whether a configuration obeys it.
+//! A rule made without a script, and whether a configuration obeys it.
 ghost use Rattle.std.specs.Prelude.{◌≡◌, IfOk};
 ghost use Rattle.dd_formula.specs.Living.{IsMembership};
 ghost use Rattle.dd_examples.specs.Squares.{symbol_after, hard_formula, hard, chessboard};
@@ -14,7 +14,7 @@ const UP: u32 = 0;
 
 const RIGHT: u32 = 2;
 
-/// The formula that says that the cell at the end of these moves has the symbol.
+/// The formula that the cell at the end of these moves has the symbol.
 fn symbol_after(alloc: Global, moves: &[u32], symbol: u32) -> Result<Formula, AllocError>
     ensures { IfOk result (λ formula. formula ≡ symbol_after moves.now symbol) }
 {

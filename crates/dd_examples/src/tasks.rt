@@ -1,4 +1,4 @@
-//! What the program does, by its word.
+//! What the program does for each word.
 
 use crate::asking::chessboard_answer;
 use crate::checking::{Unchecked, checked};
@@ -13,23 +13,23 @@ use dd_script::{ScriptFault, ScriptKind};
 use dd_values::{Limits, MOST_SCRIPT};
 use std::alloc::Global;
 
-/// Limits in range. Whether a configuration obeys a rule takes no search, so they change nothing.
+/// Limits in range. The question whether a configuration obeys a rule takes no search, so they change nothing.
 const LIMITS: Limits = Limits {
     radius: 2,
     period: 2,
     pivots: 100,
 };
 
-/// What the program is asked for.
+/// What the program is asked to do.
 #[derive(Clone, Copy, Debug, PartialEq, Eq)]
 pub enum Task {
-    /// To write again the output that is read.
+    /// Write the output that is read again.
     Rewrite,
-    /// To write the first line of each answer to the script that is read.
+    /// Write the first line of each answer to the script that is read.
     Answer,
-    /// To say whether each answer of the output that is read is a certificate.
+    /// Say whether each answer of the output that is read is a certificate.
     Check,
-    /// To say whether the chessboard is a configuration of hard squares.
+    /// Say whether the chessboard is a configuration of hard squares.
     Squares,
 }
 
@@ -40,16 +40,16 @@ pub enum Fault {
     Words,
     /// The input could not be read, or is too long.
     Input,
-    /// The bytes, or those that an output gives as its script, spell none.
+    /// The bytes, or those that an output gives as its script, spell no script.
     Script,
     /// The bytes are no output.
     Output,
-    /// Memory was wanting.
+    /// Memory ran out.
     Memory,
 }
 
 impl Fault {
-    /// What is said of it on standard error.
+    /// The message for standard error.
     pub fn message(self) -> &'static str {
         match self {
             Fault::Words => "the word is answer, check or squares, or there is none",
@@ -101,7 +101,7 @@ impl From<Unchecked> for Fault {
     }
 }
 
-// A line, or want of memory.
+// A line, unless memory ran out.
 fn line(alloc: Global, text: &[u8]) -> Result<Vec<u8>, Fault> {
     match Vec::from_slice(alloc, text) {
         Ok(line) => Ok(line),
@@ -161,7 +161,7 @@ impl Task {
         }
     }
 
-    /// What the task writes of what it reads.
+    /// What the task writes for the input that it reads.
     pub fn text<S: Source>(self, alloc: Global, source: &mut S) -> Result<Vec<u8>, Fault> {
         match self {
             Task::Rewrite => rewritten_text(alloc, source),

@@ -1,14 +1,12 @@
 -- The nodes of an atom that compares two symbols.
 use Rattle.std.proofs.Common.{◌≡◌, ℕ, zero, suc, ◌+◌, ◌*◌, [], ◌∷◌, map, refl, ap, ◌∙◌, arith, subst}
-use Rattle.std.specs.List.{sum_by, range_with_len}
 use Rattle.std.proofs.lemmas.List.FromFn.{sum_by-map-range_with_len_more}
+use Rattle.std.specs.List.{sum_by, range_with_len}
 use Rattle.dd_lattice.specs.declared.position.Cell.{Cell}
-use Rattle.dd_expansion.specs.declared.expanded.Expanded.TheVariants as expanded
-use Rattle.dd_expansion.specs.declared.expanded.Expanded.TheFolds.{fold-roll-Expanded}
-use Rattle.dd_expansion.specs.declared.expanded.Expanded.TheOpen.{Expanded-F}
-use Rattle.dd_expansion.specs.Leaves.{instances, instances_step}
-use Rattle.dd_expansion.specs.Expansion.{leaf, both_have, equal_at}
+use Rattle.dd_expansion.specs.declared.expanded.Expanded.{TheFolds.fold-roll-Expanded, TheOpen.Expanded-F}
+use Rattle.dd_expansion.specs.{Leaves.instances, Leaves.instances_step, Expansion.leaf, Expansion.both_have, Expansion.equal_at}
 use Rattle.dd_expansion.specs.lemmas.Layers.{instances_or}
+use Rattle.dd_expansion.specs.declared.expanded.Expanded.TheVariants as expanded
 
 pub three_nodes : (c d : Cell) (s : ℕ) → instances (both_have c d s) ≡ 3
 three_nodes c d s =

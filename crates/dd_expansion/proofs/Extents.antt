@@ -1,39 +1,26 @@
 -- How far moves, walks and balls lead.
-use Rattle.std.proofs.Common.{◌≡◌, ℕ, zero, suc, ◌+◌, ◌*◌, ◌≤◌, Bool, true, false, List, [], ◌∷◌, Option, Some, None, ℤ, pos, negsuc, ◌≤ℤ◌, arith, refl, ap, sym, ◌∙◌, inl, inr, unsigned_abs, subst, Contains}
-use Rattle.std.specs.Prelude.{int_le, nat_le, cond, IfSome, if◌then◌else◌}
-use lib.Dec.{T}
-use Rattle.std.specs.List.{find, list_all}
+use Rattle.std.proofs.Common.{◌≡◌, ℕ, zero, suc, ◌+◌, ◌*◌, ◌≤◌, Bool, true, false, List, [], ◌∷◌, Option, Some, None, ℤ, pos, negsuc, ◌≤ℤ◌, arith, refl, ap, sym, inl, inr, unsigned_abs, subst}
+use Rattle.std.proofs.lemmas.{Int.ints, Bool.and_parts, Bool.and_from, Bool.leb-true}
+use Rattle.std.specs.{Prelude.nat_le, Prelude.cond, Prelude.IfSome, Prelude.if◌then◌else◌, List.find, List.list_all}
 use Rattle.std.specs.Option.{option_map, option_and_then}
-use Rattle.std.proofs.lemmas.Int.{ints}
-use Rattle.std.proofs.lemmas.Bool.{and_parts, and_from, leb-true}
-use Rattle.dd_lattice.specs.Place.{Place, moved, is_coordinate_in_range, is_in_range}
-use Rattle.dd_lattice.specs.declared.position.Cell.{Cell}
-use Rattle.dd_lattice.specs.lemmas.ListLaws.{All-from_contains, Contains-cons_cases, Contains-nil}
+use lib.Dec.{T}
+use Rattle.dd_lattice.specs.{Place.Place, Place.moved, Place.is_coordinate_in_range, Place.is_in_range, declared.position.Cell.Cell}
 use Rattle.dd_lattice.specs.lemmas.RangeLaws.{in_range_from_test}
+use Rattle.dd_values.specs.lemmas.{Members.All-from_contains, Numbers.le_from, Lists.passes}
 use Rattle.dd_topology.specs.declared.edge.Edge.{Edge}
 use Rattle.dd_topology.specs.Topology.{extent, are_short, leaves, end_of, step, in_range}
-use Rattle.dd_topology.specs.Balls.{IsInBall, IsAdjacent, IsCellListOf, CellsLeaveRange}
+use Rattle.dd_topology.specs.{Balls.IsInBall, Balls.IsAdjacent, Balls.IsCellListOf, Balls.CellsLeaveRange, lemmas.ExtentLaws.extent_moved}
 use Rattle.dd_expansion.specs.expanding.Near.{AreNear}
-
-pub extent_moved : (p by : Place) → extent (moved p by) ≤ extent p + extent by
-extent_moved p by = omega (arith, ints)
 
 -- the way back leads no further
 extent_back : (p by : Place) → extent p ≤ extent (moved p by) + extent by
 extent_back p by = omega (arith, ints)
 
-true_from : (b : Bool) → T b → b ≡ true
-true_from true h = refl
-true_from false h = absurd h
-
-le_holds : (a b : ℤ) → a ≤ℤ b → int_le a b ≡ true
-le_holds a b h = true_from (int_le a b) h.le
-
 near_within : (c : ℤ) → unsigned_abs c ≤ 1048576 → is_coordinate_in_range c ≡ true
 near_within c h =
     let low : negsuc 1048575 ≤ℤ c = omega (arith, ints) in
     let high : c ≤ℤ pos 1048576 = omega (arith, ints) in
-    and_from _ _ (le_holds _ _ low) (le_holds _ _ high)
+    and_from _ _ (le_from _ _ low) (le_from _ _ high)
 
 pub within_range : (p : Place) → extent p ≤ 1048576 → is_in_range p ≡ true
 within_range p h =
@@ -73,15 +60,9 @@ stays (Some to) n near small = ap (λ b. if b then Some to else None) (within_ra
 pub step_stays : (es : List Edge) (c : Cell) (label : ℕ) → are_short 4 es ≡ true → extent c.position + 4 ≤ 1048576 → option_and_then in_range (step es c label) ≡ step es c label
 step_stays es c label short small = stays (step es c label) (extent c.position + 4) (step_near es c label short) small
 
-member_passes : {X : Type 0} (p : X → Bool) (xs : List X) (x : X) → list_all p xs ≡ true → Contains xs x → p x ≡ true
-member_passes p [] x h there = absurd (Contains-nil x there)
-member_passes p (y ∷ ys) x h there =
-    let parts = and_parts (p y) (list_all p ys) h in
-    elim (Contains-cons_cases y ys x there) [ inl same ↦ ap p (sym same) ∙ parts.0 | inr after ↦ member_passes p ys x parts.1 after ]
-
 adjacent_near : (es : List Edge) (a b : Cell) → are_short 4 es ≡ true → IsAdjacent es a b → extent b.position ≤ extent a.position + 4
 adjacent_near es a b short (e, there, ways) =
-    let small : extent e.offset ≤ 4 = leb-true _ _ (member_passes (λ e. nat_le (extent e.offset) 4) es e short there) in
+    let small : extent e.offset ≤ 4 = leb-true _ _ (passes (λ e. nat_le (extent e.offset) 4) es e short there) in
     elim ways [
       | inl forth ↦ subst (λ d. extent d.position ≤ extent a.position + 4) (sym forth.1) (omega (arith, extent_moved a.position e.offset, small))
       | inr back ↦ subst (λ d. extent b.position ≤ extent d.position + 4) (sym back.1) (omega (arith, extent_back b.position e.offset, small))

@@ -1,23 +1,17 @@
 -- The expansion of each kind of formula, and how many nodes it has.
 use Rattle.std.proofs.Common.{◌≡◌, ℕ, ◌+◌, List, [], ◌∷◌, ◌++◌, map, refl, ap, sym, ◌∙◌, arith}
-use Rattle.std.specs.List.{sum_by}
 use Rattle.std.proofs.lemmas.List.Sums.{sum_by-cons}
-use Rattle.dd_lattice.specs.declared.position.Cell.{Cell}
-use Rattle.dd_lattice.specs.InOrder.{in_order}
-use Rattle.dd_topology.specs.declared.edge.Edge.{Edge}
-use Rattle.dd_topology.specs.Grid.{Grid}
-use Rattle.dd_expansion.specs.declared.expanded.Expanded.TheFolds.{fold-roll-Expanded}
-use Rattle.dd_expansion.specs.declared.expanded.Expanded.TheOpen.{Expanded-F}
-use Rattle.dd_expansion.specs.declared.formulas.BallOf.{BallOf}
-use Rattle.dd_expansion.specs.declared.formulas.Formula.{Formula}
-use Rattle.dd_expansion.specs.declared.formulas.Formula.TheVariants as formula
-use Rattle.dd_expansion.specs.declared.formulas.Formula.TheFolds.{fold-roll-Formula}
-use Rattle.dd_expansion.specs.declared.formulas.Formula.TheOpen.{Formula-F}
+use Rattle.std.specs.List.{sum_by}
+use Rattle.dd_lattice.specs.{declared.position.Cell.Cell, InOrder.in_order}
+use Rattle.dd_topology.specs.{declared.edge.Edge.Edge, Grid.Grid}
+use Rattle.dd_expansion.specs.declared.expanded.Expanded.{TheFolds.fold-roll-Expanded, TheOpen.Expanded-F}
+use Rattle.dd_expansion.specs.declared.formulas.{BallOf.BallOf, Formula.Formula}
+use Rattle.dd_expansion.specs.declared.formulas.Formula.{TheFolds.fold-roll-Formula, TheOpen.Formula-F}
 use Rattle.dd_expansion.specs.Leaves.{instances, instances_step}
-use Rattle.dd_expansion.specs.Limits.{formula_fits, formula_fits_step, depth, depth_step}
-use Rattle.dd_expansion.specs.Terms.{balls_of}
+use Rattle.dd_expansion.specs.{Limits.formula_fits, Limits.formula_fits_step, Limits.depth, Limits.depth_step, Terms.balls_of}
 use Rattle.dd_expansion.specs.Expansion.{Expansion, expansion, expansion_step, negated, any_of, both_alike}
 use Rattle.dd_expansion.specs.lemmas.Layers.{instances_and, instances_or, expansion_and, expansion_or, expansion_for_all, expansion_exists, fits_and, fits_or, depth_and, depth_or}
+use Rattle.dd_expansion.specs.declared.formulas.Formula.TheVariants as formula
 
 sum_by-map : {X Y : Type 0} (f : Y → ℕ) (h : X → Y) (xs : List X) → sum_by f (map h xs) ≡ sum_by (λ x. f (h x)) xs
 sum_by-map f h [] = refl
@@ -73,7 +67,7 @@ module _ (es : List Edge) (n : ℕ) (env : List Cell) where
   pub nodes_iff : (f g : Formula) → instances (expansion es n (formula.Iff f g) env) ≡ 1 + (instances (expansion es n f env) + instances (expansion es n g env))
   nodes_iff f g = ap instances (expansion_iff f g) ∙ fold-roll-Expanded ℕ instances_step (Expanded-F.Iff (expansion es n f env) (expansion es n g env))
 
--- a disjunction fits where the conjunction does, and is as deep; so with the quantifiers
+-- a disjunction fits if the conjunction does, and is as deep; likewise with the two quantifiers
 module _ (g : Grid) (n : ℕ) where
   pub fits_or_alike : (fs : List Formula) (scope : ℕ) → formula_fits g n (formula.Or fs) scope ≡ formula_fits g n (formula.And fs) scope
   fits_or_alike fs scope = fits_or g n fs scope ∙ sym (fits_and g n fs scope)

@@ -1,49 +1,29 @@
 -- What holds of a formula, at its parts.
-use Rattle.std.proofs.Common.{◌≡◌, ℕ, zero, suc, ◌+◌, ◌*◌, ◌<◌, ◌≤◌, Bool, true, false, cond, List, [], ◌∷◌, ◌++◌, length, map, take, get_or, Result, Ok, Err, ap, sym, ◌∙◌, subst, arith}
-use Rattle.std.specs.Prelude.{nat_le, IfOk, IfErr}
-use Rattle.std.specs.List.{list_all, sum_by}
-use Rattle.std.proofs.lemmas.Bool.{and_parts}
-use Rattle.std.proofs.lemmas.List.{take_more, map-append, length-append}
+use Rattle.std.proofs.Common.{◌≡◌, ℕ, ◌+◌, ◌*◌, ◌<◌, ◌≤◌, Bool, true, List, [], ◌∷◌, ◌++◌, length, map, take, get_or, Result, Ok, Err, ap, sym, ◌∙◌, subst, arith}
+use Rattle.std.proofs.lemmas.{Bool.and_parts, List.take_more, List.map-append, List.length-append}
 use Rattle.std.proofs.lemmas.List.Sums.{sum_by_more, sum_by_more_le}
 use Rattle.std.proofs.lemmas.List.Elements.{All-push, All-weaker}
+use Rattle.std.specs.{Prelude.nat_le, Prelude.IfOk, Prelude.IfErr, List.sum_by}
 use Rattle.dd_lattice.specs.declared.position.Cell.{Cell}
-use Rattle.dd_topology.specs.Grid.{Grid}
-use Rattle.dd_topology.specs.Topology.{extent}
-use Rattle.dd_expansion.specs.declared.formulas.BallOf.{BallOf}
-use Rattle.dd_expansion.specs.declared.formulas.Formula.{Formula}
+use Rattle.dd_topology.specs.{Grid.Grid, Topology.extent}
+use Rattle.dd_expansion.specs.declared.formulas.{BallOf.BallOf, Formula.Formula}
+use Rattle.dd_expansion.specs.declared.formulas.Formula.{TheFolds.fold-roll-Formula, TheOpen.Formula-F}
+use Rattle.dd_expansion.specs.Limits.{balls_fit, formula_fits, formula_fits_step, greatest, depth}
+use Rattle.dd_expansion.specs.{expanding.Near.AreNear, expanding.Budget.IsPaid, declared.fault.ExpansionFault.ExpansionFault}
+use Rattle.dd_expansion.specs.lemmas.{Layers.fits_and, Layers.depth_and, Depths.greatest_at}
+use Rattle.dd_values.specs.lemmas.{Numbers.cond_more, Lists.list_at}
 use Rattle.dd_expansion.specs.declared.formulas.Formula.TheVariants as formula
-use Rattle.dd_expansion.specs.declared.formulas.Formula.TheFolds.{fold-roll-Formula}
-use Rattle.dd_expansion.specs.declared.formulas.Formula.TheOpen.{Formula-F}
-use Rattle.dd_expansion.specs.Limits.{balls_fit, formula_fits, formula_fits_step, greatest, depth, depth_step}
-use Rattle.dd_expansion.specs.expanding.Near.{AreNear}
-use Rattle.dd_expansion.specs.expanding.Budget.{IsPaid}
-use Rattle.dd_expansion.specs.declared.fault.ExpansionFault.{ExpansionFault}
-use Rattle.dd_expansion.specs.lemmas.Layers.{fits_and, depth_and}
-
-all_at : {X : Type 0} (test : X → Bool) (xs : List X) (i : ℕ) (d : X) → list_all test xs ≡ true → i < length xs → test (get_or xs i d) ≡ true
-all_at test [] i d h within = absurd (omega arith)
-all_at test (x ∷ xs) zero d h within = (and_parts _ _ h).0
-all_at test (x ∷ xs) (suc i) d h within = all_at test xs i d (and_parts _ _ h).1 (omega arith)
 
 -- each part of a conjunction that fits fits
 pub part_fits : (g : Grid) (n : ℕ) (fs : List Formula) (scope i : ℕ) (f : Formula) → formula_fits g n (formula.And fs) scope ≡ true → i < length fs → f ≡ get_or fs i f → formula_fits g n f scope ≡ true
 part_fits g n fs scope i f h within is =
-    ap (λ x. formula_fits g n x scope) is ∙ all_at (λ x. formula_fits g n x scope) fs i f (sym (fits_and g n fs scope) ∙ h) within
-
-greatest_at : (fs : List Formula) (i : ℕ) (d : Formula) → i < length fs → depth (get_or fs i d) ≤ greatest (map depth fs)
-greatest_at [] i d within = absurd (omega arith)
-greatest_at (f ∷ fs) zero d within = omega arith
-greatest_at (f ∷ fs) (suc i) d within = let rest = greatest_at fs i d (omega arith) in omega (arith, rest)
-
-deeper : (b : Bool) (n : ℕ) → n ≤ cond b (1 + n) n
-deeper true n = omega arith
-deeper false n = omega arith
+    ap (λ x. formula_fits g n x scope) is ∙ list_at (λ x. formula_fits g n x scope) fs i f (sym (fits_and g n fs scope) ∙ h) within
 
 -- a part is no deeper than the conjunction
 pub part_depth : (fs : List Formula) (i : ℕ) (f : Formula) → i < length fs → f ≡ get_or fs i f → depth f ≤ depth (formula.And fs)
 part_depth fs i f within is =
     let whole = depth_and fs in
-    let least = deeper (nat_le 2 (length (map depth fs))) (greatest (map depth fs)) in
+    let least = cond_more (nat_le 2 (length (map depth fs))) (greatest (map depth fs)) in
     omega (arith, ap depth is, greatest_at fs i f within, whole, least)
 
 -- the balls and the body of a quantifier
@@ -51,9 +31,6 @@ pub quantified_fits : (g : Grid) (n : ℕ) (bs : List BallOf) (f : Formula) (sco
 quantified_fits g n bs f scope h =
     let opened = ap (λ x. x scope) (fold-roll-Formula (ℕ → Bool) (formula_fits_step g n) (Formula-F.ForAll bs f)) in
     and_parts _ _ (sym opened ∙ (ap (λ x. formula_fits g n x scope) (formula.rolls-ForAll bs f) ∙ h))
-
-pub quantified_depth : (bs : List BallOf) (f : Formula) → depth (formula.ForAll bs f) ≡ 1 + depth f
-quantified_depth bs f = ap depth (sym (formula.rolls-ForAll bs f)) ∙ fold-roll-Formula ℕ depth_step (Formula-F.ForAll bs f)
 
 -- one more variable, at a cell that is near
 pub near_push : (env : List Cell) (c : Cell) → AreNear (12 * length env) env → extent c.position ≤ 12 * (length env + 1) → AreNear (12 * length (env ++ c ∷ [])) (env ++ c ∷ [])
@@ -86,7 +63,7 @@ inner_depth body f env inner c h same is = omega (arith, h, ap depth same, longe
 pub inner_near : (env inner : List Cell) (c : Cell) → AreNear (12 * length env) env → extent c.position ≤ 12 * (length env + 1) → inner ≡ env ++ c ∷ [] → AreNear (12 * length inner) inner
 inner_near env inner c near here is = subst (λ l. AreNear (12 * length l) l) (sym is) (near_push env c near here)
 
--- the cell that stands at a place of a list of near cells
+-- the cell at a place of a list of near cells
 pub item_near : (n : ℕ) (cells : List Cell) (i : ℕ) (c : Cell) → AreNear n cells → i < length cells → c ≡ get_or cells i c → extent c.position ≤ n
 item_near n cells i c near within is = let here = near i c within in omega (arith, here, ap (λ d. extent d.position) is)
 
@@ -101,7 +78,7 @@ pub paid_more : {X : Type 0} (cost : X → ℕ) (xs : List X) (i : ℕ) (x : X) 
     now + sum_by cost (take (i + 1) xs) ≡ first
 paid_more cost xs i x left now first within is before one = omega (arith, sum_by_more cost xs i x within, ap cost is, before, one)
 
--- what is left does not pay for one more value, so the whole has a greater cost; so too where a gate was paid before
+-- if the budget doesn't pay for one more value, the whole costs more; also if a gate was paid before
 pub few_at : {X : Type 0} (cost : X → ℕ) (xs : List X) (i : ℕ) (x : X) (left first : ℕ) → i < length xs → x ≡ get_or xs i x → left + sum_by cost (take i xs) ≡ first → left < cost x → first < sum_by cost xs
 few_at cost xs i x left first within is paid few = omega (arith, sum_by_more_le cost xs i x within, ap cost is, paid, few)
 

@@ -1,20 +1,13 @@
 -- The union of several balls, made ball by ball.
 use Rattle.std.proofs.Common.{◌≡◌, ◌+◌, ◌<◌, ◌≤◌, ℕ, List, [], ◌∷◌, ◌++◌, length, take, get_or, ap, sym, ◌∙◌, subst, inl, inr}
-use Rattle.std.specs.Prelude.{slice_get}
-use Rattle.std.specs.List.Sorted.{IsStrictlySortedBy}
 use Rattle.std.proofs.lemmas.List.{take_more, take_all, flat_map_more}
 use Rattle.std.proofs.lemmas.List.Elements.{All-append, All-contains, Contains-append_left, Contains-append_right, Contains-append_cases}
-use Rattle.dd_lattice.specs.Order.{cell_cmp}
-use Rattle.dd_lattice.specs.InOrder.{in_order, HaveSameCells}
-use Rattle.dd_lattice.specs.declared.position.Cell.{Cell}
-use Rattle.dd_lattice.specs.lemmas.ListLaws.{All-from_contains}
+use Rattle.std.specs.{Prelude.slice_get, List.Sorted.IsStrictlySortedBy}
+use Rattle.dd_lattice.specs.{Order.cell_cmp, InOrder.in_order, InOrder.HaveSameCells, declared.position.Cell.Cell}
 use Rattle.dd_lattice.specs.lemmas.InOrderLaws.{in_order_members}
-use Rattle.dd_topology.specs.declared.edge.Edge.{Edge}
-use Rattle.dd_topology.specs.Topology.{extent}
-use Rattle.dd_topology.specs.lemmas.OrderLaws.{is-in_order}
-use Rattle.dd_expansion.specs.declared.formulas.BallOf.{BallOf}
-use Rattle.dd_expansion.specs.Terms.{ball_round, balls_of}
-use Rattle.dd_expansion.specs.expanding.Near.{AreNear}
+use Rattle.dd_values.specs.lemmas.Members.{All-from_contains}
+use Rattle.dd_topology.specs.{declared.edge.Edge.Edge, Topology.extent, lemmas.OrderLaws.is-in_order}
+use Rattle.dd_expansion.specs.{declared.formulas.BallOf.BallOf, Terms.ball_round, Terms.balls_of, expanding.Near.AreNear}
 
 -- one list of cells after another
 joined : (ps bs cs ds : List Cell) → HaveSameCells ps bs → HaveSameCells cs ds → HaveSameCells (ps ++ cs) (bs ++ ds)

@@ -1,16 +1,12 @@
 -- The expansion of a formula: the formula without variables that says the same at one cell.
 use Rattle.std.specs.Prelude.{ℕ, ◌==◌, Bool, false, List, [], ◌∷◌, ◌++◌, map, Option, Some, None}
 use Rattle.std.specs.List.{range_with_len}
-use Rattle.dd_lattice.specs.InOrder.{in_order}
-use Rattle.dd_lattice.specs.declared.position.Cell.{Cell}
-use Rattle.dd_topology.specs.declared.edge.Edge.{Edge}
-use Rattle.dd_topology.specs.Balls.{is_adjacent}
-use Rattle.dd_expansion.specs.declared.formulas.Formula.{Formula}
-use Rattle.dd_expansion.specs.declared.formulas.Formula.TheFolds.{fold-Formula}
+use Rattle.dd_lattice.specs.{InOrder.in_order, declared.position.Cell.Cell}
+use Rattle.dd_topology.specs.{declared.edge.Edge.Edge, Balls.is_adjacent}
+use Rattle.dd_expansion.specs.declared.formulas.Formula.{Formula, TheFolds.fold-Formula}
 use Rattle.dd_expansion.specs.declared.formulas.Formula.TheOpen.{Formula-F}
 use Rattle.dd_expansion.specs.declared.expanded.Expanded.{Expanded, roll-Expanded}
-use Rattle.dd_expansion.specs.declared.expanded.Expanded.TheOpen.{Expanded-F}
-use Rattle.dd_expansion.specs.Terms.{cell_of, same_cell, balls_of}
+use Rattle.dd_expansion.specs.{declared.expanded.Expanded.TheOpen.Expanded-F, Terms.cell_of, Terms.same_cell, Terms.balls_of}
 
 abbrev pub constant : Bool → Expanded
 constant b = roll-Expanded (Expanded-F.Constant b)
@@ -39,14 +35,14 @@ abbrev pub at_cells : (Cell → Cell → Expanded) → Option Cell → Option Ce
 at_cells e None d = constant false
 at_cells e (Some c) d = at_cell (e c) d
 
--- both cells have the symbol s; both have the same of n symbols
+-- both cells have the symbol s; both have the same one of n symbols
 abbrev pub both_have : Cell → Cell → ℕ → Expanded
 both_have c d s = all_of (leaf s c ∷ leaf s d ∷ [])
 
 abbrev pub equal_at : ℕ → Cell → Cell → Expanded
 equal_at n c d = any_of (map (both_have c d) (range_with_len 0 n))
 
--- by the variables' cells
+-- the expansion, given the variables' cells
 abbrev pub Expansion : Type 0
 Expansion = List Cell → Expanded
 
@@ -66,6 +62,7 @@ expansion_step es n (Formula-F.Iff f g) env = both_alike (f env) (g env)
 expansion_step es n (Formula-F.ForAll bs f) env = all_of (map (λ c. f (env ++ c ∷ [])) (in_order (balls_of es env bs)))
 expansion_step es n (Formula-F.Exists bs f) env = any_of (map (λ c. f (env ++ c ∷ [])) (in_order (balls_of es env bs)))
 
--- over n symbols; a quantifier has a part for each cell of its balls, in cell order, and no constant is folded away
+-- the expansion over n symbols. A quantifier has a part for each cell of its balls, in cell order. No constant is folded
+-- away
 abbrev pub expansion : List Edge → ℕ → Formula → Expansion
 expansion es n = fold-Formula Expansion (expansion_step es n)

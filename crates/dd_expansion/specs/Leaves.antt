@@ -1,15 +1,10 @@
 -- Formulas without variables: their truth, their leaves and their sizes.
 use Rattle.std.specs.Prelude.{ℕ, ◌+◌, ◌&&◌, not, Bool, true, is_some, cond, None, List, [], ◌∷◌, ◌++◌, length}
-use Rattle.std.specs.Bool.{beq}
-use Rattle.std.specs.List.{list_all, list_any, flat_map}
-use Rattle.dd_lattice.specs.Place.{Place, moved, is_in_range}
-use Rattle.dd_lattice.specs.Cells.{shifted}
-use Rattle.dd_lattice.specs.declared.position.Cell.{Cell}
+use Rattle.std.specs.{Bool.beq, List.list_all, List.list_any, List.flat_map}
+use Rattle.dd_lattice.specs.{Place.Place, Place.moved, Place.is_in_range, Cells.shifted, declared.position.Cell.Cell}
 use Rattle.dd_pattern.specs.Reading.{Look}
-use Rattle.dd_expansion.specs.declared.expanded.Expanded.{Expanded}
-use Rattle.dd_expansion.specs.declared.expanded.Expanded.TheFolds.{fold-Expanded}
-use Rattle.dd_expansion.specs.declared.expanded.Expanded.TheOpen.{Expanded-F}
-use Rattle.dd_expansion.specs.Truth.{is_symbol}
+use Rattle.dd_expansion.specs.declared.expanded.Expanded.{Expanded, TheFolds.fold-Expanded}
+use Rattle.dd_expansion.specs.{declared.expanded.Expanded.TheOpen.Expanded-F, Truth.is_symbol}
 
 abbrev pub holds_step : Expanded-F (Look → Bool) → Look → Bool
 holds_step (Expanded-F.Constant b) look = b
@@ -79,11 +74,11 @@ clause_count_step (Expanded-F.And es) = total es + (length es + 1)
 clause_count_step (Expanded-F.Or es) = total es + (length es + 1)
 clause_count_step (Expanded-F.Iff e f) = (e + f) + 4
 
--- the number of clauses of its gates: a constant is a gate without parts; an `And` or `Or` of k parts is a gate of k + 1
--- clauses, an `Iff` one of 4, and a `Not` or a leaf is none
+-- the number of clauses of its gates. A constant is a gate without parts. An `And` or `Or` of k parts has k + 1 clauses,
+-- and an `Iff` has 4. A `Not` or a leaf has none
 abbrev pub clause_count : Expanded → ℕ
 clause_count = fold-Expanded ℕ clause_count_step
 
--- what is read at v, by cells that are counted from v; nothing past the range of positions
+-- the symbols as seen from v: cells are counted from v, and one past the range of positions has no symbol
 abbrev pub seen : Look → Place → Look
 seen look v c = cond (is_in_range (moved c.position v)) (look (shifted v c)) None

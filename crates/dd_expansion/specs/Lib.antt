@@ -14,5 +14,5 @@ pub mod Limits
 pub mod Placed
 -- what the code keeps while it expands
 pub mod expanding
--- lemmas on what stands above, with their proofs, for whoever cites them
+-- lemmas on these definitions, with their proofs
 pub mod lemmas

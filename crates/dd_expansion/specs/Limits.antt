@@ -3,13 +3,10 @@ use Rattle.std.specs.Prelude.{ℕ, ◌+◌, ◌≤◌, ◌≡◌, ◌&&◌, Bool
 use Rattle.std.specs.List.{list_all}
 use Rattle.dd_values.specs.Bounds.{widest_radius}
 use Rattle.dd_topology.specs.Grid.{Grid}
-use Rattle.dd_expansion.specs.declared.formulas.Term.{Term}
-use Rattle.dd_expansion.specs.declared.formulas.BallOf.{BallOf}
-use Rattle.dd_expansion.specs.declared.formulas.Formula.{Formula}
-use Rattle.dd_expansion.specs.declared.formulas.Formula.TheFolds.{fold-Formula}
-use Rattle.dd_expansion.specs.declared.formulas.Formula.TheOpen.{Formula-F}
+use Rattle.dd_expansion.specs.declared.formulas.{Term.Term, BallOf.BallOf, Formula.Formula}
+use Rattle.dd_expansion.specs.declared.formulas.Formula.{TheFolds.fold-Formula, TheOpen.Formula-F}
 
--- how many moves a term has at most, how many balls a quantifier, and how deep a formula is
+-- the greatest number of moves of a term and of balls of a quantifier, and the greatest depth of a formula
 abbrev pub most_moves : ℕ
 most_moves = 16
 
@@ -19,7 +16,7 @@ most_balls = 4
 abbrev pub most_nested : ℕ
 most_nested = 64
 
--- a term of one of the variables in scope, each of its moves by a label that there is
+-- the term's variable is in scope, and the label of each move exists
 abbrev pub term_fits : Grid → ℕ → Term → Bool
 term_fits g scope t = nat_lt t.variable scope && nat_le (length t.moves) most_moves && list_all (λ l. nat_lt l (length g.labels)) t.moves
 
@@ -46,8 +43,8 @@ formula_fits_step g n (Formula-F.Iff f h) scope = f scope && h scope
 formula_fits_step g n (Formula-F.ForAll bs f) scope = balls_fit scope bs && f (scope + 1)
 formula_fits_step g n (Formula-F.Exists bs f) scope = balls_fit scope bs && f (scope + 1)
 
--- where so many variables are in scope, each variable, label, node and symbol of the formula is one that there is, and
--- terms and balls are within their limits
+-- with so many variables in scope, each variable, label, node and symbol of the formula exists, and terms and balls are
+-- within their limits
 abbrev pub formula_fits : Grid → ℕ → Formula → ℕ → Bool
 formula_fits g n = fold-Formula (ℕ → Bool) (formula_fits_step g n)
 

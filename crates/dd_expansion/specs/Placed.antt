@@ -1,8 +1,6 @@
 -- Cells of Z^d: the coordinates past the d-th are 0.
-use Rattle.std.specs.Prelude.{ℕ, ◌||◌, ◌&&◌, Bool, nat_lt, pos}
-use Rattle.std.specs.Ordering.{int_eq}
-use Rattle.dd_lattice.specs.Place.{Place}
-use Rattle.dd_lattice.specs.declared.position.Cell.{Cell}
+use Rattle.std.specs.{Prelude.ℕ, Prelude.◌||◌, Prelude.◌&&◌, Prelude.Bool, Prelude.nat_lt, Prelude.pos, Ordering.int_eq}
+use Rattle.dd_lattice.specs.{Place.Place, declared.position.Cell.Cell}
 use Rattle.dd_topology.specs.Grid.{Grid}
 
 abbrev pub is_flat : ℕ → Place → Bool

@@ -1,13 +1,10 @@
 -- The cells at which a formula looks, under any choice of the quantified variables in their balls.
-use Rattle.std.specs.Prelude.{List, [], ◌∷◌, ◌++◌, Option, Some, None}
-use Rattle.std.specs.List.{flat_map}
+use Rattle.std.specs.{Prelude.List, Prelude.[], Prelude.◌∷◌, Prelude.◌++◌, Prelude.Option, Prelude.Some, Prelude.None, List.flat_map}
 use Rattle.std.specs.Option.{option_to_list}
 use Rattle.dd_lattice.specs.declared.position.Cell.{Cell}
 use Rattle.dd_topology.specs.declared.edge.Edge.{Edge}
-use Rattle.dd_expansion.specs.declared.formulas.Formula.{Formula}
-use Rattle.dd_expansion.specs.declared.formulas.Formula.TheFolds.{fold-Formula}
-use Rattle.dd_expansion.specs.declared.formulas.Formula.TheOpen.{Formula-F}
-use Rattle.dd_expansion.specs.Terms.{cell_of, balls_of}
+use Rattle.dd_expansion.specs.declared.formulas.Formula.{Formula, TheFolds.fold-Formula}
+use Rattle.dd_expansion.specs.{declared.formulas.Formula.TheOpen.Formula-F, Terms.cell_of, Terms.balls_of}
 
 -- two cells, where neither is missing
 abbrev pub both_cells : Option Cell → Option Cell → List Cell
@@ -15,7 +12,7 @@ both_cells None d = []
 both_cells (Some c) None = []
 both_cells (Some c) (Some d) = c ∷ d ∷ []
 
--- by the variables' cells
+-- the cells that are read, given the variables' cells
 abbrev pub Reading : Type 0
 Reading = List Cell → List Cell
 

@@ -1,15 +1,9 @@
 -- Terms, which name cells, and balls, which name sets of cells. The environment gives the variables' cells by their numbers.
 use Rattle.std.specs.Prelude.{ℕ, ◌==◌, ◌&&◌, Bool, false, List, [], ◌∷◌, Option, Some, None, slice_get, pos}
-use Rattle.std.specs.List.{flat_map}
-use Rattle.std.specs.Option.{option_and_then}
-use Rattle.dd_lattice.specs.Place.{place}
-use Rattle.dd_lattice.specs.Cells.{cell}
-use Rattle.dd_lattice.specs.declared.position.Cell.{Cell}
-use Rattle.dd_topology.specs.declared.edge.Edge.{Edge}
-use Rattle.dd_topology.specs.Topology.{step}
-use Rattle.dd_topology.specs.Balls.{ball, same_place}
-use Rattle.dd_expansion.specs.declared.formulas.Term.{Term}
-use Rattle.dd_expansion.specs.declared.formulas.BallOf.{BallOf}
+use Rattle.std.specs.{List.flat_map, Option.option_and_then}
+use Rattle.dd_lattice.specs.{Place.place, Cells.cell, declared.position.Cell.Cell}
+use Rattle.dd_topology.specs.{declared.edge.Edge.Edge, Topology.step, Balls.ball, Balls.same_place}
+use Rattle.dd_expansion.specs.declared.formulas.{Term.Term, BallOf.BallOf}
 
 -- the cell at the end of several moves; none where one of them is missing
 abbrev pub walk : List Edge → Cell → List ℕ → Option Cell
@@ -37,7 +31,7 @@ abbrev pub ball_round : List Edge → ℕ → Option Cell → List Cell
 ball_round es r None = []
 ball_round es r (Some c) = ball es c r
 
--- the cells of several balls, each cell as often as it stands in one
+-- the cells of several balls, each cell once for each ball that has it
 abbrev pub balls_of : List Edge → List Cell → List BallOf → List Cell
 balls_of es env bs = flat_map (λ b. ball_round es b.radius (slice_get env b.variable)) bs
 

@@ -1,13 +1,10 @@
 -- What a formula says of a configuration.
 use Rattle.std.specs.Prelude.{ℕ, ◌==◌, ◌||◌, not, Bool, false, List, [], ◌∷◌, ◌++◌, Option, Some, None}
-use Rattle.std.specs.Bool.{beq}
-use Rattle.std.specs.List.{list_all, list_any}
+use Rattle.std.specs.{Bool.beq, List.list_all, List.list_any}
 use Rattle.dd_lattice.specs.declared.position.Cell.{Cell}
-use Rattle.dd_topology.specs.declared.edge.Edge.{Edge}
-use Rattle.dd_topology.specs.Balls.{is_adjacent}
+use Rattle.dd_topology.specs.{declared.edge.Edge.Edge, Balls.is_adjacent}
 use Rattle.dd_pattern.specs.Reading.{Look}
-use Rattle.dd_expansion.specs.declared.formulas.Formula.{Formula}
-use Rattle.dd_expansion.specs.declared.formulas.Formula.TheFolds.{fold-Formula}
+use Rattle.dd_expansion.specs.declared.formulas.Formula.{Formula, TheFolds.fold-Formula}
 use Rattle.dd_expansion.specs.declared.formulas.Formula.TheOpen.{Formula-F}
 use Rattle.dd_expansion.specs.Terms.{cell_of, on_cell, on_cells, same_cell, balls_of}
 
@@ -21,7 +18,7 @@ abbrev pub are_equal : Option ℕ → Option ℕ → Bool
 are_equal None b = false
 are_equal (Some a) b = is_symbol a b
 
--- by the variables' cells and the symbols of cells
+-- the truth, given the variables' cells and the symbols of cells
 abbrev pub Truth : Type 0
 Truth = List Cell → Look → Bool
 

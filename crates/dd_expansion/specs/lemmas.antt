@@ -8,3 +8,4 @@ pub mod SaysSame
 pub mod Shifting
 pub mod TruthAt
 pub mod TruthKeeps
+pub mod Depths

@@ -13,7 +13,7 @@ use dd_topology::Topology;
 use dd_values::{Boxed, Items};
 use std::alloc::{AllocError, Global};
 
-/// Takes nodes from the budget. `Instances` where there are not so many left.
+/// Takes nodes from the budget. `Instances` if too few are left.
 pub(crate) fn spend(budget: &mut u32, count: u32) -> Result<(), ExpansionFault>
     ensures ok { OnOk result (budget.new + count ≡ budget.old) }
     ensures few { IfErr result (λ fault. budget.old < count) }
@@ -41,7 +41,7 @@ fn leaf(symbol: u32, cell: Cell, budget: &mut u32) -> Result<Expanded, Expansion
     Ok(Expanded::Leaf { cell, symbol })
 }
 
-/// A negation, of a part that is paid already.
+/// The negation of a part that is already paid.
 pub(crate) fn negated(
     alloc: Global,
     part: Expanded,

@@ -47,7 +47,7 @@ pub fn symbol_near<R: Reads>(cell: &Cell, at: &Position, read: &R) -> Option<u32
     })
 }
 
-// No part is left out once the value is known: a symbol that is missing further on still makes the answer `None`.
+// Every part is evaluated, even once the value is known: a missing symbol further on still makes the answer `None`.
 #[cycle(evaluate)]
 fn evaluate_and<R: Reads>(parts: &[Expanded], at: &Position, read: &R) -> Option<bool>
     ensures { let look = seen (R.symbols read.now) at.now in

@@ -15,16 +15,16 @@ pub enum Expanded {
     Leaf { cell: Cell, symbol: u32 },
     /// The part is false.
     Not(Boxed<Expanded>),
-    /// All parts are true, as where there is none.
+    /// All parts are true. It is true if there is none.
     And(Items<Expanded>),
-    /// Some part is true, so there is one.
+    /// Some part is true. It is false if there is none.
     Or(Items<Expanded>),
     /// Both parts are true or both are false.
     Iff(Boxed<Expanded>, Boxed<Expanded>),
 }
 
 impl Expanded {
-    /// A value with the same numbers and lists in every part.
+    /// A copy with the same numbers and lists in every part.
     #[cycle(copy)]
     pub fn copy(&self, alloc: Global) -> Result<Expanded, AllocError>
         ensures { IfOk result (λ c. c ≡ self.now) }

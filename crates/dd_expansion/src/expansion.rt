@@ -34,8 +34,8 @@ struct Scope<'a> {
     env: &'a [Cell],
 }
 
-/// The expansion of a formula over so many symbols at the cell of a node at the origin. `Instances` where it has more
-/// than `most` nodes; it is cut off there.
+/// The expansion of a formula over so many symbols at the cell of a node at the origin. `Instances` if it has more than
+/// `most` nodes; the work stops there.
 pub fn expand(
     alloc: Global,
     topology: &Topology,
@@ -199,7 +199,7 @@ impl<'a> Scope<'a> {
         self.expand_each(&cells, body, budget)
     }
 
-    /// The expansions of a body for each of some cells, which is the cell of one more variable.
+    /// The expansions of a body for each of some cells, as the cell of one more variable.
     #[cycle(expand)]
     fn expand_each(
         &self,

@@ -11,7 +11,7 @@ pub enum ExpansionFault {
     /// The expansion would have more nodes than are allowed.
     #[error("the expansion has too many instances")]
     Instances,
-    /// Memory was wanting.
+    /// Memory ran out.
     #[error("out of memory")]
     Memory,
 }

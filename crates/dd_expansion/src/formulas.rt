@@ -4,8 +4,8 @@ ghost use Rattle.std.specs.Prelude.{◌≡◌, Ok, IfOk};
 use dd_values::{Boxed, Items};
 use std::alloc::{AllocError, Global};
 
-/// A variable, and the labels of the moves that follow it. The variable 0 is the cell at which the formula stands; a
-/// bound variable has the number of variables that are in scope at its quantifier.
+/// A variable, and the labels of the moves that follow it. The variable 0 is the cell at which the formula stands; the
+/// number of a bound variable is the number of variables in scope at its quantifier.
 #[derive(Debug, Drop)]
 pub struct Term {
     pub variable: u32,
@@ -59,9 +59,9 @@ pub enum Formula {
     },
     /// The part is false.
     Not(Boxed<Formula>),
-    /// All parts are true, as where there is none.
+    /// All parts are true. It is true if there is none.
     And(Items<Formula>),
-    /// Some part is true, so there is one.
+    /// Some part is true. It is false if there is none.
     Or(Items<Formula>),
     /// The first part is false, or the second is true.
     Implies(Boxed<Formula>, Boxed<Formula>),
@@ -92,7 +92,7 @@ impl Term {
 }
 
 impl Formula {
-    /// A value with the same numbers and lists in every part.
+    /// A copy with the same numbers and lists in every part.
     #[cycle(copy)]
     pub fn copy(&self, alloc: Global) -> Result<Formula, AllocError>
         ensures { IfOk result (λ c. c ≡ self.now) }

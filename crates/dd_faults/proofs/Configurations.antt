@@ -1,4 +1,4 @@
--- Symbols of configurations one after the other, and the periods of boxes with few of them.
+-- The symbols of configurations one after the other, and the periods of boxes with few symbols.
 use Rattle.std.proofs.Common.{◌≡◌, ℕ, ◌+◌, ◌*◌, ◌%◌, ◌≤◌, ◌<◌, List, [], ◌∷◌, ◌++◌, length, Option, true, not, refl, arith, slice_get}
 use Rattle.std.specs.Option.{option_map_or}
 use Rattle.std.proofs.Math.Nat.{le-mul_of_pos_right, mul_assoc}
@@ -10,11 +10,11 @@ pub first_symbol : (x : Context) (k : ℕ) (n : Name) (ns all : List Name) → a
     symbol_faults x k all ≡ when (not (is_allowed x (k % length x.known.setting.nodes) n)) (Fault.Unknown n) ++ symbol_faults x (k + 1) ns
 first_symbol x k n ns all is = rw is refl
 
--- a factor of a number that is not cut is none that is cut
+-- if a product is not cut off, neither is its first factor
 first : (bytes : List ℕ) (es : List Entry) (nodes n : ℕ) → n < 4294967295 → 1 ≤ n → product bytes es * nodes ≡ n → option_map_or (entry_value bytes) (slice_get es 0) 1 < 4294967295
 first bytes [] nodes n lt some is = omega arith
 first bytes (e ∷ es) nodes n lt some is = grind (arith, common_steps, mul_assoc, le-mul_of_pos_right)
 
--- the first period of a box with such a number of symbols is not cut
+-- the first period of a box with this number of symbols is not cut off
 pub first_of_box : (x : Context) (v : Vector) (shear : Option Vector) (count : ℕ) → count < 4294967295 → 1 ≤ count → box_fits x v shear count ≡ true → period_at x.text v 0 < 4294967295
 first_of_box x v shear count few some fits = first x.text v.entries (length x.known.setting.nodes) count few some (eqb-true _ _ (and_parts _ _ fits).1)

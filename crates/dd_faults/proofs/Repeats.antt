@@ -1,8 +1,7 @@
--- The first that is the same as one before it, looked for one after the other.
+-- The first item that repeats an earlier one, found by going through the items.
 use Rattle.std.proofs.Common.{◌≡◌, ℕ, ◌+◌, ◌<◌, List, [], ◌∷◌, ◌++◌, length, drop, slice_index_or, Contains, refl, sym, ◌∙◌, arith}
 use Rattle.std.proofs.lemmas.Grind.{common_steps}
-use Rattle.dd_faults.specs.{Tree.Fault, Repeats.first_repeat}
-use Rattle.dd_faults.specs.lemmas.Repeats.{among, not_among}
+use Rattle.dd_faults.specs.{Tree.Fault, Repeats.first_repeat, lemmas.Repeats.among, lemmas.Repeats.not_among}
 
 module _ {X : Type 0} (key : X → List ℕ) (f : X → Fault) (seen : List (List ℕ)) (x : X) (rest all : List X) where
   pub twice_first : all ≡ x ∷ rest → Contains seen (key x) → first_repeat key f seen all ≡ f x ∷ []

@@ -1,13 +1,13 @@
 -- The faults of commands, in the order of their text.
 use Rattle.std.specs.Prelude.{ℕ, ◌+◌, List, [], ◌++◌, length, Bool, false, not, ◌&&◌, ◌||◌, ◌==◌, nat_le, nat_lt}
 use Rattle.std.specs.{List.flat_map, List.list_any, List.zip, Option.option_map_or}
-use Rattle.dd_values.specs.Bounds.{most_weight, most_commands, widest_radius}
+use Rattle.dd_values.specs.Bounds.{most_weight, most_commands, widest_radius, greatest_radius, greatest_period, most_pivots}
 use Rattle.dd_faults.specs.Tree.{Kind, Word, Number, Name, Role, Lists, Entry, Vector, Edge, Case, Request, Command, Written, Limit, Fault, Known, Context}
 use Rattle.dd_topology.specs.Builtin.{grid_of}
 use Rattle.dd_written.specs.Values.{written_value}
 use Rattle.dd_commands.specs.Table.{row}
 use Rattle.dd_known.specs.Known.{dimension_of, named}
-use Rattle.dd_known.specs.Limits.{most_axes, most_nodes, most_symbols, most_edges, most_in_box, most_vectors, longest_strip, greatest_radius, greatest_period, most_pivots}
+use Rattle.dd_known.specs.Limits.{most_axes, most_nodes, most_symbols, most_edges, most_in_box, most_vectors, longest_strip}
 use Rattle.dd_faults.specs.{Order.when, Order.over, Formulas.formula_faults}
 pub use Rattle.dd_faults.specs.Numbers.{unless, token_faults, entry_number, entry_value, signed_value, has_entries, is_far}
 pub use Rattle.dd_faults.specs.Boxes.{HasSets, is_allowed, symbol_faults, product, cells_of, period_at, shear_of, shear_fits, box_fits, box_faults}
@@ -16,7 +16,7 @@ use Rattle.dd_faults.specs.Repeats.{twice_named, twice_labelled, twice_vectors}
 
 -- ---- the header
 
--- the topology of a kind has the dimension of the script, and as many nodes as were named
+-- a topology of this kind has the dimension of the script, and as many nodes as the script named, if it named any
 abbrev pub kind_fits : Known → Kind → Bool
 kind_fits k t = (grid_of t).dimension == dimension_of k && (not k.nodes_are_given || length k.setting.nodes == (grid_of t).nodes)
 
@@ -48,7 +48,7 @@ word_faults x w = missing x.text (named x.known w.0) (Name.Word w.1)
 abbrev pub radius_faults : Context → Number → List Fault
 radius_faults x n = over (nat_lt widest_radius (written_value x.text n)) Limit.Radius
 
--- a period that no strip has
+-- the period of no strip
 abbrev pub is_no_strip : List ℕ → Entry → Bool
 is_no_strip bytes e = nat_lt (entry_value bytes e) 1 || nat_lt longest_strip (entry_value bytes e)
 
@@ -70,7 +70,7 @@ list_faults x Lists.Strip vs = flat_map (strip_faults x) vs
 list_faults x Lists.Torus vs = flat_map (torus_faults x) vs
 list_faults x Lists.Vectors vs = twice_vectors x.text vs ++ (flat_map (vector_faults x) vs ++ over (nat_lt most_vectors (length vs)) Limit.Vectors)
 
--- the alphabet has as many symbols as the query wants
+-- the alphabet has at least as many symbols as the query needs
 abbrev pub has_symbols : Context → ℕ → Bool
 has_symbols x fewest = nat_le fewest (length x.known.setting.symbols)
 
@@ -100,6 +100,6 @@ faults_of x (Command.Configuration called periods shear symbols) =
     named_again x.text x.known called ++ (symbol_faults x 0 symbols ++ box_faults x periods shear (length symbols))
 faults_of x (Command.Query r) = request_faults x r
 
--- the command with its number and its tokens
+-- the faults of a command, including its number and its tokens
 abbrev pub written_faults : Context → Written → List Fault
 written_faults x w = over (nat_lt most_commands x.number) Limit.Commands ++ (flat_map (token_faults x.text) w.tokens ++ faults_of x w.command)

@@ -13,7 +13,7 @@ unknown_label x w = missing x.text x.known.setting.topology.labels (Name.Word w)
 abbrev pub term_faults : Context → List Word → Term → List Fault
 term_faults x scope t = unknown_variable x.text scope t.first ++ (flat_map (unknown_label x) t.moves ++ over (nat_lt most_moves (length t.moves)) Limit.Moves)
 
--- a single word that is no variable names a symbol
+-- a single word that isn't a variable names a symbol
 abbrev pub names_symbol : List ℕ → List Word → Term → Bool
 names_symbol bytes scope t = length t.moves == 0 && not (is_variable bytes scope t.first)
 
@@ -34,7 +34,7 @@ atom_faults x scope a = term_faults x scope a.term ++ relation_faults x scope a.
 abbrev pub ball_faults : Context → List Word → Ball → List Fault
 ball_faults x scope b = unknown_variable x.text scope b.centre ++ over (nat_lt widest_radius (written_value x.text b.radius)) Limit.Radius
 
--- a quantifier's variable is in scope in its body, and not in its balls
+-- the variable of a quantifier is in scope in its body, but not in its balls
 abbrev pub quantifier_faults : Context → List Word → Word → List Ball → List Fault
 quantifier_faults x scope w balls =
     when (is_variable x.text scope w) (Fault.Twice (Name.Word w)) ++ (over (nat_lt most_balls (length balls)) Limit.Balls ++ flat_map (ball_faults x scope) balls)

@@ -1,12 +1,12 @@
--- the types of what is written, of its faults and of what is known
+-- the types of syntax trees, of their faults and of what is known
 pub mod Tree
--- the one order of faults
+-- the order of faults
 pub mod Order
--- names and variables by their texts
+-- names and variables, compared by their texts
 pub mod Names
 -- the faults of formulas
 pub mod Formulas
--- what is given twice
+-- repetitions
 pub mod Repeats
 -- the faults of tokens, numbers and vectors
 pub mod Numbers
@@ -14,7 +14,7 @@ pub mod Numbers
 pub mod Boxes
 -- the faults of commands
 pub mod Commands
--- what the walk over a command needs of its shape
+-- what reading commands one by one needs of their shape
 pub mod walk
--- lemmas on what stands above, with their proofs, for whoever cites them
+-- lemmas on these definitions, for other crates
 pub mod lemmas

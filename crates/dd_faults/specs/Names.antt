@@ -1,30 +1,29 @@
--- Names and variables by their texts.
+-- Names and variables, compared by their texts.
 use Rattle.std.specs.Prelude.{ℕ, ◌+◌, List, Bool, not, ◌||◌, Option, Some, is_some, unwrap_or, option_map, if◌then◌else◌, codes, bytes_eq, position}
 use Rattle.dd_topology.specs.Naming.{number_of}
-use Rattle.dd_faults.specs.Tree.{Word, Name, Fault, Known}
+use Rattle.dd_faults.specs.{Tree.Word, Tree.Name, Tree.Fault, Tree.Known, Order.when}
 use Rattle.dd_written.specs.Values.{word_text, name_text}
-use Rattle.dd_faults.specs.Order.{when}
 
--- the place of a name among names
+-- the index of a name in a list of names
 abbrev pub place_of_name : List ℕ → List (List ℕ) → Name → Option ℕ
 place_of_name bytes names n = number_of names (name_text bytes n)
 
--- unknown, where it is none of the names
+-- the name is unknown if it is none of these
 abbrev pub missing : List ℕ → List (List ℕ) → Name → List Fault
 missing bytes names n = when (not (is_some (place_of_name bytes names n))) (Fault.Unknown n)
 
--- the number of a name that is one of the names
+-- the index of a name; 0 if it is none of these
 abbrev pub number_in : List ℕ → List (List ℕ) → Name → ℕ
 number_in bytes names n = unwrap_or (place_of_name bytes names n) 0
 
--- The number of a variable: 0 for the origin `o`, and from 1 on for those that quantifiers bind, from the outermost on.
+-- The number of a variable: 0 for the origin `o`; those that quantifiers bind are numbered from 1, the outermost first.
 abbrev pub variable_of : List ℕ → List Word → Word → Option ℕ
 variable_of bytes scope w = if bytes_eq (word_text bytes w) (codes "o") then Some 0 else option_map (λ k. k + 1) (position (λ v. bytes_eq (word_text bytes v) (word_text bytes w)) scope)
 
 abbrev pub is_variable : List ℕ → List Word → Word → Bool
 is_variable bytes scope w = is_some (variable_of bytes scope w)
 
--- unknown, where it is no variable
+-- the word is unknown if it is no variable
 abbrev pub unknown_variable : List ℕ → List Word → Word → List Fault
 unknown_variable bytes scope w = when (not (is_variable bytes scope w)) (Fault.Unknown (Name.Word w))
 

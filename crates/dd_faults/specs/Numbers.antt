@@ -1,10 +1,9 @@
--- The faults of tokens, and what is asked of numbers and vectors.
+-- The faults of tokens, numbers and vectors.
 use Rattle.std.specs.Prelude.{ℕ, List, [], length, Bool, not, ◌==◌, nat_lt, ℤ, pos, ◌-ℤ◌}
 use Rattle.std.specs.List.{list_any}
 use Rattle.dd_known.specs.Limits.{most_letters, greatest_number, farthest}
-use Rattle.dd_faults.specs.Tree.{Number, Lexeme, Entry, Vector, Limit, Fault}
+use Rattle.dd_faults.specs.{Tree.Number, Tree.Lexeme, Tree.Entry, Tree.Vector, Tree.Limit, Tree.Fault, Order.when, Order.over}
 use Rattle.dd_written.specs.Values.{written_value}
-use Rattle.dd_faults.specs.Order.{when, over}
 
 abbrev pub unless : Bool → List Fault
 unless fits = when (not fits) Fault.Dimension
@@ -28,7 +27,7 @@ entry_number (Entry.Negative n) = n
 abbrev pub entry_value : List ℕ → Entry → ℕ
 entry_value bytes e = written_value bytes (entry_number e)
 
--- the number of an entry, with its sign
+-- the value of an entry, with its sign
 abbrev pub signed_value : List ℕ → Entry → ℤ
 signed_value bytes (Entry.Number n) = pos (written_value bytes n)
 signed_value bytes (Entry.Negative n) = pos 0 -ℤ pos (written_value bytes n)
@@ -36,6 +35,6 @@ signed_value bytes (Entry.Negative n) = pos 0 -ℤ pos (written_value bytes n)
 abbrev pub has_entries : ℕ → Vector → Bool
 has_entries d v = length v.entries == d
 
--- an entry that is too far, in absolute value
+-- some entry is too large in absolute value
 abbrev pub is_far : List ℕ → Vector → Bool
 is_far bytes v = list_any (λ e. nat_lt farthest (entry_value bytes e)) v.entries

@@ -1,4 +1,4 @@
--- The one order of faults.
+-- The order of faults.
 use Rattle.std.specs.Prelude.{◌≡◌, ℕ, ◌+◌, List, [], ◌∷◌, Bool, Option, Some, None, Result, Ok, Err, nat_lt, if◌then◌else◌}
 use Rattle.dd_faults.specs.Tree.{Limit, Fault, Refusal}
 
@@ -25,7 +25,7 @@ limit_rank Limit.Patterns = 17
 limit_rank Limit.States = 18
 limit_rank Limit.Clauses = 19
 
--- unknown names, then what is given twice, then dimensions, then limits
+-- unknown names, then repetitions, then dimensions, then limits
 abbrev pub fault_rank : Fault → ℕ
 fault_rank (Fault.Unknown n) = 0
 fault_rank (Fault.Twice n) = 1
@@ -33,7 +33,7 @@ fault_rank Fault.TwiceVector = 1
 fault_rank Fault.Dimension = 2
 fault_rank (Fault.Size l) = 3 + limit_rank l
 
--- a fault that comes later counts only where its rank is less
+-- a later fault counts only if its rank is lower
 abbrev pub better : Option Fault → Fault → Option Fault
 better None f = Some f
 better (Some g) f = if nat_lt (fault_rank f) (fault_rank g) then Some f else Some g
@@ -42,29 +42,29 @@ abbrev pub noted : Option Fault → List Fault → Option Fault
 noted found [] = found
 noted found (f ∷ fs) = noted (better found f) fs
 
--- the first fault of the least rank
+-- the first fault of the lowest rank
 abbrev pub first_fault : List Fault → Option Fault
 first_fault fs = noted None fs
 
--- the fault, where it is one
+-- the fault, if it holds
 abbrev pub when : Bool → Fault → List Fault
 when holds f = if holds then f ∷ [] else []
 
--- the limit, where it is passed
+-- the limit, if it is exceeded
 abbrev pub over : Bool → Limit → List Fault
 over passed l = when passed (Fault.Size l)
 
--- refused for this fault; or memory ran out
+-- refused for this fault, or memory ran out
 abbrev pub Refuses : Refusal → Option Fault → Type 0
 Refuses Refusal.Memory found = Unit {0}
 Refuses (Refusal.At f) found = found ≡ Some f
 
--- accepted where there is no fault, and else refused for it
+-- accepted if there is no fault, otherwise refused for the one found
 abbrev pub Accepts : {X : Type 0} → Result X Refusal → Option Fault → Type 0
 Accepts (Ok x) found = found ≡ None
 Accepts (Err e) found = Refuses e found
 
--- what is meant, where there is no fault, and else refused for the first
+-- the meaning, if there is no fault; otherwise refused for the first
 abbrev pub Resolves : {X : Type 0} → Result X Refusal → List Fault → X → Type 0
 Resolves (Ok x) faults meaning = (faults ≡ []) × (x ≡ meaning)
 Resolves (Err e) faults meaning = Refuses e (first_fault faults)

@@ -1,4 +1,4 @@
-//! The faults of terms, atoms and what stands before the body of a quantifier.
+//! The faults of terms, of atoms, and of what precedes the body of a quantifier.
 ghost use Rattle.std.specs.Prelude.{◌≡◌};
 ghost use Rattle.dd_faults.specs.Order.{noted};
 ghost use Rattle.dd_faults.specs.Formulas.{unknown_label, term_faults, names_symbol, side_faults, atom_faults, ball_faults, quantifier_faults};
@@ -10,7 +10,7 @@ use dd_known::{Context, MOST_BALLS, MOST_MOVES};
 use dd_values::WIDEST_RADIUS;
 use dd_written::{Atom, Ball, Comparand, Name, Relation, Term, Word, name_text, number_value};
 
-/// Labels of moves.
+/// Notes the faults of labels of moves.
 impl Notes<Word> for Context {
     ghost faults = { unknown_label };
 
@@ -30,7 +30,7 @@ fn term(context: &Context, scope: &[Word], term: &Term, found: &mut Found)
     note_over(found, term.moves.len() > MOST_MOVES, Limit::Moves);
 }
 
-/// Whether a term is a single word that is no variable.
+/// Whether a term is a single word that isn't a variable.
 pub fn names_symbol(context: &Context, scope: &[Word], term: &Term) -> bool
     ensures { result ≡ names_symbol context.now.text scope.now term.now }
 {
@@ -63,11 +63,11 @@ pub(crate) fn atom(context: &Context, scope: &[Word], atom: &Atom, found: &mut F
     }
 }
 
-/// Where a part of a formula stands: behind which commands, and among which variables.
+/// The context of a part of a formula: that of its command, and the variables in scope.
 #[derive(Clone, Copy)]
 pub(crate) struct Scope<'a>(pub(crate) &'a Context, pub(crate) &'a [Word]);
 
-/// Balls, whose centres are variables of a scope.
+/// Notes the faults of balls, whose centres must be variables in scope.
 impl<'a> Notes<Ball> for Scope<'a> {
     ghost faults = { λ scope. ball_faults scope.0.now scope.1.now };
 
@@ -79,7 +79,7 @@ impl<'a> Notes<Ball> for Scope<'a> {
     }
 }
 
-/// What stands before the body of a quantifier.
+/// Notes the faults of what precedes the body of a quantifier.
 pub(crate) fn quantifier(scope: Scope, variable: Word, written: &[Ball], found: &mut Found)
     ensures { found.new ≡ noted found.old (quantifier_faults scope.entry.0.now scope.entry.1.now variable written.now) }
 {

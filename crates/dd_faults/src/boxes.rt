@@ -12,7 +12,7 @@ use dd_known::{Context, MOST_IN_BOX, TOO_MANY};
 use dd_written::{Name, Text, name_text};
 use std::alloc::AllocError;
 
-/// Whether a name is that of a symbol that the node allows.
+/// Whether a name names a symbol that the node allows.
 fn is_allowed(context: &Context, node: u32, name: Name) -> bool
     requires { node < length context.now.known.setting.sets.allowed }
     ensures { result ≡ is_allowed context.now node name }
@@ -22,7 +22,7 @@ fn is_allowed(context: &Context, node: u32, name: Name) -> bool
     symbol.is_some_and(|symbol| setting.sets.allows(node, symbol))
 }
 
-/// Notes the names of no symbol, and the symbols that their nodes do not allow. The nodes stand innermost.
+/// Notes names that name no symbol, and symbols that their node does not allow. The nodes vary fastest.
 fn symbols(context: &Context, written: &[Name], found: &mut Found)
     requires { HasSets context.now.known }
     ensures { found.new ≡ noted found.old (symbol_faults context.now 0 written.now) }
@@ -34,7 +34,7 @@ fn symbols(context: &Context, written: &[Name], found: &mut Found)
     }
 }
 
-/// The product of the values of entries, and the greatest number of 32 bits for all that are greater.
+/// The product of the entries, at most 4,294,967,295.
 fn product(text: &Text, entries: &[Entry]) -> u32
     ensures { result ≡ min (product text.now entries.now) 4294967295 }
 {
@@ -44,7 +44,7 @@ fn product(text: &Text, entries: &[Entry]) -> u32
     }
 }
 
-/// The number of cells of a fundamental box with these periods, and the greatest number of 32 bits for all that are greater.
+/// The number of cells of a fundamental box with these periods, at most 4,294,967,295.
 fn cells_of(context: &Context, periods: &Vector) -> u32
     ensures { result ≡ min (cells_of context.now periods.now) 4294967295 }
 {
@@ -52,7 +52,7 @@ fn cells_of(context: &Context, periods: &Vector) -> u32
     volume.saturating_mul(context.known.setting.nodes.count())
 }
 
-/// Whether an entry is 0.
+/// Whether some entry is 0.
 fn has_zero(text: &Text, periods: &Vector) -> bool
     ensures { result ≡ list_any (is_zero text.now) periods.now.entries }
 {
@@ -60,7 +60,7 @@ fn has_zero(text: &Text, periods: &Vector) -> bool
     entries.any(|entry| entry_value(text, *entry) < 1)
 }
 
-/// The periods of a torus.
+/// The context of the periods of a torus.
 #[derive(Clone, Copy)]
 pub(crate) struct Torus<'a>(pub(crate) &'a Context);
 
@@ -77,7 +77,7 @@ impl<'a> Notes<Vector> for Torus<'a> {
     }
 }
 
-/// The value of the entry for an axis, and 1 where there is none; and the greatest number of 32 bits for all that are greater.
+/// The entry for an axis, at most 4,294,967,295; 1 if there is none.
 pub fn period_at(text: &Text, periods: &Vector, axis: usize) -> u32
     ensures { result ≡ min (period_at text.now periods.now axis) 4294967295 }
 {
@@ -85,7 +85,7 @@ pub fn period_at(text: &Text, periods: &Vector, axis: usize) -> u32
     entry.map_or(1, |entry| entry_value(text, *entry))
 }
 
-/// The shear, and 0 where none is given; and the greatest number of 32 bits for all that are greater.
+/// The shear, at most 4,294,967,295; 0 if none is given.
 pub fn shear_of(text: &Text, shear: &Option<Vector>) -> u32
     ensures { result ≡ min (shear_of text.now shear.now) 4294967295 }
 {
@@ -102,8 +102,8 @@ fn shear_fits(dimension: u32, shear: &Option<Vector>) -> bool
     shear.is_none_or(|entries| dimension >= 2 && has_entries(1, entries))
 }
 
-/// Whether there are as many symbols as the product of the periods and the nodes, and a period for each axis. So few symbols
-/// tell a product from one that is cut.
+/// Whether there is a period for each axis, and as many symbols as the product of periods and nodes. So few symbols can't equal
+/// a product that was cut off.
 fn box_fits(context: &Context, periods: &Vector, shear: &Option<Vector>, count: usize) -> bool
     requires { count < 4294967295 }
     ensures { result ≡ box_fits context.now periods.now shear.now count }
@@ -116,8 +116,8 @@ fn box_fits(context: &Context, periods: &Vector, shear: &Option<Vector>, count: 
     cells_of(context, periods) as usize == count
 }
 
-/// Notes names that are not those of symbols which their nodes allow, periods that do not agree with so many symbols, and what is
-/// too large. More symbols than any script has are taken for want of memory.
+/// Notes names that name no symbol allowed at their node, periods that disagree with the number of symbols, and boxes that are
+/// too large. More symbols than any script contains count as a lack of memory.
 pub(crate) fn configuration(
     context: &Context,
     periods: &Vector,

@@ -1,4 +1,4 @@
-//! The first fault of a command, of whatever kind.
+//! The first fault of a command of any kind.
 ghost use Rattle.std.specs.Prelude.{◌≡◌, OnOk};
 ghost use Rattle.dd_commands.specs.Scripts.{IsWritten};
 ghost use Rattle.dd_faults.specs.{Order.noted, Order.first_fault, Order.Accepts, Commands.faults_of, Commands.written_faults};
@@ -70,7 +70,7 @@ fn note_header(alloc: Global, context: &Context, command: &Command, found: &mut 
     Ok(())
 }
 
-/// Notes the faults of a command, of whatever kind.
+/// Notes the faults of a command of any kind.
 fn note_command(alloc: Global, context: &Context, command: &Command, found: &mut Found) -> Done
     requires sound { IsSound context.now.known }
     requires symbols { HasSymbols command.now }
@@ -111,7 +111,7 @@ fn note_command(alloc: Global, context: &Context, command: &Command, found: &mut
     Ok(())
 }
 
-/// Accepts what is written where nothing is wrong with it, and else refuses it for its first fault.
+/// Accepts a command without faults; otherwise refuses it for its first fault.
 pub fn check(alloc: Global, context: &Context, written: &Written) -> Result<(), Refusal>
     requires written { IsWritten context.now.text written.now }
     requires sound { IsSound context.now.known }

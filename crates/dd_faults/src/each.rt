@@ -1,12 +1,12 @@
-//! What is noted of each item of a list.
+//! Notes the faults of each item of a list.
 ghost use Rattle.std.specs.{Prelude.◌≡◌, Prelude.List, List.flat_map};
 ghost use Rattle.dd_faults.specs.{declared.fault.Fault.Fault as AnyFault, Order.noted};
 
 use crate::fault::Found;
 
-/// What an item is judged by.
+/// A context that finds the faults of items.
 pub(crate) trait Notes<T> {
-    /// What is wrong with an item.
+    /// The faults of an item.
     ghost faults: { Self → T → List AnyFault };
 
     /// Notes the faults of an item.

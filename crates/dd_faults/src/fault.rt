@@ -1,4 +1,4 @@
-//! Faults, and their one order.
+//! Faults and their order.
 ghost use Rattle.std.specs.Prelude.{◌≡◌};
 ghost use Rattle.dd_faults.specs.declared.fault.Refusal.TheVariants.{Memory};
 ghost use Rattle.dd_faults.specs.Order.{fault_rank, when, over, noted};
@@ -7,7 +7,7 @@ use dd_written::Name;
 use std::alloc::AllocError;
 use thiserror::Error;
 
-/// The limits of scripts, in their order.
+/// The limits of scripts, in order.
 #[derive(Clone, Copy, Debug, PartialEq, Eq)]
 pub enum Limit {
     /// A script has at most 1,000 commands.
@@ -26,7 +26,7 @@ pub enum Limit {
     Offset,
     /// A weight is at most 1,000.
     Weight,
-    /// A radius of at most 8, a period of 1 to 8, at most 100,000 pivots.
+    /// A search radius is at most 8, a period 1 to 8, a number of pivots at most 100,000.
     Limits,
     /// A term makes at most 16 moves.
     Moves,
@@ -53,34 +53,34 @@ pub enum Limit {
     Clauses,
 }
 
-/// What is wrong with a command that is well formed.
+/// What is wrong with a well-formed command.
 #[derive(Clone, Copy, Debug, PartialEq, Eq)]
 pub enum Fault {
-    /// A name stands for nothing.
+    /// A name refers to nothing.
     Unknown(Name),
     /// A name is given twice.
     Twice(Name),
     /// A vector is given twice.
     TwiceVector,
-    /// Numbers of entries do not agree, or there are fewer symbols than a query wants.
+    /// Numbers of entries disagree, or a query needs more symbols than there are.
     Dimension,
-    /// A limit is passed.
+    /// A limit is exceeded.
     Size(Limit),
 }
 
-/// The first fault of the least rank, of those that were noted.
+/// The first fault of the lowest rank so far.
 pub(crate) type Found = Option<Fault>;
 
-/// Whether there was memory enough.
+/// Fails only if memory ran out.
 pub(crate) type Done = Result<(), AllocError>;
 
-/// Why a command was not accepted.
+/// Why a command is refused.
 #[derive(Clone, Copy, Debug, PartialEq, Eq, Error)]
 pub enum Refusal {
     /// The first fault of the command.
     #[error("a command has a fault")]
     At(Fault),
-    /// Memory was wanting.
+    /// Memory ran out.
     #[error("out of memory")]
     Memory,
 }
@@ -94,7 +94,7 @@ impl From<AllocError> for Refusal {
 }
 
 impl Fault {
-    /// The place in the order of faults, from 0.
+    /// The rank in the order of faults, from 0.
     fn rank(self) -> u32
         ensures { result ≡ fault_rank self }
     {
@@ -107,7 +107,7 @@ impl Fault {
     }
 }
 
-/// Notes a fault, where there is one. What is kept is the first fault of the least rank.
+/// Notes a fault if `holds`. Of all noted faults, the first of the lowest rank is kept.
 pub(crate) fn note_if(found: &mut Found, holds: bool, fault: Fault)
     ensures { found.new ≡ noted found.old (when holds fault) }
 {
@@ -116,7 +116,7 @@ pub(crate) fn note_if(found: &mut Found, holds: bool, fault: Fault)
     }
 }
 
-/// Notes a limit, where it is passed.
+/// Notes that a limit is exceeded, if `passed`.
 pub(crate) fn note_over(found: &mut Found, passed: bool, limit: Limit)
     ensures { found.new ≡ noted found.old (over passed limit) }
 {

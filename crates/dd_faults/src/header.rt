@@ -9,12 +9,13 @@ use crate::fault::{Found, Limit, note_over};
 use crate::names::note_missing;
 use crate::numbers::{has_entries, is_far, note_unless};
 use dd_commands::Edge;
-use dd_known::{Context, GREATEST_PERIOD, GREATEST_RADIUS, Known, MOST_PIVOTS};
+use dd_known::{Context, Known};
 use dd_topology::{Kind, Topology};
+use dd_values::{GREATEST_PERIOD, GREATEST_RADIUS, MOST_PIVOTS};
 use dd_written::{Name, Number, Text, name_text, number_value};
 use std::alloc::{AllocError, Global};
 
-/// Whether a kind of topology agrees with the dimension and with nodes that are given.
+/// Whether a kind of topology agrees with the dimension, and with the nodes if the script names them.
 pub(crate) fn kind_fits(alloc: Global, known: &Known, kind: Kind) -> Result<bool, AllocError>
     ensures { IfOk result (λ fits. fits ≡ kind_fits known.now kind) }
 {
@@ -37,7 +38,7 @@ impl Notes<Edge> for Context {
     }
 }
 
-/// Names of symbols.
+/// Notes names that name no symbol.
 impl Notes<Name> for Context {
     ghost faults = { λ x. missing x.text x.known.setting.symbols };
 
@@ -46,7 +47,7 @@ impl Notes<Name> for Context {
     }
 }
 
-/// Whether the symbols of a node are restricted.
+/// Whether the script has restricted the symbols of the node.
 pub(crate) fn is_restricted(context: &Context, node: Name) -> bool
     ensures { result ≡ is_restricted context.now node }
 {
@@ -55,7 +56,7 @@ pub(crate) fn is_restricted(context: &Context, node: Name) -> bool
     number.is_some_and(|number| known.restricted.as_slice().contains(&number))
 }
 
-/// Whether the limits of questions are passed.
+/// Whether these numbers exceed what `limits` may set.
 pub(crate) fn passes_limits(text: &Text, radius: Number, period: Number, pivots: Number) -> bool
     ensures { result ≡ passes_limits (written_value text.now radius) (written_value text.now period) (written_value text.now pivots) }
 {

@@ -1,5 +1,5 @@
-//! What is wrong with a command that is well formed. All its faults are one list in the order of its text, and it is refused for
-//! the first of the least rank: unknown names come before what is given twice, then dimensions, then limits in their order.
+//! What is wrong with a well-formed command. Its faults form a list in the order of its text. It is refused for the first fault
+//! of the lowest rank: unknown names, then repetitions, then dimensions, then limits in their order.
 #![tactic(auto, using(crate::proofs::Noting::faults))]
 
 mod atoms;

@@ -1,4 +1,4 @@
-//! Names by their texts.
+//! Names, compared by their texts.
 ghost use Rattle.std.specs.Prelude.{◌≡◌, is_some, position, bytes_eq};
 ghost use Rattle.dd_written.specs.Values.{word_text};
 ghost use Rattle.dd_faults.specs.Order.{noted};
@@ -9,28 +9,28 @@ use dd_known::Known;
 use dd_topology::Names;
 use dd_written::{Name, Text, Word, name_text};
 
-/// Whether a name is among others.
+/// Whether a name is one of these.
 pub(crate) fn is_named(text: &Text, names: &Names, name: Name) -> bool
     ensures { result ≡ is_some (place_of_name text.now names.now name) }
 {
     names.find(name_text(text, name)).is_some()
 }
 
-/// The number of a name, and 0 where it is none of the names.
+/// The index of a name; 0 if it is none of these.
 pub fn number_in(text: &Text, names: &Names, name: Name) -> u32
     ensures { result ≡ number_in text.now names.now name }
 {
     names.find(name_text(text, name)).unwrap_or(0)
 }
 
-/// Notes a name that is none of the names.
+/// Notes a name that is none of these.
 pub(crate) fn note_missing(text: &Text, names: &Names, name: Name, found: &mut Found)
     ensures { found.new ≡ noted found.old (missing text.now names.now name) }
 {
     note_if(found, !is_named(text, names, name), Fault::Unknown(name));
 }
 
-/// The first place of a text among those of words.
+/// The index of the first word with this text.
 pub fn place_among(text: &Text, words: &[Word], wanted: &str) -> Option<usize>
     ensures { result ≡ position (λ v. bytes_eq (word_text text.now v) wanted.now) words.now }
 {
@@ -47,7 +47,7 @@ pub(crate) fn is_variable(text: &Text, scope: &[Word], word: Word) -> bool
     wanted == "o" || place_among(text, scope, wanted).is_some()
 }
 
-/// Notes a word that is no variable.
+/// Notes a word that isn't a variable.
 pub(crate) fn note_variable(text: &Text, scope: &[Word], word: Word, found: &mut Found)
     ensures { found.new ≡ noted found.old (unknown_variable text.now scope.now word) }
 {
@@ -55,7 +55,7 @@ pub(crate) fn note_variable(text: &Text, scope: &[Word], word: Word, found: &mut
     note_if(found, !known, Fault::Unknown(Name::Word(word)));
 }
 
-/// Notes a name that a rule, an automaton or a configuration has already.
+/// Notes a name that a rule, an automaton or a configuration already has.
 pub(crate) fn note_defined(text: &Text, known: &Known, word: Word, found: &mut Found)
     ensures { found.new ≡ noted found.old (named_again text.now known.now word) }
 {

@@ -1,4 +1,4 @@
-//! The faults of tokens, and what vectors and numbers have.
+//! The faults of tokens, numbers and vectors.
 ghost use Rattle.std.specs.Prelude.{◌≡◌, ◌≤◌, false, min, nat_lt, unsigned_abs};
 ghost use Rattle.std.specs.List.{list_any};
 ghost use Rattle.dd_known.specs.Limits.{farthest};
@@ -12,14 +12,14 @@ use dd_known::{Context, FARTHEST, GREATEST_NUMBER, LONGEST_STRIP, MOST_LETTERS};
 use dd_values::{MOST_WEIGHT, WIDEST_RADIUS};
 use dd_written::{Lexeme, Number, Text, number_value};
 
-/// Notes that numbers of entries do not agree.
+/// Notes a fault of dimension, unless the numbers of entries agree.
 pub(crate) fn note_unless(found: &mut Found, fits: bool)
     ensures { found.new ≡ noted found.old (unless fits) }
 {
     note_if(found, !fits, Fault::Dimension);
 }
 
-/// Words and numbers that are too large.
+/// Notes words that are too long and numbers that are too large.
 impl Notes<Lexeme> for Text {
     ghost faults = { token_faults };
 
@@ -35,7 +35,7 @@ impl Notes<Lexeme> for Text {
     }
 }
 
-/// The absolute value of an entry, and the greatest number of 32 bits for all that are greater.
+/// The absolute value of an entry, at most 4,294,967,295.
 pub(crate) fn entry_value(text: &Text, entry: Entry) -> u32
     ensures { result ≡ min (entry_value text.now entry) 4294967295 }
 {
@@ -43,7 +43,7 @@ pub(crate) fn entry_value(text: &Text, entry: Entry) -> u32
     number_value(text, number)
 }
 
-/// The number of an entry of at most 4 in absolute value.
+/// The value of an entry of at most 4 in absolute value.
 pub fn signed_value(text: &Text, entry: Entry) -> i32
     requires { nat_lt farthest (entry_value text.now entry) ≡ false }
     ensures value { result ≡ signed_value text.now entry }
@@ -61,7 +61,7 @@ pub(crate) fn has_entries(dimension: u32, vector: &Vector) -> bool
     vector.entries.len() == dimension as usize
 }
 
-/// Whether an entry is over 4 in absolute value.
+/// Whether some entry is over 4 in absolute value.
 pub(crate) fn is_far(text: &Text, vector: &Vector) -> bool
     ensures { result ≡ is_far text.now vector.now }
 {
@@ -69,7 +69,7 @@ pub(crate) fn is_far(text: &Text, vector: &Vector) -> bool
     entries.any(|entry| entry_value(text, *entry) > FARTHEST)
 }
 
-/// Numbers and vectors of questions: radii and margins, and periods of strips.
+/// The context of the numbers and vectors of a query: radii, margins, and periods of strips.
 #[derive(Clone, Copy)]
 pub(crate) struct Asked<'a>(pub(crate) &'a Context);
 
@@ -82,7 +82,7 @@ impl<'a> Notes<Number> for Asked<'a> {
     }
 }
 
-/// Weights that are over 1,000.
+/// Notes weights over 1,000.
 impl Notes<Number> for Context {
     ghost faults = { weight_faults };
 
@@ -113,7 +113,7 @@ impl<'a> Notes<Vector> for Asked<'a> {
     }
 }
 
-/// Vectors of a discharge.
+/// Notes the faults of a vector of a discharge.
 impl Notes<Vector> for Context {
     ghost faults = { vector_faults };
 

@@ -13,7 +13,7 @@ use dd_known::{Context, MOST_VECTORS};
 use dd_written::{Name, Word};
 use std::alloc::Global;
 
-/// Notes the words that name nothing of their roles.
+/// Notes the words that name nothing of their role.
 fn words(context: &Context, roles: &[Role], words: &[Word], found: &mut Found)
     ensures { found.new ≡ noted found.old (flat_map (word_faults context.now) (zip roles.now words.now)) }
 {

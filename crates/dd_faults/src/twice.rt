@@ -1,4 +1,4 @@
-//! What is given twice.
+//! Repetitions.
 ghost use Rattle.std.specs.Prelude.{◌≡◌, [], ℕ, List, string_bytes, IfOk, OnOk};
 ghost use Rattle.dd_written.specs.Values.{name_text};
 ghost use Rattle.dd_faults.specs.{declared.fault.Fault.Fault as AnyFault, declared.fault.Fault.TheVariants.Twice, Order.noted};
@@ -12,18 +12,18 @@ use dd_topology::{NameFault, Names};
 use dd_written::{Name, Text, name_text};
 use std::alloc::{AllocError, Global};
 
-/// What may be given twice: two with the same key are the same.
+/// Items that may not repeat: two with the same key are the same.
 pub(crate) trait Keyed {
     ghost key: { List ℕ → Self → List ℕ };
-    /// The fault of the second.
+    /// The fault if this item repeats an earlier one.
     ghost repeated: { Self → AnyFault };
 
-    /// The key, and the fault of a second with it.
+    /// The key, and the fault if the item repeats an earlier one.
     fn key(&self, alloc: Global, text: &Text) -> Result<(String, Fault), AllocError>
         ensures { IfOk result (λ keyed. (string_bytes keyed.0 ≡ key text.now self.now) × (keyed.1 ≡ repeated self.now)) };
 }
 
-/// Notes the first that is given twice. More items than any script has are taken for want of memory.
+/// Notes the first item that repeats an earlier one. More items than any script contains count as a lack of memory.
 pub(crate) fn note_twice<T: Keyed>(alloc: Global, text: &Text, all: &[T], found: &mut Found) -> Done
     ensures { OnOk result (found.new ≡ noted found.old (first_repeat (T.key text.now) T.repeated [] all.now)) }
 {
@@ -69,7 +69,7 @@ impl Keyed for Edge {
     }
 }
 
-/// The number of an entry of at most 4 in absolute value, and the text of any other, with a comma behind it.
+/// The entry followed by a comma: by its value if that is at most 4 in absolute value, otherwise as written.
 fn entry_key(alloc: Global, text: &Text, entry: Entry) -> Result<String, AllocError>
     ensures { IfOk result (λ key. string_bytes key ≡ entry_key text.now entry) }
 {

@@ -1,45 +1,20 @@
 -- The extensions of no symbols are all breaking fillings.
-use Rattle.std.proofs.Common.{◌≡◌, ◌<◌, ◌≤◌, ◌+◌, ℕ, zero, suc, Bool, true, false, cond, List, [], ◌∷◌, ◌++◌, length, get_or, refl, sym, ◌∙◌, ap, subst, inl, inr, arith}
-use Rattle.std.specs.List.{Contains, flat_map, range_with_len}
-use Rattle.std.specs.List.Sorted.{IsStrictlySortedBy}
-use Rattle.std.specs.Ordering.{nat_cmp}
-use Rattle.std.specs.Cmp.Lexicographic.{slice_cmp}
-use Rattle.std.specs.declared.cmp.Ordering.TheVariants.{Less}
-use Rattle.std.proofs.Math.ListN.{get_or-eq_default}
-use Rattle.std.proofs.lemmas.Bool.{and_parts, and_from, cases_lt, false≢true}
-use Rattle.std.proofs.lemmas.List.{append_assoc, append-nil}
-use Rattle.std.proofs.lemmas.List.Elements.{All-get_or}
+use Rattle.std.proofs.Common.{◌≡◌, ◌<◌, ◌+◌, ℕ, zero, suc, Bool, true, false, cond, List, [], ◌∷◌, ◌++◌, length, get_or, refl, sym, ◌∙◌, ap, subst, inl, inr, arith}
+use Rattle.std.proofs.lemmas.Bool.{and_parts, and_from, false≢true}
+use Rattle.std.proofs.lemmas.List.{append_assoc, append-nil, Elements.All-get_or}
+use Rattle.std.specs.{List.Contains, List.flat_map, List.range_with_len, List.Sorted.IsStrictlySortedBy, Ordering.nat_cmp}
+use Rattle.std.specs.{Cmp.Lexicographic.slice_cmp, declared.cmp.Ordering.TheVariants.Less}
 use Rattle.dd_lattice.specs.declared.position.Cell.{Cell}
-use Rattle.dd_topology.specs.Sets.{row_allows, IsRow}
+use Rattle.dd_topology.specs.{Sets.IsRow, lemmas.ListLaws.into_flat_map}
 use Rattle.dd_formula.specs.LocalRule.{LocalRule, rule_allows, cells_at, IsRule}
+use Rattle.dd_formula.specs.lemmas.AllowedLaws.{allowed_below}
 use Rattle.dd_forbidden.specs.Breaking.{are_allowed, is_true_at_origin, IsBreaking, BreakingFillings}
 use Rattle.dd_forbidden.specs.listing.Extensions.{extensions}
-use Rattle.dd_forbidden.proofs.Lists.{contains_first, contains_nil, cons_cases, sorted_append, of_part, part_of, range_has, range_from, less_at}
+use Rattle.dd_forbidden.proofs.Lists.{range_from, less_at}
+use Rattle.dd_values.specs.lemmas.Members.{Contains-cons_cases, sorted_append, Contains-first, Contains-nil}
+use Rattle.dd_values.specs.lemmas.Lists.{nothing_past, range_has, of_part}
 
 -- allowed symbols are symbols of the alphabet
-
-nothing_past : (row : List Bool) (t : ℕ) → get_or row t false ≡ true → t < length row
-nothing_past row t h = elim (cases_lt t (length row)) [ inl low ↦ low | inr high ↦ absurd (let past = get_or-eq_default row false high in cc) ]
-
-allowed_in_row : (r : LocalRule) (a t : ℕ) → IsRule r → a < length r.allowed → rule_allows r a t ≡ true → t < r.symbols
-allowed_in_row r a t ok below h =
-    let row = get_or r.allowed a [] in
-    let is : IsRow r.symbols row = All-get_or (IsRow r.symbols) r.allowed a [] below ok.allowed.rows in
-    let within = nothing_past row t h in
-    omega (arith, within, is.as_many)
-
-empty_row : (row : List Bool) (t : ℕ) → row ≡ [] → get_or row t false ≡ false
-empty_row row t none = get_or-eq_default row false (let few : length row ≡ 0 = ap length none in let past : length row ≤ t = omega arith in past)
-
-no_row : (rows : List (List Bool)) (a t : ℕ) → length rows ≤ a → row_allows rows a t ≡ false
-no_row rows a t high = empty_row (get_or rows a []) t (get_or-eq_default rows [] high)
-
-pub allowed_below : (r : LocalRule) → IsRule r → (a s : ℕ) → rule_allows r a s ≡ true → s < r.symbols
-allowed_below r ok a s h =
-    elim (cases_lt a (length r.allowed)) [
-      | inl low ↦ allowed_in_row r a s ok low h
-      | inr high ↦ absurd (let none = no_row r.allowed a s high in cc)
-    ]
 
 -- a breaking filling that begins with some symbols
 record Extends (r : LocalRule) (a : ℕ) (cs : List Cell) (start ss : List ℕ) : Type 0 where
@@ -52,10 +27,10 @@ abbrev branch : LocalRule → ℕ → Cell → List Cell → List ℕ → ℕ �
 branch r a c cs start s = cond (rule_allows r c.node s) (extensions r a cs (start ++ s ∷ [])) []
 
 whole : (r : LocalRule) (a : ℕ) (start ss : List ℕ) (b : Bool) → is_true_at_origin r a start ≡ b → Contains (cond b [] (start ∷ [])) ss → Extends r a [] start ss
-whole r a start ss true h c = absurd (contains_nil ss c)
-whole r a start ss false h c = elim (cons_cases start [] ss c) [
+whole r a start ss true h c = absurd (Contains-nil ss c)
+whole r a start ss false h c = elim (Contains-cons_cases start [] ss c) [
   | inl same ↦ record { rest = []; is = sym same ∙ sym (append-nil start); allowed = refl; broken = ap (is_true_at_origin r a) (sym same) ∙ h }
-  | inr none ↦ absurd (contains_nil ss none)
+  | inr none ↦ absurd (Contains-nil ss none)
 ]
 
 longer : (r : LocalRule) (a : ℕ) (c : Cell) (cs : List Cell) (start ss : List ℕ) (s : ℕ) → rule_allows r c.node s ≡ true →
@@ -71,7 +46,7 @@ in_branch : (r : LocalRule) (a : ℕ) (c : Cell) (cs : List Cell) (start ss : Li
     ((start : List ℕ) → Contains (extensions r a cs start) ss → Extends r a cs start ss) →
     Contains (cond b (extensions r a cs (start ++ s ∷ [])) []) ss → Extends r a cs (start ++ s ∷ []) ss × (rule_allows r c.node s ≡ true)
 in_branch r a c cs start ss s true h below d = (below (start ++ s ∷ []) d, h)
-in_branch r a c cs start ss s false h below d = absurd (contains_nil ss d)
+in_branch r a c cs start ss s false h below d = absurd (Contains-nil ss d)
 
 extends : (r : LocalRule) (a : ℕ) (cs : List Cell) (start ss : List ℕ) → Contains (extensions r a cs start) ss → Extends r a cs start ss
 extends r a [] start ss d = whole r a start ss (is_true_at_origin r a start) refl d
@@ -85,7 +60,7 @@ listed : (r : LocalRule) → IsRule r → (a : ℕ) (cs : List Cell) (start rest
 listed r ok a [] start [] al br =
     let same = append-nil start in
     let kept : is_true_at_origin r a start ≡ false = ap (is_true_at_origin r a) (sym same) ∙ br in
-    rw (same, kept) (contains_first start [])
+    rw (same, kept) (Contains-first start [])
 listed r ok a [] start (s ∷ rest) al br = absurd (false≢true al)
 listed r ok a (c ∷ cs) start [] al br = absurd (false≢true al)
 listed r ok a (c ∷ cs) start (s ∷ rest) al br =
@@ -94,7 +69,7 @@ listed r ok a (c ∷ cs) start (s ∷ rest) al br =
     let below = listed r ok a cs (start ++ s ∷ []) rest both.1 (ap (is_true_at_origin r a) whole ∙ br) in
     let begun : Contains (extensions r a cs (start ++ s ∷ [])) (start ++ s ∷ rest) = subst (Contains (extensions r a cs (start ++ s ∷ []))) whole below in
     let here : Contains (branch r a c cs start s) (start ++ s ∷ rest) = rw both.0 begun in
-    part_of (branch r a c cs start) (range_with_len 0 r.symbols) s (start ++ s ∷ rest) (range_has r.symbols s (allowed_below r ok c.node s both.0)) here
+    into_flat_map (branch r a c cs start) (range_with_len 0 r.symbols) s (start ++ s ∷ rest) (range_has r.symbols s (allowed_below r ok c.node s both.0)) here
 
 abbrev Ascends : List (List ℕ) → Type 0
 Ascends lists = IsStrictlySortedBy (slice_cmp nat_cmp) lists

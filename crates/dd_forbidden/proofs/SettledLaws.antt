@@ -1,11 +1,9 @@
 -- What is settled by the symbols of the first cells, and what it says of the fillings that begin with them.
 use Rattle.std.proofs.Common.{◌≡◌, ◌<◌, ◌≤◌, ◌+◌, ℕ, zero, suc, Bool, true, false, cond, List, [], ◌∷◌, ◌++◌, refl, sym, ◌∙◌, ap, subst, arith}
+use Rattle.std.proofs.lemmas.List.{append_assoc, append-nil, Elements.All-push}
 use Rattle.std.specs.List.{flat_map, range_with_len}
-use Rattle.std.proofs.lemmas.List.{append_assoc, append-nil}
-use Rattle.std.proofs.lemmas.List.Elements.{All-push}
 use Rattle.dd_lattice.specs.declared.position.Cell.{Cell}
-use Rattle.dd_numbered.specs.declared.numbered.Numbered.{Numbered}
-use Rattle.dd_numbered.specs.Numbered.{holds_in, IsSettled}
+use Rattle.dd_numbered.specs.{declared.numbered.Numbered.Numbered, Numbered.holds_in, Numbered.IsSettled}
 use Rattle.dd_formula.specs.LocalRule.{LocalRule, rule_allows}
 use Rattle.dd_forbidden.specs.Breaking.{is_true_at_origin}
 use Rattle.dd_forbidden.specs.listing.Extensions.{completions, extensions, AreSymbols}

@@ -1,9 +1,6 @@
 -- The fillings of a rule's reads under which the rule is false.
 use Rattle.std.specs.Prelude.{ℕ, ◌≡◌, ◌&&◌, nat_lt, Bool, true, false, List, [], ◌∷◌, map}
-use Rattle.std.specs.List.{Contains}
-use Rattle.std.specs.List.Sorted.{IsStrictlySortedBy}
-use Rattle.std.specs.Ordering.{nat_cmp}
-use Rattle.std.specs.Cmp.Lexicographic.{slice_cmp}
+use Rattle.std.specs.{List.Contains, List.Sorted.IsStrictlySortedBy, Ordering.nat_cmp, Cmp.Lexicographic.slice_cmp}
 use Rattle.dd_lattice.specs.declared.position.Cell.{Cell}
 use Rattle.dd_pattern.specs.Filling.{Filled, filled, filling_look}
 use Rattle.dd_expansion.specs.Terms.{origin_at}
@@ -23,7 +20,7 @@ are_allowed r (c ∷ cs) (s ∷ ss) = rule_allows r c.node s && are_allowed r cs
 abbrev pub is_true_at_origin : LocalRule → ℕ → List ℕ → Bool
 is_true_at_origin r a ss = is_true r (origin_at a) (filling_look (filled (cells_at r a) ss))
 
--- the cells that the rule reads at the node have more fillings than are looked through
+-- the cells that the rule reads at the node have more fillings than the limit
 abbrev pub is_large : LocalRule → ℕ → Bool
 is_large r a = nat_lt most_patterns (pattern_count r a)
 

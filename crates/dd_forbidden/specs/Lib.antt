@@ -1,4 +1,6 @@
 -- the fillings that break a rule
 pub mod Breaking
--- what the search appends, by what stands so far
+-- what the search appends to the symbols so far
 pub mod listing
+-- lemmas on these definitions, with their proofs
+pub mod lemmas

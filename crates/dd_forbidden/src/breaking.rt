@@ -12,8 +12,8 @@ use dd_values::Items;
 use std::alloc::Global;
 
 /// All fillings of the cells that the rule reads at the node, with symbols that their nodes allow, for which the rule is
-/// false at the node's cell at the origin: in the lexicographic order of their symbols, each once. Where the rule reads
-/// nothing and is false, this is the empty filling.
+/// false at the node's cell at the origin. They are in the lexicographic order of their symbols, each once. Where the
+/// rule reads nothing and is false, this is the empty filling.
 ///
 /// # Errors
 /// `Size` where the number of symbols to the power of the number of cells passes 65,536; else `Memory`.

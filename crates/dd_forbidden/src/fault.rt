@@ -10,7 +10,7 @@ pub enum ForbiddenFault {
     /// The number of symbols to the power of the number of cells that are read at the node passes 65,536.
     #[error("the reads have more than 65536 fillings")]
     Size,
-    /// Memory was wanting.
+    /// Memory ran out.
     #[error("out of memory")]
     Memory,
 }

@@ -3,7 +3,7 @@ ghost use Rattle.std.specs.Prelude.{◌≡◌, ◌<◌, ◌≤◌, ◌^◌, ℕ,
 ghost use Rattle.dd_formula.specs.LocalRule.{LocalRule, IsRule, cells_at};
 ghost use Rattle.dd_forbidden.specs.Breaking.{IsBreaking, BreakingFillings};
 
-/// Does nothing; its contract says that all breaking fillings in lexicographic order are one list.
+/// Does nothing; its contract says that there is one list of all breaking fillings in lexicographic order.
 pub fn one_list()
     ensures { (r : LocalRule) (a : ℕ) (xs ys : List (List ℕ)) → BreakingFillings r a xs → BreakingFillings r a ys → xs ≡ ys }
 {}

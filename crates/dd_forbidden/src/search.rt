@@ -1,5 +1,5 @@
-//! The search: cell by cell each symbol that the cell's node allows, in order. A branch ends where the symbols so far settle that
-//! the rule is true, and where they settle that it is false all of its fillings are listed.
+//! The search tries, cell by cell, each symbol that the cell's node allows, in order. A branch ends once the symbols so
+//! far settle that the rule is true. Once they settle that it is false, all fillings of the branch are listed.
 ghost use Rattle.std.specs.Prelude.{[], ◌∷◌, ◌≡◌, ◌<◌, ◌+◌, ◌++◌, length, map, OnOk};
 ghost use Rattle.std.specs.List.Sorted.{IsStrictlySortedBy};
 ghost use Rattle.dd_lattice.specs.Order.{cell_cmp};
@@ -15,7 +15,7 @@ use dd_pattern::Filling;
 use dd_values::Items;
 use std::alloc::{AllocError, Global};
 
-/// Appends the breaking fillings that begin with these symbols, where the rest of the cells has none yet.
+/// Appends the breaking fillings that begin with these symbols. The rest of the cells have none yet.
 pub(crate) fn extend(
     alloc: Global,
     rule: &Rule,

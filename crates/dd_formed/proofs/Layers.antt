@@ -1,20 +1,16 @@
 -- What a formula's numbers and its depth are, from those of its parts.
-use Rattle.std.proofs.Common.{◌≡◌, ℕ, zero, suc, ◌+◌, ◌<◌, ◌≤◌, Bool, true, false, cond, max, List, [], ◌∷◌, length, map, take, get_or, refl, ap, sym, ◌∙◌, arith}
-use Rattle.std.specs.Prelude.{◌&&◌, nat_le}
-use Rattle.std.specs.List.{All, list_all}
-use Rattle.std.proofs.lemmas.Bool.{and_from, lt-leb, le-leb}
-use Rattle.std.proofs.lemmas.Bool.Decides.{nat_tests}
-use Rattle.std.proofs.lemmas.List.{length-map, take_all}
-use Rattle.std.proofs.lemmas.List.Folds.{list_all_more}
-use Rattle.std.proofs.lemmas.List.Recursion.{and_fails_at}
+use Rattle.std.proofs.Common.{◌≡◌, ℕ, ◌+◌, ◌<◌, ◌≤◌, Bool, true, false, max, List, [], ◌∷◌, length, map, take, get_or, ap, sym, ◌∙◌, arith}
+use Rattle.std.proofs.lemmas.Bool.{and_from, lt-leb, le-leb, Decides.nat_tests}
+use Rattle.std.proofs.lemmas.List.{length-map, take_all, Folds.list_all_more}
+use Rattle.std.specs.{Prelude.◌&&◌, Prelude.nat_le, List.All, List.list_all}
 use Rattle.dd_topology.specs.Grid.{Grid}
-use Rattle.dd_expansion.specs.declared.formulas.BallOf.{BallOf}
-use Rattle.dd_expansion.specs.declared.formulas.Formula.{Formula}
-use Rattle.dd_expansion.specs.declared.formulas.Formula.TheVariants as formula
-use Rattle.dd_expansion.specs.declared.formulas.Formula.TheFolds.{fold-roll-Formula}
-use Rattle.dd_expansion.specs.declared.formulas.Formula.TheOpen.{Formula-F}
+use Rattle.dd_expansion.specs.declared.formulas.{BallOf.BallOf, Formula.Formula}
+use Rattle.dd_expansion.specs.declared.formulas.Formula.{TheFolds.fold-roll-Formula, TheOpen.Formula-F}
 use Rattle.dd_expansion.specs.Limits.{balls_fit, formula_fits, formula_fits_step, greatest, list_depth, depth, depth_step}
 use Rattle.dd_expansion.specs.lemmas.Layers.{fits_and, fits_or, depth_and, depth_or}
+use Rattle.dd_expansion.specs.lemmas.Depths.{greatest_at, quantified_depth}
+use Rattle.dd_values.specs.lemmas.Numbers.{cond_more}
+use Rattle.dd_expansion.specs.declared.formulas.Formula.TheVariants as formula
 
 pub depth_not : (f : Formula) → depth (formula.Not f) ≡ 1 + depth f
 depth_not f = ap depth (sym (formula.rolls-Not f)) ∙ fold-roll-Formula ℕ depth_step (Formula-F.Not f)
@@ -25,13 +21,10 @@ depth_implies f g = ap depth (sym (formula.rolls-Implies f g)) ∙ fold-roll-For
 pub depth_iff : (f g : Formula) → depth (formula.Iff f g) ≡ 1 + max (depth f) (depth g)
 depth_iff f g = ap depth (sym (formula.rolls-Iff f g)) ∙ fold-roll-Formula ℕ depth_step (Formula-F.Iff f g)
 
-pub depth_for_all : (bs : List BallOf) (f : Formula) → depth (formula.ForAll bs f) ≡ 1 + depth f
-depth_for_all bs f = ap depth (sym (formula.rolls-ForAll bs f)) ∙ fold-roll-Formula ℕ depth_step (Formula-F.ForAll bs f)
-
 pub depth_exists : (bs : List BallOf) (f : Formula) → depth (formula.Exists bs f) ≡ 1 + depth f
 depth_exists bs f = ap depth (sym (formula.rolls-Exists bs f)) ∙ fold-roll-Formula ℕ depth_step (Formula-F.Exists bs f)
 
-pub ruleset depth_layers = (depth_not, depth_and, depth_or, depth_implies, depth_iff, depth_for_all, depth_exists)
+pub ruleset depth_layers = (depth_not, depth_and, depth_or, depth_implies, depth_iff, quantified_depth, depth_exists)
 
 pub fits_not : (g : Grid) (n : ℕ) (f : Formula) (k : ℕ) → formula_fits g n (formula.Not f) k ≡ formula_fits g n f k
 fits_not g n f k = ap (λ x. formula_fits g n x k) (sym (formula.rolls-Not f)) ∙ ap (λ h. h k) (fold-roll-Formula (ℕ → Bool) (formula_fits_step g n) (Formula-F.Not f))
@@ -77,24 +70,12 @@ shallow_none fs many = rw (length-map fs depth, le-leb 2 (length fs) many) (none
   none : (m : ℕ) → nat_le (1 + m) 0 ≡ false
   none m = grind (arith, nat_tests)
 
-greatest_at : (fs : List Formula) (i : ℕ) (d : Formula) → i < length fs → depth (get_or fs i d) ≤ greatest (map depth fs)
-greatest_at [] i d within = absurd (omega arith)
-greatest_at (f ∷ fs) zero d within = omega arith
-greatest_at (f ∷ fs) (suc i) d within = let rest = greatest_at fs i d (omega arith) in omega (arith, rest)
-
-deeper : (b : Bool) (n : ℕ) → n ≤ cond b (1 + n) n
-deeper true n = omega arith
-deeper false n = omega arith
-
 -- each part is no deeper than the list
 pub parts_within : (fs : List Formula) (k n : ℕ) → k + list_depth (map depth fs) < n → All (λ f. k + depth f < n) fs
 parts_within fs k n whole i d within =
-    omega (arith, whole, greatest_at fs i d within, deeper (nat_le 2 (length (map depth fs))) (greatest (map depth fs)))
+    omega (arith, whole, greatest_at fs i d within, cond_more (nat_le 2 (length (map depth fs))) (greatest (map depth fs)))
 
 -- ---- tests of lists, item by item
-
-pub some_fails : {X : Type 0} (p : X → Bool) (xs : List X) (i : ℕ) (x : X) → i < length xs → x ≡ get_or xs i x → p x ≡ false → list_all p xs ≡ false
-some_fails p xs i x within is fails = and_fails_at (list_all p) p refl (λ y ys. refl) xs i x within (ap p (sym is) ∙ fails)
 
 pub one_more : {X : Type 0} (p : X → Bool) (xs : List X) (i : ℕ) (x : X) → i < length xs → x ≡ get_or xs i x → list_all p (take i xs) ≡ true → p x ≡ true → list_all p (take (i + 1) xs) ≡ true
 one_more p xs i x within is before passes = list_all_more p xs i x within ∙ and_from _ _ before (ap p (sym is) ∙ passes)

@@ -1,17 +1,14 @@
 -- Which automata aren't well formed.
 use Rattle.std.proofs.Common.{◌≡◌, ◌≢◌, ◌≤◌, ℕ, true, false, sym, subst, ◌∙◌, arith, refl, Result, Ok, Err, Some, None}
-use Rattle.std.specs.Prelude.{◌↔◌, ◌&&◌, Option, is_some, IfOk}
-use Rattle.std.specs.declared.alloc.AllocError.{AllocError}
 use Rattle.std.proofs.lemmas.Bool.{and_parts, false≢true}
+use Rattle.std.specs.{Prelude.◌↔◌, Prelude.◌&&◌, Prelude.Option, Prelude.is_some, Prelude.IfOk, declared.alloc.AllocError.AllocError}
 use Rattle.dd_formula.specs.Automata.{CommonNumbers, IsAutomaton, cases_fit, counted, is_few, is_short, is_shallow, keeps_limits}
-use Rattle.dd_formula.specs.Compositions.{IsCompositionFault, composition}
-use Rattle.dd_formula.specs.declared.automaton.Automaton.{Automaton}
-use Rattle.dd_formula.specs.declared.automaton.Automaton.TheVariants as v
-use Rattle.dd_formula.specs.declared.automaton.Cases.{Cases}
-use Rattle.dd_formula.specs.declared.fault.RuleFault.{RuleFault}
+use Rattle.dd_formula.specs.{Compositions.IsCompositionFault, Compositions.composition, declared.automaton.Automaton.Automaton}
+use Rattle.dd_formula.specs.declared.{automaton.Cases.Cases, fault.RuleFault.RuleFault}
 use Rattle.dd_formula.specs.declared.fault.RuleFault.TheVariants.{Reach, Instances, Depth, Memory}
 use Rattle.dd_formula.specs.lemmas.AutomatonLaws.{fits_given, outer_part, inner_part, within_is}
 use Rattle.dd_formed.specs.Formed.{IsOnceMore}
+use Rattle.dd_formula.specs.declared.automaton.Automaton.TheVariants as v
 
 -- a well-formed automaton has few instances, reads nothing too far away, and isn't too deep
 limits_of : (s : CommonNumbers) (f : Automaton) → IsAutomaton s f → (is_few s.nodes (counted f) ≡ true) × (is_short s.nodes (counted f) ≡ true) × (is_shallow (counted f) ≡ true)
@@ -35,7 +32,7 @@ no_outer s f g none h = none (outer_part s f g h)
 pub no_inner : (s : CommonNumbers) (f g : Automaton) → ¬ IsAutomaton s g → ¬ IsAutomaton s (v.Composed f g)
 no_inner s f g none h = none (inner_part s f g h)
 
--- a composition that is refused, but not for want of memory
+-- a composition that is refused for another reason than memory
 refused_composition : (s : CommonNumbers) (f g : Automaton) (e : RuleFault) → IsCompositionFault s.nodes (composition f g) e → e ≢ Memory → ¬ IsAutomaton s (v.Composed f g)
 refused_composition s f g Instances fault other h = false≢true (sym fault ∙ (limits_of s (v.Composed f g) h).0)
 refused_composition s f g Reach fault other h = false≢true (sym fault.1 ∙ (limits_of s (v.Composed f g) h).1)

@@ -1,7 +1,6 @@
--- Automata that are made once more, where they are well formed.
+-- Automata that are made again, if they are well formed.
 use Rattle.std.specs.Prelude.{◌≡◌, Option, MatchOption}
-use Rattle.dd_formula.specs.Automata.{CommonNumbers, IsAutomaton}
-use Rattle.dd_formula.specs.declared.automaton.Automaton.{Automaton}
+use Rattle.dd_formula.specs.{Automata.CommonNumbers, Automata.IsAutomaton, declared.automaton.Automaton.Automaton}
 use Rattle.dd_formed.specs.declared.automata.CommonNumbers.{CommonNumbers as Given}
 
 -- the numbers that a value of the program stands for

@@ -1,5 +1,5 @@
-//! Whether automata are well formed. An automaton is well formed where it can be made once more: each part of it is made, from the
-//! rules upwards, and what makes a part tests it.
+//! Whether automata are well formed. An automaton is well formed if it can be made again: each part is made, from the
+//! rules upwards, and the call that makes a part tests it.
 ghost use Rattle.std.specs.Prelude.{◌≡◌, ◌≢◌, ◌↔◌, ◌&&◌, IsTrue, IfOk, None, nat_lt};
 ghost use Rattle.std.specs.List.{list_all};
 ghost use Rattle.dd_formula.specs.Automata.{IsAutomaton, cases_fit, rule_has};
@@ -57,7 +57,7 @@ fn copy_of(alloc: Global, cases: &Cases) -> Result<Cases, AllocError>
     })
 }
 
-/// The automaton by these cases, where it is well formed.
+/// The automaton by these cases, if it is well formed.
 #[tactic(auto, using(crate::proofs::Making::no_nodes, crate::proofs::Making::unfit_given, crate::proofs::Making::many_given))]
 fn given(
     alloc: Global,
@@ -78,7 +78,7 @@ fn given(
     }
 }
 
-/// What a fault says of the automaton: it isn't well formed, unless memory was wanting.
+/// What a fault says of the automaton: it isn't well formed, unless memory ran out.
 fn refused(fault: RuleFault) -> Result<Option<Automaton>, AllocError>
     ensures { IfOk result (λ none. (none ≡ None) × (fault ≢ RuleFault.Memory)) }
 {
@@ -88,7 +88,7 @@ fn refused(fault: RuleFault) -> Result<Option<Automaton>, AllocError>
     }
 }
 
-/// The composition, where it is well formed.
+/// The composition, if it is well formed.
 fn composed(
     alloc: Global,
     outer: Automaton,
@@ -105,7 +105,7 @@ fn composed(
     }
 }
 
-/// The automaton once more, where it is well formed.
+/// A copy of the automaton, if it is well formed.
 #[tactic(auto, using(crate::proofs::Making::no_outer, crate::proofs::Making::no_inner))]
 fn once_more(
     alloc: Global,
@@ -128,12 +128,13 @@ fn once_more(
     }
 }
 
-/// Whether an automaton is well formed over these numbers: there is a node, each of its rules has the numbers, each symbol that it gives
-/// is one of the alphabet, and each part of it has at most 20,000 instances at each node, reads nothing more than 16 away along an axis,
-/// and nests compositions at most 64 deep.
+/// Whether an automaton is well formed over these numbers:
+/// - There is a node, each rule has the numbers, and each symbol given is one of the alphabet.
+/// - Each part has at most 20,000 instances at each node.
+/// - Each part reads nothing more than 16 away along an axis, and nests compositions at most 64 deep.
 ///
 /// # Errors
-/// `AllocError` where memory was wanting.
+/// `AllocError` if memory ran out.
 #[tactic(auto, using(crate::proofs::Making::tells))]
 pub fn is_automaton(
     alloc: Global,

@@ -1,14 +1,24 @@
 //! How deep formulas are.
-ghost use Rattle.std.specs.Prelude.{◌≡◌, nat_le, map};
+ghost use Rattle.std.specs.Prelude.{◌≡◌, ◌≤◌, ◌↔◌, IsTrue, nat_le, map};
 ghost use Rattle.std.specs.List.{list_all};
-ghost use Rattle.dd_expansion.specs.Limits.{depth, list_depth};
+ghost use Rattle.dd_expansion.specs.Limits.{depth, list_depth, most_nested};
 
 use dd_expansion::Formula;
+
+/// How deep a formula is at most.
+const MOST_NESTED: u32 = 64;
+
+/// Whether a formula is no deeper than a rule's may be. It takes no memory.
+pub fn keeps_depth(formula: &Formula) -> bool
+    ensures { IsTrue result ↔ (depth formula.now ≤ most_nested) }
+{
+    is_shallow(formula, MOST_NESTED)
+}
 
 /// Whether the formula is so deep at most.
 #[cycle(shallow)]
 #[tactic(auto, using(crate::proofs::Layers::depth_layers))]
-pub(crate) fn is_shallow(formula: &Formula, most: u32) -> bool
+fn is_shallow(formula: &Formula, most: u32) -> bool
     ensures { result ≡ nat_le (depth formula.now) most }
 {
     match formula {

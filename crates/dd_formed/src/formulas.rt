@@ -1,21 +1,18 @@
-//! Whether the numbers in formulas are those of what there is.
+//! Whether the numbers in formulas name what exists.
 ghost use Rattle.std.specs.Prelude.{◌≡◌, ◌+◌, ◌<◌, ◌^◌, ◌↔◌, ◌&&◌, IsTrue, All, length, nat_lt};
 ghost use Rattle.std.specs.List.{list_all};
 ghost use Rattle.dd_expansion.specs.Limits.{term_fits, ball_fits, balls_fit, formula_fits, depth, IsFormula};
 
-use crate::depth::is_shallow;
+use crate::depth::keeps_depth;
 use dd_expansion::{BallOf, Formula, Term};
 use dd_topology::Topology;
 
-/// The greatest number of moves of a term, and of balls of a quantifier, the greatest radius of a ball, and how deep a formula is at
-/// most.
+/// The greatest number of moves of a term, and of balls of a quantifier, and the greatest radius of a ball.
 const MOST_MOVES: usize = 16;
 
 const MOST_BALLS: usize = 4;
 
 const WIDEST_RADIUS: u32 = 3;
-
-const MOST_NESTED: u32 = 64;
 
 /// What formulas may name: the labels and nodes of a topology, and symbols.
 #[derive(Drop)]
@@ -65,7 +62,7 @@ impl Language<'_> {
         self.term_fits(scope, left) && self.term_fits(scope, right)
     }
 
-    /// Whether the formula fits where so many variables are in scope. It is refused where there would be 2^32 of them.
+    /// Whether the formula fits with so many variables in scope. It doesn't if there would be 2^32 of them.
     #[cycle(fits)]
     #[tactic(auto, using(crate::proofs::Layers::fits_layers, crate::proofs::Layers::depth_layers, crate::proofs::Layers::parts_within))]
     fn fits(&self, scope: u32, formula: &Formula) -> bool
@@ -120,10 +117,11 @@ impl Language<'_> {
     }
 }
 
-/// Whether a formula may be made a rule over a topology, which has so many labels, and so many symbols: it has one free variable, and
-/// each variable, label, node and symbol is one that there is; its terms have at most 16 moves, its quantifiers at most 4 balls of a
-/// radius of at most 3; and it is at most 64 deep, where a list of two parts or more, an implication, an equivalence, a negation and a
-/// quantifier are one deeper than their deepest part. It takes no memory.
+/// Whether a formula may be made a rule over a topology with so many labels, and so many symbols. It takes no memory.
+/// - It has one free variable, and each variable, label, node and symbol in it exists.
+/// - Its terms have at most 16 moves, and its quantifiers at most 4 balls of a radius of at most 3.
+/// - It is at most 64 deep. A list of two parts or more, an implication, an equivalence, a negation and a quantifier are
+///   one deeper than their deepest part.
 pub fn is_formula(topology: &Topology, labels: u32, symbols: u32, formula: &Formula) -> bool
     requires { length topology.now.labels ≡ labels }
     ensures { IsTrue result ↔ IsFormula topology.now symbols formula.now }
@@ -133,5 +131,5 @@ pub fn is_formula(topology: &Topology, labels: u32, symbols: u32, formula: &Form
         labels,
         symbols,
     };
-    is_shallow(formula, MOST_NESTED) && language.fits(1, formula)
+    keeps_depth(formula) && language.fits(1, formula)
 }

@@ -1,5 +1,5 @@
-//! Tests of what formulas and automata must keep before rules are made of them: their numbers are those of what there is, and they are
-//! within the limits.
+//! Tests of formulas and automata before rules are made of them: their numbers name what exists, and they are within the
+//! limits.
 #![tactic(auto)]
 
 mod automata;
@@ -7,4 +7,5 @@ mod depth;
 mod formulas;
 
 pub use automata::{CommonNumbers, is_automaton};
+pub use depth::keeps_depth;
 pub use formulas::is_formula;

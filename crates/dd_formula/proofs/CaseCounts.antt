@@ -1,24 +1,17 @@
 -- The counts of an automaton by cases that are formulas, and the case for which it is refused.
 use Rattle.std.proofs.Common.{◌≡◌, ◌<◌, ◌≤◌, ◌+◌, ℕ, Bool, true, false, List, length, map, take, get_or, ap, sym, ◌∙◌, arith}
-use Rattle.std.specs.Prelude.{◌&&◌, nat_lt}
-use Rattle.std.specs.List.{All, list_all, sum_by}
-use Rattle.std.proofs.lemmas.Bool.{and_from, lt-ltb}
-use Rattle.std.proofs.lemmas.List.Elements.{All-weaker}
+use Rattle.std.proofs.lemmas.{Bool.and_from, Bool.lt-ltb, List.Elements.All-weaker}
 use Rattle.std.proofs.lemmas.List.Folds.{list_all-map, list_all_at}
 use Rattle.std.proofs.lemmas.List.Sums.{get_or-le-sum_by, sum_by_more, list_all-from_AllPass}
 use Rattle.std.proofs.lemmas.Simd.{map-map}
-use Rattle.dd_topology.specs.Grid.{Grid}
-use Rattle.dd_topology.specs.Sets.{SymbolSets}
-use Rattle.dd_expansion.specs.declared.formulas.Formula.{Formula}
-use Rattle.dd_expansion.specs.Leaves.{instances, total}
-use Rattle.dd_expansion.specs.lemmas.Layers.{total-map}
+use Rattle.std.specs.{Prelude.◌&&◌, Prelude.nat_lt, List.All, List.list_all, List.sum_by}
+use Rattle.dd_topology.specs.{Grid.Grid, Sets.SymbolSets}
+use Rattle.dd_expansion.specs.{declared.formulas.Formula.Formula, Leaves.instances, Leaves.total, lemmas.Layers.total-map}
 use Rattle.dd_expansion.specs.lemmas.ListTests.{list_all-flat_map}
 use Rattle.dd_formula.specs.LocalRule.{LocalRule, local_rule, expansion_at, reads_at, is_near}
-use Rattle.dd_formula.specs.Automata.{cases_fit, is_few, rule_has}
-use Rattle.dd_formula.specs.Refusals.{IsRuleRefusal}
+use Rattle.dd_formula.specs.{Automata.cases_fit, Automata.is_few, Automata.rule_has, Refusals.IsRuleRefusal}
 use Rattle.dd_formula.specs.ByCases.{numbers_over, case_over, counts_over, IsCaseOver, IsCasesRefusal}
-use Rattle.dd_formula.specs.declared.fault.RuleFault.{RuleFault}
-use Rattle.dd_formula.specs.lemmas.CasesLaws.{refused, has_numbers}
+use Rattle.dd_formula.specs.{declared.fault.RuleFault.RuleFault, lemmas.CasesLaws.refused, lemmas.CasesLaws.has_numbers}
 
 module _ (g : Grid) (s : SymbolSets) where
   abbrev pub size : ℕ → Formula × ℕ → ℕ

@@ -1,25 +1,15 @@
 -- A rule that is true at each cell of the fundamental box is true at every position of Z^d.
 use Rattle.std.proofs.Common.{◌≡◌, ℕ, ◌<◌, length, true, false, ap, sym, ◌∙◌, arith}
-use Rattle.dd_lattice.specs.Place.{Place, moved}
-use Rattle.dd_lattice.specs.Cells.{cell, shifted}
-use Rattle.dd_lattice.specs.declared.position.Cell.{Cell}
-use Rattle.dd_pattern.specs.Reading.{Look}
-use Rattle.dd_pattern.specs.Periods.{base_of}
-use Rattle.dd_pattern.specs.Tile.{Tile, IsTile, tile_index, tile_look, cell_in}
-use Rattle.dd_pattern.specs.lemmas.TileLaws.{base_moved, look_same}
-use Rattle.dd_pattern.specs.lemmas.TileSizes.{index_below}
+use Rattle.dd_lattice.specs.{Place.Place, Place.moved, Cells.cell, Cells.shifted, declared.position.Cell.Cell}
+use Rattle.dd_pattern.specs.{Periods.base_of, Tile.Tile, Tile.IsTile, Tile.tile_index, Tile.tile_look, Tile.cell_in}
+use Rattle.dd_pattern.specs.lemmas.{TileLaws.base_moved, TileLaws.look_same, TileSizes.index_below}
 use Rattle.dd_pattern.specs.lemmas.BoxLaws.{cell_at_index, cell_of_index, in_box, index_of_cell, before_by_order}
 use Rattle.dd_expansion.specs.Terms.{origin_at}
-use Rattle.dd_formula.specs.LocalRule.{LocalRule, is_true}
-use Rattle.dd_formula.specs.Living.{Fits, Lives, IsFirstFalse}
-use Rattle.dd_formula.specs.lemmas.RuleLaws.{truth_moved_back}
+use Rattle.dd_formula.specs.{LocalRule.LocalRule, LocalRule.is_true, Living.Fits, Living.Lives, Living.IsFirstFalse}
+use Rattle.dd_formula.specs.lemmas.{RuleLaws.truth_moved_back, LookLaws.same_look}
 
 abbrev pub true_in : LocalRule → Tile → ℕ → Type 0
 true_in r t i = is_true r (cell_in t i) (tile_look t) ≡ true
-
--- two functions that agree everywhere are one
-same_look : (f g : Look) → ((c : Cell) → f c ≡ g c) → f ≡ g
-same_look f g h = λ i c. h c i
 
 look_at_base : (t : Tile) → IsTile t → (v : Place) (c : Cell) → tile_look t (shifted v c) ≡ tile_look t (shifted (base_of t.periods v) c)
 look_at_base t ok v c =

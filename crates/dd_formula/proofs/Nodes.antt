@@ -1,13 +1,10 @@
 -- Lists that have one item for each node.
 use Rattle.std.proofs.Common.{◌≡◌, ◌<◌, ◌≤◌, ◌-◌, ℕ, zero, suc, Bool, true, false, [], ◌∷◌, ◌++◌, length, map, get_or, refl, ap, sym, ◌∙◌, arith, inl, inr}
-use Rattle.std.specs.Prelude.{◌&&◌}
-use Rattle.std.specs.List.{list_all}
-use Rattle.std.proofs.lemmas.Bool.{and_parts}
-use Rattle.std.proofs.lemmas.List.Folds.{list_all-append}
-use Rattle.std.proofs.Math.Nat.{eq-or-lt_of_le}
-use Rattle.std.proofs.lemmas.List.{get_or_append_left, get_or-append_right, map-append}
-use Rattle.std.proofs.lemmas.Grind.{common_steps}
+use Rattle.std.proofs.{lemmas.Bool.and_parts, lemmas.List.Folds.list_all-append, Math.Nat.eq-or-lt_of_le}
+use Rattle.std.proofs.lemmas.{List.get_or_append_left, List.get_or-append_right, List.map-append, Grind.common_steps}
+use Rattle.std.specs.{Prelude.◌&&◌, List.list_all}
 use Rattle.dd_formula.specs.LocalRule.{at_nodes}
+use Rattle.dd_values.specs.lemmas.Booleans.{and_true}
 
 pub length-at_nodes : {X : Type 0} (f : ℕ → X) (n : ℕ) → length (at_nodes f n) ≡ n
 length-at_nodes f zero = refl
@@ -35,10 +32,6 @@ at_nodes-alike f h same (suc n) = rw (same n, at_nodes-alike f h same n)
 pub map-at_nodes : {X Y : Type 0} (h : X → Y) (f : ℕ → X) (n : ℕ) → map h (at_nodes f n) ≡ at_nodes (λ a. h (f a)) n
 map-at_nodes h f zero = refl
 map-at_nodes h f (suc n) = map-append h (at_nodes f n) (f n ∷ []) ∙ ap (λ xs. xs ++ h (f n) ∷ []) (map-at_nodes h f n)
-
-and_true : (b : Bool) → (b && true) ≡ b
-and_true true = refl
-and_true false = refl
 
 list_all-more : {X : Type 0} (p : X → Bool) (f : ℕ → X) (n : ℕ) → list_all p (at_nodes f (suc n)) ≡ (list_all p (at_nodes f n) && p (f n))
 list_all-more p f n = list_all-append p (at_nodes f n) (f n ∷ []) ∙ ap (λ b. list_all p (at_nodes f n) && b) (and_true (p (f n)))

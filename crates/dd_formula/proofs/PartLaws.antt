@@ -2,21 +2,15 @@
 use Rattle.std.proofs.Common.{◌≡◌, ◌≤◌, ℕ, ◌⊎◌, inl, inr, true, false, [], ◌∷◌, map, sym, subst, ◌∙◌}
 use Rattle.std.specs.List.{list_all}
 use Rattle.dd_lattice.specs.InOrder.{in_order}
-use Rattle.dd_topology.specs.Grid.{Grid, IsGrid}
-use Rattle.dd_topology.specs.Sets.{SymbolSets, IsSets}
-use Rattle.dd_expansion.specs.declared.formulas.Formula.{Formula}
-use Rattle.dd_expansion.specs.Terms.{origin_at}
-use Rattle.dd_expansion.specs.Leaves.{leaf_cells}
-use Rattle.dd_expansion.specs.Limits.{IsFormula}
-use Rattle.dd_expansion.specs.lemmas.LeafLaws.{leaves_are_cells}
-use Rattle.dd_expansion.specs.lemmas.LeavesAreReads.{same_cells, leaves_are_symbols}
+use Rattle.dd_topology.specs.{Grid.Grid, Grid.IsGrid, Sets.SymbolSets, Sets.IsSets}
+use Rattle.dd_expansion.specs.{declared.formulas.Formula.Formula, Terms.origin_at, Leaves.leaf_cells, Limits.IsFormula}
+use Rattle.dd_expansion.specs.lemmas.{LeafLaws.leaves_are_cells, LeavesAreReads.same_cells, LeavesAreReads.leaves_are_symbols}
 use Rattle.dd_expansion.specs.lemmas.Placed.{reads_placed, origin_placed}
 use Rattle.dd_formula.specs.LocalRule.{LocalRule, local_rule, at_nodes, expansion_at, reads_at, cells_at, is_near, IsSmall, ReadsNear, IsRule, IsFar}
-use Rattle.dd_formula.specs.Refusals.{IsRuleRefusal}
-use Rattle.dd_formula.specs.declared.fault.RuleFault.{RuleFault}
+use Rattle.dd_formula.specs.{Refusals.IsRuleRefusal, declared.fault.RuleFault.RuleFault}
 use Rattle.dd_formula.specs.declared.fault.RuleFault.TheVariants.{Reach, Memory}
-use Rattle.dd_formula.proofs.Nodes.{at_nodes-alike, map-at_nodes, all_at_nodes, some_fails}
 use Rattle.dd_formula.specs.lemmas.RuleLaws.{leaves_pass_reads}
+use Rattle.dd_formula.proofs.Nodes.{at_nodes-alike, map-at_nodes, all_at_nodes, some_fails}
 
 module _ (r : LocalRule) (some : 1 ≤ r.symbols) where
   pub reads_made : map (λ e. in_order (leaf_cells e)) (at_nodes (expansion_at r) r.nodes) ≡ at_nodes (cells_at r) r.nodes

@@ -1,7 +1,6 @@
 -- Cells that lie near the origin, and their sums.
-use Rattle.std.proofs.Common.{◌≤◌, ℤ, ◌+ℤ◌, arith}
+use Rattle.std.proofs.{Common.◌≤◌, Common.ℤ, Common.◌+ℤ◌, Common.arith, lemmas.Int.ints}
 use Rattle.std.specs.Prelude.{unsigned_abs}
-use Rattle.std.proofs.lemmas.Int.{ints}
 use Rattle.dd_lattice.specs.Place.{Place, IsCoordinateInRange, IsInRange, moved}
 use Rattle.dd_topology.specs.Topology.{extent}
 

@@ -1,46 +1,28 @@
 -- Fillings of what is read at a cell, and the values on them.
 use Rattle.std.proofs.Common.{◌≡◌, ◌<◌, ℕ, zero, suc, ◌+◌, Bool, true, false, List, [], ◌∷◌, ◌++◌, take, Option, Some, None, cond, length, get_or, slice_get, ap, sym, ◌∙◌, refl, subst, arith}
-use Rattle.std.specs.Prelude.{◌&&◌, is_some, map, IfSome, MatchOption}
-use Rattle.std.specs.List.{list_all, All}
-use Rattle.std.specs.List.Sorted.{IsStrictlySortedBy}
 use Rattle.std.proofs.lemmas.Bool.{and_parts, and_from, leb-true}
 use Rattle.std.proofs.lemmas.List.{length-map, take_more, map-append}
-use Rattle.dd_lattice.specs.Place.{Place, moved, is_in_range}
-use Rattle.dd_lattice.specs.Cells.{shifted}
-use Rattle.dd_lattice.specs.Order.{cell_cmp}
-use Rattle.dd_lattice.specs.declared.position.Cell.{Cell}
+use Rattle.std.specs.{Prelude.is_some, Prelude.map, Prelude.IfSome, Prelude.MatchOption, List.list_all, List.All}
+use Rattle.std.specs.List.Sorted.{IsStrictlySortedBy}
+use Rattle.dd_lattice.specs.{Place.Place, Place.moved, Place.is_in_range, Cells.shifted, Order.cell_cmp, declared.position.Cell.Cell}
 use Rattle.dd_lattice.specs.lemmas.InOrderLaws.{list_all-in_order}
-use Rattle.dd_pattern.specs.Reading.{Look, HasSymbolsBelow}
-use Rattle.dd_pattern.specs.Filling.{Filled, filled, filling_look}
+use Rattle.dd_pattern.specs.{Reading.Look, Reading.HasSymbolsBelow, Filling.Filled, Filling.filled, Filling.filling_look}
 use Rattle.dd_pattern.specs.lemmas.FillingLaws.{reads_at_place}
 use Rattle.dd_topology.specs.Topology.{extent}
-use Rattle.dd_expansion.specs.Leaves.{seen}
-use Rattle.dd_expansion.specs.Truth.{are_equal}
-use Rattle.dd_expansion.specs.Terms.{origin_at}
-use Rattle.dd_expansion.specs.lemmas.ListTests.{list_all-weaker}
+use Rattle.dd_expansion.specs.{Leaves.seen, Truth.are_equal, Terms.origin_at, lemmas.ListTests.list_all-weaker}
 use Rattle.dd_formula.specs.LocalRule.{is_near}
 use Rattle.dd_formula.specs.Automata.{CommonNumbers, IsAutomaton, value, counted, cells_of, is_cell_of}
 use Rattle.dd_formula.specs.Values.{are_given, is_read}
 use Rattle.dd_formula.specs.valuing.Readable.{IsReadable, AreReadable, IsReadableAt, IsSeen}
-use Rattle.dd_formula.specs.declared.automaton.Automaton.{Automaton}
-use Rattle.dd_formula.specs.declared.automaton.Automaton.TheVariants as v
-use Rattle.dd_formula.specs.lemmas.Reached.{filling_below, in_range}
+use Rattle.dd_formula.specs.{declared.automaton.Automaton.Automaton, lemmas.Reached.filling_below, lemmas.Reached.in_range}
 use Rattle.dd_formula.specs.lemmas.AutomatonLaws.{near_reads}
 use Rattle.dd_formula.specs.lemmas.ValueLaws.{origin, shifted_by_none, moved_by_none, value_by_reads, value_composed, value_below, equal_values, read_by_both}
+use Rattle.dd_formula.specs.declared.automaton.Automaton.TheVariants as v
 
 -- a test of a list, by the places of its elements
 by_places : {X : Type 0} (p : X → Bool) (xs : List X) → ((k : ℕ) (x : X) → k < length xs → p (get_or xs k x) ≡ true) → list_all p xs ≡ true
 by_places p [] h = refl
 by_places p (x ∷ xs) h = and_from (p x) (list_all p xs) (h zero x (omega arith)) (by_places p xs (λ k y below. h (suc k) y (omega arith)))
-
-pub fails_at : {X : Type 0} (p : X → Bool) (xs : List X) (i : ℕ) (x : X) → i < length xs → x ≡ get_or xs i x → p x ≡ false → list_all p xs ≡ false
-fails_at p [] i x below is h = absurd (omega arith)
-fails_at p (y ∷ ys) zero x below is h = ap (λ b. b && list_all p ys) (sym (ap p is) ∙ h)
-fails_at p (y ∷ ys) (suc i) x below is h = rest (p y) (list_all p ys) (fails_at p ys i x (omega arith) is h)
-  where
-    rest : (a b : Bool) → b ≡ false → (a && b) ≡ false
-    rest true b e = e
-    rest false b e = refl
 
 -- symbols that are those of a look at the cells
 module _ (look : Look) where

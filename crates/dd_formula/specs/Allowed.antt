@@ -1,8 +1,7 @@
 -- Symbols that the nodes of a rule allow.
 use Rattle.std.specs.Prelude.{◌≡◌, true, IfSome}
 use Rattle.dd_lattice.specs.declared.position.Cell.{Cell}
-use Rattle.dd_pattern.specs.Reading.{Look}
-use Rattle.dd_pattern.specs.Tile.{Tile, tile_look}
+use Rattle.dd_pattern.specs.{Reading.Look, Tile.Tile, Tile.tile_look}
 use Rattle.dd_formula.specs.LocalRule.{LocalRule, rule_allows}
 
 -- each symbol that is given is one that the cell's node allows

@@ -1,17 +1,12 @@
 -- Cellular automata: their values, their reads, and their counts.
 use Rattle.std.specs.Prelude.{ℕ, ◌+◌, ◌<◌, ◌≤◌, ◌≡◌, ◌==◌, ◌&&◌, ◌||◌, Bool, true, false, cond, max, nat_lt, nat_le, List, [], ◌∷◌, length, map, Option, Some, MatchOption}
 use Rattle.std.specs.List.{flat_map, list_all, range_with_len}
-use Rattle.dd_lattice.specs.Cells.{shifted}
-use Rattle.dd_lattice.specs.InOrder.{in_order}
-use Rattle.dd_lattice.specs.declared.position.Cell.{Cell}
+use Rattle.dd_lattice.specs.{Cells.shifted, InOrder.in_order, declared.position.Cell.Cell}
 use Rattle.dd_pattern.specs.Reading.{Look}
-use Rattle.dd_expansion.specs.Leaves.{instances, total}
-use Rattle.dd_expansion.specs.Placed.{is_cell_in}
+use Rattle.dd_expansion.specs.{Leaves.instances, Leaves.total, Placed.is_cell_in}
 use Rattle.dd_formula.specs.LocalRule.{LocalRule, is_true, reads_at, expansion_at, is_near, most_instances, most_depth}
-use Rattle.dd_formula.specs.declared.automaton.Automaton.{Automaton}
-use Rattle.dd_formula.specs.declared.automaton.Cases.{Cases}
-use Rattle.dd_formula.specs.declared.automaton.Automaton.TheFolds.{fold-Automaton}
-use Rattle.dd_formula.specs.declared.automaton.Automaton.TheOpen.{Automaton-F}
+use Rattle.dd_formula.specs.declared.automaton.{Automaton.Automaton, Cases.Cases}
+use Rattle.dd_formula.specs.declared.automaton.Automaton.{TheFolds.fold-Automaton, TheOpen.Automaton-F}
 
 -- the symbol of the first case whose rule is true at the cell
 abbrev pub first_case : List (LocalRule × ℕ) → ℕ → Look → Cell → ℕ
@@ -35,7 +30,8 @@ pub record CommonNumbers : Type 0 where
   pub nodes : ℕ
   pub symbols : ℕ
 
--- what is counted of an automaton: by nodes the cells that it reads, relative to the origin, and its instances; and its depth
+-- the counts of an automaton: at each node the cells that it reads, relative to the origin, and its instances; and its
+-- depth
 pub record Counted : Type 0 where
   pub reads : ℕ → List Cell
   pub instances : ℕ → ℕ
@@ -86,7 +82,7 @@ has_rules_step (Automaton-F.Composed f g) = f || g
 abbrev pub has_rules : Automaton → Bool
 has_rules = fold-Automaton Bool has_rules_step
 
--- the number of nodes of the automaton's rules, where it has one
+-- the number of nodes of the automaton's rules, if it has one
 abbrev pub IsNodesOf : Automaton → Option ℕ → Type 0
 IsNodesOf f r = MatchOption r (has_rules f ≡ false) (λ n. (s : CommonNumbers) → automaton_fits s f ≡ true → s.nodes ≡ n)
 

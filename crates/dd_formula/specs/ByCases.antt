@@ -1,17 +1,13 @@
 -- Automata by cases that are given as formulas, and why they are refused.
 use Rattle.std.specs.Prelude.{ℕ, ◌<◌, ◌≡◌, false, List, map}
-use Rattle.dd_topology.specs.Grid.{Grid}
-use Rattle.dd_topology.specs.Sets.{SymbolSets}
-use Rattle.dd_expansion.specs.declared.formulas.Formula.{Formula}
-use Rattle.dd_expansion.specs.Limits.{IsFormula}
+use Rattle.dd_topology.specs.{Grid.Grid, Sets.SymbolSets}
+use Rattle.dd_expansion.specs.{declared.formulas.Formula.Formula, Limits.IsFormula}
 use Rattle.dd_formula.specs.LocalRule.{LocalRule, local_rule}
 use Rattle.dd_formula.specs.Automata.{CommonNumbers, Counted, counted_step, is_few, is_short}
-use Rattle.dd_formula.specs.Compositions.{PassesInstances}
-use Rattle.dd_formula.specs.declared.automaton.Automaton.{Automaton}
-use Rattle.dd_formula.specs.declared.automaton.Automaton.TheOpen.{Automaton-F}
-use Rattle.dd_formula.specs.declared.automaton.Automaton.TheVariants as v
-use Rattle.dd_formula.specs.declared.fault.RuleFault.{RuleFault}
+use Rattle.dd_formula.specs.{Compositions.PassesInstances, declared.automaton.Automaton.Automaton}
+use Rattle.dd_formula.specs.declared.{automaton.Automaton.TheOpen.Automaton-F, fault.RuleFault.RuleFault}
 use Rattle.dd_formula.specs.declared.fault.RuleFault.TheVariants.{Reach, Instances, Depth, Memory}
+use Rattle.dd_formula.specs.declared.automaton.Automaton.TheVariants as v
 
 -- the numbers of rules over a topology and the symbols that its nodes allow
 abbrev pub numbers_over : Grid → SymbolSets → CommonNumbers
@@ -26,11 +22,11 @@ pub record IsCaseOver (g : Grid) (s : SymbolSets) (case : Formula × ℕ) : Type
 abbrev pub case_over : Grid → SymbolSets → Formula × ℕ → LocalRule × ℕ
 case_over g s case = (local_rule g s case.0, case.1)
 
--- the automaton that gives a cell the symbol of the first case that is true there, else another
+-- the automaton that gives a cell the symbol of the first case that is true there, else the default symbol
 abbrev pub by_cases : Grid → SymbolSets → List (Formula × ℕ) → ℕ → Automaton
 by_cases g s cases otherwise = v.Given (record { cases = map (case_over g s) cases; otherwise = otherwise })
 
--- what is counted of it, which the other symbol doesn't change
+-- its counts, which don't depend on the default symbol
 abbrev pub counts_over : Grid → SymbolSets → List (Formula × ℕ) → Counted
 counts_over g s cases = counted_step (Automaton-F.Given (record { cases = map (case_over g s) cases; otherwise = 0 }))
 

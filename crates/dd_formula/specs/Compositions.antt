@@ -1,11 +1,9 @@
 -- Compositions of automata, and why they are refused.
 use Rattle.std.specs.Prelude.{ℕ, ◌≤◌, ◌≡◌, true, false}
 use Rattle.dd_formula.specs.Automata.{CommonNumbers, Counted, IsAutomaton, cases_fit, counted, is_few, is_short, is_shallow}
-use Rattle.dd_formula.specs.declared.automaton.Automaton.{Automaton}
-use Rattle.dd_formula.specs.declared.automaton.Cases.{Cases}
-use Rattle.dd_formula.specs.declared.automaton.Automaton.TheVariants as v
-use Rattle.dd_formula.specs.declared.fault.RuleFault.{RuleFault}
+use Rattle.dd_formula.specs.declared.{automaton.Automaton.Automaton, automaton.Cases.Cases, fault.RuleFault.RuleFault}
 use Rattle.dd_formula.specs.declared.fault.RuleFault.TheVariants.{Reach, Instances, Depth, Memory}
+use Rattle.dd_formula.specs.declared.automaton.Automaton.TheVariants as v
 
 -- both are well formed over the same numbers
 pub record AreAutomata (f g : Automaton) : Type 0 where
@@ -22,11 +20,11 @@ pub record HaveNodes (f g : Automaton) (nodes : ℕ) : Type 0 where
 abbrev pub OverBoth : Automaton → Automaton → (CommonNumbers → Type 0) → Type 0
 OverBoth f g P = (s : CommonNumbers) → IsAutomaton s f → IsAutomaton s g → P s
 
--- what is counted of the composition
+-- the counts of the composition
 abbrev pub composition : Automaton → Automaton → Counted
 composition f g = counted (v.Composed f g)
 
--- so many nodes stand for all
+-- the limits hold at so many nodes exactly if they hold at all
 pub record StandFor (s : CommonNumbers) (f : Counted) (nodes : ℕ) : Type 0 where
   pub below : nodes ≤ s.nodes
   pub few : is_few s.nodes f ≡ is_few nodes f

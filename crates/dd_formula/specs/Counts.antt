@@ -1,4 +1,4 @@
--- Counts of clauses, which have no bound, and the same cut off.
+-- Counts of clauses, without a bound and cut off.
 use Rattle.std.specs.Prelude.{ℕ, ◌+◌, ◌-◌, ◌*◌, ◌/◌, ◌^◌, min, max, not, List, map, length}
 use Rattle.std.specs.List.{filter, range_with_len}
 use Rattle.dd_expansion.specs.Leaves.{clause_count, total}
@@ -23,19 +23,19 @@ disallowed r a = filter (λ s. not (rule_allows r a s)) (range_with_len 0 r.symb
 abbrev pub disallowed_pairs : LocalRule → ℕ
 disallowed_pairs r = over_nodes (λ a. length (disallowed r a)) r.nodes
 
--- those of a cell: it has a symbol, no two of s symbols, and the rule is true there
+-- the clauses of a cell: it has a symbol, no two of s symbols, and the rule is true there
 abbrev pub cell_clause_count : ℕ → ℕ
 cell_clause_count s = 2 + s * (s - 1) / 2
 
--- those of a position: of its cells, of the symbols that they don't allow, and of the rule's gates
+-- the clauses of a position: those of its cells, of the symbols that they don't allow, and of the rule's gates
 abbrev pub place_clauses : LocalRule → ℕ
 place_clauses r = r.nodes * cell_clause_count r.symbols + disallowed_pairs r + rule_clauses r
 
--- some node of a position breaks the rule
+-- the clauses that say that some node of a position breaks the rule
 abbrev pub broken_clauses : LocalRule → ℕ
 broken_clauses r = rule_clauses r + 1
 
--- a question on so many positions, where the goal takes so many clauses
+-- the clauses of a question on so many positions, where the goal takes so many clauses
 abbrev pub region_clauses : LocalRule → ℕ → ℕ → ℕ
 region_clauses r goal positions = positions * place_clauses r + goal
 

@@ -22,5 +22,5 @@ pub mod Counts
 pub mod ValueCounts
 -- what the evaluation of compositions keeps
 pub mod valuing
--- lemmas on what stands above, with their proofs, for whoever cites them
+-- lemmas on these definitions, with their proofs
 pub mod lemmas

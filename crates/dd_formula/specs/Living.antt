@@ -1,16 +1,9 @@
 -- Which periodic configurations live in a rule's subshift.
-use Rattle.std.specs.Prelude.{ℕ, ◌<◌, ◌≡◌, true, false}
-use Rattle.std.specs.List.{All}
-use Rattle.std.specs.declared.cmp.Ordering.TheVariants.{Less}
-use Rattle.dd_lattice.specs.Place.{Place}
-use Rattle.dd_lattice.specs.Cells.{cell}
-use Rattle.dd_lattice.specs.Order.{cell_cmp}
-use Rattle.dd_lattice.specs.declared.position.Cell.{Cell}
-use Rattle.dd_pattern.specs.Reading.{Look}
-use Rattle.dd_pattern.specs.Tile.{Tile, IsInBox, tile_look}
+use Rattle.std.specs.{Prelude.ℕ, Prelude.◌<◌, Prelude.◌≡◌, Prelude.true, Prelude.false, List.All, declared.cmp.Ordering.TheVariants.Less}
+use Rattle.dd_lattice.specs.{Place.Place, Cells.cell, Order.cell_cmp, declared.position.Cell.Cell}
+use Rattle.dd_pattern.specs.{Reading.Look, Tile.Tile, Tile.IsInBox, Tile.tile_look}
 use Rattle.dd_expansion.specs.Placed.{is_flat}
-use Rattle.dd_formula.specs.LocalRule.{LocalRule, is_true}
-use Rattle.dd_formula.specs.declared.lives.Membership.{Membership}
+use Rattle.dd_formula.specs.{LocalRule.LocalRule, LocalRule.is_true, declared.lives.Membership.Membership}
 use Rattle.dd_formula.specs.declared.lives.Membership.TheVariants.{Inside, Outside}
 
 -- the configuration has the rule's dimension, nodes and symbols

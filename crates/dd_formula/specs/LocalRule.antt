@@ -1,21 +1,12 @@
 -- A local rule: a formula with the topology and the alphabets that it speaks of.
 use Rattle.std.specs.Prelude.{ℕ, zero, suc, Bool, ◌<◌, ◌≤◌, ◌≡◌, true, false, is_some, nat_le, nat_lt, List, [], ◌∷◌, ◌++◌}
 use Rattle.std.specs.List.{list_all}
-use Rattle.dd_lattice.specs.InOrder.{in_order}
-use Rattle.dd_lattice.specs.declared.position.Cell.{Cell}
-use Rattle.dd_topology.specs.declared.edge.Edge.{Edge}
-use Rattle.dd_topology.specs.Grid.{Grid}
-use Rattle.dd_topology.specs.Topology.{extent}
+use Rattle.dd_lattice.specs.{InOrder.in_order, declared.position.Cell.Cell}
+use Rattle.dd_topology.specs.{declared.edge.Edge.Edge, Grid.Grid, Topology.extent}
 use Rattle.dd_topology.specs.Sets.{SymbolSets, symbol_sets, row_allows, IsSets}
 use Rattle.dd_pattern.specs.Reading.{Look}
-use Rattle.dd_expansion.specs.declared.formulas.Formula.{Formula}
-use Rattle.dd_expansion.specs.declared.expanded.Expanded.{Expanded}
-use Rattle.dd_expansion.specs.Terms.{origin_at}
-use Rattle.dd_expansion.specs.Truth.{truth}
-use Rattle.dd_expansion.specs.Reads.{reads}
-use Rattle.dd_expansion.specs.Expansion.{expansion}
-use Rattle.dd_expansion.specs.Leaves.{leaves_pass, instances, seen}
-use Rattle.dd_expansion.specs.Placed.{is_cell_in}
+use Rattle.dd_expansion.specs.{declared.formulas.Formula.Formula, declared.expanded.Expanded.Expanded, Terms.origin_at, Truth.truth}
+use Rattle.dd_expansion.specs.{Reads.reads, Expansion.expansion, Leaves.leaves_pass, Leaves.instances, Leaves.seen, Placed.is_cell_in}
 
 pub record LocalRule : Type 0 where
   pub dimension : ℕ
@@ -26,7 +17,7 @@ pub record LocalRule : Type 0 where
   pub edges : List Edge
   pub formula : Formula
 
--- from its parts
+-- the rule with these parts
 abbrev pub kept_rule : ℕ → ℕ → SymbolSets → List Edge → Formula → LocalRule
 kept_rule d nodes s edges f = record { dimension = d; nodes = nodes; symbols = s.symbols; allowed = s.allowed; edges = edges; formula = f }
 
@@ -83,7 +74,7 @@ is_near c = nat_le (extent c.position) most_reach
 abbrev pub is_of : LocalRule → Cell → Bool
 is_of r c = is_cell_in r.dimension r.nodes c
 
--- a rule within them at each node
+-- the rule is within these limits at each node
 abbrev pub IsSmall : LocalRule → Type 0
 IsSmall r = (a : ℕ) → a < r.nodes → instances (expansion_at r a) ≤ most_instances
 

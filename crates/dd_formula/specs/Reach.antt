@@ -1,12 +1,9 @@
 -- How far rules and automata read.
-use Rattle.std.specs.Prelude.{ℕ, List, map}
-use Rattle.std.specs.List.{flat_map, range_with_len}
+use Rattle.std.specs.{Prelude.ℕ, Prelude.List, Prelude.map, List.flat_map, List.range_with_len}
 use Rattle.dd_lattice.specs.declared.position.Cell.{Cell}
 use Rattle.dd_topology.specs.Topology.{extent}
 use Rattle.dd_expansion.specs.Limits.{greatest}
-use Rattle.dd_formula.specs.LocalRule.{LocalRule, cells_at}
-use Rattle.dd_formula.specs.Automata.{cells_of}
-use Rattle.dd_formula.specs.declared.automaton.Automaton.{Automaton}
+use Rattle.dd_formula.specs.{LocalRule.LocalRule, LocalRule.cells_at, Automata.cells_of, declared.automaton.Automaton.Automaton}
 
 -- how far the farthest cell lies from the origin
 abbrev pub cell_extent : Cell → ℕ

@@ -1,6 +1,5 @@
 -- Why a formula is refused as a rule.
-use Rattle.dd_formula.specs.LocalRule.{LocalRule, IsSmall, IsLarge, IsFar}
-use Rattle.dd_formula.specs.declared.fault.RuleFault.{RuleFault}
+use Rattle.dd_formula.specs.{LocalRule.LocalRule, LocalRule.IsSmall, LocalRule.IsLarge, LocalRule.IsFar, declared.fault.RuleFault.RuleFault}
 use Rattle.dd_formula.specs.declared.fault.RuleFault.TheVariants.{Reach, Instances, Depth, Memory}
 
 -- too many instances at some node; else a cell that is too far away

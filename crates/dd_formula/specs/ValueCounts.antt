@@ -1,14 +1,10 @@
 -- How many clauses say what an automaton gives a cell, without a bound.
-use Rattle.std.specs.Prelude.{ℕ, ◌+◌, ◌*◌, List, map, length}
-use Rattle.std.specs.List.{range_with_len}
+use Rattle.std.specs.{Prelude.ℕ, Prelude.◌+◌, Prelude.◌*◌, Prelude.List, Prelude.map, Prelude.length, List.range_with_len}
 use Rattle.dd_lattice.specs.InOrder.{in_order}
 use Rattle.dd_expansion.specs.Leaves.{clause_count, total}
-use Rattle.dd_formula.specs.LocalRule.{LocalRule, expansion_at}
-use Rattle.dd_formula.specs.Automata.{Counted, counted_step}
-use Rattle.dd_formula.specs.declared.automaton.Automaton.{Automaton}
-use Rattle.dd_formula.specs.declared.automaton.Cases.{Cases}
-use Rattle.dd_formula.specs.declared.automaton.Automaton.TheFolds.{fold-Automaton}
-use Rattle.dd_formula.specs.declared.automaton.Automaton.TheOpen.{Automaton-F}
+use Rattle.dd_formula.specs.{LocalRule.LocalRule, LocalRule.expansion_at, Automata.Counted, Automata.counted_step}
+use Rattle.dd_formula.specs.declared.automaton.{Automaton.Automaton, Cases.Cases}
+use Rattle.dd_formula.specs.declared.automaton.Automaton.{TheFolds.fold-Automaton, TheOpen.Automaton-F}
 
 -- the clauses of a gate that says that all of k signals hold, or some
 abbrev pub gate_clause_count : ℕ → ℕ
@@ -48,10 +44,11 @@ valued_step n (Automaton-F.Composed f g) =
 abbrev pub value_clauses : ℕ → Automaton → ℕ → ℕ
 value_clauses n f = (fold-Automaton Valued (valued_step n) f).clauses
 
--- at a node two automata differ: their values, for each symbol a gate over two signals, and a gate over these
+-- the clauses that say that two automata differ at a node: those of their values, a gate over two signals for each
+-- symbol, and a gate over these
 abbrev pub differ_at : ℕ → Automaton → Automaton → ℕ → ℕ
 differ_at n f g a = value_clauses n f a + value_clauses n g a + n * gate_clause_count 2 + gate_clause_count n
 
--- they differ at some of the nodes
+-- the clauses that say that they differ at some of the nodes
 abbrev pub differ_clauses : ℕ → ℕ → Automaton → Automaton → ℕ
 differ_clauses n nodes f g = total (map (differ_at n f g) (range_with_len 0 nodes)) + 1

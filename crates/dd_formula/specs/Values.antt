@@ -1,19 +1,16 @@
 -- What it takes to evaluate an automaton at a cell.
-use Rattle.std.specs.Prelude.{ℕ, ◌<◌, ◌≡◌, Bool, true, is_some, List}
-use Rattle.std.specs.List.{list_all}
-use Rattle.dd_lattice.specs.Place.{Place}
-use Rattle.dd_lattice.specs.declared.position.Cell.{Cell}
+use Rattle.std.specs.{Prelude.ℕ, Prelude.◌<◌, Prelude.◌≡◌, Prelude.Bool, Prelude.true, Prelude.is_some, Prelude.List, List.list_all}
+use Rattle.dd_lattice.specs.{Place.Place, declared.position.Cell.Cell}
 use Rattle.dd_pattern.specs.Reading.{Look, HasSymbolsBelow}
 use Rattle.dd_expansion.specs.Leaves.{seen}
 use Rattle.dd_formula.specs.Automata.{CommonNumbers, IsAutomaton, cases_fit, cases_reads, counted, is_cell_of}
-use Rattle.dd_formula.specs.declared.automaton.Automaton.{Automaton}
-use Rattle.dd_formula.specs.declared.automaton.Cases.{Cases}
+use Rattle.dd_formula.specs.declared.automaton.{Automaton.Automaton, Cases.Cases}
 
 -- each of these cells, counted from v, is within the range of positions and has a symbol
 abbrev pub are_given : Look → Place → List Cell → Bool
 are_given look v ds = list_all (λ d. is_some (seen look v d)) ds
 
--- the same of what the automaton reads at a cell
+-- the same for what the automaton reads at a cell
 abbrev pub is_read : Automaton → Cell → Look → Bool
 is_read f c look = are_given look c.position ((counted f).reads c.node)
 
@@ -24,7 +21,7 @@ pub record HasLook (f : Automaton) (c : Cell) (look : Look) : Type 0 where
   pub below : c.node < setting.nodes
   pub symbols : HasSymbolsBelow setting.symbols look
 
--- the same of cases that fit the numbers, where what they read at the cell is given
+-- the same for cases that fit the numbers, where what they read at the cell is given
 pub record HasCasesLook (cases : Cases) (c : Cell) (look : Look) : Type 0 where
   pub setting : CommonNumbers
   pub fit : cases_fit setting cases.cases cases.otherwise ≡ true
@@ -32,7 +29,7 @@ pub record HasCasesLook (cases : Cases) (c : Cell) (look : Look) : Type 0 where
   pub symbols : HasSymbolsBelow setting.symbols look
   pub given : are_given look c.position (cases_reads cases.cases c.node) ≡ true
 
--- what is read at each node are cells of Z^d with one of the nodes, over all numbers that fit
+-- the cells read at each node are cells of Z^d with one of the nodes, over all numbers that fit
 abbrev pub CasesArePlaced : Cases → Type 0
 CasesArePlaced c = (s : CommonNumbers) → cases_fit s c.cases c.otherwise ≡ true → (a : ℕ) → a < s.nodes → list_all (is_cell_of s) (cases_reads c.cases a) ≡ true
 

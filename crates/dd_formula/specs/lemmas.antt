@@ -10,3 +10,4 @@ pub mod CasesLaws
 pub mod FarthestLaws
 pub mod ValueLaws
 pub mod FirstCells
+pub mod LookLaws

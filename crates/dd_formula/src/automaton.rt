@@ -15,7 +15,7 @@ use dd_lattice::{Cell, in_order};
 use dd_values::{Boxed, Items};
 use std::alloc::{AllocError, Global};
 
-/// An automaton that gives each cell the symbol of its first case whose rule is true there, else another symbol.
+/// An automaton that gives each cell the symbol of its first case whose rule is true there, else a default symbol.
 #[derive(Debug, Drop)]
 pub struct Cases {
     /// Rules with the symbols that they give.
@@ -74,7 +74,7 @@ impl Cases {
         }
     }
 
-    /// Cut off. Each rule that is looked at reads nothing that is too far away.
+    /// The instances at a node, cut off. Its contract also says that no rule reads anything too far away.
     pub(crate) fn instances(&self, node: u32) -> u32
         requires { HasCaseNode self.now node }
         ensures count { result ≡ cut most_instances (case_instances node self.now.cases + 1) }
@@ -159,9 +159,9 @@ impl Automaton {
         in_order(alloc, &found)
     }
 
-    /// The number of nodes of all expansions that the automaton's value at a node takes, one more for each case and one for
-    /// each default; over a composition the second automaton stands once at the node and once at each cell that the first
-    /// reads. Past 20,000 it is cut off at 20,001.
+    /// The number of nodes of all expansions that the automaton's value at a node takes, one more for each case and each
+    /// default. A composition counts the outer automaton at the node, and the inner one at the node and at each cell that
+    /// the outer one reads. Past 20,000 it is cut off at 20,001.
     #[cycle(instances)]
     #[tactic(auto, using(crate::specs::lemmas::AutomatonLaws::layers))]
     pub fn instances(&self, alloc: Global, node: u32) -> Result<u32, AllocError>

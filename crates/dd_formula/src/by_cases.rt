@@ -1,5 +1,5 @@
-//! Automata by cases that are given as formulas. The instances of all cases are counted before any rule is made, so that an
-//! automaton is refused for its instances before it is refused for what one of its cases reads.
+//! Automata by cases that are given as formulas. The instances of all cases are counted before any rule is made, so too
+//! many instances are reported before a read that is too far away.
 ghost use Rattle.std.specs.Prelude.{◌≡◌, ◌+◌, ◌<◌, ◌≤◌, length, map, true, IfOk, IfErr, OnOk};
 ghost use Rattle.std.specs.List.{All};
 ghost use Rattle.dd_expansion.specs.Leaves.{instances};
@@ -71,7 +71,7 @@ fn size_at(
     }
 }
 
-/// The instances of the automaton at a node, cut off. Where they have passed the limit no further case is expanded.
+/// The instances of the automaton at a node, cut off. Past the limit no further case is expanded.
 fn instances_at(
     alloc: Global,
     topology: &Topology,

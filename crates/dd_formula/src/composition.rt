@@ -75,7 +75,7 @@ fn tested(alloc: Global, outer: &Automaton, inner: &Automaton) -> Result<(), Rul
     Ok(())
 }
 
-/// So many nodes that what holds at them holds at all: those of a rule, or one where there is no rule.
+/// A number of nodes such that what holds at them holds at all: those of a rule, or one if there is no rule.
 fn node_count(outer: &Automaton, inner: &Automaton) -> u32
     ensures { OverBoth outer.now inner.now (λ s. StandFor s (composition outer.now inner.now) result) }
 {

@@ -16,7 +16,7 @@ pub enum RuleFault {
     /// Compositions are nested more than 64 deep.
     #[error("a composition is nested more than 64 deep")]
     Depth,
-    /// Memory was wanting.
+    /// Memory ran out.
     #[error("out of memory")]
     Memory,
 }

@@ -144,7 +144,7 @@ impl Rule {
         &self.formula
     }
 
-    /// The formula without variables that says the same at the node's cells, of cells that are counted from their position.
+    /// The formula without variables that says the same at the node's cells. Its cells are counted from their position.
     pub fn expansion(&self, node: u32) -> &Expanded
         requires { node < self.now.nodes }
         ensures value { result.now ≡ expansion_at self.now node }
@@ -175,7 +175,7 @@ impl Rule {
 }
 
 impl Rule {
-    /// What the expansion says of the symbols near a cell.
+    /// The truth of the expansion under the symbols near a cell.
     fn truth_of_expansion<R: Reads>(&self, at: &Cell, read: &R) -> Option<bool>
         requires { at.now.node < self.now.nodes }
         ensures value { let look = seen (R.symbols read.now) at.now.position in

@@ -52,7 +52,7 @@ impl Automaton {
         Ok(Some(symbol))
     }
 
-    /// The value at a node of the origin, of which each cell that is read there has a symbol.
+    /// The value at a node of the origin. Each cell that is read there has a symbol.
     #[cycle(value)]
     pub(crate) fn value_near(
         &self,
@@ -71,8 +71,8 @@ impl Automaton {
         }
     }
 
-    /// The composition's value there: the inner automaton's at each cell that the outer one reads, then the outer one's on
-    /// these.
+    /// The composition's value there: the inner automaton's values at the cells that the outer one reads, and then the
+    /// outer one's value on these.
     #[cycle(value)]
     pub(crate) fn composed_value(
         alloc: Global,
@@ -90,7 +90,7 @@ impl Automaton {
         outer.value_near(alloc, node, &values)
     }
 
-    /// The values at several cells, of which each cell that is read there has a symbol.
+    /// The values at several cells. Each cell that is read there has a symbol.
     #[cycle(value)]
     pub(crate) fn values_near(
         &self,

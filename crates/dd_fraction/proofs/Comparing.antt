@@ -1,12 +1,9 @@
 -- Cross products, by whole parts and remainders.
 use Rattle.std.proofs.Common.{◌≡◌, ℕ, ◌+◌, ◌*◌, ◌/◌, ◌%◌, ◌<◌, ◌≤◌, refl, sym, ap, ◌∙◌, arith}
-use Rattle.std.proofs.lemmas.Nat.{div-add-mod', mod_below}
-use Rattle.std.proofs.Math.Nat.{mul-le-mul_right}
-use Rattle.std.specs.Ordering.{nat_cmp}
-use Rattle.std.proofs.lemmas.Cmp.{ranked}
-use Rattle.dd_fraction.specs.lemmas.Ring.{product_above}
-use Rattle.std.specs.declared.cmp.Ordering.{Ordering}
+use Rattle.std.proofs.{lemmas.Nat.div-add-mod', lemmas.Nat.mod_below, Math.Nat.mul-le-mul_right, lemmas.Cmp.ranked}
+use Rattle.std.specs.{Ordering.nat_cmp, declared.cmp.Ordering.Ordering}
 use Rattle.std.specs.declared.cmp.Ordering.TheVariants.{Less, Equal, Greater}
+use Rattle.dd_fraction.specs.lemmas.Ring.{product_above}
 
 below_lem : (a b c d q p r s : ℕ) → 0 < d → q * b + r ≡ a → p * d + s ≡ c → r < b → q < p → a * d < c * b
 below_lem a b c d q p r s z e f g h =

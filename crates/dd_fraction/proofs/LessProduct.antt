@@ -1,19 +1,17 @@
 -- Differences a - q · b: a product and then a sum, or all at once where the numbers have 16 bits.
 use Rattle.std.proofs.Common.{◌≡◌, ℕ, ◌+◌, ◌*◌, ◌^◌, ◌<◌, ◌≤◌, refl, sym, ap, subst, ◌∙◌, arith, Some, None, Bool, true, false, cond}
-use lib.IntN.{ℤ, pos, neg_ℤ, ◌+ℤ◌, ◌-ℤ◌, ◌*ℤ◌}
-use Rattle.std.specs.Int.{w32, w64}
-use Rattle.std.specs.Int.RustNames.{unsigned_abs}
-use mir.Val.{SFits}
 use Rattle.std.proofs.lemmas.Int.{ints, unsigned_abs-mul, fits_signed_from_abs}
 use Rattle.std.proofs.Math.Nat.{mul-le-mul_right, div-le_self}
-use Rattle.dd_fraction.specs.Divisor.{greatest_common}
-use Rattle.dd_fraction.specs.Exact.{Exact, lowest, plus, minus, times, whole_of}
+use lib.IntN.{ℤ, pos, neg_ℤ, ◌+ℤ◌, ◌-ℤ◌, ◌*ℤ◌}
+use Rattle.std.specs.Int.{w32, w64, RustNames.unsigned_abs}
+use mir.Val.{SFits}
+use Rattle.dd_fraction.specs.{Divisor.greatest_common, Exact.Exact, Exact.lowest, Exact.plus, Exact.minus, Exact.times, Exact.whole_of}
 use Rattle.dd_fraction.specs.Checked.{IsSmall, does_less_product_fit, checked_less_product}
 use Rattle.dd_fraction.specs.lemmas.Lowest.{size_over, lowest_at, lowest_same_at, zero_is}
-use Rattle.dd_fraction.specs.lemmas.Laws.{minus_lowest, plus_low_right}
-use Rattle.dd_fraction.proofs.Quick.{within, size_plus, alike_plus}
-use Rattle.dd_fraction.specs.lemmas.Results.{times_at, plus_at}
+use Rattle.dd_fraction.specs.lemmas.{Laws.minus_lowest, Laws.plus_low_right, Results.times_at, Results.plus_at}
 use Rattle.dd_fraction.specs.lemmas.Ring.{diff_self, diff_same, as_diff, product_above}
+use Rattle.dd_fraction.specs.lemmas.FractionFacts.{size_minus}
+use Rattle.dd_fraction.proofs.Quick.{within, size_plus, alike_plus}
 
 chosen : (t : Bool) (z : Exact) → t ≡ true → Some z ≡ cond t (Some z) None
 chosen true z e = refl
@@ -42,9 +40,6 @@ lowest_le n d p =
     let den = div-le_self d g in
     rw (lowest_at n d p) (subst (λ (k : ℕ). k ≤ unsigned_abs n) (sym (size_over n g)) num, den)
 
-size_neg : (x : ℤ) → unsigned_abs (neg_ℤ x) ≡ unsigned_abs x
-size_neg x = omega (arith, ints)
-
 small_fits : (a q b : Exact) → IsSmall a → IsSmall q → IsSmall b → does_less_product_fit a q b ≡ true
 small_fits a q b s t u =
     let p = times q b in
@@ -60,7 +55,7 @@ small_fits a q b s t u =
     let u_den = u.below in
     let s_den = s.below in
     let den : q.den * b.den ≤ 2 ^ 16 * 2 ^ 16 = product_le q.den b.den (2 ^ 16) (2 ^ 16) (omega (arith, t_den)) (omega (arith, u_den)) in
-    let opposite = size_neg p.num in
+    let opposite = size_minus p.num in
     let left : unsigned_abs (a.num *ℤ pos p.den) ≤ 2 ^ 15 * (2 ^ 16 * 2 ^ 16) =
     size_times a.num (pos p.den) (2 ^ 15) (2 ^ 16 * 2 ^ 16) s.bounded (omega (arith, le_den, den)) in
     let right : unsigned_abs (neg_ℤ p.num *ℤ pos a.den) ≤ 2 ^ 15 * 2 ^ 15 * 2 ^ 16 =

@@ -1,22 +1,21 @@
--- Factors of 2 in one of two numbers, the other of which is odd, are in no common divisor.
+-- If one of two numbers is odd, no factor of 2 in the other is in a common divisor.
 use Rattle.std.proofs.Common.{◌≡◌, ℕ, zero, suc, ◌+◌, ◌-◌, ◌*◌, ◌/◌, ◌%◌, ◌^◌, ◌<◌, ◌≤◌, sym, ap, subst, ◌∙◌, arith}
-use Rattle.std.specs.Int.{IsGcd, ◌∣◌, bit_at, w64, trailing_zeros}
 use Rattle.std.proofs.lemmas.Nat.Bits.{bit_at-trailing_zeros, bit_at-suc, bit_at_lowest}
 use Rattle.std.proofs.lemmas.Nat.Gcd.{IsGcd-swap, IsGcd-from_sub, same_from_IsGcd}
 use Rattle.std.proofs.Math.Nat.{div-mul_cancel, dvd-sub, dvd-mul_left_of_dvd, dvd-mul_right_of_dvd, mul-dvd-mul_right, one-dvd, two-pow-succ}
-use Rattle.dd_fraction.specs.Divisor.{greatest_common}
-use Rattle.dd_fraction.specs.lemmas.Divisors.{greatest_common-is, greatest_common-scaled}
+use Rattle.std.specs.Int.{IsGcd, ◌∣◌, bit_at, w64, trailing_zeros}
+use Rattle.dd_fraction.specs.{Divisor.greatest_common, lemmas.Divisors.greatest_common-is, lemmas.Divisors.greatest_common-scaled}
 
 pub greatest_common-swap : (a b : ℕ) → greatest_common a b ≡ greatest_common b a
 greatest_common-swap a b = same_from_IsGcd a b _ _ (greatest_common-is a b) (IsGcd-swap b a _ (greatest_common-is b a))
 
--- the greater of two may lose the smaller
+-- subtracting the smaller number from the greater keeps the greatest common divisor
 pub greatest_common-less : (x y : ℕ) → x ≤ y → greatest_common x (y - x) ≡ greatest_common x y
 greatest_common-less x y p =
     let less : IsGcd (y - x) x (greatest_common x (y - x)) = IsGcd-swap x (y - x) _ (greatest_common-is x (y - x)) in
     same_from_IsGcd x y _ _ (IsGcd-swap y x _ (IsGcd-from_sub y x _ p less)) (greatest_common-is x y)
 
--- m is the odd x times m, less an even multiple of m
+-- an odd multiple of m, less the even multiple just below it, is m
 odd_times : (h m : ℕ) → (2 * h + 1) * m - h * (m * 2) ≡ m
 odd_times h m = let e : (2 * h + 1) * m ≡ h * (m * 2) + m = omega arith in omega (arith, e)
 
@@ -49,7 +48,7 @@ power_divides n (suc k) h =
     let even : n % 2 ≡ 0 = sym (bit_at_lowest n) ∙ h 0 (omega arith) in
     subst (λ (m : ℕ). m ∣ n) (omega (arith, two-pow-succ k)) (subst (λ (m : ℕ). 2 ^ k * 2 ∣ m) (twice_half n even) (mul-dvd-mul_right (2 ^ k) half 2))
 
--- a number that is not 0, shifted right by its zeros
+-- a number that is not 0, shifted right by its trailing zeros, is odd
 pub shifted_odd : (n : ℕ) → 0 < n → n < 2 ^ 64 → n / 2 ^ trailing_zeros w64 n % 2 ≡ 1
 shifted_odd n p q = (bit_at-trailing_zeros w64 n p q).1
 

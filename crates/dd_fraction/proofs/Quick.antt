@@ -1,15 +1,12 @@
 -- Sums and products that need no greatest common divisor, or one of smaller numbers.
 use Rattle.std.proofs.Common.{◌≡◌, ℕ, suc, ◌+◌, ◌*◌, ◌^◌, ◌<◌, ◌≤◌, ◌-◌, ◌⊎◌, inl, inr, sym, ap, subst, ◌∙◌, arith, Some, true}
-use Prim.Native.Nat.{◌∣◌}
-use lib.IntN.{ℤ, pos, negsuc, ◌+ℤ◌, ◌*ℤ◌}
-use Rattle.std.specs.Int.{IsGcd}
-use Rattle.std.specs.Int.RustNames.{unsigned_abs}
-use Rattle.std.proofs.lemmas.Bool.{lt-ltb, ltb-true}
-use Rattle.std.proofs.lemmas.Int.{ints, by_lt_z, unsigned_abs-mul}
+use Rattle.std.proofs.lemmas.{Bool.lt-ltb, Bool.ltb-true, Int.ints, Int.by_lt_z, Int.unsigned_abs-mul}
 use Rattle.std.proofs.lemmas.Nat.Gcd.{same_from_IsGcd}
 use Rattle.std.proofs.Math.Nat.{mul-le-mul_right, mul_comm, dvd-add, dvd-sub, dvd-mul_left_of_dvd, one-dvd}
-use Rattle.dd_fraction.specs.Divisor.{greatest_common}
-use Rattle.dd_fraction.specs.Exact.{Exact, lowest, plus, whole_of}
+use Prim.Native.Nat.{◌∣◌}
+use lib.IntN.{ℤ, pos, negsuc, ◌+ℤ◌, ◌*ℤ◌}
+use Rattle.std.specs.Int.{IsGcd, RustNames.unsigned_abs}
+use Rattle.dd_fraction.specs.{Divisor.greatest_common, Exact.Exact, Exact.lowest, Exact.plus, Exact.whole_of}
 use Rattle.dd_fraction.specs.Checked.{IsFraction, is_bounded, bounded, bounded_size, checked_sum}
 use Rattle.dd_fraction.specs.lemmas.Divisors.{greatest_common-is}
 use Rattle.dd_fraction.specs.lemmas.Lowest.{exact_same, lowest_same_at, low_fraction}

@@ -1,10 +1,8 @@
 -- Sums, products and quotients whose numbers on the way are all at most 2^127 - 1 in absolute value.
 use Rattle.std.specs.Prelude.{◌≡◌, ℕ, suc, ◌*◌, ◌<◌, ◌≤◌, ◌^◌, Bool, not, ◌&&◌, Option, Some, None, cond}
-use Rattle.std.specs.Bool.{nat_eq, nat_lt}
-use Rattle.std.specs.Int.RustNames.{unsigned_abs}
+use Rattle.std.specs.{Bool.nat_eq, Bool.nat_lt, Int.RustNames.unsigned_abs}
 use lib.IntN.{ℤ, pos, negsuc, neg_ℤ, ◌+ℤ◌, ◌*ℤ◌}
-use Rattle.dd_fraction.specs.Divisor.{greatest_common}
-use Rattle.dd_fraction.specs.Exact.{Exact, plus, times, minus, inverse, lowest}
+use Rattle.dd_fraction.specs.{Divisor.greatest_common, Exact.Exact, Exact.plus, Exact.times, Exact.minus, Exact.inverse, Exact.lowest}
 
 -- at most 2^127 - 1 in absolute value
 abbrev pub is_bounded : ℤ → Bool
@@ -30,18 +28,18 @@ pub record IsSmall (a : Exact) : Type 0 where
   pub below : a.den < 2 ^ 16
   pub bounded : unsigned_abs a.num ≤ 2 ^ 15
 
--- both products, as they are before the result is brought to lowest terms
+-- whether both products fit, before the result is brought to lowest terms
 abbrev pub does_product_fit : Exact → Exact → Bool
 does_product_fit a b = is_bounded (a.num *ℤ b.num) && is_bounded (pos (a.den * b.den))
 
 abbrev pub checked_product : Exact → Exact → Option Exact
 checked_product a b = cond (does_product_fit a b) (Some (times a b)) None
 
--- 1 over b has its sign at the numerator
+-- 1 over b carries its sign in the numerator
 abbrev pub checked_quotient : Exact → Exact → Option Exact
 checked_quotient a b = checked_product a (inverse b)
 
--- the two cross products, their sum, and the product of the denominators
+-- whether the two cross products, their sum, and the product of the denominators fit
 abbrev pub does_sum_fit : Exact → Exact → Bool
 does_sum_fit a b =
     is_bounded (a.num *ℤ pos b.den)
@@ -51,19 +49,19 @@ does_sum_fit a b =
 abbrev pub checked_sum : Exact → Exact → Option Exact
 checked_sum a b = cond (does_sum_fit a b) (Some (plus a b)) None
 
--- a - q · b: the numbers of the product, and those of the difference
+-- whether the numbers of a - q · b fit: those of the product, and those of the difference
 abbrev pub does_less_product_fit : Exact → Exact → Exact → Bool
 does_less_product_fit a q b = does_product_fit q b && does_sum_fit a (minus (times q b))
 
 abbrev pub checked_less_product : Exact → Exact → Exact → Option Exact
 checked_less_product a q b = cond (does_less_product_fit a q b) (Some (plus a (minus (times q b)))) None
 
--- n over d, the sign at the numerator
+-- n over d, with the sign in the numerator
 abbrev pub signed_over : ℤ → ℤ → Exact
 signed_over n (pos d) = lowest n d
 signed_over n (negsuc d) = lowest (neg_ℤ n) (suc d)
 
--- d isn't 0, and both are bounded
+-- whether d isn't 0 and both are bounded
 abbrev pub does_pair_fit : ℤ → ℤ → Bool
 does_pair_fit n d = not (nat_eq (unsigned_abs d) 0) && (is_bounded n && is_bounded d)
 

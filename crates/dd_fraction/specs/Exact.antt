@@ -8,7 +8,7 @@ pub record Exact : Type 0 where
   pub num : ℤ
   pub den : ℕ
 
--- the denominator. One of 0, which no fraction has, counts as 1, so that the laws need no premise
+-- the denominator. A denominator of 0, which no fraction has, counts as 1, so that the laws need no premise
 abbrev pub den_of : Exact → ℕ
 den_of a = max 1 a.den
 
@@ -42,7 +42,7 @@ minus a = record { num = neg_ℤ a.num; den = a.den }
 unfoldable pub times : Exact → Exact → Exact
 times a b = lowest (a.num *ℤ b.num) (den_of a * den_of b)
 
--- d over n for an n other than 0, the sign at the numerator
+-- d over n for an n other than 0, with the sign in the numerator
 abbrev pub one_over : ℤ → ℕ → Exact
 one_over (pos n) d = record { num = pos d; den = n }
 one_over (negsuc n) d = record { num = neg_ℤ (pos d); den = suc n }

@@ -1,4 +1,4 @@
--- Laws of exact fractions: those of an ordered field, up to lowest terms, which every sum and product is in.
+-- The laws of exact fractions: those of an ordered field, up to lowest terms. Every sum and product is in lowest terms.
 use Rattle.std.specs.Prelude.{◌≡◌, ◌≢◌, ◌⊎◌}
 use Rattle.std.specs.declared.cmp.Ordering.TheVariants.{Less, Equal, Greater}
 use lib.IntN.{pos}

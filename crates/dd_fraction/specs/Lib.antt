@@ -8,5 +8,5 @@ pub mod Order
 pub mod Laws
 -- greatest common divisors
 pub mod Divisor
--- lemmas on what stands above, with their proofs, for whoever cites them
+-- lemmas on these definitions, with their proofs
 pub mod lemmas

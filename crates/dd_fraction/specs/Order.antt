@@ -1,6 +1,5 @@
 -- The order of exact fractions, by cross products.
-use Rattle.std.specs.declared.cmp.Ordering.{Ordering}
-use Rattle.std.specs.Ordering.{int_cmp}
+use Rattle.std.specs.{declared.cmp.Ordering.Ordering, Ordering.int_cmp}
 use lib.IntN.{pos, ◌*ℤ◌}
 use lib.Signed.{◌≤ℤ◌, ◌<ℤ◌}
 use Rattle.dd_fraction.specs.Exact.{Exact, den_of}
@@ -18,6 +17,6 @@ pub record IsBelow (a b : Exact) : Type 0 where
 pub record IsNonneg (a : Exact) : Type 0 where
   pub sign : pos 0 ≤ℤ a.num
 
--- over 0
+-- greater than 0
 pub record IsPositive (a : Exact) : Type 0 where
   pub sign : pos 0 <ℤ a.num

@@ -1,4 +1,4 @@
-//! Sums and products that stay within 2^127 - 1 in absolute value: -2^127 is left out, so each number has its opposite.
+//! Sums and products of at most 2^127 - 1 in absolute value. Since -2^127 is left out, each number has an opposite.
 ghost use Rattle.std.specs.Prelude.{◌≡◌, ◌*◌, ◌^◌, ◌≤◌, IfSome, true};
 ghost use Rattle.std.specs.Int.RustNames.{unsigned_abs};
 ghost use lib.IntN.{◌*ℤ◌, ◌+ℤ◌};

@@ -1,4 +1,4 @@
-//! The greatest common divisor, by Euclid's rule: in machine words, once both numbers fit 64 bits.
+//! The greatest common divisor, by Euclid's rule. Once both numbers fit 64 bits, it works in machine words.
 ghost use Rattle.std.specs.Prelude.{◌≡◌, ℕ, ◌%◌, ◌<◌, ◌≤◌, ◌/◌, ◌^◌};
 ghost use Rattle.std.specs.Int.RustNames.{unsigned_abs, int_div};
 ghost use lib.IntN.{pos};
@@ -7,7 +7,7 @@ ghost use Rattle.dd_fraction.specs.Divisor.{greatest_common};
 /// The greatest number of 64 bits.
 const MOST_WORD: u128 = 18_446_744_073_709_551_615;
 
-/// The greatest number that divides both; of a number and 0, the number.
+/// The greatest number that divides both. If one of them is 0, it is the other.
 #[inline(always)]
 pub fn greatest_common_divisor(a: u128, b: u128) -> u128
     ensures { result ≡ greatest_common a b }
@@ -48,7 +48,7 @@ fn word_divisor(a: u64, b: u64) -> u64
     word_divisor(b / 2, rest / 2) * 2
 }
 
-/// The same of an odd number and another one, without a division (Stein 1967).
+/// The greatest common divisor of an odd number and another one, without division (Stein 1967).
 #[inline(always)]
 fn odd_divisor(a: u64, b: u64) -> u64
     requires { a % 2 ≡ 1 }

@@ -21,8 +21,8 @@ pub fn order_laws()
     ensures { AreOrderLaws }
 {}
 
-/// Does nothing; its contract says that sums keep the order, that products with what is at least 0 keep it, and that
-/// opposites turn it round.
+/// Does nothing; its contract says that sums, and products with factors of at least 0, keep the order, and that opposites
+/// reverse it.
 pub fn ordered_field_laws()
     ensures { AreOrderedFieldLaws }
 {}

@@ -1,4 +1,4 @@
-//! A fraction in lowest terms, and its arithmetic. Contracts see it as the exact fraction that it is.
+//! A fraction in lowest terms, and its arithmetic. Contracts see the exact fraction.
 ghost use Rattle.std.specs.Prelude.{◌≡◌, ◌≢◌, ◌<◌, ◌^◌, ◌↔◌, Some, IsTrue, IfSome};
 ghost use Rattle.std.specs.Int.RustNames.{unsigned_abs};
 ghost use lib.IntN.{pos};
@@ -89,13 +89,13 @@ impl Fraction {
         }
     }
 
-    /// The sum. None where a cross product, the sum of both, or the product of the denominators passes 2^127 - 1 in
-    /// absolute value, also where the sum in lowest terms would not.
+    /// The sum. None where a cross product, their sum, or the product of the denominators passes 2^127 - 1 in absolute
+    /// value, even if the sum in lowest terms does not.
     #[inline(always)]
     pub fn add(&self, other: &Fraction) -> Option<Fraction>
         ensures { result ≡ checked_sum self.now other.now }
     {
-        // Read for what its type keeps.
+        // This read brings in what the type guarantees.
         let _ = &other.num;
         // 0/1 adds nothing: the cross products are 0 and the other's numerator.
         if self.num == 0 && self.den == 1 {
@@ -107,8 +107,8 @@ impl Fraction {
         }
     }
 
-    /// The sum over an equal denominator, where the three numbers are machine words: the four stated numbers are then
-    /// within the bounds, and the cross products have the denominator as a common divisor. None elsewhere.
+    /// The sum of two fractions with the same denominator, if all their numbers are machine words; else None. No number
+    /// on the way is then too large, and the denominator divides both cross products.
     #[inline(always)]
     fn alike_sum(&self, other: &Fraction) -> Option<Fraction>
         ensures { IfSome result (λ s. Some s ≡ checked_sum self.now other.now) }
@@ -129,7 +129,8 @@ impl Fraction {
         let right = product(other.num, self.den as i128)?;
         let num = sum(left, right)?;
         let den = size_product(self.den, other.den)?;
-        // Beside a whole number: what divides both numbers divides those of the other side, so it is 1.
+        // One side is a whole number. A common divisor of the sum's numbers divides both numbers of the other side, so it
+        // is 1.
         if self.den == 1 || other.den == 1 {
             return Some(in_lowest_terms(num, den));
         }
@@ -144,8 +145,8 @@ impl Fraction {
         self.add(&other.negate())
     }
 
-    /// The product. None where the product of the numerators or of the denominators passes 2^127 - 1 in absolute
-    /// value, also where the product in lowest terms would not.
+    /// The product. None where the product of the numerators or of the denominators passes 2^127 - 1 in absolute value,
+    /// even if the product in lowest terms does not.
     #[inline(always)]
     pub fn mul(&self, other: &Fraction) -> Option<Fraction>
         ensures { result ≡ checked_product self.now other.now }
@@ -159,7 +160,7 @@ impl Fraction {
         Some(reduced(num, den))
     }
 
-    /// `self - factor * other`. None where the product is None, or the difference with it.
+    /// `self - factor * other`. None where the product is None, or then the difference.
     #[inline(always)]
     pub fn sub_product(&self, factor: &Fraction, other: &Fraction) -> Option<Fraction>
         ensures { result ≡ checked_less_product self.now factor.now other.now }
@@ -181,7 +182,7 @@ impl Fraction {
         Some(own.less_product(&factor, &other))
     }
 
-    /// `self - factor * other`, one after the other.
+    /// `self - factor * other`, first the product, then the difference.
     #[inline(never)]
     fn wide_less_product(&self, factor: &Fraction, other: &Fraction) -> Option<Fraction>
         ensures { result ≡ checked_less_product self.now factor.now other.now }
@@ -218,7 +219,7 @@ impl Fraction {
         }
     }
 
-    /// The order of the two fractions. No product is made, so it has no refusal.
+    /// The order of the two fractions. It makes no product, so it always has an answer.
     pub fn compare(&self, other: &Fraction) -> Ordering
         ensures { result ≡ exact_cmp self.now other.now }
     {

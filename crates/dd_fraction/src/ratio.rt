@@ -1,4 +1,4 @@
-//! The order of two ratios, with no product: first the whole parts, and where they are equal what is left over them.
+//! The order of two ratios, without a product. The whole parts are compared first, and if they are equal, the remainders.
 ghost use Rattle.std.specs.Prelude.{◌≡◌, ◌<◌, ◌*◌};
 ghost use Rattle.std.specs.Ordering.{nat_cmp};
 
@@ -18,7 +18,7 @@ pub fn compare_ratios(a: u128, b: u128, c: u128, d: u128) -> Ordering
         (0, 0) => Ordering::Equal,
         (0, _) => Ordering::Less,
         (_, 0) => Ordering::Greater,
-        // Upside down the order turns round, so the two change sides.
+        // Inverting both ratios reverses their order, so the two change sides.
         (rest, other_rest) => compare_ratios(d, other_rest, b, rest),
     }
 }

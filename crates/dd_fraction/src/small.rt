@@ -1,4 +1,4 @@
-//! Fractions of 16 bits: the numbers of `a - q * b` are machine words, so none of them is too large.
+//! Fractions of 16-bit numbers. The numbers of `a - q * b` are then machine words, so none is too large.
 ghost use Rattle.std.specs.Prelude.{◌≡◌, ◌<◌, Some, IfSome};
 ghost use Rattle.dd_fraction.specs.Checked.{checked_less_product};
 

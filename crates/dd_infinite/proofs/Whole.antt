@@ -1,25 +1,20 @@
--- One node that allows the symbols of both functions; and the configurations of a script.
+-- The spike and the checkerboard, where one node allows their symbols; and the configurations of a script.
 use Rattle.std.proofs.Common.{◌≡◌, ℕ, zero, suc, ◌<◌, ◌+◌, ◌-◌, ◌*◌, ◌%◌, pos, Bool, true, false, length, refl, sym, subst, arith, inl, inr, Contains}
-use Rattle.std.specs.Prelude.{◌⊎◌, ◌≤ℤ◌, ◌||◌, ℤ, cond, nat_lt}
-use Rattle.std.proofs.lemmas.Bool.{and_from}
-use Rattle.std.proofs.lemmas.Int.{ints}
-use Rattle.std.proofs.lemmas.Nat.{mod_below, mod-mul-add, mul-add-lt}
+use Rattle.std.proofs.lemmas.{Bool.and_from, Int.ints, Nat.mod_below, Nat.mod-mul-add}
 use Rattle.std.proofs.lemmas.List.Elements.{All-contains}
-use Rattle.dd_lattice.specs.Place.{Place, place}
-use Rattle.dd_lattice.specs.Cells.{cell}
-use Rattle.dd_lattice.specs.declared.position.Cell.{Cell}
+use Rattle.std.specs.Prelude.{◌⊎◌, ◌≤ℤ◌, ℤ, cond, nat_lt}
+use Rattle.dd_lattice.specs.{Place.Place, Place.place, Cells.cell, declared.position.Cell.Cell}
 use Rattle.dd_topology.specs.Sets.{allows}
-use Rattle.dd_pattern.specs.Periods.{residue, unsheared}
-use Rattle.dd_pattern.specs.Tile.{Tile, IsTile, IsReadModulo, tile_index}
+use Rattle.dd_pattern.specs.{Periods.residue, Periods.unsheared, Tile.Tile, Tile.IsTile, Tile.IsReadModulo, Tile.tile_index}
+use Rattle.dd_pattern.specs.lemmas.TileSizes.{below_table}
 use Rattle.dd_meanings.specs.Sound.{IsConfigurationOf}
-use Rattle.dd_script.specs.Parts.{Parts}
-use Rattle.dd_script.specs.Kept.{IsScriptOf}
+use Rattle.dd_script.specs.{Parts.Parts, Kept.IsScriptOf}
 use Rattle.dd_expansion.specs.Placed.{is_flat}
 use Rattle.dd_certificate.specs.declared.answer.Answer.{Answer}
-use Rattle.dd_checker.specs.Certificates.{HasQuery, IsCertificate}
-use Rattle.dd_checker.specs.Lifted.{is_yes, IsWhole}
+use Rattle.dd_checker.specs.{Certificates.HasQuery, Certificates.IsCertificate, Lifted.is_yes, Lifted.IsWhole}
 use Rattle.dd_checker.specs.Inverses.{is_conjugate, IsConjugacyAt}
 use Rattle.dd_infinite.specs.Functions.{spike, checkerboard, tiled, IsForBoth, IsExclusion, IsInversion}
+use Rattle.dd_values.specs.lemmas.Booleans.{or_true}
 
 abbrev Either : ℕ → Type 0
 Either n = (n ≡ 0) ⊎ (n ≡ 1)
@@ -53,11 +48,6 @@ module _ (s : Parts) (one : s.known.setting.topology.nodes ≡ 1)
   pub for_both : IsForBoth s
   for_both = record { spike = whole spike (λ c. either _); checkerboard = whole checkerboard (λ c. odd_or_even _) }
 
--- the spike has 1 at the origin and 0 beside it
-or_true : (b : Bool) → (b || true) ≡ true
-or_true true = refl
-or_true false = refl
-
 on_axis : (d : ℕ) (x : ℤ) → is_flat d (place x (pos 0) (pos 0)) ≡ true
 on_axis d x = and_from _ _ (or_true (nat_lt 1 d)) (or_true (nat_lt 2 d))
 
@@ -82,16 +72,13 @@ inversion s number a v query asks position is certificate =
 pub has_rows : (s : Parts) → IsScriptOf s → s.known.setting.topology.nodes ≡ 1 → 0 < length s.known.setting.sets.allowed
 has_rows s ok one = let n = ok.known.setting.sets.nodes in let m = ok.known.setting.topology.nodes in omega (arith, n, m, one)
 
--- the node stands innermost in a cell's number
+-- the node varies fastest in the index of a cell
 node_of : (t : Tile) (c : Cell) → c.node < t.nodes → tile_index t c % t.nodes ≡ c.node
 node_of t c below =
     let p = t.periods in
     mod-mul-add ((residue c.position.z p.z * p.y + residue c.position.y p.y) * p.x + residue (unsheared p c.position) p.x) t.nodes c.node below
 
-row_fits : (a w b h : ℕ) → a < h → b < w → a * w + b < h * w
-row_fits a w b h row column = omega (arith, mul-add-lt a w b h row column)
-
--- the base of a position lies in the fundamental box, so the number of a cell's symbol is one of the list's
+-- the base of a position lies in the fundamental box, so the index of a cell's symbol is within the list
 number_below : (t : Tile) → IsTile t → IsReadModulo t → (c : Cell) → c.node < t.nodes → tile_index t c < length t.symbols
 number_below t ok read c below =
     let p = t.periods in
@@ -102,7 +89,7 @@ number_below t ok read c below =
     let x : residue (unsheared p c.position) p.x < p.x = omega (arith, ints, on_x, ok.periods.x_some) in
     let y : residue c.position.y p.y < p.y = omega (arith, ints, on_y, ok.periods.y_some) in
     let z : residue c.position.z p.z < p.z = omega (arith, ints, on_z, ok.periods.z_some) in
-    rw ok.full (row_fits _ _ _ _ (row_fits _ _ _ _ (row_fits _ _ _ _ z y) x) below)
+    rw ok.full (below_table _ _ _ _ (below_table _ _ _ _ (below_table _ _ _ _ z y) x) below)
 
 pub whole_of : (s : Parts) → IsScriptOf s → (t : Tile) → IsReadModulo t → Contains s.configurations t → IsWhole s t.nodes (tiled t)
 whole_of s ok t read among =

@@ -31,9 +31,9 @@ fn is_yes(answer: &Answer) -> bool
     matches!(answer, Answer::Yes { .. } | Answer::YesBoth { .. })
 }
 
-/// Whether the answer is a YES to the query with this number, from 1, a check accepts it, and `place` is a position of the script's
-/// dimension. Then it excludes the goal from this configuration too: where that obeys the premise at all places, the goal does not hold
-/// at `place`.
+/// Whether the answer is YES to the query with this number, from 1, the check accepts it, and `place` is a position of the
+/// script's dimension. Then it excludes the goal from this configuration too: if that obeys the premise everywhere, the goal
+/// does not hold at `place`.
 #[tactic(auto, using(crate::proofs::Whole::exclusion))]
 pub fn excludes<C: Configuration>(
     alloc: Global,

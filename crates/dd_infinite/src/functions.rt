@@ -8,7 +8,7 @@ use dd_lattice::Cell;
 use dd_pattern::{Configuration, Periodic};
 use dd_script::Script;
 
-/// The symbol 1 at the origin, and 0 at all other positions: no period fits it.
+/// The symbol 1 at the origin, and 0 at all other positions. It has no period.
 #[derive(Debug, Clone, Copy)]
 pub struct Spike;
 
@@ -46,8 +46,8 @@ impl Configuration for Checkerboard {
     }
 }
 
-/// Whether positions have one node, which allows the symbols 0 and 1: whether these configurations have a symbol that the
-/// script allows at each cell.
+/// Whether positions have one node, which allows the symbols 0 and 1. Then both configurations have an allowed symbol at each
+/// cell.
 #[tactic(auto, using(crate::proofs::Whole::for_both, crate::proofs::Whole::has_rows, crate::proofs::Whole::one_node, crate::proofs::Whole::both_allowed))]
 pub fn allows_both(script: &Script) -> bool
     ensures { IsTrue result ↔ IsForBoth script.now }
@@ -62,7 +62,7 @@ pub fn allows_both(script: &Script) -> bool
     sets.allows(0, 1)
 }
 
-/// The script's configuration with this number, from 0, where there is one. Each cell has a symbol that the script allows at its node.
+/// The script's configuration with this index, from 0, if there is one. Each cell has a symbol allowed at its node.
 pub fn configuration(script: &Script, number: usize) -> Option<&Periodic>
     ensures value { option_copied result ≡ slice_get script.now.configurations number }
     ensures whole { IfSome result (λ p. IsWhole script.now p.now.nodes (tiled p.now)) }
@@ -70,7 +70,7 @@ pub fn configuration(script: &Script, number: usize) -> Option<&Periodic>
     let configurations = script.configurations();
     if number < configurations.len() {
         let configuration = &configurations[number];
-        // Read for what its type keeps.
+        // This read brings in what the type guarantees.
         let _symbols = configuration.symbols();
         Some(configuration)
     } else {

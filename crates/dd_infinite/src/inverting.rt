@@ -36,10 +36,10 @@ fn is_conjugate(answer: &Answer) -> bool
     matches!(answer, Answer::Conjugate { .. })
 }
 
-/// Whether the query with this number, from 1, is a conjugacy, the answer a CONJUGATE that a check accepts, and `place` a position of
-/// the script's dimension. Then the two automata are inverse maps for this configuration too: where it obeys the first rule at all
-/// places, its image under the first automaton has allowed symbols and obeys the second rule at `place`, and the second automaton's
-/// values on that image are the configuration's symbols there. The same holds with the rules and the automata exchanged.
+/// Whether the query with this number, from 1, is a conjugacy, the answer a CONJUGATE that the check accepts, and `place` a
+/// position of the script's dimension. Then the two automata are inverse maps for this configuration too. If it obeys the first
+/// rule everywhere, its image under the first automaton has allowed symbols and obeys the second rule at `place`, and the second
+/// automaton takes the image back to the configuration's symbols there. The same holds with rules and automata exchanged.
 #[tactic(auto, using(crate::proofs::Whole::inversion))]
 pub fn maps_back<C: Configuration>(
     alloc: Global,

@@ -5,7 +5,7 @@ use Rattle.dd_known.specs.Tree.{Role, Known}
 abbrev pub dimension_of : Known → ℕ
 dimension_of k = k.setting.topology.dimension
 
--- the names that words of a role may stand for
+-- the names that a word with this role may refer to
 abbrev pub named : Known → Role → List (List ℕ)
 named k Role.Rule = k.rules
 named k Role.Automaton = k.automata

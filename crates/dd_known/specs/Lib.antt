@@ -1,8 +1,8 @@
 -- the types of what is known
 pub mod Tree
--- the limits on what is written
+-- the limits on scripts
 pub mod Limits
 -- the names and numbers of what is known
 pub mod Known
--- what every script keeps of what it has said
+-- what always holds of what a script has defined
 pub mod Sound

@@ -1,59 +1,49 @@
--- The limits on what is written.
+-- The limits on scripts.
 use Rattle.std.specs.Prelude.{ℕ}
 
 -- the greatest dimension
 abbrev pub most_axes : ℕ
 most_axes = 3
 
--- how many letters a word has at most
+-- the greatest number of letters of a word
 abbrev pub most_letters : ℕ
 most_letters = 32
 
--- the greatest number that is written
+-- the greatest number that may be written
 abbrev pub greatest_number : ℕ
 greatest_number = 1000000
 
--- how many nodes and symbols a script has at most
+-- the greatest numbers of nodes and of symbols
 abbrev pub most_nodes : ℕ
 most_nodes = 4
 
 abbrev pub most_symbols : ℕ
 most_symbols = 16
 
--- how many edges a topology has at most
+-- the greatest number of edges of a topology
 abbrev pub most_edges : ℕ
 most_edges = 64
 
--- how many moves a term has at most
+-- the greatest number of moves of a term
 abbrev pub most_moves : ℕ
 most_moves = 16
 
--- how many balls a quantifier has at most
+-- the greatest number of balls of a quantifier
 abbrev pub most_balls : ℕ
 most_balls = 4
 
--- how many cells the box of a configuration has at most
+-- the greatest number of cells in the box of a configuration
 abbrev pub most_in_box : ℕ
 most_in_box = 65536
 
--- how many vectors a query has at most
+-- the greatest number of vectors of a query
 abbrev pub most_vectors : ℕ
 most_vectors = 16
 
--- how far an edge or a vector leads along an axis at most
+-- the greatest distance along an axis of an edge or a vector
 abbrev pub farthest : ℕ
 farthest = 4
 
 -- the greatest period of a strip
 abbrev pub longest_strip : ℕ
 longest_strip = 64
-
--- the greatest radius, period and number of pivots that a script may have tried
-abbrev pub greatest_radius : ℕ
-greatest_radius = 8
-
-abbrev pub greatest_period : ℕ
-greatest_period = 8
-
-abbrev pub most_pivots : ℕ
-most_pivots = 100000

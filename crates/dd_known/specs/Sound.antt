@@ -1,16 +1,15 @@
--- What every script keeps of what it has said.
-use Rattle.std.specs.Prelude.{ℕ, ◌≡◌, ◌≤◌, List, length}
-use Rattle.std.specs.List.{All}
+-- What always holds of what a script has defined.
+use Rattle.std.specs.{Prelude.ℕ, Prelude.◌≡◌, Prelude.◌≤◌, Prelude.List, Prelude.length, List.All}
 use Rattle.dd_values.specs.{Bounds.most_weight, Ranges.AreLimits}
 use Rattle.dd_topology.specs.{Grid.Grid, Grid.IsGrid, Sets.IsSets}
 use Rattle.dd_known.specs.{Tree.Setting, Tree.Known, Limits.most_nodes, Limits.most_symbols}
 
--- a topology of so many nodes
+-- a topology with n nodes
 pub record IsGridOf (n : ℕ) (g : Grid) : Type 0 where
   pub grid : IsGrid g
   pub nodes : g.nodes ≡ n
 
--- what formulas may speak of goes together
+-- the nodes, symbols, topology and sets agree
 pub record IsSetting (s : Setting) : Type 0 where
   pub topology : IsGridOf (length s.nodes) s.topology
   pub nodes : (1 ≤ length s.nodes) × (length s.nodes ≤ most_nodes)
@@ -19,12 +18,12 @@ pub record IsSetting (s : Setting) : Type 0 where
   pub sets : IsSets (length s.nodes) s.sets
   pub alphabet : s.sets.symbols ≡ length s.symbols
 
--- one for each of so many symbols, and none is over the limit
+-- one weight for each symbol, none over the limit
 pub record AreWeights (symbols : ℕ) (weights : List ℕ) : Type 0 where
   pub each : length weights ≡ symbols
   pub light : All (λ w. w ≤ most_weight) weights
 
--- its numbers are within their limits and agree
+-- the numbers are within their limits and agree
 pub record IsSound (k : Known) : Type 0 where
   pub setting : IsSetting k.setting
   pub weights : AreWeights (length k.setting.symbols) k.weights

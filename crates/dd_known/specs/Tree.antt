@@ -1,3 +1,3 @@
--- The types of what is known, passed on from one place. Declares nothing.
+-- The types of what is known, re-exported from one place. Declares nothing.
 pub use Rattle.dd_commands.specs.declared.{table.Role.Role}
 pub use Rattle.dd_known.specs.declared.{known.Setting.Setting, known.Known.Known, known.Context.Context}

@@ -1,10 +1,10 @@
-//! What a script has said so far, and where a command stands.
+//! What a script has defined so far, and the context of a command.
 use dd_commands::Role;
 use dd_topology::{Names, Sets, Topology};
 use dd_values::{Items, Limits};
 use dd_written::Text;
 
-/// What a formula may speak of. The labels of moves are those of the topology.
+/// What formulas may refer to. The labels of moves are those of the topology.
 #[derive(Drop)]
 pub struct Setting {
     pub nodes: Names,
@@ -14,7 +14,7 @@ pub struct Setting {
     pub sets: Sets,
 }
 
-/// What a script has said so far, and what holds where it has said nothing.
+/// What a script has defined so far, with defaults for the rest.
 #[derive(Drop)]
 pub struct Known {
     pub setting: Setting,
@@ -31,7 +31,7 @@ pub struct Known {
     pub configurations: Names,
 }
 
-/// Where a command stands: in which text, behind which number, and what is known there.
+/// The context of a command: the text, the command's number, and what is known at this point.
 #[derive(Drop)]
 pub struct Context {
     pub text: Text,
@@ -46,7 +46,7 @@ impl Known {
     ghost use Rattle.std.specs.Prelude.{◌≡◌};
     ghost use Rattle.dd_known.specs.Known.{named};
 
-    /// The names that words of a role may stand for.
+    /// The names that a word with this role may refer to.
     pub fn named(&self, role: Role) -> &Names
         ensures { result.now ≡ named self.now role }
     {

@@ -1,5 +1,5 @@
-//! What a script has said where a command of it stands: its topology, its alphabets, its weights, how far it is searched, and the names
-//! that it has given. And the limits on what is written.
+//! What a script has defined when one of its commands is read: topology, alphabets, weights, search limits and names. Also the
+//! limits on scripts.
 #![tactic(auto)]
 
 mod known;
@@ -7,7 +7,6 @@ mod limits;
 
 pub use known::{Context, Known, Setting};
 pub use limits::{
-    FARTHEST, GREATEST_NUMBER, GREATEST_PERIOD, GREATEST_RADIUS, LONGEST_STRIP, MOST_AXES,
-    MOST_BALLS, MOST_EDGES, MOST_IN_BOX, MOST_LETTERS, MOST_MOVES, MOST_NODES, MOST_PIVOTS,
-    MOST_SYMBOLS, MOST_VECTORS, TOO_MANY,
+    FARTHEST, GREATEST_NUMBER, LONGEST_STRIP, MOST_AXES, MOST_BALLS, MOST_EDGES, MOST_IN_BOX,
+    MOST_LETTERS, MOST_MOVES, MOST_NODES, MOST_SYMBOLS, MOST_VECTORS, TOO_MANY,
 };

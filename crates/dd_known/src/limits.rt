@@ -1,49 +1,40 @@
-//! The limits on what is written.
+//! The limits on scripts.
 
 /// The greatest dimension.
 pub const MOST_AXES: u32 = 3;
 
-/// How many letters a word has at most.
+/// The greatest number of letters of a word.
 pub const MOST_LETTERS: u32 = 32;
 
-/// The greatest number that is written.
+/// The greatest number that may be written.
 pub const GREATEST_NUMBER: u32 = 1_000_000;
 
-/// How many nodes a script has at most.
+/// The greatest number of nodes.
 pub const MOST_NODES: usize = 4;
 
-/// How many symbols a script has at most.
+/// The greatest number of symbols.
 pub const MOST_SYMBOLS: usize = 16;
 
-/// How many edges a topology has at most.
+/// The greatest number of edges of a topology.
 pub const MOST_EDGES: usize = 64;
 
-/// How many moves a term has at most.
+/// The greatest number of moves of a term.
 pub const MOST_MOVES: usize = 16;
 
-/// How many balls a quantifier has at most.
+/// The greatest number of balls of a quantifier.
 pub const MOST_BALLS: usize = 4;
 
-/// How many cells the box of a configuration has at most.
+/// The greatest number of cells in the box of a configuration.
 pub const MOST_IN_BOX: usize = 65_536;
 
-/// How many vectors a query has at most.
+/// The greatest number of vectors of a query.
 pub const MOST_VECTORS: usize = 16;
 
-/// How far an edge or a vector leads along an axis at most.
+/// The greatest distance along an axis of an edge or a vector.
 pub const FARTHEST: u32 = 4;
 
 /// The greatest period of a strip.
 pub const LONGEST_STRIP: u32 = 64;
-
-/// The greatest radius that a script may have tried.
-pub const GREATEST_RADIUS: u32 = 8;
-
-/// The greatest period that a script may have tried.
-pub const GREATEST_PERIOD: u32 = 8;
-
-/// The greatest number of pivots that a script may have tried.
-pub const MOST_PIVOTS: u32 = 100_000;
 
 /// More names or symbols than any script has.
 pub const TOO_MANY: usize = 4_000_000;

@@ -1,15 +1,9 @@
 -- Runs of copies of a region along an axis, and the three runs that make its growth.
 use Rattle.std.proofs.Common.{◌≡◌, ◌⊎◌, inl, inr, ℕ, ◌<◌, ◌≤◌, Bool, true, false, ℤ, pos, negsuc, ◌+ℤ◌, ◌-ℤ◌, ◌≤ℤ◌, List, [], ◌∷◌, ap, sym, refl, ◌∙◌, arith}
-use Rattle.std.specs.Prelude.{◌<ℤ◌}
-use Rattle.std.specs.List.{Contains}
-use Rattle.std.specs.List.Sorted.{IsStrictlySortedBy}
-use Rattle.std.specs.Cmp.{int_ranks}
-use Rattle.std.specs.Ordering.{int_cmp, MatchOrdering}
+use Rattle.std.proofs.lemmas.{Int.ints, Bool.Decides.nat_tests, List.Elements.All-nil}
+use Rattle.std.specs.{Prelude.◌<ℤ◌, List.Contains, List.Sorted.IsStrictlySortedBy, Cmp.int_ranks, Ordering.int_cmp, Ordering.MatchOrdering}
 use Rattle.std.specs.declared.cmp.Ordering.{Ordering}
 use Rattle.std.specs.declared.cmp.Ordering.TheVariants.{Less, Equal, Greater}
-use Rattle.std.proofs.lemmas.Int.{ints}
-use Rattle.std.proofs.lemmas.Bool.Decides.{nat_tests}
-use Rattle.std.proofs.lemmas.List.Elements.{All-nil}
 use Rattle.dd_lattice.specs.Place.{Place, place, moved, IsCoordinateInRange, IsInRange}
 use Rattle.dd_lattice.specs.Boxes.{OnAxis, IsUpTo, is_active}
 use Rattle.dd_lattice.specs.Regions.{PlaceSet, IsRegionOf, IsFaultOf, LeavesRange, IsInEither, IsMoved, IsNearby, seen_from}
@@ -18,7 +12,7 @@ use Rattle.dd_lattice.specs.declared.fault.LatticeFault.{LatticeFault}
 use Rattle.dd_lattice.specs.declared.fault.LatticeFault.TheVariants.{Range, Memory}
 use Rattle.dd_lattice.specs.declared.growing.Axis.{Axis}
 use Rattle.dd_lattice.specs.declared.growing.Axis.TheVariants.{X, Y, Z}
-use Rattle.dd_lattice.specs.lemmas.ListLaws.{Contains-nil, Contains-first}
+use Rattle.dd_values.specs.lemmas.Members.{Contains-nil, Contains-first}
 
 same_place : (p q : Place) → p.x ≡ q.x → p.y ≡ q.y → p.z ≡ q.z → p ≡ q
 same_place p q x y z = ap (λ a. place a p.y p.z) x ∙ (ap (λ b. place q.x b p.z) y ∙ ap (λ c. place q.x q.y c) z)
@@ -242,7 +236,7 @@ near_more d e n ps more p h =
       },
     )
 
--- nothing is near no position
+-- nothing is near an empty list
 pub near_nothing : (d n : ℕ) → IsRegionOf (IsNearby d n []) []
 unfolding IsStrictlySortedBy
 near_nothing d n = record {

@@ -1,21 +1,16 @@
 -- A walk through two ascending lists that takes the lesser of the next positions gives their union.
 use Rattle.std.proofs.Common.{◌≡◌, ◌↔◌, inl, inr, ℕ, ◌+◌, ◌<◌, ◌≤◌, List, [], ◌∷◌, ◌++◌, get_or, length, take, drop, sym, ap, subst, refl, ◌∙◌, arith}
-use Rattle.std.specs.List.{Contains}
-use Rattle.std.specs.List.Sorted.{IsStrictlySortedBy}
-use Rattle.std.specs.Ordering.{ordering_reverse}
-use Rattle.std.specs.declared.cmp.Ordering.{Ordering}
-use Rattle.std.specs.declared.cmp.Ordering.TheVariants.{Less, Equal, Greater}
 use Rattle.std.proofs.Math.Seq.{take-add}
 use Rattle.std.proofs.lemmas.List.{append-nil, drop-drop, drop_more, take-append-drop, drop_all, take_all}
 use Rattle.std.proofs.lemmas.List.Elements.{All-contains, Contains-append_left, Contains-append_right, Contains-append_cases, Contains-push, Contains-push_cases}
-use Rattle.dd_lattice.specs.Place.{Place, IsInRange}
-use Rattle.dd_lattice.specs.Order.{place_cmp}
-use Rattle.dd_lattice.specs.Regions.{IsRegion, IsRegionOf, IsInEither}
+use Rattle.std.specs.{List.Contains, List.Sorted.IsStrictlySortedBy, Ordering.ordering_reverse, declared.cmp.Ordering.Ordering}
+use Rattle.std.specs.declared.cmp.Ordering.TheVariants.{Less, Equal, Greater}
+use Rattle.dd_lattice.specs.{Place.Place, Place.IsInRange, Order.place_cmp, Regions.IsRegion, Regions.IsRegionOf, Regions.IsInEither}
 use Rattle.dd_lattice.specs.listing.Merge.{next_position, from_left, from_right}
 use Rattle.dd_lattice.specs.lemmas.InOrderLaws.{places_equal, place_total}
-use Rattle.dd_lattice.specs.lemmas.ListLaws.{All-from_contains, Contains-first, Contains-later, Contains-cons_cases, Contains-nil, sorted_append, sorted_push, sorted_first, sorted_rest}
+use Rattle.dd_values.specs.lemmas.Members.{All-from_contains, Contains-first, Contains-later, Contains-cons_cases, Contains-nil, sorted_append, sorted_push, sorted_first, sorted_rest}
 
--- what the walk has made of the parts that it took, before the parts that are left
+-- the walk has merged the parts that it took, which come before the parts that are left
 pub record IsMerged (left left_rest right right_rest made : List Place) : Type 0 where
   pub ascending : IsStrictlySortedBy place_cmp made
   pub left_ascending : IsStrictlySortedBy place_cmp left_rest
@@ -50,7 +45,7 @@ merged_swap l lr r rr made m = record {
   before_right = m.before_left;
 }
 
--- the members after one more at the end of the list on the left and of what is made
+-- the members after one position is added to the left list and to the merged one
 members_push : (l r made : List Place) (x : Place) → ((p : Place) → Contains made p ↔ IsInEither l r p) →
     (p : Place) → Contains (made ++ x ∷ []) p ↔ IsInEither (l ++ x ∷ []) r p
 members_push l r made x same p = (
@@ -70,7 +65,7 @@ members_push l r made x same p = (
   ],
 )
 
--- all that is made stands before a position that all of it and one more stand before
+-- if a list and one more position come before q, so does all of the longer list
 before_push : (made : List Place) (x q : Place) → ((p : Place) → Contains made p → place_cmp p q ≡ Less) → place_cmp x q ≡ Less →
     (p : Place) → Contains (made ++ x ∷ []) p → place_cmp p q ≡ Less
 before_push made x q old new p c = elim (Contains-push_cases made x p c) [
@@ -78,7 +73,7 @@ before_push made x q old new p c = elim (Contains-push_cases made x p c) [
   | inr is ↦ subst (λ z. place_cmp z q ≡ Less) is new
 ]
 
--- the walk takes the next position on the left, which stands before all that is left on the right
+-- the walk takes the next position on the left, which comes before all that is left on the right
 take_left : (l lr r rr made : List Place) (x : Place) → IsMerged l (x ∷ lr) r rr made → ((q : Place) → Contains rr q → place_cmp x q ≡ Less) →
     IsMerged (l ++ x ∷ []) lr r rr (made ++ x ∷ [])
 take_left l lr r rr made x m first = record {
@@ -125,7 +120,7 @@ take_both l lr r rr made x m =
       before_right = taken.before_right;
     }
 
--- a position before the first of an ascending list stands before all of it
+-- a position before the first of an ascending list comes before all of it
 before_all : (x y : Place) (ys : List Place) → IsStrictlySortedBy place_cmp (y ∷ ys) → place_cmp x y ≡ Less → (q : Place) → Contains (y ∷ ys) q → place_cmp x q ≡ Less
 before_all x y ys up less q c = elim (Contains-cons_cases y ys q c) [
   | inl is ↦ subst (λ z. place_cmp x z ≡ Less) is less
@@ -151,7 +146,7 @@ one_step l lr r rr made x y Greater h m =
 next_on : (xs : List Place) (i : ℕ) (x : Place) → i < length xs → x ≡ get_or xs i x → drop i xs ≡ x ∷ drop (i + 1) xs
 next_on xs i x below is = drop_more xs i x below ∙ ap (λ z. z ∷ drop (i + 1) xs) (sym is)
 
--- one turn of the walk, by the numbers of positions that it took
+-- one step of the walk, by the numbers of positions taken
 pub merged_step : (xs ys made : List Place) (i j : ℕ) (x y : Place) → i < length xs → j < length ys → x ≡ get_or xs i x → y ≡ get_or ys j y →
     IsMerged (take i xs) (drop i xs) (take j ys) (drop j ys) made →
     IsMerged (take (i + from_left (place_cmp x y)) xs) (drop (i + from_left (place_cmp x y)) xs) (take (j + from_right (place_cmp x y)) ys) (drop (j + from_right (place_cmp x y)) ys) (made ++ next_position (place_cmp x y) x y ∷ [])

@@ -25,7 +25,7 @@ IsWithin b p = IsAtMostOnEachAxis b.low p × IsAtMostOnEachAxis p b.high
 abbrev pub is_active : ℕ → ℕ → Bool
 is_active d axis = nat_lt axis d
 
--- the coordinate is as P says on an active axis, and 0 on another
+-- the coordinate satisfies P on an active axis, and is 0 on another
 abbrev pub OnAxis : Bool → (ℤ → Type 0) → ℤ → Type 0
 OnAxis true P c = P c
 OnAxis false P c = c ≡ pos 0
@@ -79,7 +79,7 @@ volume b = span b.low.x b.high.x * (span b.low.y b.high.y * span b.low.z b.high.
 abbrev pub index_in : Bounds → Place → ℕ
 index_in b p = (gap b.low.z p.z * span b.low.y b.high.y + gap b.low.y p.y) * span b.low.x b.high.x + gap b.low.x p.x
 
--- the position that has so many positions of the box before it
+-- the position with n positions of the box before it
 abbrev pub place_in : Bounds → ℕ → Place
 place_in b i =
     let w = span b.low.x b.high.x in

@@ -1,7 +1,6 @@
 -- Cells without a bound: a place and a node number.
 use Rattle.std.specs.Prelude.{ℕ}
-use Rattle.dd_lattice.specs.Place.{Place, moved}
-use Rattle.dd_lattice.specs.declared.position.Cell.{Cell}
+use Rattle.dd_lattice.specs.{Place.Place, Place.moved, declared.position.Cell.Cell}
 
 abbrev pub cell : Place → ℕ → Cell
 cell p a = record { position = p; node = a }

@@ -12,5 +12,5 @@ pub mod Boxes
 pub mod Regions
 -- what the loops that merge and stretch lists of positions keep
 pub mod listing
--- lemmas on what stands above, with their proofs, for whoever cites them
+-- lemmas on these definitions, with their proofs
 pub mod lemmas

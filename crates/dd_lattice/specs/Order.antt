@@ -1,8 +1,6 @@
 -- Cell order: by z, then y, then x, then the node.
-use Rattle.std.specs.declared.cmp.Ordering.{Ordering}
-use Rattle.std.specs.Ordering.{nat_cmp, int_cmp, on, then_cmp}
-use Rattle.dd_lattice.specs.Place.{Place}
-use Rattle.dd_lattice.specs.declared.position.Cell.{Cell}
+use Rattle.std.specs.{declared.cmp.Ordering.Ordering, Ordering.nat_cmp, Ordering.int_cmp, Ordering.on, Ordering.then_cmp}
+use Rattle.dd_lattice.specs.{Place.Place, declared.position.Cell.Cell}
 
 abbrev pub place_cmp : Place → Place → Ordering
 place_cmp = then_cmp (then_cmp (on (λ p. p.z) int_cmp) (on (λ p. p.y) int_cmp)) (on (λ p. p.x) int_cmp)

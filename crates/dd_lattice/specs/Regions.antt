@@ -1,10 +1,7 @@
 -- Regions: finite sets of positions in range, each a strictly ascending list.
-use Rattle.std.specs.Prelude.{ℕ, ◌≡◌, ◌↔◌, ◌⊎◌, ◌-ℤ◌, List}
-use Rattle.std.specs.List.{All, Contains}
+use Rattle.std.specs.{Prelude.ℕ, Prelude.◌≡◌, Prelude.◌↔◌, Prelude.◌⊎◌, Prelude.◌-ℤ◌, Prelude.List, List.All, List.Contains}
 use Rattle.std.specs.List.Sorted.{IsStrictlySortedBy}
-use Rattle.dd_lattice.specs.Place.{Place, place, moved, IsInRange}
-use Rattle.dd_lattice.specs.Order.{place_cmp}
-use Rattle.dd_lattice.specs.Boxes.{IsCentred}
+use Rattle.dd_lattice.specs.{Place.Place, Place.place, Place.moved, Place.IsInRange, Order.place_cmp, Boxes.IsCentred}
 use Rattle.dd_lattice.specs.declared.fault.LatticeFault.{LatticeFault}
 use Rattle.dd_lattice.specs.declared.fault.LatticeFault.TheVariants.{Range, Memory}
 
@@ -21,18 +18,18 @@ pub record IsRegionOf (S : PlaceSet) (ps : List Place) : Type 0 where
   pub region : IsRegion ps
   pub members : (p : Place) → Contains ps p ↔ S p
 
--- some member of the set stands at a position that is out of range
+-- some member of the set is at a position out of range
 pub record LeavesRangeAt {X : Type 0} (position : X → Place) (S : X → Type 0) : Type 0 where
   pub at : X
   pub member : S at
   pub outside : IsInRange (position at) → ⊥
 
--- the fault with which the list of a set isn't made: `Range` only where the set leaves the range
+-- why the list of a set isn't made: `Range` only if the set leaves the range
 abbrev pub IsFaultAt : {X : Type 0} → (X → Place) → (X → Type 0) → LatticeFault → Type 0
 IsFaultAt position S Range = LeavesRangeAt position S
 IsFaultAt position S Memory = Unit {0}
 
--- of a set of positions
+-- a set of positions leaves the range
 abbrev pub LeavesRange : PlaceSet → Type 0
 LeavesRange S = LeavesRangeAt (λ (p : Place). p) S
 

@@ -1,6 +1,5 @@
 pub mod InOrderLaws
 pub mod BoxLaws
-pub mod ListLaws
 pub mod RangeLaws
 pub mod PositionLaws
 pub mod SearchLaws

@@ -144,7 +144,7 @@ impl Box3 {
         )
     }
 
-    /// How many positions of the box stand before `p` in cell order, or `None` where `p` is outside.
+    /// How many positions of the box come before `p` in cell order, or `None` where `p` is outside.
     pub fn index_of(&self, p: &Position) -> Option<u64>
         ensures value { MatchOption result (IsWithin self.now p.now → ⊥) (λ i. (i < volume self.now) × (i ≡ index_in self.now p.now)) }
         ensures undone { IfSome result (λ i. place_in self.now i ≡ p.now) }
@@ -156,7 +156,7 @@ impl Box3 {
         }
     }
 
-    /// The position with so many positions of the box before it, or `None` where the index is at least the volume.
+    /// The position with `index` positions of the box before it, or `None` if the index is at least the volume.
     pub fn position_at(&self, index: u64) -> Option<Position>
         ensures value { MatchOption result (volume self.now ≤ index) (λ p. p ≡ place_in self.now index) }
         ensures within { IfSome result (IsWithin self.now) }

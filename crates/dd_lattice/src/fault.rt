@@ -11,7 +11,7 @@ pub enum LatticeFault {
     /// A coordinate would pass 2^20 in absolute value.
     #[error("a coordinate would pass 2^20")]
     Range,
-    /// Memory was wanting.
+    /// Memory ran out.
     #[error("out of memory")]
     Memory,
 }

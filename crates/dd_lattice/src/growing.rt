@@ -1,5 +1,5 @@
-//! The growth of a region, axis by axis. Along an axis the region's copies are doubled: the union of a run of copies with
-//! the same run moved by its length is a run of twice the length, so few unions are made however far a region grows.
+//! The growth of a region, axis by axis. Along an axis, the union of n copies in a row and the same n copies moved by n
+//! is a row of 2n copies. So few unions are made however far a region grows.
 ghost use Rattle.std.specs.Prelude.{◌≡◌, ◌+◌, ◌*◌, ◌≤◌, ℤ, pos, ◌-ℤ◌, ◌+ℤ◌, ◌≤ℤ◌, MatchResult};
 ghost use Rattle.dd_lattice.specs.Place.{most_coordinate};
 ghost use Rattle.dd_lattice.specs.Regions.{IsRegionOf, IsFaultOf, IsNearby};
@@ -41,7 +41,7 @@ fn along(axis: Axis, steps: i32) -> Position
     }
 }
 
-/// The region moved along an axis by each number of steps from `-by` to `by`.
+/// The union of the region moved along an axis by each number of steps from `-by` to `by`.
 fn stretched(alloc: Global, region: &Region, axis: Axis, by: u32) -> Result<Region, LatticeFault>
     requires { by ≤ most_coordinate }
     ensures { let stretched = IsStretched axis (pos 0 -ℤ pos by) (pos by +ℤ pos 1) region.now in
@@ -58,7 +58,7 @@ fn stretched(alloc: Global, region: &Region, axis: Axis, by: u32) -> Result<Regi
     Ok(run)
 }
 
-/// The region with its copy that is moved along an axis.
+/// The union of the region and its copy moved along an axis.
 fn extended(alloc: Global, region: &Region, axis: Axis, by: u32) -> Result<Region, LatticeFault>
     requires { by ≤ most_coordinate }
     ensures { let extended = IsExtended axis (pos by) region.now in

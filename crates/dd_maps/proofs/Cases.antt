@@ -1,13 +1,9 @@
 -- The cases of the automata, and a fact of two automata.
 use Rattle.std.proofs.Common.{◌≡◌, ◌<◌, ℕ, zero, suc, ◌+◌, ◌-◌, [], ◌∷◌, map, refl, sym, ◌∙◌, subst, arith}
-use Rattle.std.specs.Prelude.{slice_index_or}
-use Rattle.std.specs.List.{range_with_len, All}
-use Rattle.std.proofs.lemmas.Bool.{lt-ltb}
-use Rattle.std.proofs.lemmas.List.FromFn.{length-map-range_with_len, get_or-map-range_with_len}
-use Rattle.dd_topology.specs.Grid.{Grid}
-use Rattle.dd_topology.specs.Sets.{SymbolSets}
-use Rattle.dd_formula.specs.ByCases.{IsCaseOver}
-use Rattle.dd_formula.specs.declared.automaton.Automaton.{Automaton}
+use Rattle.std.proofs.lemmas.{Bool.lt-ltb, List.FromFn.length-map-range_with_len, List.FromFn.get_or-map-range_with_len}
+use Rattle.std.specs.{Prelude.slice_index_or, List.range_with_len, List.All}
+use Rattle.dd_topology.specs.{Grid.Grid, Sets.SymbolSets}
+use Rattle.dd_formula.specs.{ByCases.IsCaseOver, declared.automaton.Automaton.Automaton}
 use Rattle.dd_maps.specs.Pairs.{own_symbol}
 use Rattle.dd_maps.proofs.Formed.{fits_symbol, depth_symbol}
 

@@ -1,21 +1,15 @@
 -- Why the automata are refused.
 use Rattle.std.proofs.Common.{◌≡◌, ℕ, true, false, refl, sym, ◌∙◌, subst, inl, inr, Result, Ok, Err}
 use Rattle.std.specs.Prelude.{IfErr}
-use Rattle.dd_topology.specs.Grid.{Grid}
-use Rattle.dd_topology.specs.Sets.{SymbolSets}
-use Rattle.dd_formula.specs.LocalRule.{LocalRule, IsRule}
-use Rattle.dd_formula.specs.Automata.{Counted, counted, is_few, is_short}
-use Rattle.dd_formula.specs.ByCases.{IsCasesRefusal}
-use Rattle.dd_formula.specs.Compositions.{composition, IsCompositionFault}
-use Rattle.dd_formula.specs.declared.automaton.Automaton.{Automaton}
-use Rattle.dd_formula.specs.declared.fault.RuleFault.{RuleFault}
+use Rattle.dd_topology.specs.{Grid.Grid, Sets.SymbolSets}
+use Rattle.dd_formula.specs.{LocalRule.LocalRule, LocalRule.IsRule, Automata.Counted, Automata.counted, Automata.is_few, Automata.is_short}
+use Rattle.dd_formula.specs.{ByCases.IsCasesRefusal, Compositions.composition, Compositions.IsCompositionFault}
+use Rattle.dd_formula.specs.declared.{automaton.Automaton.Automaton, fault.RuleFault.RuleFault}
 use Rattle.dd_formula.specs.declared.fault.RuleFault.TheVariants.{Reach, Instances, Depth, Memory}
-use Rattle.dd_maps.specs.Pairs.{IsRuleOver, marked}
-use Rattle.dd_maps.specs.Refusals.{PassesGuard, IsMarkedFault, IsImageFault}
-use Rattle.dd_maps.proofs.Near.{marked_short}
-use Rattle.dd_maps.proofs.Sizes.{many_outer}
+use Rattle.dd_maps.specs.{Pairs.IsRuleOver, Pairs.marked, Refusals.PassesGuard, Refusals.IsMarkedFault, Refusals.IsImageFault}
+use Rattle.dd_maps.proofs.{Near.marked_short, Sizes.many_outer}
 
--- within the limits only memory can be wanting
+-- within the limits only memory can run out
 pub only_memory : (n : ℕ) (f : Counted) → is_few n f ≡ true → is_short n f ≡ true → (e : RuleFault) → IsCasesRefusal n f e → e ≡ Memory
 only_memory n f few short Instances h = absurd (let both : true ≡ false = sym few ∙ h in cc)
 only_memory n f few short Reach h = absurd (let both : true ≡ false = sym short ∙ h.1 in cc)

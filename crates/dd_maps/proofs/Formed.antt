@@ -1,32 +1,20 @@
 -- The guarded formula is a formula over its topology and symbols, where it isn't too deep.
-use Rattle.std.proofs.Common.{◌≡◌, ◌<◌, ◌≤◌, ℕ, zero, suc, ◌+◌, Bool, true, false, List, [], ◌∷◌, map, length, max, refl, ap, sym, ◌∙◌, arith}
-use Rattle.std.specs.Prelude.{◌||◌, not, nat_lt, nat_le, cond}
-use Rattle.std.specs.List.{list_all, filter, range_with_len}
-use Rattle.std.proofs.lemmas.Bool.{and_from, lt-ltb}
-use Rattle.std.proofs.lemmas.List.Folds.{list_all-map}
-use Rattle.dd_topology.specs.Grid.{Grid}
-use Rattle.dd_topology.specs.Sets.{SymbolSets, allows}
-use Rattle.dd_expansion.specs.declared.formulas.Formula.{Formula}
-use Rattle.dd_expansion.specs.declared.formulas.Formula.TheVariants as v
-use Rattle.dd_expansion.specs.declared.formulas.Formula.TheFolds.{fold-roll-Formula}
+use Rattle.std.proofs.Common.{◌≡◌, ◌<◌, ℕ, Bool, true, List, [], ◌∷◌, map, ap, sym, ◌∙◌, arith}
+use Rattle.std.proofs.lemmas.{Bool.and_from, Bool.lt-ltb, List.Folds.list_all-map}
+use Rattle.std.specs.{Prelude.◌||◌, Prelude.not, Prelude.nat_lt, List.list_all, List.filter, List.range_with_len}
+use Rattle.dd_topology.specs.{Grid.Grid, Sets.SymbolSets, Sets.allows}
+use Rattle.dd_expansion.specs.declared.formulas.Formula.{Formula, TheFolds.fold-roll-Formula}
 use Rattle.dd_expansion.specs.declared.formulas.Formula.TheOpen.{Formula-F}
-use Rattle.dd_expansion.specs.Limits.{formula_fits, formula_fits_step, depth, depth_step, greatest, most_nested}
-use Rattle.dd_expansion.specs.lemmas.Layers.{fits_and, fits_or, depth_and, depth_or}
-use Rattle.dd_expansion.specs.lemmas.ListTests.{list_all-weaker}
+use Rattle.dd_expansion.specs.Limits.{formula_fits, formula_fits_step, depth, depth_step}
+use Rattle.dd_expansion.specs.lemmas.{Layers.fits_and, Layers.fits_or, ListTests.list_all-weaker}
 use Rattle.dd_maps.specs.Guarded.{here, symbol_is, allowed_symbols, guard, allows_all, guarded_nodes, with_guards, guarded}
 use Rattle.dd_maps.specs.lemmas.KeptTests.{all_kept}
-
--- what passes a test at each of the first numbers passes at all of them, and at those that are kept
-range_from : (p : ℕ → Bool) (k n : ℕ) → ((a : ℕ) → a < k + n → p a ≡ true) → list_all p (range_with_len k n) ≡ true
-range_from p k zero each = refl
-range_from p k (suc n) each = and_from (p k) _ (each k (omega arith)) (range_from p (k + 1) n (λ a below. each a (omega arith)))
+use Rattle.dd_formula.specs.lemmas.ReachLaws.{all_numbers}
+use Rattle.dd_values.specs.lemmas.Booleans.{or_true}
+use Rattle.dd_expansion.specs.declared.formulas.Formula.TheVariants as v
 
 pub range_all : (p : ℕ → Bool) (n : ℕ) → ((a : ℕ) → a < n → p a ≡ true) → list_all p (range_with_len 0 n) ≡ true
-range_all p n each = range_from p 0 n (λ a below. each a (omega arith))
-
-or_true : (b : Bool) → (b || true) ≡ true
-or_true true = refl
-or_true false = refl
+range_all p n each = all_numbers p 0 n (λ a below. each a (omega arith))
 
 kept_all : (p q : ℕ → Bool) (n : ℕ) → ((a : ℕ) → a < n → p a ≡ true) → list_all p (filter q (range_with_len 0 n)) ≡ true
 kept_all p q n each =
@@ -68,43 +56,6 @@ module _ (g : Grid) (s : SymbolSets) where
       (list_all-map (λ h. formula_fits g s.symbols h 1) (guard s) (guarded_nodes s g.nodes)
       ∙ kept_all (λ a. formula_fits g s.symbols (guard s a) 1) (λ a. not (allows_all s a)) g.nodes guard_fits)
 
--- how deep it is at most: its guards are at most 2 deep
+-- the formula of a symbol has no parts
 pub depth_symbol : (t : ℕ) → depth (symbol_is t) ≡ 0
 depth_symbol t = ap depth (sym (v.rolls-Symbol here t)) ∙ fold-roll-Formula ℕ depth_step (Formula-F.Symbol here t)
-
-depth_node : (a : ℕ) → depth (v.Node here a) ≡ 0
-depth_node a = ap depth (sym (v.rolls-Node here a)) ∙ fold-roll-Formula ℕ depth_step (Formula-F.Node here a)
-
-depth_other : (a : ℕ) → depth (v.Not (v.Node here a)) ≡ 1
-depth_other a =
-    ap depth (sym (v.rolls-Not (v.Node here a))) ∙ (fold-roll-Formula ℕ depth_step (Formula-F.Not (v.Node here a)) ∙ ap (λ n. 1 + n) (depth_node a))
-
-symbols_flat : (ts : List ℕ) → greatest (map depth (map symbol_is ts)) ≡ 0
-symbols_flat [] = refl
-symbols_flat (t ∷ ts) = omega (arith, depth_symbol t, symbols_flat ts)
-
-list_at_most : (b : Bool) (n : ℕ) → cond b (1 + n) n ≤ 1 + n
-list_at_most true n = omega arith
-list_at_most false n = omega arith
-
-guard_shallow : (s : SymbolSets) (a : ℕ) → depth (guard s a) ≤ 2
-guard_shallow s a =
-    let parts = v.Not (v.Node here a) ∷ map symbol_is (allowed_symbols s a) in
-    let most = list_at_most (nat_le 2 (length (map depth parts))) (greatest (map depth parts)) in
-    omega (arith, depth_or parts, most, depth_other a, symbols_flat (allowed_symbols s a))
-
-guards_shallow : (s : SymbolSets) (ns : List ℕ) → greatest (map depth (map (guard s) ns)) ≤ 2
-guards_shallow s [] = omega arith
-guards_shallow s (a ∷ ns) = omega (arith, guard_shallow s a, guards_shallow s ns)
-
-with_shallow : (f : Formula) (gs : List Formula) → depth (with_guards f gs) ≤ 1 + max (depth f) (greatest (map depth gs))
-with_shallow f [] = omega arith
-with_shallow f (h ∷ gs) =
-    let parts = f ∷ h ∷ gs in
-    let most = list_at_most (nat_le 2 (length (map depth parts))) (greatest (map depth parts)) in
-    omega (arith, depth_and parts, most)
-
-pub guarded_shallow : (s : SymbolSets) (n : ℕ) (f : Formula) → depth f ≤ most_nested → depth (guarded s n f) ≤ most_nested + 1
-guarded_shallow s n f h =
-    let gs = map (guard s) (guarded_nodes s n) in
-    omega (arith, with_shallow f gs, guards_shallow s (guarded_nodes s n))

@@ -1,4 +1,3 @@
-pub mod Depths
 pub mod Steps
 pub mod Formed
 pub mod Near

@@ -1,26 +1,20 @@
 -- What the automata read is never too far away.
 use Rattle.std.proofs.Common.{◌≡◌, ◌<◌, ℕ, ◌-◌, Bool, true, List, [], ◌∷◌, map, refl, ap, sym, ◌∙◌, subst}
-use Rattle.std.specs.List.{list_all, range_with_len}
 use Rattle.std.proofs.lemmas.Bool.{and_from}
 use Rattle.std.proofs.lemmas.List.Folds.{list_all-map, list_all-append, flat_map-map}
+use Rattle.std.specs.List.{list_all, range_with_len}
 use Rattle.dd_lattice.specs.declared.position.Cell.{Cell}
-use Rattle.dd_topology.specs.declared.edge.Edge.{Edge}
-use Rattle.dd_topology.specs.Grid.{Grid}
-use Rattle.dd_topology.specs.Sets.{SymbolSets}
-use Rattle.dd_expansion.specs.declared.formulas.Formula.{Formula}
-use Rattle.dd_expansion.specs.declared.formulas.Formula.TheVariants as v
-use Rattle.dd_expansion.specs.declared.formulas.Formula.TheFolds.{fold-roll-Formula}
-use Rattle.dd_expansion.specs.declared.formulas.Formula.TheOpen.{Formula-F}
-use Rattle.dd_expansion.specs.Terms.{origin_at}
-use Rattle.dd_expansion.specs.Reads.{Reading, reads, reads_step}
+use Rattle.dd_topology.specs.{declared.edge.Edge.Edge, Grid.Grid, Sets.SymbolSets}
+use Rattle.dd_expansion.specs.declared.formulas.Formula.{Formula, TheFolds.fold-roll-Formula}
+use Rattle.dd_expansion.specs.{declared.formulas.Formula.TheOpen.Formula-F, Terms.origin_at, Reads.Reading, Reads.reads, Reads.reads_step}
 use Rattle.dd_expansion.specs.lemmas.ListTests.{list_all-flat_map, all_pass}
 use Rattle.dd_formula.specs.LocalRule.{LocalRule, local_rule, reads_at, is_near, ReadsNear}
-use Rattle.dd_formula.specs.Automata.{counted, is_short, cases_reads}
-use Rattle.dd_formula.specs.ByCases.{case_over}
+use Rattle.dd_formula.specs.{Automata.counted, Automata.is_short, Automata.cases_reads, ByCases.case_over}
 use Rattle.dd_formula.specs.lemmas.AutomatonLaws.{counted_given}
 use Rattle.dd_maps.specs.Guarded.{here, symbol_is, allowed_symbols, guard, guarded_nodes, with_guards, guarded}
 use Rattle.dd_maps.specs.Pairs.{guarded_of, marked, own_symbol, identity, always_zero}
 use Rattle.dd_maps.proofs.Formed.{range_all}
+use Rattle.dd_expansion.specs.declared.formulas.Formula.TheVariants as v
 
 -- a formula at a cell that is near: an atom reads that cell or nothing
 module _ (es : List Edge) (c : Cell) (close : is_near c ≡ true) where

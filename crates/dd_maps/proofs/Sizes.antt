@@ -1,28 +1,18 @@
 -- How many instances the automata have.
 use Rattle.std.proofs.Common.{◌≡◌, ◌≤◌, ℕ, ◌+◌, ◌-◌, Bool, true, false, List, [], ◌∷◌, map, length, refl, ap, sym, ◌∙◌, arith}
-use Rattle.std.specs.Prelude.{nat_le}
-use Rattle.std.specs.List.{range_with_len}
-use Rattle.std.proofs.lemmas.Bool.{le-leb, leb-true}
-use Rattle.std.proofs.lemmas.List.FromFn.{length-range_with_len}
-use Rattle.dd_topology.specs.Grid.{Grid}
-use Rattle.dd_topology.specs.Sets.{SymbolSets}
-use Rattle.dd_expansion.specs.declared.formulas.Formula.TheVariants as v
-use Rattle.dd_expansion.specs.declared.formulas.Formula.TheFolds.{fold-roll-Formula}
-use Rattle.dd_expansion.specs.declared.formulas.Formula.TheOpen.{Formula-F}
-use Rattle.dd_expansion.specs.declared.expanded.Expanded.TheFolds.{fold-roll-Expanded}
-use Rattle.dd_expansion.specs.declared.expanded.Expanded.TheOpen.{Expanded-F}
-use Rattle.dd_expansion.specs.Terms.{origin_at}
-use Rattle.dd_expansion.specs.Expansion.{Expansion, expansion, expansion_step, leaf}
-use Rattle.dd_expansion.specs.Leaves.{instances, instances_step}
-use Rattle.dd_expansion.specs.lemmas.ListTests.{list_all-weaker, all_pass}
+use Rattle.std.proofs.lemmas.{Bool.le-leb, Bool.leb-true, List.FromFn.length-range_with_len}
+use Rattle.std.specs.{Prelude.nat_le, List.range_with_len}
+use Rattle.dd_topology.specs.{Grid.Grid, Sets.SymbolSets}
+use Rattle.dd_expansion.specs.declared.formulas.Formula.{TheFolds.fold-roll-Formula, TheOpen.Formula-F}
+use Rattle.dd_expansion.specs.declared.expanded.Expanded.{TheFolds.fold-roll-Expanded, TheOpen.Expanded-F}
+use Rattle.dd_expansion.specs.{Terms.origin_at, Expansion.Expansion, Expansion.expansion, Expansion.expansion_step, Expansion.leaf}
+use Rattle.dd_expansion.specs.{Leaves.instances, Leaves.instances_step, lemmas.ListTests.list_all-weaker, lemmas.ListTests.all_pass}
 use Rattle.dd_formula.specs.LocalRule.{local_rule, expansion_at, most_instances}
-use Rattle.dd_formula.specs.Automata.{counted, is_few, case_instances}
-use Rattle.dd_formula.specs.ByCases.{case_over}
-use Rattle.dd_formula.specs.Compositions.{composition}
+use Rattle.dd_formula.specs.{Automata.counted, Automata.is_few, Automata.case_instances, ByCases.case_over, Compositions.composition}
 use Rattle.dd_formula.specs.declared.automaton.Automaton.{Automaton}
 use Rattle.dd_formula.specs.lemmas.AutomatonLaws.{counted_given, instances_composed}
-use Rattle.dd_maps.specs.Guarded.{here, symbol_is}
-use Rattle.dd_maps.specs.Pairs.{own_symbol, identity, always_zero}
+use Rattle.dd_maps.specs.{Guarded.here, Guarded.symbol_is, Pairs.own_symbol, Pairs.identity, Pairs.always_zero}
+use Rattle.dd_expansion.specs.declared.formulas.Formula.TheVariants as v
 
 -- the composition has at least the instances of its parts
 pub few_outer : (n : ℕ) (f h : Automaton) → is_few n (composition f h) ≡ true → is_few n (counted f) ≡ true

@@ -1,15 +1,10 @@
 -- The numbers that pass a test, each with what is made of it, one number after the other.
-use Rattle.std.proofs.Common.{◌≡◌, ℕ, ◌+◌, Bool, true, false, List, [], ◌∷◌, ◌++◌, map, refl, ap, sym, ◌∙◌}
-use Rattle.std.specs.Prelude.{cond}
+use Rattle.std.proofs.Common.{◌≡◌, ℕ, ◌+◌, Bool, true, false, List, [], ◌∷◌, ◌++◌, map, ap, sym, ◌∙◌}
 use Rattle.std.specs.List.{filter, range_with_len}
 use Rattle.std.proofs.lemmas.List.{map-append, append-nil, append_assoc}
-use Rattle.std.proofs.lemmas.List.Elements.{filter-append}
-use Rattle.dd_formula.specs.lemmas.Ranges.{range_push}
+use Rattle.dd_formula.specs.lemmas.Ranges.{filter_push}
 
-kept_with : (q : ℕ → Bool) (n : ℕ) (b : Bool) → q n ≡ b → filter q (range_with_len 0 (n + 1)) ≡ filter q (range_with_len 0 n) ++ cond b (n ∷ []) []
-kept_with q n b h = ap (filter q) (range_push n) ∙ (filter-append q (range_with_len 0 n) (n ∷ []) ∙ rw h refl)
-
--- behind the items of a front
+-- behind the items of a prefix
 module _ {X : Type 0} (front : List X) (g : ℕ → X) (q : ℕ → Bool) (n : ℕ) (old : List X) (so_far : old ≡ front ++ map g (filter q (range_with_len 0 n))) where
   pub passed : (new : List X) (x : X) → q n ≡ true → x ≡ g n → new ≡ old ++ x ∷ [] → new ≡ front ++ map g (filter q (range_with_len 0 (n + 1)))
   passed new x here made is =
@@ -17,13 +12,13 @@ module _ {X : Type 0} (front : List X) (g : ℕ → X) (q : ℕ → Bool) (n : �
       ∙ (ap (λ y. old ++ y ∷ []) made
       ∙ (ap (λ xs. xs ++ g n ∷ []) so_far
       ∙ (append_assoc front (map g (filter q (range_with_len 0 n))) (g n ∷ [])
-      ∙ ap (λ xs. front ++ xs) (sym (map-append g (filter q (range_with_len 0 n)) (n ∷ [])) ∙ ap (map g) (sym (kept_with q n true here))))))
+      ∙ ap (λ xs. front ++ xs) (sym (map-append g (filter q (range_with_len 0 n)) (n ∷ [])) ∙ ap (map g) (sym (filter_push q n true here))))))
 
   pub failed : (new : List X) → q n ≡ false → new ≡ old → new ≡ front ++ map g (filter q (range_with_len 0 (n + 1)))
   failed new here is =
       is
       ∙ (so_far
-      ∙ ap (λ xs. front ++ map g xs) (sym (kept_with q n false here ∙ append-nil (filter q (range_with_len 0 n)))))
+      ∙ ap (λ xs. front ++ map g xs) (sym (filter_push q n false here ∙ append-nil (filter q (range_with_len 0 n)))))
 
 -- all of them
 pub whole : {X : Type 0} (front : List X) (g : ℕ → X) (q : ℕ → Bool) (n m : ℕ) (parts : List X) → parts ≡ front ++ map g (filter q (range_with_len 0 n)) → n ≡ m →

@@ -2,8 +2,7 @@
 use Rattle.std.specs.Prelude.{ℕ, Bool, not, List, [], ◌∷◌, map}
 use Rattle.std.specs.List.{list_all, filter, range_with_len}
 use Rattle.dd_topology.specs.Sets.{SymbolSets, allows}
-use Rattle.dd_expansion.specs.declared.formulas.Term.{Term}
-use Rattle.dd_expansion.specs.declared.formulas.Formula.{Formula}
+use Rattle.dd_expansion.specs.declared.formulas.{Term.Term, Formula.Formula}
 use Rattle.dd_expansion.specs.declared.formulas.Formula.TheVariants as v
 
 -- the cell at which the formula stands

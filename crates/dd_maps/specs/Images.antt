@@ -1,11 +1,8 @@
 -- What is asked of an automaton's image, and of one automaton after another.
 use Rattle.std.specs.Prelude.{ℕ, ◌<◌, ◌≡◌, ◌⊎◌, true, false, Some}
-use Rattle.dd_lattice.specs.Place.{Place}
-use Rattle.dd_lattice.specs.Cells.{cell}
-use Rattle.dd_lattice.specs.declared.position.Cell.{Cell}
+use Rattle.dd_lattice.specs.{Place.Place, Cells.cell, declared.position.Cell.Cell}
 use Rattle.dd_pattern.specs.Reading.{Look}
-use Rattle.dd_formula.specs.LocalRule.{LocalRule, is_true, rule_allows}
-use Rattle.dd_formula.specs.Automata.{value}
+use Rattle.dd_formula.specs.{LocalRule.LocalRule, LocalRule.is_true, LocalRule.rule_allows, Automata.value}
 use Rattle.dd_formula.specs.declared.automaton.Automaton.{Automaton}
 
 -- the automaton's value at every cell

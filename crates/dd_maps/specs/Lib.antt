@@ -6,5 +6,5 @@ pub mod Pairs
 pub mod Images
 -- why no pair is made
 pub mod Refusals
--- lemmas on what stands above, with their proofs, for whoever cites them
+-- lemmas on these definitions, with their proofs
 pub mod lemmas

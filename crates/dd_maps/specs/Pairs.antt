@@ -1,13 +1,8 @@
 -- The automata by which images and conjugacies are asked for.
-use Rattle.std.specs.Prelude.{ℕ, ◌-◌, ◌≡◌, [], ◌∷◌, map}
-use Rattle.std.specs.List.{range_with_len}
-use Rattle.dd_topology.specs.Grid.{Grid}
-use Rattle.dd_topology.specs.Sets.{SymbolSets}
-use Rattle.dd_expansion.specs.declared.formulas.Formula.{Formula}
-use Rattle.dd_expansion.specs.Limits.{IsFormula, depth}
-use Rattle.dd_formula.specs.LocalRule.{LocalRule, local_rule}
-use Rattle.dd_formula.specs.ByCases.{by_cases}
-use Rattle.dd_formula.specs.declared.automaton.Automaton.{Automaton}
+use Rattle.std.specs.{Prelude.ℕ, Prelude.◌-◌, Prelude.◌≡◌, Prelude.[], Prelude.◌∷◌, Prelude.map, List.range_with_len}
+use Rattle.dd_topology.specs.{Grid.Grid, Sets.SymbolSets}
+use Rattle.dd_expansion.specs.{declared.formulas.Formula.Formula, Limits.IsFormula, Limits.depth}
+use Rattle.dd_formula.specs.{LocalRule.LocalRule, LocalRule.local_rule, ByCases.by_cases, declared.automaton.Automaton.Automaton}
 use Rattle.dd_maps.specs.Guarded.{symbol_is, guarded}
 
 -- the rule was made of a formula over this topology and these sets
@@ -30,7 +25,7 @@ marked g s y = by_cases g s ((guarded_of s y, 0) ∷ []) 1
 abbrev pub always_zero : Grid → SymbolSets → Automaton
 always_zero g s = by_cases g s [] 0
 
--- where the symbol is t, t
+-- the case that gives t where the symbol is t
 abbrev pub own_symbol : ℕ → Formula × ℕ
 own_symbol t = (symbol_is t, t)
 

@@ -1,12 +1,9 @@
 -- Why no automaton that marks a rule, and no pair, is made.
 use Rattle.std.specs.Prelude.{◌<◌, ◌≤◌, ◌≡◌, ◌⊎◌, false}
-use Rattle.dd_topology.specs.Grid.{Grid}
-use Rattle.dd_topology.specs.Sets.{SymbolSets}
+use Rattle.dd_topology.specs.{Grid.Grid, Sets.SymbolSets}
 use Rattle.dd_expansion.specs.Limits.{most_nested}
-use Rattle.dd_formula.specs.LocalRule.{LocalRule}
-use Rattle.dd_formula.specs.Automata.{counted, is_few}
-use Rattle.dd_formula.specs.Compositions.{composition, IsCompositionFault}
-use Rattle.dd_formula.specs.declared.automaton.Automaton.{Automaton}
+use Rattle.dd_formula.specs.{LocalRule.LocalRule, Automata.counted, Automata.is_few}
+use Rattle.dd_formula.specs.{Compositions.composition, Compositions.IsCompositionFault, declared.automaton.Automaton.Automaton}
 use Rattle.dd_formula.specs.declared.fault.RuleFault.{RuleFault}
 use Rattle.dd_formula.specs.declared.fault.RuleFault.TheVariants.{Reach, Instances, Depth, Memory}
 use Rattle.dd_maps.specs.Pairs.{guarded_depth, marked}

@@ -79,7 +79,7 @@ fn guards(alloc: Global, sets: &Sets, nodes: u32) -> Result<Vec<Formula>, AllocE
 }
 
 /// The formula that says that the rule is true and the symbol is allowed. Where each node allows every symbol, it is the
-/// rule's.
+/// rule's own formula.
 pub(crate) fn guarded(alloc: Global, sets: &Sets, rule: &Rule) -> Result<Formula, AllocError>
     requires { rule.now.nodes ≤ length sets.now.allowed }
     ensures value { IfOk result (λ f. f ≡ guarded_of sets.now rule.now) }

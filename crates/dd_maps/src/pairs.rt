@@ -11,14 +11,11 @@ ghost use Rattle.dd_maps.specs.Pairs.{IsRuleOver, own_symbol, marked, always_zer
 ghost use Rattle.dd_maps.specs.Images.{DifferAt, BreaksAt, ChangesAt, HasSymbolAt, Differ, ImageBreaks, Changes, HasSymbols};
 ghost use Rattle.dd_maps.specs.Refusals.{PassesGuard, IsMarkedFault, IsImageFault};
 
-use crate::depth::depth;
 use crate::guarded::{guarded, symbol_is};
+use dd_formed::keeps_depth;
 use dd_formula::{Automaton, Formula, Rule, RuleFault};
 use dd_topology::{Sets, Topology};
 use std::alloc::{AllocError, Global};
-
-/// How deep a formula is at most.
-const MOST_NESTED: u32 = 64;
 
 /// The automaton that gives 0 where the rule is true and the symbol is allowed, else 1. It has one case, the guarded
 /// formula: the rule's formula, and for each node that doesn't allow some symbol a part that says that the cell doesn't have
@@ -43,7 +40,7 @@ pub fn marked(
     ensures fault { IfErr result (IsMarkedFault topology.now sets.now rule.now) }
 {
     let formula = guarded(alloc, sets, rule)?;
-    if depth(&formula) > MOST_NESTED {
+    if !keeps_depth(&formula) {
         return Err(RuleFault::Depth);
     }
     let cases = [(formula, 0)];
@@ -62,7 +59,7 @@ fn always_zero(alloc: Global, topology: &Topology, sets: &Sets) -> Result<Automa
     Automaton::by_cases(alloc, topology, sets, &[], 0)
 }
 
-/// For each symbol from 1 on the formula that says that it is the cell's, with the symbol.
+/// For each symbol from 1 on, the formula that says that the cell has it, with the symbol.
 fn own_symbols(alloc: Global, symbols: u32) -> Result<Vec<(Formula, u32)>, AllocError>
     requires { 1 ≤ symbols }
     ensures { IfOk result (λ cases. cases.items ≡ map own_symbol (range_with_len 1 (symbols - 1))) }
@@ -101,14 +98,14 @@ fn composed_with(alloc: Global, outer: Automaton, inner: &Automaton) -> Result<A
     }
 }
 
-/// Two automata that give a cell different symbols exactly where its value under `map` is a symbol that the node doesn't
-/// allow, or the values break the target there: the composition that takes `map` first and then what `marked` makes of the
-/// target, and the automaton that gives 0 everywhere. So they differ at some node of a position exactly where the image
+/// Two automata: the composition that takes `map` first and then what `marked` makes of the target, and the automaton
+/// that gives 0 everywhere. They give a cell different symbols exactly if its value under `map` is a symbol that the node
+/// doesn't allow, or the values break the target there. So they differ at some node of a position exactly if the image
 /// breaks the target there.
 ///
 /// # Errors
-/// `Depth` where the target's guarded formula is more than 64 deep; else `Instances`, `Reach` and `Depth` at the limits of
-/// the composition, in this order; or `Memory`.
+/// `Depth` where the target's guarded formula is more than 64 deep; else `Instances`, `Reach` and `Depth` at the limits
+/// of the composition, in this order; or `Memory`.
 pub fn image_pair(
     alloc: Global,
     topology: &Topology,
@@ -136,8 +133,8 @@ pub fn image_pair(
     Ok((composed, zero))
 }
 
-/// Two automata that give a cell with a symbol different symbols exactly where `outer` on the values of `inner` doesn't give
-/// its symbol back: the composition that takes `inner` first, and the identity.
+/// Two automata: the composition that takes `inner` first and then `outer`, and the identity. They give a cell with a
+/// symbol different symbols exactly if the composition doesn't give its symbol back.
 ///
 /// # Errors
 /// `Instances`, `Reach` and `Depth` at the limits of the composition, in this order; or `Memory`.

@@ -1,19 +1,13 @@
 -- The parts of `least_mean` together.
 use Rattle.std.proofs.Common.{◌≡◌, ℕ, zero, suc, ◌+◌, ◌-◌, ◌*◌, ◌<◌, ◌≤◌, Bool, true, List, [], ◌∷◌, ◌++◌, length, get_or, Option, Some, None, arith, refl, sym, ap, ◌∙◌, subst, inl, inr, is_some}
-use Rattle.std.specs.Prelude.{◌⊎◌}
-use Rattle.std.specs.List.{Contains, All}
-use Rattle.std.proofs.lemmas.Bool.{cases_lt}
-use Rattle.std.proofs.lemmas.List.Elements.{All-contains}
-use Rattle.std.proofs.Math.Nat.{mul-le-mul_right, le_of_mul-le-mul_right}
-use Rattle.dd_meancycle.specs.declared.edges.Edge.{Edge}
-use Rattle.dd_meancycle.specs.declared.rises.Ratio.{Ratio}
-use Rattle.dd_meancycle.specs.declared.rises.Steep.{Steep}
+use Rattle.std.proofs.{lemmas.Bool.cases_lt, lemmas.List.Elements.All-contains, Math.Nat.mul-le-mul_right, Math.Nat.le_of_mul-le-mul_right}
+use Rattle.std.specs.{Prelude.◌⊎◌, List.Contains, List.All}
+use Rattle.dd_meancycle.specs.declared.{edges.Edge.Edge, rises.Ratio.Ratio, rises.Steep.Steep}
 use Rattle.dd_meancycle.specs.table.Levels.{at, row, least, level_weight_at, AreRows, IsEdgeOf, IsAtMost}
 use Rattle.dd_meancycle.specs.table.Walks.{IsWalk, AreAmong, edges_weight, natural_potential, AreEdgePotentials, AreEdgeRanks}
 use Rattle.dd_meancycle.specs.table.Rises.{Reads, IsSteepest, IsPotential, IsGentlest, HasRiseIn, IsReduced, IsTurn, IsRank, IsHeight}
 use Rattle.dd_meancycle.specs.table.LeastMean.{IsLeastMean}
-use Rattle.dd_meancycle.proofs.LevelLaws.{row_length, least_start, least_upper}
-use Rattle.dd_meancycle.proofs.WalkLaws.{cycle_weighs}
+use Rattle.dd_meancycle.proofs.{LevelLaws.row_length, LevelLaws.least_start, LevelLaws.least_upper, WalkLaws.cycle_weighs}
 use Rattle.dd_meancycle.proofs.Karp.{cycle_light, IsLowest, HasRise, IsAbove, potential_rises, Under, under}
 use Rattle.dd_meancycle.proofs.Gentle.{rise_down}
 

@@ -1,18 +1,12 @@
 -- A cycle and potentials that the exact check confirms.
 use Rattle.std.proofs.Common.{◌≡◌, ℕ, ◌*◌, ◌<◌, ◌≤◌, ◌^◌, ◌-ℤ◌, ◌≤ℤ◌, List, length, take, get_or, true, ℤ, pos, unsigned_abs, arith, sym, ap, ◌∙◌, subst}
-use Rattle.std.specs.Prelude.{nat_le}
-use Rattle.std.specs.List.{All, list_all}
-use Rattle.std.proofs.lemmas.Bool.{leb-true}
-use Rattle.std.proofs.lemmas.List.Sums.{AllPass-from_list_all}
-use Rattle.std.proofs.lemmas.List.Elements.{All-contains, All-weaker}
-use Rattle.std.proofs.lemmas.List.{take_all}
-use Rattle.dd_transfer.specs.Graphs.{Transfer, weight_at}
-use Rattle.dd_meancycle.specs.declared.edges.Edge.{Edge}
-use Rattle.dd_meancycle.specs.declared.rises.Ratio.{Ratio}
+use Rattle.std.proofs.lemmas.{Bool.leb-true, List.Sums.AllPass-from_list_all}
+use Rattle.std.proofs.lemmas.List.{Elements.All-contains, Elements.All-weaker, take_all}
+use Rattle.std.specs.{Prelude.nat_le, List.All, List.list_all}
+use Rattle.dd_transfer.specs.{Graphs.Transfer, Graphs.weight_at, Certificates.potential_of}
+use Rattle.dd_meancycle.specs.declared.{edges.Edge.Edge, rises.Ratio.Ratio}
 use Rattle.dd_meancycle.specs.Means.{IsCycle, IsLeastMeanCycle, IsAcyclic, ArePotentials, AreRanks, weight_of}
-use Rattle.dd_transfer.specs.Certificates.{potential_of}
-use Rattle.dd_meancycle.specs.table.Lists.{AreEdges, IsRisen, IsFallen}
-use Rattle.dd_meancycle.specs.table.Rises.{IsReduced}
+use Rattle.dd_meancycle.specs.table.{Lists.AreEdges, Lists.IsRisen, Lists.IsFallen, Rises.IsReduced}
 use Rattle.dd_meancycle.proofs.EdgeLaws.{edge_of, cycle_least, no_cycle}
 
 -- what holds of all items that were passed holds of all

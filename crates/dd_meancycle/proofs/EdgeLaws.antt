@@ -1,27 +1,21 @@
 -- The edges of a graph as a list, and cycles of states.
 use Rattle.std.proofs.Common.{◌≡◌, ℕ, zero, suc, ◌+◌, ◌-◌, ◌*◌, ◌/◌, ◌%◌, ◌<◌, ◌≤◌, ◌^◌, List, [], ◌∷◌, ◌++◌, map, length, get_or, Option, Some, None, arith, refl, sym, ap, ◌∙◌, subst, inl, inr}
-use Rattle.std.specs.Prelude.{ℤ, pos, ◌-ℤ◌, ◌≤ℤ◌, unsigned_abs}
-use Rattle.std.specs.Option.{option_map, option_to_list}
-use Rattle.std.specs.List.{Contains, All}
-use Rattle.std.proofs.lemmas.Bool.{cases_lt}
-use Rattle.std.proofs.lemmas.Int.{ints}
-use Rattle.std.proofs.lemmas.List.{length-map, get_or_default}
+use Rattle.std.proofs.lemmas.{Bool.cases_lt, Int.ints, List.length-map, List.get_or_default}
 use Rattle.std.proofs.lemmas.List.Elements.{Contains-get_or, Contains-append_left, Contains-append_cases, Contains-push, All-contains}
 use Rattle.std.proofs.lemmas.Nat.{mul-add-lt, div-mul-add, mod-mul-add}
 use Rattle.std.proofs.Math.Nat.{le_of_mul-le-mul_right, mul-le-mul_right}
-use Rattle.dd_transfer.specs.Graphs.{Transfer, IsTransfer, next_of, weight_at}
-use Rattle.dd_meancycle.specs.declared.edges.Edge.{Edge}
-use Rattle.dd_meancycle.specs.declared.table.EdgeMean.{EdgeMean}
-use Rattle.dd_meancycle.specs.declared.table.EdgeMean.TheVariants as edge_mean
-use Rattle.dd_meancycle.specs.declared.least.Mean.{Mean}
+use Rattle.std.specs.{Prelude.ℤ, Prelude.pos, Prelude.◌-ℤ◌, Prelude.◌≤ℤ◌, Prelude.unsigned_abs, Option.option_map, Option.option_to_list}
+use Rattle.std.specs.List.{Contains, All}
+use Rattle.dd_transfer.specs.{Graphs.Transfer, Graphs.IsTransfer, Graphs.next_of, Graphs.weight_at, Certificates.potential_of}
+use Rattle.dd_meancycle.specs.declared.{edges.Edge.Edge, table.EdgeMean.EdgeMean, least.Mean.Mean}
 use Rattle.dd_meancycle.specs.declared.least.Mean.TheVariants.{Least, NoCycle}
 use Rattle.dd_meancycle.specs.Means.{IsPath, IsCycle, IsMeanOf, ArePotentials, AreRanks, weight_of}
-use Rattle.dd_transfer.specs.Certificates.{potential_of}
 use Rattle.dd_meancycle.specs.table.Levels.{IsEdgeOf}
 use Rattle.dd_meancycle.specs.table.Walks.{IsWalk, AreAmong, edges_weight as edges_weight, natural_potential as natural}
 use Rattle.dd_meancycle.specs.table.Lists.{edge_at, AreEdgesTo, AreEdges, IsInStates}
 use Rattle.dd_meancycle.specs.table.LeastMean.{IsMean, IsLeastMean, IsSmallMean}
 use Rattle.dd_meancycle.specs.lemmas.StepLaws.{step, last_slice, below_states, weight_small}
+use Rattle.dd_meancycle.specs.declared.table.EdgeMean.TheVariants as edge_mean
 
 -- one number more
 pub edges_more : (g : Transfer) (n : ℕ) (edges : List Edge) (o : Option Edge) → AreEdgesTo g n edges → o ≡ edge_at g n → AreEdgesTo g (n + 1) (edges ++ option_to_list o)
@@ -146,7 +140,7 @@ path_falls g ranks given (s ∷ ss) u v walk =
 pub no_cycle : (g : Transfer) (ranks : List ℕ) → AreRanks g ranks → (ss : List ℕ) → IsCycle g ss → ⊥
 no_cycle g ranks given ss is = let f = path_falls g ranks given ss is.last is.last is.closed in let t = is.turns in absurd (omega (arith, f, t))
 
--- the edges of a walk of a graph weigh at most so much as each of them weighs most
+-- the weight of a walk of the graph, times n, is at most 2^25 for each of its edges
 walk_light : (n : ℕ) (edges es : List Edge) → All (IsEdgeOf n) edges → AreAmong edges es → n * edges_weight es ≤ length es * 2 ^ 25
 walk_light n edges [] all among = omega arith
 walk_light n edges (e ∷ es) all among =

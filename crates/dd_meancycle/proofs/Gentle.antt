@@ -1,14 +1,10 @@
 -- The state whose steepest rise is least.
 use Rattle.std.proofs.Common.{◌≡◌, ℕ, zero, suc, ◌+◌, ◌-◌, ◌*◌, ◌<◌, ◌≤◌, ◌^◌, ◌/◌, ◌%◌, List, [], ◌∷◌, ◌++◌, length, get_or, Option, Some, None, arith, refl, sym, ap, ◌∙◌, subst, inl, inr}
-use Rattle.std.specs.Prelude.{◌⊎◌, ⊤, MatchOption}
-use Rattle.std.specs.Int.{IsGcd}
-use Prim.Native.Nat.{◌∣◌}
-use Rattle.std.proofs.lemmas.Bool.{cases_lt}
-use Rattle.std.proofs.lemmas.Nat.Gcd.{dvd_antisymm, dvd-zero, dvd_refl, le_of_dvd, mod-eq-zero_of_dvd}
+use Rattle.std.proofs.lemmas.{Bool.cases_lt, Nat.Gcd.dvd_refl, Nat.Gcd.le_of_dvd, Nat.Gcd.mod-eq-zero_of_dvd}
 use Rattle.std.proofs.Math.Nat.{mul-le-mul_right, le_of_mul-le-mul_right, mul-dvd-mul_left, dvd_of_mul-dvd-mul_left, dvd-mul_right}
-use Rattle.dd_meancycle.specs.declared.rises.Ratio.{Ratio}
-use Rattle.dd_meancycle.specs.declared.rises.Steep.{Steep}
-use Rattle.dd_meancycle.specs.table.Levels.{level_weight_at}
+use Rattle.std.specs.{Prelude.◌⊎◌, Prelude.⊤, Prelude.MatchOption, Int.IsGcd}
+use Prim.Native.Nat.{◌∣◌}
+use Rattle.dd_meancycle.specs.{declared.rises.Ratio.Ratio, declared.rises.Steep.Steep, table.Levels.level_weight_at}
 use Rattle.dd_meancycle.specs.table.Rises.{IsSteepest, IsGentler, HasRiseIn, IsGentlest, LeastSoFar, IsReduced}
 
 -- a rise above a greater mean is above a smaller one
@@ -33,7 +29,7 @@ rise_down levels last v m l w r end pos a h = (h.0, h.1, h.2, h.3, gentle h.1 en
 positive : (levels : List (List (Option ℕ))) (last v w r : ℕ) → IsSteepest levels last v w r → 0 < r
 positive levels last v w r s = omega (arith, s.run_is, s.shorter)
 
--- `MatchOption here ..` as `steepest` says it
+-- one more state, with what `steepest` answers for it
 pub gentlest_more : (levels : List (List (Option ℕ))) (last i : ℕ) (best : Option Steep) (here : Option Ratio) (r : Option Steep) →
     LeastSoFar levels last i best →
     MatchOption here (level_weight_at levels last i ≡ None) (λ h. IsSteepest levels last i h.weight h.length) →
@@ -120,7 +116,3 @@ is_reduced w l g is pos g_pos =
     part_below : (g a l : ℕ) → g * a ≡ l → 0 < g → a ≤ l
     part_below zero a l e pos = absurd (omega arith)
     part_below (suc g) a l e pos = omega arith
-
-pub gcd_positive : (w l g : ℕ) → IsGcd w l g → 0 < l → 0 < g
-gcd_positive w l zero is pos = absurd (let e : l ≡ 0 = dvd_antisymm (dvd-zero l) is.1 in omega arith)
-gcd_positive w l (suc g) is pos = omega arith

@@ -1,9 +1,7 @@
 -- Karp's theorem, as far as it is needed: potentials from the table, and a cycle that is light enough.
 use Rattle.std.proofs.Common.{◌≡◌, ℕ, zero, suc, ◌+◌, ◌-◌, ◌*◌, ◌<◌, ◌≤◌, List, [], ◌∷◌, ◌++◌, length, Option, Some, None, arith, refl, sym, ap, ◌∙◌, subst, inl, inr}
-use Rattle.std.specs.Prelude.{◌⊎◌}
-use Rattle.std.specs.List.{Contains, All}
-use Rattle.std.proofs.lemmas.Bool.{cases_lt}
-use Rattle.std.proofs.Math.Nat.{mul-le-mul_left}
+use Rattle.std.proofs.{lemmas.Bool.cases_lt, Math.Nat.mul-le-mul_left}
+use Rattle.std.specs.{Prelude.◌⊎◌, List.Contains, List.All}
 use Rattle.dd_meancycle.specs.declared.edges.Edge.{Edge}
 use Rattle.dd_meancycle.specs.table.Levels.{at, row, least, IsAtMost, IsEdgeOf}
 use Rattle.dd_meancycle.specs.table.Walks.{IsWalk, AreAmong, edges_weight}
@@ -22,7 +20,7 @@ at_most : (o : Option ℕ) (x y : ℕ) → o ≡ Some y → y ≤ x → IsAtMost
 at_most None x y e h = absurd (cc)
 at_most (Some z) x y e h = let f : z ≡ y = cc in omega arith
 
--- a walk makes the table's weight at its end at most the weight at its start and its own
+-- the table's weight at a walk's end is at most that at its start plus the walk's own weight
 pub walk_upper : (edges : List Edge) (n k : ℕ) (es : List Edge) (u v a : ℕ) → All (IsEdgeOf n) edges → AreAmong edges es → IsWalk u es v → least edges n k u ≡ Some a → IsAtMost (least edges n (k + length es) v) (a + edges_weight es)
 walk_upper edges n k [] u v a all among walk is =
     let e : k + 0 ≡ k = omega arith in

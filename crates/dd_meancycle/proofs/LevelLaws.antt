@@ -1,10 +1,8 @@
 -- A level from the one before it.
 use Rattle.std.proofs.Common.{◌≡◌, ℕ, zero, suc, ◌+◌, ◌*◌, ◌<◌, ◌≤◌, min, Bool, true, false, cond, eqb, List, [], ◌∷◌, ◌++◌, length, get_or, set, replicate, Option, Some, None, arith, refl, sym, ap, ◌∙◌, subst, inl, inr, get_or-set_same, get_or-set_other, ◌≢◌}
-use Rattle.std.specs.Prelude.{◌⊎◌}
-use Rattle.std.specs.List.{Contains, All, fold}
 use Rattle.std.proofs.lemmas.List.{length-set, get_or_past, get_or-replicate, length-replicate}
-use Rattle.std.proofs.lemmas.List.Elements.{All-head, All-tail}
-use Rattle.std.proofs.lemmas.Bool.{cases_eq, cases_lt}
+use Rattle.std.proofs.lemmas.{List.Elements.All-head, List.Elements.All-tail, Bool.cases_eq, Bool.cases_lt}
+use Rattle.std.specs.{Prelude.◌⊎◌, List.Contains, List.All, List.fold}
 use Rattle.dd_meancycle.specs.declared.edges.Edge.{Edge}
 use Rattle.dd_meancycle.specs.table.Levels.{at, lowered, lower_at, relaxed, level, row, least, IsAtMost, IsUpToIn, IsRowUpTo, IsEdgeOf}
 
@@ -121,7 +119,7 @@ fold_from previous row (x ∷ edges) v b all h =
       ]
     ]
 
--- of whole rows
+-- each row has an entry for each state
 pub row_length : (edges : List Edge) (n k : ℕ) → length (row edges n k) ≡ n
 row_length edges n zero = length-replicate n (Some 0)
 row_length edges n (suc k) = fold_length (row edges n k) (replicate (length (row edges n k)) None) edges ∙ (length-replicate (length (row edges n k)) None ∙ row_length edges n k)

@@ -1,13 +1,10 @@
 -- Steps of the loops.
 use Rattle.std.proofs.Common.{◌≡◌, ℕ, zero, suc, ◌+◌, ◌-◌, ◌*◌, ◌<◌, ◌≤◌, ◌^◌, Bool, true, false, cond, List, [], ◌∷◌, ◌++◌, length, get_or, take, Option, Some, None, arith, refl, sym, ap, ◌∙◌, subst, inl, inr, add-one}
-use Rattle.std.specs.Prelude.{◌⊎◌}
-use Rattle.std.specs.List.{Contains, All, find}
 use Rattle.std.proofs.lemmas.Bool.{cases_Bool, cases_lt, cases_eq}
 use Rattle.std.proofs.lemmas.List.{get_or_append_left, get_or_push, length-append, get_or_default, get_or-replicate, get_or_past, length-replicate}
-use Rattle.std.proofs.lemmas.List.Elements.{All-contains}
-use Rattle.std.proofs.Math.Nat.{mul-le-mul_right, le_of_mul-le-mul_right}
-use Rattle.dd_meancycle.specs.declared.edges.Edge.{Edge}
-use Rattle.dd_meancycle.specs.declared.rises.Ratio.{Ratio}
+use Rattle.std.proofs.{lemmas.List.Elements.All-contains, Math.Nat.mul-le-mul_right, Math.Nat.le_of_mul-le-mul_right}
+use Rattle.std.specs.{Prelude.◌⊎◌, List.Contains, List.All, List.find}
+use Rattle.dd_meancycle.specs.declared.{edges.Edge.Edge, rises.Ratio.Ratio}
 use Rattle.dd_meancycle.specs.table.Levels.{at, row, least, IsUpToIn, IsRowUpTo, IsEdgeOf, AreRows, level_weight_at}
 use Rattle.dd_meancycle.specs.table.Rises.{IsSteeper}
 use Rattle.dd_meancycle.proofs.LevelLaws.{Arrives, least_from, row_length}
@@ -108,7 +105,7 @@ rows_push edges n k levels x rows l e j lt = elim (cases_lt j (length levels)) [
       get_or_push levels x [] j (omega arith) ∙ (e ∙ ap (row edges n) (sym f))
 ]
 
--- one more at the end, and each as it was
+-- what holds of each item, and of one more at the end, holds of each item then
 pub each_push : (P : ℕ → ℕ → Type 0) (xs : List ℕ) (i y : ℕ) → length xs ≡ i → ((v : ℕ) → v < i → P v (get_or xs v 0)) → P i y → (v : ℕ) → v < i + 1 → P v (get_or (xs ++ y ∷ []) v 0)
 each_push P xs i y len each here v lt = elim (cases_lt v i) [
   | inl below ↦ subst (P v) (sym (get_or_append_left xs (y ∷ []) 0 v (omega arith))) (each v below)

@@ -1,12 +1,10 @@
 -- Going back along a least walk until a state comes again.
 use Rattle.std.proofs.Common.{◌≡◌, ℕ, zero, suc, ◌+◌, ◌-◌, ◌*◌, ◌<◌, ◌≤◌, Bool, true, false, cond, List, [], ◌∷◌, ◌++◌, length, reverse, take, drop, get_or, set, replicate, Option, Some, None, arith, refl, sym, ap, ◌∙◌, subst, inl, inr, take-append-drop, add-one, eqb, ◌≢◌}
-use Rattle.std.specs.Prelude.{◌⊎◌}
-use Rattle.std.specs.List.{Contains, All, find}
 use Rattle.std.proofs.lemmas.Bool.{cases_Bool, cases_lt, cases_eq, eqb-true, eq-eqb, and_parts}
 use Rattle.std.proofs.lemmas.List.{reverse-append, length-reverse, length-append, length-set, length-take, length-drop, take-append-le, take_all, get_or_past, get_or-replicate, length-replicate}
 use Rattle.std.proofs.lemmas.List.Elements.{All-contains}
-use Rattle.dd_meancycle.specs.declared.edges.Edge.{Edge}
-use Rattle.dd_meancycle.specs.table.Levels.{at, row, least, IsEdgeOf}
+use Rattle.std.specs.{Prelude.◌⊎◌, List.Contains, List.All, List.find}
+use Rattle.dd_meancycle.specs.{declared.edges.Edge.Edge, table.Levels.at, table.Levels.row, table.Levels.least, table.Levels.IsEdgeOf}
 use Rattle.dd_meancycle.specs.table.Walks.{IsWalk, AreAmong, edges_weight}
 use Rattle.dd_meancycle.specs.table.Rises.{is_back, arrives, marked, IsTurn}
 use Rattle.dd_meancycle.proofs.LevelLaws.{Arrives, least_from, row_length, at_set_same, at_set_other}

@@ -2,5 +2,5 @@
 pub mod Means
 -- the graph as a list of edges, walks, and the table of least weights of walks by length
 pub mod table
--- lemmas on what stands above, with their proofs, for whoever cites them
+-- lemmas on these definitions, with their proofs
 pub mod lemmas

@@ -2,10 +2,8 @@
 use Rattle.std.specs.Prelude.{◌≡◌, ℕ, ◌+◌, ◌*◌, ◌%◌, ◌<◌, ◌≤◌, ℤ, pos, ◌-ℤ◌, ◌≤ℤ◌, unsigned_abs, List, [], ◌∷◌, length, slice_index, Some}
 use Rattle.std.specs.Int.{IsGcd}
 use Rattle.dd_values.specs.Bounds.{most_number}
-use Rattle.dd_transfer.specs.Graphs.{Transfer, next_of, weight_at}
-use Rattle.dd_transfer.specs.Certificates.{potential_of}
-use Rattle.dd_meancycle.specs.declared.least.Mean.{Mean}
-use Rattle.dd_meancycle.specs.declared.least.Mean.TheVariants.{Least, NoCycle}
+use Rattle.dd_transfer.specs.{Graphs.Transfer, Graphs.next_of, Graphs.weight_at, Certificates.potential_of}
+use Rattle.dd_meancycle.specs.declared.least.Mean.{Mean, TheVariants.Least, TheVariants.NoCycle}
 
 -- each state has an edge to the next: from u through the states to v
 abbrev pub IsPath : Transfer → ℕ → List ℕ → ℕ → Type 0

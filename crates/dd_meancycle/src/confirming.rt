@@ -1,5 +1,5 @@
-//! The exact check of a cycle and potentials, which show a graph's least mean, or of ranks, which show that it has no cycle; or
-//! they are turned down.
+//! The exact check of what a search found: a cycle and potentials, which show a graph's least mean, or ranks, which show
+//! that it has no cycle.
 ghost use Rattle.std.specs.Prelude.{◌≡◌, ℕ, ◌*◌, ◌%◌, ◌<◌, ◌≤◌, ◌↔◌, IsTrue, IfSome, length, slice_index, pos, ◌-ℤ◌, ◌≤ℤ◌, unsigned_abs, nat_le, Some};
 ghost use Rattle.std.specs.List.{All, list_all};
 ghost use Rattle.dd_values.specs.Bounds.{most_number};
@@ -56,7 +56,7 @@ fn is_rise(from: i64, to: i64, length: u64, weight: u32, mean_weight: u64) -> bo
     true
 }
 
-/// Whether the potential rises so along an edge.
+/// Whether the potential rises by at most that along an edge.
 fn is_risen(edge: &Edge, potentials: &[i64], mean: Ratio) -> bool
     requires { IsEdgeOf (length potentials.now) edge.now }
     ensures { IsTrue result → (potential_of potentials.now edge.now.to -ℤ potential_of potentials.now edge.now.from) ≤ℤ (pos (mean.length * edge.now.weight) -ℤ pos mean.weight) }
@@ -66,7 +66,7 @@ fn is_risen(edge: &Edge, potentials: &[i64], mean: Ratio) -> bool
     is_rise(from, to, mean.length, edge.weight, mean.weight)
 }
 
-/// Whether the potentials rise so along each edge.
+/// Whether the potentials rise by at most that along each edge.
 fn are_risen(edges: &[Edge], potentials: &[i64], mean: Ratio) -> bool
     requires { All (IsEdgeOf (length potentials.now)) edges.now }
     ensures { IsTrue result → IsRisen mean.weight mean.length potentials.now edges.now }
@@ -92,7 +92,7 @@ fn are_bounded(potentials: &[i64]) -> bool
     potentials.iter().all(|potential| is_bounded(potential))
 }
 
-/// The mean of a cycle in lowest terms, where the cycle and the potentials show that it is the graph's least one.
+/// The mean of a cycle in lowest terms, if the cycle and the potentials show that it is the graph's least one.
 pub(crate) fn confirmed(
     graph: &Graph,
     edges: &[Edge],

@@ -20,7 +20,7 @@ use std::alloc::{AllocError, Global};
 #[derive(Debug, Drop)]
 pub enum Mean {
     /// The cycle has at most as many states as the graph. There is a potential for each state, at most 2^40 in absolute
-    /// value: along an edge it rises by at most the denominator times the weight of the edge less the numerator.
+    /// value: along an edge it rises by at most `denominator * weight - numerator`, with the edge's weight.
     Least {
         numerator: u64,
         denominator: u64,
@@ -128,7 +128,7 @@ fn confirmed_mean(graph: &Graph, edges: &[Edge], found: Found) -> Option<Mean>
     })
 }
 
-/// The same by the table of all lengths.
+/// The answer by the table of walks of all lengths.
 fn mean_over(alloc: Global, graph: &Graph, edges: &[Edge]) -> Result<Mean, AllocError>
     requires edges { AreEdges graph.now edges.now }
     ensures { IfOk result (IsMeanOf graph.now) }

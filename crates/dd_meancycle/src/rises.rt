@@ -14,8 +14,8 @@ pub(crate) struct Ratio {
     pub length: u64,
 }
 
-/// The greatest, over the lengths `k` below `last` of walks to the state, of the rise of the least weight from `k` edges to `last`,
-/// divided by `last - k`. `None` where no walk of `last` edges leads to the state.
+/// The steepest rise to the state: over the lengths `k` below `last`, the greatest rise of the least weight from `k`
+/// edges to `last`, divided by `last - k`. `None` where no walk of `last` edges leads to the state.
 fn steepest(levels: &[Level], last: usize, state: u32) -> Option<Ratio>
     requires last { 0 < last }
     requires few { last < 2 ^ 31 }

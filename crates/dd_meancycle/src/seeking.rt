@@ -1,6 +1,6 @@
-//! The search for a cycle of least mean and potentials: the mean falls from cycle to cycle, each found where potentials that are
-//! lowered along the edges with the last cycle's mean don't come to rest (after E. Lawler, 1976). What is found is checked
-//! afterwards, so no contract says what it is.
+//! The search for a cycle of least mean and potentials (after E. Lawler, 1976). Potentials are lowered along the edges,
+//! with the mean of the last cycle found. If they don't come to rest, there is a cycle with a smaller mean, which is the
+//! next one. The result is checked afterwards, so no contract says what it is.
 
 use crate::edges::Edge;
 use crate::rises::{Ratio, reduced};
@@ -14,10 +14,10 @@ pub(crate) struct Found {
     pub potentials: Items<i64>,
 }
 
-/// How many rounds of relaxation there are at most, before the search is given up.
+/// The greatest number of rounds of relaxation before the search gives up.
 const MOST_ROUNDS: u32 = 4096;
 
-/// The mean with which potentials are lowered: so much weight over so many edges.
+/// The mean with which potentials are lowered: the weight over the number of edges.
 #[derive(Clone, Copy)]
 struct Slope {
     weight: i64,
@@ -30,7 +30,7 @@ const STEEPEST: Slope = Slope {
     length: 1,
 };
 
-/// Lowers potentials along the edges, and marks the last edge by which each was lowered. Whether one was.
+/// Lowers potentials along the edges, and marks the last edge by which each was lowered. True if one was.
 fn lower_all(
     edges: &[Edge],
     slope: Slope,
@@ -96,8 +96,8 @@ fn state_on_cycle(alloc: Global, parents: &[Option<Edge>]) -> Result<Option<u32>
     Ok(None)
 }
 
-/// Goes back along marked edges from a state, to one that this walk has passed; `None` where it comes to one that has none,
-/// or that an earlier walk has passed.
+/// Goes back along marked edges from a state until it meets this walk again. `None` if it comes to a state without a
+/// marked edge, or to one that an earlier walk has passed.
 fn follow(parents: &[Option<Edge>], seen: &mut [u32], state: u32, mark: u32) -> Option<u32> {
     let mut at = state;
     for _ in 0..parents.len() + 1 {

@@ -35,7 +35,7 @@ pub(crate) fn table_mean(alloc: Global, states: u32, edges: &[Edge]) -> Result<E
     mean_of(alloc, states, edges, levels.as_slice())
 }
 
-/// The same from the table of least weights.
+/// The answer from the table of least weights.
 fn mean_of(
     alloc: Global,
     states: u32,

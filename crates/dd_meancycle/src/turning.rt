@@ -22,7 +22,7 @@ fn is_back(before: &[Option<u32>], state: u32, weight: u32, edge: &Edge) -> bool
     }
 }
 
-/// An edge by which a least walk of `k + 1` edges comes to the state.
+/// The last edge of a least walk of `k + 1` edges to the state.
 fn back_edge(edges: &[Edge], before: &[Option<u32>], state: u32, weight: u32) -> Option<Edge>
     requires edges { All (IsEdgeOf (length before.now)) edges.now }
     ensures { result ≡ find (is_back before.now state weight) edges.now }

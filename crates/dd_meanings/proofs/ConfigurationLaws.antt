@@ -3,17 +3,16 @@ use Rattle.std.proofs.Common.{◌≡◌, ◌<◌, ◌≤◌, ℕ, zero, suc, ◌
 use Rattle.std.proofs.lemmas.{Grind.common_steps, List.Elements.All-from_get_or}
 use Rattle.dd_topology.specs.Sets.{allows}
 use Rattle.dd_meanings.specs.Tree.{Word, Name, Entry, Vector, Command, Context}
+use Rattle.dd_meanings.specs.{Definitions.symbol_of, Definitions.tile_of, Sound.IsNew, Sound.IsConfigurationOf}
 use Rattle.dd_pattern.specs.{Tile.IsPeriodic, Tile.IsTile, lemmas.TileSizes.Sizes, lemmas.TileSizes.sizes_of}
-use Rattle.dd_known.specs.Sound.{IsSound}
-use Rattle.dd_known.specs.Known.{dimension_of}
+use Rattle.dd_known.specs.{Sound.IsSound, Known.dimension_of}
 use Rattle.dd_faults.specs.Commands.{is_allowed, symbol_faults, product, period_at, shear_of, shear_fits, box_faults, faults_of}
 use Rattle.dd_faults.specs.lemmas.Periods.{entry_at, no_entry}
-use Rattle.dd_meanings.specs.{Definitions.symbol_of, Definitions.tile_of, Sound.IsNew, Sound.IsConfigurationOf}
 use Rattle.dd_meanings.proofs.{Nothing.parts, NameLaws.is_new}
 
 -- ---- symbols
 
--- a name that is allowed is that of a symbol that the node allows
+-- a name that is allowed names a symbol that the node allows
 record IsAllowedAt (x : Context) (a : ℕ) (t : ℕ) : Type 0 where
   below : t < length x.known.setting.symbols
   allowed : allows x.known.setting.sets a t ≡ true

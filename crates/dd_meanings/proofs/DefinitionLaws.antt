@@ -1,28 +1,27 @@
--- Automata without faults, by cases and by their names.
+-- Automata without faults, given by cases or as compositions.
 use Rattle.std.proofs.Common.{◌≡◌, ◌<◌, ◌≤◌, List, [], length, map, slice_index_or, refl, ap, subst, arith}
-use Rattle.std.specs.List.{All, flat_map}
 use Rattle.std.proofs.lemmas.{List.Elements.All-map, List.Elements.All-get_or, Option.unwrap_or-slice_get}
+use Rattle.std.specs.List.{All, flat_map}
 use Rattle.dd_written.specs.Formulas.{tree_depth}
-use Rattle.dd_meanings.specs.Tree.{Word, Name, Case, Command, Known, Context}
+use Rattle.dd_meanings.specs.{Tree.Word, Tree.Name, Tree.Case, Tree.Command, Tree.Known, Tree.Context, declared.meaning.Meaning.Meaning}
+use Rattle.dd_meanings.specs.{Made.script_numbers, Made.IsAutomatonOf, Sound.IsNew}
+use Rattle.dd_meanings.specs.Definitions.{refusal_of, case_of, symbol_of, automaton_of, automaton_named, composition_of, automaton_faults}
+use Rattle.dd_meanings.specs.lemmas.SizeLaws.{formed_passes}
 use Rattle.dd_faults.specs.{Names.missing, Names.number_in, Commands.case_faults, Commands.faults_of, Order.first_fault, Order.Refuses}
-use Rattle.dd_known.specs.Sound.{IsSound}
 use Rattle.dd_faults.specs.lemmas.Nothing.{number_below}
-use Rattle.dd_formula.specs.Automata.{IsAutomaton, counted}
-use Rattle.dd_formula.specs.ByCases.{numbers_over, IsCaseOver, IsCasesRefusal}
-use Rattle.dd_formula.specs.Compositions.{AreAutomata, OverBoth, IsCompositionFault}
-use Rattle.dd_formula.specs.lemmas.CasesLaws.{passes_one}
-use Rattle.dd_formula.specs.{declared.fault.RuleFault.RuleFault, declared.automaton.Automaton.Automaton}
+use Rattle.dd_known.specs.Sound.{IsSound}
+use Rattle.dd_formula.specs.{Automata.IsAutomaton, Automata.counted, ByCases.numbers_over, ByCases.IsCaseOver, ByCases.IsCasesRefusal}
+use Rattle.dd_formula.specs.{Compositions.AreAutomata, Compositions.OverBoth, Compositions.IsCompositionFault, lemmas.CasesLaws.passes_one}
+use Rattle.dd_formula.specs.declared.{fault.RuleFault.RuleFault, automaton.Automaton.Automaton}
+use Rattle.dd_meanings.proofs.{Nothing.parts, Nothing.none_at, NameLaws.is_new, WellFormed.is_formula, SizeLaws.fault_refuses}
+use Rattle.dd_meanings.proofs.MadeLaws.{cases_made, composition_made}
 use Rattle.dd_formula.specs.declared.automaton.Automaton.TheVariants as automaton
-use Rattle.dd_meanings.specs.{declared.meaning.Meaning.Meaning, Made.script_numbers, Made.IsAutomatonOf, Sound.IsNew, Definitions.refusal_of}
-use Rattle.dd_meanings.specs.Definitions.{case_of, symbol_of, automaton_of, automaton_named, composition_of, automaton_faults}
-use Rattle.dd_meanings.proofs.{Nothing.parts, Nothing.none_at, NameLaws.is_new, WellFormed.is_formula}
-use Rattle.dd_meanings.proofs.{SizeLaws.fault_refuses, SizeLaws.formed_passes, MadeLaws.cases_made, MadeLaws.composition_made}
 
--- the rules of a script have its numbers
+-- the rules of a script have the script's dimension, nodes and symbols
 same_numbers : (k : Known) → IsSound k → numbers_over k.setting.topology k.setting.sets ≡ script_numbers k.setting
 same_numbers k sound = rw sound.setting.alphabet refl
 
--- an automaton that is made as it is meant
+-- the automaton that was made is the one that is meant
 abbrev pub IsDefined : Context → Word → Automaton → Automaton → Type 0
 IsDefined x called made whole =
     ((automaton_faults x whole ≡ []) × (Meaning.Automaton called made ≡ Meaning.Automaton called whole)) × (IsNew x called × IsAutomatonOf x.known.setting whole)
@@ -57,7 +56,7 @@ module _ (x : Context) (called : Word) (cs : List Case) (default : Name) (sound 
 pub cases_refused : (x : Context) (whole : Automaton) (e : RuleFault) → IsCasesRefusal x.known.setting.topology.nodes (counted whole) e → Refuses (refusal_of e) (first_fault (automaton_faults x whole))
 cases_refused x whole e h = fault_refuses x.known.setting.topology.nodes (counted whole) e (passes_one x.known.setting.topology.nodes (counted whole) e h)
 
--- ---- automata by their names
+-- ---- compositions
 
 module _ (x : Context) (automata : List Automaton) (called outer inner : Word) (named : length automata ≡ length x.known.automata) (formed : All (IsAutomatonOf x.known.setting) automata)
     (none : faults_of x (Command.Composition called outer inner) ≡ []) where

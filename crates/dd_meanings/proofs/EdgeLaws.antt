@@ -1,35 +1,33 @@
--- Edges with numbers in place of names: they are edges of a topology, and no label has two of them from one node.
+-- Edges, with indices in place of names: they are edges of a topology, and no two from one node have the same label.
 use Rattle.std.proofs.Common.{◌≡◌, ℕ, ◌<◌, true, List, [], ◌∷◌, ◌++◌, length, map, take, slice_index_or, Some, Contains, sym, ap, ◌∙◌, subst, arith, if◌then◌else◌, bytes_eq, is_some}
-use Rattle.std.specs.Prelude.{◌||◌}
-use Rattle.std.specs.List.{All, list_any, list_all, flat_map}
-use Rattle.std.specs.Option.{option_map}
-use Rattle.std.proofs.lemmas.{Grind.common_steps, Bool.Decides.nat_tests, List.length-map, List.take-map, List.Folds.list_all-map, List.Sums.list_all-from_AllPass}
+use Rattle.std.proofs.lemmas.{Grind.common_steps, Bool.Decides.nat_tests, List.length-map, List.take-map}
+use Rattle.std.proofs.lemmas.List.{Folds.list_all-map, Sums.list_all-from_AllPass}
 use Rattle.std.proofs.lemmas.List.Elements.{All-contains, All-contains_itself, All-take, Contains-get_or}
-use Rattle.std.proofs.lemmas.{Slice.Eq.bytes_eq-Decides}
+use Rattle.std.proofs.lemmas.Slice.Eq.{bytes_eq-Decides}
 use Rattle.std.proofs.lemmas.Option.{slice_get_within, slice_get-map, slice_get-get_or}
+use Rattle.std.specs.{Prelude.◌||◌, List.All, List.list_any, List.list_all, List.flat_map, Option.option_map}
 use Rattle.dd_written.specs.Values.{name_text}
 use Rattle.dd_meanings.specs.Tree.{Edge as Written, Command, Context}
-use Rattle.dd_topology.specs.{declared.edge.Edge.Edge, Topology.starts_alike, Naming.number_of, Grid.is_edge, Grid.IsFirstTwice}
-use Rattle.dd_lattice.specs.lemmas.ListLaws.{Contains-map, Contains-from_map}
-use Rattle.dd_topology.specs.lemmas.ListLaws.{some_passes}
-use Rattle.dd_faults.specs.Repeats.{edge_key, twice_label, twice_labelled}
-use Rattle.dd_known.specs.Known.{dimension_of}
-use Rattle.dd_faults.specs.Commands.{edge_faults, faults_of}
-use Rattle.dd_faults.specs.lemmas.Repeats.{among, once}
-use Rattle.dd_query.specs.lemmas.Offsets.{offset_is}
 use Rattle.dd_meanings.specs.Topologies.{first_seen_names, label_text, labels_of, edge_of}
+use Rattle.dd_topology.specs.{declared.edge.Edge.Edge, Topology.starts_alike, Naming.number_of, Grid.is_edge, Grid.IsFirstTwice}
+use Rattle.dd_topology.specs.lemmas.ListLaws.{some_passes}
+use Rattle.dd_values.specs.lemmas.Members.{Contains-map, Contains-from_map}
+use Rattle.dd_faults.specs.{Repeats.edge_key, Repeats.twice_label, Repeats.twice_labelled, Commands.edge_faults, Commands.faults_of}
+use Rattle.dd_faults.specs.lemmas.Repeats.{among, once}
+use Rattle.dd_known.specs.Known.{dimension_of}
+use Rattle.dd_query.specs.lemmas.Offsets.{offset_is}
 use Rattle.dd_meanings.proofs.{Nothing.parts, Nothing.none_at, NameLaws.is_found, NameLaws.same_name}
 
--- ---- labels in the order in which they are first seen
+-- ---- labels in order of first occurrence
 
--- a name that is seen, or is one of those to come, is among them
+-- a name that was seen, or comes later, is in the list
 seen_all : (seen ns : List (List ℕ)) (m : List ℕ) → (list_any (bytes_eq m) seen || list_any (bytes_eq m) ns) ≡ true → list_any (bytes_eq m) (first_seen_names seen ns) ≡ true
 seen_all seen [] m h = grind (arith, common_steps)
 seen_all seen (n ∷ ns) m h = grind (arith, common_steps, nat_tests, bytes_eq-Decides, seen_all (if list_any (bytes_eq n) seen then seen else seen ++ n ∷ []) ns m)
 
 -- ---- the edges of a command without a fault
 
--- it has no fault, and its label is among the labels
+-- the edge has no fault, and its label is among the labels
 abbrev IsLabelled : Context → List (List ℕ) → Written → Type 0
 IsLabelled x labels e = (edge_faults x e ≡ []) × (is_some (number_of labels (label_text x.text e)) ≡ true)
 
@@ -38,7 +36,7 @@ one_edge x labels e (h, label) =
     let offset = offset_is x.text (dimension_of x.known) e.offset (grind (arith, parts)) (grind (arith, parts)) in
     grind (arith, parts)
 
--- edges with one label and one first node have one key
+-- edges with the same label and the same first node have the same key
 same_key : (x : Context) (labels : List (List ℕ)) (e f : Written) → IsLabelled x labels e → IsLabelled x labels f
     → starts_alike (edge_of x.text labels x.known.setting.nodes e) (edge_of x.text labels x.known.setting.nodes f) ≡ true → edge_key x.text e ≡ edge_key x.text f
 same_key x labels e f (h, label) (g, label') alike =

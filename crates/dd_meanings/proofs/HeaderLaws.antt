@@ -1,4 +1,4 @@
--- What the commands of the header have where they have no fault.
+-- What holds of commands of the header without faults.
 use Rattle.std.proofs.Common.{◌≡◌, ℕ, ◌≤◌, ◌<◌, List, [], ◌∷◌, length, map, refl, subst, arith, min}
 use Rattle.std.specs.List.{flat_map}
 use Rattle.std.proofs.lemmas.{Grind.common_steps, List.Elements.All-map}
@@ -16,7 +16,7 @@ use Rattle.dd_meanings.proofs.Nothing.{parts}
 pub dimension_is : (x : Context) (n : Number) (d : ℕ) → faults_of x (Command.Dimension n) ≡ [] → d ≡ min (written_value x.text n) 4294967295 → d ≡ written_value x.text n
 dimension_is x n d h is = grind (arith, common_steps)
 
--- the default topology has the nodes that it is asked for
+-- the default topology has as many nodes as it should
 pub default_sound : (d n : ℕ) (g : Grid) → IsGrid g → g ≡ default_grid d n → IsGridOf n (default_grid d n)
 default_sound d n g sound is = record { grid = subst IsGrid is sound; nodes = grind (arith, parts) }
 
@@ -43,7 +43,7 @@ restriction_is x node symbols some h =
 
 -- ---- weights and limits
 
--- no weight without a fault is cut
+-- a weight without a fault is not cut off
 pub uncut : (x : Context) (ns : List Number) → flat_map (weight_faults x) ns ≡ [] → map (λ n. min (written_value x.text n) 4294967295) ns ≡ map (written_value x.text) ns
 uncut x [] none = refl
 uncut x (n ∷ ns) none = grind (arith, parts, uncut x ns)

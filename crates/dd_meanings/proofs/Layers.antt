@@ -1,4 +1,4 @@
--- The meaning of a formula and how deep it is, from those of its parts.
+-- The meaning and the depth of a formula, from those of its parts.
 use Rattle.std.proofs.Common.{◌≡◌, ℕ, ◌+◌, ◌≤◌, ◌<◌, List, [], ◌∷◌, ◌++◌, map, drop, length, slice_index_or, sym, ap, ◌∙◌, arith}
 use Rattle.std.proofs.lemmas.Simd.{map-map}
 use Rattle.dd_meanings.specs.Tree.{Word, Ball, Quantifier, Join, Formula as Written, Formula-F as Written-F, fold-roll-Formula, Context}
@@ -21,14 +21,14 @@ implied_last [] f g = meant.rolls-Implies f g
 implied_last (h ∷ []) f g = ap (λ (whole : Formula). roll-Formula (Formula-F.Implies h whole)) (meant.rolls-Implies f g)
 implied_last (h ∷ k ∷ fs) f g = ap (λ (whole : Formula). roll-Formula (Formula-F.Implies h whole)) (implied_last (k ∷ fs) f g)
 
--- how deep a formula is, from how deep its parts are
+-- the depth of a formula, from the depths of its parts
 pub depth_chain : (j : Join) (fs : List Written) → tree_depth (v.Chain j fs) ≡ chain_depth j (length (map tree_depth fs)) 0 (map tree_depth fs)
 depth_chain j fs = ap tree_depth (sym (v.rolls-Chain j fs)) ∙ fold-roll-Formula ℕ tree_depth_step (Written-F.Chain j fs)
 
 pub depth_quantified : (q : Quantifier) (w : Word) (balls : List Ball) (f : Written) → tree_depth (v.Quantified q w balls f) ≡ 1 + tree_depth f
 depth_quantified q w balls f = ap tree_depth (sym (v.rolls-Quantified q w balls f)) ∙ fold-roll-Formula ℕ tree_depth_step (Written-F.Quantified q w balls f)
 
--- the parts of a chain from one on: it is no deeper than they are allowed to be, and neither are those behind it
+-- the parts of a chain from one on: the first is within its allowed depth, and so are those after it
 pub depth_from : (j : Join) (n i k : ℕ) (fs : List Written) (f : Written) → i < length fs → f ≡ slice_index_or fs i f → k + chain_depth j n i (map tree_depth (drop i fs)) ≤ 64
     → (k + tree_depth f ≤ 64) × (k + chain_depth j n (i + 1) (map tree_depth (drop (i + 1) fs)) ≤ 64)
 depth_from j n i k fs f lt at le = grind (arith, parts)

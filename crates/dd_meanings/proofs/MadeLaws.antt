@@ -1,16 +1,13 @@
--- The rules in an automaton were made with the script's topology and alphabets, as those in its parts were.
+-- The rules in an automaton have the script's topology and alphabets, as those in its parts do.
 use Rattle.std.proofs.Common.{◌≡◌, ℕ, List, ◌++◌, map, refl, ap, sym, ◌∙◌}
-use Rattle.std.specs.List.{All}
 use Rattle.std.proofs.lemmas.List.Elements.{All-map, All-append}
+use Rattle.std.specs.List.{All}
 use Rattle.dd_expansion.specs.declared.formulas.Formula.{Formula as Meant}
-use Rattle.dd_formula.specs.LocalRule.{LocalRule}
-use Rattle.dd_formula.specs.ByCases.{by_cases, case_over, IsCaseOver}
-use Rattle.dd_formula.specs.declared.automaton.Automaton.{Automaton}
-use Rattle.dd_formula.specs.declared.automaton.Cases.{Cases}
-use Rattle.dd_formula.specs.declared.automaton.Automaton.TheVariants as automaton
-use Rattle.dd_formula.specs.declared.automaton.Automaton.TheFolds.{fold-roll-Automaton}
-use Rattle.dd_formula.specs.declared.automaton.Automaton.TheOpen.{Automaton-F}
+use Rattle.dd_formula.specs.{LocalRule.LocalRule, ByCases.by_cases, ByCases.case_over, ByCases.IsCaseOver}
+use Rattle.dd_formula.specs.declared.automaton.{Automaton.Automaton, Cases.Cases}
+use Rattle.dd_formula.specs.declared.automaton.Automaton.{TheFolds.fold-roll-Automaton, TheOpen.Automaton-F}
 use Rattle.dd_meanings.specs.{Tree.Setting, Made.rules_step, Made.rules_in, Made.IsMadeOver}
+use Rattle.dd_formula.specs.declared.automaton.Automaton.TheVariants as automaton
 
 rules_given : (c : Cases) → rules_in (automaton.Given c) ≡ map (λ case. case.0) c.cases
 rules_given c = ap rules_in (sym (automaton.rolls-Given c)) ∙ fold-roll-Automaton (List LocalRule) rules_step (Automaton-F.Given c)

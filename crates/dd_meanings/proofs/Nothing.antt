@@ -1,13 +1,13 @@
--- Where there is no fault, there is none in a part.
+-- If there is no fault, no part has one.
 use Rattle.std.proofs.Common.{◌≡◌, ℕ, ◌+◌, ◌<◌, List, [], length, drop, slice_index_or, arith}
 use Rattle.std.specs.List.{flat_map}
 use Rattle.std.proofs.lemmas.{Bool.Decides.nat_tests, List.length-map}
 use Rattle.dd_faults.specs.lemmas.Nothing.{all_where, parts as apart}
 
--- what `grind` needs to take a list without faults apart
+-- what `grind` needs for taking apart a list without faults
 pub ruleset parts = (apart, nat_tests, length-map)
 
--- where the elements from one on have none, it has none, and neither have those behind it
+-- if the elements from i on have no fault, neither has element i nor those after it
 pub none_from : {X Y : Type 0} (f : X → List Y) (xs : List X) (i : ℕ) (x : X) → i < length xs → x ≡ slice_index_or xs i x → flat_map f (drop i xs) ≡ [] → (f x ≡ []) × (flat_map f (drop (i + 1) xs) ≡ [])
 none_from f xs i x lt at none = grind (arith, parts)
 

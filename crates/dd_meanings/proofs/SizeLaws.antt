@@ -1,15 +1,13 @@
--- The first limit that rules and automata pass.
+-- The first limit that rules and automata exceed.
 use Rattle.std.proofs.Common.{◌≡◌, ◌≤◌, ◌<◌, ℕ, zero, suc, ◌+◌, Bool, true, [], refl, arith, nat_le}
-use Rattle.std.specs.List.{list_all, range_with_len}
 use Rattle.std.proofs.lemmas.{Bool.le-leb, Grind.common_steps}
+use Rattle.std.specs.List.{list_all, range_with_len}
 use Rattle.dd_expansion.specs.Leaves.{instances}
 use Rattle.dd_formula.specs.LocalRule.{LocalRule, most_instances, expansion_at, reads_at, is_near, IsSmall, IsRule}
-use Rattle.dd_formula.specs.{Refusals.IsRuleRefusal, Compositions.IsCompositionFault, declared.automaton.Automaton.Automaton}
-use Rattle.dd_formula.specs.Automata.{CommonNumbers, Counted, IsAutomaton, counted, is_few}
-use Rattle.dd_formula.specs.declared.fault.RuleFault.{RuleFault}
-use Rattle.dd_formula.specs.lemmas.{AutomatonLaws.within_is, CasesLaws.refused, CasesLaws.passes_one}
+use Rattle.dd_formula.specs.{Refusals.IsRuleRefusal, Compositions.IsCompositionFault, Automata.Counted, Automata.is_few}
+use Rattle.dd_formula.specs.{declared.fault.RuleFault.RuleFault, lemmas.CasesLaws.refused, lemmas.CasesLaws.passes_one}
 use Rattle.dd_faults.specs.Order.{first_fault, Refuses}
-use Rattle.dd_meanings.specs.{Definitions.rule_counts, Definitions.count_faults, Definitions.rule_faults, Definitions.refusal_of}
+use Rattle.dd_meanings.specs.Definitions.{rule_counts, count_faults, rule_faults, refusal_of}
 
 -- why a composition is refused
 pub fault_refuses : (n : ℕ) (f : Counted) (e : RuleFault) → IsCompositionFault n f e → Refuses (refusal_of e) (first_fault (count_faults n f))
@@ -17,9 +15,6 @@ fault_refuses n f RuleFault.Instances h = grind (arith, common_steps)
 fault_refuses n f RuleFault.Reach h = grind (arith, common_steps)
 fault_refuses n f RuleFault.Depth h = grind (arith, common_steps)
 fault_refuses n f RuleFault.Memory h = tt
-
-pub formed_passes : (s : CommonNumbers) (f : Automaton) → IsAutomaton s f → count_faults s.nodes (counted f) ≡ []
-formed_passes s f h = let passes = within_is s.nodes f h.within in grind (arith, common_steps)
 
 -- ---- rules
 

@@ -1,13 +1,12 @@
--- What a command has that is written.
+-- What holds of a written command.
 use Rattle.std.proofs.Common.{◌≡◌, ℕ, ◌≤◌, List, [], ◌∷◌, subst}
-use Rattle.std.specs.List.{All}
 use Rattle.std.proofs.lemmas.List.Elements.{All-nil, All-cons}
+use Rattle.std.specs.List.{All}
 use Rattle.dd_meanings.specs.Tree.{Lexeme, Case, Command, Written}
-use Rattle.dd_written.specs.Formulas.{tree_depth}
-use Rattle.dd_written.specs.reading.Readers.{ReadsAll}
+use Rattle.dd_written.specs.{Formulas.tree_depth, reading.Readers.ReadsAll}
 use Rattle.dd_commands.specs.{Commands.IsCase, Commands.IsBody, Scripts.IsWritten}
 
--- its parts, as they are written
+-- what holds of its parts
 pub body : (bytes : List ℕ) (w : Written) (c : Command) → w.command ≡ c → IsWritten bytes w → (tokens : List Lexeme) × IsBody bytes c tokens
 body bytes w c is h = (h.is.0, subst (λ (d : Command). IsBody bytes d h.is.0) is h.is.2)
 

@@ -1,4 +1,4 @@
--- What commands define, and the limits on its counts.
+-- What commands define, and the limits on its size.
 use Rattle.std.specs.Prelude.{ℕ, List, [], ◌∷◌, ◌++◌, map, not, Option, unwrap_or}
 use Rattle.std.specs.List.{slice_get}
 use Rattle.dd_pattern.specs.{Periods.periods_of as with_shear, Tile.Tile, Tile.tile}
@@ -14,7 +14,7 @@ use Rattle.dd_meanings.specs.Formulas.{formula_of}
 
 -- ---- what is defined
 
--- the rule of a formula over the script's topology and the symbols that its nodes allow
+-- the rule of a formula, over the script's topology and the symbols that its nodes allow
 abbrev pub rule_of : Context → Formula → LocalRule
 rule_of x f = local_rule x.known.setting.topology x.known.setting.sets (formula_of x f [])
 
@@ -27,30 +27,30 @@ case_of x c = (formula_of x c.condition [], symbol_of x c.symbol)
 abbrev pub automaton_of : Context → List Case → Name → Automaton
 automaton_of x cases symbol = by_cases x.known.setting.topology x.known.setting.sets (map (case_of x) cases) (symbol_of x symbol)
 
--- the automaton with a name; where there is none, one without cases
+-- the automaton with this name; one without cases if there is none
 abbrev pub automaton_named : Context → List Automaton → Word → Automaton
 automaton_named x automata w = unwrap_or (slice_get automata (number_in x.text x.known.automata (Name.Word w))) (automaton.Given (record { cases = []; otherwise = 0 }))
 
--- the second automaton, and then the first
+-- applies the second automaton, then the first
 abbrev pub composition_of : Context → List Automaton → Word → Word → Automaton
 composition_of x automata outer inner = automaton.Composed (automaton_named x automata outer) (automaton_named x automata inner)
 
--- the periods of a configuration, and 1 along the axes that the script does not have
+-- the periods of a configuration; 1 along a missing axis
 abbrev pub configuration_periods : List ℕ → Vector → List ℕ
 configuration_periods bytes v = period_at bytes v 0 ∷ period_at bytes v 1 ∷ period_at bytes v 2 ∷ []
 
--- the symbols stand in cell order; without a second list the shear is 0
+-- the symbols are in cell order; if no shear is given, it is 0
 abbrev pub tile_of : Context → Vector → Option Vector → List Name → Tile
 tile_of x periods shear symbols =
     tile (dimension_of x.known) (with_shear (configuration_periods x.text periods) (shear_of x.text shear)) x.known.setting.topology.nodes (map (symbol_of x) symbols)
 
--- ---- its counts
+-- ---- its size
 
--- what is counted of a rule
+-- the counts of a rule
 abbrev pub rule_counts : LocalRule → Counted
 rule_counts r = record { reads = reads_at r; instances = λ a. instances (expansion_at r a); depth = 0 }
 
--- instances before reach, and reach before depth
+-- instances first, then reach, then depth
 abbrev pub count_faults : ℕ → Counted → List Fault
 count_faults nodes f = over (not (is_few nodes f)) Limit.Instances ++ (over (not (is_short nodes f)) Limit.Reach ++ over (not (is_shallow f)) Limit.Depth)
 
@@ -60,7 +60,7 @@ rule_faults r = count_faults r.nodes (rule_counts r)
 abbrev pub automaton_faults : Context → Automaton → List Fault
 automaton_faults x f = count_faults x.known.setting.topology.nodes (counted f)
 
--- the refusal of a command for which no rule or automaton was made
+-- why a command is refused if its rule or automaton could not be made
 abbrev pub refusal_of : RuleFault → Refusal
 refusal_of RuleFault.Reach = Refusal.At (Fault.Size Limit.Reach)
 refusal_of RuleFault.Instances = Refusal.At (Fault.Size Limit.Instances)

@@ -1,4 +1,4 @@
--- Formulas with numbers in place of names.
+-- Formulas, with indices in place of names.
 use Rattle.std.specs.Prelude.{ℕ, List, [], ◌∷◌, ◌++◌, map, unwrap_or, if◌then◌else◌}
 use Rattle.dd_meanings.specs.Tree.{Word, Name, Term as WrittenTerm, Comparand, Relation, Atom, Ball, Quantifier, Join, Formula as Written, Formula-F as Written-F, fold-Formula, Context}
 use Rattle.dd_written.specs.Values.{written_value}
@@ -18,7 +18,7 @@ label_of x w = number_in x.text x.known.setting.topology.labels (Name.Word w)
 abbrev pub term_of : Context → List Word → WrittenTerm → Term
 term_of x scope t = record { variable = variable_number x.text scope t.first; moves = map (label_of x) t.moves }
 
--- what stands on the right of `=` and `!=`: a symbol, or a term
+-- the right side of `=` and `!=`: a symbol or a term
 abbrev pub side_of : Context → List Word → Comparand → Operand
 side_of x scope (Comparand.Number n) = Operand.Symbol (number_in x.text x.known.setting.symbols (Name.Number n))
 side_of x scope (Comparand.Term u) = if names_symbol x.text scope u then Operand.Symbol (number_in x.text x.known.setting.symbols (Name.Word u.first)) else Operand.Term (term_of x scope u)
@@ -31,7 +31,7 @@ abbrev pub not_equal_of : Term → Operand → Formula
 not_equal_of t (Operand.Symbol n) = roll-Formula (Formula-F.NotSymbol t n)
 not_equal_of t (Operand.Term u) = roll-Formula (Formula-F.NotSame t u)
 
--- what is said of a term
+-- what an atom says of its term
 abbrev pub said_of : Context → List Word → Term → Relation → Formula
 said_of x scope t (Relation.Equal r) = equal_of t (side_of x scope r)
 said_of x scope t (Relation.NotEqual r) = not_equal_of t (side_of x scope r)
@@ -51,7 +51,7 @@ implied_of [] = roll-Formula (Formula-F.And [])
 implied_of (f ∷ []) = f
 implied_of (f ∷ g ∷ gs) = roll-Formula (Formula-F.Implies f (implied_of (g ∷ gs)))
 
--- `<->` groups to the left: what stands on the left of some parts, and these
+-- `<->` groups to the left: joins a left side with more parts
 abbrev pub iff_behind : Formula → List Formula → Formula
 iff_behind f [] = f
 iff_behind f (g ∷ gs) = iff_behind (roll-Formula (Formula-F.Iff f g)) gs
@@ -70,7 +70,7 @@ abbrev pub quantified_of : Quantifier → List BallOf → Formula → Formula
 quantified_of Quantifier.All balls f = roll-Formula (Formula-F.ForAll balls f)
 quantified_of Quantifier.Exists balls f = roll-Formula (Formula-F.Exists balls f)
 
--- in a scope; a quantifier's variable is in scope in its body, and not in its balls; parentheses leave nothing behind
+-- In a scope. The variable of a quantifier is in scope in its body, but not in its balls; parentheses disappear.
 abbrev pub formula_step : Context → Written-F (List Word → Formula) → List Word → Formula
 formula_step x (Written-F.Atom a) scope = atom_of x scope a
 formula_step x (Written-F.Not f) scope = roll-Formula (Formula-F.Not (f scope))
@@ -78,6 +78,6 @@ formula_step x (Written-F.Quantified q w balls f) scope = quantified_of q (map (
 formula_step x (Written-F.Group f) scope = f scope
 formula_step x (Written-F.Chain j fs) scope = joined_of j (map (λ f. f scope) fs)
 
--- the formula that is meant, in a scope
+-- what a written formula means in a scope
 abbrev pub formula_of : Context → Written → List Word → Formula
 formula_of x = fold-Formula (List Word → Formula) (formula_step x)

@@ -1,14 +1,16 @@
--- the types of what is written, of its faults and of what is known
+-- the types of syntax trees, of their faults and of what is known
 pub mod Tree
--- what each command means, and the limits of it
+-- what each command means, and the limits on its size
 pub mod Meanings
--- the rules and automata of a script, made
+-- the rules and automata of a script
 pub mod Made
--- what each meaning keeps
+-- what holds of each meaning
 pub mod Sound
--- what is defined, and its counts
+-- what commands define, and the limits on its size
 pub mod Definitions
--- formulas with numbers in place of names
+-- formulas, with indices in place of names
 pub mod Formulas
 -- topologies
 pub mod Topologies
+-- lemmas on these definitions, with their proofs
+pub mod lemmas

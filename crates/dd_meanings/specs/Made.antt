@@ -1,19 +1,16 @@
 -- The rules and automata of a script.
-use Rattle.std.specs.Prelude.{ℕ, ◌≡◌, List, ◌++◌, length, map}
-use Rattle.std.specs.List.{All}
+use Rattle.std.specs.{Prelude.ℕ, Prelude.◌≡◌, Prelude.List, Prelude.◌++◌, Prelude.length, Prelude.map, List.All}
 use Rattle.dd_expansion.specs.Limits.{IsFormula}
 use Rattle.dd_formula.specs.LocalRule.{LocalRule, local_rule, IsRule}
-use Rattle.dd_formula.specs.Automata.{CommonNumbers as Numbers, IsAutomaton}
-use Rattle.dd_formula.specs.declared.automaton.Automaton.{Automaton}
-use Rattle.dd_formula.specs.declared.automaton.Automaton.TheFolds.{fold-Automaton}
-use Rattle.dd_formula.specs.declared.automaton.Automaton.TheOpen.{Automaton-F}
+use Rattle.dd_formula.specs.{Automata.CommonNumbers as Numbers, Automata.IsAutomaton, declared.automaton.Automaton.Automaton}
+use Rattle.dd_formula.specs.declared.automaton.Automaton.{TheFolds.fold-Automaton, TheOpen.Automaton-F}
 use Rattle.dd_meanings.specs.Tree.{Setting}
 
--- the numbers that the rules, automata and configurations of a script have in common
+-- the dimension, nodes and symbols that a script's rules, automata and configurations share
 abbrev pub script_numbers : Setting → Numbers
 script_numbers s = record { dimension = s.topology.dimension; nodes = s.topology.nodes; symbols = length s.symbols }
 
--- a rule over the script's topology and alphabet, whose nodes allow the symbols that the script's nodes do, made of a formula over them
+-- a rule of a formula over the script's topology and alphabet, whose nodes allow the same symbols as the script's
 pub record IsRuleOf (s : Setting) (r : LocalRule) : Type 0 where
   pub rule : IsRule r
   pub dimension : r.dimension ≡ s.topology.dimension
@@ -31,17 +28,17 @@ rules_step (Automaton-F.Composed f g) = f ++ g
 abbrev pub rules_in : Automaton → List LocalRule
 rules_in = fold-Automaton (List LocalRule) rules_step
 
--- the rule that its formula has over the script's topology and the symbols that its nodes allow
+-- the rule is made from its formula, over the script's topology and the symbols that its nodes allow
 pub record IsMadeOver (s : Setting) (r : LocalRule) : Type 0 where
   pub same : r ≡ local_rule s.topology s.sets r.formula
   pub formula : IsFormula s.topology s.sets.symbols r.formula
 
--- a well-formed automaton with the script's numbers, and each rule in it was made with the script's topology and alphabets
+-- a well-formed automaton over the script's numbers; each rule in it is made over the script's topology and alphabets
 pub record IsAutomatonOf (s : Setting) (f : Automaton) : Type 0 where
   pub automaton : IsAutomaton (script_numbers s) f
   pub rules : All (IsMadeOver s) (rules_in f)
 
--- there is one for each name, and each is so
+-- there is one item for each name, and each item satisfies P
 pub record AreNamed {X : Type 0} (P : X → Type 0) (names : List (List ℕ)) (xs : List X) : Type 0 where
   pub named : length xs ≡ length names
   pub each : All P xs

@@ -11,11 +11,11 @@ use Rattle.dd_query.specs.Vectors.{place_of}
 abbrev pub plain_kind : ℕ → Kind
 plain_kind d = if d == 1 then Kind.Line else (if d == 3 then Kind.Cube else Kind.Square)
 
--- After a dimension, and after names of nodes: with one node the grid of the dimension, and with more a topology without edges.
+-- The topology after a `dim` or `nodes` command: for one node the grid of the dimension, for more nodes one without edges.
 abbrev pub default_grid : ℕ → ℕ → Grid
 default_grid d nodes = if nodes == 1 then grid_of (plain_kind d) else grid d nodes [] []
 
--- the names of the nodes of a kind, where none are given
+-- the names of the nodes of a kind, if the script names none
 abbrev pub kind_names : Kind → List (List ℕ)
 kind_names Kind.Line = codes "0" ∷ []
 kind_names Kind.Square = codes "0" ∷ []
@@ -26,7 +26,7 @@ kind_names Kind.Cube = codes "0" ∷ []
 
 -- ---- edges
 
--- the names, each once, in the order in which they are first seen
+-- the names, each once, in order of first occurrence
 abbrev pub first_seen_names : List (List ℕ) → List (List ℕ) → List (List ℕ)
 first_seen_names seen [] = seen
 first_seen_names seen (n ∷ ns) = first_seen_names (if list_any (bytes_eq n) seen then seen else seen ++ n ∷ []) ns
@@ -46,6 +46,6 @@ edge_of bytes labels nodes e =
       to = number_in bytes nodes e.to;
     }
 
--- labels are numbered in the order in which they are first seen
+-- labels are numbered in order of first occurrence
 abbrev pub grid_by : List ℕ → ℕ → List (List ℕ) → List Written → Grid
 grid_by bytes d nodes es = grid d (length nodes) (labels_of bytes es) (map (edge_of bytes (labels_of bytes es) nodes) es)

@@ -1,4 +1,4 @@
-//! Terms, atoms and balls with numbers in place of names.
+//! Terms, atoms and balls, with indices in place of names.
 ghost use Rattle.std.specs.Prelude.{◌≡◌, ◌≤◌, [], length, map, IfOk};
 ghost use Rattle.std.specs.List.{flat_map};
 ghost use Rattle.dd_faults.specs.{Names.number_in, Formulas.names_symbol, Formulas.ball_faults};
@@ -14,7 +14,7 @@ use dd_written::{
 };
 use std::alloc::Global;
 
-/// The number of a variable, and 0 where the word is none.
+/// The number of a variable; 0 if the word is none.
 fn variable(text: &Text, scope: &[Word], word: Word) -> u32
     requires { length scope.now ≤ 64 }
     ensures { result ≡ variable_number text.now scope.now word }
@@ -61,7 +61,7 @@ fn symbol(context: &Context, name: Name) -> u32
     number_in(&context.text, &context.known.setting.symbols, name)
 }
 
-/// What stands on the right of `=` and `!=`.
+/// The right side of `=` and `!=`.
 #[derive(Debug, Drop)]
 pub(crate) enum Operand {
     Symbol(u32),
@@ -83,7 +83,7 @@ fn side(alloc: Global, context: &Context, scope: &[Word], side: &Comparand) -> M
     }
 }
 
-/// A term has the symbol, or that of the term, on the right.
+/// The formula that a term has the symbol on the right, or that of the term on the right.
 fn equal(term: Term, side: Operand) -> Formula
     ensures { result ≡ equal_of term side }
 {
@@ -93,7 +93,7 @@ fn equal(term: Term, side: Operand) -> Formula
     }
 }
 
-/// A term has another symbol than what stands on the right.
+/// The formula that a term has a symbol other than the right side.
 fn not_equal(term: Term, side: Operand) -> Formula
     ensures { result ≡ not_equal_of term side }
 {

@@ -20,7 +20,7 @@ use dd_values::Items;
 use dd_written::{Formula, Name, Word};
 use std::alloc::Global;
 
-/// The refusal of a command for which no rule or automaton was made.
+/// Why a command is refused if its rule or automaton could not be made.
 pub fn refusal_of(fault: RuleFault) -> Refusal
     ensures { result ≡ refusal_of fault }
 {
@@ -32,7 +32,7 @@ pub fn refusal_of(fault: RuleFault) -> Refusal
     }
 }
 
-/// The rule of a formula over the script's topology and the symbols that its nodes allow.
+/// The rule of a formula, over the script's topology and the symbols that its nodes allow.
 pub(crate) fn rule(alloc: Global, context: &Context, name: Word, formula: &Formula) -> Resolved
     requires sound { IsSound context.now.known }
     requires shallow { tree_depth formula.now ≤ 64 }
@@ -47,7 +47,7 @@ pub(crate) fn rule(alloc: Global, context: &Context, name: Word, formula: &Formu
     }
 }
 
-/// Cases without faults, with their formulas and symbols by numbers.
+/// Cases without faults, with their formulas and the indices of their symbols.
 fn cases_of(alloc: Global, context: &Context, cases: &[Case]) -> Made<Items<(Meant, u32)>>
     requires shallow { All (λ c. tree_depth c.condition ≤ 64) cases.now }
     requires faultless { flat_map (case_faults context.now) cases.now ≡ [] }
@@ -62,7 +62,7 @@ fn cases_of(alloc: Global, context: &Context, cases: &[Case]) -> Made<Items<(Mea
     Ok(made)
 }
 
-/// The automaton by these cases, and by a symbol where none of them is true.
+/// The automaton with these cases, and with a symbol for cells at which no case is true.
 pub(crate) fn automaton(
     alloc: Global,
     context: &Context,
@@ -95,7 +95,7 @@ fn named(alloc: Global, context: &Context, automata: &[Automaton], word: Word) -
     automata[number as usize].copy(alloc)
 }
 
-/// The composition of two automata by their names.
+/// The composition of two automata, given by their names.
 pub(crate) fn composition(
     alloc: Global,
     context: &Context,

@@ -1,4 +1,4 @@
-//! Formulas with numbers in place of names.
+//! Formulas, with indices in place of names.
 ghost use Rattle.std.specs.Prelude.{◌≡◌, ◌+◌, ◌≤◌, [], length, IfOk};
 ghost use Rattle.dd_written.specs.Formulas.{tree_depth};
 ghost use Rattle.dd_faults.specs.Formulas.{formula_faults};
@@ -13,7 +13,7 @@ use dd_values::{Boxed, Items};
 use dd_written::{Formula as Written, Join, Quantifier, Word};
 use std::alloc::Global;
 
-/// `->` groups to the right: from the last part back.
+/// `->` groups to the right: joins from the last part backwards.
 #[tactic(auto, using(crate::proofs::Layers::implied_last))]
 fn implied(alloc: Global, parts: Items<Formula>) -> Made<Formula>
     ensures { IfOk result (λ f. f ≡ implied_of parts) }
@@ -30,7 +30,7 @@ fn implied(alloc: Global, parts: Items<Formula>) -> Made<Formula>
     Ok(whole)
 }
 
-/// `<->` groups to the left: from the first part on.
+/// `<->` groups to the left: joins from the first part onwards.
 fn equivalent(alloc: Global, parts: Items<Formula>) -> Made<Formula>
     ensures { IfOk result (λ f. f ≡ iff_of parts) }
 {
@@ -68,7 +68,7 @@ fn quantified(quantifier: Quantifier, balls: Items<BallOf>, body: Boxed<Formula>
     }
 }
 
-/// The formula that a written one without faults means in a scope.
+/// What a written formula without faults means in a scope.
 pub(crate) fn formula_in(
     alloc: Global,
     context: &Context,

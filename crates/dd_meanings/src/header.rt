@@ -23,7 +23,7 @@ pub(crate) fn dimension(alloc: Global, context: &Context, number: Number) -> Res
     let dimension = number_value(&context.text, number);
     let nodes = context.known.setting.nodes.count();
     let topology = default_topology(alloc, dimension, nodes)?;
-    // Read for what its type keeps.
+    // This read brings in what the type guarantees.
     let _dimension = topology.dim();
     Ok(Meaning::Topology(topology))
 }
@@ -37,7 +37,7 @@ pub(crate) fn nodes(alloc: Global, context: &Context, names: &[Name]) -> Resolve
     let nodes = names_of(alloc, &context.text, names)?;
     let dimension = context.known.setting.topology.dim();
     let topology = default_topology(alloc, dimension, nodes.count())?;
-    // Read for what its type keeps.
+    // This read brings in what the type guarantees.
     let _dimension = topology.dim();
     Ok(Meaning::Nodes {
         nodes,
@@ -52,7 +52,7 @@ pub(crate) fn alphabet(alloc: Global, context: &Context, names: &[Name]) -> Reso
     ensures { Means result context.now [] (command.Alphabet names.now) }
 {
     let symbols = names_of(alloc, &context.text, names)?;
-    // Read for what its type keeps.
+    // This read brings in what the type guarantees.
     let _count = symbols.count();
     Ok(Meaning::Symbols(symbols))
 }
@@ -62,13 +62,13 @@ pub(crate) fn kind(alloc: Global, context: &Context, kind: Kind) -> Resolved
     ensures { Means result context.now [] (command.Topology kind) }
 {
     let topology = Topology::builtin(alloc, kind)?;
-    // Read for what its type keeps.
+    // This read brings in what the type guarantees.
     let _dimension = topology.dim();
     if context.known.nodes_are_given {
         return Ok(Meaning::Topology(topology));
     }
     let nodes = kind_names(alloc, kind)?;
-    // Read for what its type keeps.
+    // This read brings in what the type guarantees.
     let _count = nodes.count();
     Ok(Meaning::Nodes {
         nodes,
@@ -77,7 +77,7 @@ pub(crate) fn kind(alloc: Global, context: &Context, kind: Kind) -> Resolved
     })
 }
 
-/// The numbers of symbols.
+/// The indices of symbols.
 pub(crate) fn symbols_of(alloc: Global, context: &Context, names: &[Name]) -> Made<Items<u32>>
     ensures { IfOk result (λ symbols. symbols ≡ map (symbol_of context.now) names.now) }
 {

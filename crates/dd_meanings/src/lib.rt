@@ -1,5 +1,5 @@
-//! What commands without faults mean: topologies, names, sets, weights and limits of the header; rules, automata and configurations;
-//! and queries. What is too large by its counts alone is refused here.
+//! What commands without faults mean: the topologies, names, sets, weights and limits of the header; rules, automata and
+//! configurations; and queries. Rules and automata that are too large by their counts are refused here.
 #![tactic(auto, using(crate::proofs::Nothing::parts))]
 
 mod atoms;

@@ -11,7 +11,7 @@ use std::alloc::AllocError;
 /// What a command means.
 #[derive(Drop)]
 pub enum Meaning {
-    /// A topology of the nodes that there are.
+    /// A topology of the current nodes.
     Topology(Topology),
     /// Nodes with their topology, and whether a command named them.
     Nodes {
@@ -52,5 +52,5 @@ pub enum Meaning {
 /// What a command means, or why it is refused.
 pub(crate) type Resolved = Result<Meaning, Refusal>;
 
-/// A part of what a command means, or want of memory.
+/// A part of what a command means, unless memory ran out.
 pub(crate) type Made<T> = Result<T, AllocError>;

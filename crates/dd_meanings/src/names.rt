@@ -8,7 +8,7 @@ use dd_topology::{NameFault, Names};
 use dd_written::{Name, Text, name_text};
 use std::alloc::{AllocError, Global};
 
-/// Adds a name that is not there yet.
+/// Adds a name that is not in the list.
 #[tactic(auto, using(dd_faults::specs::lemmas::Repeats::not_among))]
 pub fn add_new(alloc: Global, names: &mut Names, text: &str) -> Result<(), AllocError>
     requires few { length names.old < 2 ^ 32 - 1 }
@@ -18,7 +18,7 @@ pub fn add_new(alloc: Global, names: &mut Names, text: &str) -> Result<(), Alloc
     add_once(alloc, names, text)
 }
 
-/// Adds a name, unless it is there already.
+/// Adds a name, unless it is in the list.
 pub(crate) fn add_once(alloc: Global, names: &mut Names, text: &str) -> Result<(), AllocError>
     requires { length names.old < 2 ^ 32 - 1 }
     ensures { OnOk result (names.new ≡ (if list_any (bytes_eq text.now) names.old then names.old else names.old ++ text.now ∷ [])) }
@@ -30,7 +30,7 @@ pub(crate) fn add_once(alloc: Global, names: &mut Names, text: &str) -> Result<(
     }
 }
 
-/// The name 0.
+/// The list with the name 0.
 pub fn zero(alloc: Global) -> Result<Names, AllocError>
     ensures { IfOk result (λ names. names ≡ codes "0" ∷ []) }
 {
@@ -39,7 +39,7 @@ pub fn zero(alloc: Global) -> Result<Names, AllocError>
     Ok(names)
 }
 
-/// The names 0 and 1.
+/// The list with the names 0 and 1.
 pub fn zero_and_one(alloc: Global) -> Result<Names, AllocError>
     ensures { IfOk result (λ names. names ≡ codes "0" ∷ codes "1" ∷ []) }
 {
@@ -48,7 +48,7 @@ pub fn zero_and_one(alloc: Global) -> Result<Names, AllocError>
     Ok(names)
 }
 
-/// The texts of names of which none is given twice.
+/// The texts of these names, which do not repeat.
 pub(crate) fn names_of(alloc: Global, text: &Text, written: &[Name]) -> Result<Names, AllocError>
     requires few { length written.now ≤ 16 }
     requires distinct { twice_named text.now written.now ≡ [] }

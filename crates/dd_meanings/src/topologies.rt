@@ -1,4 +1,4 @@
-//! The topologies of scripts: the grids of a dimension, the built-in ones, and those by edges.
+//! The topologies of scripts: the grid of a dimension, the built-in ones, and those given by edges.
 ghost use Rattle.std.specs.Prelude.{◌≡◌, ◌≤◌, [], length, map, IfOk};
 ghost use Rattle.std.specs.List.{flat_map};
 ghost use Rattle.dd_topology.specs.Grid.{grid};
@@ -29,7 +29,7 @@ fn plain_kind(dimension: u32) -> Kind
     }
 }
 
-/// The topology where none is given: with one node the grid of the dimension, and with more one without edges.
+/// The topology if none is given: for one node the grid of the dimension, for more nodes one without edges.
 pub(crate) fn default_topology(alloc: Global, dimension: u32, nodes: u32) -> Made<Topology>
     requires dimension { (1 ≤ dimension) × (dimension ≤ 3) }
     requires nodes { 1 ≤ nodes }
@@ -45,7 +45,7 @@ pub(crate) fn default_topology(alloc: Global, dimension: u32, nodes: u32) -> Mad
     }
 }
 
-/// The names of the nodes of a kind, where a script gives none.
+/// The names of the nodes of a kind, if the script names none.
 pub(crate) fn kind_names(alloc: Global, kind: Kind) -> Made<Names>
     ensures { IfOk result (λ names. names ≡ kind_names kind) }
 {
@@ -55,7 +55,7 @@ pub(crate) fn kind_names(alloc: Global, kind: Kind) -> Made<Names>
     }
 }
 
-/// The labels of edges, each once, in the order in which they are first seen.
+/// The labels of edges, each once, in order of first occurrence.
 fn labels_of(alloc: Global, text: &Text, edges: &[Written]) -> Made<Names>
     requires { length edges.now ≤ 64 }
     ensures { IfOk result (λ labels. labels ≡ labels_of text.now edges.now) }
@@ -67,7 +67,7 @@ fn labels_of(alloc: Global, text: &Text, edges: &[Written]) -> Made<Names>
     Ok(labels)
 }
 
-/// An edge with numbers in place of names.
+/// An edge, with indices in place of names.
 fn edge_of(text: &Text, labels: &Names, nodes: &Names, written: &Written) -> Edge
     requires { IsClose text.now written.now.offset }
     ensures { result ≡ edge_of text.now labels.now nodes.now written.now }
@@ -98,7 +98,7 @@ fn edges_of(
     Ok(edges)
 }
 
-/// The topology by edges. Its labels are numbered in the order in which they are first seen.
+/// The topology given by edges. Its labels are numbered in order of first occurrence.
 pub(crate) fn edges(alloc: Global, context: &Context, edges: &[Written]) -> Resolved
     requires sound { IsSound context.now.known }
     requires faultless { faults_of context.now (command.Edges edges.now) ≡ [] }
@@ -110,7 +110,7 @@ pub(crate) fn edges(alloc: Global, context: &Context, edges: &[Written]) -> Reso
     let dimension = setting.topology.dim();
     match Topology::from_edges(alloc, dimension, setting.nodes.count(), labels, edges) {
         Ok(topology) => {
-            // Read for what its type keeps.
+            // This read brings in what the type guarantees.
             let _dimension = topology.dim();
             Ok(Meaning::Topology(topology))
         }

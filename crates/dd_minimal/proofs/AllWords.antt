@@ -1,25 +1,20 @@
 -- The words of n symbols: which they are, that they ascend, and those that break a rule.
-use Rattle.std.proofs.Common.{◌≡◌, ◌<◌, ◌≤◌, ◌+◌, ℕ, zero, suc, Bool, true, false, cond, List, [], ◌∷◌, length, map, get_or, refl, sym, ◌∙◌, ap, subst, inl, inr, arith}
-use Rattle.std.specs.List.{Contains, flat_map, range_with_len}
-use Rattle.std.specs.List.Sorted.{IsStrictlySortedBy}
-use Rattle.std.specs.Ordering.{nat_cmp}
-use Rattle.std.specs.Cmp.{nat_cmp_is}
-use Rattle.std.specs.Cmp.Lexicographic.{slice_cmp}
-use Rattle.std.specs.declared.cmp.Ordering.TheVariants.{Less, Equal}
-use Rattle.std.proofs.Math.ListN.{get_or-eq_default}
-use Rattle.std.proofs.lemmas.Bool.{and_parts, cases_lt, false≢true}
+use Rattle.std.proofs.Common.{◌≡◌, ◌<◌, ◌+◌, ℕ, zero, suc, Bool, true, false, cond, List, [], ◌∷◌, length, map, get_or, refl, sym, ◌∙◌, ap, subst, inl, inr, arith}
+use Rattle.std.proofs.lemmas.Bool.{and_parts, false≢true}
 use Rattle.std.proofs.lemmas.List.Elements.{All-nil, All-cons, All-head, All-tail, All-get_or}
 use Rattle.std.proofs.lemmas.List.Kept.{IsStrictlySortedBy-filter}
+use Rattle.std.specs.{List.Contains, List.flat_map, List.range_with_len, List.Sorted.IsStrictlySortedBy, Ordering.nat_cmp, Cmp.nat_cmp_is}
+use Rattle.std.specs.{Cmp.Lexicographic.slice_cmp, declared.cmp.Ordering.TheVariants.Less, declared.cmp.Ordering.TheVariants.Equal}
 use Rattle.dd_lattice.specs.declared.position.Cell.{Cell}
-use Rattle.dd_topology.specs.Sets.{row_allows, IsRow}
+use Rattle.dd_topology.specs.{Sets.IsRow, lemmas.ListLaws.into_flat_map}
 use Rattle.dd_formula.specs.LocalRule.{LocalRule, rule_allows, cells_at, IsRule}
+use Rattle.dd_formula.specs.lemmas.AllowedLaws.{allowed_below}
 use Rattle.dd_forbidden.specs.Breaking.{are_allowed, is_true_at_origin, BreakingFillings}
-use Rattle.dd_minimal.specs.declared.outcome.Outcome.TheVariants.{Barred}
-use Rattle.dd_minimal.specs.Minimal.{words}
-use Rattle.dd_minimal.specs.finding.Numbers.{IsWord}
-use Rattle.dd_minimal.specs.finding.Outcomes.{outcome, of_truth, does_break}
-use Rattle.dd_minimal.specs.finding.States.{breaking_from}
-use Rattle.dd_minimal.proofs.Lists.{contains_first, contains_nil, cons_cases, in_map, of_map, of_part, part_of, range_has, range_within, in_filter, of_filter, sorted_append, sorted_map}
+use Rattle.dd_minimal.specs.{declared.outcome.Outcome.TheVariants.Barred, Minimal.words, finding.Numbers.IsWord}
+use Rattle.dd_minimal.specs.finding.{Outcomes.outcome, Outcomes.of_truth, Outcomes.does_break, States.breaking_from}
+use Rattle.dd_minimal.proofs.Lists.{of_map, range_within, of_filter, sorted_map}
+use Rattle.dd_values.specs.lemmas.Members.{Contains-cons_cases, sorted_append, Contains-map, Contains-first, Contains-nil}
+use Rattle.dd_values.specs.lemmas.Lists.{nothing_past, range_has, in_filter, of_part}
 
 -- ---- which they are
 
@@ -36,18 +31,18 @@ abbrev begun : ℕ → ℕ → ℕ → List (List ℕ)
 begun m n s = map (λ ss. s ∷ ss) (words m n)
 
 pub words_have : (m n : ℕ) (ss : List ℕ) → IsWord m n ss → Contains (words m n) ss
-words_have m zero [] w = contains_first [] []
+words_have m zero [] w = Contains-first [] []
 words_have m zero (s ∷ ss) w = absurd (let many = w.as_many in omega (arith, many))
 words_have m (suc n) [] w = absurd (let many = w.as_many in omega (arith, many))
 words_have m (suc n) (s ∷ ss) w =
-    part_of (begun m n) (range_with_len 0 m) s (s ∷ ss) (range_has m s (word_first m (suc n) s ss w))
-    (in_map (λ qs. s ∷ qs) (words m n) ss (words_have m n ss (word_rest m n s ss w)))
+    into_flat_map (begun m n) (range_with_len 0 m) s (s ∷ ss) (range_has m s (word_first m (suc n) s ss w))
+    (Contains-map (λ qs. s ∷ qs) (words m n) ss (words_have m n ss (word_rest m n s ss w)))
 
 no_symbols : (m : ℕ) (ss : List ℕ) → [] ≡ ss → IsWord m zero ss
 no_symbols m ss is = subst (IsWord m zero) is (record { as_many = refl; below = All-nil (λ t. t < m) })
 
 pub words_are : (m n : ℕ) (ss : List ℕ) → Contains (words m n) ss → IsWord m n ss
-words_are m zero ss c = elim (cons_cases [] [] ss c) [ inl same ↦ no_symbols m ss same | inr none ↦ absurd (contains_nil ss none) ]
+words_are m zero ss c = elim (Contains-cons_cases [] [] ss c) [ inl same ↦ no_symbols m ss same | inr none ↦ absurd (Contains-nil ss none) ]
 words_are m (suc n) ss c =
     let o = of_part (begun m n) (range_with_len 0 m) ss c in
     let i = of_map (λ qs. o.part ∷ qs) (words m n) ss o.within in
@@ -91,29 +86,6 @@ words_ascend m zero = one_ascends []
 words_ascend m (suc n) = parts_ascend m n (words_ascend m n) 0 m
 
 -- ---- symbols that are allowed
-
-nothing_past : (row : List Bool) (t : ℕ) → get_or row t false ≡ true → t < length row
-nothing_past row t h = elim (cases_lt t (length row)) [ inl low ↦ low | inr high ↦ absurd (let past = get_or-eq_default row false high in cc) ]
-
-allowed_in_row : (r : LocalRule) (a t : ℕ) → IsRule r → a < length r.allowed → rule_allows r a t ≡ true → t < r.symbols
-allowed_in_row r a t ok below h =
-    let row = get_or r.allowed a [] in
-    let is : IsRow r.symbols row = All-get_or (IsRow r.symbols) r.allowed a [] below ok.allowed.rows in
-    let within = nothing_past row t h in
-    omega (arith, within, is.as_many)
-
-empty_row : (row : List Bool) (t : ℕ) → row ≡ [] → get_or row t false ≡ false
-empty_row row t none = get_or-eq_default row false (let few : length row ≡ 0 = ap length none in let past : length row ≤ t = omega arith in past)
-
-no_row : (rows : List (List Bool)) (a t : ℕ) → length rows ≤ a → row_allows rows a t ≡ false
-no_row rows a t high = empty_row (get_or rows a []) t (get_or-eq_default rows [] high)
-
-allowed_below : (r : LocalRule) → IsRule r → (a s : ℕ) → rule_allows r a s ≡ true → s < r.symbols
-allowed_below r ok a s h =
-    elim (cases_lt a (length r.allowed)) [
-      | inl low ↦ allowed_in_row r a s ok low h
-      | inr high ↦ absurd (let none = no_row r.allowed a s high in cc)
-    ]
 
 pub allowed_word : (r : LocalRule) → IsRule r → (cs : List Cell) (ss : List ℕ) → are_allowed r cs ss ≡ true → IsWord r.symbols (length cs) ss
 allowed_word r ok [] [] h = record { as_many = refl; below = All-nil (λ s. s < r.symbols) }

@@ -1,40 +1,26 @@
 -- Filling the table, symbol by symbol.
-use Rattle.std.proofs.Common.{◌≡◌, ◌<◌, ◌+◌, ◌++◌, ◌&&◌, ℕ, zero, suc, true, false, cond, Bool, List, [], ◌∷◌, length, map, refl, sym, ◌∙◌, ap, arith, Some, None}
-use Rattle.std.specs.Prelude.{Option, MatchOption}
+use Rattle.std.proofs.Common.{◌≡◌, ◌<◌, ◌+◌, ◌++◌, ◌&&◌, ℕ, suc, true, false, cond, Bool, List, [], ◌∷◌, length, map, refl, sym, ◌∙◌, ap, arith}
+use Rattle.std.proofs.lemmas.List.{append_assoc, append-nil, Elements.All-append}
 use Rattle.std.specs.List.{Contains, flat_map, range_with_len}
-use Rattle.std.proofs.lemmas.List.{append_assoc, append-nil, length-append, map-append}
-use Rattle.std.proofs.lemmas.List.Elements.{All-append}
 use Rattle.dd_lattice.specs.declared.position.Cell.{Cell}
-use Rattle.dd_numbered.specs.declared.numbered.Numbered.{Numbered}
-use Rattle.dd_numbered.specs.Numbered.{holds_in, IsSettled}
+use Rattle.dd_numbered.specs.{declared.numbered.Numbered.Numbered, Numbered.holds_in, Numbered.IsSettled}
 use Rattle.dd_formula.specs.LocalRule.{LocalRule, rule_allows}
-use Rattle.dd_forbidden.specs.Breaking.{are_allowed, is_true_at_origin}
-use Rattle.dd_forbidden.specs.listing.Extensions.{AreSymbols}
-use Rattle.dd_forbidden.specs.listing.Saying.{SaysKept}
-use Rattle.dd_minimal.specs.declared.outcome.Outcome.{Outcome}
-use Rattle.dd_minimal.specs.declared.outcome.Outcome.TheVariants.{Barred}
-use Rattle.dd_minimal.specs.Minimal.{words}
+use Rattle.dd_forbidden.specs.{Breaking.are_allowed, Breaking.is_true_at_origin, listing.Extensions.AreSymbols, listing.Saying.SaysKept}
+use Rattle.dd_minimal.specs.{declared.outcome.Outcome.Outcome, declared.outcome.Outcome.TheVariants.Barred, Minimal.words}
 use Rattle.dd_minimal.specs.finding.Outcomes.{outcome_behind, known_outcome, of_truth}
-use Rattle.dd_minimal.proofs.Lists.{contains_first, contains_later}
 use Rattle.dd_minimal.proofs.AllWords.{words_are}
+use Rattle.dd_values.specs.lemmas.Members.{Contains-later, Contains-first}
+use Rattle.dd_values.specs.lemmas.Lists.{flat_map_agree, map_flat_map, range_more}
 
 -- ---- tables of words, by their first symbols
-
-map_joined : {X Y Z : Type 0} (f : Y → Z) (g : X → List Y) (xs : List X) → map f (flat_map g xs) ≡ flat_map (λ x. map f (g x)) xs
-map_joined f g [] = refl
-map_joined f g (x ∷ xs) = map-append f (g x) (flat_map g xs) ∙ ap (λ ys. map f (g x) ++ ys) (map_joined f g xs)
 
 mapped : {X Y Z : Type 0} (f : Y → Z) (h : X → Y) (xs : List X) → map f (map h xs) ≡ map (λ x. f (h x)) xs
 mapped f h [] = refl
 mapped f h (x ∷ xs) = ap (λ ys. f (h x) ∷ ys) (mapped f h xs)
 
-flat_same : {X Y : Type 0} (f g : X → List Y) → ((x : X) → f x ≡ g x) → (xs : List X) → flat_map f xs ≡ flat_map g xs
-flat_same f g same [] = refl
-flat_same f g same (x ∷ xs) = ap (λ ys. ys ++ flat_map f xs) (same x) ∙ ap (λ ys. g x ++ ys) (flat_same f g same xs)
-
 pub map_same : {X Y : Type 0} (f g : X → Y) (xs : List X) → ((x : X) → Contains xs x → f x ≡ g x) → map f xs ≡ map g xs
 map_same f g [] same = refl
-map_same f g (x ∷ xs) same = ap (λ y. y ∷ map f xs) (same x (contains_first x xs)) ∙ ap (λ ys. g x ∷ ys) (map_same f g xs (λ q c. same q (contains_later x xs q c)))
+map_same f g (x ∷ xs) same = ap (λ y. y ∷ map f xs) (same x (Contains-first x xs)) ∙ ap (λ ys. g x ∷ ys) (map_same f g xs (λ q c. same q (Contains-later x xs q c)))
 
 abbrev pub part : (List ℕ → Outcome) → ℕ → ℕ → ℕ → List Outcome
 part f m n s = map (λ ss. f (s ∷ ss)) (words m n)
@@ -42,14 +28,8 @@ part f m n s = map (λ ss. f (s ∷ ss)) (words m n)
 pub all_parts : (f : List ℕ → Outcome) (m n k : ℕ) → k ≡ suc n → flat_map (part f m n) (range_with_len 0 m) ≡ map f (words m k)
 all_parts f m n k next =
     sym (ap (λ i. map f (words m i)) next
-    ∙ (map_joined f (λ s. map (λ ss. s ∷ ss) (words m n)) (range_with_len 0 m)
-    ∙ flat_same (λ s. map f (map (λ ss. s ∷ ss) (words m n))) (part f m n) (λ s. mapped f (λ ss. s ∷ ss) (words m n)) (range_with_len 0 m)))
-
-range_more : {X : Type 0} (f : ℕ → List X) (k n : ℕ) → flat_map f (range_with_len k (suc n)) ≡ flat_map f (range_with_len k n) ++ f (k + n)
-range_more f k zero = append-nil (f k) ∙ ap f (omega arith)
-range_more f k (suc n) =
-    ap (λ xs. f k ++ xs) (range_more f (k + 1) n ∙ ap (λ i. flat_map f (range_with_len (k + 1) n) ++ f i) (omega arith))
-    ∙ sym (append_assoc (f k) (flat_map f (range_with_len (k + 1) n)) (f (k + suc n)))
+    ∙ (map_flat_map f (λ s. map (λ ss. s ∷ ss) (words m n)) (range_with_len 0 m)
+    ∙ flat_map_agree (λ s. map f (map (λ ss. s ∷ ss) (words m n))) (part f m n) (λ s. mapped f (λ ss. s ∷ ss) (words m n)) (range_with_len 0 m)))
 
 pub one_more : (f : ℕ → List Outcome) (start found next new : List Outcome) (n : ℕ) → found ≡ start ++ flat_map f (range_with_len 0 n) → next ≡ found ++ new → f n ≡ new → next ≡ start ++ flat_map f (range_with_len 0 (n + 1))
 one_more f start found next new n before now is =
@@ -120,24 +100,3 @@ known_leaf r m [] o none = refl
 known_leaf r m (c ∷ cs) o none = absurd (omega (arith, none))
 
 -- ---- a symbol that was put at the end is taken off
-
-abbrev tail_of : List ℕ → List ℕ
-tail_of [] = []
-tail_of (x ∷ xs) = xs
-
-abbrev head_of : List ℕ → ℕ
-head_of [] = 0
-head_of (x ∷ xs) = x
-
-same_start : (xs ys : List ℕ) (s t : ℕ) → xs ++ s ∷ [] ≡ ys ++ t ∷ [] → ys ≡ xs
-same_start [] [] s t h = refl
-same_start [] (y ∷ ys) s t h = absurd (let n = ap length h in let m = length-append ys (t ∷ []) in omega (arith, n, m))
-same_start (x ∷ xs) [] s t h = absurd (let n = ap length h in let m = length-append xs (s ∷ []) in omega (arith, n, m))
-same_start (x ∷ xs) (y ∷ ys) s t h =
-    let rest = same_start xs ys s t (ap tail_of h) in
-    let first : x ≡ y = ap head_of h in
-    ap (λ z. z ∷ ys) (sym first) ∙ ap (λ zs. x ∷ zs) rest
-
-pub taken_off : (xs ys zs : List ℕ) (s : ℕ) (o : Option ℕ) → zs ≡ xs ++ s ∷ [] → MatchOption o ((zs ≡ []) × (ys ≡ [])) (λ last. zs ≡ ys ++ last ∷ []) → ys ≡ xs
-taken_off xs ys zs s None is h = absurd (let n = ap length (sym is ∙ h.0) in let m = length-append xs (s ∷ []) in omega (arith, n, m))
-taken_off xs ys zs s (Some last) is h = same_start xs ys s last (sym is ∙ h)

@@ -1,19 +1,17 @@
 -- What a minimal list says.
-use Rattle.std.proofs.Common.{◌≡◌, ◌&&◌, ◌||◌, ℕ, Bool, true, false, not, cond, Option, List, [], ◌∷◌, ◌++◌, length, refl, sym, ◌∙◌, ap, subst, inl, inr, ◌⊎◌}
-use Rattle.std.specs.Prelude.{◌↔◌}
-use Rattle.std.specs.List.{All, Contains}
-use Rattle.std.proofs.lemmas.Bool.{false≢true}
-use Rattle.std.proofs.lemmas.List.{append_assoc}
-use Rattle.std.proofs.lemmas.List.Folds.{list_any-append}
+use Rattle.std.proofs.Common.{◌≡◌, ◌&&◌, ℕ, Bool, true, false, not, cond, Option, List, [], ◌∷◌, ◌++◌, length, refl, sym, ◌∙◌, ap, subst, inl, inr, ◌⊎◌}
+use Rattle.std.proofs.lemmas.{Bool.false≢true, List.append_assoc, List.Folds.list_any-append}
 use Rattle.std.proofs.lemmas.List.Elements.{All-nil, All-cons, All-contains}
+use Rattle.std.specs.{Prelude.◌↔◌, List.All, List.Contains}
 use Rattle.dd_formula.specs.LocalRule.{LocalRule, cells_at, IsRule}
 use Rattle.dd_forbidden.specs.Breaking.{are_allowed, is_true_at_origin, IsBreaking, BreakingFillings}
 use Rattle.dd_minimal.specs.Patterns.{agrees, is_covered, whole, left_out}
 use Rattle.dd_minimal.specs.Minimal.{words, is_spared, all_break, thinned, listed, IsMinimalList}
 use Rattle.dd_minimal.specs.Claims.{IsSpared, NeedsEach, AreNew}
-use Rattle.dd_minimal.proofs.Lists.{contains_first, contains_later, contains_nil, cons_cases, passes, fails, has}
-use Rattle.dd_minimal.proofs.AllWords.{words_have, allowed_word}
+use Rattle.dd_minimal.proofs.{Lists.fails, Lists.has, AllWords.words_have, AllWords.allowed_word}
 use Rattle.dd_minimal.proofs.ThinLaws.{Rises, thinned_agrees, thinned_enough, thinned_needs, whole_only}
+use Rattle.dd_values.specs.lemmas.Members.{Contains-later, Contains-cons_cases, Contains-first, Contains-nil}
+use Rattle.dd_values.specs.lemmas.{Booleans.or_left, Booleans.or_right, Lists.passes}
 
 abbrev Patterns : Type 0
 Patterns = List (List (Option ℕ))
@@ -67,18 +65,10 @@ all_at P thin before ss more false here over next = All-cons P (thin ss) (listed
 pub all_listed : (P : List (Option ℕ) → Type 0) (thin : List ℕ → List (Option ℕ)) (before : Patterns) (xs : List (List ℕ)) → ((ss : List ℕ) → Contains xs ss → P (thin ss)) → All P (listed thin before xs)
 all_listed P thin before [] each = All-nil P
 all_listed P thin before (ss ∷ more) each =
-    let later : (qs : List ℕ) → Contains more qs → P (thin qs) = λ qs c. each qs (contains_later ss more qs c) in
-    all_at P thin before ss more (is_covered before ss) (each ss (contains_first ss more)) (all_listed P thin before more later) (all_listed P thin (before ++ thin ss ∷ []) more later)
+    let later : (qs : List ℕ) → Contains more qs → P (thin qs) = λ qs c. each qs (Contains-later ss more qs c) in
+    all_at P thin before ss more (is_covered before ss) (each ss (Contains-first ss more)) (all_listed P thin before more later) (all_listed P thin (before ++ thin ss ∷ []) more later)
 
 -- ---- each filling agrees with a listed pattern
-
-or_left : (b c : Bool) → b ≡ true → (b || c) ≡ true
-or_left true c h = refl
-or_left false c h = absurd (false≢true h)
-
-or_right : (b c : Bool) → c ≡ true → (b || c) ≡ true
-or_right true c h = refl
-or_right false c h = h
 
 in_first : (ss : List ℕ) (ps qs : Patterns) → is_covered ps ss ≡ true → is_covered (ps ++ qs) ss ≡ true
 in_first ss ps qs h = list_any-append (λ p. agrees p ss) ps qs ∙ or_left (is_covered ps ss) (is_covered qs ss) h
@@ -108,9 +98,9 @@ covers_at thin fits before ss qs more false is over next (inl same) =
 covers_at thin fits before ss qs more b is over next (inr there) = covered_at thin before ss qs more b (over there) (next there)
 
 listed_covers : (thin : List ℕ → List (Option ℕ)) → ((ss : List ℕ) → agrees (thin ss) ss ≡ true) → (before : Patterns) (xs : List (List ℕ)) (qs : List ℕ) → Contains xs qs → is_covered (before ++ listed thin before xs) qs ≡ true
-listed_covers thin fits before [] qs c = absurd (contains_nil qs c)
+listed_covers thin fits before [] qs c = absurd (Contains-nil qs c)
 listed_covers thin fits before (ss ∷ more) qs c =
-    covers_at thin fits before ss qs more (is_covered before ss) refl (listed_covers thin fits before more qs) (listed_covers thin fits (before ++ thin ss ∷ []) more qs) (cons_cases ss more qs c)
+    covers_at thin fits before ss qs more (is_covered before ss) refl (listed_covers thin fits before more qs) (listed_covers thin fits (before ++ thin ss ∷ []) more qs) (Contains-cons_cases ss more qs c)
 
 -- ---- each listed pattern has a breaking filling that agrees with none before
 
@@ -123,8 +113,8 @@ new_at r a thin fits before ss more false is breaks over next = ((ss, record { b
 listed_new : (r : LocalRule) (a : ℕ) (thin : List ℕ → List (Option ℕ)) → ((ss : List ℕ) → agrees (thin ss) ss ≡ true) → (before : Patterns) (xs : List (List ℕ)) → ((ss : List ℕ) → Contains xs ss → IsBreaking r a ss) → AreNew r a before (listed thin before xs)
 listed_new r a thin fits before [] each = tt
 listed_new r a thin fits before (ss ∷ more) each =
-    let later : (qs : List ℕ) → Contains more qs → IsBreaking r a qs = λ qs c. each qs (contains_later ss more qs c) in
-    new_at r a thin fits before ss more (is_covered before ss) refl (each ss (contains_first ss more)) (listed_new r a thin fits before more later) (listed_new r a thin fits (before ++ thin ss ∷ []) more later)
+    let later : (qs : List ℕ) → Contains more qs → IsBreaking r a qs = λ qs c. each qs (Contains-later ss more qs c) in
+    new_at r a thin fits before ss more (is_covered before ss) refl (each ss (Contains-first ss more)) (listed_new r a thin fits before more later) (listed_new r a thin fits (before ++ thin ss ∷ []) more later)
 
 -- ---- the laws
 
@@ -157,7 +147,7 @@ needs_each r a ps ok m =
 pub all_new : (r : LocalRule) (a : ℕ) (ps : Patterns) → IsMinimalList r a ps → AreNew r a [] ps
 all_new r a ps m = subst (AreNew r a []) (sym m.list) (listed_new r a (thinned (all_break r a)) (thinned_agrees (all_break r a)) [] m.breaking m.fillings.only)
 
--- the fillings are one list, and so is what they come to
+-- there is one list of breaking fillings, and so one minimal list
 abbrev OneList : Type 0
 OneList = (r : LocalRule) (a : ℕ) (xs ys : List (List ℕ)) → BreakingFillings r a xs → BreakingFillings r a ys → xs ≡ ys
 

@@ -1,29 +1,25 @@
--- One filling more is gone through, and what the list comes to at the end.
+-- One more filling is done, and what the list is at the end.
 use Rattle.std.proofs.Common.{◌≡◌, ◌<◌, ◌+◌, ◌^◌, ℕ, zero, suc, Bool, true, false, cond, Option, List, [], ◌∷◌, ◌++◌, length, map, drop, get_or, replicate, refl, sym, ◌∙◌, ap, subst, arith}
-use Rattle.std.specs.List.{All, Contains, filter}
-use Rattle.std.proofs.lemmas.List.{append_assoc, append-nil, length-replicate}
+use Rattle.std.proofs.lemmas.List.{append_assoc, append-nil, length-replicate, length-map}
 use Rattle.std.proofs.lemmas.List.Elements.{All-nil, All-cons, All-head, All-tail, All-push}
+use Rattle.std.specs.List.{All, Contains, filter}
 use Rattle.dd_formula.specs.LocalRule.{LocalRule, IsRule, cells_at}
-use Rattle.dd_minimal.specs.declared.outcome.Outcome.{Outcome}
-use Rattle.dd_minimal.specs.declared.outcome.Outcome.TheVariants.{Barred}
-use Rattle.dd_minimal.specs.Patterns.{is_covered, pattern_of, IsPartialOf}
-use Rattle.dd_minimal.specs.declared.partial.Partial.{Partial}
+use Rattle.dd_minimal.specs.declared.outcome.Outcome.{Outcome, TheVariants.Barred}
+use Rattle.dd_minimal.specs.{Patterns.is_covered, Patterns.pattern_of, Patterns.IsPartialOf, declared.partial.Partial.Partial}
 use Rattle.dd_minimal.specs.Minimal.{words, all_break, thinned, listed, IsMinimalList}
 use Rattle.dd_minimal.specs.finding.Numbers.{IsWord, number, strides_of, digits, open_strides, least_number, reach}
 use Rattle.dd_minimal.specs.finding.Outcomes.{outcome, outcomes, does_break}
 use Rattle.dd_minimal.specs.finding.Walks.{marked, is_enough}
 use Rattle.dd_minimal.specs.finding.States.{IsThinned, breaking_from, AreMarks, IsListedTo}
-use Rattle.dd_minimal.proofs.Lists.{contains_first, contains_later, of_filter}
-use Rattle.dd_minimal.proofs.AllWords.{words_are, breaking_fillings}
-use Rattle.dd_minimal.proofs.ThinLaws.{thinned_alike}
-use Rattle.dd_minimal.proofs.NumberLaws.{map_length, words_length, strides_length, table_at, digits_word, number_of_digits, word_next}
-use Rattle.dd_minimal.proofs.WalkLaws.{enough_is, reach_below}
-use Rattle.dd_minimal.proofs.MarkLaws.{marks_more, marked_length}
+use Rattle.dd_minimal.proofs.{Lists.of_filter, AllWords.words_are, AllWords.breaking_fillings, ThinLaws.thinned_alike}
+use Rattle.dd_minimal.proofs.NumberLaws.{words_length, strides_length, table_at, digits_word, number_of_digits, word_next}
+use Rattle.dd_minimal.proofs.{WalkLaws.enough_is, WalkLaws.reach_below, MarkLaws.marks_more, MarkLaws.marked_length}
+use Rattle.dd_values.specs.lemmas.Members.{Contains-later, Contains-first}
 
 abbrev Patterns : Type 0
 Patterns = List (List (Option ℕ))
 
--- ---- where a filling is passed over, and where it is listed
+-- ---- where a filling is skipped, and where it is listed
 
 not_breaking : (thin : List ℕ → List (Option ℕ)) (found : Patterns) (ss : List ℕ) (rest : List (List ℕ)) (b : Bool) → b ≡ false → listed thin found (cond b (ss ∷ rest) rest) ≡ listed thin found rest
 not_breaking thin found ss rest b is = ap (λ c. listed thin found (cond c (ss ∷ rest) rest)) is
@@ -110,7 +106,7 @@ module _ (r : LocalRule) (a at : ℕ) (some : 0 < r.symbols) (within : at < r.sy
 -- ---- the parts of the code
 
 pub outcomes_length : (r : LocalRule) (a : ℕ) → length (outcomes r a) ≡ r.symbols ^ length (cells_at r a)
-outcomes_length r a = map_length (outcome r a) (words r.symbols (length (cells_at r a))) ∙ words_length r.symbols (length (cells_at r a))
+outcomes_length r a = length-map (outcome r a) (words r.symbols (length (cells_at r a))) ∙ words_length r.symbols (length (cells_at r a))
 
 pub thinned_here : (r : LocalRule) (a at m : ℕ) (all : List ℕ) (table : List Outcome) (p : List (Option ℕ)) (ds : List ℕ) (from : ℕ) → m ≡ r.symbols → all ≡ strides_of r.symbols (length (cells_at r a)) → table ≡ outcomes r a →
     IsThinned m table (digits m all at) p ds from → IsThinned r.symbols (outcomes r a) (digits r.symbols (strides_of r.symbols (length (cells_at r a))) at) p ds from
@@ -160,13 +156,13 @@ end r a at found marks is so =
 listed_alike : (thin other : List ℕ → List (Option ℕ)) (before : Patterns) (xs : List (List ℕ)) → ((ss : List ℕ) → Contains xs ss → thin ss ≡ other ss) → listed thin before xs ≡ listed other before xs
 listed_alike thin other before [] same = refl
 listed_alike thin other before (ss ∷ more) same =
-    let later : (qs : List ℕ) → Contains more qs → thin qs ≡ other qs = λ qs c. same qs (contains_later ss more qs c) in
+    let later : (qs : List ℕ) → Contains more qs → thin qs ≡ other qs = λ qs c. same qs (Contains-later ss more qs c) in
     let over_ = listed_alike thin other before more later in
     let next = listed_alike thin other (before ++ thin ss ∷ []) more later in
     let b = is_covered before ss in
     ap (λ ps. cond b ps (thin ss ∷ listed thin (before ++ thin ss ∷ []) more)) over_
     ∙ (ap (λ ps. cond b (listed other before more) (thin ss ∷ ps)) next
-    ∙ ap (λ p. cond b (listed other before more) (p ∷ listed other (before ++ p ∷ []) more)) (same ss (contains_first ss more)))
+    ∙ ap (λ p. cond b (listed other before more) (p ∷ listed other (before ++ p ∷ []) more)) (same ss (Contains-first ss more)))
 
 pub minimal_list : (r : LocalRule) → IsRule r → (a : ℕ) (ps : Patterns) → ps ≡ listed (thinned (is_enough r.symbols (outcomes r a))) [] (breaking_from r a 0) → IsMinimalList r a ps
 minimal_list r ok a ps is = record {

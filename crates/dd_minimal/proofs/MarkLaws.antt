@@ -1,21 +1,18 @@
 -- What is marked: the fillings that agree with the pattern, and no others.
-use Rattle.std.proofs.Common.{◌≡◌, ◌<◌, ◌≤◌, ◌+◌, ◌*◌, ◌^◌, ◌||◌, ℕ, zero, suc, Bool, true, false, Option, Some, None, List, [], ◌∷◌, ◌++◌, length, set, get_or, nat_eq, refl, sym, ◌∙◌, ap, subst, inl, inr, ◌⊎◌, arith}
-use Rattle.std.specs.Prelude.{IfSome}
-use Rattle.std.specs.List.{Contains, range_with_len, fold}
+use Rattle.std.proofs.Common.{◌≡◌, ◌<◌, ◌≤◌, ◌+◌, ◌*◌, ◌^◌, ◌||◌, ℕ, suc, Bool, true, false, Option, Some, None, List, [], ◌∷◌, ◌++◌, length, set, get_or, nat_eq, refl, sym, ◌∙◌, ap, subst, inl, inr, ◌⊎◌, arith}
 use Rattle.std.proofs.Math.Nat.{pow-zero, pow-succ'}
 use Rattle.std.proofs.lemmas.Bool.{and_parts, and_from, cases_eq, false≢true, eq-eqb, eqb-true}
-use Rattle.std.proofs.lemmas.Nat.{row_fits}
-use Rattle.std.proofs.lemmas.List.{length-set, get_or-set_same, get_or-set_other}
+use Rattle.std.proofs.lemmas.{Nat.row_fits, List.length-set, List.get_or-set_same, List.get_or-set_other}
 use Rattle.std.proofs.lemmas.List.Folds.{list_any-append}
 use Rattle.std.proofs.lemmas.List.Elements.{All-nil, All-head, All-tail}
+use Rattle.std.specs.{Prelude.IfSome, List.Contains, List.range_with_len, List.fold}
 use Rattle.dd_minimal.specs.Patterns.{agrees, is_covered}
 use Rattle.dd_minimal.specs.finding.Numbers.{IsWord, number, open_strides, least_number, KeepsBelow}
-use Rattle.dd_minimal.specs.finding.Walks.{marked}
-use Rattle.dd_minimal.specs.finding.States.{AreMarks}
-use Rattle.dd_minimal.proofs.Lists.{contains_first, contains_later, contains_nil, cons_cases, range_has, range_within}
-use Rattle.dd_minimal.proofs.AllWords.{word_rest, word_first, word_cons}
-use Rattle.dd_minimal.proofs.NumberLaws.{number_cons, number_only}
-use Rattle.dd_minimal.proofs.WalkLaws.{turned, joined}
+use Rattle.dd_minimal.specs.finding.{Walks.marked, States.AreMarks}
+use Rattle.dd_minimal.proofs.{Lists.range_within, AllWords.word_rest, AllWords.word_first, AllWords.word_cons}
+use Rattle.dd_minimal.proofs.{NumberLaws.number_cons, NumberLaws.number_only, WalkLaws.turned, WalkLaws.joined}
+use Rattle.dd_values.specs.lemmas.Members.{Contains-later, Contains-cons_cases, Contains-first, Contains-nil}
+use Rattle.dd_values.specs.lemmas.{Booleans.same_bool, Lists.nothing_past, Lists.range_has}
 
 -- ---- folds
 
@@ -24,16 +21,16 @@ fold_keeps : {X : Type 0} (step : X → ℕ → X) (Q : X → Type 0) → ((now 
 fold_keeps step Q keeps [] x q = q
 fold_keeps step Q keeps (s ∷ xs) x q = fold_keeps step Q keeps xs (step x s) (keeps x s q)
 
--- what one step brings, and the others keep, where L stands all the time
+-- what one step establishes and the others keep, where L holds all the time
 fold_brings : {X : Type 0} (step : X → ℕ → X) (L Q : X → Type 0) → ((now : X) (s : ℕ) → L now → L (step now s)) → ((now : X) (s : ℕ) → Q now → Q (step now s)) →
     (t : ℕ) → ((now : X) → L now → Q (step now t)) → (xs : List ℕ) (x : X) → Contains xs t → L x → Q (fold step x xs)
-fold_brings step L Q stands keeps t brings [] x c l = absurd (contains_nil t c)
-fold_brings step L Q stands keeps t brings (s ∷ xs) x c l = elim (cons_cases s xs t c) [
+fold_brings step L Q stands keeps t brings [] x c l = absurd (Contains-nil t c)
+fold_brings step L Q stands keeps t brings (s ∷ xs) x c l = elim (Contains-cons_cases s xs t c) [
   | inl same ↦ fold_keeps step Q keeps xs (step x s) (subst (λ k. Q (step x k)) (sym same) (brings x l))
   | inr there ↦ fold_brings step L Q stands keeps t brings xs (step x s) there (stands x s l)
 ]
 
--- a step that brought it
+-- a step that establishes it
 pub record Brought (R : ℕ → Type 0) (xs : List ℕ) : Type 0 where
   pub by : ℕ
   pub listed : Contains xs by
@@ -44,9 +41,9 @@ fold_brought step Q R brought [] x q = inl q
 fold_brought step Q R brought (s ∷ xs) x q = elim (fold_brought step Q R brought xs (step x s) q) [
   | inl here ↦ (elim (brought x s here) [
     | inl before ↦ inl before
-    | inr now ↦ inr (record { by = s; listed = contains_first s xs; is = now })
+    | inr now ↦ inr (record { by = s; listed = Contains-first s xs; is = now })
   ])
-  | inr later ↦ inr (record { by = later.by; listed = contains_later s xs later.by later.listed; is = later.is })
+  | inr later ↦ inr (record { by = later.by; listed = Contains-later s xs later.by later.listed; is = later.is })
 ]
 
 -- ---- marks stay
@@ -59,14 +56,9 @@ marked_length m (d ∷ ds) marks from =
 abbrev IsMarked : ℕ → List Bool → Type 0
 IsMarked k marks = get_or marks k false ≡ true
 
-past_none : (marks : List Bool) (k : ℕ) → get_or marks k false ≡ true → k < length marks
-past_none [] k h = absurd (false≢true h)
-past_none (b ∷ marks) zero h = omega arith
-past_none (b ∷ marks) (suc k) h = let later = past_none marks k h in omega (arith, later)
-
 set_stays : (marks : List Bool) (from k : ℕ) → IsMarked k marks → IsMarked k (set marks from true)
 set_stays marks from k h = elim (cases_eq k from) [
-  | inl same ↦ subst (λ i. IsMarked k (set marks i true)) same (get_or-set_same marks k true false (past_none marks k h))
+  | inl same ↦ subst (λ i. IsMarked k (set marks i true)) same (get_or-set_same marks k true false (nothing_past marks k h))
   | inr other ↦ get_or-set_other marks from k true false other ∙ h
 ]
 
@@ -171,11 +163,6 @@ or_true false = refl
 or_false : (b : Bool) → (b || (false || false)) ≡ b
 or_false true = refl
 or_false false = refl
-
-same_bool : (b c : Bool) → (b ≡ true → c ≡ true) → (c ≡ true → b ≡ true) → b ≡ c
-same_bool true c to from = sym (to refl)
-same_bool false true to from = from refl
-same_bool false false to from = refl
 
 zero_plus : (k : ℕ) → 0 + k ≡ k
 zero_plus k = omega arith

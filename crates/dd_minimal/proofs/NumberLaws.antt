@@ -1,19 +1,15 @@
 -- Words by their numbers.
 use Rattle.std.proofs.Common.{◌≡◌, ◌<◌, ◌+◌, ◌-◌, ◌*◌, ◌/◌, ◌%◌, ◌^◌, ℕ, zero, suc, List, [], ◌∷◌, ◌++◌, length, map, drop, get_or, refl, sym, ◌∙◌, ap, arith}
-use Rattle.std.specs.List.{All, flat_map, range_with_len}
-use Rattle.std.proofs.Math.Nat.{pow-zero, pow-succ', mod-eq_of_lt}
-use Rattle.std.proofs.Math.Seq.{drop-cons}
+use Rattle.std.proofs.Math.{Nat.pow-zero, Nat.pow-succ', Nat.mod-eq_of_lt, Seq.drop-cons}
 use Rattle.std.proofs.lemmas.Nat.{div-mul-add, mul-add-lt, mod_below}
-use Rattle.std.proofs.lemmas.List.{append_assoc, append-nil, length-append, get_or_append_left, get_or-append-add, get_or-map}
+use Rattle.std.proofs.lemmas.List.{append_assoc, append-nil, length-append, get_or_append_left, get_or-append-add, get_or-map, length-map}
 use Rattle.std.proofs.lemmas.List.Elements.{All-nil, All-cons}
+use Rattle.std.specs.List.{All, flat_map, range_with_len}
 use lib.Arith.{mod-mul}
 use Rattle.dd_minimal.specs.Minimal.{words}
 use Rattle.dd_minimal.specs.finding.Numbers.{IsWord, number, strides_of, digits}
 use Rattle.dd_minimal.proofs.AllWords.{word_rest, word_first}
-
-pub map_length : {X Y : Type 0} (f : X → Y) (xs : List X) → length (map f xs) ≡ length xs
-map_length f [] = refl
-map_length f (x ∷ xs) = ap suc (map_length f xs)
+use Rattle.dd_values.specs.lemmas.Numbers.{power_some}
 
 -- ---- how many there are
 
@@ -26,7 +22,7 @@ joined_length f k each a (suc n) =
     omega (arith, here, later, both)
 
 begun_length : (m n : ℕ) → length (words m n) ≡ m ^ n → (s : ℕ) → length (map (λ ss. s ∷ ss) (words m n)) ≡ m ^ n
-begun_length m n many s = map_length (λ ss. s ∷ ss) (words m n) ∙ many
+begun_length m n many s = length-map (λ ss. s ∷ ss) (words m n) ∙ many
 
 pub words_length : (m n : ℕ) → length (words m n) ≡ m ^ n
 words_length m zero = sym (pow-zero m)
@@ -91,13 +87,6 @@ number_only m n ss qs w v same = sym (words_at m n ss [] w) ∙ (ap (λ i. get_o
 
 -- ---- the word of a number
 
-pub power_some : (m n : ℕ) → 0 < m → 0 < m ^ n
-power_some m zero some = let one = pow-zero m in omega (arith, one)
-power_some m (suc n) some =
-    let power = pow-succ' m n in
-    let row = mul-add-lt 0 (m ^ n) 0 m some (power_some m n some) in
-    omega (arith, power, row)
-
 pub strides_length : (m n : ℕ) → length (strides_of m n) ≡ n
 strides_length m zero = refl
 strides_length m (suc n) = ap suc (strides_length m n)
@@ -107,7 +96,7 @@ digits_below m at [] some = All-nil (λ s. s < m)
 digits_below m at (d ∷ ds) some = All-cons (λ s. s < m) (at / d % m) (digits m ds at) (mod_below (at / d) m some) (digits_below m at ds some)
 
 pub digits_word : (m n at : ℕ) → 0 < m → IsWord m n (digits m (strides_of m n) at)
-digits_word m n at some = record { as_many = map_length (λ d. at / d % m) (strides_of m n) ∙ strides_length m n; below = digits_below m at (strides_of m n) some }
+digits_word m n at some = record { as_many = length-map (λ d. at / d % m) (strides_of m n) ∙ strides_length m n; below = digits_below m at (strides_of m n) some }
 
 digits_number : (m n at : ℕ) → 0 < m → number m (digits m (strides_of m n) at) ≡ at % m ^ n
 digits_number m zero at some = let one = pow-zero m in let below = mod_below at (m ^ 0) (power_some m 0 some) in omega (arith, one, below)

@@ -1,11 +1,9 @@
 -- What thinning leaves of a filling.
 use Rattle.std.proofs.Common.{◌≡◌, ◌<◌, ℕ, zero, suc, Bool, true, false, cond, Option, Some, None, List, [], ◌∷◌, slice_get, length, nat_eq, refl, sym, ◌∙◌, ap}
-use Rattle.std.specs.Prelude.{IfSome}
-use Rattle.std.specs.List.{All}
 use Rattle.std.proofs.lemmas.Bool.{and_parts, and_from, false≢true, eq-eqb, eqb-true}
 use Rattle.std.proofs.lemmas.List.Elements.{All-nil, All-cons, All-head, All-tail}
-use Rattle.dd_minimal.specs.Patterns.{is_kept, agrees, whole, left_out}
-use Rattle.dd_minimal.specs.Minimal.{thinned}
+use Rattle.std.specs.{Prelude.IfSome, List.All}
+use Rattle.dd_minimal.specs.{Patterns.is_kept, Patterns.agrees, Patterns.whole, Patterns.left_out, Minimal.thinned}
 use Rattle.dd_minimal.specs.finding.Numbers.{KeepsBelow}
 
 -- what agrees with the second agrees with the first
@@ -59,8 +57,8 @@ thinned_enough enough (s ∷ ss) h =
     let first = cond (enough (None ∷ whole ss)) None (Some s) in
     thinned_enough (λ p. enough (first ∷ p)) ss (enough_first enough s ss (enough (None ∷ whole ss)) refl h)
 
--- A cell was kept because the pattern without it, and with all behind it whole, wasn't enough. What is left out behind it makes
--- more fillings agree, so that it still isn't.
+-- A cell was kept because the pattern without it, with all later cells kept, wasn't enough. Leaving out later cells makes
+-- more fillings agree, so it still isn't.
 
 rises_behind : (enough : List (Option ℕ) → Bool) (x : Option ℕ) → Rises enough → Rises (λ p. enough (x ∷ p))
 rises_behind enough x up p q weaker h = up (x ∷ p) (x ∷ q) (weaker_cons x x p q (λ t same. same) weaker) h

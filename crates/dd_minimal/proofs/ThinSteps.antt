@@ -1,23 +1,19 @@
--- One cell of a filling more is gone through.
+-- One more cell of a filling is done.
 use Rattle.std.proofs.Common.{◌≡◌, ◌<◌, ◌≤◌, ◌+◌, ◌-◌, ◌*◌, ◌/◌, ◌%◌, ◌^◌, ◌&&◌, ℕ, zero, suc, Bool, true, false, not, cond, Option, Some, None, List, [], ◌∷◌, ◌++◌, length, drop, get_or, refl, sym, ◌∙◌, ap, subst, arith}
-use Rattle.std.specs.Prelude.{IfSome}
-use Rattle.std.specs.List.{All, range_with_len, list_all}
-use Rattle.std.proofs.Math.Seq.{drop-cons}
-use mathlib.Core.Path.{fun_ext}
-use Rattle.std.proofs.lemmas.Bool.{false≢true}
+use Rattle.std.proofs.{Math.Seq.drop-cons, lemmas.Bool.false≢true}
 use Rattle.std.proofs.lemmas.List.{append_assoc, append-nil, length-append, length-drop, get_or-map}
 use Rattle.std.proofs.lemmas.List.Elements.{All-nil, All-append, All-cons, All-push, All-head, All-drop}
+use Rattle.std.specs.{Prelude.IfSome, List.All, List.range_with_len, List.list_all}
+use mathlib.Core.Path.{fun_ext}
 use Rattle.dd_minimal.specs.declared.outcome.Outcome.{Outcome}
 use Rattle.dd_minimal.specs.declared.outcome.Outcome.TheVariants.{Barred, Breaks, Holds}
-use Rattle.dd_minimal.specs.Patterns.{whole}
-use Rattle.dd_minimal.specs.Minimal.{thinned}
+use Rattle.dd_minimal.specs.{Patterns.whole, Minimal.thinned}
 use Rattle.dd_minimal.specs.finding.Numbers.{number, strides_of, digits, open_strides, least_number, reach, KeepsBelow}
-use Rattle.dd_minimal.specs.finding.Outcomes.{does_break, does_hold}
-use Rattle.dd_minimal.specs.finding.Walks.{none_holds, is_enough}
+use Rattle.dd_minimal.specs.finding.{Outcomes.does_break, Outcomes.does_hold, Walks.none_holds, Walks.is_enough}
 use Rattle.dd_minimal.specs.finding.States.{IsThinnedTo, IsThinned}
 use Rattle.dd_minimal.proofs.ThinLaws.{whole_length, whole_below}
-use Rattle.dd_minimal.proofs.NumberLaws.{power_some, strides_length, digits_word, number_of_digits}
-use Rattle.dd_minimal.proofs.WalkLaws.{reach_below}
+use Rattle.dd_minimal.proofs.{NumberLaws.strides_length, NumberLaws.digits_word, NumberLaws.number_of_digits, WalkLaws.reach_below}
+use Rattle.dd_values.specs.lemmas.{Booleans.and_four, Numbers.power_some, Lists.list_all_agree, Lists.list_all_both}
 
 -- ---- a whole filling
 
@@ -69,21 +65,8 @@ least_less m (Some t ∷ p) s rest =
 
 -- ---- walks that end in one stride more
 
-every_same : {X : Type 0} (f g : X → Bool) → ((x : X) → f x ≡ g x) → (xs : List X) → list_all f xs ≡ list_all g xs
-every_same f g same xs = ap (λ h. list_all h xs) (fun_ext same)
-
 open_left : (x : ℕ) (y : ℕ) (z : ℕ) → x + y + z ≡ x + z + y
 open_left x y z = omega arith
-
-and_middle : (a b c d : Bool) → ((a && b) && (c && d)) ≡ ((a && c) && (b && d))
-and_middle true true c d = refl
-and_middle true false true d = refl
-and_middle true false false d = refl
-and_middle false b c d = refl
-
-both_all : {X : Type 0} (f g : X → Bool) (xs : List X) → list_all (λ x. f x && g x) xs ≡ (list_all f xs && list_all g xs)
-both_all f g [] = refl
-both_all f g (x ∷ xs) = ap (λ b. (f x && g x) && b) (both_all f g xs) ∙ and_middle (f x) (g x) (list_all f xs) (list_all g xs)
 
 all_true : {X : Type 0} (xs : List X) → list_all (λ x. true) xs ≡ true
 all_true [] = refl
@@ -91,18 +74,18 @@ all_true (x ∷ xs) = all_true xs
 
 turn_all : {X Y : Type 0} (f : X → Y → Bool) (xs : List X) (ys : List Y) → list_all (λ x. list_all (f x) ys) xs ≡ list_all (λ y. list_all (λ x. f x y) xs) ys
 turn_all f [] ys = sym (all_true ys)
-turn_all f (x ∷ xs) ys = ap (λ b. list_all (f x) ys && b) (turn_all f xs ys) ∙ sym (both_all (f x) (λ y. list_all (λ z. f z y) xs) ys)
+turn_all f (x ∷ xs) ys = ap (λ b. list_all (f x) ys && b) (turn_all f xs ys) ∙ sym (list_all_both (f x) (λ y. list_all (λ z. f z y) xs) ys)
 
 pub none_holds_last : (m : ℕ) (ds : List ℕ) (d : ℕ) (table : List Outcome) (from : ℕ) →
     none_holds m (ds ++ d ∷ []) table from ≡ list_all (λ s. none_holds m ds table (from + s * d)) (range_with_len 0 m)
 none_holds_last m [] d table from = refl
 none_holds_last m (e ∷ ds) d table from =
     let ks = range_with_len 0 m in
-    every_same (λ s. none_holds m (ds ++ d ∷ []) table (from + s * e)) (λ s. list_all (λ t. none_holds m ds table (from + s * e + t * d)) ks)
+    list_all_agree (λ s. none_holds m (ds ++ d ∷ []) table (from + s * e)) (λ s. list_all (λ t. none_holds m ds table (from + s * e + t * d)) ks)
     (λ s. none_holds_last m ds d table (from + s * e)) ks
     ∙ (turn_all (λ s t. none_holds m ds table (from + s * e + t * d)) ks ks
-    ∙ every_same (λ t. list_all (λ s. none_holds m ds table (from + s * e + t * d)) ks) (λ t. list_all (λ s. none_holds m ds table (from + t * d + s * e)) ks)
-    (λ t. every_same (λ s. none_holds m ds table (from + s * e + t * d)) (λ s. none_holds m ds table (from + t * d + s * e)) (λ s. ap (none_holds m ds table) (open_left from (s * e) (t * d))) ks) ks)
+    ∙ list_all_agree (λ t. list_all (λ s. none_holds m ds table (from + s * e + t * d)) ks) (λ t. list_all (λ s. none_holds m ds table (from + t * d + s * e)) ks)
+    (λ t. list_all_agree (λ s. none_holds m ds table (from + s * e + t * d)) (λ s. none_holds m ds table (from + t * d + s * e)) (λ s. ap (none_holds m ds table) (open_left from (s * e) (t * d))) ks) ks)
 
 -- ---- the step
 

@@ -1,24 +1,20 @@
--- What a walk along the strides of the cells that a pattern leaves out says of the fillings that agree with it.
-use Rattle.std.proofs.Common.{◌≡◌, ◌<◌, ◌+◌, ◌-◌, ◌*◌, ◌^◌, ℕ, suc, Bool, true, false, not, cond, Option, Some, None, List, [], ◌∷◌, length, get_or, nat_eq, refl, sym, ◌∙◌, ap, subst, arith}
-use Rattle.std.specs.Prelude.{IfSome}
-use Rattle.std.specs.List.{range_with_len}
+-- A walk along the strides of the cells that a pattern leaves out, and the fillings that agree with the pattern.
+use Rattle.std.proofs.Common.{◌≡◌, ◌<◌, ◌+◌, ◌-◌, ◌*◌, ◌^◌, ℕ, suc, Bool, true, false, cond, Option, Some, None, List, [], ◌∷◌, length, get_or, nat_eq, refl, sym, ◌∙◌, ap, subst, arith}
 use Rattle.std.proofs.Math.Nat.{pow-zero, pow-succ'}
 use Rattle.std.proofs.lemmas.Bool.{and_parts, and_from, false≢true, eq-eqb, eqb-true}
-use Rattle.std.proofs.lemmas.Nat.{mul-add-lt}
-use Rattle.std.proofs.lemmas.List.Elements.{All-nil, All-head, All-tail}
+use Rattle.std.proofs.lemmas.{Nat.mul-add-lt, List.Elements.All-nil, List.Elements.All-head, List.Elements.All-tail}
+use Rattle.std.specs.{Prelude.IfSome, List.range_with_len}
 use Rattle.dd_formula.specs.LocalRule.{LocalRule, IsRule, cells_at}
 use Rattle.dd_forbidden.specs.Breaking.{are_allowed, is_true_at_origin}
-use Rattle.dd_minimal.specs.declared.outcome.Outcome.{Outcome}
-use Rattle.dd_minimal.specs.declared.outcome.Outcome.TheVariants.{Barred}
-use Rattle.dd_minimal.specs.Patterns.{agrees}
+use Rattle.dd_minimal.specs.{declared.outcome.Outcome.Outcome, declared.outcome.Outcome.TheVariants.Barred, Patterns.agrees}
 use Rattle.dd_minimal.specs.Minimal.{all_break}
 use Rattle.dd_minimal.specs.finding.Numbers.{IsWord, number, open_strides, least_number, reach, KeepsBelow}
 use Rattle.dd_minimal.specs.finding.Outcomes.{outcome, outcomes, of_truth, does_hold}
 use Rattle.dd_minimal.specs.finding.Walks.{none_holds, is_enough}
-use Rattle.dd_minimal.proofs.Lists.{passes, fails, range_has, range_within}
+use Rattle.dd_minimal.proofs.Lists.{fails, range_within}
 use Rattle.dd_minimal.proofs.AllWords.{word_rest, word_first, word_cons, allowed_word}
-use Rattle.dd_minimal.proofs.ListLaws.{breaking_all, all_break_from}
-use Rattle.dd_minimal.proofs.NumberLaws.{number_cons, table_at}
+use Rattle.dd_minimal.proofs.{ListLaws.breaking_all, ListLaws.all_break_from, NumberLaws.number_cons, NumberLaws.table_at}
+use Rattle.dd_values.specs.lemmas.{Booleans.not_true, Booleans.not_false, Lists.passes, Lists.range_has}
 
 -- from b on the table has the entries of all words
 abbrev pub IsAt : List Outcome → ℕ → ℕ → ℕ → (List ℕ → Outcome) → Type 0
@@ -36,20 +32,12 @@ at_behind table b m n f s below at ss w =
     ap (λ i. get_or table i Barred) (sym (joined b (s * m ^ n) (number m ss)) ∙ ap (λ k. b + k) (sym (number_cons m n s ss w.as_many)))
     ∙ at (s ∷ ss) (word_cons m n s ss below w)
 
-not_held : (o : Bool) → not o ≡ true → o ≡ false
-not_held true h = absurd (false≢true h)
-not_held false h = refl
-
-held : (o : Bool) → not o ≡ false → o ≡ true
-held true h = refl
-held false h = absurd (false≢true (sym h))
-
 at_none : (table : List Outcome) (b m : ℕ) (f : List ℕ → Outcome) → IsAt table b m 0 f → get_or table (b + 0) Barred ≡ f []
 at_none table b m f at = at [] (record { as_many = refl; below = All-nil (λ s. s < m) })
 
 pub none_holds_all : (table : List Outcome) (m : ℕ) (p : List (Option ℕ)) (b : ℕ) (f : List ℕ → Outcome) → IsAt table b m (length p) f →
     none_holds m (open_strides m p) table (b + least_number m p) ≡ true → (ss : List ℕ) → IsWord m (length p) ss → agrees p ss ≡ true → does_hold (f ss) ≡ false
-none_holds_all table m [] b f at h [] w ag = ap does_hold (sym (at_none table b m f at)) ∙ not_held (does_hold (get_or table (b + 0) Barred)) h
+none_holds_all table m [] b f at h [] w ag = ap does_hold (sym (at_none table b m f at)) ∙ not_true (does_hold (get_or table (b + 0) Barred)) h
 none_holds_all table m [] b f at h (s ∷ ss) w ag = absurd (false≢true ag)
 none_holds_all table m (p ∷ ps) b f at h [] w ag = absurd (false≢true ag)
 none_holds_all table m (None ∷ ps) b f at h (s ∷ ss) w ag =
@@ -81,7 +69,7 @@ some_holds table m [] b f keeps at h =
       filling = [];
       word = record { as_many = refl; below = All-nil (λ s. s < m) };
       agreeing = refl;
-      holds = ap does_hold (sym (at_none table b m f at)) ∙ held (does_hold (get_or table (b + 0) Barred)) h;
+      holds = ap does_hold (sym (at_none table b m f at)) ∙ not_false (does_hold (get_or table (b + 0) Barred)) h;
     }
 some_holds table m (None ∷ ps) b f keeps at h =
     let n = length ps in

@@ -19,15 +19,15 @@ is_spared r a ss = are_allowed r (cells_at r a) ss && is_true_at_origin r a ss
 abbrev pub all_break : LocalRule → ℕ → List (Option ℕ) → Bool
 all_break r a p = list_all (λ ss. not (agrees p ss && is_spared r a ss)) (words r.symbols (length (cells_at r a)))
 
--- The cells of a filling are gone through in order, and each is left out where the pattern without it, with all cells behind it
--- kept, is enough. A pattern of the cells behind is enough where it is so with what is settled of this cell in front.
+-- The cells of a filling are taken in order. Each is left out if the pattern without it, with all later cells kept, is
+-- enough. A pattern of the later cells is enough if it is so with this cell's entry in front.
 abbrev pub thinned : (List (Option ℕ) → Bool) → List ℕ → List (Option ℕ)
 thinned enough [] = []
 thinned enough (s ∷ ss) =
     let first = cond (enough (None ∷ whole ss)) None (Some s) in
     first ∷ thinned (λ p. enough (first ∷ p)) ss
 
--- Fillings are gone through in order. One that agrees with a pattern listed before is passed over, and each other is thinned and
+-- Fillings are taken in order. One that agrees with a pattern listed before is skipped, and every other is thinned and
 -- listed.
 abbrev pub listed : (List ℕ → List (Option ℕ)) → List (List (Option ℕ)) → List (List ℕ) → List (List (Option ℕ))
 listed thin before [] = []
@@ -36,7 +36,7 @@ listed thin before (ss ∷ more) =
     (listed thin before more)
     (thin ss ∷ listed thin (before ++ thin ss ∷ []) more)
 
--- the breaking fillings are gone through in lexicographic order, and a cell is left out where what still agrees breaks the rule
+-- the breaking fillings are taken in lexicographic order, and a cell is left out where what still agrees breaks the rule
 pub record IsMinimalList (r : LocalRule) (a : ℕ) (ps : List (List (Option ℕ))) : Type 0 where
   pub breaking : List (List ℕ)
   pub fillings : BreakingFillings r a breaking

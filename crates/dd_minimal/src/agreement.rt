@@ -6,8 +6,8 @@ use crate::partial::Partial;
 use dd_formula::Rule;
 use dd_pattern::Filling;
 
-/// Whether the filling, of the cells that the rule reads at the pattern's node, has each symbol that the pattern keeps. It takes
-/// no memory.
+/// Whether the filling has each symbol that the pattern keeps. The filling is of the cells that the rule reads at the
+/// pattern's node. It takes no memory.
 pub fn forces(_rule: &Rule, partial: &Partial, filling: &Filling) -> bool
     requires partial { IsPartialOf _rule.now partial.now }
     requires filling { FillsReads _rule.now partial.now filling.now }

@@ -1,5 +1,5 @@
-//! The table of what each filling does, in lexicographic order over the whole alphabet. A branch ends where the symbols so far
-//! settle the rule's truth, and where a node doesn't allow its symbol.
+//! The table of what each filling does, in lexicographic order over the whole alphabet. A branch ends once the symbols so
+//! far settle the rule's truth, or a node doesn't allow its symbol.
 ghost use Rattle.std.specs.Prelude.{◌≡◌, ◌<◌, ◌++◌, length, map, IfOk, OnOk};
 ghost use Rattle.dd_formula.specs.LocalRule.{cells_at};
 ghost use Rattle.dd_forbidden.specs.listing.Extensions.{AreOf, AreSymbols};
@@ -29,7 +29,7 @@ pub(crate) fn outcomes(alloc: Global, rule: &Rule, node: u32) -> Result<Items<Ou
     Ok(table)
 }
 
-/// Appends the outcomes of the fillings that begin with these symbols, where the rest of the cells has none yet.
+/// Appends the outcomes of the fillings that begin with these symbols. The rest of the cells have none yet.
 fn fill(
     rule: &Rule,
     node: u32,
@@ -62,7 +62,7 @@ fn fill(
     Ok(())
 }
 
-/// Appends an outcome for all fillings of the rest of the cells, but for those that are barred.
+/// Appends an outcome for all fillings of the rest of the cells, except those that are barred.
 fn fill_known(
     rule: &Rule,
     rest: &[Cell],

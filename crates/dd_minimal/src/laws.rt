@@ -7,8 +7,8 @@ ghost use Rattle.dd_minimal.specs.Patterns.{is_covered};
 ghost use Rattle.dd_minimal.specs.Minimal.{IsMinimalList};
 ghost use Rattle.dd_minimal.specs.Claims.{NeedsEach, AreNew};
 
-/// Does nothing; its contract says that the rule is false under a filling of the reads with allowed symbols exactly where this
-/// agrees with a listed pattern.
+/// Does nothing; its contract says that the rule is false under a filling of the reads with allowed symbols exactly if
+/// the filling agrees with a listed pattern.
 pub fn exact()
     ensures { (r : LocalRule) (a : ℕ) (ps : List (List (Option ℕ))) (ss : List ℕ) → IsRule r → IsMinimalList r a ps →
         are_allowed r (cells_at r a) ss ≡ true → (is_true_at_origin r a ss ≡ false) ↔ (is_covered ps ss ≡ true) }

@@ -15,7 +15,7 @@ use dd_formula::Rule;
 use dd_values::Items;
 use std::alloc::{AllocError, Global};
 
-/// By how much the number of a filling rises with the symbol of each cell.
+/// How much the number of a filling rises with the symbol of each cell.
 pub(crate) fn strides_of(
     alloc: Global,
     rule: &Rule,

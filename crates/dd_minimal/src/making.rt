@@ -11,10 +11,10 @@ use dd_forbidden::ForbiddenFault;
 use dd_formula::Rule;
 use std::alloc::Global;
 
-/// The minimal patterns of the rule at the node: the breaking fillings of the cells that it reads there, with symbols that their
-/// nodes allow, in the lexicographic order of their symbols. One that agrees with a pattern listed before is passed over. Of each
-/// other the cells are gone through in cell order, and a cell is left out where every filling that agrees with the rest breaks
-/// the rule; then it is listed.
+/// The minimal patterns of the rule at the node. The breaking fillings of the cells that it reads there, with symbols
+/// that their nodes allow, are taken in the lexicographic order of their symbols. One that agrees with a pattern listed
+/// before is skipped. Every other one is thinned and listed: in cell order, a cell is left out if every filling that
+/// agrees with the rest breaks the rule.
 ///
 /// # Errors
 /// `Size` where the number of symbols to the power of the number of cells passes 65,536; else `Memory`.

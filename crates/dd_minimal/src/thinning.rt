@@ -16,8 +16,8 @@ pub(crate) struct Thinned {
     pub from: usize,
 }
 
-/// The breaking filling with the number `at`, of which each cell is left out, in cell order, that can be. The strides of these
-/// cells are put into `left_out`.
+/// Thins the breaking filling with the number `at`: in cell order, each cell that can be left out is left out. The
+/// strides of these cells are put into `left_out`.
 pub(crate) fn thin(
     alloc: Global,
     symbols: u32,

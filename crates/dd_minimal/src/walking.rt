@@ -1,5 +1,5 @@
-//! Walks over the fillings that agree with a pattern: from the number of the one that has 0 in all cells that are left out, by
-//! the strides of these cells.
+//! Walks over the fillings that agree with a pattern. They begin at the number of the filling that has 0 in all cells
+//! left out, and go by the strides of these cells.
 ghost use Rattle.std.specs.Prelude.{◌≡◌, ◌<◌, ◌≤◌, ◌+◌, ◌*◌, ◌-◌, ◌++◌, ◌∷◌, [], true, length};
 ghost use Rattle.dd_minimal.specs.finding.Numbers.{reach};
 ghost use Rattle.dd_minimal.specs.finding.Walks.{marked, none_holds};
@@ -22,8 +22,8 @@ pub(crate) fn none_holds(symbols: u32, strides: &[usize], table: &[Outcome], fro
     true
 }
 
-/// Whether the rule is true under none of the fillings where one cell more, which has the symbol `kept`, is left out too. Those
-/// that have that symbol are known to break the rule.
+/// Whether the rule is true under none of the fillings if one more cell, which has the symbol `kept`, is left out too.
+/// The fillings with that symbol are known to break the rule.
 pub(crate) fn can_spare(
     symbols: u32,
     kept: u32,

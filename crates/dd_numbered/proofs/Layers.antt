@@ -1,22 +1,15 @@
--- What a definition by a fold says of a list of parts, with the definition at each part.
-use Rattle.std.proofs.Common.{◌≡◌, ℕ, Bool, List, [], ◌∷◌, map, refl, ap, sym, ◌∙◌}
-use Rattle.std.specs.Prelude.{◌||◌}
-use Rattle.std.specs.List.{list_all, list_any}
+-- Definitions by a fold, on a list of parts, by the definition at each part.
+use Rattle.std.proofs.Common.{◌≡◌, ℕ, Bool, List, map, ap, sym, ◌∙◌}
 use Rattle.std.proofs.lemmas.List.Folds.{list_all-map}
-use Rattle.dd_expansion.specs.declared.expanded.Expanded.{Expanded}
-use Rattle.dd_expansion.specs.declared.expanded.Expanded.TheVariants as expanded
-use Rattle.dd_expansion.specs.declared.expanded.Expanded.TheFolds.{fold-roll-Expanded}
+use Rattle.std.specs.List.{list_all, list_any}
+use Rattle.dd_expansion.specs.declared.expanded.Expanded.{Expanded, TheFolds.fold-roll-Expanded}
 use Rattle.dd_expansion.specs.declared.expanded.Expanded.TheOpen.{Expanded-F}
-use Rattle.dd_numbered.specs.declared.numbered.Numbered.{Numbered}
-use Rattle.dd_numbered.specs.declared.numbered.Numbered.TheVariants as formula
-use Rattle.dd_numbered.specs.declared.numbered.Numbered.TheFolds.{fold-roll-Numbered}
-use Rattle.dd_numbered.specs.declared.numbered.Numbered.TheOpen.{Numbered-F}
-use Rattle.dd_numbered.specs.Numbering.{Numbering}
+use Rattle.dd_numbered.specs.declared.numbered.Numbered.{Numbered, TheFolds.fold-roll-Numbered}
+use Rattle.dd_numbered.specs.{declared.numbered.Numbered.TheOpen.Numbered-F, Numbering.Numbering}
 use Rattle.dd_numbered.specs.Numbered.{holds_in, holds_in_step, numbered, numbered_step}
-
-list_any-map : {X Y : Type 0} (p : X → Bool) (h : Y → X) (ys : List Y) → list_any p (map h ys) ≡ list_any (λ y. p (h y)) ys
-list_any-map p h [] = refl
-list_any-map p h (y ∷ ys) = ap (λ b. p (h y) || b) (list_any-map p h ys)
+use Rattle.dd_values.specs.lemmas.Lists.{list_any-map}
+use Rattle.dd_expansion.specs.declared.expanded.Expanded.TheVariants as expanded
+use Rattle.dd_numbered.specs.declared.numbered.Numbered.TheVariants as formula
 
 pub holds_and : (es : List Numbered) (ss : List ℕ) → holds_in (formula.And es) ss ≡ list_all (λ e. holds_in e ss) es
 holds_and es ss =

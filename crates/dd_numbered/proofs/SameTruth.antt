@@ -1,17 +1,14 @@
--- With a number in place of each cell an expansion says the same of the symbols with these numbers.
+-- With a number in place of each cell an expansion says of the numbered symbols what it said of the cells' symbols.
 use Rattle.std.proofs.Common.{◌≡◌, ℕ, Bool, false, List, [], ◌∷◌, map, refl, ap, ◌∙◌, Option, Some, None, Result, Ok, Err, IfOk}
-use Rattle.std.specs.Prelude.{not}
-use Rattle.std.specs.List.{list_all, list_any}
+use Rattle.std.specs.{Prelude.not, List.list_all, List.list_any}
 use Rattle.dd_expansion.specs.declared.expanded.Expanded.{Expanded}
 use Rattle.dd_expansion.specs.declared.expanded.Expanded.TheFolds.{fold-roll-Expanded, ind-Expanded, map-Expanded}
-use Rattle.dd_expansion.specs.declared.expanded.Expanded.TheOpen.{Expanded-F}
-use Rattle.dd_expansion.specs.Leaves.{holds, holds_step as expanded_step}
+use Rattle.dd_expansion.specs.{declared.expanded.Expanded.TheOpen.Expanded-F, Leaves.holds, Leaves.holds_step as expanded_step}
 use Rattle.dd_expansion.specs.Truth.{is_symbol}
 use Rattle.dd_pattern.specs.Reading.{Look}
 use Rattle.dd_numbered.specs.declared.numbered.Numbered.{Numbered, roll-Numbered}
 use Rattle.dd_numbered.specs.declared.numbered.Numbered.TheFolds.{fold-roll-Numbered, map-Numbered}
-use Rattle.dd_numbered.specs.declared.numbered.Numbered.TheOpen.{Numbered-F}
-use Rattle.dd_numbered.specs.Numbering.{Numbering, read_by, symbol_with}
+use Rattle.dd_numbered.specs.{declared.numbered.Numbered.TheOpen.Numbered-F, Numbering.Numbering, Numbering.read_by, Numbering.symbol_with}
 use Rattle.dd_numbered.specs.Numbered.{holds_in, holds_in_step, leaf_with, numbered, numbered_step}
 
 abbrev SaysSame : Expanded → Type 0

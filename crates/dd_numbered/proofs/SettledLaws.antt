@@ -2,11 +2,10 @@
 use Rattle.std.proofs.Common.{◌≡◌, ℕ, zero, suc, Bool, List, [], ◌∷◌, ◌++◌, slice_get, ap, ◌∙◌, Some, None}
 use Rattle.std.specs.Prelude.{IfSome, Option, ◌==◌}
 use Rattle.dd_expansion.specs.Truth.{is_symbol}
-use Rattle.dd_numbered.specs.declared.numbered.Numbered.{Numbered}
-use Rattle.dd_numbered.specs.declared.numbered.Numbered.TheVariants as formula
-use Rattle.dd_numbered.specs.Numbered.{holds_in, IsSettled}
+use Rattle.dd_numbered.specs.{declared.numbered.Numbered.Numbered, Numbered.holds_in, Numbered.IsSettled}
 use Rattle.dd_numbered.specs.settling.Parts.{AreAllSettled, IsAnySettled, IsTold}
 use Rattle.dd_numbered.proofs.Layers.{holds_and, holds_or}
+use Rattle.dd_numbered.specs.declared.numbered.Numbered.TheVariants as formula
 
 -- the answer for all parts is that for the formula
 if_some : {P Q : Bool → Type 0} (o : Option Bool) → ((b : Bool) → P b → Q b) → IfSome o P → IfSome o Q
@@ -19,7 +18,7 @@ settled_and es e ss o is = if_some o (λ b h more. ap (λ x. holds_in x (ss ++ m
 pub settled_or : (es : List Numbered) (e : Numbered) (ss : List ℕ) (o : Option Bool) → e ≡ formula.Or es → IfSome o (IsAnySettled es ss) → IfSome o (IsSettled e ss)
 settled_or es e ss o is = if_some o (λ b h more. ap (λ x. holds_in x (ss ++ more)) is ∙ (holds_or es (ss ++ more) ∙ h more))
 
--- a symbol that stands in the beginning of a list stands in the list
+-- a symbol of a list keeps its number when more symbols follow
 pub still_there : (ss more : List ℕ) (i s : ℕ) → slice_get ss i ≡ Some s → slice_get (ss ++ more) i ≡ Some s
 still_there [] more i s h = absurd (cc)
 still_there (x ∷ ss) more zero s h = h

@@ -1,14 +1,10 @@
 -- Formulas without variables over a list of symbols: their truth, and those that say what an expansion says.
 use Rattle.std.specs.Prelude.{ℕ, ◌≡◌, ◌++◌, not, Bool, false, Option, Some, None, List, slice_get}
-use Rattle.std.specs.Bool.{beq}
-use Rattle.std.specs.List.{list_all, list_any}
-use Rattle.dd_expansion.specs.declared.expanded.Expanded.{Expanded}
-use Rattle.dd_expansion.specs.declared.expanded.Expanded.TheFolds.{fold-Expanded}
-use Rattle.dd_expansion.specs.declared.expanded.Expanded.TheOpen.{Expanded-F}
-use Rattle.dd_expansion.specs.Truth.{is_symbol}
+use Rattle.std.specs.{Bool.beq, List.list_all, List.list_any}
+use Rattle.dd_expansion.specs.declared.expanded.Expanded.{Expanded, TheFolds.fold-Expanded}
+use Rattle.dd_expansion.specs.{declared.expanded.Expanded.TheOpen.Expanded-F, Truth.is_symbol}
 use Rattle.dd_numbered.specs.declared.numbered.Numbered.{Numbered, roll-Numbered}
-use Rattle.dd_numbered.specs.declared.numbered.Numbered.TheFolds.{fold-Numbered}
-use Rattle.dd_numbered.specs.declared.numbered.Numbered.TheOpen.{Numbered-F}
+use Rattle.dd_numbered.specs.declared.numbered.Numbered.{TheFolds.fold-Numbered, TheOpen.Numbered-F}
 use Rattle.dd_numbered.specs.Numbering.{Numbering}
 
 abbrev pub holds_in_step : Numbered-F (List ℕ → Bool) → List ℕ → Bool

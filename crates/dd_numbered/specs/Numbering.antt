@@ -1,9 +1,7 @@
 -- Numbers of cells: at which place in a list of symbols the symbol of a cell stands.
-use Rattle.std.specs.Prelude.{ℕ, Option, Some, None, List, slice_get}
-use Rattle.std.specs.List.{position_or_len}
+use Rattle.std.specs.{Prelude.ℕ, Prelude.Option, Prelude.Some, Prelude.None, Prelude.List, Prelude.slice_get, List.position_or_len}
 use Rattle.std.specs.Ordering.{is_eq}
-use Rattle.dd_lattice.specs.Order.{cell_cmp}
-use Rattle.dd_lattice.specs.declared.position.Cell.{Cell}
+use Rattle.dd_lattice.specs.{Order.cell_cmp, declared.position.Cell.Cell}
 use Rattle.dd_pattern.specs.Reading.{Look}
 
 -- the number of each cell, or none

@@ -1,4 +1,5 @@
-//! Formulas over a list of symbols: an expansion whose cells have numbers, made once and then true or false of list after list.
+//! Formulas over a list of symbols: expansions with numbers in place of cells. One is made once and then tested on list
+//! after list.
 #![tactic(auto)]
 
 mod making;

@@ -11,8 +11,8 @@ use dd_values::{Boxed, Items};
 use std::alloc::{AllocError, Global};
 
 impl Numbered {
-    /// The formula that is true of a list of symbols exactly where the expansion is true with the symbols at the cells'
-    /// numbers. A leaf is false whose cell has no number.
+    /// The formula that is true of a list of symbols exactly if the expansion is true where each cell has the symbol at
+    /// its number. A leaf whose cell has no number is false.
     pub fn new<N: Numbers>(
         alloc: Global,
         expanded: &Expanded,

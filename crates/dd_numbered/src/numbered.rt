@@ -2,7 +2,7 @@
 
 use dd_values::{Boxed, Items};
 
-/// A formula of the symbols of a list. It takes the place of an expansion where this is asked of many lists.
+/// A formula over the symbols of a list. It replaces an expansion that is tested on many lists.
 #[derive(Debug, Drop)]
 pub enum Numbered {
     /// True or false.
@@ -11,9 +11,9 @@ pub enum Numbered {
     Leaf { number: usize, symbol: u32 },
     /// The part is false.
     Not(Boxed<Numbered>),
-    /// All parts are true, as where there is none.
+    /// All parts are true. It is true if there is none.
     And(Items<Numbered>),
-    /// Some part is true, so there is one.
+    /// Some part is true. It is false if there is none.
     Or(Items<Numbered>),
     /// Both parts are true or both are false.
     Iff(Boxed<Numbered>, Boxed<Numbered>),

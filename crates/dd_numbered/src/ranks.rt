@@ -16,7 +16,7 @@ pub struct Ranks<'a> {
 }
 
 impl<'a> Ranks<'a> {
-    /// The numbers of these cells, which must ascend in cell order, each once.
+    /// The numbers of these cells, which must ascend strictly in cell order.
     pub fn new(cells: &'a [Cell]) -> Ranks<'a>
         requires { IsStrictlySortedBy cell_cmp cells.now }
         ensures { result.cells.now ≡ cells.now }

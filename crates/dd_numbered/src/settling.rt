@@ -6,7 +6,7 @@ ghost use Rattle.dd_numbered.specs.settling.Parts.{AreAllSettled, IsAnySettled, 
 use crate::numbered::Numbered;
 
 impl Numbered {
-    /// The truth that the formula has whatever symbols follow, where Kleene's tables settle it; else `None`, also where no symbol could
+    /// The formula's truth whatever symbols follow, if Kleene's tables settle it; else `None`, even if no symbol could
     /// change it. It takes no memory.
     #[cycle(settled)]
     pub fn settled(&self, symbols: &[u32]) -> Option<bool>
@@ -30,7 +30,7 @@ impl Numbered {
     }
 }
 
-/// Whether the symbol stands at the number in a list that begins with these symbols; `None` past their end.
+/// Whether a list that begins with these symbols has the symbol at the number; `None` past their end.
 fn told(symbols: &[u32], number: usize, symbol: u32) -> Option<bool>
     ensures { IfSome result (IsTold symbol number symbols.now) }
 {

@@ -7,7 +7,7 @@ ghost use Rattle.dd_numbered.specs.Numbered.{holds_in};
 use crate::numbered::Numbered;
 
 impl Numbered {
-    /// Whether the formula is true of the symbols; a leaf is false whose number is past their end. It takes no memory.
+    /// Whether the formula is true of the symbols; a leaf whose number is past their end is false. It takes no memory.
     #[cycle(truth)]
     #[tactic(auto, using(crate::proofs::Layers::holds_layers))]
     pub fn truth(&self, symbols: &[u32]) -> bool
@@ -24,7 +24,7 @@ impl Numbered {
     }
 }
 
-/// Whether the symbol stands at the number in the list.
+/// Whether the list has the symbol at the number.
 fn is_there(symbols: &[u32], number: usize, symbol: u32) -> bool
     ensures { result ≡ is_symbol symbol (slice_get symbols.now number) }
 {

@@ -1,30 +1,24 @@
 -- The law of each row of the table of answers, and of the table.
 use Rattle.std.proofs.Common.{◌≡◌, ℕ, ◌≤◌, List, [], ◌∷◌, ◌++◌, length, drop, Some, None, true, inl, inr, refl, sym, ap, ◌∙◌, append_assoc, arith}
-use Rattle.std.specs.Prelude.{ℤ, codes, All}
-use Rattle.std.specs.Fmt.{decimal, signed_decimal}
 use Rattle.std.proofs.lemmas.List.{append-nil}
+use Rattle.std.specs.{Prelude.ℤ, Prelude.codes, Prelude.All, Fmt.decimal, Fmt.signed_decimal}
 use Rattle.dd_derivation.specs.declared.step.Step.{Step}
-use Rattle.dd_certificate.specs.declared.answer.Side.{Side}
-use Rattle.dd_certificate.specs.declared.answer.Reason.{Reason}
-use Rattle.dd_certificate.specs.declared.answer.Listed.{Listed}
-use Rattle.dd_certificate.specs.declared.answer.Starred.{Starred}
-use Rattle.dd_certificate.specs.declared.answer.Answer.{Answer}
-use Rattle.dd_certificate.specs.declared.answer.Answer.TheVariants as answer
+use Rattle.dd_certificate.specs.declared.answer.{Side.Side, Reason.Reason, Listed.Listed}
+use Rattle.dd_certificate.specs.declared.answer.{Starred.Starred, Answer.Answer}
 use Rattle.dd_certificate.specs.Text.{numbers_to_end, signed_to_end, fraction_to_end, refutation_text, pattern_text, starred_text, further_lines}
 use Rattle.dd_certificate.specs.Bounds.{most_number, IsWritableNumber, IsWritableSigned, IsWritableRefutation, IsWritablePattern, IsWritableStarred, IsWritable}
 use Rattle.dd_output.specs.reading.Stops.{Entry, item, last}
 use Rattle.dd_output.specs.reading.Forms.{Form, word, number, both, after, counted, forked, table}
 use Rattle.dd_output.specs.reading.Lists.{numbers, integers}
-use Rattle.dd_output.specs.reading.Grammar as grammar
-use Rattle.dd_output.proofs.Lines.{line_rest, LineFits, integers_good}
-use Rattle.dd_output.proofs.Steps.{refutation_good}
+use Rattle.dd_output.proofs.{Lines.line_rest, Lines.LineFits, Lines.integers_good, Steps.refutation_good}
 use Rattle.dd_output.proofs.Tables.{is_among, good_table}
 use Rattle.dd_output.proofs.FirstBytes.{body_text, first_of, first_is, Row, second_of, Second, tail_text, Either, good_front}
-use Rattle.dd_output.proofs.Starred.{starred_good}
-use Rattle.dd_output.proofs.ConjugacyRows.{conjugate_good, broken_good}
+use Rattle.dd_output.proofs.{Starred.starred_good, ConjugacyRows.conjugate_good, ConjugacyRows.broken_good}
 use Rattle.dd_output.proofs.LeastRows.{least_good, nothing_good}
 use Rattle.dd_output.proofs.Forms.{Good, good_word, good_same, good_mapped, good_number, good_both, good_after, good_counted, good_forked, CountedIn, counted_text, ForkFits, fork_text, Within, ended_number, anything}
 use Rattle.dd_output.proofs.Rows.{NumbersFit, numbers_rest, line_good, numbers_is, signed_is, FractionFits, fraction_text, fraction_good, pattern_good, CycleFits, cycle_text, cycle_good, amounts_good, SidedFits, sided_rest, sided_is, sides_good, reason_line, reason_good}
+use Rattle.dd_certificate.specs.declared.answer.Answer.TheVariants as answer
+use Rattle.dd_output.specs.reading.Grammar as grammar
 
 -- ---- IN and OUT
 

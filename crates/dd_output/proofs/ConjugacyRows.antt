@@ -1,23 +1,18 @@
 -- The laws of the rows CONJUGATE and BROKEN.
 use Rattle.std.proofs.Common.{◌≡◌, ℕ, ◌≤◌, List, [], ◌∷◌, ◌++◌, length, Some, None, refl, sym, ap, ◌∙◌, append_assoc, arith}
-use Rattle.std.specs.Prelude.{codes}
-use Rattle.std.specs.Fmt.{decimal}
-use Rattle.std.specs.List.{flat_map}
+use Rattle.std.specs.{Prelude.codes, Fmt.decimal, List.flat_map}
 use Rattle.dd_derivation.specs.declared.step.Step.{Step}
-use Rattle.dd_certificate.specs.declared.answer.Answer.{Answer}
-use Rattle.dd_certificate.specs.declared.answer.Answer.TheVariants as answer
-use Rattle.dd_certificate.specs.Text.{numbers_to_end, refutation_text}
+use Rattle.dd_certificate.specs.{declared.answer.Answer.Answer, Text.numbers_to_end, Text.refutation_text}
 use Rattle.dd_certificate.specs.Bounds.{IsWritableNumber, IsWritableRefutation}
-use Rattle.dd_output.specs.reading.Forms.{number, both, after, times}
-use Rattle.dd_output.specs.reading.Lists.{numbers}
+use Rattle.dd_output.specs.reading.{Forms.number, Forms.both, Forms.after, Forms.times, Lists.numbers}
 use Rattle.dd_output.specs.reading.Periods.{periods}
-use Rattle.dd_output.specs.reading.Grammar as grammar
-use Rattle.dd_output.proofs.Lines.{LineFits, numbers_good}
-use Rattle.dd_output.proofs.Steps.{refutation_good}
+use Rattle.dd_output.proofs.{Lines.LineFits, Lines.numbers_good, Steps.refutation_good}
 use Rattle.dd_output.proofs.Periods.{PeriodsFit, periods_rest, periods_good}
 use Rattle.dd_output.proofs.Forms.{Good, good_mapped, good_number, good_both, good_after, good_times, TimesFit, Within, ended_number}
 use Rattle.dd_output.proofs.Rows.{NumbersFit, numbers_rest, line_good, numbers_is, periods_is}
 use Rattle.dd_output.proofs.FirstBytes.{body_text, Row, Second, tail_text}
+use Rattle.dd_certificate.specs.declared.answer.Answer.TheVariants as answer
+use Rattle.dd_output.specs.reading.Grammar as grammar
 
 -- ---- CONJUGATE
 

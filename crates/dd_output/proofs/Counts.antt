@@ -1,16 +1,15 @@
--- Numbers that tell how much follows, and loops over a count.
+-- Counts of what follows, and loops over a count.
 use Rattle.std.proofs.Common.{◌≡◌, ℕ, suc, ◌+◌, ◌-◌, ◌*◌, ◌<◌, List, [], ◌∷◌, ◌++◌, length, Result, Ok, Err, Bool, true, false, cond, refl, sym, ap, ◌∙◌, append_assoc, arith}
-use Rattle.std.specs.Prelude.{◌==◌, ◌||◌}
+use Rattle.std.specs.Prelude.{◌==◌, ◌||◌, ℤ, Option}
 use Rattle.dd_certificate.specs.Bounds.{most_number}
 use Rattle.dd_output.specs.declared.fault.ReadFault.{ReadFault}
-use Rattle.dd_output.specs.declared.fault.ReadFault.TheVariants as faults
 use Rattle.dd_output.specs.reading.Stops.{Stop, Read, ◌>>=◌, before, Gives, Fails, goes_on, starts, digits_at, number_at, copies, many_at, begins, word_at}
-use Rattle.std.specs.Prelude.{ℤ, Option}
 use Rattle.dd_output.specs.reading.Lists.{minus_of, plus_of, signed_at}
 use Rattle.dd_output.specs.reading.Stars.{end_byte_at, star_of, symbol_of, kept_at}
 use Rattle.dd_output.proofs.Loops.{fails_then, fails_before}
+use Rattle.dd_output.specs.declared.fault.ReadFault.TheVariants as faults
 
--- two readings of one input, that differ at most in the missing text
+-- two results of reading one input, which differ at most in the missing text
 abbrev Alike : {A : Type 0} → Result A Stop → Result A Stop → Type 0
 Alike (Ok x) (Ok y) = x ≡ y
 Alike (Ok x) (Err s) = ⊥

@@ -1,27 +1,19 @@
 -- The laws of the lists of a step, each ended by a 0.
 use Rattle.std.proofs.Common.{◌≡◌, ℕ, suc, ◌^◌, ◌<◌, ◌≤◌, List, [], ◌∷◌, ◌++◌, length, length-append, Bool, true, false, ◌⊎◌, inl, inr, refl, sym, ap, ◌∙◌, append_assoc, arith}
-use Rattle.std.specs.Prelude.{◌==◌, All}
-use Rattle.std.specs.Fmt.{decimal}
-use Rattle.std.specs.List.{flat_map, AllByRecursion}
-use Rattle.std.proofs.lemmas.Bool.{ne_eqb}
-use Rattle.std.proofs.lemmas.Fmt.{decimal_digit}
-use Rattle.std.proofs.lemmas.List.Concat.{flat_map-cons}
-use Rattle.dd_clause.specs.declared.clause.Literal.{Literal}
-use Rattle.dd_clause.specs.Clauses.{IsLiteralInRange}
-use Rattle.dd_output.specs.reading.Stops.{Read, before, word_at, number_at, after_at, map_at, Entry, item, last, entries_at}
-use Rattle.dd_certificate.specs.Text.{literal_text, spaced_literal, spaced, literals_to_zero, numbers_to_zero}
-use Rattle.dd_certificate.specs.Bounds.{most_count, IsWritableHint}
+use Rattle.std.proofs.lemmas.{Bool.ne_eqb, Fmt.decimal_digit, List.Concat.flat_map-cons}
 use Rattle.std.proofs.lemmas.List.Elements.{All-from_recursion, recursion_from_All}
-use Rattle.dd_values.specs.Bounds.{most_variables}
+use Rattle.std.specs.{Prelude.◌==◌, Prelude.All, Fmt.decimal, List.flat_map, List.AllByRecursion}
+use Rattle.dd_clause.specs.{declared.clause.Literal.Literal, Clauses.IsLiteralInRange}
+use Rattle.dd_output.specs.reading.Stops.{Read, before, word_at, number_at, after_at, map_at, Entry, item, last, entries_at}
 use Rattle.dd_output.specs.reading.Forms.{Form, nothing}
 use Rattle.dd_output.specs.reading.Lists.{variable_at, literal_entry, number_entry, positive_of, negative_of, entry_of, ended, items_of, literals, numbers_until}
+use Rattle.dd_certificate.specs.Text.{literal_text, spaced_literal, spaced, literals_to_zero, numbers_to_zero}
+use Rattle.dd_certificate.specs.Bounds.{most_count, IsWritableHint}
+use Rattle.dd_values.specs.Bounds.{most_variables}
 use Rattle.dd_output.proofs.Readers.{Reads, before_reads, map_reads, same_reads, choice_reads}
-use Rattle.dd_output.proofs.Tokens.{word_reads, after_reads}
-use Rattle.dd_output.proofs.Numbers.{IsEnd, number_reads}
+use Rattle.dd_output.proofs.{Tokens.word_reads, Tokens.after_reads, Numbers.IsEnd, Numbers.number_reads}
 use Rattle.dd_output.proofs.Entries.{entries_text, AllFrom, entry_fits, entry_text, entries_reads, shorter, unrolled_item}
-use Rattle.dd_output.proofs.Loops.{Unrolls}
-use Rattle.dd_output.proofs.Signs.{FirstDigit, first_digit}
-use Rattle.dd_output.proofs.Forms.{only, Good, good_same}
+use Rattle.dd_output.proofs.{Loops.Unrolls, Signs.FirstDigit, Signs.first_digit, Forms.only, Forms.Good, Forms.good_same}
 
 the_end : (end other : ℕ) → IsEnd end other end
 the_end end other = inl refl

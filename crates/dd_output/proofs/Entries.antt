@@ -1,4 +1,4 @@
--- The law of lists that go on as long as the next entry is an item.
+-- The law of lists that continue as long as the next entry is an item.
 use Rattle.std.proofs.Common.{◌≡◌, ℕ, zero, suc, ◌<◌, List, [], ◌∷◌, ◌++◌, length, Result, Ok, Err, inl, inr, refl, sym, ap, subst, ◌∙◌, append_assoc, length-append, arith}
 use Rattle.dd_output.specs.reading.Stops.{Stop, stop, Read, ◌>>=◌, Entry, item, last, next_at, until_at, entries_at}
 use Rattle.dd_output.proofs.Readers.{Halts, Reads, bind_ok, bind_err, ok_is}

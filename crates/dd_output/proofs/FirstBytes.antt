@@ -1,19 +1,16 @@
 -- The kinds of answers, and the bytes that tell them apart.
 use Rattle.std.proofs.Common.{◌≡◌, ℕ, List, ◌∷◌, ◌++◌, drop, false, ◌⊎◌, inl, inr, refl, ap, ◌∙◌}
 use Rattle.std.specs.Prelude.{◌==◌}
-use Rattle.dd_certificate.specs.declared.answer.Answer.{Answer}
-use Rattle.dd_certificate.specs.declared.answer.Answer.TheVariants as answer
-use Rattle.dd_certificate.specs.Text.{verdict_text, further_lines}
-use Rattle.dd_certificate.specs.Bounds.{IsWritable}
+use Rattle.dd_certificate.specs.{declared.answer.Answer.Answer, Text.verdict_text, Text.further_lines, Bounds.IsWritable}
 use Rattle.dd_output.specs.reading.Forms.{Form, after, either}
-use Rattle.dd_output.proofs.Tables.{Keyed}
-use Rattle.dd_output.proofs.Forms.{Good, good_same, good_after, good_either}
+use Rattle.dd_output.proofs.{Tables.Keyed, Forms.Good, Forms.good_same, Forms.good_after, Forms.good_either}
+use Rattle.dd_certificate.specs.declared.answer.Answer.TheVariants as answer
 
 -- all lines of an answer, without the query's number
 abbrev pub body_text : Answer → List ℕ
 body_text a = verdict_text a ++ further_lines a
 
--- the byte that they begin with
+-- the byte with which they begin
 abbrev pub first_of : Answer → ℕ
 first_of answer.Inside = 73
 first_of (answer.Outside place) = 79
@@ -53,7 +50,7 @@ Row = Keyed IsWritable first_of
 
 -- ---- kinds whose texts begin alike
 
--- the byte after what a kind's text shares with another's
+-- the byte after the part that a kind's text shares with another's
 abbrev pub second_of : Answer → ℕ
 second_of (answer.No side periods shear symbols) = 32
 second_of (answer.Nothing steps) = 78
@@ -66,7 +63,7 @@ second_of _ = 0
 abbrev pub Second : ℕ → ℕ → Answer → Type 0
 Second first second = Keyed (Row first) second_of second
 
--- the text after so many bytes
+-- the text after its first n bytes
 abbrev pub tail_text : ℕ → Answer → List ℕ
 tail_text n a = drop n (body_text a)
 
@@ -77,7 +74,7 @@ either_first : (first one two : ℕ) (a : Answer) → Either first one two a →
 either_first first one two a (inl good) = good.0
 either_first first one two a (inr good) = good.0
 
--- two kinds whose texts share a word, where the next byte tells them apart
+-- two kinds whose texts share a word; the next byte tells them apart
 pub good_front : (w : List ℕ) (n first one two : ℕ) (f g : Form Answer) → (two == one) ≡ false → Good (Second first one) (tail_text n) f → Good (Second first two) (tail_text n) g
     → ((a : Answer) → Row first a → (body_text a ≡ w ++ tail_text n a) × Either first one two a)
     → ((a : Answer) → Row first a → (more : List ℕ) × (tail_text n a ≡ second_of a ∷ more))

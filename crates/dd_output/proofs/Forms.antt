@@ -1,19 +1,14 @@
--- Forms that are good: what they read are the texts of the values that fit, each the text of one value, and where reading stops
--- there is a text that completes what was read. A form that is put together of good ones is good.
+-- Good forms. A good form reads exactly the texts of the values that fit, and each text is that of one value. Where
+-- reading stops, some text completes what was read. A form made of good ones is good.
 use Rattle.std.proofs.Common.{◌≡◌, ℕ, zero, suc, ◌+◌, ◌<◌, ◌≤◌, ◌^◌, List, [], ◌∷◌, ◌++◌, length, Bool, true, false, cond, inl, inr, ◌⊎◌, refl, sym, ap, subst, ◌∙◌, append_assoc, arith}
-use Rattle.std.specs.Prelude.{replicate, All, ◌==◌}
-use Rattle.std.specs.Fmt.{decimal}
-use Rattle.std.specs.List.{flat_map, AllByRecursion}
-use Rattle.std.proofs.lemmas.Bool.{eqb-true, eq-eqb, false≢true}
-use Rattle.std.proofs.lemmas.Fmt.{decimal_digit}
-use Rattle.std.proofs.lemmas.List.{length-replicate}
-use Rattle.std.proofs.lemmas.List.Concat.{flat_map-cons}
+use Rattle.std.proofs.lemmas.{Bool.eqb-true, Bool.eq-eqb, Bool.false≢true, Fmt.decimal_digit}
+use Rattle.std.proofs.lemmas.List.{length-replicate, Concat.flat_map-cons}
 use Rattle.std.proofs.lemmas.List.Elements.{All-from_recursion, recursion_from_All}
+use Rattle.std.specs.{Prelude.replicate, Prelude.All, Prelude.◌==◌, Fmt.decimal, List.flat_map, List.AllByRecursion}
 use Rattle.dd_output.specs.reading.Stops.{Read, before, word_at, is_digit, number_at, then_at, map_at, many_at, copies, Entry, item, last}
 use Rattle.dd_output.specs.reading.Forms.{Form, nothing, word, number, both, after, mapped, either, counted_of, counted, times, last_of, item_of, fork_of, forked}
 use Rattle.dd_output.proofs.Readers.{Reads, before_reads, then_reads, map_reads, same_reads, many_reads, choice_reads}
-use Rattle.dd_output.proofs.Tokens.{word_reads, after_reads}
-use Rattle.dd_output.proofs.Numbers.{IsEnd, number_reads}
+use Rattle.dd_output.proofs.{Tokens.word_reads, Tokens.after_reads, Numbers.IsEnd, Numbers.number_reads}
 
 -- the texts of the values that fit
 abbrev pub IsText : {A : Type 0} → (A → Type 0) → (A → List ℕ) → List ℕ → Type 0
@@ -28,7 +23,7 @@ pub record Good {A : Type 0} (F : A → Type 0) (t : A → List ℕ) (f : Form A
   pub fits : F value
   pub is : f.least ≡ t value
 
--- a reader's completions, for more values
+-- a reader, with the texts of more values as completions
 pub wider : {A : Type 0} (F G : A → Type 0) (t : A → List ℕ) (r : List ℕ → Read A) → ReadsText F t r → ((x : A) → F x → G x) → Reads F t (IsText G t) r
 wider F G t r law more = same_reads F t (IsText F t) r F t (IsText G t) law (λ x good. (refl, good)) (λ x good. (refl, good)) (λ text a. (a.0, more a.0 a.1, a.2))
 
@@ -59,7 +54,7 @@ good_mapped F t f G u h good to from =
     let is = to good.value good.fits in
     record { law = text_map F t f.read G u h good.law to from; value = h good.value; fits = is.1; is = good.is ∙ sym is.0 }
 
--- the same form, where the values that fit or their texts are said otherwise
+-- the same form, with its fitting values or their texts stated in another way
 pub good_same : {A : Type 0} (F : A → Type 0) (t : A → List ℕ) (f : Form A) (G : A → Type 0) (u : A → List ℕ) → Good F t f
     → ((x : A) → F x → (u x ≡ t x) × G x) → ((x : A) → G x → (u x ≡ t x) × F x) → Good G u f
 good_same F t f G u good to from =
@@ -77,7 +72,7 @@ InBounds low bound end other p = (low ≤ p.0) × (p.0 ≤ bound) × IsEnd end o
 abbrev pub number_text : ℕ × ℕ → List ℕ
 number_text p = decimal p.0 ++ p.1 ∷ []
 
--- the end that a single byte leaves
+-- the end, if there is only one
 pub only : (end e : ℕ) → IsEnd end end e → e ≡ end
 only end e (inl p) = p
 only end e (inr p) = p
@@ -152,7 +147,7 @@ copies_fit F x good (suc n) = (good, copies_fit F x good n)
 abbrev Counted : {A : Type 0} → (A → Type 0) → ℕ → List A → Type 0
 Counted F n xs = (length xs ≡ n) × AllByRecursion F xs
 
--- so many values, each as it should be
+-- a number of values, each with its text
 many_text : {A : Type 0} (F : A → Type 0) (t : A → List ℕ) (one : List ℕ → Read A) (x : A) → ReadsText F t one → F x → (n : ℕ)
     → ReadsText (Counted F n) (flat_map t) (many_at one (t x) n)
 many_text {A} F t one x law good =
@@ -243,7 +238,7 @@ abbrev pub fork_text : {A B : Type 0} → (B → List ℕ) → (A → List ℕ) 
 fork_text t u (n, last x) = decimal n ++ 10 ∷ t x
 fork_text t u (n, item y) = decimal n ++ 32 ∷ u y
 
--- the way that the byte after a number leaves
+-- what follows, by the byte after a number
 abbrev WayFits : {A B : Type 0} → (B → Type 0) → (A → Type 0) → ℕ → Entry A B → Type 0
 WayFits F G e (last x) = (e ≡ 10) × F x
 WayFits F G e (item y) = (e ≡ 32) × G y

@@ -1,23 +1,16 @@
 -- The laws of the rows LEAST and NONE.
 use Rattle.std.proofs.Common.{◌≡◌, ℕ, ◌≤◌, List, [], ◌∷◌, ◌++◌, length, None, false, inl, inr, ◌⊎◌, refl, sym, ap, ◌∙◌, append_assoc, arith}
-use Rattle.std.specs.Prelude.{codes, ◌==◌, if◌then◌else◌}
-use Rattle.std.specs.Fmt.{decimal}
-use Rattle.std.proofs.lemmas.Bool.{ne_eqb}
-use Rattle.std.proofs.lemmas.Fmt.{decimal_digit}
-use Rattle.std.proofs.lemmas.List.{append-nil}
+use Rattle.std.proofs.lemmas.{Bool.ne_eqb, Fmt.decimal_digit, List.append-nil}
+use Rattle.std.specs.{Prelude.codes, Prelude.◌==◌, Prelude.if◌then◌else◌, Fmt.decimal}
 use Rattle.dd_derivation.specs.declared.step.Step.{Step}
-use Rattle.dd_certificate.specs.declared.answer.Answer.{Answer}
-use Rattle.dd_certificate.specs.declared.answer.Answer.TheVariants as answer
-use Rattle.dd_certificate.specs.Text.{refutation_text}
+use Rattle.dd_certificate.specs.{declared.answer.Answer.Answer, Text.refutation_text}
 use Rattle.dd_certificate.specs.Bounds.{most_number, IsWritableNumber, IsWritableRefutation, IsWritableBelow}
-use Rattle.dd_output.specs.reading.Forms.{number, both, after, either}
-use Rattle.dd_output.specs.reading.Lists.{numbers}
-use Rattle.dd_output.specs.reading.Grammar as grammar
-use Rattle.dd_output.proofs.Signs.{first_digit}
-use Rattle.dd_output.proofs.Steps.{refutation_good}
+use Rattle.dd_output.specs.reading.{Forms.number, Forms.both, Forms.after, Forms.either, Lists.numbers}
+use Rattle.dd_output.proofs.{Signs.first_digit, Steps.refutation_good}
 use Rattle.dd_output.proofs.Forms.{Good, good_same, good_mapped, good_number, good_both, good_after, good_either, Within, ended_number}
-use Rattle.dd_output.proofs.Rows.{NumbersFit, numbers_rest, line_good, numbers_is}
-use Rattle.dd_output.proofs.FirstBytes.{Second, tail_text}
+use Rattle.dd_output.proofs.{Rows.NumbersFit, Rows.numbers_rest, Rows.line_good, Rows.numbers_is, FirstBytes.Second, FirstBytes.tail_text}
+use Rattle.dd_certificate.specs.declared.answer.Answer.TheVariants as answer
+use Rattle.dd_output.specs.reading.Grammar as grammar
 
 -- ---- LEAST
 

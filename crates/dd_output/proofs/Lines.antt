@@ -1,22 +1,16 @@
--- The law of the numbers that a line ends with: at least so many, and at most so many where there is a most.
+-- The law of the numbers at the end of a line: at least `least` of them, and at most `most` if there is such a bound.
 use Rattle.std.proofs.Common.{◌≡◌, ℕ, zero, suc, ◌+◌, ◌-◌, ◌<◌, ◌≤◌, List, [], ◌∷◌, ◌++◌, length, drop, Option, Some, None, Bool, true, false, cond, inl, inr, ◌⊎◌, refl, sym, ap, subst, ◌∙◌, append_assoc, length-append, arith}
-use Rattle.std.specs.Prelude.{ℤ, pos, ◌==◌, nat_lt, All}
-use Rattle.std.specs.Fmt.{decimal, signed_decimal}
-use Rattle.std.specs.List.{flat_map, AllByRecursion}
 use Rattle.std.proofs.lemmas.Bool.{eq-eqb, ne_eqb, lt-ltb, ltb-true, ltb-false, leb-true, leb-false, lt-leb, false≢true, cond-true, cond-false}
-use Rattle.std.proofs.lemmas.Fmt.{decimal_digit}
-use Rattle.std.proofs.lemmas.List.{append-nil}
-use Rattle.std.proofs.lemmas.List.Concat.{flat_map-cons}
+use Rattle.std.proofs.lemmas.{Fmt.decimal_digit, List.append-nil, List.Concat.flat_map-cons}
 use Rattle.std.proofs.lemmas.List.Elements.{All-from_recursion, recursion_from_All}
+use Rattle.std.specs.{Prelude.ℤ, Prelude.pos, Prelude.◌==◌, Prelude.nat_lt, Prelude.All, Fmt.decimal, Fmt.signed_decimal}
+use Rattle.std.specs.List.{flat_map, AllByRecursion}
 use Rattle.dd_certificate.specs.Bounds.{most_number, IsWritableNumber, IsWritableSigned}
 use Rattle.dd_output.specs.reading.Stops.{Read, is_digit, number_at, map_at, Entry, item, last, entries_at}
 use Rattle.dd_output.specs.reading.Lists.{AtMost, is_last, end_at, other_at, zeros, line_entry_of, line_of, line_entry, numbers, signed_at, signed_entry, integers}
-use Rattle.dd_output.proofs.Readers.{Reads, map_reads, same_reads}
-use Rattle.dd_output.proofs.Numbers.{IsEnd, number_reads}
-use Rattle.dd_output.proofs.Signs.{signed_reads}
+use Rattle.dd_output.proofs.{Readers.Reads, Readers.map_reads, Readers.same_reads, Numbers.IsEnd, Numbers.number_reads, Signs.signed_reads}
 use Rattle.dd_output.proofs.Entries.{entries_text, AllFrom, entry_fits, entry_text, entries_reads, shorter, unrolled_item}
-use Rattle.dd_output.proofs.Loops.{Unrolls}
-use Rattle.dd_output.proofs.EndedLists.{IsList, list_more}
+use Rattle.dd_output.proofs.{Loops.Unrolls, EndedLists.IsList, EndedLists.list_more}
 use Rattle.dd_output.proofs.Forms.{IsText, ReadsText, Good, text_map}
 
 -- ---- how many

@@ -1,13 +1,10 @@
 -- The law of numbers: decimal, without a leading zero, within bounds, and the byte after.
 use Rattle.std.proofs.Common.{◌≡◌, ℕ, ◌+◌, ◌-◌, ◌*◌, ◌/◌, ◌%◌, ◌^◌, ◌<◌, ◌≤◌, List, [], ◌∷◌, ◌++◌, Result, Ok, Err, Bool, true, false, cond, ◌⊎◌, inl, inr, refl, sym, ap, subst, ◌∙◌, append_assoc, arith}
-use Rattle.std.specs.Prelude.{◌==◌, ◌&&◌, ◌||◌, nat_le, nat_lt}
-use Rattle.std.specs.Fmt.{decimal}
 use Rattle.std.proofs.lemmas.Bool.{eqb-true, eq-eqb, ne_eqb, leb-true, le-leb, lt-ltb, ltb-true, and_parts, and_from, or_from, or_left, or_right, or_cases, both_ways}
-use Rattle.std.proofs.lemmas.Fmt.{decimal_digit, decimal_step, decimal_by_steps}
-use Rattle.std.proofs.lemmas.List.{append-nil}
+use Rattle.std.proofs.lemmas.{Fmt.decimal_digit, Fmt.decimal_step, Fmt.decimal_by_steps, List.append-nil}
+use Rattle.std.specs.{Prelude.◌==◌, Prelude.◌&&◌, Prelude.◌||◌, Prelude.nat_le, Prelude.nat_lt, Fmt.decimal}
 use Rattle.dd_output.specs.reading.Stops.{Stop, stop, is_digit, goes_on, starts, digits_at, number_at}
-use Rattle.dd_output.proofs.Readers.{Halts, Reads}
-use Rattle.dd_output.proofs.Tokens.{chosen_ok, chosen_err}
+use Rattle.dd_output.proofs.{Readers.Halts, Readers.Reads, Tokens.chosen_ok, Tokens.chosen_err}
 
 digit_bounds : (b : ℕ) → is_digit b ≡ true → (48 ≤ b) × (b ≤ 57)
 digit_bounds b is =
@@ -24,7 +21,7 @@ decimal_more n d some digit fits =
     let rest : (n * 10 + d) % 10 ≡ d = omega arith in
     decimal_step (n * 10 + d) (omega arith) fits ∙ rw (quotient, rest) refl
 
--- what a number is followed by
+-- the byte that follows a number
 abbrev pub IsEnd : ℕ → ℕ → ℕ → Type 0
 IsEnd end other e = (e ≡ end) ⊎ (e ≡ other)
 

@@ -1,32 +1,22 @@
 -- The laws of the answers, the script and the whole output.
 use Rattle.std.proofs.Common.{◌≡◌, ℕ, suc, ◌+◌, ◌<◌, ◌≤◌, List, [], ◌∷◌, ◌++◌, length, drop, false, ◌⊎◌, inl, inr, refl, sym, ap, ◌∙◌, append_assoc, arith}
-use Rattle.std.specs.Prelude.{◌==◌, codes, nat_lt, replicate}
-use Rattle.std.specs.Fmt.{decimal}
-use Rattle.std.specs.List.{AllByRecursion}
-use Rattle.std.proofs.lemmas.Fmt.{decimal_digit}
-use Rattle.std.proofs.lemmas.Bool.{ltb-true, ltb-false}
-use Rattle.std.proofs.lemmas.List.{length-replicate}
-use Rattle.dd_certificate.specs.declared.answer.Answer.{Answer}
-use Rattle.dd_certificate.specs.declared.answer.Answer.TheVariants as answer
+use Rattle.std.proofs.lemmas.{Fmt.decimal_digit, Bool.ltb-true, Bool.ltb-false, List.length-replicate}
 use Rattle.std.proofs.lemmas.List.Elements.{All-from_recursion, recursion_from_All}
-use Rattle.dd_values.specs.Bounds.{most_script, most_commands}
-use Rattle.dd_certificate.specs.Text.{line_feed, verdict_text, further_lines, answer_text}
+use Rattle.std.specs.{Prelude.◌==◌, Prelude.codes, Prelude.nat_lt, Prelude.replicate, Fmt.decimal, List.AllByRecursion}
+use Rattle.dd_certificate.specs.{declared.answer.Answer.Answer, Text.line_feed, Text.verdict_text, Text.further_lines, Text.answer_text}
 use Rattle.dd_certificate.specs.Bounds.{IsWritable}
+use Rattle.dd_values.specs.Bounds.{most_script, most_commands}
 use Rattle.dd_output.specs.Outputs.{answers_text, end_line, output_text, IsWritableOutput}
 use Rattle.dd_output.specs.reading.Stops.{Read, before, word_at, number_at, bytes_at, then_at, after_at, map_at, Entry, item, last, entries_at}
-use Rattle.dd_output.specs.reading.Lists.{items_of, ended}
-use Rattle.dd_output.specs.reading.Grammar.{answer_form}
+use Rattle.dd_output.specs.reading.{Lists.items_of, Lists.ended, Grammar.answer_form}
 use Rattle.dd_output.specs.reading.Whole.{answer_entry_of, query_text, open_entry, answer_entry, answers_at, script_of, script_at, output_of, head_text, output_at}
 use Rattle.dd_output.proofs.Readers.{Reads, before_reads, then_reads, map_reads, same_reads, choice_reads}
-use Rattle.dd_output.proofs.Tokens.{word_reads, bytes_reads, after_reads}
-use Rattle.dd_output.proofs.Numbers.{number_reads}
+use Rattle.dd_output.proofs.{Tokens.word_reads, Tokens.bytes_reads, Tokens.after_reads, Numbers.number_reads}
 use Rattle.dd_output.proofs.Entries.{entries_text, AllFrom, entry_fits, entry_text, entries_reads, shorter, unrolled_item}
-use Rattle.dd_output.proofs.Loops.{Unrolls}
-use Rattle.dd_output.proofs.EndedLists.{IsList, list_more}
+use Rattle.dd_output.proofs.{Loops.Unrolls, EndedLists.IsList, EndedLists.list_more}
 use Rattle.dd_output.proofs.Forms.{IsText, ReadsText, InBounds, number_text, only, text_map}
-use Rattle.dd_output.proofs.Periods.{cond_reads}
-use Rattle.dd_output.proofs.FirstBytes.{body_text}
-use Rattle.dd_output.proofs.AnswerRows.{answer_good}
+use Rattle.dd_output.proofs.{Periods.cond_reads, FirstBytes.body_text, AnswerRows.answer_good}
+use Rattle.dd_certificate.specs.declared.answer.Answer.TheVariants as answer
 
 -- the text of the answer at the place k, from 0
 abbrev pub answer_text_at : ℕ → Answer → List ℕ

@@ -1,24 +1,18 @@
 -- The law of periods, and of the shear that may follow them.
 use Rattle.std.proofs.Common.{◌≡◌, ℕ, zero, suc, ◌+◌, ◌<◌, ◌≤◌, List, [], ◌∷◌, ◌++◌, length, drop, Bool, true, false, cond, inl, inr, ◌⊎◌, refl, sym, ap, subst, ◌∙◌, append_assoc, length-append, arith}
-use Rattle.std.specs.Prelude.{codes, All, ◌==◌, nat_lt}
-use Rattle.std.specs.Fmt.{decimal}
-use Rattle.std.specs.List.{AllByRecursion}
-use Rattle.std.proofs.lemmas.Bool.{eq-eqb, ne_eqb, ltb-true, ltb-false}
-use Rattle.std.proofs.lemmas.Fmt.{decimal_digit}
-use Rattle.std.proofs.lemmas.List.{append-nil}
-use Rattle.std.proofs.lemmas.List.Concat.{flat_map-cons}
+use Rattle.std.proofs.lemmas.{Bool.eq-eqb, Bool.ne_eqb, Bool.ltb-true, Bool.ltb-false, Fmt.decimal_digit}
+use Rattle.std.proofs.lemmas.List.{append-nil, Concat.flat_map-cons}
 use Rattle.std.proofs.lemmas.List.Elements.{All-from_recursion, recursion_from_All, All-nil, All-cons}
+use Rattle.std.specs.{Prelude.codes, Prelude.All, Prelude.◌==◌, Prelude.nat_lt, Fmt.decimal, List.AllByRecursion}
 use Rattle.dd_certificate.specs.Text.{line_feed, after_space, spaced_out, shear_text}
 use Rattle.dd_certificate.specs.Bounds.{most_number, IsWritableNumber, HasShear}
 use Rattle.dd_output.specs.reading.Stops.{Read, number_at, Entry, item, last, entries_at, choice_at}
 use Rattle.dd_output.specs.reading.Forms.{Form, nothing, number, after}
 use Rattle.dd_output.specs.reading.Periods.{PeriodsEnd, ends, shears, period_of, period_at, shear_of, shear_at, period_entry, periods_of, periods}
-use Rattle.dd_output.proofs.Readers.{Reads, map_reads, same_reads, choice_reads}
-use Rattle.dd_output.proofs.Numbers.{number_reads}
+use Rattle.dd_output.proofs.{Readers.Reads, Readers.map_reads, Readers.same_reads, Readers.choice_reads, Numbers.number_reads}
 use Rattle.dd_output.proofs.Signs.{first_digit}
 use Rattle.dd_output.proofs.Entries.{entries_text, AllFrom, entry_fits, entry_text, entries_reads, shorter, unrolled_item}
-use Rattle.dd_output.proofs.Loops.{Unrolls}
-use Rattle.dd_output.proofs.EndedLists.{IsList, list_more}
+use Rattle.dd_output.proofs.{Loops.Unrolls, EndedLists.IsList, EndedLists.list_more}
 use Rattle.dd_output.proofs.Forms.{IsText, Good, text_map, good_after, good_number, InBounds, number_text, Within, ended_number}
 
 abbrev PeriodFits : ℕ → ℕ → Type 0

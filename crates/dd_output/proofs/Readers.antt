@@ -1,20 +1,18 @@
 -- What a reader reads and where it halts, and how readers are put together.
 use Rattle.std.proofs.Common.{◌≡◌, ℕ, zero, suc, List, [], ◌∷◌, ◌++◌, length, Result, Ok, Err, true, false, ◌⊎◌, inl, inr, refl, sym, ap, subst, ◌∙◌, append_assoc, arith}
-use Rattle.std.specs.Prelude.{◌==◌}
-use Rattle.std.specs.List.{flat_map, AllByRecursion}
-use Rattle.std.proofs.lemmas.List.{nil_from_length}
-use Rattle.std.proofs.lemmas.List.Concat.{flat_map-cons}
-use Rattle.dd_output.specs.reading.Stops.{Stop, stop, Read, ◌>>=◌, before, then_at, map_at, copies, many_at, begins, choice_at}
+use Rattle.std.proofs.lemmas.List.{nil_from_length, Concat.flat_map-cons}
 use Rattle.std.proofs.lemmas.Bool.{cases_Bool, cond-true, cond-false, eq-eqb}
+use Rattle.std.specs.{Prelude.◌==◌, List.flat_map, List.AllByRecursion}
+use Rattle.dd_output.specs.reading.Stops.{Stop, stop, Read, ◌>>=◌, before, then_at, map_at, copies, many_at, begins, choice_at}
 
--- Where it stopped: what was read is a front, the missing text completes it, and with the next byte nothing does.
+-- Where a reader stopped: a prefix was read, the missing text completes it, and after the next byte no text does.
 pub record Halts {A : Type 0} (C : List ℕ → Type 0) (r : List ℕ → Read A) (bytes : List ℕ) (s : Stop) : Type 0 where
   pub front : List ℕ
   pub whole : bytes ≡ front ++ s.left
   pub completed : C (front ++ s.missing)
   pub no_more : (b : ℕ) (more after : List ℕ) → s.left ≡ b ∷ more → r (front ++ b ∷ after) ≡ Err (stop (b ∷ after) s.missing)
 
--- It reads the texts t x of the values that fit, each as the one value, and stops where no such text goes on.
+-- It reads the texts t x of the values that fit, each as its one value, and stops where no such text continues.
 pub record Reads {A : Type 0} (F : A → Type 0) (t : A → List ℕ) (C : List ℕ → Type 0) (r : List ℕ → Read A) : Type 0 where
   pub takes : (bytes : List ℕ) (x : A) (rest : List ℕ) → r bytes ≡ Ok (x, rest) → (bytes ≡ t x ++ rest) × F x
   pub again : (x : A) (rest : List ℕ) → F x → r (t x ++ rest) ≡ Ok (x, rest)
@@ -136,7 +134,7 @@ map_reads {A} {B} F t C r G u f law to from =
       ];
     }
 
--- the same reader, where the fitting values or the completions are said otherwise
+-- the same reader, with its fitting values or its completions stated in another way
 pub same_reads : {A : Type 0} (F : A → Type 0) (t : A → List ℕ) (C : List ℕ → Type 0) (r : List ℕ → Read A) (G : A → Type 0) (u : A → List ℕ) (D : List ℕ → Type 0)
     → Reads F t C r → ((x : A) → F x → (u x ≡ t x) × G x) → ((x : A) → G x → (u x ≡ t x) × F x) → ((text : List ℕ) → C text → D text) → Reads G u D r
 same_reads F t C r G u D law to from done = record {

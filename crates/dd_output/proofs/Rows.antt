@@ -1,27 +1,20 @@
 -- The laws of the parts of answers, and of each row of the table of answers.
 use Rattle.std.proofs.Common.{◌≡◌, ℕ, ◌≤◌, List, [], ◌∷◌, ◌++◌, length, drop, Some, None, false, inl, inr, ◌⊎◌, refl, sym, ap, subst, ◌∙◌, append_assoc, arith}
-use Rattle.std.specs.Prelude.{ℤ, codes, All, ◌==◌}
-use Rattle.std.specs.Fmt.{decimal, signed_decimal}
-use Rattle.std.proofs.lemmas.Bool.{ne_eqb}
-use Rattle.std.proofs.lemmas.Fmt.{decimal_digit}
-use Rattle.std.proofs.lemmas.List.Elements.{All-nil, All-cons}
-use Rattle.dd_certificate.specs.declared.answer.Side.{Side}
-use Rattle.dd_certificate.specs.declared.answer.Side.TheVariants as side
-use Rattle.dd_certificate.specs.declared.answer.Reason.{Reason}
-use Rattle.dd_certificate.specs.declared.answer.Reason.TheVariants as reason
+use Rattle.std.proofs.lemmas.{Bool.ne_eqb, Fmt.decimal_digit, List.Elements.All-nil, List.Elements.All-cons}
+use Rattle.std.specs.{Prelude.ℤ, Prelude.codes, Prelude.All, Prelude.◌==◌, Fmt.decimal, Fmt.signed_decimal}
+use Rattle.dd_certificate.specs.declared.answer.{Side.Side, Reason.Reason}
 use Rattle.dd_certificate.specs.Text.{line_feed, numbers_to_end, signed_to_end, fraction_to_end, side_text, reason_text, spaced_out, shear_text, pattern_text}
 use Rattle.dd_certificate.specs.Bounds.{most_number, IsWritableNumber, IsWritablePattern}
 use Rattle.dd_output.specs.reading.Stops.{number_at, then_at, Entry, item, last}
 use Rattle.dd_output.specs.reading.Forms.{word, number, both, after, mapped, either, forked}
-use Rattle.dd_output.specs.reading.Lists.{zeros, numbers}
-use Rattle.dd_output.specs.reading.Periods.{periods}
-use Rattle.dd_output.specs.reading.Grammar as grammar
-use Rattle.dd_output.proofs.Readers.{Reads, then_reads}
-use Rattle.dd_output.proofs.Numbers.{number_reads}
-use Rattle.dd_output.proofs.Signs.{first_digit}
+use Rattle.dd_output.specs.reading.{Lists.zeros, Lists.numbers, Periods.periods}
+use Rattle.dd_output.proofs.{Readers.Reads, Readers.then_reads, Numbers.number_reads, Signs.first_digit}
 use Rattle.dd_output.proofs.Lines.{line_rest, LineFits, numbers_good}
 use Rattle.dd_output.proofs.Periods.{PeriodsFit, periods_rest, periods_good}
 use Rattle.dd_output.proofs.Forms.{IsText, ReadsText, Good, good_word, good_same, good_mapped, good_number, good_both, good_after, good_either, good_forked, ForkFits, fork_text, Within, ended_number, InBounds, number_text, only, anything, text_map}
+use Rattle.dd_certificate.specs.declared.answer.Side.TheVariants as side
+use Rattle.dd_certificate.specs.declared.answer.Reason.TheVariants as reason
+use Rattle.dd_output.specs.reading.Grammar as grammar
 
 -- ---- lines
 

@@ -1,15 +1,11 @@
 -- The law of signed numbers.
 use Rattle.std.proofs.Common.{◌≡◌, ℕ, suc, ◌+◌, ◌-◌, ◌%◌, ◌^◌, ◌<◌, ◌≤◌, List, [], ◌∷◌, ◌++◌, false, inl, inr, ◌⊎◌, refl, ap, subst, arith}
-use Rattle.std.specs.Prelude.{ℤ, pos, negsuc, unsigned_abs, ◌==◌}
-use Rattle.std.specs.Fmt.{decimal, signed_decimal}
-use Rattle.std.proofs.lemmas.Bool.{ne_eqb}
-use Rattle.std.proofs.lemmas.Fmt.{decimal_digit, decimal_by_steps}
+use Rattle.std.proofs.lemmas.{Bool.ne_eqb, Fmt.decimal_digit, Fmt.decimal_by_steps}
+use Rattle.std.specs.{Prelude.ℤ, Prelude.pos, Prelude.negsuc, Prelude.unsigned_abs, Prelude.◌==◌, Fmt.decimal, Fmt.signed_decimal}
 use Rattle.dd_output.specs.reading.Stops.{is_digit, number_at, after_at, map_at}
 use Rattle.dd_output.specs.reading.Lists.{minus_of, plus_of, signed_at}
-use Rattle.dd_output.proofs.Readers.{Reads, map_reads, same_reads, choice_reads}
-use Rattle.dd_output.proofs.Tokens.{after_reads}
-use Rattle.dd_output.proofs.Numbers.{IsEnd, number_reads}
-use Rattle.dd_output.proofs.Forms.{InBounds, number_text}
+use Rattle.dd_output.proofs.{Readers.Reads, Readers.map_reads, Readers.same_reads, Readers.choice_reads, Tokens.after_reads}
+use Rattle.dd_output.proofs.{Numbers.IsEnd, Numbers.number_reads, Forms.InBounds, Forms.number_text}
 
 -- the first digit of a number
 pub record FirstDigit (least : ℕ) (ds : List ℕ) : Type 0 where

@@ -1,10 +1,7 @@
--- The law of symbols and stars that a line ends with, and of a pattern that is made of them.
+-- The law of the symbols and stars at the end of a line, and of patterns made of them.
 use Rattle.std.proofs.Common.{◌≡◌, ℕ, ◌≤◌, List, [], ◌∷◌, ◌++◌, length, Option, Some, None, Ok, Err, false, ◌⊎◌, inl, inr, refl, ap, subst, arith}
-use Rattle.std.specs.Prelude.{◌==◌, ◌||◌, All, codes}
-use Rattle.std.specs.Fmt.{decimal}
-use Rattle.std.proofs.lemmas.Bool.{ne_eqb}
-use Rattle.std.proofs.lemmas.Fmt.{decimal_digit}
-use Rattle.std.proofs.lemmas.List.Elements.{All-nil}
+use Rattle.std.proofs.lemmas.{Bool.ne_eqb, Fmt.decimal_digit, List.Elements.All-nil}
+use Rattle.std.specs.{Prelude.◌==◌, Prelude.◌||◌, Prelude.All, Prelude.codes, Fmt.decimal}
 use Rattle.dd_certificate.specs.Text.{kept_text, kept_to_end, starred_text}
 use Rattle.dd_certificate.specs.Bounds.{most_number, IsWritableNumber, IsWritableKept, IsWritableStarred}
 use Rattle.dd_output.specs.reading.Stops.{Stop, stop, is_digit, number_at, after_at, map_at, Entry, item, last}
@@ -13,9 +10,7 @@ use Rattle.dd_output.specs.reading.Stars.{end_byte_at, star_of, symbol_of, kept_
 use Rattle.dd_output.specs.reading.Grammar.{starred_of, starred}
 use Rattle.dd_output.proofs.Readers.{Halts, Reads, ok_is, map_reads, same_reads, choice_reads}
 use Rattle.dd_output.proofs.Tokens.{chosen_ok, chosen_err, after_reads}
-use Rattle.dd_output.proofs.Numbers.{IsEnd, is_end, IsEnd_from, number_reads}
-use Rattle.dd_output.proofs.Signs.{first_digit}
-use Rattle.dd_output.proofs.Loops.{Unrolls}
+use Rattle.dd_output.proofs.{Numbers.IsEnd, Numbers.is_end, Numbers.IsEnd_from, Numbers.number_reads, Signs.first_digit, Loops.Unrolls}
 use Rattle.dd_output.proofs.Lines.{line_rest, LineFits, good_line, line_unrolls}
 use Rattle.dd_output.proofs.Forms.{Good, good_word, good_mapped, good_after, good_forked, ForkFits, fork_text, InBounds, number_text, anything}
 

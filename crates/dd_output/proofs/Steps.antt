@@ -2,8 +2,7 @@
 use Rattle.std.proofs.Common.{ℕ, List, ◌++◌, refl, arith}
 use Rattle.std.specs.Prelude.{codes, All}
 use Rattle.dd_values.specs.Bounds.{most_variables}
-use Rattle.dd_clause.specs.declared.clause.Literal.{Literal}
-use Rattle.dd_clause.specs.Clauses.{IsLiteralInRange}
+use Rattle.dd_clause.specs.{declared.clause.Literal.Literal, Clauses.IsLiteralInRange}
 use Rattle.dd_certificate.specs.Text.{literals_to_zero, numbers_to_zero, step_text, refutation_text}
 use Rattle.dd_certificate.specs.Bounds.{most_count, IsWritableHint, IsWritableStep, IsWritableRefutation}
 use Rattle.dd_output.specs.reading.Forms.{both, after, counted}

@@ -1,16 +1,16 @@
--- A table of rows that are good, each of a byte of its own, is good.
+-- A table of good rows, each with a byte of its own, is good.
 use Rattle.std.proofs.Common.{◌≡◌, ℕ, List, [], ◌∷◌, Bool, true, false, inl, inr, ◌⊎◌, refl, sym, ap, ◌∙◌}
 use Rattle.std.specs.Prelude.{◌==◌, ◌&&◌, ◌||◌, not}
 use Rattle.std.proofs.lemmas.Bool.{eqb-true, eq-eqb, ne_eqb, and_parts, false≢true, or_left, or_right, or_cases}
 use Rattle.dd_output.specs.reading.Forms.{Form, table}
 use Rattle.dd_output.proofs.Forms.{Good, good_same, good_either}
 
--- the byte is that of one of the rows
+-- one of the rows has this byte
 abbrev pub is_among : {A : Type 0} → ℕ → ℕ × Form A → List (ℕ × Form A) → Bool
 is_among n row [] = n == row.0
 is_among n row (next ∷ rows) = n == row.0 || is_among n next rows
 
--- no two rows have one byte
+-- no two rows have the same byte
 abbrev pub are_apart : {A : Type 0} → ℕ × Form A → List (ℕ × Form A) → Bool
 are_apart row [] = true
 are_apart row (next ∷ rows) = not (is_among row.0 next rows) && are_apart next rows

@@ -1,19 +1,14 @@
--- All of the bytes: one value a text, and where a text is malformed.
+-- Reading all of the bytes: the one value of a text, and where a text is malformed.
 use Rattle.std.proofs.Common.{◌≡◌, ℕ, suc, ◌+◌, ◌-◌, ◌<◌, ◌≤◌, List, [], ◌∷◌, ◌++◌, length, length-append, take, Result, Ok, Err, Bool, true, false, cond, ◌⊎◌, inl, inr, refl, sym, ap, subst, ◌∙◌, append_assoc, arith}
+use Rattle.std.proofs.lemmas.Bool.{eqb-true, Decides.leb_tells}
+use Rattle.std.proofs.{lemmas.List.append-nil, lemmas.List.nil_from_length, lemmas.List.take_at, lemmas.List.drop_at, Math.Seq.take-add}
 use Rattle.std.specs.Prelude.{◌==◌}
-use Rattle.std.proofs.lemmas.Bool.{eqb-true}
-use Rattle.std.proofs.lemmas.Bool.Decides.{leb_tells}
-use Rattle.std.proofs.lemmas.List.{append-nil, nil_from_length, take_at, drop_at}
-use Rattle.std.proofs.Math.Seq.{take-add}
-use Rattle.dd_output.specs.declared.output.Output.{Output}
-use Rattle.dd_output.specs.reading.Stops.{Stop, stop, StoppedAt}
-use Rattle.dd_output.specs.Outputs.{output_text, IsWritableOutput, IsWellFormed}
-use Rattle.dd_output.specs.Offsets.{IsOffset, ReadsOutput}
+use Rattle.dd_output.specs.{declared.output.Output.Output, reading.Stops.Stop, reading.Stops.stop, reading.Stops.StoppedAt}
+use Rattle.dd_output.specs.{Outputs.output_text, Outputs.IsWritableOutput, Outputs.IsWellFormed, Offsets.IsOffset, Offsets.ReadsOutput}
 use Rattle.dd_output.specs.declared.fault.CertificateFault.{CertificateFault}
-use Rattle.dd_output.specs.declared.fault.CertificateFault.TheVariants as faults
 use Rattle.dd_output.specs.reading.Whole.{output_at, all_at, missing_of, completion}
-use Rattle.dd_output.proofs.Readers.{bind_ok, bind_err, ok_is}
-use Rattle.dd_output.proofs.Outputs.{output_reads}
+use Rattle.dd_output.proofs.{Readers.bind_ok, Readers.bind_err, Readers.ok_is, Outputs.output_reads}
+use Rattle.dd_output.specs.declared.fault.CertificateFault.TheVariants as faults
 
 ended_ok : {A : Type 0} (b : Bool) (x y : A) (s : Stop) → cond b (Ok x) (Err s) ≡ Ok y → (b ≡ true) × (x ≡ y)
 ended_ok true x y s e = (refl, cc)
@@ -131,7 +126,7 @@ refused_at bytes left is =
     let a = stop_of bytes left (all_at bytes) is in
     refused bytes a.0 a.1 left a.2
 
--- each front of a well-formed text is completed
+-- each prefix of a well-formed text is completed
 completed_from : (front more : List ℕ) (good : IsWellFormed (front ++ more)) (s : Stop) → all_at front ≡ Err s → (rest : List ℕ) → s.left ≡ rest → IsWellFormed (front ++ s.missing)
 completed_from front more good s e [] is =
     let h = whole_stops front s e in
@@ -158,7 +153,7 @@ le_or_lt n m = elim (leb_tells n m) [
   | inr other ↦ inr other.1
 ]
 
--- two offsets of the same bytes: the longer one would be a longer front
+-- of two offsets of the same bytes, the greater one would give a longer prefix
 no_less : (bytes : List ℕ) (m n : ℕ) → IsOffset bytes m → IsOffset bytes n → n ≤ m
 no_less bytes m n one two = elim (le_or_lt n m) [
   | inl le ↦ le

@@ -1,8 +1,7 @@
 -- Outputs written answer by answer.
 use Rattle.std.proofs.Common.{◌≡◌, ℕ, suc, ◌+◌, ◌<◌, List, [], ◌∷◌, ◌++◌, length, get_or, take, sym, ap, ◌∙◌, arith}
 use Rattle.std.proofs.lemmas.List.{append_assoc, append-nil, take_more, length-take-le}
-use Rattle.dd_certificate.specs.declared.answer.Answer.{Answer}
-use Rattle.dd_certificate.specs.Text.{answer_text}
+use Rattle.dd_certificate.specs.{declared.answer.Answer.Answer, Text.answer_text}
 use Rattle.dd_output.specs.Outputs.{answers_text}
 
 -- the text of answers and then one more

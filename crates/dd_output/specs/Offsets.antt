@@ -1,12 +1,10 @@
--- What bytes spell, and how many of them begin an output where they are none.
+-- The output that bytes spell; if they spell none, how many of them begin one.
 use Rattle.std.specs.Prelude.{◌≡◌, ℕ, ◌<◌, ◌≤◌, List, ◌++◌, length, take, Result, Ok, Err}
-use Rattle.dd_output.specs.declared.output.Output.{Output}
-use Rattle.dd_output.specs.declared.fault.CertificateFault.{CertificateFault}
+use Rattle.dd_output.specs.declared.{output.Output.Output, fault.CertificateFault.CertificateFault}
+use Rattle.dd_output.specs.{Outputs.output_text, Outputs.IsWritableOutput, Outputs.IsWellFormed, reading.Whole.completion}
 use Rattle.dd_output.specs.declared.fault.CertificateFault.TheVariants as faults
-use Rattle.dd_output.specs.Outputs.{output_text, IsWritableOutput, IsWellFormed}
-use Rattle.dd_output.specs.reading.Whole.{completion}
 
--- The longest front of the bytes that begins a well-formed output has this length, and the stated text completes it.
+-- The longest prefix of the bytes that begins a well-formed output has this length, and `completion` completes it.
 pub record IsOffset (bytes : List ℕ) (offset : ℕ) : Type 0 where
   pub within : offset ≤ length bytes
   pub begins : IsWellFormed (take offset bytes ++ completion bytes)
@@ -16,7 +14,7 @@ abbrev pub IsOutputFault : List ℕ → CertificateFault → Type 0
 IsOutputFault bytes faults.Memory = Unit {0}
 IsOutputFault bytes (faults.Malformed offset) = (IsWellFormed bytes → ⊥) × IsOffset bytes offset
 
--- the one output that the bytes spell; else the offset where they are none
+-- the one output that the bytes spell; if they spell none, their offset
 abbrev pub ReadsOutput : List ℕ → Result Output CertificateFault → Type 0
 ReadsOutput bytes (Ok o) = IsWritableOutput o × (bytes ≡ output_text o)
 ReadsOutput bytes (Err fault) = IsOutputFault bytes fault

@@ -2,10 +2,8 @@
 use Rattle.std.specs.Prelude.{◌≡◌, ℕ, suc, ◌≤◌, List, [], ◌∷◌, ◌++◌, All, length, codes}
 use Rattle.std.specs.Fmt.{decimal}
 use Rattle.dd_values.specs.Bounds.{most_script, most_commands}
-use Rattle.dd_certificate.specs.declared.answer.Answer.{Answer}
+use Rattle.dd_certificate.specs.{declared.answer.Answer.Answer, Text.line_feed, Text.answer_text, Bounds.IsWritable}
 use Rattle.dd_output.specs.declared.output.Output.{Output}
-use Rattle.dd_certificate.specs.Text.{line_feed, answer_text}
-use Rattle.dd_certificate.specs.Bounds.{IsWritable}
 
 -- the lines before the first answer: the script, with its length before it and a line feed after it
 abbrev pub header : List ℕ → List ℕ

@@ -306,7 +306,7 @@ fn inside_of(bytes: &[u8]) -> Result<(Answer, &[u8]), ReadFault>
     Ok((Answer::Inside, rest))
 }
 
-/// Two kinds of answer begin by `NO`, and the next byte tells them apart.
+/// Two kinds of answer begin with `NO`, and the next byte tells them apart.
 #[tactic(auto, unfolding(crate::specs::reading::Grammar::no_or_nothing))]
 fn no_or_nothing_of(alloc: Global, bytes: &[u8]) -> Result<(Answer, &[u8]), ReadFault>
     ensures { Gives (λ x. (x.0, x.1.now)) result (grammar.no_or_nothing.read bytes.now) }
@@ -343,7 +343,7 @@ fn bound_or_broken_of(alloc: Global, bytes: &[u8]) -> Result<(Answer, &[u8]), Re
     }
 }
 
-/// An answer of any kind, told by its first byte.
+/// An answer of any kind. Its first byte tells the kind.
 #[tactic(auto, unfolding(crate::specs::reading::Grammar::answer_form))]
 pub(crate) fn answer_of(alloc: Global, bytes: &[u8]) -> Result<(Answer, &[u8]), ReadFault>
     ensures { Gives (λ x. (x.0, x.1.now)) result (grammar.answer_form.read bytes.now) }

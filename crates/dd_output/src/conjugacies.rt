@@ -1,4 +1,4 @@
-//! The answers to the four questions of a conjugacy: each by a refutation, or one that does not hold by a configuration.
+//! The answers to the four questions of a conjugacy: a refutation for each, or a configuration for one that does not hold.
 ghost use Rattle.std.specs.Prelude.{◌≡◌};
 ghost use Rattle.dd_output.specs.reading.Stops.{Gives, many_at};
 ghost use Rattle.dd_output.specs.reading.Grammar as grammar;
@@ -13,7 +13,7 @@ use dd_derivation::Step;
 use dd_values::Items;
 use std::alloc::Global;
 
-/// So many refutations, one after the other.
+/// A given number of refutations, one after the other.
 fn refutations_of(
     alloc: Global,
     count: u64,

@@ -12,7 +12,7 @@ use dd_derivation::Step;
 use dd_values::Items;
 use std::alloc::Global;
 
-/// Where the lists of a step are gathered before each is copied at its length. Each step uses it again.
+/// Room where the lists of a step are gathered, until each is copied at its length. All steps share it.
 #[derive(Drop)]
 struct Room {
     literals: Vec<Literal>,

@@ -8,7 +8,7 @@ use thiserror::Error;
 /// Why an output could not be read.
 #[derive(Clone, Copy, Debug, PartialEq, Eq, Error)]
 pub enum CertificateFault {
-    /// The bytes are no output. As many as are given here begin one, and one more of them does not.
+    /// The bytes are no output. This many of them begin one, and one more does not.
     #[error("no output goes on after {0} bytes")]
     Malformed(u64),
     /// There is no memory for the output.
@@ -19,9 +19,9 @@ pub enum CertificateFault {
 /// What stopped the reading inside.
 #[derive(Debug, Drop)]
 pub(crate) enum ReadFault {
-    /// Memory was wanting.
+    /// Memory ran out.
     Memory,
-    /// So many bytes were not read.
+    /// Reading stopped with this many bytes left.
     Stopped(usize),
 }
 

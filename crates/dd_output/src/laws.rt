@@ -12,17 +12,17 @@ pub fn one_output()
     ensures { (a b : Output) → IsWritableOutput a → IsWritableOutput b → output_text a ≡ output_text b → a ≡ b }
 {}
 
-/// Does nothing; its contract says that what is read of the text of an output is that output, where there is memory for it.
+/// Does nothing; its contract says that reading the text of an output gives that output, if there is memory for it.
 pub fn read_again()
     ensures { (o : Output) (read : Result Output CertificateFault) → IsWritableOutput o → ReadsOutput (output_text o) read → (read ≡ Ok o) ⊎ (read ≡ Err faults.Memory) }
 {}
 
-/// Does nothing; its contract says that bytes have one offset at most.
+/// Does nothing; its contract says that bytes have at most one offset.
 pub fn one_offset()
     ensures { (bytes : List ℕ) (m n : ℕ) → IsOffset bytes m → IsOffset bytes n → m ≡ n }
 {}
 
-/// Does nothing; its contract says that a front of an output, followed by the text that completes it, is an output.
+/// Does nothing; its contract says that a prefix of an output, followed by the text that completes it, is an output.
 pub fn completes()
     ensures { (front more : List ℕ) → IsWellFormed (front ++ more) → IsWellFormed (front ++ completion front) }
 {}

@@ -25,7 +25,7 @@ fn zero_weight_of(
     Ok((0, symbols, Items::new(alloc), rest))
 }
 
-/// A weight from 1 on, a configuration that has it, and what refutes each smaller weight.
+/// A weight of at least 1, a configuration that has it, and the steps that refute each smaller weight.
 #[tactic(auto, unfolding(crate::specs::reading::Grammar::some_weight))]
 fn some_weight_of(
     alloc: Global,

@@ -1,14 +1,14 @@
-//! The tokens of a text: words, numbers and raw bytes. Each takes the byte that ends it, so that no text of a token is a front of
-//! another. A reader is handed the bytes and hands back what it did not read.
+//! The tokens of a text: words, numbers and raw bytes. Each includes the byte that ends it, so no token's text is a
+//! prefix of another's. A reader takes the bytes and returns those that it did not read.
 ghost use Rattle.std.specs.Prelude.{◌≡◌, ◌<◌, ◌≤◌, ◌^◌, ◌-◌, ◌*◌, ◌+◌, true, length, [], IfOk, nat_le};
 ghost use Rattle.dd_output.specs.reading.Stops.{Gives, is_digit, goes_on, starts, word_at, digits_at, number_at, bytes_at, begins};
 
 use crate::fault::ReadFault;
 
-/// Ten times a number below this one, and a digit more, have room in 64 bits.
+/// Ten times a number below this one, plus a digit, fits in 64 bits.
 const SHORT: u64 = 1 << 60;
 
-/// The bytes begin with this one.
+/// Whether the bytes begin with this one.
 pub(crate) fn begins(bytes: &[u8], first: u8) -> bool
     ensures { result ≡ begins first bytes.now }
 {
@@ -48,7 +48,7 @@ fn next(number: u64, digit: u8) -> u128
     u128::from(number) * 10 + u128::from(digit - b'0')
 }
 
-/// A number with one more digit is at most the bound. The numbers of most texts are far below 2^64.
+/// Whether a number with one more digit is at most the bound. The numbers of most texts are far below 2^64.
 fn has_room(bound: u64, number: u64, digit: u8) -> bool
     requires { is_digit digit ≡ true }
     ensures { result ≡ nat_le (number * 10 + (digit - 48)) bound }
@@ -128,7 +128,7 @@ pub(crate) fn number_at(
     }
 }
 
-/// So many bytes, and those after them.
+/// The first `count` bytes, and those after them.
 pub(crate) fn bytes_at(bytes: &[u8], count: usize) -> Result<(&[u8], &[u8]), ReadFault>
     ensures { Gives (λ x. (x.0.now, x.1.now)) result (bytes_at count bytes.now) }
 {

@@ -1,5 +1,5 @@
-//! Whole outputs, read back. Bytes that are no output are refused at the first byte with which no output goes on. The grammar is a
-//! table of lines: each of them knows a text that completes it, so that the offset is exact.
+//! Whole outputs, read back. Bytes that are no output are refused at the first byte with which no output continues.
+//! The grammar is a table of lines. Each line has a text that completes it, so the offset is exact.
 #![tactic(auto)]
 
 mod bodies;

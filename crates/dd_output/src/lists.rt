@@ -68,7 +68,7 @@ fn number_entry(bytes: &[u8], end: u8) -> Result<(Option<u64>, &[u8]), ReadFault
     }
 }
 
-/// The clause of the literals up to the 0 that ends them. They are gathered in the room, whose old items go.
+/// The clause of the literals up to the 0 that ends them. They are gathered in the room, which is emptied first.
 pub(crate) fn clause_of<'a>(
     alloc: Global,
     room: &mut Vec<Literal>,
@@ -88,7 +88,7 @@ pub(crate) fn clause_of<'a>(
     }
 }
 
-/// Numbers of clauses up to the 0 that ends them, and the byte after it. They are gathered in the room, whose old items go.
+/// Numbers of clauses up to the 0 that ends them, and the byte after it. They are gathered in the room, which is emptied first.
 pub(crate) fn numbers_until<'a>(
     alloc: Global,
     room: &mut Vec<u64>,
@@ -109,8 +109,8 @@ pub(crate) fn numbers_until<'a>(
     }
 }
 
-/// The byte that ends the number at a place, from 0, where a line has at least so many: a space before the last that it has to
-/// have, and then a line feed.
+/// The byte that ends the number at a place, from 0, of a line with at least `least` numbers: a space before the last
+/// required one, and then a line feed.
 pub(crate) fn end_at(least: u64, place: u64) -> u8
     ensures { result ≡ end_at least place }
 {
@@ -121,7 +121,7 @@ pub(crate) fn end_at(least: u64, place: u64) -> u8
     }
 }
 
-/// The other byte that can end it: a line feed after as many as there may be, and else a space.
+/// The other byte that can end it: a line feed after the last number allowed, else a space.
 pub(crate) fn other_at(most: Option<u64>, place: u64) -> u8
     ensures { result ≡ other_at most place }
 {
@@ -164,7 +164,7 @@ fn line_entry(
     Ok((number, end == b'\n', rest))
 }
 
-/// The numbers that a line ends with: at least so many, and at most so many where there is a most.
+/// The numbers that a line ends with: at least `least`, and at most `most` if there is such a bound.
 #[tactic(auto, unfolding(crate::specs::reading::Lists::numbers))]
 pub(crate) fn numbers_of(
     alloc: Global,
@@ -237,7 +237,7 @@ fn signed_entry(
     Ok((number, end == b'\n', rest))
 }
 
-/// The same as `numbers_of`, where each number may have a minus sign.
+/// Like `numbers_of`, but each number may have a minus sign.
 #[tactic(auto, unfolding(crate::specs::reading::Lists::integers))]
 pub(crate) fn integers_of(
     alloc: Global,

@@ -129,8 +129,8 @@ fn all_of(alloc: Global, bytes: &[u8]) -> Result<Output, ReadFault>
 ///
 /// # Errors
 ///
-/// `Malformed` where the bytes spell none, with the length of the longest front that begins some output; else `Memory`, where
-/// there is no memory for the output.
+/// `Malformed` if the bytes spell none, with the length of the longest prefix that begins some output; else `Memory`,
+/// if there is no memory for the output.
 #[tactic(auto, using(crate::proofs::Whole::whole_takes, crate::proofs::Whole::refused_at, crate::proofs::Whole::left_fits))]
 pub fn read_output(alloc: Global, bytes: &[u8]) -> Result<Output, CertificateFault>
     ensures { ReadsOutput bytes.now result }

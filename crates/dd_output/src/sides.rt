@@ -1,4 +1,4 @@
-//! The periods of a configuration, the shear that may follow two or three of them, and the side of a query that they stand for.
+//! The periods of a configuration, the shear that may follow two or three of them, and the side of a query to which they belong.
 ghost use Rattle.std.specs.Prelude.{◌≡◌};
 ghost use Rattle.dd_output.specs.reading.Stops.{Gives};
 ghost use Rattle.dd_output.specs.reading.Periods.{period_at, shear_at, period_entry, periods};
@@ -11,7 +11,7 @@ use dd_certificate::Side;
 use dd_values::{Items, MOST_NUMBER};
 use std::alloc::Global;
 
-/// What stands after a space of the periods' line.
+/// The entry after a space of the periods' line.
 #[derive(Clone, Copy, Debug)]
 pub(crate) enum PeriodEntry {
     /// A period, and a space after it.
@@ -80,7 +80,7 @@ pub(crate) fn periods_of(alloc: Global, bytes: &[u8]) -> Result<(Items<u64>, u64
     }
 }
 
-/// The side, where one is said, and then the periods and the shear.
+/// The side, if there is one, and then the periods and the shear.
 #[tactic(auto, unfolding(crate::specs::reading::Grammar::side_and_periods))]
 pub(crate) fn side_and_periods_of(
     alloc: Global,

@@ -1,4 +1,4 @@
-//! Patterns from which cells are left out, each in its line with a star in the place of the symbol.
+//! Patterns from which cells may be left out. Each is one line, with a star in place of each symbol left out.
 ghost use Rattle.std.specs.Prelude.{◌≡◌, ◌-◌, [], None, suc};
 ghost use Rattle.dd_certificate.specs.Bounds.{most_number};
 ghost use Rattle.dd_output.specs.reading.Stops.{Gives, number_at, many_at, copies};
@@ -45,7 +45,7 @@ fn kept_at(bytes: &[u8], end: u8, other: u8) -> Result<(Option<u64>, u8, &[u8]),
     }
 }
 
-/// What stands at a place of a line, and the byte that ends it.
+/// The symbol or star at a place of a line, and the byte that ends it.
 #[tactic(auto, using(crate::proofs::Counts::kept_any))]
 fn kept_in_line(bytes: &[u8], place: u64) -> Result<(Option<u64>, u8, &[u8]), ReadFault>
     ensures { Gives (λ x. ((x.0, x.1), x.2.now)) result (kept_at (end_at 1 place) (other_at None place) (zeros (1 - suc place)) bytes.now) }

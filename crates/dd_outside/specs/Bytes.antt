@@ -1,10 +1,9 @@
--- What calls do to the bytes that a source has left and a sink holds, where these are told.
+-- What calls do to the bytes that a source has left and a sink holds, where these are known.
 use Rattle.std.specs.Prelude.{◌≡◌, ℕ, ◌-◌, ◌^◌, ◌≤◌, ◌<◌, List, ◌++◌, length, min}
-use Rattle.std.specs.declared.option.Option.{Option}
-use Rattle.std.specs.Io.KnownBytes.{Appends, Consumes, IsAtEnd}
+use Rattle.std.specs.{declared.option.Option.Option, Io.KnownBytes.Appends, Io.KnownBytes.Consumes, Io.KnownBytes.IsAtEnd}
 use Rattle.std.proofs.Common.{arith}
 
--- The sink gained a front of the text.
+-- The sink gained a prefix of the text.
 pub record GainsFront (old new : Option (List ℕ)) (text : List ℕ) : Type 0 where
   pub gained : List ℕ
   pub missing : List ℕ
@@ -16,7 +15,7 @@ pub record ReadToEnd (old new : Option (List ℕ)) (bytes : List ℕ) : Type 0 w
   pub consumed : Consumes old new bytes
   pub at_end : IsAtEnd new
 
--- The source gave at most so many bytes.
+-- The source gave at most `limit` bytes.
 pub record GivesAtMost (old new : Option (List ℕ)) (limit : ℕ) : Type 0 where
   pub given : List ℕ
   pub consumed : Consumes old new given
@@ -28,7 +27,7 @@ pub record GivesMore (old new : Option (List ℕ)) (limit : ℕ) : Type 0 where
   pub consumed : Consumes old new given
   pub many : limit < length given
 
--- One read put so many bytes behind those that were there, none only at the end.
+-- One read added `count` bytes. It added none only at the end of the source.
 pub record ReadsOn (old new : Option (List ℕ)) (before after : List ℕ) (count : ℕ) : Type 0 where
   pub given : List ℕ
   pub consumed : Consumes old new given
@@ -36,7 +35,7 @@ pub record ReadsOn (old new : Option (List ℕ)) (before after : List ℕ) (coun
   pub counted : length given ≡ count
   pub ends : count ≡ 0 → IsAtEnd new
 
--- A count of 64 bits, which stops at its greatest number.
+-- A 64-bit count that stops at its greatest number.
 abbrev pub capped : ℕ → ℕ
 capped count = min count (2 ^ 64 - 1)
 

@@ -1,6 +1,6 @@
 -- what calls do to the bytes that a source has left and a sink holds
 pub mod Bytes
--- what a source and a sink over memory hold, and what they are told to do
+-- what a source and a sink in memory hold, and how they are set up
 pub mod Memory
--- lemmas on what stands above, with their proofs, for whoever cites them
+-- lemmas on these definitions, with their proofs
 pub mod lemmas

@@ -1,8 +1,6 @@
--- What a source and a sink over memory hold, and what they are told to do.
+-- What a source and a sink in memory hold, and how they are set up.
 use Rattle.std.specs.Prelude.{ℕ, ◌+◌, ◌-◌, List, length, take, drop}
-use Rattle.dd_outside.specs.Bytes.{capped}
-use Rattle.dd_outside.specs.declared.memory.MemorySource.{MemorySource}
-use Rattle.dd_outside.specs.declared.memory.MemorySink.{MemorySink}
+use Rattle.dd_outside.specs.{Bytes.capped, declared.memory.MemorySource.MemorySource, declared.memory.MemorySink.MemorySink}
 
 -- The number of the next call, from 1. It stops at the greatest number of 64 bits.
 abbrev pub next_call : ℕ → ℕ

@@ -1,4 +1,4 @@
-//! Why a read or a write gave nothing.
+//! Why a read or a write failed.
 ghost use Rattle.std.specs.Prelude.{◌≡◌};
 ghost use Rattle.dd_outside.specs.declared.faults.ReadAllFault.TheVariants.{ReadFault, Memory};
 
@@ -10,12 +10,12 @@ use thiserror::Error;
 #[error("a read or a write failed")]
 pub struct Failed;
 
-/// A piece was not written whole, since the sink failed.
+/// The sink failed before a piece was written whole.
 #[derive(Clone, Copy, Debug, PartialEq, Eq, Error)]
 #[error("a piece was not written whole")]
 pub struct WriteFault;
 
-/// A source was not read to its end.
+/// Why a source was not read to its end.
 #[derive(Clone, Copy, Debug, PartialEq, Eq, Error)]
 pub enum ReadAllFault {
     /// The source failed.
@@ -24,7 +24,7 @@ pub enum ReadAllFault {
     /// The source gave more bytes than the limit.
     #[error("the source has more bytes than the limit")]
     TooLong,
-    /// Memory was wanting.
+    /// Memory ran out.
     #[error("out of memory")]
     Memory,
 }

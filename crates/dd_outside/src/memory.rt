@@ -1,4 +1,4 @@
-//! A source and a sink over memory, which fail at the calls that are listed.
+//! A source and a sink in memory. They fail at the calls that are listed.
 ghost use Rattle.std.specs.Prelude.{◌≡◌, ◌+◌, ◌-◌, ◌^◌, ◌<◌, ◌≤◌, ◌↔◌, [], ◌++◌, Some, length, take, drop, min, ◌⊎◌, Contains, IfOk, IsTrue, IsErr};
 
 use crate::faults::Failed;
@@ -49,7 +49,7 @@ impl Plan {
     }
 }
 
-/// Gives these bytes, at most `step` a call, and fails at the calls with these numbers, from 1.
+/// A source of bytes in memory. A call gives at most `step` bytes. Calls are numbered from 1, and the listed ones fail.
 #[derive(Drop)]
 pub struct MemorySource {
     bytes: Vec<u8>,
@@ -63,8 +63,8 @@ pub struct MemorySource {
 impl MemorySource {
     ghost use Rattle.dd_outside.specs.Memory.{source_step, source_failing, source_calls};
 
-    /// A source of these bytes, of which a call gives at most `step`, which is at least 1. The calls with the numbers `failing` fail; the first
-    /// call has the number 1.
+    /// A source of these bytes. A call gives at most `step` of them; `step` is at least 1. The calls numbered `failing`
+    /// fail. The first call is number 1.
     pub fn new(bytes: Vec<u8>, step: usize, failing: Vec<u64>) -> Self
         requires { 1 ≤ step }
         ensures left { ⟦<MemorySource as Source>⟧.left result ≡ Some bytes.items }
@@ -82,7 +82,7 @@ impl MemorySource {
     }
 }
 
-// Copies the next bytes, at most `step` of them, and goes on behind them.
+// Copies the next bytes, at most `step` of them, and moves past them.
 pub(crate) fn give(bytes: &[u8], at: &mut usize, step: usize, into: &mut [u8]) -> usize
     requires in_range { at.old ≤ length bytes.now }
     requires moves { 0 < step }
@@ -128,8 +128,8 @@ impl Source for MemorySource {
     }
 }
 
-/// Takes bytes up to its capacity, at most `step` a call, and fails at the calls with these
-/// numbers, from 1, and where the next byte would pass the capacity.
+/// A sink in memory. A call takes at most `step` bytes. Calls are numbered from 1, and the listed ones fail. A call also
+/// fails where the next byte would pass the capacity.
 #[derive(Drop)]
 pub struct MemorySink {
     room: Vec<u8>,
@@ -174,7 +174,7 @@ impl MemorySink {
     }
 }
 
-// Copies a front of the piece, at most `step` bytes of it, behind those that were taken before.
+// Copies a prefix of the piece, at most `step` bytes, behind the bytes taken before.
 fn take_in(room: &mut [u8], taken: &mut usize, step: usize, piece: &[u8]) -> usize
     requires { taken.old ≤ length room.old }
     ensures count { result ≡ min step (min (length piece.now) (length room.old - taken.old)) }

@@ -16,10 +16,10 @@ pub trait Sink {
     /// How often it has failed. The count stops at its greatest number.
     ghost faults: { Self → ℕ };
 
-    /// Takes a front of the piece, and answers how many bytes. It is at least one byte where the piece has one.
+    /// Takes a prefix of the piece and returns its length, which is at least 1 unless the piece is empty.
     ///
     /// # Errors
-    /// `Failed` where the write failed. The count of faults is one higher, and a later write may succeed.
+    /// `Failed` if the write failed. The count of faults is then one higher, and a later write may succeed.
     fn write(&mut self, piece: &[u8]) -> Result<usize, Failed>
         ensures bound { WritesAtMost result piece.now }
         ensures some { IfOk result (λ count. 0 < length piece.now → 0 < count) }
@@ -29,10 +29,10 @@ pub trait Sink {
     ghost fits: { (sink : Self) → faults sink ≤ 2 ^ 64 - 1 };
 }
 
-/// Writes all of a piece, by as many writes as it takes. An empty piece makes no write.
+/// Writes a whole piece, in as many writes as it takes. An empty piece makes no write.
 ///
 /// # Errors
-/// `WriteFault` where a write failed. The sink took a front of the piece then, which may be empty or all but its end.
+/// `WriteFault` if a write failed. The sink has then taken a prefix of the piece, perhaps an empty one.
 pub fn write_whole<K: Sink>(sink: &mut K, piece: &[u8]) -> Result<(), WriteFault>
     ensures whole { OnOk result (Appends (K.held sink.old) (K.held sink.new) piece.now) }
     ensures front { OnErr result (GainsFront (K.held sink.old) (K.held sink.new) piece.now) }

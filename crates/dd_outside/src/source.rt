@@ -17,11 +17,12 @@ pub trait Source {
     /// How often it has failed. The count stops at its greatest number.
     ghost faults: { Self → ℕ };
 
-    /// Reads some bytes into the front of a slice, and answers how many. It answers 0 at the end of the source, or where the
-    /// slice is empty.
+    /// Reads bytes into the start of a slice and returns how many. It returns 0 at the end of the source, or if the slice
+    /// is empty.
     ///
     /// # Errors
-    /// `Failed` where the read failed. Nothing was read then, its count of faults is one higher, and a later read may succeed.
+    /// `Failed` if the read failed. Nothing was read then, the count of faults is one higher, and a later read may
+    /// succeed.
     fn read(&mut self, into: &mut [u8]) -> Result<usize, Failed>
         ensures bound { ReadsAtMost result into.new }
         ensures bytes { ReadConsumes (left self.old) (left self.new) result into.new }
@@ -30,7 +31,7 @@ pub trait Source {
     ghost fits: { (source : Self) → faults source ≤ 2 ^ 64 - 1 };
 }
 
-// How much one read asks for.
+// How many bytes one read asks for.
 const PIECE: usize = 65536;
 
 fn room_of(alloc: Global, size: usize) -> Result<Vec<u8>, AllocError>
@@ -39,7 +40,7 @@ fn room_of(alloc: Global, size: usize) -> Result<Vec<u8>, AllocError>
     vec![in alloc; 0; size]
 }
 
-// One read into the room, whose bytes go behind those that were read before.
+// Reads once into `room`, and adds what was read to `bytes`.
 fn read_on<S: Source>(
     source: &mut S,
     room: &mut [u8],
@@ -59,12 +60,12 @@ fn read_on<S: Source>(
     Ok(count)
 }
 
-/// Reads all bytes to the end of the source. At most one byte more than the limit, in bytes, is taken from it.
+/// Reads a source to its end. At most `limit + 1` bytes are taken from it.
 ///
 /// # Errors
-/// - `ReadFault` where a read failed: what was read before is dropped, and the source stands behind it.
-/// - `TooLong` where the source gave a byte more than the limit.
-/// - `Memory` where memory was wanting, which can come instead of the other two.
+/// - `ReadFault` if a read failed. The bytes read before are lost.
+/// - `TooLong` if the source gave more bytes than the limit.
+/// - `Memory` if memory ran out. It can come in place of the other two.
 pub fn read_all<S: Source>(
     alloc: Global,
     source: &mut S,
@@ -74,7 +75,7 @@ pub fn read_all<S: Source>(
     ensures bytes { IfOk result (λ bytes. ReadToEnd (S.left source.old) (S.left source.new) bytes.items) }
     ensures fits { IfOk result (λ bytes. length bytes.items ≤ limit) }
 
-    // Too long exactly where more bytes than the limit were given, but for want of memory.
+    // `TooLong` exactly if the source gave more bytes than the limit, unless memory ran out.
     ensures too_long { IsErrOf result ReadAllFault.TooLong → GivesMore (S.left source.old) (S.left source.new) limit }
     ensures stopped { IsErrOf result ReadAllFault.ReadFault → GivesAtMost (S.left source.old) (S.left source.new) limit }
     ensures refused { OnErr result (GivesAtMost (S.left source.old) (S.left source.new) (limit + 1)) }

@@ -1,4 +1,4 @@
-//! Sources and sinks over std's readers and writers, which pass on what these tell.
+//! Sources and sinks over std's readers and writers.
 ghost use Rattle.std.specs.Prelude.{◌≡◌};
 
 use crate::faults::Failed;
@@ -43,7 +43,7 @@ impl<R: Read> Source for StdSource<R> {
     }
 }
 
-/// A writer of std, with a count of its errors. To take nothing of a piece that isn't empty is one.
+/// A writer of std, with a count of its errors. Taking nothing of a non-empty piece counts as one.
 #[derive(Drop)]
 pub struct StdSink<W> {
     writer: W,

@@ -1,18 +1,15 @@
--- The pairs that are kept for a query.
+-- The pairs kept for a query.
 use Rattle.std.proofs.Common.{◌≡◌, ◌<◌, ◌≤◌, ℕ, ◌+◌, List, [], length, map, get_or, sym, ap, arith}
-use Rattle.std.proofs.lemmas.{Grind.common_steps}
-use Rattle.dd_formula.specs.LocalRule.{LocalRule}
-use Rattle.dd_formula.specs.declared.automaton.Automaton.{Automaton}
+use Rattle.std.proofs.lemmas.Grind.{common_steps}
+use Rattle.dd_formula.specs.{LocalRule.LocalRule, declared.automaton.Automaton.Automaton}
 use Rattle.dd_query.specs.declared.queries.Query.{Query}
-use Rattle.dd_pairs.specs.declared.pair.Pair.{Pair}
-use Rattle.dd_pairs.specs.Parts.{pair_of}
-use Rattle.dd_pairs.specs.Queries.{parts_asked, IsKeptFor}
+use Rattle.dd_pairs.specs.{declared.pair.Pair.Pair, Parts.pair_of, Queries.parts_asked, Queries.IsKeptFor}
 
 -- the query asks about no pair
 abbrev pub AsksNone : Query → Type 0
 AsksNone q = (rs : List LocalRule) (fs : List Automaton) → parts_asked rs fs q ≡ []
 
--- none of the first n queries is this one, where it asks about pairs
+-- if this query is among the first n, it asks about no pairs
 abbrev pub NoneBefore : List Query → Query → ℕ → Type 0
 NoneBefore qs q n = (j : ℕ) → j < n → get_or qs j q ≡ q → AsksNone q
 

@@ -1,19 +1,17 @@
 -- The pairs of parts, one after the other, and the first fault.
 use Rattle.std.proofs.Common.{◌≡◌, ◌<◌, ℕ, ◌+◌, List, [], ◌∷◌, ◌++◌, length, map, take, drop, get_or, Some, refl, sym, ap, subst, ◌∙◌, arith}
-use Rattle.std.proofs.lemmas.{Grind.common_steps, List.Elements.All-nil, List.Elements.All-push, List.drop_more, List.take-append-drop, List.map-append, Grind.flat_map-append}
+use Rattle.std.proofs.lemmas.{Grind.common_steps, Grind.flat_map-append, List.Elements.All-nil, List.Elements.All-push}
+use Rattle.std.proofs.lemmas.List.{drop_more, take-append-drop, map-append}
 use Rattle.dd_known.specs.declared.known.Known.{Known}
 use Rattle.dd_faults.specs.{declared.fault.Fault.Fault, declared.fault.Refusal.Refusal, Order.Refuses}
-use Rattle.dd_pairs.specs.declared.pair.Pair.{Pair}
-use Rattle.dd_pairs.specs.declared.parts.Part.{Part}
-use Rattle.dd_pairs.specs.Parts.{PartOf, pair_of, IsPair}
-use Rattle.dd_pairs.specs.Faults.{part_faults, parts_faults, earliest}
-use Rattle.dd_pairs.specs.Made.{part_of, IsMade, ArePairs}
+use Rattle.dd_pairs.specs.{declared.pair.Pair.Pair, declared.parts.Part.Part, Parts.PartOf, Parts.pair_of, Parts.IsPair}
+use Rattle.dd_pairs.specs.{Faults.part_faults, Faults.parts_faults, Faults.earliest, Made.part_of, Made.IsMade, Made.ArePairs}
 
 earliest_front : (xs ys : List Fault) (f : Fault) → earliest xs ≡ Some f → earliest (xs ++ ys) ≡ Some f
 earliest_front [] ys f is = absurd cc
 earliest_front (x ∷ xs) ys f is = is
 
--- what is refused for a fault is refused for it where others follow
+-- what is refused for a fault is refused for it even if others follow
 pub refuses_front : (e : Refusal) (xs ys : List Fault) → Refuses e (earliest xs) → Refuses e (earliest (xs ++ ys))
 refuses_front Refusal.Memory xs ys h = tt
 refuses_front (Refusal.At f) xs ys h = earliest_front xs ys f h
@@ -22,7 +20,7 @@ module _ (k : Known) where
   pub none : ArePairs k [] []
   none = record { are = refl; formed = All-nil (λ p. IsPair k.setting (pair_of k.setting p)); faultless = refl }
 
-  -- one part more
+  -- one more part
   more : (ps : List PartOf) (p : PartOf) (old new : List Pair) (pair : Pair) → ArePairs k ps old → IsMade k.setting p (part_faults k p) pair → new ≡ old ++ pair ∷ [] → ArePairs k (ps ++ p ∷ []) new
   more ps p old new pair before made is = record {
     are = grind (arith, common_steps, before.are, made.is);

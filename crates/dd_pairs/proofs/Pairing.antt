@@ -1,22 +1,11 @@
--- The pairs that are made of parts are theirs, within their limits.
-use Rattle.std.proofs.Common.{◌≡◌, [], refl, ap, subst, arith}
-use Rattle.std.proofs.lemmas.{Bool.le-ltb, Grind.common_steps}
+-- The pairs made from parts are the right ones, and within their limits.
+use Rattle.std.proofs.{Common.◌≡◌, Common.[], Common.refl, Common.ap, Common.subst, lemmas.Bool.le-ltb}
 use Rattle.dd_known.specs.declared.known.Setting.{Setting}
-use Rattle.dd_formula.specs.LocalRule.{LocalRule}
-use Rattle.dd_formula.specs.Automata.{CommonNumbers, IsAutomaton, counted}
-use Rattle.dd_formula.specs.ByCases.{numbers_over}
-use Rattle.dd_formula.specs.declared.automaton.Automaton.{Automaton}
-use Rattle.dd_formula.specs.declared.automaton.Automaton.TheVariants.{Composed}
-use Rattle.dd_formula.specs.lemmas.AutomatonLaws.{within_is}
-use Rattle.dd_maps.specs.Pairs.{marked, always_zero, identity}
-use Rattle.dd_maps.specs.Refusals.{PassesGuard}
-use Rattle.dd_meanings.specs.Definitions.{count_faults}
-use Rattle.dd_pairs.specs.Parts.{PartOf, image, change, pair_of}
-use Rattle.dd_pairs.specs.Faults.{guard_faults, pair_faults}
-use Rattle.dd_pairs.specs.Made.{IsMade}
-
-counts_pass : (n : CommonNumbers) (f : Automaton) → IsAutomaton n f → count_faults n.nodes (counted f) ≡ []
-counts_pass n f h = let passes = within_is n.nodes f h.within in grind (arith, common_steps)
+use Rattle.dd_formula.specs.{LocalRule.LocalRule, Automata.CommonNumbers, Automata.IsAutomaton, ByCases.numbers_over}
+use Rattle.dd_formula.specs.declared.automaton.Automaton.{Automaton, TheVariants.Composed}
+use Rattle.dd_maps.specs.{Pairs.marked, Pairs.always_zero, Pairs.identity, Refusals.PassesGuard}
+use Rattle.dd_pairs.specs.{Parts.PartOf, Parts.image, Parts.change, Parts.pair_of, Faults.guard_faults, Faults.pair_faults, Made.IsMade}
+use Rattle.dd_meanings.specs.lemmas.SizeLaws.{formed_passes}
 
 abbrev AreSame : (left right first second : Automaton) → Type 0
 AreSame left right first second = ◌≡◌ {A = Automaton × Automaton} (left, right) (first, second)
@@ -31,7 +20,7 @@ module _ (s : Setting) (left right : Automaton) where
       record {
         is = ap (λ (q : Automaton × Automaton). record { left = q.0; right = q.1 }) is;
         formed = record { left = whole; right = subst (IsAutomaton numbers) (ap (λ (q : Automaton × Automaton). q.1) is) formed.1 };
-        faultless = rw guarded (counts_pass numbers (pair_of s p).left whole);
+        faultless = rw guarded (formed_passes numbers (pair_of s p).left whole);
       }
 
   pub image_made : (x : LocalRule) (f : Automaton) (y : LocalRule) → AreSame left right (Composed (marked s.topology s.sets y) f) (always_zero s.topology s.sets) → IsAutomaton numbers left × IsAutomaton numbers right → PassesGuard s.sets y

@@ -1,17 +1,15 @@
--- The question about a pair: it goes together, and passes the limit on clauses or doesn't.
+-- The question about a pair: it is well formed, and the test decides whether it exceeds the limit on clauses.
 use Rattle.std.proofs.Common.{◌≡◌, Bool, true, false, [], Some, None, refl, ap, ◌∙◌, arith}
-use Rattle.dd_known.specs.Sound.{IsSetting}
-use Rattle.dd_known.specs.declared.known.Setting.{Setting}
-use Rattle.dd_known.specs.declared.known.Known.{Known}
+use Rattle.dd_known.specs.{Sound.IsSetting, declared.known.Setting.Setting, declared.known.Known.Known}
 use Rattle.dd_formula.specs.LocalRule.{LocalRule}
 use Rattle.dd_faults.specs.{declared.fault.Limit.Limit, declared.fault.Fault.Fault, declared.fault.Refusal.Refusal, Order.Refuses}
-use Rattle.dd_question.specs.{declared.excess.Excess.Excess, Questions.Asked, Questions.box, Questions.IsFormed, Questions.passed, Questions.excess_of}
+use Rattle.dd_question.specs.declared.excess.Excess.{Excess}
+use Rattle.dd_question.specs.Questions.{Asked, box, IsFormed, passed, excess_of}
 use Rattle.dd_pairs.specs.declared.pair.Pair.{Pair}
 use Rattle.dd_pairs.specs.Parts.{PartOf, premise, goal_of, pair_of, IsPartOf, IsPair, difference}
-use Rattle.dd_pairs.specs.{Faults.limit_of, Faults.pair_faults, Faults.part_faults, Faults.earliest}
-use Rattle.dd_pairs.specs.lemmas.PartLaws.{part_fits}
+use Rattle.dd_pairs.specs.{Faults.limit_of, Faults.pair_faults, Faults.part_faults, Faults.earliest, lemmas.PartLaws.part_fits}
 
--- what is asked about the pair is the part's question
+-- what is asked about the pair is the question of the part
 module _ (s : Setting) (p : PartOf) (pair : Pair) (x : LocalRule) (a : Asked) (made : pair ≡ pair_of s p) (is : x ≡ premise p) (asks : a ≡ box x (difference x pair)) where
   pub question_is : a ≡ box (premise p) (goal_of s p)
   question_is = asks ∙ (ap (λ q. box x (difference x q)) made ∙ ap (λ y. box y (difference y (pair_of s p))) is)

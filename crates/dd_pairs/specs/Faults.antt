@@ -1,17 +1,16 @@
--- Which limits pairs, and the questions about them, pass, in the order in which they are tested.
+-- Which limits pairs, and the questions about them, exceed, in the order in which they are tested.
 use Rattle.std.specs.Prelude.{List, [], ◌∷◌, ◌++◌, Option, Some, None, nat_lt}
 use Rattle.std.specs.List.{flat_map}
 use Rattle.dd_expansion.specs.Limits.{most_nested}
 use Rattle.dd_formula.specs.Automata.{counted}
 use Rattle.dd_maps.specs.Pairs.{guarded_depth}
-use Rattle.dd_known.specs.declared.known.Setting.{Setting}
-use Rattle.dd_known.specs.declared.known.Known.{Known}
+use Rattle.dd_known.specs.declared.known.{Setting.Setting, Known.Known}
 use Rattle.dd_faults.specs.{declared.fault.Limit.Limit, declared.fault.Fault.Fault, Order.over}
 use Rattle.dd_meanings.specs.Definitions.{count_faults}
 use Rattle.dd_question.specs.{Boxes.is_long, declared.excess.Excess.Excess}
 use Rattle.dd_pairs.specs.Parts.{PartOf, image, change, premise, pair_of, goal_of}
 
--- an excess, among the limits of scripts
+-- an excess, as one of the script limits
 abbrev pub limit_of : Excess → Limit
 limit_of Excess.Clauses = Limit.Clauses
 limit_of Excess.Patterns = Limit.Patterns
@@ -22,19 +21,19 @@ abbrev pub guard_faults : Setting → PartOf → List Fault
 guard_faults s (image x f y) = over (nat_lt most_nested (guarded_depth s.sets y)) Limit.Depth
 guard_faults s (change x f g) = []
 
--- then what is counted of the composition
+-- then the counts of the composition
 abbrev pub pair_faults : Setting → PartOf → List Fault
 pair_faults s p = guard_faults s p ++ count_faults s.topology.nodes (counted (pair_of s p).left)
 
--- then the clauses of its question
+-- then the clauses of the question
 abbrev pub part_faults : Known → PartOf → List Fault
 part_faults k p = pair_faults k.setting p ++ over (is_long k.limits (premise p) (goal_of k.setting p)) Limit.Clauses
 
--- one part after the other
+-- the faults of the parts, one part after the other
 abbrev pub parts_faults : Known → List PartOf → List Fault
 parts_faults k ps = flat_map (part_faults k) ps
 
--- the one that comes first
+-- the first of these faults
 abbrev pub earliest : List Fault → Option Fault
 earliest [] = None
 earliest (f ∷ fs) = Some f

@@ -1,16 +1,15 @@
--- Where the two of a pair differ, as a value of the program.
+-- The goal that the automata of a pair differ, as a value of the program.
 use Rattle.std.specs.Prelude.{◌≡◌, List, [], ◌∷◌}
 use Rattle.dd_boxes.specs.{declared.goals.Goal.Goal, Views.goal_of}
 use Rattle.dd_formula.specs.LocalRule.{LocalRule}
-use Rattle.dd_question.specs.Conjugacies.{ConjugacyOf, conjugacy_of}
-use Rattle.dd_question.specs.declared.conjugacy.Conjugacy.{Conjugacy}
+use Rattle.dd_question.specs.{Conjugacies.ConjugacyOf, Conjugacies.conjugacy_of, declared.conjugacy.Conjugacy.Conjugacy}
 use Rattle.dd_pairs.specs.{declared.pair.Pair.Pair, Parts.difference}
 
--- it stands for the difference, in questions about each rule
+-- the goal stands for the difference, whatever rule the question is about
 abbrev pub IsDifferenceOf : Pair → Goal → Type 0
 IsDifferenceOf p g = (x : LocalRule) → goal_of x g ≡ difference x p
 
--- the goals of a conjugacy between two rules are that its pairs, in order, differ
+-- the goals of a conjugacy of two rules are that its four pairs differ, in this order
 abbrev pub conjugacy_by : LocalRule → LocalRule → Pair → Pair → Pair → Pair → ConjugacyOf
 conjugacy_by x y image image_back round round_back =
     record { from = x; to = y; image = difference x image; image_back = difference y image_back; round = difference x round; round_back = difference y round_back }

@@ -1,12 +1,12 @@
--- the questions that queries put together, and their pairs
+-- the questions that queries consist of, and their pairs
 pub mod Parts
--- the limits that pairs and the questions about them pass
+-- the limits that pairs and the questions about them exceed
 pub mod Faults
--- what is made of values of the program
+-- what is made from values of the program
 pub mod Made
--- where the two of a pair differ
+-- the goal that the automata of a pair differ
 pub mod Goals
 -- which pairs the queries of a script ask about
 pub mod Queries
--- lemmas on what stands above, with their proofs, for whoever cites them
+-- lemmas on these definitions, for other crates
 pub mod lemmas

@@ -1,10 +1,7 @@
--- The questions that queries put together, and the pairs that they ask about.
+-- The questions that queries consist of, and the pairs that they ask about.
 use Rattle.dd_boxes.specs.{Goals.GoalOf, Goals.differ, Views.numbers_of}
 use Rattle.dd_known.specs.declared.known.Setting.{Setting}
-use Rattle.dd_formula.specs.LocalRule.{LocalRule}
-use Rattle.dd_formula.specs.Automata.{IsAutomaton}
-use Rattle.dd_formula.specs.ByCases.{numbers_over}
-use Rattle.dd_formula.specs.declared.automaton.Automaton.{Automaton}
+use Rattle.dd_formula.specs.{LocalRule.LocalRule, Automata.IsAutomaton, ByCases.numbers_over, declared.automaton.Automaton.Automaton}
 use Rattle.dd_formula.specs.declared.automaton.Automaton.TheVariants.{Composed}
 use Rattle.dd_maps.specs.Pairs.{marked, always_zero, identity}
 use Rattle.dd_meanings.specs.Made.{IsRuleOf, IsAutomatonOf}
@@ -22,13 +19,13 @@ abbrev pub premise : PartOf → LocalRule
 premise (image x f y) = x
 premise (change x f g) = x
 
--- its rules and automata are those of a script
+-- its rules and automata are those of the script
 abbrev pub IsPartOf : Setting → PartOf → Type 0
 IsPartOf s (image x f y) = IsRuleOf s x × IsAutomatonOf s f × IsRuleOf s y
 IsPartOf s (change x f g) = IsRuleOf s x × IsAutomatonOf s f × IsAutomatonOf s g
 
--- The pair differs at a cell exactly where the answer is yes there: in an image, where what marks the second rule isn't 0 on the
--- automaton's values; and else where the values of one automaton after the other aren't the cells' symbols.
+-- The pair differs at a cell exactly if the answer there is yes. For an image, `marked` of the second rule gives something other
+-- than 0 on the automaton's values. For a change, one automaton after the other gives another symbol than the cell has.
 abbrev pub pair_of : Setting → PartOf → Pair
 pair_of s (image x f y) = record { left = Composed (marked s.topology s.sets y) f; right = always_zero s.topology s.sets }
 pair_of s (change x f g) = record { left = Composed f g; right = identity s.topology s.sets }
@@ -38,7 +35,7 @@ pub record IsPair (s : Setting) (p : Pair) : Type 0 where
   pub left : IsAutomaton (numbers_over s.topology s.sets) p.left
   pub right : IsAutomaton (numbers_over s.topology s.sets) p.right
 
--- the two differ, in questions about a rule
+-- the two automata differ, in questions about a rule
 abbrev pub difference : LocalRule → Pair → GoalOf
 difference x p = differ (numbers_of x) p.left p.right
 

@@ -1,5 +1,5 @@
-//! Pairs of automata: the queries about images and conjugacies ask where the two of a pair differ. They are made once, where a
-//! query is read, and refused there where they are too large or ask for too much work.
+//! Pairs of automata. Queries about images and conjugacies ask where the two automata of a pair differ. Pairs are made once,
+//! when a query is read. The query is refused if they are too large or would take too much work.
 #![tactic(auto)]
 
 mod pair;

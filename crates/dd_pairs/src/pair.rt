@@ -1,4 +1,4 @@
-//! Pairs, and the questions about them.
+//! Pairs of automata, and the questions about them.
 ghost use Rattle.std.specs.Prelude.{◌≡◌, length};
 ghost use Rattle.dd_pairs.specs.{Goals.IsConjugacyBy, Faults.limit_of};
 
@@ -7,7 +7,7 @@ use dd_faults::Limit;
 use dd_formula::{Automaton, Rule};
 use dd_question::{Conjugacy, Excess, Question};
 
-/// Two automata. It is asked whether they differ somewhere.
+/// Two automata. The question is whether they differ somewhere.
 #[derive(Debug, Drop)]
 pub struct Pair {
     pub left: Automaton,
@@ -19,14 +19,14 @@ impl Pair {
     ghost use Rattle.dd_question.specs.Questions.{asked_of, box};
     ghost use Rattle.dd_pairs.specs.{Parts.difference, Goals.IsDifferenceOf};
 
-    /// The goal that the two give a cell different symbols.
+    /// The goal that the two automata give a cell different symbols.
     fn difference(&self) -> Goal<'_>
         ensures { IsDifferenceOf self.now result }
     {
         Goal::Differ(&self.left, &self.right)
     }
 
-    /// The question whether the two can differ where a rule is obeyed.
+    /// The question whether the two automata can differ on a configuration that obeys a rule.
     pub fn question<'a>(&'a self, premise: &'a Rule) -> Question<'a>
         ensures { asked_of result ≡ box premise.now (difference premise.now self.now) }
     {
@@ -35,7 +35,7 @@ impl Pair {
     }
 }
 
-/// The conjugacy between two rules that is asked about by its four pairs, in the order of its questions.
+/// The conjugacy of two rules, by its four pairs in the order of its questions.
 pub fn conjugacy<'a>(from: &'a Rule, to: &'a Rule, pairs: &'a [Pair]) -> Conjugacy<'a>
     requires { length pairs.now ≡ 4 }
     ensures { IsConjugacyBy from.now to.now pairs.now result }
@@ -54,7 +54,7 @@ pub fn conjugacy<'a>(from: &'a Rule, to: &'a Rule, pairs: &'a [Pair]) -> Conjuga
     }
 }
 
-/// The limit of scripts that a question passes.
+/// The script limit that a question exceeds.
 pub fn limit_of(excess: Excess) -> Limit
     ensures { result ≡ limit_of excess }
 {

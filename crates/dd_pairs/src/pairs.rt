@@ -21,7 +21,7 @@ use dd_query::Query;
 use dd_values::Items;
 use std::alloc::Global;
 
-/// The pair that a part asks about, or the first limit that its automata pass.
+/// The pair that a part asks about, or the first limit that its automata exceed.
 fn pair(alloc: Global, setting: &Setting, part: Part) -> Result<Pair, Refusal>
     requires sound { IsSetting setting.now }
     requires two { 2 ≤ length setting.now.symbols }
@@ -44,7 +44,7 @@ fn pair(alloc: Global, setting: &Setting, part: Part) -> Result<Pair, Refusal>
     }
 }
 
-/// The pair that a part asks about; or the first limit that its automata pass, or else the question's clauses.
+/// The pair that a part asks about. Otherwise the first limit that its automata exceed, or the one on clauses.
 fn tested(alloc: Global, known: &Known, part: Part) -> Result<Pair, Refusal>
     requires sound { IsSound known.now }
     requires two { 2 ≤ length known.now.setting.symbols }
@@ -59,7 +59,7 @@ fn tested(alloc: Global, known: &Known, part: Part) -> Result<Pair, Refusal>
     }
 }
 
-/// The pairs that the parts ask about, in order; or the first limit that one of them passes.
+/// The pairs that the parts ask about, in order, or the first limit that one of them exceeds.
 fn made(alloc: Global, known: &Known, parts: &[Part]) -> Result<Items<Pair>, Refusal>
     requires sound { IsSound known.now }
     requires two { 2 ≤ length known.now.setting.symbols }
@@ -73,11 +73,11 @@ fn made(alloc: Global, known: &Known, parts: &[Part]) -> Result<Items<Pair>, Ref
     Ok(pairs)
 }
 
-/// The pairs that a query of these rules and automata asks about, in the order of its questions; none where it asks about no pair.
+/// The pairs that a query about these rules and automata asks about, in the order of its questions. There may be none.
 ///
 /// # Errors
-/// Its questions are gone through in order. The first limit that one of them passes: that its pair is too large, or else that it
-/// takes too many clauses; or want of memory.
+/// The first limit that one of its questions exceeds, in order: its pair is too large, or else it takes too many clauses. Or
+/// memory ran out.
 pub fn pairs_of(
     alloc: Global,
     known: &Known,
@@ -126,7 +126,7 @@ pub fn pairs_of(
     }
 }
 
-/// Whether two queries ask about the same pairs. Where they ask about none, it doesn't matter.
+/// Whether two queries ask about the same pairs. If they ask about none, either result will do.
 fn is_same(left: &Query, right: &Query) -> bool
     ensures same { result ≡ true → left.now ≡ right.now }
     ensures other { result ≡ false → left.now ≡ right.now → (rules : List LocalRule) (automata : List Automaton) → parts_asked rules automata right.now ≡ [] }
@@ -158,7 +158,7 @@ fn is_same(left: &Query, right: &Query) -> bool
     }
 }
 
-/// The pairs that a query asks about, out of those that are kept for each of some queries.
+/// The pairs that a query asks about, from the pairs kept for each of some queries.
 pub fn kept_for<'a>(queries: &[Query], kept: &'a [Items<Pair>], query: &Query) -> &'a [Pair]
     requires { length kept.now ≡ length queries.now }
     ensures { IsKeptFor queries.now kept.now query.now result.now }

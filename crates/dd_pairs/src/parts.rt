@@ -1,4 +1,4 @@
-//! The questions that queries put together, each about a pair.
+//! The questions that queries consist of, each about a pair.
 use dd_formula::{Automaton, Rule};
 
 /// A question about the configurations that obey a premise.

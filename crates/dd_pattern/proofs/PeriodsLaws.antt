@@ -1,43 +1,14 @@
 -- Lists of periods: their order, and what loops add to them.
 use Rattle.std.proofs.Common.{◌≡◌, ℕ, ◌+◌, ◌≤◌, List, [], ◌∷◌, refl, ap, sym, ◌∙◌, subst, arith, rules, ◌↔◌, ◌⊎◌, inl, inr}
-use Rattle.std.specs.Cmp.{IsTotalOrder}
-use Rattle.std.specs.Cmp.Rules.{comparing}
-use Rattle.std.specs.List.{Contains}
-use Rattle.std.specs.BTreeSet.{insert_key}
-use Rattle.std.specs.Ordering.{ordering_then, match_ordering, nat_cmp}
+use Rattle.std.proofs.{Math.Nat.eq-or-lt_of_le, lemmas.Bool.cond_both, lemmas.Bool.ltb-true, lemmas.Bool.ltb-false}
+use Rattle.std.specs.{Cmp.IsTotalOrder, Cmp.Rules.comparing, List.Contains, BTreeSet.insert_key, Ordering.match_ordering}
 use Rattle.std.specs.declared.cmp.Ordering.{Ordering}
 use Rattle.std.specs.declared.cmp.Ordering.TheVariants.{Less, Equal, Greater}
-use Rattle.std.proofs.Math.Nat.{eq-or-lt_of_le}
-use Rattle.std.proofs.lemmas.Bool.{cond_both, ltb-true, ltb-false}
 use Rattle.dd_lattice.specs.Boxes.{is_active}
-use Rattle.std.proofs.lemmas.Map.Lookups.{exact_unsigned}
-use Rattle.dd_lattice.specs.lemmas.ListLaws.{Contains-first, Contains-later, Contains-cons_cases, Contains-nil}
-use Rattle.dd_pattern.specs.declared.periods.Periods.{Periods}
-use Rattle.dd_pattern.specs.Periods.{periods_volume, periods_cmp, AreWithin, AreAllWithin}
+use Rattle.dd_values.specs.lemmas.Members.{Contains-first, Contains-later, Contains-cons_cases, Contains-nil}
+use Rattle.dd_pattern.specs.{declared.periods.Periods.Periods, Periods.periods_cmp, Periods.AreWithin, Periods.AreAllWithin}
 use Rattle.dd_pattern.specs.listing.Adding.{IsAdded, HasShear, IsPeriodUpTo, HasBox, most_along}
-
-both_equal : (a b : Ordering) → ordering_then a b ≡ Equal → (a ≡ Equal) × (b ≡ Equal)
-both_equal Less b h = absurd (cc)
-both_equal Equal b h = (refl, h)
-both_equal Greater b h = absurd (cc)
-
-abbrev made : ℕ → ℕ → ℕ → ℕ → Periods
-made x y z shear = record { x = x; y = y; z = z; shear = shear }
-
-periods_same : (p q : Periods) → p.x ≡ q.x → p.y ≡ q.y → p.z ≡ q.z → p.shear ≡ q.shear → p ≡ q
-periods_same p q x y z s = let same : made p.x p.y p.z p.shear ≡ made q.x q.y q.z q.shear = cc in same
-
--- periods that compare equal are equal
-pub periods_equal : (p q : Periods) → periods_cmp p q ≡ Equal → p ≡ q
-periods_equal p q h =
-    let vx = ordering_then (nat_cmp (periods_volume p) (periods_volume q)) (nat_cmp p.x q.x) in
-    let vxy = ordering_then vx (nat_cmp p.y q.y) in
-    let vxyz = ordering_then vxy (nat_cmp p.z q.z) in
-    let last = both_equal vxyz (nat_cmp p.shear q.shear) h in
-    let third = both_equal vxy (nat_cmp p.z q.z) last.0 in
-    let second = both_equal vx (nat_cmp p.y q.y) third.0 in
-    let first = both_equal (nat_cmp (periods_volume p) (periods_volume q)) (nat_cmp p.x q.x) second.0 in
-    periods_same p q (exact_unsigned p.x q.x first.1) (exact_unsigned p.y q.y second.1) (exact_unsigned p.z q.z third.1) (exact_unsigned p.shear q.shear last.1)
+use Rattle.dd_pattern.specs.lemmas.PeriodsLaws.{made_periods, periods_same, periods_equal}
 
 -- what was added, and then more
 pub added_more : (a b c : List Periods) (P Q R : Periods → Type 0) → IsAdded a b P → IsAdded b c Q → ((q : Periods) → R q → P q ⊎ Q q) →
@@ -63,11 +34,11 @@ record HasOnly (x y z s : ℕ) (q : Periods) : Type 0 where
   at_z : q.z ≡ z
   at_shear : q.shear ≡ s
 
-own_parts : (x y z s : ℕ) (q : Periods) → made x y z s ≡ q → HasOnly x y z s q
+own_parts : (x y z s : ℕ) (q : Periods) → made_periods x y z s ≡ q → HasOnly x y z s q
 own_parts x y z s q h = record { at_x = sym (ap (λ p. p.x) h); at_y = sym (ap (λ p. p.y) h); at_z = sym (ap (λ p. p.z) h); at_shear = sym (ap (λ p. p.shear) h) }
 
-only_made : (x y z s : ℕ) (q : Periods) → HasOnly x y z s q → made x y z s ≡ q
-only_made x y z s q h = periods_same (made x y z s) q (sym h.at_x) (sym h.at_y) (sym h.at_z) (sym h.at_shear)
+only_made : (x y z s : ℕ) (q : Periods) → HasOnly x y z s q → made_periods x y z s ≡ q
+only_made x y z s q h = periods_same (made_periods x y z s) q (sym h.at_x) (sym h.at_y) (sym h.at_z) (sym h.at_shear)
 
 shear_split : (x y z i : ℕ) (q : Periods) → HasShear (i + 1) x y z q → HasShear i x y z q ⊎ HasOnly x y z i q
 shear_split x y z i q h =
@@ -113,11 +84,11 @@ insert_members [] k q = (Contains-cons_cases k [] q, λ h. elim h [ inl is ↦ s
 insert_members (x ∷ xs) k q = insert_step k x xs (insert_key periods_cmp xs k) (insert_members xs k) (periods_cmp k x) (periods_equal k x) q
 
 -- one more shear
-pub shear_more : (a b c : List Periods) (i x y z : ℕ) → IsAdded a b (HasShear i x y z) → c ≡ insert_key periods_cmp b (made x y z i) → IsAdded a c (HasShear (i + 1) x y z)
+pub shear_more : (a b c : List Periods) (i x y z : ℕ) → IsAdded a b (HasShear i x y z) → c ≡ insert_key periods_cmp b (made_periods x y z i) → IsAdded a c (HasShear (i + 1) x y z)
 shear_more a b c i x y z before is =
     let one : IsAdded b c (HasOnly x y z i) = λ q. (
-      λ h. elim ((insert_members b (made x y z i) q).0 (subst (λ l. Contains l q) is h)) [ inl same ↦ inr (own_parts x y z i q same) | inr old ↦ inl old ],
-      λ h. subst (λ l. Contains l q) (sym is) ((insert_members b (made x y z i) q).1 (elim h [ inl old ↦ inr old | inr only ↦ inl (only_made x y z i q only) ])),
+      λ h. elim ((insert_members b (made_periods x y z i) q).0 (subst (λ l. Contains l q) is h)) [ inl same ↦ inr (own_parts x y z i q same) | inr old ↦ inl old ],
+      λ h. subst (λ l. Contains l q) (sym is) ((insert_members b (made_periods x y z i) q).1 (elim h [ inl old ↦ inr old | inr only ↦ inl (only_made x y z i q only) ])),
     ) in
     added_more a b c (HasShear i x y z) (HasOnly x y z i) (HasShear (i + 1) x y z) before one (shear_split x y z i) (shear_wider x y z i) (shear_last x y z i)
 
@@ -187,7 +158,7 @@ box_from_within d n q h =
       most = h.x_most;
     }
 
--- what was added to no periods
+-- what was added to the empty list
 pub all_within : (d n : ℕ) (ps : List Periods) → IsAdded [] ps (HasBox d n n) → AreAllWithin d n ps
 all_within d n ps h q = (
   λ c. elim ((h q).0 c) [ inl none ↦ absurd (Contains-nil q none) | inr box ↦ within_from_box d n q box ],

@@ -1,10 +1,7 @@
 -- Fillings: finitely many cells in cell order, with a symbol each.
 use Rattle.std.specs.Prelude.{◌≡◌, ◌<◌, ℕ, List, Some, None, length, map, slice_get, slice_index_or}
-use Rattle.std.specs.List.{All, Contains, position_or_len}
-use Rattle.std.specs.List.Sorted.{IsStrictlySortedBy}
-use Rattle.std.specs.Ordering.{is_eq}
-use Rattle.dd_lattice.specs.declared.position.Cell.{Cell}
-use Rattle.dd_lattice.specs.Order.{cell_cmp}
+use Rattle.std.specs.{List.All, List.Contains, List.position_or_len, List.Sorted.IsStrictlySortedBy, Ordering.is_eq}
+use Rattle.dd_lattice.specs.{declared.position.Cell.Cell, Order.cell_cmp}
 use Rattle.dd_pattern.specs.Reading.{Look, HasSymbolsBelow}
 
 pub record Filled : Type 0 where

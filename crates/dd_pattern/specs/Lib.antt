@@ -10,5 +10,5 @@ pub mod Tile
 pub mod Weight
 -- what the loops that list periods add
 pub mod listing
--- lemmas on what stands above, with their proofs, for whoever cites them
+-- lemmas on these definitions, with their proofs
 pub mod lemmas

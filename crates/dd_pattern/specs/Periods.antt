@@ -1,10 +1,7 @@
 -- Periods: the vectors (x, 0, 0), (shear, y, 0) and (0, 0, z), along which a configuration repeats.
 use Rattle.std.specs.Prelude.{ℕ, ◌*◌, ◌<◌, ◌≤◌, ◌≡◌, ◌↔◌, List, slice_index, ℤ, pos, ◌-ℤ◌, ◌*ℤ◌, unsigned_abs}
-use Rattle.std.specs.Int.{int_rem_euclid, int_div_euclid}
-use Rattle.std.specs.List.{Contains}
-use Rattle.std.specs.Ordering.{nat_cmp, on, then_cmp}
-use Rattle.std.specs.declared.cmp.Ordering.{Ordering}
-use Rattle.std.specs.declared.cmp.Ordering.TheVariants.{Less}
+use Rattle.std.specs.{Int.int_rem_euclid, Int.int_div_euclid, List.Contains, Ordering.nat_cmp, Ordering.on, Ordering.then_cmp}
+use Rattle.std.specs.declared.cmp.Ordering.{Ordering, TheVariants.Less}
 use Rattle.dd_lattice.specs.Place.{Place, place}
 use Rattle.dd_pattern.specs.declared.periods.Periods.{Periods}
 
@@ -34,7 +31,7 @@ residue x n = unsigned_abs (int_rem_euclid x (pos n))
 abbrev pub quotient : ℤ → ℕ → ℤ
 quotient x n = int_div_euclid x (pos n)
 
--- where a position stands along x, once the second period vector is taken from it until its y lies in the box
+-- the x of a position, once the second period vector is subtracted until y lies in the box
 abbrev pub unsheared : Periods → Place → ℤ
 unsheared p v = v.x -ℤ quotient v.y p.y *ℤ pos p.shear
 

@@ -1,8 +1,6 @@
 -- Periodic configurations: the symbols of one fundamental box, for every cell of Z^d.
 use Rattle.std.specs.Prelude.{ℕ, ◌+◌, ◌*◌, ◌-◌, ◌<◌, ◌≤◌, ◌≡◌, ◌/◌, ◌%◌, List, None, cond, nat_lt, pos, ◌+ℤ◌, length, slice_get}
-use Rattle.dd_lattice.specs.Place.{Place, place}
-use Rattle.dd_lattice.specs.Cells.{cell}
-use Rattle.dd_lattice.specs.Boxes.{Bounds, IsWithin, index_in}
+use Rattle.dd_lattice.specs.{Place.Place, Place.place, Cells.cell, Boxes.Bounds, Boxes.IsWithin, Boxes.index_in}
 use Rattle.dd_lattice.specs.declared.position.Cell.{Cell}
 use Rattle.dd_pattern.specs.declared.periods.Periods.{Periods}
 use Rattle.dd_pattern.specs.Periods.{ArePeriodsIn, periods_volume, residue, unsheared, base_of}
@@ -75,8 +73,8 @@ pub record IsCongruent (p : Periods) (v w : Place) : Type 0 where
   pub times' : Times
   pub is : with_vectors p times v ≡ with_vectors p times' w
 
--- read modulo the periods, from a list in cell order: each position of Z^d is congruent to its base, which lies in the
--- fundamental box; a cell has the symbol of the same node at the base; and in the box the symbols stand in cell order
+-- the configuration is read modulo the periods. Each position of Z^d is congruent to its base, which lies in the
+-- fundamental box. A cell has the symbol of the same node at the base. In the box the symbols are in cell order
 pub record IsReadModulo (t : Tile) : Type 0 where
   pub congruent : (v : Place) → IsCongruent t.periods v (base_of t.periods v)
   pub in_box : (v : Place) → IsWithin (fundamental t.periods) (base_of t.periods v)

@@ -1,6 +1,5 @@
 -- Weights: each symbol has a whole number.
-use Rattle.std.specs.Prelude.{ℕ, ◌<◌, ◌≤◌, List, length, slice_index, sum_by}
-use Rattle.std.specs.List.{All}
+use Rattle.std.specs.{Prelude.ℕ, Prelude.◌<◌, Prelude.◌≤◌, Prelude.List, Prelude.length, Prelude.slice_index, Prelude.sum_by, List.All}
 use Rattle.dd_values.specs.Bounds.{most_weight}
 
 -- each symbol has a weight, and each weight is at most 1000

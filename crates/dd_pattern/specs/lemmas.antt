@@ -3,3 +3,4 @@ pub mod TileSizes
 pub mod TileLaws
 pub mod BoxLaws
 pub mod FillingLaws
+pub mod PeriodsLaws

@@ -56,12 +56,12 @@ impl Filling {
         self.symbols.as_slice()
     }
 
-    /// The filling of fewer cells, given in cell order, or `None` where one of them isn't in the domain.
+    /// The filling restricted to these cells, given in cell order, or `None` if one of them isn't in the domain.
     pub fn restrict(&self, alloc: Global, cells: &[Cell]) -> Result<Option<Filling>, AllocError>
         requires { IsStrictlySortedBy cell_cmp cells.now }
         ensures { IfOk result (λ found. MatchOption found (IsWanting self.now cells.now) (IsRestriction self.now cells.now)) }
     {
-        // Read for what its type keeps.
+        // This read brings in what the type guarantees.
         let _domain = &self.cells;
         let mut symbols = Vec::with_capacity(alloc, cells.len())?;
         for cell in cells {

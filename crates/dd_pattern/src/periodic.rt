@@ -14,8 +14,8 @@ use std::marker::Model;
 /// The greatest number of symbols of a fundamental box.
 const MOST_SYMBOLS: usize = 65_536;
 
-/// A configuration that repeats along its period vectors. The symbols of the fundamental box, whose coordinates run from 0
-/// to the period less 1, stand in cell order.
+/// A configuration that repeats along its period vectors. The symbols of the fundamental box, whose coordinates run from
+/// 0 to the period less 1, are listed in cell order.
 #[derive(Debug, Drop)]
 pub struct Periodic {
     dim: u32,
@@ -86,9 +86,11 @@ fn are_periods(dim: u32, periods: &Periods) -> bool
 }
 
 impl Periodic {
-    /// The symbols come back where `dim` isn't 1, 2 or 3, where there is no node, where a period is 0 or that of an
-    /// unused axis isn't 1, where the shear isn't less than the first period or isn't 0 in one dimension, and where the
-    /// number of symbols isn't the product of the periods and of `nodes` or passes 65,536. It takes no memory.
+    /// The configuration with these symbols. It takes no memory. The symbols come back in these cases:
+    /// - `dim` isn't 1, 2 or 3, or there is no node.
+    /// - A period is 0, or that of an unused axis isn't 1.
+    /// - The shear isn't less than the first period, or isn't 0 in one dimension.
+    /// - The number of symbols isn't the product of the periods and of `nodes`, or passes 65,536.
     pub fn new(
         dim: u32,
         periods: [u32; 3],

@@ -74,7 +74,7 @@ impl PartialOrd for Periods {
     }
 }
 
-/// How long a period is at most along an axis, where those of active axes are `most` at most.
+/// The greatest period along an axis: `most` on an active axis, 1 on another.
 fn most_along(dim: u32, axis: u32, most: u32) -> u32
     ensures { result ≡ most_along dim axis most }
 {
@@ -151,7 +151,7 @@ pub(crate) fn quotient(x: i32, n: u32) -> i32
     x.div_euclid(n as i32)
 }
 
-/// The coordinate along x once the second period vector has been taken away so often.
+/// The coordinate along x once the second period vector has been subtracted `turns` times.
 pub(crate) fn unsheared(x: i32, turns: i32, shear: u32) -> i64
     requires near { IsCoordinateInRange x }
     requires turns { unsigned_abs turns ≤ most_coordinate + 1 }

@@ -4,7 +4,7 @@ ghost use Rattle.dd_lattice.specs.declared.position.Cell.{Cell};
 
 use dd_lattice;
 
-/// What gives symbols to cells, to some or to all.
+/// Gives symbols to some cells, or to all.
 pub trait Reads {
     /// The symbol of each cell of Z^3, or none.
     ghost symbols: { Self → Cell → Option ℕ };
@@ -14,12 +14,13 @@ pub trait Reads {
         ensures { result ≡ symbols self.now cell.now };
 }
 
-/// What gives a symbol to every cell whose node is below its number of nodes.
+/// Gives a symbol to every cell whose node is below its number of nodes.
 pub trait Configuration {
     /// The number of nodes of each position.
     ghost nodes: { Self → ℕ };
 
-    /// The symbol of each cell of Z^3, past the range of positions too. Only cells with such a node count.
+    /// The symbol of each cell of Z^3, past the range of positions too. It has a meaning only where the node is below
+    /// `nodes`.
     ghost symbol_of: { Self → Cell → ℕ };
 
     /// The number of the cell's symbol, from 0. The cell's node must be below the number of nodes.

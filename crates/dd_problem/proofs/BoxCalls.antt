@@ -1,28 +1,17 @@
--- What the calls give from which the clauses of a box are made.
+-- What the calls return from which the clauses of a box are made.
 use Rattle.std.proofs.Common.{◌≡◌, ℕ, ◌*◌, ◌≤◌, ◌<◌, ◌^◌, true, List, length, ap, sym, subst, ◌∙◌, arith, Some, None, if◌then◌else◌, rules}
-use Rattle.std.specs.Prelude.{Option, Result, Ok, Err, IfOk, nat_le}
-use Rattle.std.specs.List.{All}
-use Rattle.std.specs.Option.{IsSome}
-use Rattle.std.specs.List.Sorted.{IsStrictlySortedBy}
-use Rattle.dd_lattice.specs.Order.{cell_cmp}
-use Rattle.dd_lattice.specs.Boxes.{Bounds, centred, volume}
-use Rattle.dd_lattice.specs.declared.position.Cell.{Cell}
+use Rattle.std.specs.{Prelude.Option, Prelude.Result, Prelude.IfOk, Prelude.nat_le, List.All, Option.IsSome, List.Sorted.IsStrictlySortedBy}
+use Rattle.dd_lattice.specs.{Order.cell_cmp, Boxes.Bounds, Boxes.centred, Boxes.volume, declared.position.Cell.Cell}
 use Rattle.dd_clause.specs.Clauses.{ClauseList}
 use Rattle.dd_compile.specs.Wiring.{Wiring}
 use Rattle.dd_formula.specs.LocalRule.{LocalRule, IsRule}
-use Rattle.dd_boxes.specs.Goals.{GoalOf}
-use Rattle.dd_boxes.specs.Boxes.{Reaches}
-use Rattle.dd_boxes.specs.Counts.{question_clauses, most_clauses}
-use Rattle.dd_problem.specs.pushing.Told.{IsToldGoal}
-use Rattle.dd_boxes.specs.Cells.{box_cells}
-use Rattle.dd_problem.specs.Layouts.{cells_in}
-use Rattle.dd_problem.specs.Problems.{box_problem}
-use Rattle.dd_problem.specs.pushing.Numbered.{in_turn}
+use Rattle.dd_boxes.specs.{Goals.GoalOf, Boxes.Reaches, Counts.question_clauses, Counts.most_clauses, Cells.box_cells}
+use Rattle.dd_problem.specs.{pushing.Told.IsToldGoal, Layouts.cells_in, Problems.box_problem, pushing.Numbered.in_turn}
 use Rattle.dd_problem.specs.pushing.Pushed.{AreInputs, is_goal_wired, wired_problem}
-use Rattle.dd_problem.specs.Shows.{Shows, DecidesBox}
-use Rattle.dd_problem.specs.lemmas.Filtered.{some_same}
+use Rattle.dd_problem.specs.{Shows.Shows, Shows.DecidesBox, lemmas.Filtered.some_same}
 use Rattle.dd_problem.specs.lemmas.BoxShows.{box_shows, shown_decides}
 use Rattle.dd_problem.proofs.BoxInputs.{radius_small, box_made, box_ascends, all_box_nodes, box_is_problem, box_goal_wired, box_inputs, box_few}
+use Rattle.dd_values.specs.lemmas.Results.{if_ok}
 
 -- the question's count is at most two million
 abbrev pub IsFew : LocalRule → GoalOf → ℕ → Type 0
@@ -80,10 +69,6 @@ variables_few x g n cells w rule ok reach few is read =
     let all = box_few x g n few in
     let same = ap (λ (k : ClauseList). k.variables) (problem_is x g n cells w rule ok reach few is read) in
     omega (arith, all, same)
-
-if_ok : {X E : Type 0} (r : Result X E) (P Q : X → Type 0) → ((a : X) → P a → Q a) → IfOk r P → IfOk r Q
-if_ok (Ok a) P Q f h = f a h
-if_ok (Err e) P Q f h = h
 
 module _ {E : Type 0} (x : LocalRule) (g : GoalOf) (n : ℕ) (cells : List Cell) (w : Wiring) (rule : IsRule x) (ok : IsToldGoal x g) (reach : Reaches g n) (few : IsFew x g n)
     (is : w ≡ in_turn x.symbols (box_cells x n)) (read : cells ≡ box_cells x n) (r : Result ClauseList E) (made : IfOk r (λ cnf. cnf ≡ wired_problem w x g cells)) where

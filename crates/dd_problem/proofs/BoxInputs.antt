@@ -1,44 +1,28 @@
 -- The inputs of a box's cells are those of its layout.
 use Rattle.std.proofs.Common.{◌≡◌, ℕ, ◌+◌, ◌*◌, ◌<◌, ◌≤◌, Bool, true, false, List, [], ◌∷◌, length, get_or, refl, ap, ◌∙◌, arith, Some, None, if◌then◌else◌}
+use Rattle.std.proofs.lemmas.{Int.ints, Bool.and_parts, Bool.ltb-true, Bool.lt-ltb, Bool.le-leb}
+use Rattle.std.proofs.lemmas.{Nat.mul-le, Option.slice_get-get_or, List.FromFn.length-range_with_len}
 use Rattle.std.specs.Prelude.{cond, Option, nat_lt, nat_le, slice_get}
-use Rattle.std.specs.List.{All, Contains, list_all, range_with_len}
-use Rattle.std.proofs.lemmas.Int.{ints}
-use Rattle.std.proofs.lemmas.Bool.{and_parts, ltb-true, lt-ltb, le-leb}
-use Rattle.std.proofs.lemmas.Nat.{mul-le}
-use Rattle.std.proofs.lemmas.Option.{slice_get-get_or}
-use Rattle.std.proofs.lemmas.List.FromFn.{length-range_with_len}
-use Rattle.std.specs.List.Sorted.{IsStrictlySortedBy}
-use Rattle.dd_lattice.specs.Order.{cell_cmp}
-use Rattle.dd_lattice.specs.Place.{Place, IsInRange, is_in_range}
-use Rattle.dd_lattice.specs.Cells.{shifted}
+use Rattle.std.specs.List.{All, Contains, list_all, range_with_len, Sorted.IsStrictlySortedBy}
+use Rattle.dd_lattice.specs.{Order.cell_cmp, Place.Place, Place.IsInRange, Place.is_in_range, Cells.shifted}
 use Rattle.dd_lattice.specs.Boxes.{Bounds, IsWithin, centred, is_active, spread, span, volume}
-use Rattle.dd_lattice.specs.declared.position.Cell.{Cell}
-use Rattle.dd_lattice.specs.lemmas.RangeLaws.{test_from_in_range}
-use Rattle.dd_circuit.specs.declared.gates.Signal.{Signal}
-use Rattle.dd_circuit.specs.Circuits.{signal_of}
+use Rattle.dd_lattice.specs.{declared.position.Cell.Cell, lemmas.RangeLaws.test_from_in_range, lemmas.BoxLaws.bounds_ordered}
+use Rattle.dd_circuit.specs.{declared.gates.Signal.Signal, Circuits.signal_of}
 use Rattle.dd_compile.specs.Wiring.{wire_of}
 use Rattle.dd_formula.specs.LocalRule.{LocalRule, IsRule, reads_at}
-use Rattle.dd_boxes.specs.Goals.{GoalOf, breaks, differ, always}
-use Rattle.dd_boxes.specs.Fillings.{in_box, is_box_cell}
-use Rattle.dd_boxes.specs.Boxes.{origin, Reaches}
-use Rattle.dd_boxes.specs.Counts.{question_clauses, most_clauses}
-use Rattle.dd_problem.specs.pushing.Told.{IsToldGoal}
-use Rattle.dd_boxes.specs.Cells.{box_cells}
-use Rattle.dd_problem.specs.Layouts.{box_index, box_layout}
-use Rattle.dd_problem.specs.Clauses.{input}
-use Rattle.dd_problem.specs.Problems.{box_problem}
-use Rattle.dd_problem.specs.pushing.Numbered.{in_turn}
-use Rattle.dd_problem.specs.pushing.Pushed.{wired_problem, AreInputs, is_goal_wired}
-use Rattle.dd_problem.specs.lemmas.BoxLayout.{box_within, bounds_ordered, box_is_layout, box_cell_there, box_cell_at}
-use Rattle.dd_problem.specs.lemmas.BoxValues.{box_values}
-use Rattle.dd_problem.specs.lemmas.BoxShows.{goal_reads_box}
-use Rattle.dd_problem.specs.lemmas.CellOrder.{cells_ascending}
+use Rattle.dd_boxes.specs.{Goals.GoalOf, Goals.breaks, Goals.differ, Goals.always, Fillings.in_box, Fillings.is_box_cell}
+use Rattle.dd_boxes.specs.{Boxes.origin, Boxes.Reaches, Counts.question_clauses, Counts.most_clauses, Cells.box_cells}
+use Rattle.dd_problem.specs.{pushing.Told.IsToldGoal, Layouts.box_index, Layouts.box_layout, Clauses.input, Problems.box_problem}
+use Rattle.dd_problem.specs.pushing.{Numbered.in_turn, Pushed.wired_problem, Pushed.AreInputs, Pushed.is_goal_wired}
+use Rattle.dd_problem.specs.lemmas.BoxLayout.{box_within, box_is_layout, box_cell_there, box_cell_at}
+use Rattle.dd_problem.specs.lemmas.{BoxValues.box_values, BoxShows.goal_reads_box, CellOrder.cells_ascending}
 use Rattle.dd_problem.specs.lemmas.Counting.{positions_below, variables_below}
+use Rattle.dd_problem.specs.lemmas.NumberedWires.{turns_below, wire_there, wire_absent, are_inputs}
+use Rattle.dd_problem.specs.lemmas.Filtered.{range_get}
 use Rattle.dd_problem.proofs.Matching.{Gives, GoalMatches, goal_is_wired, wired_is_problem}
-use Rattle.dd_problem.specs.lemmas.NumberedWires.{turn_at, turns_below, wire_there, wire_absent, are_inputs}
 
 -- a box in range
-spread_most : (b : Bool) (n : ℕ) → spread b n ≤ n
+pub spread_most : (b : Bool) (n : ℕ) → spread b n ≤ n
 spread_most true n = omega arith
 spread_most false n = omega arith
 
@@ -96,7 +80,7 @@ box_wire x n rule c s below =
     let full = length-range_with_len 0 (length cells) in
     by_test (is_box_cell x n c) (wire_of (in_turn x.symbols cells) c s) (signal_of (input x.symbols (box_index x n c) s))
     (λ here. wire_there x.symbols cells numbers (box_ascends x n rule) full c (box_index x n c) (box_index x n c) s (box_cell_there x n c here)
-    (turn_at (length cells) (box_index x n c) ((box_is_layout x n).within c here)) below)
+    (range_get (length cells) (box_index x n c) ((box_is_layout x n).within c here)) below)
     (λ out. wire_absent x.symbols cells numbers (box_ascends x n rule) full c s (λ h. not_both (is_box_cell x n c) (member_is_box_cell x n c h) out))
 
 near_or_none : (r b : Bool) (o : Option Signal) (s : Signal) → o ≡ cond b (Some s) None → (b ≡ true → r ≡ true) → (if r then o else None) ≡ cond b (Some s) None

@@ -2,14 +2,9 @@
 use Rattle.std.proofs.Common.{◌≡◌, ◌<◌, ◌≤◌, ℕ, ◌+◌, List, [], ◌∷◌, ◌++◌, length, refl, ap, ◌∙◌, arith, append_assoc, length-append}
 use Rattle.dd_lattice.specs.declared.position.Cell.{Cell}
 use Rattle.dd_formula.specs.declared.automaton.Automaton.{Automaton}
-use Rattle.dd_circuit.specs.declared.gates.Signal.{Signal}
-use Rattle.dd_circuit.specs.declared.gates.Gate.{Gate}
-use Rattle.dd_circuit.specs.declared.gates.Gate.TheVariants.{Or}
+use Rattle.dd_circuit.specs.declared.gates.{Signal.Signal, Gate.Gate, Gate.TheVariants.Or}
 use Rattle.dd_circuit.specs.Circuits.{Network, size, signal_of}
-use Rattle.dd_compile.specs.Wiring.{Wiring}
-use Rattle.dd_compile.specs.Compiling.{AllMade}
-use Rattle.dd_compile.specs.ValueGates.{fresh, value_made}
-use Rattle.dd_compile.specs.lemmas.Progress.{size-append}
+use Rattle.dd_compile.specs.{Wiring.Wiring, Compiling.AllMade, ValueGates.fresh, ValueGates.value_made, lemmas.Progress.size-append}
 use Rattle.dd_problem.specs.Differing.{apart, differ_made}
 
 pub apart_length : (xs ys : List Signal) → length ys ≡ length xs → length (apart xs ys) ≡ length xs

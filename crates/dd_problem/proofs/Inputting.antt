@@ -1,21 +1,16 @@
--- How far the loops that list cells and give them inputs have come.
+-- The state of the loops that list cells and give them inputs.
 use Rattle.std.proofs.Common.{◌≡◌, ℕ, ◌+◌, ◌*◌, ◌<◌, ◌≤◌, List, [], ◌∷◌, ◌++◌, map, take, length, get_or, ap, sym, subst, ◌∙◌, arith, Some, option_map}
-use Rattle.std.specs.List.{All, range_with_len}
-use Rattle.std.specs.List.Sorted.{IsStrictlySortedBy}
-use Rattle.std.specs.declared.cmp.Ordering.TheVariants.{Less}
 use Rattle.std.proofs.lemmas.List.{take_more, take_all, get_or-take, length-take, map-append, get_or_default}
-use Rattle.std.proofs.lemmas.List.FromFn.{get_or-range_with_len}
-use Rattle.std.proofs.lemmas.Map.Keys.{Less-from_sorted}
+use Rattle.std.proofs.lemmas.{List.FromFn.get_or-range_with_len, Map.Keys.Less-from_sorted}
 use Rattle.std.proofs.lemmas.Option.{slice_get-map, slice_get-get_or, get_or_from_slice_get}
-use Rattle.dd_lattice.specs.Order.{cell_cmp}
-use Rattle.dd_lattice.specs.declared.position.Cell.{Cell}
+use Rattle.std.specs.{List.All, List.range_with_len, List.Sorted.IsStrictlySortedBy, declared.cmp.Ordering.TheVariants.Less}
+use Rattle.dd_lattice.specs.{Order.cell_cmp, declared.position.Cell.Cell}
 use Rattle.dd_circuit.specs.declared.gates.Signal.{Signal}
 use Rattle.dd_compile.specs.Wiring.{Wiring, with_cell}
 use Rattle.dd_pattern.specs.Tile.{Tile}
-use Rattle.dd_problem.specs.pushing.Near.{number_at}
-use Rattle.dd_problem.specs.pushing.Numbered.{symbol_signals, numbered_wiring}
+use Rattle.dd_problem.specs.pushing.{Near.number_at, Numbered.symbol_signals, Numbered.numbered_wiring}
 
--- those of the first cells
+-- the inputs of the first cells
 abbrev pub first_numbered : ℕ → List Cell → List ℕ → ℕ → Wiring
 first_numbered m cells numbers i = numbered_wiring m (take i cells) (take i numbers)
 

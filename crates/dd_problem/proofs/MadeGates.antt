@@ -1,15 +1,12 @@
--- A circuit that has grown by the gates of what was compiled, whose clauses follow.
+-- A circuit that has grown by compiled gates, and then the clauses of these.
 use Rattle.std.proofs.Common.{◌≡◌, ℕ, ◌+◌, List, [], ◌∷◌, ◌++◌, length, drop, refl, ap, ◌∙◌, arith}
-use Rattle.std.specs.Prelude.{Result, Ok, Err, IfOk}
 use Rattle.std.proofs.lemmas.Result.{IfOk-at_ok}
+use Rattle.std.specs.Prelude.{Result, Ok, Err, IfOk}
 use Rattle.dd_clause.specs.Clauses.{ClauseList}
-use Rattle.dd_circuit.specs.declared.gates.Gate.{Gate}
-use Rattle.dd_circuit.specs.declared.gates.Signal.{Signal}
-use Rattle.dd_circuit.specs.Circuits.{Network, size}
+use Rattle.dd_circuit.specs.{declared.gates.Gate.Gate, declared.gates.Signal.Signal, Circuits.Network, Circuits.size}
 use Rattle.dd_cnf.specs.Encoding.{gates_clauses}
 use Rattle.dd_compile.specs.Compiling.{Extends, Maker}
-use Rattle.dd_problem.specs.Encodings.{Encoding, with_gates, with_made}
-use Rattle.dd_problem.specs.lemmas.Growing.{same_encoding}
+use Rattle.dd_problem.specs.{Encodings.Encoding, Encodings.with_gates, Encodings.with_made, lemmas.Growing.same_encoding}
 
 abbrev pub encoding_of : Network → ClauseList → Encoding
 encoding_of circuit cnf = record { circuit = circuit; clauses = cnf.clauses }
@@ -18,7 +15,7 @@ drop_front : (gs hs : List Gate) → drop (length gs) (gs ++ hs) ≡ hs
 drop_front [] hs = refl
 drop_front (g ∷ gs) hs = drop_front gs hs
 
--- the clauses of the gates that have come
+-- the clauses of the gates that were added
 clauses_come : (circuit new : Network) (before : ℕ) (gates : List Gate) → before ≡ length circuit.gates → new.inputs ≡ circuit.inputs → new.gates ≡ circuit.gates ++ gates →
     gates_clauses (new.inputs + before) (drop before new.gates) ≡ gates_clauses (size circuit) gates
 clauses_come circuit new before gates is inputs added =

@@ -1,36 +1,24 @@
--- Where wires give each cell of a layout the inputs of its number, the clauses over them are those of the layout.
+-- If wires give each cell of a layout the inputs of its number, the clauses over them are those of the layout.
 use Rattle.std.proofs.Common.{◌≡◌, ℕ, zero, suc, ◌+◌, ◌*◌, ◌<◌, Bool, true, false, List, [], ◌∷◌, ◌++◌, map, length, refl, ap, sym, ◌∙◌, arith, Some, None}
+use Rattle.std.proofs.lemmas.Bool.{and_parts, and_from, ltb-true, le-leb}
 use Rattle.std.specs.Prelude.{cond, ◌&&◌, Option, nat_lt, slice_get}
 use Rattle.std.specs.List.{list_all, filter, range_with_len}
-use Rattle.std.proofs.lemmas.Bool.{and_parts, and_from, ltb-true, le-leb}
-use Rattle.dd_lattice.specs.Place.{Place}
-use Rattle.dd_lattice.specs.Cells.{cell, shifted}
-use Rattle.dd_lattice.specs.declared.position.Cell.{Cell}
-use Rattle.dd_circuit.specs.declared.gates.Signal.{Signal}
-use Rattle.dd_circuit.specs.Circuits.{signal_of}
-use Rattle.dd_expansion.specs.declared.expanded.Expanded.{Expanded}
-use Rattle.dd_expansion.specs.Terms.{origin_at}
-use Rattle.dd_expansion.specs.Leaves.{leaves_pass}
-use Rattle.dd_expansion.specs.lemmas.LeafLaws.{leaves_both, leaves_weaken}
-use Rattle.dd_expansion.specs.lemmas.LeavesAreReads.{leaves_are_reads}
+use Rattle.dd_lattice.specs.{Place.Place, Cells.cell, Cells.shifted, declared.position.Cell.Cell}
+use Rattle.dd_circuit.specs.{declared.gates.Signal.Signal, Circuits.signal_of}
+use Rattle.dd_expansion.specs.{declared.expanded.Expanded.Expanded, Terms.origin_at, Leaves.leaves_pass}
+use Rattle.dd_expansion.specs.lemmas.{LeafLaws.leaves_both, LeafLaws.leaves_weaken, LeavesAreReads.leaves_are_reads}
 use Rattle.dd_compile.specs.Wiring.{Wiring}
 use Rattle.dd_compile.specs.Compiling.{made, wires_near, is_wire, certain, compiled, wire_or_zero}
-use Rattle.dd_compile.specs.lemmas.MadeCount.{made_same}
-use Rattle.dd_formula.specs.LocalRule.{LocalRule, IsRule, reads_at, expansion_at}
-use Rattle.dd_boxes.specs.Goals.{GoalOf, breaks, differ, always}
-use Rattle.dd_boxes.specs.Boxes.{origin}
-use Rattle.dd_problem.specs.pushing.Told.{IsToldGoal}
-use Rattle.dd_problem.specs.Layouts.{Layout, fits_in}
+use Rattle.dd_compile.specs.{lemmas.MadeCount.made_same, ValueSignals.are_wired_there}
+use Rattle.dd_formula.specs.{LocalRule.LocalRule, LocalRule.IsRule, LocalRule.reads_at, LocalRule.expansion_at, Automata.counted}
+use Rattle.dd_boxes.specs.{Goals.GoalOf, Goals.breaks, Goals.differ, Goals.always, Boxes.origin}
+use Rattle.dd_problem.specs.{pushing.Told.IsToldGoal, Layouts.Layout, Layouts.fits_in}
 use Rattle.dd_problem.specs.Clauses.{input, Part, cell_clauses, part_gates, part_clauses, units, some_true, some_false}
 use Rattle.dd_problem.specs.Problems.{wire, place_maker, premise_part, goal_part, input_count, problem}
-use Rattle.dd_formula.specs.Automata.{counted}
-use Rattle.dd_compile.specs.ValueSignals.{are_wired_there}
-use Rattle.dd_problem.specs.Differing.{differ_made}
-use Rattle.dd_problem.specs.lemmas.ValueWires.{GoalWired, value_is_wired}
+use Rattle.dd_problem.specs.{Differing.differ_made, lemmas.ValueWires.GoalWired, lemmas.ValueWires.value_is_wired}
 use Rattle.dd_problem.specs.pushing.Pushed.{are_both_wired, is_wired_at, is_goal_wired, wired_part, wired_parts, wired_goal, wired_problem}
-use Rattle.dd_problem.specs.lemmas.RangesLeft.{row_within}
-use Rattle.dd_problem.specs.lemmas.Reading.{IsLayout}
-use Rattle.dd_problem.specs.lemmas.Wiring.{HasReads, all_of_range}
+use Rattle.dd_problem.specs.lemmas.{RangesLeft.row_within, Reading.IsLayout, Wiring.HasReads, Wiring.all_of_range}
+use Rattle.dd_values.specs.lemmas.Booleans.{same_bool}
 
 -- at the leaves that pass p, counted from v, the wires are the layout's inputs
 abbrev pub Gives : Wiring → Layout → ℕ → (Cell → Bool) → Place → Type 0
@@ -38,11 +26,6 @@ Gives w l m p v = (c : Cell) (s : ℕ) → p c ≡ true → s < m → wires_near
 
 abbrev asked : (Cell → Bool) → ℕ → Cell → ℕ → Bool
 asked p m c s = p c && nat_lt s m
-
-bool_same : (a b : Bool) → (a ≡ true → b ≡ true) → (b ≡ true → a ≡ true) → a ≡ b
-bool_same true b h k = sym (h refl)
-bool_same false true h k = k refl
-bool_same false false h k = refl
 
 wire_has : (n : ℕ) (o : Option Signal) (b : Bool) (x : Signal) → o ≡ cond b (Some x) None → is_wire n o ≡ true → b ≡ true
 wire_has n o true x is h = refl
@@ -80,7 +63,7 @@ module _ (w : Wiring) (l : Layout) (m : ℕ) (p : Cell → Bool) (v : Place) (la
 
   wired_as_there : (e : Expanded) → leaves_pass (asked p m) e ≡ true → leaves_pass wired e ≡ leaves_pass there e
   wired_as_there e ask =
-      bool_same (leaves_pass wired e) (leaves_pass there e)
+      same_bool (leaves_pass wired e) (leaves_pass there e)
       (λ h. leaves_weaken e (λ c s. wired c s && asked p m c s) there wired_there (leaves_both e wired (asked p m) ∙ and_from _ _ h ask))
       (λ h. leaves_weaken e (λ c s. there c s && asked p m c s) wired there_wired (leaves_both e there (asked p m) ∙ and_from _ _ h ask))
 
@@ -104,7 +87,7 @@ asks r m p a ok same node reads =
 reads_there : (l : Layout) (r : LocalRule) (d : Cell) → IsRule r → leaves_pass (λ c s. l.has (shifted d.position c)) (expansion_at r d.node) ≡ list_all (λ c. l.has (shifted d.position c)) (reads_at r d.node)
 reads_there l r d ok = leaves_are_reads r.edges r.symbols ok.symbols.0 r.formula (origin_at d.node ∷ []) (λ c. l.has (shifted d.position c))
 
--- a rule whose reads pass p, at a place round which the wires are the layout's
+-- a rule whose reads pass p, at a place around which the wires are the layout's
 pub record Matches (w : Wiring) (l : Layout) (m : ℕ) (p : Cell → Bool) (r : LocalRule) (d : Cell) : Type 0 where
   pub node : d.node < r.nodes
   pub gives : Gives w l m p d.position

@@ -1,33 +1,20 @@
--- What the calls give that list the cells near those of a fundamental box.
+-- What the calls return that list the cells near those of a fundamental box.
 use Rattle.std.proofs.Common.{◌≡◌, ℕ, ◌+◌, ◌*◌, ◌<◌, ◌≤◌, ◌^◌, Bool, true, false, List, [], ◌∷◌, ◌++◌, map, take, length, get_or, ap, sym, subst, ◌∙◌, arith, rules, Some, None, if◌then◌else◌, pos, ◌-ℤ◌}
-use Rattle.std.specs.Prelude.{Option, nat_le}
-use Rattle.std.specs.Option.{IsSome}
-use Rattle.std.specs.List.{All, list_all, flat_map}
-use Rattle.std.proofs.lemmas.Int.{ints}
-use Rattle.std.proofs.lemmas.Bool.{le-leb}
-use Rattle.std.proofs.lemmas.Nat.{mul-le}
+use Rattle.std.proofs.lemmas.{Int.ints, Bool.le-leb, Nat.mul-le}
 use Rattle.std.proofs.lemmas.List.{map_more, take_all, append_assoc}
-use Rattle.dd_lattice.specs.Place.{Place, moved, is_in_range}
-use Rattle.dd_lattice.specs.Cells.{shifted}
-use Rattle.dd_lattice.specs.InOrder.{in_order}
+use Rattle.std.specs.{Prelude.Option, Prelude.nat_le, Option.IsSome, List.All, List.list_all, List.flat_map}
+use Rattle.dd_lattice.specs.{Place.Place, Place.moved, Place.is_in_range, Cells.shifted, InOrder.in_order}
 use Rattle.dd_lattice.specs.Boxes.{Bounds, centred, span, spread, is_active, volume}
-use Rattle.dd_lattice.specs.declared.position.Cell.{Cell}
-use Rattle.dd_lattice.specs.lemmas.InOrderLaws.{list_all-in_order}
-use Rattle.dd_lattice.specs.lemmas.RangeLaws.{test_from_in_range}
+use Rattle.dd_lattice.specs.{declared.position.Cell.Cell, lemmas.InOrderLaws.list_all-in_order, lemmas.RangeLaws.test_from_in_range}
 use Rattle.dd_topology.specs.Topology.{extent}
 use Rattle.dd_formula.specs.LocalRule.{LocalRule, IsRule, reads_at, cells_at, is_near}
 use Rattle.dd_formula.specs.lemmas.Cuts.{flat_more}
-use Rattle.dd_boxes.specs.Cells.{box_cells}
-use Rattle.dd_boxes.specs.Goals.{GoalOf}
-use Rattle.dd_boxes.specs.Boxes.{goal_reach, IsLeastRadius}
-use Rattle.dd_problem.specs.Layouts.{cells_in}
-use Rattle.dd_problem.specs.pushing.Near.{read_cells, near_cells}
-use Rattle.dd_problem.specs.pushing.Told.{IsToldGoal}
+use Rattle.dd_boxes.specs.{Cells.box_cells, Goals.GoalOf, Boxes.goal_reach, Boxes.IsLeastRadius}
+use Rattle.dd_problem.specs.{Layouts.cells_in, pushing.Near.read_cells, pushing.Near.near_cells, pushing.Told.IsToldGoal}
 use Rattle.dd_problem.specs.lemmas.Filtered.{some_same}
-use Rattle.dd_problem.proofs.TorusInputs.{sum_in_range}
-use Rattle.dd_problem.proofs.TorusReach.{told_near, radius_is}
+use Rattle.dd_problem.proofs.{TorusInputs.sum_in_range, TorusReach.told_near, TorusReach.radius_is}
 
--- a sum is there
+-- the sum of two positions exists
 pub sum_there : (p v : Place) (o : Option Place) → extent p ≤ 16 → extent v ≤ 1048560 → o ≡ (if is_in_range (moved p v) then Some (moved p v) else None) → o ≡ Some (moved p v)
 sum_there p v o near wide is = is ∙ ap (λ b. if b then Some (moved p v) else None) (test_from_in_range (moved p v) (sum_in_range p v near wide))
 

@@ -1,20 +1,15 @@
--- How far the gates at the nodes of a position have come, each with a literal of its signal.
+-- The state while the gates at the nodes of a position are made, each with a literal of its signal.
 use Rattle.std.proofs.Common.{◌≡◌, ℕ, ◌+◌, ◌<◌, ◌≤◌, List, [], ◌∷◌, ◌++◌, map, length, refl, ap, sym, ◌∙◌, arith, length-append, append_assoc, true}
+use Rattle.std.proofs.lemmas.List.{append-nil, Elements.All-push, Elements.All-weaker}
 use Rattle.std.specs.List.{range_with_len}
-use Rattle.std.proofs.lemmas.List.{append-nil}
-use Rattle.std.proofs.lemmas.List.Elements.{All-push, All-weaker}
-use Rattle.dd_lattice.specs.Place.{Place}
-use Rattle.dd_lattice.specs.Cells.{cell}
+use Rattle.dd_lattice.specs.{Place.Place, Cells.cell}
 use Rattle.dd_expansion.specs.declared.expanded.Expanded.{Expanded}
-use Rattle.dd_clause.specs.declared.clause.Literal.{Literal}
-use Rattle.dd_clause.specs.Clauses.{IsLiteralInRange, IsClauseInRange, negation}
-use Rattle.dd_circuit.specs.declared.gates.Signal.{Signal}
-use Rattle.dd_circuit.specs.Circuits.{IsSignal, size}
+use Rattle.dd_clause.specs.{declared.clause.Literal.Literal, Clauses.IsLiteralInRange, Clauses.IsClauseInRange, Clauses.negation}
+use Rattle.dd_circuit.specs.{declared.gates.Signal.Signal, Circuits.IsSignal, Circuits.size}
 use Rattle.dd_cnf.specs.Encoding.{literal_of, opposing, gates_clauses}
 use Rattle.dd_compile.specs.Wiring.{Wiring}
 use Rattle.dd_compile.specs.Compiling.{Made, Maker, AllMade, all_made, wires_near, are_wired, certain, compiled, gate_count}
-use Rattle.dd_compile.specs.lemmas.MadeCount.{made_count}
-use Rattle.dd_compile.specs.lemmas.Layers.{wired_more}
+use Rattle.dd_compile.specs.lemmas.{MadeCount.made_count, Layers.wired_more}
 use Rattle.dd_formula.specs.LocalRule.{LocalRule, expansion_at}
 use Rattle.dd_problem.specs.Clauses.{Part, part_clauses}
 use Rattle.dd_problem.specs.Encodings.{Encoding, with_clause, with_gates, with_parts}
@@ -26,19 +21,19 @@ use Rattle.dd_problem.specs.lemmas.Growing.{same_encoding, extended_size, extend
 abbrev pub turned_part : (ℕ → Maker) → ℕ → (Signal → Literal) → Part
 turned_part maker count turn = record { makers = map maker (range_with_len 0 count); tail = λ ss. map turn ss ∷ [] }
 
--- those of a rule
+-- the gates of a rule
 abbrev pub node_maker : Wiring → LocalRule → Place → ℕ → Maker
 node_maker w y v a = compiled w v (expansion_at y a)
 
--- the gates of the nodes from one on
+-- the gates of the nodes from a given one on
 abbrev pub nodes_made : (ℕ → Maker) → ℕ → ℕ → ℕ → AllMade
 nodes_made maker count node n = all_made (map maker (range_to node count)) n
 
--- those of all nodes
+-- the gates of all nodes
 abbrev pub all_nodes : (ℕ → Maker) → ℕ → ℕ → AllMade
 all_nodes maker count n = all_made (map maker (range_with_len 0 count)) n
 
--- all gates with their clauses, and all literals, are those that are there and those that are left
+-- all gates with their clauses, and all literals, are those already there and those left
 pub record NodesLeft (maker : ℕ → Maker) (count : ℕ) (turn : Signal → Literal) (node : ℕ) (start now : Encoding) (literals : List Literal) : Type 0 where
   pub inputs : now.circuit.inputs ≡ start.circuit.inputs
   pub more : size start.circuit ≤ size now.circuit
@@ -73,7 +68,7 @@ node_few maker count turn node most start now literals p h few =
     let split = ap (λ (m : AllMade). length m.gates) (node_split maker count turn node n h) in
     omega (arith, whole, nothing, there, here, same, split, few, length-append one later)
 
--- the same of a rule, whose expansion is kept
+-- the same for a rule, whose expansion is kept
 pub rule_few : (w : Wiring) (y : LocalRule) (v : Place) (turn : Signal → Literal) (node most : ℕ) (start now : Encoding) (literals : List Literal) (e : Expanded) →
     NodesLeft (node_maker w y v) y.nodes turn node start now literals → node < y.nodes → e ≡ expansion_at y node →
     size (with_parts start (turned_part (node_maker w y v) y.nodes turn ∷ [])).circuit ≤ most → size now.circuit + gate_count e ≤ most

@@ -1,17 +1,12 @@
--- What is left of cells that are sorted, where each that is the same as the one before it is left out.
+-- Sorted cells, without those that are the same as the one before.
 use Rattle.std.proofs.Common.{◌≡◌, Bool, true, false, List, refl, ap, sym, subst, ◌∙◌}
-use Rattle.std.specs.Ordering.{is_eq, eq_by_cmp}
-use Rattle.std.specs.List.{Contains, dedup}
-use Rattle.std.specs.List.Sorted.{IsPermutation, IsSorted, IsStrictlySortedBy}
-use Rattle.std.specs.Cmp.{IsEquivalence, tied_itself}
 use Rattle.std.proofs.lemmas.List.Kept.{Contains-dedup, Contains-from_dedup, IsStrictlySortedBy-dedup}
 use Rattle.std.proofs.lemmas.List.Sorted.{Contains-permutation, IsPermutation-sym}
-use Rattle.dd_lattice.specs.InOrder.{in_order}
-use Rattle.dd_lattice.specs.Order.{cell_cmp}
-use Rattle.dd_lattice.specs.declared.position.Cell.{Cell}
-use Rattle.dd_lattice.specs.lemmas.InOrderLaws.{cells_equal}
+use Rattle.std.specs.{Ordering.is_eq, Ordering.eq_by_cmp, List.Contains, List.dedup}
+use Rattle.std.specs.{List.Sorted.IsPermutation, List.Sorted.IsSorted, List.Sorted.IsStrictlySortedBy, Cmp.IsEquivalence, Cmp.tied_itself}
+use Rattle.dd_lattice.specs.{InOrder.in_order, Order.cell_cmp, declared.position.Cell.Cell, lemmas.InOrderLaws.cells_equal}
 use Rattle.dd_topology.specs.lemmas.OrderLaws.{cell_total, is-in_order}
-use Rattle.dd_problem.proofs.NearCells.{equal_from}
+use Rattle.dd_values.specs.lemmas.Booleans.{equal_from}
 
 module _ (E : Cell → Cell → Bool) (ties : (x y : Cell) → E x y ≡ eq_by_cmp cell_cmp x y) where
   same : (x y : Cell) → E x y ≡ true → x ≡ y

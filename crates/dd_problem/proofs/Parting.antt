@@ -1,14 +1,11 @@
--- How far the gates have come that tell two values apart, symbol by symbol.
-use Rattle.std.proofs.Common.{◌≡◌, ◌<◌, ◌≤◌, ℕ, zero, suc, ◌+◌, List, [], ◌∷◌, ◌++◌, length, drop, get_or, ap, sym, ◌∙◌, subst, arith, append_assoc, length-append}
-use Rattle.std.specs.List.{All}
+-- The state while the gates that tell two values apart are made, symbol by symbol.
+use Rattle.std.proofs.Common.{◌≡◌, ◌<◌, ◌≤◌, ℕ, suc, ◌+◌, List, [], ◌∷◌, ◌++◌, length, drop, get_or, ap, sym, ◌∙◌, subst, arith, append_assoc, length-append}
 use Rattle.std.proofs.lemmas.List.{drop_all, append-nil}
-use Rattle.dd_circuit.specs.declared.gates.Signal.{Signal}
-use Rattle.dd_circuit.specs.declared.gates.Gate.TheVariants.{And}
+use Rattle.std.specs.List.{All}
+use Rattle.dd_circuit.specs.declared.gates.{Signal.Signal, Gate.TheVariants.And}
 use Rattle.dd_circuit.specs.Circuits.{Network, IsSignal, size, signal_of, opposite}
-use Rattle.dd_compile.specs.Compiling.{Extends}
-use Rattle.dd_compile.specs.ValueGates.{fresh}
-use Rattle.dd_compile.specs.lemmas.CaseGates.{next_is}
-use Rattle.dd_compile.specs.lemmas.Progress.{Extends-trans}
+use Rattle.dd_circuit.specs.lemmas.GateLists.{two_in_range}
+use Rattle.dd_compile.specs.{Compiling.Extends, ValueGates.fresh, lemmas.CaseGates.next_is, lemmas.Progress.Extends-trans}
 use Rattle.dd_problem.specs.Differing.{apart}
 
 pub record Parting (xs ys : List Signal) (i : ℕ) (start now : Network) (signals : List Signal) : Type 0 where
@@ -17,21 +14,13 @@ pub record Parting (xs ys : List Signal) (i : ℕ) (start now : Network) (signal
   pub signals_left : fresh (size start) (length (apart xs ys)) ≡ signals ++ fresh (size now) (length (apart (drop i xs) (drop i ys)))
   pub count : size now ≡ size start + i
 
-two_in : (m : ℕ) (a b : Signal) → IsSignal m a → IsSignal m b → All (IsSignal m) (a ∷ b ∷ [])
-two_in m a b p q = λ k d h. at k d h
-  where
-    at : (k : ℕ) (d : Signal) → k < length (a ∷ b ∷ []) → IsSignal m (get_or (a ∷ b ∷ []) k d)
-    at zero d h = p
-    at (suc zero) d h = q
-    at (suc (suc k)) d h = absurd (omega arith)
-
 module _ (xs ys : List Signal) (i : ℕ) (start now : Network) (signals : List Signal) (x y : Signal) (p : Parting xs ys i start now signals) (below : i < length xs) (below' : i < length ys)
     (is : x ≡ get_or xs i x) (is' : y ≡ get_or ys i y) where
   pub parting_in : (o : Signal) → o ≡ opposite y → All (IsSignal (size start)) xs → All (IsSignal (size start)) ys → All (IsSignal (size now)) (x ∷ o ∷ [])
   parting_in o turned first second =
       let a = subst (IsSignal (size start)) (sym is) (first i x below) in
       let b = subst (IsSignal (size start)) (sym is') (second i y below') in
-      two_in (size now) x o (a.0, (let top = a.1 in omega (arith, top, p.count))) (subst (IsSignal (size now)) (sym turned) (b.0, (let top = b.1 in omega (arith, top, p.count))))
+      two_in_range (size now) x o (a.0, (let top = a.1 in omega (arith, top, p.count))) (subst (IsSignal (size now)) (sym turned) (b.0, (let top = b.1 in omega (arith, top, p.count))))
 
   pub parting_step : (new : Network) (members more : List Signal) (s : Signal) → members ≡ x ∷ opposite y ∷ [] → new.inputs ≡ now.inputs → new.gates ≡ now.gates ++ And members ∷ [] →
       s ≡ signal_of (size new) → more ≡ signals ++ s ∷ [] → Parting xs ys (i + 1) start new more

@@ -1,16 +1,11 @@
--- How far the premise's clauses have come.
+-- The state while the premise's clauses are made.
 use Rattle.std.proofs.Common.{◌≡◌, ℕ, ◌+◌, ◌<◌, ◌≤◌, Bool, true, false, List, [], ◌∷◌, ◌++◌, map, length, drop, get_or, refl, ap, sym, ◌∙◌, arith, append_assoc, drop-cons, add-one, Some, None}
-use Rattle.std.specs.Prelude.{cond, Option}
-use Rattle.std.specs.List.{filter}
-use Rattle.std.proofs.lemmas.Bool.{and_from, le-leb}
-use Rattle.std.proofs.lemmas.List.{append-nil, drop_all}
-use Rattle.dd_lattice.specs.declared.position.Cell.{Cell}
+use Rattle.std.proofs.lemmas.{Bool.and_from, Bool.le-leb, List.append-nil, List.drop_all}
+use Rattle.std.specs.{Prelude.cond, Prelude.Option, List.filter}
+use Rattle.dd_lattice.specs.{declared.position.Cell.Cell, Place.moved, Place.is_in_range, Cells.shifted}
 use Rattle.dd_expansion.specs.Leaves.{leaves_pass}
-use Rattle.dd_lattice.specs.Place.{moved, is_in_range}
-use Rattle.dd_lattice.specs.Cells.{shifted}
 use Rattle.dd_clause.specs.declared.clause.Literal.{Literal}
-use Rattle.dd_circuit.specs.declared.gates.Signal.{Signal}
-use Rattle.dd_circuit.specs.Circuits.{IsSignal, size}
+use Rattle.dd_circuit.specs.{declared.gates.Signal.Signal, Circuits.IsSignal, Circuits.size}
 use Rattle.dd_cnf.specs.Encoding.{literal_of, gates_clauses}
 use Rattle.dd_compile.specs.Wiring.{Wiring, wire_of}
 use Rattle.dd_compile.specs.Compiling.{wires_near, is_wire, certain, compiled, gate_count}
@@ -69,7 +64,7 @@ pub next_parts : (w : Wiring) (n : ℕ) (x : LocalRule) (cells : List Cell) (i :
     parts_from w n x cells i ≡ wired_parts w n x (d ∷ []) ++ parts_from w n x cells (i + 1)
 next_parts w n x cells i d h here = ap (wired_parts w n x) (next_cell cells i d h here) ∙ parts_split w n x d (drop (i + 1) cells)
 
--- The loop over cells: what the parts of all cells give is what is there and what those of the other cells give.
+-- The loop over cells: the parts of all cells give what is already there and what the parts of the other cells give.
 pub record PlacesLeft (w : Wiring) (x : LocalRule) (cells : List Cell) (i : ℕ) (start now : Encoding) : Type 0 where
   pub inputs : now.circuit.inputs ≡ start.circuit.inputs
   pub left : with_parts start (wired_parts w start.circuit.inputs x cells) ≡ with_parts now (parts_from w start.circuit.inputs x cells i)

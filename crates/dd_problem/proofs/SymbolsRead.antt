@@ -1,24 +1,16 @@
--- Symbols that are read from an assignment.
+-- Symbols read from an assignment.
 use Rattle.std.proofs.Common.{◌≡◌, ℕ, suc, ◌+◌, ◌*◌, ◌-◌, ◌<◌, Bool, true, false, List, length, get_or, ap, sym, subst, ◌∙◌, arith}
+use Rattle.std.proofs.lemmas.{List.ext_get_or, Option.slice_get-get_or}
 use Rattle.std.specs.Prelude.{◌==◌, slice_index_or, Option, Some, None, Result, Ok, Err, MatchResult, is_ok}
-use Rattle.std.specs.Result.{result_ok}
-use Rattle.std.specs.List.{All}
-use Rattle.std.proofs.lemmas.List.{ext_get_or}
-use Rattle.std.proofs.lemmas.Option.{slice_get-get_or}
+use Rattle.std.specs.{Result.result_ok, List.All}
 use Rattle.dd_values.specs.Variables.{true_variables}
-use Rattle.dd_pattern.specs.declared.periods.Periods.{Periods}
-use Rattle.dd_pattern.specs.Periods.{periods_volume}
-use Rattle.dd_pattern.specs.Tile.{Tile, IsPeriodic, tile}
+use Rattle.dd_pattern.specs.{declared.periods.Periods.Periods, Periods.periods_volume, Tile.Tile, Tile.IsPeriodic, Tile.tile}
 use Rattle.dd_expansion.specs.Truth.{is_symbol}
-use Rattle.dd_formula.specs.LocalRule.{LocalRule, IsRule}
-use Rattle.dd_formula.specs.Living.{Fits}
-use Rattle.dd_boxes.specs.Witnesses.{HasPeriods}
-use Rattle.dd_problem.specs.TorusPeriods.{AreTorusPeriods}
-use Rattle.dd_problem.specs.lemmas.Filtered.{some_same}
-use Rattle.dd_problem.specs.lemmas.TorusLayout.{torus_of, torus_is_periodic}
-use Rattle.dd_problem.proofs.TorusCalls.{tile_ok}
-use Rattle.dd_problem.specs.Clauses.{input}
+use Rattle.dd_formula.specs.{LocalRule.LocalRule, LocalRule.IsRule, Living.Fits}
+use Rattle.dd_boxes.specs.{Witnesses.HasPeriods, TorusPeriods.AreTorusPeriods}
+use Rattle.dd_problem.specs.{lemmas.Filtered.some_same, lemmas.TorusLayout.torus_of, lemmas.TorusLayout.torus_is_periodic, Clauses.input}
 use Rattle.dd_problem.specs.Symbols.{IsSymbolRead, HasOneEach, AreRead, AreAllRead}
+use Rattle.dd_problem.proofs.TorusCalls.{tile_ok}
 
 equal_from : (a b : ℕ) → (a == b) ≡ true → a ≡ b
 equal_from a b h = grind arith
@@ -30,13 +22,13 @@ equal_itself a = grind arith
 pub input_value : (values : List Bool) (m k t at : ℕ) → at ≡ k * m + t → true_variables values (input m k t) ≡ slice_index_or values at false
 input_value values m k t at is = let e : suc (k * m + t) - 1 ≡ at = omega arith in ap (λ j. slice_index_or values j false) e
 
--- the first true one is that of the symbol
+-- the first true input is that of the symbol
 pub here_read : (set : ℕ → Bool) (m k t : ℕ) → (s : ℕ) × IsSymbolRead set m k s → t < m → set (input m k t) ≡ true → IsSymbolRead set m k t
 here_read set m k t one below h =
     let same : one.0 ≡ t = equal_from one.0 t (sym (one.1.1 t below) ∙ h) in
     subst (IsSymbolRead set m k) same one.1
 
--- some one is
+-- some input is true
 pub none_read : (set : ℕ → Bool) (m k : ℕ) → (s : ℕ) × IsSymbolRead set m k s → ((t : ℕ) → t < m → set (input m k t) ≡ false) → ⊥
 none_read set m k one none =
     let s = one.0 in
@@ -54,7 +46,7 @@ pub read_by_numbers : (set : ℕ → Bool) (m n : ℕ) (symbols : List ℕ) → 
 read_by_numbers set m n symbols all k s h below =
     (all.1 k 0 (omega (arith, all.0))).1 s below ∙ sym (ap (is_symbol s) (slice_get-get_or symbols k 0 h))
 
--- symbols of a list that is read are those of any other
+-- two lists read from one assignment have the same symbols
 same_symbol : (set : ℕ → Bool) (m : ℕ) (symbols others : List ℕ) → AreRead set m symbols → AreRead set m others → All (λ s. s < m) others → length others ≡ length symbols →
     (k : ℕ) → k < length others → get_or others k 0 ≡ get_or symbols k 0
 same_symbol set m symbols others read other below same k h =
@@ -68,13 +60,13 @@ same_symbol set m symbols others read other below same k h =
 same_tile : (t u : Tile) → t.dimension ≡ u.dimension → t.periods ≡ u.periods → t.nodes ≡ u.nodes → t.symbols ≡ u.symbols → t ≡ u
 same_tile t u d p n s = λ i. record { dimension = d i; periods = p i; nodes = n i; symbols = s i }
 
--- a configuration that is made is the one that is asked for
+-- a configuration that is made is the one asked for
 pub made_is : {B : Type 0} (r : Result Tile B) (o : Option Tile) (t u : Tile) (S : B → Type 0) → MatchResult r (λ p. (p ≡ u) × IsPeriodic u) (λ back. S back × (IsPeriodic u → ⊥)) →
     o ≡ result_ok r → o ≡ Some t → t ≡ u
 made_is (Ok a) o t u S h ok is = some_same t a (sym is ∙ ok) ∙ h.0
 made_is (Err e) o t u S h ok is = absurd (let no : Some t ≡ None = sym is ∙ ok in cc)
 
-module _ (x : LocalRule) (periods : Periods) (rule : IsRule x) (ok : AreTorusPeriods x periods) where
+module _ (x : LocalRule) (periods : Periods) (rule : IsRule x) (ok : AreTorusPeriods x.dimension x.nodes periods) where
   read_is : (d nodes : ℕ) (items : List ℕ) → d ≡ x.dimension → nodes ≡ x.nodes → tile d periods nodes items ≡ torus_of x periods items
   read_is d nodes items dim same = ap (λ k. tile k periods nodes items) dim ∙ ap (λ k. tile x.dimension periods k items) same
 

@@ -1,53 +1,30 @@
--- What templates ask of the cells and of the inputs.
+-- What templates require of the cells and the inputs.
 use Rattle.std.proofs.Common.{◌≡◌, ℕ, zero, suc, ◌*◌, ◌/◌, ◌<◌, ◌≤◌, Bool, true, false, List, [], ◌∷◌, map, length, get_or, refl, ap, sym, subst, ◌∙◌, arith, Some, None, option_map, eq-eqb}
-use Rattle.std.specs.Prelude.{◌==◌, Option, if◌then◌else◌, slice_get, nat_le}
-use Rattle.std.specs.List.{All, list_all, range_with_len, position_or_len}
-use Rattle.std.specs.Ordering.{is_eq}
-use Rattle.std.proofs.lemmas.Int.{ints}
-use Rattle.std.proofs.lemmas.Nat.{div_below}
-use Rattle.std.proofs.lemmas.Bool.{and_from, le-leb}
+use Rattle.std.proofs.lemmas.{Int.ints, Nat.div_below, Bool.and_from, Bool.le-leb}
 use Rattle.std.proofs.lemmas.List.Elements.{All-get_or, All-map, All-weaker}
 use Rattle.std.proofs.lemmas.List.FromFn.{length-map-range_with_len, get_or-map-range_with_len}
 use Rattle.std.proofs.lemmas.Option.{slice_get-map}
-use Rattle.dd_lattice.specs.Order.{cell_cmp}
-use Rattle.dd_lattice.specs.Place.{Place, moved, is_in_range}
-use Rattle.dd_lattice.specs.Cells.{shifted}
-use Rattle.dd_lattice.specs.Boxes.{Bounds, IsAtMostOnEachAxis, IsWithin, centred, volume, place_in, spread, is_active}
-use Rattle.dd_lattice.specs.declared.position.Cell.{Cell}
-use Rattle.dd_lattice.specs.lemmas.BoxLaws.{place_within}
+use Rattle.std.specs.Prelude.{◌==◌, Option, if◌then◌else◌, slice_get, nat_le}
+use Rattle.std.specs.{List.All, List.list_all, List.range_with_len, List.position_or_len, Ordering.is_eq}
+use Rattle.dd_lattice.specs.{Order.cell_cmp, Place.Place, Place.moved, Place.is_in_range, Cells.shifted}
+use Rattle.dd_lattice.specs.Boxes.{Bounds, IsAtMostOnEachAxis, IsWithin, centred, volume, place_in, is_active}
+use Rattle.dd_lattice.specs.{declared.position.Cell.Cell, lemmas.BoxLaws.place_within, lemmas.BoxLaws.bounds_ordered}
 use Rattle.dd_topology.specs.Topology.{extent}
-use Rattle.dd_pattern.specs.declared.periods.Periods.{Periods}
-use Rattle.dd_pattern.specs.Tile.{fundamental}
+use Rattle.dd_pattern.specs.{declared.periods.Periods.Periods, Tile.fundamental}
 use Rattle.dd_expansion.specs.lemmas.LeafLaws.{leaves_weaken}
-use Rattle.dd_formula.specs.LocalRule.{LocalRule, IsRule, expansion_at}
-use Rattle.dd_formula.specs.lemmas.RuleLaws.{leaves_pass_reads}
-use Rattle.dd_circuit.specs.declared.gates.Signal.{Signal}
-use Rattle.dd_circuit.specs.Circuits.{IsSignal, signal_of}
-use Rattle.dd_compile.specs.Wiring.{Wiring, signal_for, signals_of}
-use Rattle.dd_compile.specs.Compiling.{is_wire, wires_near}
+use Rattle.dd_formula.specs.{LocalRule.LocalRule, LocalRule.IsRule, LocalRule.expansion_at, lemmas.RuleLaws.leaves_pass_reads}
+use Rattle.dd_circuit.specs.{declared.gates.Signal.Signal, Circuits.IsSignal, Circuits.signal_of}
+use Rattle.dd_compile.specs.{Wiring.Wiring, Wiring.signal_for, Wiring.signals_of, Compiling.is_wire, Compiling.wires_near}
 use Rattle.dd_compile.specs.RuleSignals.{is_signal, are_signals, are_reads_wired}
-use Rattle.dd_compile.specs.Templates.{RuleAt, rule_at}
-use Rattle.dd_compile.specs.lemmas.RuleWiring.{leaves_wired}
-use Rattle.dd_boxes.specs.Goals.{GoalOf}
-use Rattle.dd_boxes.specs.Counts.{question_clauses, most_clauses}
-use Rattle.dd_problem.specs.TorusPeriods.{AreTorusPeriods}
-use Rattle.dd_problem.specs.Clauses.{input}
-use Rattle.dd_boxes.specs.Cells.{box_cells}
-use Rattle.dd_problem.specs.Layouts.{nth_cell, cells_in, torus_cells}
+use Rattle.dd_compile.specs.{Templates.RuleAt, Templates.rule_at, lemmas.RuleWiring.leaves_wired}
+use Rattle.dd_boxes.specs.{Goals.GoalOf, Counts.question_clauses, Counts.most_clauses, TorusPeriods.AreTorusPeriods, Cells.box_cells}
+use Rattle.dd_problem.specs.{Clauses.input, Layouts.nth_cell, Layouts.cells_in, Layouts.torus_cells}
 use Rattle.dd_problem.specs.pushing.Numbered.{symbol_signals, numbered_wiring}
-use Rattle.dd_problem.specs.pushing.Pushed.{AreInputs, HasAllSymbols, is_wired_at}
-use Rattle.dd_problem.specs.lemmas.Filtered.{some_same}
+use Rattle.dd_problem.specs.{pushing.Pushed.AreInputs, pushing.Pushed.HasAllSymbols, pushing.Pushed.is_wired_at, lemmas.Filtered.some_same}
 use Rattle.dd_problem.specs.lemmas.TorusSizes.{AreSizes, torus_sizes}
-use Rattle.dd_problem.specs.lemmas.CellOrder.{cells_by_number, All-range}
-use Rattle.dd_problem.specs.lemmas.BoxLayout.{bounds_ordered}
-use Rattle.dd_problem.proofs.BoxInputs.{volume_wide}
-use Rattle.dd_problem.specs.lemmas.Counting.{positions_below}
-use Rattle.dd_problem.proofs.PlacesLeft.{wired_same}
-
-both_ways : (a b : Bool) → (a ≡ true → b ≡ true) → (b ≡ true → a ≡ true) → a ≡ b
-both_ways true b f g = sym (f refl)
-both_ways false true f g = g refl
-both_ways false false f g = refl
+use Rattle.dd_problem.specs.lemmas.{CellOrder.cells_by_number, CellOrder.All-range, Counting.positions_below}
+use Rattle.dd_problem.proofs.{BoxInputs.volume_wide, BoxInputs.spread_most, PlacesLeft.wired_same}
+use Rattle.dd_values.specs.lemmas.Booleans.{same_bool}
 
 all_signals : (n m : ℕ) (ss : List Signal) → n ≤ m → ((i : ℕ) (signal : Signal) → slice_get ss i ≡ Some signal → IsSignal n signal) → list_all (is_signal m) ss ≡ true
 all_signals n m [] more h = refl
@@ -65,12 +42,12 @@ row_full n m k true None s more full fit h = absurd (cc)
 row_full n m k true (Some ss) s more full fit h =
     and_from (length ss == k) (list_all (is_signal m) ss) (eq-eqb (length ss) k (full ss refl)) (all_signals n m ss more fit)
 
--- what a rule reads has all its signals exactly where each leaf has its wire
+-- what a rule reads has all its signals exactly if each leaf has its wire
 pub same_reads : (n m : ℕ) (w : Wiring) (x : LocalRule) (d : Cell) → IsRule x → d.node < x.nodes → extent d.position ≤ 1048560 → AreInputs n w → HasAllSymbols x.symbols w → n ≤ m →
     are_reads_wired m w x d ≡ is_wired_at w m x d
 same_reads n m w x d rule node near ok full more =
     let v = d.position in
-    both_ways (are_reads_wired m w x d) (is_wired_at w m x d) (leaves_wired m w x rule d node near)
+    same_bool (are_reads_wired m w x d) (is_wired_at w m x d) (leaves_wired m w x rule d node near)
     (λ h.
     sym (leaves_pass_reads x rule.symbols.0 d.node (λ c. are_signals m x.symbols (signals_of w (shifted v c))))
     ∙ leaves_weaken (expansion_at x d.node) (λ c s. is_wire m (wires_near w v c s)) (λ c s. are_signals m x.symbols (signals_of w (shifted v c)))
@@ -121,10 +98,6 @@ cells_within b m o some =
     (All-map (λ (c : Cell). IsWithin b c.position) (nth_cell b m) (range_with_len 0 (volume b * m))
     (All-range (λ k. IsWithin b (place_in b (k / m))) (volume b * m) 0 (λ k low high. place_within b (k / m) o (div_below k m (volume b) some (omega arith)))))
 
-spread_most : (b : Bool) (n : ℕ) → spread b n ≤ n
-spread_most true n = omega arith
-spread_most false n = omega arith
-
 near_box : (d n : ℕ) (p : Place) → n ≤ 1048560 → IsWithin (centred d n) p → extent p ≤ 1048560
 near_box d n p small h =
     let x = spread_most (is_active d 0) n in
@@ -154,7 +127,7 @@ near_torus x p v sizes h =
 ordered_torus : (p : Periods) → IsAtMostOnEachAxis (fundamental p).low (fundamental p).high
 ordered_torus p = record { on_x = omega (arith, ints); on_y = omega (arith, ints); on_z = omega (arith, ints) }
 
-pub torus_near : (x : LocalRule) (p : Periods) (cells : List Cell) → IsRule x → AreTorusPeriods x p → cells ≡ torus_cells x p → All (λ (d : Cell). extent d.position ≤ 1048560) cells
+pub torus_near : (x : LocalRule) (p : Periods) (cells : List Cell) → IsRule x → AreTorusPeriods x.dimension x.nodes p → cells ≡ torus_cells x p → All (λ (d : Cell). extent d.position ≤ 1048560) cells
 torus_near x p cells rule ok read =
     let b = fundamental p in
     subst (All (λ (d : Cell). extent d.position ≤ 1048560)) (sym read)

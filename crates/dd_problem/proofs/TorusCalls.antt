@@ -1,37 +1,22 @@
--- What the calls give from which the clauses of a torus are made.
+-- What the calls return from which the clauses of a torus are made.
 use Rattle.std.proofs.Common.{◌≡◌, ℕ, ◌+◌, ◌*◌, ◌≤◌, ◌<◌, ◌^◌, true, List, map, length, refl, ap, sym, subst, ◌∙◌, arith}
+use Rattle.std.proofs.lemmas.{Nat.mul-le, List.Elements.All-map, List.Elements.All-weaker}
+use Rattle.std.proofs.lemmas.{List.FromFn.length-range_with_len, Result.IfOk-weaker}
 use Rattle.std.specs.Prelude.{Result, Ok, Err, IfOk, MatchResult, is_ok}
-use Rattle.std.specs.List.{All, range_with_len}
-use Rattle.std.specs.List.Sorted.{IsStrictlySortedBy}
-use Rattle.std.proofs.lemmas.Nat.{mul-le}
-use Rattle.std.proofs.lemmas.List.Elements.{All-map, All-weaker}
-use Rattle.std.proofs.lemmas.List.FromFn.{length-range_with_len}
-use Rattle.std.proofs.lemmas.Result.{IfOk-weaker}
-use Rattle.dd_lattice.specs.Order.{cell_cmp}
-use Rattle.dd_lattice.specs.Boxes.{Bounds, volume as box_volume}
-use Rattle.dd_lattice.specs.declared.position.Cell.{Cell}
-use Rattle.dd_pattern.specs.declared.periods.Periods.{Periods}
-use Rattle.dd_pattern.specs.Periods.{periods_volume}
-use Rattle.dd_pattern.specs.Tile.{Tile, IsPeriodic, tile, fundamental}
-use Rattle.dd_pattern.specs.lemmas.TileSizes.{index_below}
+use Rattle.std.specs.List.{All, range_with_len, Sorted.IsStrictlySortedBy}
+use Rattle.dd_lattice.specs.{Order.cell_cmp, Boxes.Bounds, Boxes.volume as box_volume, declared.position.Cell.Cell}
+use Rattle.dd_pattern.specs.{declared.periods.Periods.Periods, Periods.periods_volume}
+use Rattle.dd_pattern.specs.{Tile.Tile, Tile.IsPeriodic, Tile.tile, Tile.fundamental, lemmas.TileSizes.index_below, lemmas.TileLaws.span_is}
 use Rattle.dd_clause.specs.Clauses.{ClauseList}
 use Rattle.dd_compile.specs.Wiring.{Wiring}
 use Rattle.dd_formula.specs.LocalRule.{LocalRule, IsRule}
-use Rattle.dd_boxes.specs.Goals.{GoalOf}
-use Rattle.dd_boxes.specs.Counts.{question_clauses, most_clauses}
-use Rattle.dd_problem.specs.TorusPeriods.{AreTorusPeriods}
-use Rattle.dd_problem.specs.pushing.Told.{IsToldGoal}
-use Rattle.dd_problem.specs.Layouts.{cells_in, torus_cells}
-use Rattle.dd_problem.specs.pushing.Near.{torus_layout}
-use Rattle.dd_problem.specs.Problems.{torus_problem}
-use Rattle.dd_problem.specs.pushing.Near.{near_cells, number_at, numbered_by, numbered_tile, torus_inputs}
-use Rattle.dd_problem.specs.pushing.Pushed.{AreInputs, is_goal_wired, wired_problem}
-use Rattle.dd_problem.specs.Shows.{ShowsTorus}
-use Rattle.dd_problem.specs.lemmas.RangesLeft.{row_within}
-use Rattle.dd_problem.specs.lemmas.CellOrder.{cells_nodes}
-use Rattle.dd_problem.specs.lemmas.Counting.{variables_below}
+use Rattle.dd_boxes.specs.{Goals.GoalOf, Counts.question_clauses, Counts.most_clauses, TorusPeriods.AreTorusPeriods}
+use Rattle.dd_problem.specs.{pushing.Told.IsToldGoal, Layouts.cells_in, Layouts.torus_cells}
+use Rattle.dd_problem.specs.pushing.Near.{torus_layout, near_cells, number_at, numbered_by, numbered_tile, torus_inputs}
+use Rattle.dd_problem.specs.{Problems.torus_problem, pushing.Pushed.AreInputs, pushing.Pushed.is_goal_wired, pushing.Pushed.wired_problem}
+use Rattle.dd_problem.specs.{Shows.ShowsTorus, lemmas.RangesLeft.row_within, lemmas.CellOrder.cells_nodes, lemmas.Counting.variables_below}
 use Rattle.dd_problem.specs.lemmas.NumberedWires.{are_inputs}
-use Rattle.dd_problem.specs.lemmas.TorusLayout.{torus_size, span_is, product_turned, length-torus_cells}
+use Rattle.dd_problem.specs.lemmas.TorusLayout.{torus_size, product_turned, length-torus_cells}
 use Rattle.dd_problem.specs.lemmas.TorusShows.{torus_shows}
 use Rattle.dd_problem.proofs.NearCells.{near_ascends, near_nodes as near_nodes_of}
 use Rattle.dd_problem.proofs.TorusInputs.{numbers_tile, number_is, torus_values, torus_is_problem, torus_goal_wired}
@@ -40,7 +25,7 @@ use Rattle.dd_problem.proofs.TorusInputs.{numbers_tile, number_is, torus_values,
 abbrev pub IsFew : LocalRule → GoalOf → Periods → Type 0
 IsFew x g periods = question_clauses x g (periods_volume periods) ≤ most_clauses
 
-module _ (x : LocalRule) (periods : Periods) (rule : IsRule x) (ok : AreTorusPeriods x periods) where
+module _ (x : LocalRule) (periods : Periods) (rule : IsRule x) (ok : AreTorusPeriods x.dimension x.nodes periods) where
   volume_is : box_volume (fundamental periods) ≡ periods_volume periods
   volume_is =
       rw (span_is periods.x ok.periods.x_some, span_is periods.y (ok.periods.y_some), span_is periods.z (ok.periods.z_some))
@@ -102,7 +87,7 @@ module _ (x : LocalRule) (periods : Periods) (rule : IsRule x) (ok : AreTorusPer
       omega (arith, row, all)
 
 -- what the premise and the goal read
-module _ (x : LocalRule) (periods : Periods) (rule : IsRule x) (ok : AreTorusPeriods x periods) (g : GoalOf) (good : IsToldGoal x g) where
+module _ (x : LocalRule) (periods : Periods) (rule : IsRule x) (ok : AreTorusPeriods x.dimension x.nodes periods) (g : GoalOf) (good : IsToldGoal x g) where
   abbrev near : List Cell
   near = near_cells x g (torus_cells x periods)
 

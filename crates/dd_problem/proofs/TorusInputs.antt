@@ -1,50 +1,34 @@
 -- The inputs of the cells that are read from a fundamental box are those of the torus.
 use Rattle.std.proofs.Common.{◌≡◌, ℕ, ◌<◌, ◌≤◌, ◌*◌, Bool, true, List, map, length, refl, ap, sym, subst, ◌∙◌, arith, Some, None, ℤ, ◌+ℤ◌, if◌then◌else◌, option_map}
-use Rattle.std.specs.Prelude.{cond, nat_lt, slice_get, unsigned_abs}
-use Rattle.std.specs.List.{Contains, list_all, range_with_len}
-use Rattle.std.proofs.lemmas.Int.{ints}
-use Rattle.std.proofs.lemmas.Bool.{and_parts, ltb-true, lt-ltb, leb-true}
-use Rattle.std.proofs.lemmas.List.{length-map}
-use Rattle.std.proofs.lemmas.List.Elements.{All-contains}
+use Rattle.std.proofs.lemmas.{Int.ints, Bool.and_parts, Bool.ltb-true, Bool.lt-ltb, Bool.leb-true}
+use Rattle.std.proofs.lemmas.List.{length-map, Elements.All-contains}
 use Rattle.std.proofs.lemmas.List.FromFn.{length-range_with_len, get_or-range_with_len}
 use Rattle.std.proofs.lemmas.Option.{slice_get-map, slice_get-get_or, slice_get_within, get_or_from_slice_get}
-use Rattle.dd_lattice.specs.Place.{Place, moved, IsCoordinateInRange, IsInRange}
-use Rattle.dd_lattice.specs.Cells.{shifted}
-use Rattle.dd_lattice.specs.declared.position.Cell.{Cell}
-use Rattle.dd_lattice.specs.lemmas.RangeLaws.{test_from_in_range}
+use Rattle.std.specs.Prelude.{cond, nat_lt, slice_get, unsigned_abs}
+use Rattle.std.specs.List.{Contains, list_all, range_with_len}
+use Rattle.dd_lattice.specs.{Place.Place, Place.moved, Place.IsCoordinateInRange, Place.IsInRange, Cells.shifted}
+use Rattle.dd_lattice.specs.{declared.position.Cell.Cell, lemmas.RangeLaws.test_from_in_range, lemmas.MoveLaws.shifted_by_origin}
 use Rattle.dd_topology.specs.Topology.{extent}
-use Rattle.dd_pattern.specs.declared.periods.Periods.{Periods}
-use Rattle.dd_pattern.specs.Tile.{Tile, IsPeriodic, tile_index}
-use Rattle.dd_pattern.specs.lemmas.TileSizes.{index_below}
+use Rattle.dd_pattern.specs.{declared.periods.Periods.Periods, Tile.Tile, Tile.IsPeriodic, Tile.tile_index, lemmas.TileSizes.index_below}
 use Rattle.dd_expansion.specs.Placed.{is_flat}
 use Rattle.dd_circuit.specs.Circuits.{signal_of}
 use Rattle.dd_compile.specs.Wiring.{signals_of, wire_of}
 use Rattle.dd_formula.specs.LocalRule.{LocalRule, IsRule, reads_at, is_of, is_near}
-use Rattle.dd_formula.specs.Automata.{CommonNumbers, counted}
-use Rattle.dd_formula.specs.declared.automaton.Automaton.{Automaton}
+use Rattle.dd_formula.specs.{Automata.CommonNumbers, Automata.counted, declared.automaton.Automaton.Automaton}
 use Rattle.dd_boxes.specs.Goals.{GoalOf, breaks, differ, always, AreOver}
-use Rattle.dd_boxes.specs.Boxes.{origin, goal_reach, Reaches}
-use Rattle.dd_boxes.specs.Fillings.{in_box, is_box_cell, is_cell_within}
-use Rattle.dd_boxes.specs.lemmas.RuleLaws.{shifted_by_origin, list_all_weaker}
-use Rattle.dd_boxes.specs.lemmas.FromBox.{box_alike, box_over}
-use Rattle.dd_problem.specs.TorusPeriods.{AreTorusPeriods}
-use Rattle.dd_problem.specs.pushing.Told.{IsToldGoal}
-use Rattle.dd_problem.specs.Layouts.{torus, torus_cells}
-use Rattle.dd_problem.specs.Clauses.{input}
-use Rattle.dd_problem.specs.Problems.{torus_problem}
+use Rattle.dd_boxes.specs.{Boxes.origin, Boxes.goal_reach, Boxes.Reaches, Fillings.in_box, Fillings.is_box_cell, Fillings.is_cell_within}
+use Rattle.dd_boxes.specs.{lemmas.RuleLaws.list_all_weaker, lemmas.FromBox.box_alike, lemmas.FromBox.box_over, TorusPeriods.AreTorusPeriods}
+use Rattle.dd_problem.specs.{pushing.Told.IsToldGoal, Layouts.torus, Layouts.torus_cells, Clauses.input, Problems.torus_problem}
 use Rattle.dd_problem.specs.pushing.Near.{near_cells, number_at, numbered_by, numbered_tile, torus_layout}
-use Rattle.dd_problem.specs.pushing.Numbered.{symbol_signals}
-use Rattle.dd_problem.specs.pushing.Pushed.{wired_problem, is_goal_wired}
-use Rattle.dd_problem.specs.lemmas.BoxLayout.{box_within}
-use Rattle.dd_problem.specs.lemmas.NumberedWires.{wire_there, signals_there}
+use Rattle.dd_problem.specs.pushing.{Numbered.symbol_signals, Pushed.wired_problem, Pushed.is_goal_wired}
+use Rattle.dd_problem.specs.lemmas.{BoxLayout.box_within, NumberedWires.wire_there, NumberedWires.signals_there}
 use Rattle.dd_problem.specs.lemmas.ValueWires.{HasInputs, GoalWired, passes_member}
+use Rattle.dd_problem.specs.lemmas.TorusLayout.{torus_size, torus_is_periodic, torus_is_layout, torus_cell_at}
+use Rattle.dd_problem.specs.lemmas.TorusShows.{goal_reads_torus}
 use Rattle.dd_problem.proofs.Matching.{Gives, Matches, GoalMatches, goal_is_wired, wired_is_problem}
 use Rattle.dd_problem.proofs.BoxInputs.{box_in_range}
 use Rattle.dd_problem.proofs.NearCells.{is_one_of, contained_one_of, all_are_some, near_ascends, near_has_read, near_has_box}
-use Rattle.dd_problem.proofs.Templating.{torus_near}
-use Rattle.dd_problem.specs.lemmas.TorusLayout.{torus_size, torus_is_periodic, torus_is_layout, torus_cell_at}
-use Rattle.dd_problem.specs.lemmas.TorusShows.{goal_reads_torus}
-use Rattle.dd_problem.proofs.TorusReach.{told_near, told_reaches}
+use Rattle.dd_problem.proofs.{Templating.torus_near, TorusReach.told_near, TorusReach.told_reaches}
 
 -- what lies near a place in range is in range
 axis_in_range : (a b : ℤ) → unsigned_abs a ≤ 16 → unsigned_abs b ≤ 1048560 → IsCoordinateInRange (a +ℤ b)
@@ -53,7 +37,7 @@ axis_in_range a b near wide = (omega (arith, ints), omega (arith, ints))
 pub sum_in_range : (p v : Place) → extent p ≤ 16 → extent v ≤ 1048560 → IsInRange (moved p v)
 sum_in_range p v near wide = (axis_in_range p.x v.x (omega arith) (omega arith), axis_in_range p.y v.y (omega arith) (omega arith), axis_in_range p.z v.z (omega arith) (omega arith))
 
-module _ (x : LocalRule) (periods : Periods) (rule : IsRule x) (ok : AreTorusPeriods x periods) where
+module _ (x : LocalRule) (periods : Periods) (rule : IsRule x) (ok : AreTorusPeriods x.dimension x.nodes periods) where
   pub numbers_tile : IsPeriodic (numbered_tile x periods)
   numbers_tile = torus_is_periodic x periods (range_with_len 0 (torus_size x periods)) rule ok (length-range_with_len 0 (torus_size x periods))
 
@@ -65,7 +49,7 @@ module _ (x : LocalRule) (periods : Periods) (rule : IsRule x) (ok : AreTorusPer
       omega (arith, at)
 
 -- what a question reads has its inputs
-module _ (x : LocalRule) (periods : Periods) (rule : IsRule x) (ok : AreTorusPeriods x periods) (g : GoalOf) (good : IsToldGoal x g) where
+module _ (x : LocalRule) (periods : Periods) (rule : IsRule x) (ok : AreTorusPeriods x.dimension x.nodes periods) (g : GoalOf) (good : IsToldGoal x g) where
   abbrev near : List Cell
   near = near_cells x g (torus_cells x periods)
 

@@ -1,26 +1,20 @@
 -- The clauses of a whole problem, from those of its cells, its places and its goal.
 use Rattle.std.proofs.Common.{◌≡◌, ℕ, ◌+◌, ◌*◌, ◌≤◌, true, List, [], ◌∷◌, ◌++◌, length, refl, ap, sym, ◌∙◌, arith}
 use Rattle.std.proofs.lemmas.Bool.{and_parts, and_from}
-use Rattle.dd_lattice.specs.Cells.{cell}
-use Rattle.dd_lattice.specs.declared.position.Cell.{Cell}
+use Rattle.dd_lattice.specs.{Cells.cell, declared.position.Cell.Cell}
 use Rattle.dd_clause.specs.Clauses.{ClauseList}
 use Rattle.dd_circuit.specs.Circuits.{size}
-use Rattle.dd_compile.specs.Wiring.{Wiring}
-use Rattle.dd_compile.specs.Compiling.{wires_near}
-use Rattle.dd_compile.specs.ValueSignals.{are_wired_there}
-use Rattle.dd_compile.specs.lemmas.Layers.{wired_more}
+use Rattle.dd_compile.specs.{Wiring.Wiring, Compiling.wires_near, ValueSignals.are_wired_there, lemmas.Layers.wired_more}
 use Rattle.dd_compile.specs.lemmas.StillWired.{still_wired}
-use Rattle.dd_formula.specs.Automata.{counted}
-use Rattle.dd_formula.specs.LocalRule.{LocalRule, expansion_at}
-use Rattle.dd_boxes.specs.Boxes.{origin}
-use Rattle.dd_boxes.specs.Goals.{GoalOf, breaks, differ, always}
+use Rattle.dd_formula.specs.{Automata.counted, LocalRule.LocalRule, LocalRule.expansion_at}
+use Rattle.dd_boxes.specs.{Boxes.origin, Goals.GoalOf, Goals.breaks, Goals.differ, Goals.always}
 use Rattle.dd_problem.specs.Clauses.{Part, cell_clauses, part_gates, part_clauses}
 use Rattle.dd_problem.specs.Encodings.{Encoding, clause_list, extended, over_inputs, with_parts}
 use Rattle.dd_problem.specs.pushing.Pushed.{are_both_wired, is_wired_at, is_goal_wired, wired_parts, wired_goal, wired_problem}
 use Rattle.dd_problem.specs.lemmas.Wiring.{all_of_range, range_at}
 use Rattle.dd_problem.specs.lemmas.Growing.{same_encoding, extended_size, with_parts-append}
 
--- a goal that is wired among some variables is so among more
+-- a goal that is wired with some variables is still wired with more
 pub goal_wired_more : (w : Wiring) (n m : ℕ) (g : GoalOf) → n ≤ m → is_goal_wired w n g ≡ true → is_goal_wired w m g ≡ true
 goal_wired_more w n m (breaks y) more h =
     all_of_range (λ a. is_wired_at w m y (cell origin a)) y.nodes 0
@@ -78,7 +72,7 @@ module _ (w : Wiring) (x : LocalRule) (g : GoalOf) (cells : List Cell) where
       is_placed : now ≡ placed
       is_placed = steps ∙ ap (λ (e : Encoding). with_parts e (wired_parts w e.circuit.inputs x cells)) begin
 
-      -- there is room for the goal's
+      -- there is room for the goal's gates
       pub goal_room : (most : ℕ) → (wired_problem w x g cells).variables ≤ most → size (with_parts now (wired_goal w g ∷ [])).circuit ≤ most
       goal_room most few =
           let same = ap (λ (e : Encoding). size (with_parts e (wired_goal w g ∷ [])).circuit) is_placed in
@@ -90,7 +84,7 @@ module _ (w : Wiring) (x : LocalRule) (g : GoalOf) (cells : List Cell) where
           let more = extended_size begun (part_gates (size begun.circuit) places) (part_clauses (size begun.circuit) places) in
           goal_wired_more w count (size now.circuit) g (omega (arith, same, more, begun_size)) h
 
-      -- and then all variables and clauses are there
+      -- after the goal's gates, all variables and clauses are there
       pub whole : (end : Encoding) (all : ClauseList) → end ≡ with_parts now (wired_goal w g ∷ []) → all ≡ clause_list end → all ≡ wired_problem w x g cells
       whole end all last is =
           is ∙ (ap clause_list (last ∙ (ap (λ e. with_parts e (wired_goal w g ∷ [])) is_placed ∙ all_parts)) ∙ list_of (places ++ wired_goal w g ∷ []))

@@ -3,12 +3,10 @@ use Rattle.std.specs.Prelude.{ℕ, suc, ◌+◌, ◌*◌, true, false, List, [],
 use Rattle.std.specs.List.{flat_map, enumerate_from, range_with_len}
 use Rattle.dd_lattice.specs.declared.position.Cell.{Cell}
 use Rattle.dd_clause.specs.declared.clause.Literal.{Literal}
-use Rattle.dd_circuit.specs.declared.gates.Signal.{Signal}
-use Rattle.dd_circuit.specs.declared.gates.Gate.{Gate}
+use Rattle.dd_circuit.specs.declared.gates.{Signal.Signal, Gate.Gate}
 use Rattle.dd_cnf.specs.Encoding.{literal, literal_of, opposing, gates_clauses}
 use Rattle.dd_compile.specs.Compiling.{AllMade, Maker, all_made}
-use Rattle.dd_formula.specs.LocalRule.{LocalRule}
-use Rattle.dd_formula.specs.Counts.{disallowed}
+use Rattle.dd_formula.specs.{LocalRule.LocalRule, Counts.disallowed}
 
 -- the variable that says that the cell with the number k has the symbol s, of m symbols
 abbrev pub input : ℕ → ℕ → ℕ → ℕ
@@ -26,7 +24,7 @@ pairs (v ∷ vs) = map (λ w. literal v false ∷ literal w false ∷ []) vs ++ 
 abbrev pub one_hot : List ℕ → List (List Literal)
 one_hot vs = map (λ v. literal v true) vs ∷ pairs vs
 
--- the cell with the number k has none of these of m symbols
+-- the cell with the number k has none of these symbols, of m in all
 abbrev pub none_of : ℕ → ℕ → List ℕ → List (List Literal)
 none_of m k symbols = map (λ s. literal (input m k s) false ∷ []) symbols
 
@@ -34,7 +32,7 @@ none_of m k symbols = map (λ s. literal (input m k s) false ∷ []) symbols
 abbrev pub symbol_clauses : LocalRule → ℕ → ℕ → List (List Literal)
 symbol_clauses x k node = one_hot (inputs_of x.symbols k) ++ none_of x.symbols k (disallowed x node)
 
--- so does each of the cells, which have the numbers 0, 1, .. in their order
+-- so does each of the cells, numbered 0, 1, .. in their order
 abbrev pub clauses_from : LocalRule → ℕ → List Cell → List (List Literal)
 clauses_from x first cells = flat_map (λ numbered. symbol_clauses x numbered.0 numbered.1.node) (enumerate_from first cells)
 

@@ -2,13 +2,9 @@
 use Rattle.std.specs.Prelude.{ℕ, ◌+◌, List, [], ◌∷◌, ◌++◌, length}
 use Rattle.dd_lattice.specs.declared.position.Cell.{Cell}
 use Rattle.dd_formula.specs.declared.automaton.Automaton.{Automaton}
-use Rattle.dd_circuit.specs.declared.gates.Signal.{Signal}
-use Rattle.dd_circuit.specs.declared.gates.Gate.{Gate}
-use Rattle.dd_circuit.specs.declared.gates.Gate.TheVariants.{And, Or}
-use Rattle.dd_circuit.specs.Circuits.{opposite}
-use Rattle.dd_compile.specs.Wiring.{Wiring}
-use Rattle.dd_compile.specs.Compiling.{Maker, then_gate}
-use Rattle.dd_compile.specs.ValueGates.{fresh, value_made}
+use Rattle.dd_circuit.specs.declared.gates.{Signal.Signal, Gate.Gate}
+use Rattle.dd_circuit.specs.{declared.gates.Gate.TheVariants.And, declared.gates.Gate.TheVariants.Or, Circuits.opposite}
+use Rattle.dd_compile.specs.{Wiring.Wiring, Compiling.Maker, Compiling.then_gate, ValueGates.fresh, ValueGates.value_made}
 
 -- symbol by symbol a gate that says that it is the first value and not the second
 abbrev pub apart : List Signal → List Signal → List Gate

@@ -1,9 +1,7 @@
 -- A circuit and clauses over its signals, which grow together.
 use Rattle.std.specs.Prelude.{List, [], ◌∷◌, ◌++◌}
-use Rattle.dd_clause.specs.declared.clause.Literal.{Literal}
-use Rattle.dd_clause.specs.Clauses.{ClauseList}
-use Rattle.dd_circuit.specs.declared.gates.Gate.{Gate}
-use Rattle.dd_circuit.specs.Circuits.{Network, size}
+use Rattle.dd_clause.specs.{declared.clause.Literal.Literal, Clauses.ClauseList}
+use Rattle.dd_circuit.specs.{declared.gates.Gate.Gate, Circuits.Network, Circuits.size}
 use Rattle.dd_cnf.specs.Encoding.{gates_clauses}
 use Rattle.dd_compile.specs.Compiling.{Maker}
 use Rattle.dd_problem.specs.Clauses.{Part, part_gates, part_clauses}
@@ -12,7 +10,7 @@ pub record Encoding : Type 0 where
   pub circuit : Network
   pub clauses : List (List Literal)
 
--- these clauses, over inputs alone
+-- these clauses, over inputs only
 abbrev pub over_inputs : ClauseList → Encoding
 over_inputs cnf = record { circuit = record { inputs = cnf.variables; gates = [] }; clauses = cnf.clauses }
 
@@ -34,7 +32,7 @@ with_clause e clause = record { circuit = e.circuit; clauses = e.clauses ++ clau
 abbrev pub with_gates : Encoding → List Gate → Encoding
 with_gates e gates = extended e gates (gates_clauses (size e.circuit) gates)
 
--- those that are made next
+-- the gates that are made next, with their clauses
 abbrev pub with_made : Encoding → Maker → Encoding
 with_made e maker = with_gates e (maker (size e.circuit)).gates
 

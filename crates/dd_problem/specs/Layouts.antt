@@ -1,19 +1,15 @@
 -- Which cells have inputs, and in which order.
-use Rattle.std.specs.Prelude.{ℕ, ◌+◌, ◌*◌, ◌/◌, ◌%◌, Bool, List, []}
-use Rattle.std.specs.List.{list_all}
-use Rattle.dd_lattice.specs.Cells.{cell, shifted}
-use Rattle.dd_lattice.specs.Boxes.{Bounds, centred, index_in, place_in, positions_of}
+use Rattle.std.specs.{Prelude.ℕ, Prelude.◌+◌, Prelude.◌*◌, Prelude.◌/◌, Prelude.◌%◌, Prelude.Bool, Prelude.List, Prelude.[], List.list_all}
+use Rattle.dd_lattice.specs.{Cells.cell, Cells.shifted, Boxes.Bounds, Boxes.centred, Boxes.index_in, Boxes.place_in, Boxes.positions_of}
 use Rattle.dd_lattice.specs.declared.position.Cell.{Cell}
-use Rattle.dd_pattern.specs.declared.periods.Periods.{Periods}
-use Rattle.dd_pattern.specs.Tile.{Tile, tile, fundamental}
+use Rattle.dd_pattern.specs.{declared.periods.Periods.Periods, Tile.Tile, Tile.tile, Tile.fundamental}
 use Rattle.dd_formula.specs.LocalRule.{LocalRule, reads_at}
-use Rattle.dd_boxes.specs.Cells.{box_cells, cells_on}
-use Rattle.dd_boxes.specs.Fillings.{is_box_cell}
+use Rattle.dd_boxes.specs.{Cells.box_cells, Cells.cells_on, Fillings.is_box_cell}
 use Rattle.dd_compile.specs.Wiring.{Wiring}
 use Rattle.dd_problem.specs.pushing.Numbered.{in_turn}
 
--- The cells whose symbols the inputs say, the number of each cell that is read, from 0, and the places, in the order of
--- their numbers; and each of the cells with its inputs as signals.
+-- `has`: the cells whose symbols the inputs say. `index`: the number of each cell that is read, from 0. `places`: the
+-- places in the order of their numbers. `inputs`: each of the cells with its inputs as signals.
 pub record Layout : Type 0 where
   pub has : Cell → Bool
   pub index : Cell → ℕ
@@ -24,7 +20,7 @@ pub record Layout : Type 0 where
 abbrev pub cells_in : Bounds → ℕ → List Cell
 cells_in b nodes = cells_on nodes (positions_of b)
 
--- the one with so many before it
+-- the cell with this many cells before it
 abbrev pub nth_cell : Bounds → ℕ → ℕ → Cell
 nth_cell b nodes k = cell (place_in b (k / nodes)) (k % nodes)
 
@@ -35,7 +31,7 @@ box_index x n c = index_in (centred x.dimension n) c.position * x.nodes + c.node
 abbrev pub box_layout : LocalRule → ℕ → Layout
 box_layout x n = record { has = is_box_cell x n; index = box_index x n; places = box_cells x n; inputs = in_turn x.symbols (box_cells x n) }
 
--- those of a fundamental box
+-- the fundamental box, as a configuration without symbols
 abbrev pub torus : LocalRule → Periods → Tile
 torus x periods = tile x.dimension periods x.nodes []
 

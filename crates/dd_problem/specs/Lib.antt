@@ -1,7 +1,5 @@
 -- which cells have inputs
 pub mod Layouts
--- which periods a torus may have
-pub mod TorusPeriods
 -- the clauses over them
 pub mod Clauses
 -- the gates that say that the values of two automata at a cell are different
@@ -12,9 +10,9 @@ pub mod Encodings
 pub mod Problems
 -- symbols by the numbers of cells
 pub mod Symbols
--- what it is for clauses to say what a question asks
+-- when clauses say what a question asks
 pub mod Shows
--- the same clauses over the inputs that the code keeps, and what is known of goals while their clauses are made
+-- the same clauses over the inputs that the code keeps, and facts about goals while their clauses are made
 pub mod pushing
--- lemmas on what stands above, with their proofs, for whoever cites them
+-- lemmas on these definitions, with their proofs, for other crates to cite
 pub mod lemmas

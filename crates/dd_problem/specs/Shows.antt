@@ -1,22 +1,15 @@
--- What it is for clauses to say what a box question asks.
+-- When clauses say what a box question asks.
 use Rattle.std.specs.Prelude.{◌≡◌, ◌<◌, ℕ, Bool, true, List}
 use Rattle.dd_lattice.specs.declared.position.Cell.{Cell}
-use Rattle.dd_pattern.specs.declared.periods.Periods.{Periods}
-use Rattle.dd_pattern.specs.Reading.{Look}
-use Rattle.dd_pattern.specs.Tile.{Tile}
+use Rattle.dd_pattern.specs.{declared.periods.Periods.Periods, Reading.Look, Tile.Tile}
 use Rattle.dd_expansion.specs.Truth.{is_symbol}
 use Rattle.dd_formula.specs.LocalRule.{LocalRule}
-use Rattle.dd_clause.specs.declared.clause.Literal.{Literal}
-use Rattle.dd_clause.specs.Clauses.{Satisfies}
-use Rattle.dd_boxes.specs.Goals.{GoalOf}
-use Rattle.dd_boxes.specs.Fillings.{is_box_cell}
-use Rattle.dd_boxes.specs.Boxes.{Suffices}
+use Rattle.dd_clause.specs.{declared.clause.Literal.Literal, Clauses.Satisfies}
+use Rattle.dd_boxes.specs.{Goals.GoalOf, Fillings.is_box_cell, Boxes.Suffices}
 use Rattle.dd_boxes.specs.Witnesses.{IsBoxWitness, IsWitness, HasPeriods}
-use Rattle.dd_problem.specs.Layouts.{box_index}
-use Rattle.dd_problem.specs.Clauses.{input}
-use Rattle.dd_problem.specs.Symbols.{AreRead}
+use Rattle.dd_problem.specs.{Layouts.box_index, Clauses.input, Symbols.AreRead}
 
--- of the inputs of each cell of B(n) exactly that of the cell's symbol is true
+-- of the inputs of each cell of B(n), exactly that of the cell's symbol is true
 abbrev pub IsReadFrom : (ℕ → Bool) → LocalRule → ℕ → Look → Type 0
 IsReadFrom set x n look = (c : Cell) (s : ℕ) → is_box_cell x n c ≡ true → s < x.symbols → set (input x.symbols (box_index x n c) s) ≡ is_symbol s (look c)
 
@@ -30,7 +23,7 @@ pub record Shows (clauses : List (List Literal)) (x : LocalRule) (g : GoalOf) (n
 abbrev pub AreRefuted : List (List Literal) → Type 0
 AreRefuted clauses = (set : ℕ → Bool) → Satisfies set clauses → ⊥
 
--- so the clauses are refuted exactly where the box suffices
+-- so the clauses are refuted exactly if the box suffices
 pub record DecidesBox (clauses : List (List Literal)) (x : LocalRule) (g : GoalOf) (n : ℕ) : Type 0 where
   pub suffices : AreRefuted clauses → Suffices x g n
   pub refuted : Suffices x g n → AreRefuted clauses

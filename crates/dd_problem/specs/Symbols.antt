@@ -5,8 +5,7 @@ use Rattle.dd_lattice.specs.declared.position.Cell.{Cell}
 use Rattle.dd_pattern.specs.Reading.{Look}
 use Rattle.dd_formula.specs.LocalRule.{LocalRule, rule_allows}
 use Rattle.dd_expansion.specs.Truth.{is_symbol}
-use Rattle.dd_problem.specs.Layouts.{Layout}
-use Rattle.dd_problem.specs.Clauses.{input}
+use Rattle.dd_problem.specs.{Layouts.Layout, Clauses.input}
 
 -- one symbol for each of the cells, which its node allows
 pub record AreSymbols (x : LocalRule) (cells : List Cell) (symbols : List ℕ) : Type 0 where
@@ -14,7 +13,7 @@ pub record AreSymbols (x : LocalRule) (cells : List Cell) (symbols : List ℕ) :
   pub below : All (λ s. s < x.symbols) symbols
   pub allowed : (k : ℕ) (c : Cell) → slice_get cells k ≡ Some c → rule_allows x c.node (slice_index symbols k) ≡ true
 
--- of the inputs of each cell exactly that of its symbol is true
+-- of the inputs of each cell, exactly that of its symbol is true
 abbrev pub AreRead : (ℕ → Bool) → ℕ → List ℕ → Type 0
 AreRead set m symbols = (k s : ℕ) → k < length symbols → s < m → set (input m k s) ≡ is_symbol s (slice_get symbols k)
 
@@ -22,7 +21,7 @@ AreRead set m symbols = (k s : ℕ) → k < length symbols → s < m → set (in
 abbrev pub layout_look : Layout → List ℕ → Look
 layout_look l symbols c = cond (l.has c) (slice_get symbols (l.index c)) None
 
--- of the inputs of the cell with the number k exactly that of the symbol s is true
+-- of the inputs of the cell with the number k, exactly that of the symbol s is true
 abbrev pub IsSymbolRead : (ℕ → Bool) → ℕ → ℕ → ℕ → Type 0
 IsSymbolRead set m k s = (s < m) × ((t : ℕ) → t < m → set (input m k t) ≡ (s == t))
 

@@ -21,3 +21,4 @@ pub mod CellOrder
 pub mod TorusLayout
 pub mod TorusShows
 pub mod NumberedWires
+pub mod SymbolLaws

@@ -17,9 +17,9 @@ use dd_formula::Rule;
 use dd_lattice::centred_box;
 use std::alloc::{AllocError, Global};
 
-/// The clauses that ask for an admissible filling of the box of a radius, at least the goal's least one, with the goal at
-/// the origin. The variable `1 + k * symbols + s` says that the `k`-th cell of the box, from 0 in cell order, has the
-/// symbol `s`, and the gates follow.
+/// The clauses that ask for an admissible filling of the box with the goal at the origin. The radius is at least the
+/// goal's least one. The variable `1 + k * symbols + s` says that the `k`-th cell of the box, from 0 in cell order,
+/// has the symbol `s`. The variables of the gates follow.
 pub fn box_clauses(
     alloc: Global,
     premise: &Rule,
@@ -33,7 +33,7 @@ pub fn box_clauses(
     ensures shows { IfOk result (λ cnf. Shows cnf.clauses premise.now (goal_of premise.now goal.now) radius) }
     ensures decides { IfOk result (λ cnf. DecidesBox cnf.clauses premise.now (goal_of premise.now goal.now) radius) }
 {
-    // Made for its facts: the gates of the goal say what it asks.
+    // This call brings in a fact: the gates of the goal say what it asks.
     told_goal(premise, goal);
     let symbols = premise.symbols();
     let bounds = centred_box(premise.dim(), radius).unwrap();

@@ -40,7 +40,7 @@ fn compile_apart(
     Ok(signals)
 }
 
-/// Adds the gates of both values at a node of the origin, and gives the signal that says that they are different.
+/// Adds the gates of both values at a node of the origin, and returns the signal that says that they are different.
 pub(crate) fn compile_differ(
     circuit: &mut Circuit,
     alloc: Global,

@@ -27,7 +27,7 @@ use dd_lattice::{Cell, Position};
 use std::alloc::{AllocError, Global};
 use std::marker::Model;
 
-/// A circuit and clauses over its signals: the clause list has a variable for each of them, also after want of memory.
+/// A circuit and clauses over its signals. The clause list has a variable for each signal, even if memory ran out.
 #[derive(Drop)]
 pub(crate) struct Encoder {
     alloc: Global,
@@ -47,7 +47,7 @@ impl Model for Encoder {
     ghost invariant = { λ e. e.cnf.variables ≡ size_of e.circuit.inputs e.circuit.gates };
 }
 
-/// Gives the circuit's signals their variables and, if one was made, the gates from `before` on their clauses.
+/// Adds a variable for each signal of the circuit and, if a signal was made, the clauses of the gates from `before` on.
 fn push_made(
     alloc: Global,
     cnf: &mut Cnf,
@@ -69,7 +69,7 @@ fn push_made(
 }
 
 impl Encoder {
-    /// The clauses, over inputs alone.
+    /// The clauses, over inputs only.
     pub(crate) fn new(alloc: Global, cnf: Cnf) -> Encoder
         ensures { result ≡ over_inputs cnf }
     {
@@ -94,7 +94,7 @@ impl Encoder {
         self.cnf
     }
 
-    /// Adds a clause. After want of memory all is as it was.
+    /// Adds a clause. If memory runs out, nothing changes.
     pub(crate) fn push_clause(&mut self, literals: &[Literal]) -> Result<(), AllocError>
         requires { IsClauseInRange (size self.old.circuit) literals.now }
         ensures ok { OnOk result (self.new ≡ with_clause self.old literals.now) }
@@ -103,8 +103,8 @@ impl Encoder {
         push_clause(self.alloc, &mut self.cnf, literals)
     }
 
-    /// Adds the gates of a formula whose cells are counted from `at`, and their clauses, and gives its signal. After want of
-    /// memory some may have been added.
+    /// Adds the gates of a formula whose cells are counted from `at`, and their clauses, and returns its signal. If
+    /// memory runs out, some may have been added.
     pub(crate) fn push_formula(
         &mut self,
         expanded: &Expanded,
@@ -123,8 +123,7 @@ impl Encoder {
         push_made(self.alloc, &mut self.cnf, &self.circuit, before, made)
     }
 
-    /// Adds the gates of the template at the cell, and their clauses, and gives the signal. After want of memory some may have
-    /// been added.
+    /// Adds the gates of the template at the cell, and their clauses, and returns the signal. If memory runs out, some may have been added.
     pub(crate) fn push_template(
         &mut self,
         template: &Template,
@@ -147,8 +146,8 @@ impl Encoder {
         push_made(self.alloc, &mut self.cnf, &self.circuit, before, made)
     }
 
-    /// Adds the gates that say that the values at a node of the origin are different, and their clauses, and gives the
-    /// signal. After want of memory some may have been added.
+    /// Adds the gates that say that the values at a node of the origin are different, and their clauses, and returns
+    /// the signal. If memory runs out, some may have been added.
     pub(crate) fn push_apart(
         &mut self,
         premise: &Rule,

@@ -42,7 +42,7 @@ fn push_place(
     encoder.push_clause(&[literal_of(signal)])
 }
 
-/// The same, of a template of the rule, where all that the rule reads at the cell has its signals; else nothing.
+/// Calls `push_place` if all that the rule reads at the cell has its signals; else does nothing.
 fn push_if_wired(
     encoder: &mut Encoder,
     rule: &Rule,
@@ -59,7 +59,7 @@ fn push_if_wired(
     ensures inputs { encoder.new.circuit.inputs ≡ encoder.old.circuit.inputs }
     ensures ok { OnOk result (encoder.new ≡ with_parts encoder.old (wired_parts inputs.now encoder.old.circuit.inputs rule.now (cell.now ∷ []))) }
 {
-    // Made for its fact: what a rule keeps.
+    // This call brings in a fact: what a rule keeps.
     let _nodes = rule.nodes();
     if !reads_are_wired(encoder.circuit(), rule, cell, inputs) {
         return Ok(());
@@ -79,8 +79,8 @@ fn templates_of(alloc: Global, rule: &Rule) -> Result<Vec<Template>, AllocError>
     Ok(templates)
 }
 
-/// Adds the gates and clauses that say that the rule is true at the cells, where all that it reads there has its signals. They
-/// are made once for each node. After want of memory some may have been added.
+/// Adds the gates and clauses that say that the rule is true at the cells where all that it reads has its signals.
+/// The gates are made once for each node. If memory runs out, some may have been added.
 pub(crate) fn push_places(
     alloc: Global,
     encoder: &mut Encoder,
@@ -149,7 +149,7 @@ fn push_differ(
     encoder.push_clause(&literals)
 }
 
-/// Adds the gates and clauses that say that the goal holds at the origin. After want of memory some may have been added.
+/// Adds the gates and clauses that say that the goal holds at the origin. If memory runs out, some may have been added.
 pub(crate) fn push_goal(
     alloc: Global,
     encoder: &mut Encoder,

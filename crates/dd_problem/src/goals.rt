@@ -7,7 +7,7 @@ use dd_boxes::Goal;
 use dd_compile::says_its_value;
 use dd_formula::Rule;
 
-/// Only looks at the goal's rule or automata, for what they keep.
+/// Reads the goal's rule or automata only for their invariants.
 pub(crate) fn told_goal(premise: &Rule, goal: &Goal)
     requires { IsGoalFor premise.now (goal_of premise.now goal.now) }
     ensures { IsToldGoal premise.now (goal_of premise.now goal.now) }

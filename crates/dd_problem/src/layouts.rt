@@ -12,7 +12,7 @@ use dd_compile::Inputs;
 use dd_lattice::{Box3, Cell};
 use std::alloc::{AllocError, Global};
 
-/// The cell with so many cells of the box before it.
+/// The cell with `number` cells of the box before it.
 fn nth_cell(bounds: &Box3, nodes: u32, number: u64) -> Cell
     requires { number < volume bounds.now * nodes }
     ensures { result ≡ nth_cell bounds.now nodes number }

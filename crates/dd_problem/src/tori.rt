@@ -16,7 +16,7 @@ ghost use Rattle.dd_boxes.specs.Cells.{box_cells};
 ghost use Rattle.dd_boxes.specs.Goals.{IsGoalFor};
 ghost use Rattle.dd_boxes.specs.Counts.{question_clauses, most_clauses};
 ghost use Rattle.dd_boxes.specs.Views.{goal_of};
-ghost use Rattle.dd_problem.specs.TorusPeriods.{AreTorusPeriods};
+ghost use Rattle.dd_boxes.specs.TorusPeriods.{AreTorusPeriods};
 ghost use Rattle.dd_problem.specs.Layouts.{torus_cells};
 ghost use Rattle.dd_problem.specs.Problems.{torus_problem};
 ghost use Rattle.dd_problem.specs.pushing.Near.{near_cells, number_at, numbered_by, numbered_tile, torus_inputs};
@@ -34,7 +34,7 @@ use dd_lattice::{Box3, Cell, Position, centred_box, shift};
 use dd_pattern::{Configuration, Periodic, Periods};
 use std::alloc::{AllocError, Global};
 
-/// The box of the positions of which the coordinates run from 0 to the periods less 1.
+/// The box of the positions whose coordinates run from 0 to the periods less 1.
 fn fundamental(periods: &Periods) -> Box3
     requires x { (1 ≤ periods.now.x) × (periods.now.x ≤ 65536) }
     requires y { (1 ≤ periods.now.y) × (periods.now.y ≤ 65536) }
@@ -51,7 +51,7 @@ fn fundamental(periods: &Periods) -> Box3
     }
 }
 
-/// The least box that holds the cells that the goal reads at the origin.
+/// The cells of the least box that holds what the goal reads at the origin.
 fn goal_cells(alloc: Global, premise: &Rule, goal: &Goal) -> Result<Vec<Cell>, AllocError>
     requires { IsToldGoal premise.now (goal_of premise.now goal.now) }
     ensures { IfOk result (λ v. v.items ≡ box_cells premise.now (goal_reach (goal_of premise.now goal.now))) }
@@ -86,7 +86,7 @@ fn push_shifted(found: &mut Vec<Cell>, by: &Position, cells: &[Cell]) -> Result<
     Ok(())
 }
 
-/// The cells in cell order, each once. Many are listed more than once, so they are sorted in their place.
+/// The cells in cell order, each once. Many are listed more than once, so they are sorted in place.
 fn once_each(cells: Vec<Cell>) -> Vec<Cell>
     ensures { result.items ≡ in_order cells.items }
 {
@@ -115,7 +115,7 @@ fn near_cells(
     Ok(once_each(found))
 }
 
-/// Inputs for the cells, each with those of the number that stands there.
+/// Inputs for the cells, each with those of the number there.
 fn inputs_by_number(
     alloc: Global,
     cells: &[Cell],
@@ -148,7 +148,7 @@ fn counted(alloc: Global, count: u32) -> Result<Vec<u32>, AllocError>
 
 /// The configuration of these periods in which each cell of the fundamental box has its number, from 0 in cell order.
 fn numbering(alloc: Global, premise: &Rule, periods: &Periods) -> Result<Periodic, AllocError>
-    requires { AreTorusPeriods premise.now periods.now }
+    requires { AreTorusPeriods premise.now.dimension premise.now.nodes periods.now }
     ensures { IfOk result (λ t. t ≡ numbered_tile premise.now periods.now) }
 {
     let nodes = premise.nodes();
@@ -161,8 +161,8 @@ fn numbering(alloc: Global, premise: &Rule, periods: &Periods) -> Result<Periodi
     )
 }
 
-/// Inputs for what the premise and the goal read from the cells of the fundamental box: each cell has those of the one at its
-/// position modulo the periods.
+/// Inputs for what the premise and the goal read from the cells of the fundamental box: each cell has the inputs of
+/// the cell at its position modulo the periods.
 fn torus_inputs(
     alloc: Global,
     premise: &Rule,
@@ -172,7 +172,7 @@ fn torus_inputs(
 ) -> Result<Inputs, AllocError>
     requires goal { IsToldGoal premise.now (goal_of premise.now goal.now) }
     requires cells { cells.now ≡ torus_cells premise.now periods.now }
-    requires periods { AreTorusPeriods premise.now periods.now }
+    requires periods { AreTorusPeriods premise.now.dimension premise.now.nodes periods.now }
     ensures { IfOk result (λ inputs. inputs ≡ torus_inputs premise.now (goal_of premise.now goal.now) periods.now) }
 {
     let symbols = premise.symbols();
@@ -181,9 +181,9 @@ fn torus_inputs(
     inputs_by_number(alloc, &near, &numbers, symbols)
 }
 
-/// The clauses that ask for a configuration of these periods and this shear that lives in the premise's subshift and has
-/// the goal at the origin. The variable `1 + k * symbols + s` says that the `k`-th cell of the fundamental box, from 0 in
-/// cell order, has the symbol `s`, and the gates follow.
+/// The clauses that ask for a configuration of these periods and this shear that lives in the premise's subshift and
+/// has the goal at the origin. The variable `1 + k * symbols + s` says that the `k`-th cell of the fundamental box,
+/// from 0 in cell order, has the symbol `s`. The variables of the gates follow.
 pub fn torus_clauses(
     alloc: Global,
     premise: &Rule,
@@ -192,12 +192,12 @@ pub fn torus_clauses(
     shear: u32,
 ) -> Result<Cnf, AllocError>
     requires goal { IsGoalFor premise.now (goal_of premise.now goal.now) }
-    requires periods { AreTorusPeriods premise.now (periods_of periods shear) }
+    requires periods { AreTorusPeriods premise.now.dimension premise.now.nodes (periods_of periods shear) }
     requires few { question_clauses premise.now (goal_of premise.now goal.now) (periods_volume (periods_of periods shear)) ≤ most_clauses }
     ensures exact { IfOk result (λ cnf. cnf ≡ torus_problem premise.now (goal_of premise.now goal.now) (periods_of periods shear)) }
     ensures shows { IfOk result (λ cnf. ShowsTorus cnf.clauses premise.now (goal_of premise.now goal.now) (periods_of periods shear)) }
 {
-    // Made for its facts: the gates of the goal say what it asks.
+    // This call brings in a fact: the gates of the goal say what it asks.
     told_goal(premise, goal);
     let [x, y, z] = periods;
     let torus = Periods { x, y, z, shear };

@@ -1,11 +1,11 @@
-//! The configuration that a satisfying assignment of a torus's clauses stands for.
+//! The configuration for which a satisfying assignment of a torus's clauses stands.
 ghost use Rattle.std.specs.Prelude.{◌≡◌, ◌<◌, ◌*◌, ℕ, false, length, slice_index_or, All, IfOk};
 ghost use Rattle.dd_values.specs.Variables.{true_variables};
 ghost use Rattle.dd_pattern.specs.Periods.{periods_of, periods_volume};
 ghost use Rattle.dd_pattern.specs.Tile.{Tile};
 ghost use Rattle.dd_formula.specs.Living.{Fits};
 ghost use Rattle.dd_boxes.specs.Witnesses.{HasPeriods};
-ghost use Rattle.dd_problem.specs.TorusPeriods.{AreTorusPeriods};
+ghost use Rattle.dd_boxes.specs.TorusPeriods.{AreTorusPeriods};
 ghost use Rattle.dd_problem.specs.Symbols.{AreAllRead, AreRead, HasOneEach, IsSymbolRead};
 
 use dd_clause::Assignment;
@@ -13,14 +13,14 @@ use dd_formula::Rule;
 use dd_pattern::Periodic;
 use std::alloc::{AllocError, Global};
 
-/// Whether the value is there, and true.
+/// Whether the value exists and is true.
 fn is_true(values: &[bool], input: usize) -> bool
     ensures { result ≡ slice_index_or values.now input false }
 {
     input < values.len() && values[input]
 }
 
-/// The symbol of the cell with this number: the one of which the input is true.
+/// The symbol of the cell with this number: the one whose input is true.
 fn symbol_read(values: &[bool], number: u32, symbols: u32) -> u32
     requires { (s : ℕ) × IsSymbolRead (true_variables values.now) symbols number s }
     ensures { IsSymbolRead (true_variables values.now) symbols number result }
@@ -51,8 +51,7 @@ fn symbols_read(
     Ok(read)
 }
 
-/// The configuration of these periods and this shear in which each cell of the fundamental box has the symbol of which the
-/// input is true.
+/// The configuration of these periods and this shear in which each cell of the fundamental box has the symbol whose input is true.
 pub fn read_torus(
     alloc: Global,
     premise: &Rule,
@@ -60,7 +59,7 @@ pub fn read_torus(
     shear: u32,
     found: &Assignment,
 ) -> Result<Periodic, AllocError>
-    requires periods { AreTorusPeriods premise.now (periods_of periods shear) }
+    requires periods { AreTorusPeriods premise.now.dimension premise.now.nodes (periods_of periods shear) }
     requires one_each { HasOneEach (true_variables found.now) premise.now.symbols (periods_volume (periods_of periods shear) * premise.now.nodes) }
     ensures read { IfOk result (λ t. AreRead (true_variables found.now) premise.now.symbols t.symbols) }
     ensures periods { IfOk result (λ t. HasPeriods (periods_of periods shear) t) }

@@ -1,4 +1,4 @@
-//! The program: its words, standard input and standard output, its engines, and the status.
+//! The program: its words, standard input and output, its engines, and its status.
 #![tactic(auto)]
 
 use dd_engines::{Engine, Propagator, Roster, Walker};
@@ -8,13 +8,13 @@ use std::alloc::AllocError;
 use std::process::ExitCode;
 use std::{env, io};
 
-/// Ends a program whose words the system doesn't give: the number behind those of `Status`.
+/// The exit code if the system doesn't give the words: the number after those of `Status`.
 const NO_WORDS: u8 = 8;
 
-/// How many flips an engine walks for each list of clauses.
+/// How many flips an engine makes for each list of clauses.
 const FLIPS: u32 = 10_000;
 
-/// Why the words of the command line can't be had.
+/// Why the words of the command line are not available.
 enum WordsFault {
     Memory,
     Other,
@@ -41,7 +41,7 @@ fn words_of(rt: &HostRuntime) -> Result<Vec<String>, WordsFault> {
     Ok(words)
 }
 
-// The session of these words, with a roster of the engine that propagates and then the one that walks.
+// Runs the session of these words. The roster has the engine that propagates, and then the one that walks.
 fn run(rt: &HostRuntime, words: &[String]) -> Result<Status, AllocError> {
     let alloc = rt.alloc();
     let mut engines: Vec<Box<dyn Engine>> = Vec::new(alloc);

@@ -1,10 +1,11 @@
 -- The numbers, the strips and the vectors of queries without a fault.
 use Rattle.std.proofs.Common.{◌≡◌, ◌≤◌, ◌+◌, ℕ, zero, suc, false, List, [], ◌∷◌, length, map, get_or, ◌∙◌, arith, rules, slice_get}
+use Rattle.std.proofs.lemmas.{Bool.or_parts, Bool.ltb-false, List.length-map}
+use Rattle.std.proofs.lemmas.List.{Folds.list_all-map, Folds.list_any_none, Sums.list_all-from_AllPass}
 use Rattle.std.specs.{List.All, List.list_any, List.flat_map, Option.option_map_or}
-use Rattle.std.proofs.lemmas.{Bool.or_parts, Bool.ltb-false, List.length-map, List.Folds.list_all-map, List.Folds.list_any_none}
-use Rattle.std.proofs.lemmas.List.Sums.{list_all-from_AllPass}
 use Rattle.dd_topology.specs.Grid.{is_offset}
-use Rattle.dd_query.specs.Tree.{Number, Lists, Entry, Vector, Context}
+use Rattle.dd_query.specs.{Tree.Number, Tree.Lists, Tree.Entry, Tree.Vector, Tree.Context, Vectors.place_of}
+use Rattle.dd_query.specs.{Parts.strip_periods, Parts.AreStripPeriods, lemmas.Offsets.offset_is}
 use Rattle.dd_written.specs.Values.{written_value}
 use Rattle.dd_values.specs.Bounds.{widest_radius}
 use Rattle.dd_boxes.specs.Discharges.{AreVectors}
@@ -12,8 +13,6 @@ use Rattle.dd_known.specs.{Known.dimension_of, Limits.longest_strip}
 use Rattle.dd_faults.specs.Commands.{is_far, radius_faults, is_no_strip, strip_faults, vector_faults, list_faults}
 use Rattle.dd_faults.specs.lemmas.Nothing.{parts, both_nil, within, all_where}
 use Rattle.dd_faults.specs.lemmas.Periods.{entry_at, no_entry}
-use Rattle.dd_query.specs.{Vectors.place_of, Parts.strip_periods, Parts.AreStripPeriods}
-use Rattle.dd_query.specs.lemmas.Offsets.{offset_is}
 use Rattle.dd_query.proofs.{VectorLaws.IsGiven, VectorLaws.vectors_differ, PlaceLaws.vectors_of}
 
 -- ---- numbers
@@ -30,7 +29,7 @@ period_within bytes [] j h = (omega arith, omega arith)
 period_within bytes (e ∷ es) zero h = grind (arith, parts)
 period_within bytes (e ∷ es) (suc j) h = period_within bytes es j (or_parts _ _ h).1
 
--- the first vector gives the periods, where there is one
+-- the first vector gives the periods, if there is one
 pub strip_is : (x : Context) (vs : List Vector) → flat_map (strip_faults x) vs ≡ [] → AreStripPeriods (dimension_of x.known) (strip_periods x.text vs)
 strip_is x [] none = search rules
 strip_is x (v ∷ vs) none =

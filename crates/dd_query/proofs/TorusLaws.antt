@@ -1,22 +1,22 @@
 -- The periods of tori.
 use Rattle.std.proofs.Common.{◌≡◌, ◌≤◌, ◌*◌, ℕ, zero, suc, false, List, [], ◌∷◌, length, refl, subst, arith, slice_index}
-use Rattle.std.specs.List.{list_any, flat_map}
 use Rattle.std.proofs.lemmas.Bool.{or_parts, ltb-false, eqb-true}
 use Rattle.std.proofs.Math.Nat.{le-mul_of_pos_right, mul_comm, mul_assoc, one-le-mul}
+use Rattle.std.specs.List.{list_any, flat_map}
 use Rattle.dd_pattern.specs.Periods.{periods_of, periods_volume}
-use Rattle.dd_query.specs.Tree.{Entry, Vector, Context}
+use Rattle.dd_query.specs.{Tree.Entry, Tree.Vector, Tree.Context, Parts.torus_periods}
 use Rattle.dd_known.specs.{Known.dimension_of, Limits.most_nodes, Limits.most_in_box}
 use Rattle.dd_faults.specs.Commands.{product, entry_value, cells_of, is_zero, torus_faults}
 use Rattle.dd_faults.specs.lemmas.Nothing.{both_nil, fits, within}
 use Rattle.dd_faults.specs.lemmas.Periods.{entry_at, no_entry}
-use Rattle.dd_query.specs.{Parts.torus_periods, Parts.AreTorusPeriods}
+use Rattle.dd_boxes.specs.TorusPeriods.{AreTorusPeriods}
 
 some_at : (bytes : List ℕ) (es : List Entry) (j : ℕ) → list_any (is_zero bytes) es ≡ false → 1 ≤ entry_at bytes es j
 some_at bytes [] j h = omega arith
 some_at bytes (e ∷ es) zero h = ltb-false (entry_value bytes e) 1 (or_parts _ _ h).0
 some_at bytes (e ∷ es) (suc j) h = some_at bytes es j (or_parts _ _ h).1
 
--- at most three periods, and 1 for each of the others
+-- at most three periods are given, and the others are 1
 volume_is : (bytes : List ℕ) (es : List Entry) → length es ≤ 3 → entry_at bytes es 2 * entry_at bytes es 1 * entry_at bytes es 0 ≡ product bytes es
 volume_is bytes [] h = refl
 volume_is bytes (e ∷ []) h = grind (arith, mul_comm)
@@ -25,7 +25,7 @@ volume_is bytes (e ∷ f ∷ g ∷ []) h = grind (arith, mul_comm, mul_assoc)
 volume_is bytes (e ∷ f ∷ g ∷ k ∷ es) h = absurd (omega (arith, h))
 
 pub torus_is : (x : Context) (vs : List Vector) → dimension_of x.known ≤ 3 → length x.known.setting.nodes ≤ most_nodes → flat_map (torus_faults x) vs ≡ []
-    → AreTorusPeriods (dimension_of x.known) (length x.known.setting.nodes) (torus_periods x.text vs)
+    → AreTorusPeriods (dimension_of x.known) (length x.known.setting.nodes) (periods_of (torus_periods x.text vs) 0)
 torus_is x [] small nodes none = record {
   periods = record { x_some = omega arith; y_some = omega arith; z_some = omega arith; y_unused = λ h. refl; z_unused = λ h. refl; shear_small = omega arith; shear_unused = λ h. refl };
   few = omega (arith, nodes);
@@ -48,7 +48,7 @@ torus_is x (v ∷ vs) small nodes none =
     }
 
 -- no period is greater than the number of cells
-pub periods_small : (d nodes : ℕ) (along : List ℕ) → 1 ≤ nodes → AreTorusPeriods d nodes along
+pub periods_small : (d nodes : ℕ) (along : List ℕ) → 1 ≤ nodes → AreTorusPeriods d nodes (periods_of along 0)
     → (slice_index along 0 ≤ most_in_box) × (slice_index along 1 ≤ most_in_box) × (slice_index along 2 ≤ most_in_box)
 periods_small d nodes along some are =
     let p = periods_of along 0 in

@@ -1,19 +1,18 @@
--- Vectors of a discharge of which none is given twice have different positions.
+-- If no vector of a discharge repeats, all have different positions.
 use Rattle.std.proofs.Common.{◌≡◌, ◌≢◌, ◌<◌, ◌≤◌, ℕ, zero, suc, true, false, List, [], ◌∷◌, ◌++◌, length, map, take, get_or, refl, ap, arith, ℤ, AllPairs, codes, nat_lt}
-use Rattle.std.specs.{List.All, List.flat_map, Fmt.signed_decimal}
 use Rattle.std.proofs.lemmas.Bool.{or_parts, eqb-true}
-use Rattle.std.proofs.lemmas.List.{get_or-map, get_or-take, length-map, length-take-le, Elements.Contains-get_or}
+use Rattle.std.proofs.lemmas.List.{get_or-map, get_or-take, length-map, length-take-le}
+use Rattle.std.proofs.lemmas.List.Elements.{Contains-get_or}
+use Rattle.std.specs.{List.All, List.flat_map, Fmt.signed_decimal}
 use Rattle.dd_lattice.specs.{Place.Place, lemmas.ListLaws.Contains-map}
-use Rattle.dd_query.specs.Tree.{Entry, Vector}
+use Rattle.dd_query.specs.{Tree.Entry, Tree.Vector, Vectors.coordinate, Vectors.place_of}
 use Rattle.dd_faults.specs.Repeats.{entry_key, vector_key, twice_vector, twice_vectors}
-use Rattle.dd_faults.specs.Commands.{entry_value, has_entries, is_far}
-use Rattle.dd_faults.specs.lemmas.Repeats.{once}
-use Rattle.dd_query.specs.Vectors.{coordinate, place_of}
+use Rattle.dd_faults.specs.{Commands.entry_value, Commands.has_entries, Commands.is_far, lemmas.Repeats.once}
 
 abbrev vector : List Entry → Vector
 vector es = record { entries = es }
 
--- the same numbers of at most 4 have one key
+-- vectors with the same entries, of at most 4, have the same key
 same_key : (bytes : List ℕ) (es fs : List Entry) → length es ≡ length fs → ((axis : ℕ) → axis < length es → coordinate bytes (vector es) axis ≡ coordinate bytes (vector fs) axis) →
     is_far bytes (vector es) ≡ false → is_far bytes (vector fs) ≡ false → vector_key bytes (vector es) ≡ vector_key bytes (vector fs)
 same_key bytes [] [] long is near nearby = refl
@@ -30,7 +29,7 @@ same_at bytes u v is (suc zero) below = ap (λ (p : Place). p.y) is
 same_at bytes u v is (suc (suc zero)) below = ap (λ (p : Place). p.z) is
 same_at bytes u v is (suc (suc (suc axis))) below = absurd (omega (arith, below))
 
--- an entry for each axis, and none that is far
+-- an entry for each axis, and no far entry
 abbrev pub IsGiven : List ℕ → ℕ → Vector → Type 0
 IsGiven bytes d v = (has_entries d v ≡ true) × (is_far bytes v ≡ false)
 

@@ -1,10 +1,10 @@
--- the types of what is written and of what is known
+-- the types of syntax trees and of what is known
 pub mod Tree
 -- the positions that vectors stand for
 pub mod Vectors
 -- the words, numbers and vectors of a query
 pub mod Parts
--- the queries that are written, and what each keeps
+-- queries from their syntax trees, and what holds of each
 pub mod Queries
--- lemmas on what stands above, with their proofs, for whoever cites them
+-- lemmas on these definitions, for other crates
 pub mod lemmas

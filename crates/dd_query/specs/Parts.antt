@@ -1,18 +1,17 @@
--- The words, numbers and vectors of a query, with numbers in place of names.
+-- The words, numbers and vectors of a query, with indices in place of names.
 use Rattle.std.specs.Prelude.{ℕ, ◌≡◌, ◌≤◌, ◌*◌, List, [], ◌∷◌, map, slice_get, slice_index}
 use Rattle.std.specs.{List.zip, Option.option_map_or}
 use Rattle.dd_query.specs.Tree.{Word, Name, Role, Vector, Request, Context}
-use Rattle.dd_pattern.specs.Periods.{periods_of, periods_volume, ArePeriodsIn}
 use Rattle.dd_written.specs.Values.{written_value}
 use Rattle.dd_commands.specs.Table.{row}
-use Rattle.dd_known.specs.{Known.named, Limits.longest_strip, Limits.most_in_box}
+use Rattle.dd_known.specs.{Known.named, Limits.longest_strip}
 use Rattle.dd_faults.specs.{Names.number_in, Commands.period_at}
 
--- the number of what a word names, among what has its role
+-- the index of what a word names, among the things with its role
 abbrev pub number_of_word : Context → Role × Word → ℕ
 number_of_word x w = number_in x.text (named x.known w.0) (Name.Word w.1)
 
--- the number of the word at this place, by its role in the table
+-- the index of what the word at this place names, by its role in the table
 abbrev pub word_at : Context → Request → ℕ → ℕ
 word_at x r place = slice_index (map (number_of_word x) (zip (row r.kind).names r.words)) place
 
@@ -20,21 +19,15 @@ word_at x r place = slice_index (map (number_of_word x) (zip (row r.kind).names 
 abbrev pub value_at : Context → Request → ℕ → ℕ
 value_at x r place = option_map_or (written_value x.text) (slice_get r.numbers place) 0
 
--- the periods of a strip along the second and the third axis, and 1 where there is no such axis
+-- the periods of a strip along the second and the third axis; 1 for a missing axis
 abbrev pub strip_periods : List ℕ → List Vector → List ℕ
 strip_periods bytes [] = 1 ∷ 1 ∷ []
 strip_periods bytes (v ∷ vs) = period_at bytes v 0 ∷ period_at bytes v 1 ∷ []
 
--- the periods of a torus, and 1 where there is no such axis
+-- the periods of a torus; 1 for a missing axis
 abbrev pub torus_periods : List ℕ → List Vector → List ℕ
 torus_periods bytes [] = 1 ∷ 1 ∷ 1 ∷ []
 torus_periods bytes (v ∷ vs) = period_at bytes v 0 ∷ period_at bytes v 1 ∷ period_at bytes v 2 ∷ []
-
--- The periods of a torus in d dimensions: from 1 on, and 1 along an axis that there is not. Over so many nodes its fundamental box has
--- no more cells than the box of a configuration.
-pub record AreTorusPeriods (d nodes : ℕ) (along : List ℕ) : Type 0 where
-  pub periods : ArePeriodsIn d (periods_of along 0)
-  pub few : periods_volume (periods_of along 0) * nodes ≤ most_in_box
 
 -- the periods of a strip in d dimensions: from 1 on within the limit, and 1 along an axis that there is not
 pub record AreStripPeriods (d : ℕ) (strip : List ℕ) : Type 0 where

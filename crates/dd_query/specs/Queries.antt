@@ -1,12 +1,13 @@
--- The queries that are written, and what each keeps.
+-- Queries from their syntax trees, and what holds of each.
 use Rattle.std.specs.Prelude.{◌<◌, ◌≤◌, length, map}
 use Rattle.dd_values.specs.Bounds.{widest_radius}
-use Rattle.dd_boxes.specs.Discharges.{AreVectors}
-use Rattle.dd_query.specs.Tree.{QueryKind, Request, Known, Context}
-use Rattle.dd_query.specs.{Vectors.place_of, Parts.word_at, Parts.value_at, Parts.strip_periods, Parts.AreStripPeriods, Parts.torus_periods, Parts.AreTorusPeriods}
+use Rattle.dd_pattern.specs.Periods.{periods_of}
+use Rattle.dd_boxes.specs.{Discharges.AreVectors, TorusPeriods.AreTorusPeriods}
+use Rattle.dd_query.specs.{Tree.QueryKind, Tree.Request, Tree.Known, Tree.Context, Vectors.place_of}
+use Rattle.dd_query.specs.Parts.{word_at, value_at, strip_periods, AreStripPeriods, torus_periods}
 use Rattle.dd_query.specs.declared.queries.Query.{Query}
 
--- the query that is written, by its kind
+-- the query with this syntax tree, by its kind
 abbrev pub query_asked : QueryKind → Context → Request → Query
 query_asked QueryKind.Member x r = Query.Member (word_at x r 0) (word_at x r 1)
 query_asked QueryKind.Contains x r = Query.Contains (word_at x r 0) (word_at x r 1)
@@ -24,8 +25,8 @@ query_asked QueryKind.Discharge x r = Query.Discharge (word_at x r 0) (value_at 
 abbrev pub query_of : Context → Request → Query
 query_of x r = query_asked r.kind x r
 
--- Its numbers are those of rules, automata and configurations, its periods, radii and vectors are within their bounds, and there are
--- two symbols or more where it asks about maps.
+-- Its indices belong to rules, automata and configurations. Its periods, radii and vectors are within their bounds. If it asks
+-- about maps, there are at least two symbols.
 abbrev pub IsQueryWithin : Known → Query → Type 0
 IsQueryWithin k (Query.Member configuration rule) = (configuration < length k.configurations) × (rule < length k.rules)
 IsQueryWithin k (Query.Contains outer inner) = (outer < length k.rules) × (inner < length k.rules)
@@ -38,6 +39,6 @@ IsQueryWithin k (Query.Conjugate there back from to) =
 IsQueryWithin k (Query.Forbidden rule) = rule < length k.rules
 IsQueryWithin k (Query.Minimal rule) = rule < length k.rules
 IsQueryWithin k (Query.Density rule strip) = (rule < length k.rules) × AreStripPeriods k.setting.topology.dimension strip
-IsQueryWithin k (Query.Least rule periods) = (rule < length k.rules) × AreTorusPeriods k.setting.topology.dimension (length k.setting.nodes) periods
+IsQueryWithin k (Query.Least rule periods) = (rule < length k.rules) × AreTorusPeriods k.setting.topology.dimension (length k.setting.nodes) (periods_of periods 0)
 IsQueryWithin k (Query.Discharge rule radius margin vectors) =
     (rule < length k.rules) × (radius ≤ widest_radius) × (margin ≤ widest_radius) × AreVectors k.setting.topology.dimension vectors

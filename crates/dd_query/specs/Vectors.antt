@@ -1,10 +1,9 @@
--- Vectors as they are written, and the positions that they stand for.
-use Rattle.std.specs.Prelude.{◌≡◌, ℕ, List, false, ℤ, pos}
-use Rattle.std.specs.{List.slice_get, Option.option_map_or}
+-- Written vectors, and the positions that they stand for.
+use Rattle.std.specs.{Prelude.◌≡◌, Prelude.ℕ, Prelude.List, Prelude.false, Prelude.ℤ, Prelude.pos, List.slice_get, Option.option_map_or}
 use Rattle.dd_lattice.specs.Place.{Place, place}
 use Rattle.dd_faults.specs.{Tree.Vector, Commands.signed_value, Commands.is_far}
 
--- the number of the entry for an axis, and 0 where there is none
+-- the value of the entry for an axis; 0 if there is none
 abbrev pub coordinate : List ℕ → Vector → ℕ → ℤ
 coordinate bytes v axis = option_map_or (signed_value bytes) (slice_get v.entries axis) (pos 0)
 

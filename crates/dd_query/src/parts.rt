@@ -1,9 +1,11 @@
-//! The words, numbers and vectors of a query, with numbers in place of names.
+//! The words, numbers and vectors of a query, with indices in place of names.
 ghost use Rattle.std.specs.Prelude.{◌≡◌, ◌≤◌, false, length, map, min, IfOk};
 ghost use Rattle.std.specs.List.{list_any};
+ghost use Rattle.dd_pattern.specs.Periods.{periods_of};
+ghost use Rattle.dd_boxes.specs.TorusPeriods.{AreTorusPeriods};
 ghost use Rattle.dd_faults.specs.Commands.{is_far};
 ghost use Rattle.dd_query.specs.Vectors.{place_of};
-ghost use Rattle.dd_query.specs.Parts.{word_at, value_at, strip_periods, AreStripPeriods, torus_periods, AreTorusPeriods};
+ghost use Rattle.dd_query.specs.Parts.{word_at, value_at, strip_periods, AreStripPeriods, torus_periods};
 
 use crate::vectors::position_of;
 use dd_commands::{Request, Vector};
@@ -14,7 +16,7 @@ use dd_values::Items;
 use dd_written::{Name, Text, number_value};
 use std::alloc::{AllocError, Global};
 
-/// The number of what the word at a place names.
+/// The index of what the word at `place` names.
 pub(crate) fn word_at(context: &Context, request: &Request, place: usize) -> u32
     ensures { result ≡ word_at context.now request.now place }
 {
@@ -25,7 +27,7 @@ pub(crate) fn word_at(context: &Context, request: &Request, place: usize) -> u32
     number_in(&context.text, context.known.named(*role), Name::Word(*word))
 }
 
-/// The value of the number at a place, and the greatest number of 32 bits for all that are greater.
+/// The value of the number at `place`, at most 4,294,967,295.
 pub(crate) fn value_at(context: &Context, request: &Request, place: usize) -> u32
     ensures { result ≡ min (value_at context.now request.now place) 4294967295 }
 {
@@ -48,7 +50,8 @@ pub(crate) fn strip_of(context: &Context, vectors: &[Vector]) -> [u32; 2]
 /// The periods of a torus along the three axes.
 pub(crate) fn torus_of(context: &Context, vectors: &[Vector]) -> [u32; 3]
     requires nodes { 1 ≤ length context.now.known.setting.nodes }
-    requires periods { AreTorusPeriods context.now.known.setting.topology.dimension (length context.now.known.setting.nodes) (torus_periods context.now.text vectors.now) }
+    requires periods { AreTorusPeriods context.now.known.setting.topology.dimension (length context.now.known.setting.nodes)
+        (periods_of (torus_periods context.now.text vectors.now) 0) }
     ensures { result ≡ torus_periods context.now.text vectors.now }
 {
     let text = &context.text;
@@ -62,7 +65,7 @@ pub(crate) fn torus_of(context: &Context, vectors: &[Vector]) -> [u32; 3]
     }
 }
 
-/// The positions of vectors without far entries.
+/// The positions that vectors without far entries stand for.
 pub(crate) fn positions(
     alloc: Global,
     text: &Text,

@@ -1,4 +1,4 @@
-//! The queries of a script, each with the way from what is written to it.
+//! The queries of a script, and how they are read from their syntax trees.
 ghost use Rattle.std.specs.Prelude.{◌≡◌, ◌≤◌, [], false, length, IfOk, OnOk};
 ghost use Rattle.std.specs.List.{list_any};
 ghost use Rattle.dd_commands.specs.{Table.row, Commands.IsRequest};
@@ -15,8 +15,8 @@ use dd_lattice::Position;
 use dd_values::Items;
 use std::alloc::{AllocError, Global};
 
-/// A query of a script. Rules, automata and configurations are named by their numbers among their kind, in the order of their
-/// definitions, from 0.
+/// A query of a script. Rules, automata and configurations are given by index, each kind numbered from 0 in the order of
+/// definition.
 #[derive(Debug, Drop)]
 pub enum Query {
     /// Whether the configuration lives in the rule's subshift.
@@ -29,7 +29,7 @@ pub enum Query {
         outer: u32,
         inner: u32,
     },
-    /// Whether two rules have one subshift.
+    /// Whether two rules have the same subshift.
     Equal {
         left: u32,
         right: u32,
@@ -65,13 +65,12 @@ pub enum Query {
     Minimal {
         rule: u32,
     },
-    /// The least density over a strip, given by its periods along the second and the third axis, 1 where there is no such
-    /// axis.
+    /// The least density over a strip, given by its periods along the second and the third axis; 1 for a missing axis.
     Density {
         rule: u32,
         strip: [u32; 2],
     },
-    /// The least weight of a fundamental box over the configurations with these periods, 1 where there is no such axis.
+    /// The least weight of a fundamental box over the configurations with these periods; 1 for a missing axis.
     Least {
         rule: u32,
         periods: [u32; 3],
@@ -116,7 +115,7 @@ fn conjugate(context: &Context, request: &Request) -> Query
     }
 }
 
-/// The query that is written, of whichever kind it is.
+/// The query with this syntax tree, of any kind.
 fn asked(alloc: Global, context: &Context, request: &Request) -> Result<Query, AllocError>
     requires within { IsQueryWithin context.now.known (query_of context.now request.now) }
     requires nodes { 1 ≤ length context.now.known.setting.nodes }
@@ -162,7 +161,7 @@ fn asked(alloc: Global, context: &Context, request: &Request) -> Result<Query, A
     })
 }
 
-/// The query that is written, where it has no fault.
+/// The query with this syntax tree, which has no fault.
 pub fn ask(alloc: Global, context: &Context, request: &Request) -> Result<Query, AllocError>
     requires sound { IsSound context.now.known }
     requires written { IsRequest request.now }

@@ -8,7 +8,7 @@ use dd_faults::signed_value;
 use dd_lattice::Position;
 use dd_written::Text;
 
-/// The value of the entry for an axis, and 0 where there is none.
+/// The value of the entry for an axis; 0 if there is none.
 fn coordinate(text: &Text, vector: &Vector, axis: usize) -> i32
     requires { IsClose text.now vector.now }
     ensures value { result ≡ coordinate text.now vector.now axis }
@@ -20,7 +20,7 @@ fn coordinate(text: &Text, vector: &Vector, axis: usize) -> i32
     }
 }
 
-/// The position with the entries of a vector as its coordinates, and 0 for those that the vector does not have.
+/// The position with the entries of a vector as its coordinates; missing ones are 0.
 pub fn position_of(text: &Text, vector: &Vector) -> Position
     requires { IsClose text.now vector.now }
     ensures { result ≡ place_of text.now vector.now }

@@ -1,13 +1,9 @@
--- Counts that are cut off pass their limit exactly where the whole counts do.
-use Rattle.std.proofs.Common.{◌≡◌, ℕ, max, ap, ◌∙◌, arith}
+-- Counts that are cut off pass their limit exactly if the whole counts do.
+use Rattle.std.proofs.{Common.◌≡◌, Common.ℕ, Common.max, Common.ap, Common.◌∙◌, Common.arith, lemmas.Bool.Decides.nat_tests}
 use Rattle.std.specs.Prelude.{nat_lt}
-use Rattle.std.proofs.lemmas.Bool.Decides.{nat_tests}
 use Rattle.dd_values.specs.declared.limits.Limits.{Limits}
-use Rattle.dd_formula.specs.LocalRule.{LocalRule}
-use Rattle.dd_formula.specs.Counts.{cut, largest_clauses}
-use Rattle.dd_boxes.specs.Goals.{GoalOf}
-use Rattle.dd_boxes.specs.Counts.{goal_clauses, most_clauses}
-use Rattle.dd_boxes.specs.Boxes.{goal_reach}
+use Rattle.dd_formula.specs.{LocalRule.LocalRule, Counts.cut, Counts.largest_clauses}
+use Rattle.dd_boxes.specs.{Goals.GoalOf, Counts.goal_clauses, Counts.most_clauses, Boxes.goal_reach}
 use Rattle.dd_question.specs.Boxes.{clauses_of, is_long}
 
 passes_alike : (l n : ℕ) → nat_lt l (cut l n) ≡ nat_lt l n

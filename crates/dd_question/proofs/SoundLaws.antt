@@ -1,24 +1,21 @@
 -- A question that is well formed and passes no limit is sound.
 use Rattle.std.proofs.Common.{◌≡◌, ℕ, ◌≤◌, Bool, true, false, List, max, refl, ap, sym, subst, ◌∙◌, None}
-use Rattle.std.specs.Prelude.{◌||◌, nat_lt}
 use Rattle.std.proofs.lemmas.Bool.{or_parts, ltb-false, false≢true}
+use Rattle.std.specs.Prelude.{◌||◌, nat_lt}
 use Rattle.dd_values.specs.declared.limits.Limits.{Limits}
-use Rattle.dd_formula.specs.LocalRule.{LocalRule, IsRule}
-use Rattle.dd_formula.specs.Counts.{largest_clauses}
+use Rattle.dd_formula.specs.{LocalRule.LocalRule, LocalRule.IsRule, Counts.largest_clauses}
 use Rattle.dd_counts.specs.Rules.{pattern_count, states, longer_states, most_patterns, most_states, most_longer_states}
 use Rattle.dd_strip.specs.Strips.{IsFew, strip_for}
 use Rattle.dd_boxes.specs.Goals.{GoalOf, breaks, AreAlike, IsGoalFor, KeepsRule}
-use Rattle.dd_boxes.specs.Counts.{goal_clauses, most_clauses}
-use Rattle.dd_boxes.specs.lemmas.ReachLaws.{least_is_goal_reach}
+use Rattle.dd_boxes.specs.{Counts.goal_clauses, Counts.most_clauses, lemmas.ReachLaws.least_is_goal_reach}
 use Rattle.dd_question.specs.declared.excess.Excess.{Excess}
-use Rattle.dd_question.specs.declared.excess.Excess.TheVariants as excess
 use Rattle.dd_question.specs.Questions.{Asked, membership, box, equality, listing, smallest, conjugacy, density, least, discharge, IsFormed, passed, excess_of, IsSoundAsked}
 use Rattle.dd_question.specs.Boxes.{clauses_of, is_long, IsAskable, IsFormedBox, IsSoundBox}
 use Rattle.dd_question.specs.Conjugacies.{ConjugacyOf, EachPart, is_some_long}
-use Rattle.dd_question.specs.Lists.{has_many_patterns, HasFewPatterns}
-use Rattle.dd_question.specs.Densities.{has_many_states, strip_volume}
+use Rattle.dd_question.specs.{Lists.has_many_patterns, Lists.HasFewPatterns, Densities.has_many_states, Densities.strip_volume}
 use Rattle.dd_question.specs.Tori.{weight_clauses, is_heavy}
 use Rattle.dd_question.proofs.LimitLaws.{some_at}
+use Rattle.dd_question.specs.declared.excess.Excess.TheVariants as excess
 
 within : (b : Bool) (e : Excess) → passed b e ≡ None → b ≡ false
 within true e is = absurd (cc is)

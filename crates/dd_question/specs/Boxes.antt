@@ -1,11 +1,9 @@
 -- Box questions: how many clauses they take, and when they may be asked.
-use Rattle.std.specs.Prelude.{ℕ, ◌≤◌, Bool, max, nat_lt}
+use Rattle.std.specs.Prelude.{ℕ, Bool, max, nat_lt}
 use Rattle.dd_values.specs.declared.limits.Limits.{Limits}
-use Rattle.dd_formula.specs.LocalRule.{LocalRule, IsRule}
-use Rattle.dd_formula.specs.Counts.{largest_clauses}
-use Rattle.dd_boxes.specs.Goals.{GoalOf, IsGoalFor, KeepsRule}
-use Rattle.dd_boxes.specs.Boxes.{goal_reach, IsLeastRadius}
-use Rattle.dd_boxes.specs.Counts.{goal_clauses, most_clauses}
+use Rattle.dd_formula.specs.{LocalRule.LocalRule, LocalRule.IsRule, Counts.largest_clauses}
+use Rattle.dd_boxes.specs.{Goals.GoalOf, Goals.IsGoalFor, Goals.KeepsRule, Boxes.goal_reach}
+use Rattle.dd_boxes.specs.Counts.{goal_clauses, most_clauses, IsSmallQuestion}
 
 -- the clauses of a box question, in the largest box or torus that may be tried
 abbrev pub clauses_of : Limits → LocalRule → GoalOf → ℕ
@@ -22,7 +20,7 @@ IsFormedBox x g = IsRule x × IsGoalFor x g × KeepsRule g
 pub record IsAskable (l : Limits) (x : LocalRule) (g : GoalOf) : Type 0 where
   pub goal : IsGoalFor x g
   pub rule : KeepsRule g
-  pub small : (least : ℕ) → IsLeastRadius g least → largest_clauses x (goal_clauses g) (max l.radius least) l.period ≤ most_clauses
+  pub small : IsSmallQuestion x g l.radius l.period
 
 abbrev pub IsSoundBox : Limits → LocalRule → GoalOf → Type 0
 IsSoundBox l x g = IsRule x × IsAskable l x g

@@ -1,11 +1,9 @@
 -- Questions with the limits within which they are asked, and how they are checked.
 use Rattle.std.specs.Prelude.{◌≡◌, Some}
-use Rattle.dd_values.specs.Ranges.{AreLimits}
-use Rattle.dd_values.specs.declared.limits.Limits.{Limits}
-use Rattle.dd_question.specs.declared.excess.Excess.{Excess}
-use Rattle.dd_question.specs.declared.fault.QuestionFault.{QuestionFault}
-use Rattle.dd_question.specs.declared.fault.QuestionFault.TheVariants as fault
+use Rattle.dd_values.specs.{Ranges.AreLimits, declared.limits.Limits.Limits}
+use Rattle.dd_question.specs.declared.{excess.Excess.Excess, fault.QuestionFault.QuestionFault}
 use Rattle.dd_question.specs.Questions.{Asked, IsFormed, IsPartFault, excess_of, IsSoundAsked}
+use Rattle.dd_question.specs.declared.fault.QuestionFault.TheVariants as fault
 
 pub record AskedWithin : Type 0 where
   pub question : Asked
@@ -14,12 +12,12 @@ pub record AskedWithin : Type 0 where
 abbrev pub asked_within : Limits → Asked → AskedWithin
 asked_within l a = record { question = a; limits = l }
 
--- what each checked question keeps: the limits are in range, and the question goes together and passes none
+-- the invariant of a checked question: the limits are in range, its parts fit together, and it passes no limit
 pub record IsChecked (q : AskedWithin) : Type 0 where
   pub limits : AreLimits q.limits
   pub sound : IsSoundAsked q.limits q.question
 
--- why a question isn't checked: the limits are out of range; else some part of it doesn't go with the others; else it passes a limit
+-- why a question isn't checked: the limits are out of range; else some part doesn't fit the others; else it passes a limit
 pub data IsFaultWithin (l : Limits) (a : Asked) : QuestionFault → Type 0 where
   limits_fault : ¬ AreLimits l → IsFaultWithin l a fault.Limits
   part_fault : {f : QuestionFault} → AreLimits l → IsPartFault a f → IsFaultWithin l a f

@@ -3,22 +3,20 @@ use Rattle.std.specs.Prelude.{ℕ, ◌≡◌, ◌≤◌, ◌-◌, Some, Bool, Li
 use Rattle.std.specs.List.{list_any}
 use Rattle.dd_values.specs.declared.limits.Limits.{Limits}
 use Rattle.dd_formula.specs.LocalRule.{LocalRule}
-use Rattle.dd_boxes.specs.Goals.{GoalOf}
-use Rattle.dd_boxes.specs.Views.{goal_of}
-use Rattle.dd_question.specs.Boxes.{is_long}
-use Rattle.dd_question.specs.declared.conjugacy.Conjugacy.{Conjugacy}
+use Rattle.dd_boxes.specs.{Goals.GoalOf, Views.goal_of}
+use Rattle.dd_question.specs.{Boxes.is_long, declared.conjugacy.Conjugacy.Conjugacy}
 
--- two subshifts, and what there must not be in them
+-- two subshifts, and the goals that must hold nowhere in them
 pub record ConjugacyOf : Type 0 where
   pub from : LocalRule
   pub to : LocalRule
-  -- in the first the map doesn't lead into the second
+  -- in the first, the map doesn't lead into the second
   pub image : GoalOf
-  -- in the second the map back doesn't lead into the first
+  -- in the second, the map back doesn't lead into the first
   pub image_back : GoalOf
-  -- in the first the map and then the map back don't give back what was there
+  -- in the first, the map and then the map back change something
   pub round : GoalOf
-  -- in the second the map back and then the map don't
+  -- in the second, the map back and then the map change something
   pub round_back : GoalOf
 
 -- the four box questions in order, each by its premise and its goal
@@ -29,7 +27,7 @@ parts c = (c.from, c.image) ∷ (c.to, c.image_back) ∷ (c.from, c.round) ∷ (
 abbrev pub IsPart : ConjugacyOf → ℕ → LocalRule → GoalOf → Type 0
 IsPart c k x g = (1 ≤ k) × (slice_get (parts c) (k - 1) ≡ Some (x, g))
 
--- what is said of box questions holds of all four
+-- a claim about box questions holds for all four
 pub record EachPart (IsSaid : LocalRule → GoalOf → Type 0) (c : ConjugacyOf) : Type 0 where
   pub image : IsSaid c.from c.image
   pub image_back : IsSaid c.to c.image_back

@@ -4,7 +4,7 @@ use Rattle.dd_formula.specs.LocalRule.{LocalRule}
 use Rattle.dd_counts.specs.Rules.{states, longer_states, most_states, most_longer_states}
 use Rattle.dd_strip.specs.Strips.{IsStrip, HasWeights, IsFew, strip_for}
 
--- over a strip of so many positions a slice
+-- a strip of this many positions per slice has too many states or windows
 abbrev pub has_many_states : LocalRule → ℕ → Bool
 has_many_states x volume = nat_lt most_states (states x volume) || nat_lt most_longer_states (longer_states x volume)
 

@@ -1,26 +1,20 @@
--- What is asked of rules: when it goes together, which limit on its work it passes, and when it is sound.
+-- Questions about rules: when their parts fit together, which limit on their work they pass, and when they are sound.
 use Rattle.std.specs.Prelude.{ℕ, List, Bool, true, false, ◌||◌, Option, Some, None, if◌then◌else◌}
 use Rattle.dd_values.specs.declared.limits.Limits.{Limits}
 use Rattle.dd_lattice.specs.Place.{Place}
 use Rattle.dd_pattern.specs.Tile.{Tile, IsTile}
-use Rattle.dd_formula.specs.LocalRule.{LocalRule, IsRule}
-use Rattle.dd_formula.specs.Living.{Fits}
-use Rattle.dd_formula.specs.Allowed.{HasAllowed}
+use Rattle.dd_formula.specs.{LocalRule.LocalRule, LocalRule.IsRule, Living.Fits, Allowed.HasAllowed}
 use Rattle.dd_strip.specs.Strips.{IsStrip, HasWeights}
-use Rattle.dd_boxes.specs.Goals.{GoalOf, breaks, AreAlike, IsGoalFor}
-use Rattle.dd_boxes.specs.Views.{goal_of}
-use Rattle.dd_question.specs.declared.excess.Excess.{Excess}
-use Rattle.dd_question.specs.declared.excess.Excess.TheVariants as excess
-use Rattle.dd_question.specs.declared.fault.QuestionFault.{QuestionFault}
-use Rattle.dd_question.specs.declared.fault.QuestionFault.TheVariants as fault
-use Rattle.dd_question.specs.declared.question.Question.{Question}
-use Rattle.dd_question.specs.declared.question.Question.TheVariants as question
-use Rattle.dd_question.specs.Boxes.{is_long, IsFormedBox, IsAskable, IsSoundBox}
+use Rattle.dd_boxes.specs.{Goals.GoalOf, Goals.breaks, Goals.AreAlike, Goals.IsGoalFor, Views.goal_of}
+use Rattle.dd_question.specs.declared.{excess.Excess.Excess, fault.QuestionFault.QuestionFault}
+use Rattle.dd_question.specs.{declared.question.Question.Question, Boxes.is_long, Boxes.IsFormedBox, Boxes.IsAskable, Boxes.IsSoundBox}
 use Rattle.dd_question.specs.Conjugacies.{ConjugacyOf, is_some_long, IsPart, EachPart, conjugacy_of}
 use Rattle.dd_question.specs.Lists.{has_many_patterns, HasFewPatterns}
-use Rattle.dd_question.specs.Densities.{has_many_states, strip_volume, IsNarrow}
-use Rattle.dd_question.specs.Tori.{IsTorus, is_heavy, IsWeighable}
+use Rattle.dd_question.specs.{Densities.has_many_states, Densities.strip_volume, Densities.IsNarrow, Tori.is_heavy, Tori.IsWeighable}
 use Rattle.dd_question.specs.Discharges.{IsDischargeable, IsDischargeFault}
+use Rattle.dd_question.specs.declared.excess.Excess.TheVariants as excess
+use Rattle.dd_question.specs.declared.fault.QuestionFault.TheVariants as fault
+use Rattle.dd_question.specs.declared.question.Question.TheVariants as question
 
 pub data Asked : Type 0 where
   -- does the configuration live in the rule's subshift?
@@ -35,12 +29,12 @@ pub data Asked : Type 0 where
   smallest : LocalRule → Asked
   -- are two maps between the subshifts of two rules inverse to each other?
   conjugacy : ConjugacyOf → Asked
-  -- with these weights, what do the configurations with these periods in the axes after the first weigh at least a position?
+  -- with these weights, what is the least weight per position of the configurations with these periods along the axes after the first?
   density : LocalRule → List ℕ → List ℕ → Asked
-  -- with these weights, what does a fundamental box with these periods and no shear weigh at least?
+  -- with these weights, what is the least weight of a fundamental box with these periods and no shear?
   least : LocalRule → List ℕ → List ℕ → Asked
-  -- with these weights, what can each position hold at least, once each has given along these vectors amounts that the pattern
-  -- of this radius around it determines, on a domain grown by this margin?
+  -- With these weights, how much does each position hold at least, after each has sent amounts along these vectors?
+  -- The pattern of this radius around a position determines what it sends. The domain is grown by this margin.
   discharge : LocalRule → ℕ → ℕ → List Place → List ℕ → Asked
 
 -- what a value of the program asks
@@ -67,8 +61,7 @@ is_box_question (density x strip ws) = false
 is_box_question (least x along ws) = false
 is_box_question (discharge x radius margin vs ws) = false
 
--- what it speaks of is of one dimension, of the same nodes and the same alphabet, and each symbol of a configuration is one that
--- its node allows
+-- its parts have the same dimension, nodes and alphabet, and each symbol of a configuration is one that its node allows
 abbrev pub IsFormed : Asked → Type 0
 IsFormed (membership x t) = IsRule x × IsTile t × Fits x t × HasAllowed x t
 IsFormed (box x g) = IsFormedBox x g
@@ -77,10 +70,10 @@ IsFormed (listing x) = IsRule x
 IsFormed (smallest x) = IsRule x
 IsFormed (conjugacy c) = EachPart IsFormedBox c
 IsFormed (density x strip ws) = IsRule x × IsStrip x strip × HasWeights x ws
-IsFormed (least x along ws) = IsRule x × IsTorus x along × HasWeights x ws
+IsFormed (least x along ws) = IsRule x × AreTorusPeriods x.dimension x.nodes (periods_of along 0) × HasWeights x ws
 IsFormed (discharge x radius margin vs ws) = IsRule x × IsDischargeable x radius margin vs ws
 
--- the first of its parts, in this order, that doesn't go with those before it; memory may be wanting at any
+-- the first of its parts, in this order, that doesn't fit those before it; memory may run out at any
 pub data IsPartFault : Asked → QuestionFault → Type 0 where
   configuration_fault : {x : LocalRule} {t : Tile} → ¬ Fits x t → IsPartFault (membership x t) fault.Configuration
   symbols_fault : {x : LocalRule} {t : Tile} → Fits x t → ¬ HasAllowed x t → IsPartFault (membership x t) fault.Symbols
@@ -90,8 +83,8 @@ pub data IsPartFault : Asked → QuestionFault → Type 0 where
       IsPartFault (conjugacy c) f
   strip_fault : {x : LocalRule} {periods ws : List ℕ} → ¬ IsStrip x periods → IsPartFault (density x periods ws) fault.Strip
   weights_fault : {x : LocalRule} {periods ws : List ℕ} → IsStrip x periods → ¬ HasWeights x ws → IsPartFault (density x periods ws) fault.Weights
-  periods_fault : {x : LocalRule} {along ws : List ℕ} → ¬ IsTorus x along → IsPartFault (least x along ws) fault.Periods
-  symbol_weights_fault : {x : LocalRule} {along ws : List ℕ} → IsTorus x along → ¬ HasWeights x ws → IsPartFault (least x along ws) fault.Weights
+  periods_fault : {x : LocalRule} {along ws : List ℕ} → ¬ AreTorusPeriods x.dimension x.nodes (periods_of along 0) → IsPartFault (least x along ws) fault.Periods
+  symbol_weights_fault : {x : LocalRule} {along ws : List ℕ} → AreTorusPeriods x.dimension x.nodes (periods_of along 0) → ¬ HasWeights x ws → IsPartFault (least x along ws) fault.Weights
   discharge_fault : {x : LocalRule} {radius margin : ℕ} {vs : List Place} {ws : List ℕ} {f : QuestionFault} → IsDischargeFault x radius margin vs ws f →
       IsPartFault (discharge x radius margin vs ws) f
   memory_fault : {a : Asked} → IsPartFault a fault.Memory
@@ -111,7 +104,7 @@ excess_of l (density x strip ws) = passed (has_many_states x (strip_volume strip
 excess_of l (least x along ws) = passed (is_heavy x along ws) excess.Clauses
 excess_of l (discharge x radius margin vs ws) = None
 
--- it goes together and passes no limit
+-- its parts fit together, and it passes no limit
 abbrev pub IsSoundAsked : Limits → Asked → Type 0
 IsSoundAsked l (membership x t) = IsRule x × IsTile t × Fits x t × HasAllowed x t
 IsSoundAsked l (box x g) = IsSoundBox l x g

@@ -1,4 +1,4 @@
-//! What box questions look for: how far that reads, and how many clauses it takes.
+//! The goals of box questions: how far they read, and how many clauses they take.
 ghost use Rattle.std.specs.Prelude.{IfOk};
 ghost use Rattle.dd_formula.specs.Compositions.{HaveNodes};
 ghost use Rattle.dd_boxes.specs.Goals.{breaks, differ, always, IsGoalFor};
@@ -13,7 +13,7 @@ use std::alloc::{AllocError, Global};
 /// The greatest number of clauses of a box question.
 pub const MOST_CLAUSES: u32 = 2_000_000;
 
-/// A goal, by how far it reads and how many clauses it has; past the limit that number is cut off.
+/// A goal, by how far it reads and how many clauses it has. The number of clauses is cut off past the limit.
 #[derive(Clone, Copy)]
 pub(crate) struct Aim {
     pub(crate) radius: u32,

@@ -1,9 +1,9 @@
-//! Questions that go together and pass no limit.
+//! Questions whose parts fit together and that pass no limit.
 use crate::question::Question;
 use dd_values::Limits;
 use std::marker::Model;
 
-/// A question that goes together and passes no limit, and the limits within which it is asked.
+/// A question whose parts fit together and that passes no limit, and the limits within which it is asked.
 #[derive(Drop)]
 pub struct CheckedQuestion<'a> {
     question: Question<'a>,
@@ -33,7 +33,7 @@ impl<'a> CheckedQuestion<'a> {
     ghost use Rattle.dd_question.specs.Questions.{asked_of, IsSoundAsked};
     ghost use Rattle.dd_question.specs.Checked.{asked_within, IsChecked};
 
-    /// A question that is known to go together and to pass none of these limits.
+    /// A question whose parts are known to fit together, and which passes none of these limits.
     pub fn known(question: Question<'a>, limits: Limits) -> CheckedQuestion<'a>
         requires limits { AreLimits limits }
         requires sound { IsSoundAsked limits (asked_of question) }

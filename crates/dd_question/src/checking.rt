@@ -1,6 +1,5 @@
 //! Questions are checked: the limits, whether the parts go together, and the limit on its work that a question passes.
-ghost use Rattle.std.specs.Prelude.{◌≡◌, ◌↔◌, IsTrue, IfOk, IfErr, OnOk};
-ghost use Rattle.dd_values.specs.Ranges.{AreLimits};
+ghost use Rattle.std.specs.Prelude.{◌≡◌, IfOk, IfErr, OnOk};
 ghost use Rattle.dd_question.specs.Questions.{asked_of, IsFormed, IsPartFault};
 ghost use Rattle.dd_question.specs.Checked.{asked_within, IsFaultWithin};
 
@@ -15,24 +14,8 @@ use crate::tori::check_least;
 use dd_values::Limits;
 use std::alloc::Global;
 
-/// The greatest radius of a box, the greatest period of a torus, and the greatest number of pivots.
-const MOST_RADIUS: u32 = 8;
-
-const MOST_PERIOD: u32 = 8;
-
-const MOST_PIVOTS: u32 = 100_000;
-
-fn are_limits(limits: &Limits) -> bool
-    ensures { IsTrue result ↔ AreLimits limits.now }
-{
-    limits.radius <= MOST_RADIUS
-        && 1 <= limits.period
-        && limits.period <= MOST_PERIOD
-        && limits.pivots <= MOST_PIVOTS
-}
-
 impl<'a> Question<'a> {
-    /// Whether its parts go together.
+    /// Whether its parts fit together.
     fn check_parts(&self, alloc: Global) -> Result<(), QuestionFault>
         ensures ok { OnOk result (IsFormed (asked_of self.now)) }
         ensures fault { IfErr result (IsPartFault (asked_of self.now)) }
@@ -46,7 +29,7 @@ impl<'a> Question<'a> {
             Question::Equality { left, right } => check_equality(left, right),
             Question::Conjugacy { conjugacy } => check_conjugacy(alloc, &conjugacy),
             Question::Listing { rule } | Question::Smallest { rule } => {
-                // Read for what its type keeps.
+                // This read brings in what the type guarantees.
                 let _nodes = rule.nodes();
                 Ok(())
             }
@@ -73,21 +56,21 @@ impl<'a> Question<'a> {
     /// The question, checked within these limits.
     ///
     /// # Errors
-    /// `Limits` where the limits are out of range; else the first of its parts that doesn't go with those before it; else `Excess`
-    /// where it passes a limit on its work; or `Memory`.
+    /// `Limits` if the limits are out of range; else the fault of the first part that doesn't fit those before it;
+    /// else `Excess` if it passes a limit on its work; or `Memory`.
     #[tactic(auto, using(crate::specs::Checked::limits_fault, crate::specs::Checked::part_fault, crate::specs::Checked::excess_fault, crate::specs::Questions::memory_fault))]
     pub fn check(self, alloc: Global, limits: &Limits) -> Result<CheckedQuestion<'a>, QuestionFault>
         ensures ok { IfOk result (λ question. question ≡ asked_within limits.now (asked_of self.entry)) }
         ensures fault { IfErr result (IsFaultWithin limits.now (asked_of self.entry)) }
     {
-        if !are_limits(limits) {
+        if !limits.are_in_range() {
             return Err(QuestionFault::Limits);
         }
         self.check_parts(alloc)?;
         if let Some(excess) = self.excess(alloc, limits)? {
             return Err(QuestionFault::Excess(excess));
         }
-        // Law: a question that goes together and passes no limit is sound.
+        // Law: a question whose parts fit together and that passes no limit is sound.
         sound_questions();
         Ok(CheckedQuestion::known(self, *limits))
     }

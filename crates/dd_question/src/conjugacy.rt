@@ -8,26 +8,26 @@ ghost use Rattle.dd_question.specs.Conjugacies.{conjugacy_of, IsPart};
 use dd_boxes::Goal;
 use dd_formula::Rule;
 
-/// Two subshifts, and what there must not be in them, as goals of four box questions.
+/// Two subshifts, and what must hold nowhere in them, as goals of four box questions.
 #[derive(Clone, Copy)]
 pub struct Conjugacy<'a> {
     /// The first subshift.
     pub from: &'a Rule,
     /// The second.
     pub to: &'a Rule,
-    /// In the first the map doesn't lead into the second.
+    /// In the first, the map doesn't lead into the second.
     pub image: Goal<'a>,
-    /// In the second the map back doesn't lead into the first.
+    /// In the second, the map back doesn't lead into the first.
     pub image_back: Goal<'a>,
-    /// In the first the map and then the map back don't give back what was there.
+    /// In the first, the map and then the map back change something.
     pub round: Goal<'a>,
-    /// In the second the map back and then the map don't.
+    /// In the second, the map back and then the map change something.
     pub round_back: Goal<'a>,
 }
 
 impl<'a> Conjugacy<'a> {
-    /// The premise and the goal of the question with this number, 1 to 4: the image, the image of the map back, the way round from
-    /// the first, and that from the second.
+    /// The premise and the goal of the question with this number, 1 to 4: the image, the image of the map back, the
+    /// round trip from the first, and that from the second.
     pub fn part(&self, number: u64) -> Option<(&'a Rule, Goal<'a>)>
         ensures part { IfSome result (λ p. IsPart (conjugacy_of self.now) number p.0.now (goal_of p.0.now p.1)) }
         ensures none { result ≡ None → (x : LocalRule) (g : GoalOf) → ¬ IsPart (conjugacy_of self.now) number x g }

@@ -21,16 +21,16 @@ pub enum QuestionFault {
     /// formed over those of the premise.
     #[error("the goal doesn't fit the premise")]
     Goal,
-    /// The two rules have not the same dimension, nodes and alphabet.
+    /// The two rules differ in dimension, nodes or alphabet.
     #[error("the rules have not the same dimension, nodes and alphabet")]
     Rules,
-    /// A period of the strip isn't 1 to 64, or not 1 past the rule's dimension.
+    /// A period of the strip isn't 1 to 64, or isn't 1 past the rule's dimension.
     #[error("a period of the strip is out of range")]
     Strip,
     /// There isn't one weight of at most 1,000 for each symbol.
     #[error("there isn't one weight of at most 1000 for each symbol")]
     Weights,
-    /// A period of the torus is 0, or not 1 past the rule's dimension, or its fundamental box has more than 65,536 cells.
+    /// A period of the torus is 0, or isn't 1 past the rule's dimension, or its fundamental box has more than 65,536 cells.
     #[error("a period of the torus is out of range")]
     Periods,
     /// The radius of the patterns is over 3.
@@ -45,7 +45,7 @@ pub enum QuestionFault {
     /// The question passes a limit on its work.
     #[error("the question passes a limit on its work")]
     Excess(Excess),
-    /// Memory was wanting.
+    /// Memory ran out.
     #[error("out of memory")]
     Memory,
 }

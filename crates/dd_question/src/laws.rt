@@ -1,4 +1,4 @@
-//! What is known of questions that pass no limit.
+//! What is known about questions that pass no limit.
 ghost use Rattle.std.specs.Prelude.{◌≡◌, None};
 ghost use Rattle.dd_values.specs.declared.limits.Limits.{Limits};
 ghost use Rattle.dd_question.specs.Questions.{Asked, IsFormed, excess_of, IsSoundAsked};

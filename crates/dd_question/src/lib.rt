@@ -1,6 +1,7 @@
-//! Questions about rules: whether a configuration lives in a subshift, whether a subshift holds a goal, whether two are equal, which
-//! patterns are forbidden, and which without a cell too many, whether two maps are inverse to each other, how light a strip
-//! or a torus can be and what a discharge can show; and which of them ask for too much work.
+//! Questions about rules: whether a configuration lives in a subshift, whether a subshift holds a goal, whether two
+//! are equal, which patterns are forbidden, which of those have no cell too many, whether two maps are inverse to
+//! each other, how light a strip or a torus can be, and what a discharge can show. A check says which of them ask for
+//! too much work.
 #![tactic(auto)]
 
 mod aims;

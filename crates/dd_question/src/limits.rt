@@ -35,7 +35,7 @@ fn is_long(alloc: Global, limits: &Limits, premise: &Rule, goal: &Goal) -> Resul
     Ok(clauses > MOST_CLAUSES)
 }
 
-/// Whether one of the four questions has.
+/// Whether one of the four questions has too many clauses.
 fn is_some_long(alloc: Global, limits: &Limits, c: &Conjugacy) -> Result<bool, AllocError>
     requires limits { AreLimits limits.now }
     requires formed { EachPart IsFormedBox (conjugacy_of c.now) }
@@ -75,10 +75,10 @@ fn strip_volume(strip: [u32; 2]) -> u32
 }
 
 impl Question<'_> {
-    /// The limit that the work of the question passes, if any, where box questions are searched within these limits.
+    /// The limit that the work of the question passes, if any, when box questions are searched within these limits.
     ///
     /// # Errors
-    /// `AllocError` where memory was wanting.
+    /// `AllocError` if memory runs out.
     pub fn excess(&self, alloc: Global, limits: &Limits) -> Result<Option<Excess>, AllocError>
         requires limits { AreLimits limits.now }
         requires formed { IsFormed (asked_of self.now) }

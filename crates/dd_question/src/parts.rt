@@ -1,4 +1,4 @@
-//! Whether the parts of a question go together.
+//! Whether the parts of a question fit together.
 ghost use Rattle.std.specs.Prelude.{◌≡◌, ◌≤◌, ◌<◌, ◌↔◌, IsTrue, IfOk, IfErr, OnOk, All};
 ghost use Rattle.dd_values.specs.Bounds.{most_weight};
 ghost use Rattle.dd_expansion.specs.Placed.{is_flat};
@@ -126,7 +126,7 @@ pub(crate) fn check_box(alloc: Global, premise: &Rule, goal: &Goal) -> Result<()
     ensures ok { OnOk result (IsFormed (asked.box premise.now (goal_of premise.now goal.now))) }
     ensures fault { IfErr result (IsPartFault (asked.box premise.now (goal_of premise.now goal.now))) }
 {
-    // Read for what its type keeps.
+    // This read brings in what the type guarantees.
     let _nodes = premise.nodes();
     if !is_goal_for(alloc, premise, goal)? {
         return Err(QuestionFault::Goal);
@@ -194,7 +194,7 @@ pub(crate) fn check_density(
     ensures ok { OnOk result (IsFormed (asked.density rule.now strip weights.now)) }
     ensures fault { IfErr result (IsPartFault (asked.density rule.now strip weights.now)) }
 {
-    // Read for what its type keeps.
+    // This read brings in what the type guarantees.
     let _nodes = rule.nodes();
     if !is_strip(rule, strip) {
         return Err(QuestionFault::Strip);
@@ -232,7 +232,7 @@ fn is_among(vector: &Position, others: &[Position]) -> bool
     others.iter().any(|other| vector.cmp(other).is_eq())
 }
 
-/// Whether no vector is one of those behind it.
+/// Whether no vector comes again later in the list.
 fn are_apart(vectors: &[Position]) -> bool
     ensures { result ≡ are_apart vectors.now }
 {
@@ -253,7 +253,7 @@ fn are_short(dimension: u32, vectors: &[Position]) -> bool
     true
 }
 
-/// Whether amounts may be given along these vectors.
+/// Whether amounts may be sent along these vectors.
 #[tactic(auto, using(crate::proofs::PartLaws::apart_distinct))]
 fn are_vectors(dimension: u32, vectors: &[Position]) -> bool
     ensures { IsTrue result ↔ AreVectors dimension vectors.now }
@@ -275,7 +275,7 @@ pub(crate) fn check_discharge(
     ensures ok { OnOk result (IsFormed (asked.discharge rule.now radius margin vectors.now weights.now)) }
     ensures fault { IfErr result (IsPartFault (asked.discharge rule.now radius margin vectors.now weights.now)) }
 {
-    // Read for what its type keeps.
+    // This read brings in what the type guarantees.
     let _nodes = rule.nodes();
     if radius > WIDEST_RADIUS {
         return Err(QuestionFault::Radius);

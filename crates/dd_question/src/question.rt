@@ -1,11 +1,11 @@
-//! What is asked of rules.
+//! Questions about rules.
 use crate::conjugacy::Conjugacy;
 use dd_boxes::Goal;
 use dd_formula::Rule;
 use dd_lattice::Position;
 use dd_pattern::Periodic;
 
-/// What is asked: of rules and a configuration, over a strip or along vectors, with weights where something is weighed.
+/// A question about rules, with what it needs of a configuration, periods, vectors and weights.
 #[derive(Clone, Copy)]
 pub enum Question<'a> {
     /// Does the configuration live in the rule's subshift?
@@ -35,20 +35,20 @@ pub enum Question<'a> {
     Conjugacy {
         conjugacy: Conjugacy<'a>,
     },
-    /// What do the configurations with these periods in the axes after the first weigh at least a position?
+    /// What is the least weight per position of the configurations with these periods along the axes after the first?
     Density {
         rule: &'a Rule,
         strip: [u32; 2],
         weights: &'a [u32],
     },
-    /// What does a fundamental box with these periods and no shear weigh at least?
+    /// What is the least weight of a fundamental box with these periods and no shear?
     Least {
         rule: &'a Rule,
         periods: [u32; 3],
         weights: &'a [u32],
     },
-    /// What can each position hold at least, once each has given along these vectors amounts that the pattern of this radius
-    /// around it determines, on a domain grown by this margin?
+    /// How much does each position hold at least, after each has sent amounts along these vectors? The pattern of
+    /// this radius around a position determines what it sends. The domain is grown by this margin.
     Discharge {
         rule: &'a Rule,
         radius: u32,

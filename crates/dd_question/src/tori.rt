@@ -5,9 +5,10 @@ ghost use Rattle.dd_pattern.specs.Tile.{most_symbols};
 ghost use Rattle.dd_expansion.specs.Limits.{greatest};
 ghost use Rattle.dd_formula.specs.Counts.{cut};
 ghost use Rattle.dd_boxes.specs.Counts.{most_clauses};
+ghost use Rattle.dd_boxes.specs.TorusPeriods.{AreTorusPeriods};
 ghost use Rattle.dd_question.specs.Questions as asked;
 ghost use Rattle.dd_question.specs.Questions.{IsFormed, IsPartFault};
-ghost use Rattle.dd_question.specs.Tori.{positions_in, cells_in, IsTorus, weight_clauses, is_heavy};
+ghost use Rattle.dd_question.specs.Tori.{positions_in, cells_in, weight_clauses, is_heavy};
 
 use crate::aims::MOST_CLAUSES;
 use crate::fault::QuestionFault;
@@ -18,7 +19,7 @@ use dd_formula::{Rule, plus, times};
 /// The greatest number of cells of a fundamental box.
 const MOST_CELLS: u32 = 65_536;
 
-/// The positions of the fundamental box, or `limit + 1` where they pass the limit, which is below 2^31.
+/// The positions of the fundamental box, or `limit + 1` if they pass the limit, which is below 2^31.
 fn positions_in(limit: u32, periods: [u32; 3]) -> u32
     requires { limit < 2 ^ 31 }
     ensures { result ≡ cut limit (positions_in periods) }
@@ -27,7 +28,7 @@ fn positions_in(limit: u32, periods: [u32; 3]) -> u32
     times(limit, times(limit, z, y), x)
 }
 
-/// Its cells, cut off alike.
+/// The cells of the fundamental box, cut off in the same way.
 fn cells_in(limit: u32, rule: &Rule, periods: [u32; 3]) -> u32
     requires { limit < 2 ^ 31 }
     ensures { result ≡ cut limit (cells_in rule.now periods) }
@@ -35,7 +36,7 @@ fn cells_in(limit: u32, rule: &Rule, periods: [u32; 3]) -> u32
     times(limit, positions_in(limit, periods), rule.nodes())
 }
 
-/// Whether these are periods of a torus in so many dimensions.
+/// Whether these are periods of a torus of this dimension.
 fn are_periods(dimension: u32, periods: [u32; 3]) -> bool
     ensures { IsTrue result ↔ ArePeriodsIn dimension (periods_of periods 0) }
 {
@@ -45,7 +46,7 @@ fn are_periods(dimension: u32, periods: [u32; 3]) -> bool
 
 /// Whether the rule may have a torus with these periods.
 fn is_torus(rule: &Rule, periods: [u32; 3]) -> bool
-    ensures { IsTrue result ↔ IsTorus rule.now periods }
+    ensures { IsTrue result ↔ AreTorusPeriods rule.now.dimension rule.now.nodes (periods_of periods 0) }
 {
     are_periods(rule.dim(), periods) && cells_in(MOST_CELLS, rule, periods) <= MOST_CELLS
 }
@@ -59,7 +60,7 @@ pub(crate) fn check_least(
     ensures ok { OnOk result (IsFormed (asked.least rule.now periods weights.now)) }
     ensures fault { IfErr result (IsPartFault (asked.least rule.now periods weights.now)) }
 {
-    // Read for what its type keeps.
+    // This read brings in what the type guarantees.
     let _nodes = rule.nodes();
     if !is_torus(rule, periods) {
         return Err(QuestionFault::Periods);
@@ -94,7 +95,7 @@ fn weight_clauses(rule: &Rule, periods: [u32; 3], weights: &[u32]) -> u32
     plus(MOST_CLAUSES, plus(MOST_CLAUSES, torus, gates), 1)
 }
 
-/// Whether these pass 2,000,000.
+/// Whether these clauses are more than 2,000,000.
 pub(crate) fn is_heavy(rule: &Rule, periods: [u32; 3], weights: &[u32]) -> bool
     requires { length weights.now ≡ rule.now.symbols }
     ensures { result ≡ is_heavy rule.now periods weights.now }

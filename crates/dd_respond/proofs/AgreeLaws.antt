@@ -1,53 +1,37 @@
--- Two right answers to a question differ in their evidence alone: a least radius, first periods and a first cell are one.
+-- Two right answers to a question differ only in their evidence: there is one least radius, one first period, one first cell.
 use Rattle.std.proofs.Common.{◌≡◌, ℕ, ◌≤◌, List, [], ◌∷◌, refl, ap, sym, subst, ◌∙◌, arith, inl, inr}
-use Rattle.std.specs.Prelude.{◌⊎◌, max}
-use Rattle.std.specs.Ordering.{ordering_then, nat_cmp}
-use Rattle.std.proofs.lemmas.Map.Lookups.{exact_unsigned}
-use Rattle.std.specs.declared.cmp.Ordering.{Ordering}
+use Rattle.std.proofs.lemmas.{Bool.cases_order, Cmp.nat_cmp_total, Cmp.on_total, Cmp.then_total}
+use Rattle.std.specs.{Prelude.◌⊎◌, Prelude.max, declared.cmp.Ordering.Ordering}
 use Rattle.std.specs.declared.cmp.Ordering.TheVariants.{Less, Equal, Greater}
 use Rattle.std.specs.Cmp.{IsTotalOrder}
-use Rattle.std.proofs.lemmas.Bool.{cases_order}
-use Rattle.std.proofs.lemmas.Cmp.{nat_cmp_total, on_total, then_total}
-use Rattle.dd_derivation.specs.Derivations.{IsRefuting}
-use Rattle.dd_derivation.specs.declared.step.Step.{Step}
+use Rattle.dd_derivation.specs.{Derivations.IsRefuting, declared.step.Step.Step}
 use Rattle.dd_problem.specs.Problems.{box_problem}
 use Rattle.dd_lattice.specs.Place.{Place}
 use Rattle.dd_discharge.specs.Outcomes.{HasOneOutcome}
-use Rattle.dd_pattern.specs.declared.periods.Periods.{Periods}
-use Rattle.dd_pattern.specs.Periods.{periods_volume, periods_cmp, IsBefore}
-use Rattle.dd_pattern.specs.Tile.{Tile, IsTile}
-use Rattle.dd_formula.specs.LocalRule.{LocalRule}
-use Rattle.dd_formula.specs.Living.{Fits}
-use Rattle.dd_formula.specs.lemmas.FirstCells.{not_both, first_cell}
+use Rattle.dd_pattern.specs.{declared.periods.Periods.Periods, Periods.periods_volume, Periods.periods_cmp, Periods.IsBefore}
+use Rattle.dd_pattern.specs.{Tile.Tile, Tile.IsTile, lemmas.PeriodsLaws.periods_equal}
+use Rattle.dd_formula.specs.{LocalRule.LocalRule, Living.Fits, lemmas.FirstCells.not_both, lemmas.FirstCells.first_cell}
 use Rattle.dd_values.specs.declared.limits.Limits.{Limits}
-use Rattle.dd_boxes.specs.Goals.{GoalOf, breaks}
-use Rattle.dd_boxes.specs.Boxes.{Suffices}
-use Rattle.dd_certificate.specs.declared.answer.Listed.{Listed}
-use Rattle.dd_certificate.specs.declared.answer.Starred.{Starred}
-use Rattle.dd_certificate.specs.declared.answer.Answer.{Answer}
-use Rattle.dd_certificate.specs.declared.answer.Answer.TheVariants as answer
-use Rattle.dd_certificate.specs.declared.answer.Reason.TheVariants as reason
+use Rattle.dd_boxes.specs.{Goals.GoalOf, Goals.breaks, Boxes.Suffices}
+use Rattle.dd_certificate.specs.declared.answer.{Listed.Listed, Starred.Starred, Answer.Answer}
 use Rattle.dd_certificate.specs.Text.{answer_line}
-use Rattle.dd_contain.specs.declared.decision.Decision.{Decision}
-use Rattle.dd_contain.specs.declared.decision.Decision.TheVariants as decision
-use Rattle.dd_contain.specs.declared.equal.Equality.{Equality}
+use Rattle.dd_contain.specs.declared.{decision.Decision.Decision, equal.Equality.Equality}
 use Rattle.dd_contain.specs.Decided.{IsLeast, IsFirst, IsDecidedBy}
-use Rattle.dd_contain.specs.Questions.{ShowsAt, Displays, IsDecided}
-use Rattle.dd_contain.specs.Equal.{joined, UnlessNo, IsEqualDecided}
-use Rattle.dd_question.specs.Questions.{Asked, IsSoundAsked}
-use Rattle.dd_question.specs.Questions as asked
-use Rattle.dd_question.specs.Conjugacies.{ConjugacyOf}
-use Rattle.dd_evidence.specs.Cells.{written_cell}
-use Rattle.dd_evidence.specs.Lists.{IsForbiddenList, IsStarredList}
+use Rattle.dd_contain.specs.{Questions.ShowsAt, Questions.Displays, Questions.IsDecided, Equal.joined, Equal.UnlessNo, Equal.IsEqualDecided}
+use Rattle.dd_question.specs.{Questions.Asked, Questions.IsSoundAsked, Conjugacies.ConjugacyOf, lemmas.PartLaws.part_within}
+use Rattle.dd_evidence.specs.{Cells.written_cell, Lists.IsForbiddenList, Lists.IsStarredList}
 use Rattle.dd_evidence.specs.Answers.{IsMemberCertificate, member_inside, member_outside, IsListCertificate, all_forbidden, IsMinimalCertificate, all_minimal}
 use Rattle.dd_respond.specs.Right.{IsRightTo, IsRightBox, IsRightEqual, written_decision, written_equality, is_unknown}
 use Rattle.dd_respond.specs.Conjugacies.{ComesTo, IsNoAt, written_broken, IsRightConjugacy, first_no, all_yes, some_open}
 use Rattle.dd_respond.specs.Laws.{SayTheSame}
-use Rattle.dd_respond.proofs.Parts.{at_each, part_within}
-use Rattle.dd_respond.proofs.Weighing.{least_agree}
+use Rattle.dd_respond.proofs.{Parts.at_each, Weighing.least_agree}
 use Rattle.dd_respond.proofs.Measuring.{IsOneDensity, density_agree, discharge_agree}
+use Rattle.dd_certificate.specs.declared.answer.Answer.TheVariants as answer
+use Rattle.dd_certificate.specs.declared.answer.Reason.TheVariants as reason
+use Rattle.dd_contain.specs.declared.decision.Decision.TheVariants as decision
+use Rattle.dd_question.specs.Questions as asked
 
--- ---- the least and the first are one
+-- ---- there is only one least and only one first
 
 least_one : (S : ℕ → Type 0) (low high n m : ℕ) → IsLeast S low high n → IsLeast S low high m → n ≡ m
 least_one S low high n m one other = elim (cases_order n m) [
@@ -57,31 +41,6 @@ least_one S low high n m one other = elim (cases_order n m) [
     | inr more ↦ absurd (one.first m other.low more other.holds)
   ])
 ]
-
--- periods that compare equal are equal
-both_equal : (a b : Ordering) → ordering_then a b ≡ Equal → (a ≡ Equal) × (b ≡ Equal)
-both_equal Less b h = absurd (cc)
-both_equal Equal b h = (refl, h)
-both_equal Greater b h = absurd (cc)
-
-abbrev sheared : ℕ → ℕ → ℕ → ℕ → Periods
-sheared x y z shear = record { x = x; y = y; z = z; shear = shear }
-
-periods_equal : (p q : Periods) → periods_cmp p q ≡ Equal → p ≡ q
-periods_equal p q h =
-    let sizes = nat_cmp (periods_volume p) (periods_volume q) in
-    let xs = nat_cmp p.x q.x in
-    let ys = nat_cmp p.y q.y in
-    let zs = nat_cmp p.z q.z in
-    let all = both_equal (ordering_then (ordering_then (ordering_then sizes xs) ys) zs) (nat_cmp p.shear q.shear) h in
-    let to_z = both_equal (ordering_then (ordering_then sizes xs) ys) zs all.0 in
-    let to_y = both_equal (ordering_then sizes xs) ys to_z.0 in
-    let to_x = both_equal sizes xs to_y.0 in
-    let x = exact_unsigned p.x q.x to_x.1 in
-    let y = exact_unsigned p.y q.y to_y.1 in
-    let z = exact_unsigned p.z q.z to_z.1 in
-    let shear = exact_unsigned p.shear q.shear all.1 in
-    ap (λ a. sheared a p.y p.z p.shear) x ∙ (ap (λ b. sheared q.x b p.z p.shear) y ∙ (ap (λ c. sheared q.x q.y c p.shear) z ∙ ap (λ d. sheared q.x q.y q.z d) shear))
 
 periods_total : IsTotalOrder periods_cmp
 periods_total =
@@ -200,7 +159,7 @@ unless_bare (decision.Yes n steps) P = refl
 unless_bare (decision.No t) P = refl
 unless_bare decision.Unknown P = refl
 
--- where the left decision is NO the right one does not matter
+-- if the left decision is NO, the right one does not matter
 joined_bare : (l r k : Decision) → UnlessNo l (bare r ≡ bare k) → joined (bare l) (bare r) ≡ joined (bare l) (bare k)
 joined_bare (decision.No t) r k same = refl
 joined_bare (decision.Yes n steps) r k same = ap (joined (decision.Yes n [])) same
@@ -244,7 +203,7 @@ equal_agree l x y a b h k =
 -- ---- the answers of conjugacies
 
 module _ (l : Limits) (c : ConjugacyOf) where
-  -- a question comes to one kind of decision, one radius and the same periods
+  -- two decisions of a question are of the same kind, with the same radius or the same periods
   comes_alike : (k : ℕ) (d e : Decision) → ComesTo l c k d → ComesTo l c k e → bare d ≡ bare e
   comes_alike k d e h m =
       let same : ◌≡◌ {A = LocalRule × GoalOf} (m.premise, m.goal) (h.premise, h.goal) = cc (h.is_part.1, m.is_part.1) in
@@ -263,7 +222,7 @@ module _ (l : Limits) (c : ConjugacyOf) where
   one_radius : (k n m : ℕ) (s t : List Step) → ComesTo l c k (decision.Yes n s) → ComesTo l c k (decision.Yes m t) → n ≡ m
   one_radius k n m s t h i = let same : decision.Yes n [] ≡ decision.Yes m [] = comes_alike k _ _ h i in cc same
 
-  -- NO of a question, as it is answered
+  -- the answer if a question is answered NO
   abbrev broken_by : ℕ → Decision → Answer
   broken_by k (decision.Yes n s) = answer.Unknown reason.Limits
   broken_by k (decision.No t) = written_broken k t

@@ -1,4 +1,4 @@
--- From what the questions of a conjugacy come to, one after the other, to the answer.
+-- From the answers of the four questions of a conjugacy to its answer.
 use Rattle.std.proofs.Common.{◌≡◌, ℕ, ◌+◌, ◌≤◌, ◌<◌, Bool, true, false, List, [], ◌∷◌, ◌++◌, length, All, refl, sym, subst, ◌∙◌, arith, add-one, inl, inr}
 use Rattle.std.proofs.lemmas.Bool.{cases_lt, false≢true}
 use Rattle.std.proofs.lemmas.List.Elements.{All-nil, All-cons, All-append}
@@ -6,19 +6,18 @@ use Rattle.dd_derivation.specs.declared.step.Step.{Step}
 use Rattle.dd_pattern.specs.Tile.{Tile}
 use Rattle.dd_values.specs.declared.limits.Limits.{Limits}
 use Rattle.dd_certificate.specs.Bounds.{IsWritable, IsWritableNumber, IsWritableRefutation}
-use Rattle.dd_contain.specs.declared.decision.Decision.TheVariants as decision
 use Rattle.dd_question.specs.Conjugacies.{ConjugacyOf}
 use Rattle.dd_respond.specs.Conjugacies.{ComesTo, IsNoAt, written_broken, IsRightConjugacy, first_no, all_yes, some_open}
-use Rattle.dd_respond.specs.declared.conjugacies.Findings.{Findings}
-use Rattle.dd_respond.specs.declared.conjugacies.Failed.{Failed}
+use Rattle.dd_respond.specs.declared.conjugacies.{Findings.Findings, Failed.Failed}
 use Rattle.dd_respond.specs.joining.Findings.{AreYes, none_yet, one_more, AreFound, IsFailed, written_findings}
 use Rattle.dd_respond.proofs.AgreeLaws.{yes_not_no, unknown_not_no}
+use Rattle.dd_contain.specs.declared.decision.Decision.TheVariants as decision
 
--- an item more
+-- one item more
 all_more : {A : Type 0} (P : A → Type 0) (xs : List A) (x : A) → All P xs → P x → All P (xs ++ x ∷ [])
 all_more P xs x all one = All-append P xs (x ∷ []) all (All-cons P x [] one (All-nil P))
 
--- below the next number
+-- from all numbers below one to those below the next
 none_more : (P : ℕ → Type 0) (number : ℕ) → ((k : ℕ) → 1 ≤ k → k < number → P k → ⊥) → (P number → ⊥) → (k : ℕ) → 1 ≤ k → k < number + 1 → P k → ⊥
 none_more P number none never k low below holds = elim (cases_lt k number) [
   | inl before ↦ none k low before holds

@@ -1,33 +1,23 @@
--- Right answers about least densities and discharging: they are so, an output can hold them, and they have one line.
+-- Answers about least densities and discharging: they are right, an output can hold them, and they have one first line.
 use Rattle.std.proofs.Common.{◌≡◌, ℕ, ◌+◌, ◌*◌, ◌≤◌, List, refl, ap, arith, ℤ, inl, inr}
-use Rattle.std.specs.Int.{IsGcd}
 use Rattle.std.proofs.Math.Nat.{one-le-pow}
+use Rattle.std.specs.Int.{IsGcd}
 use Rattle.dd_lattice.specs.Place.{Place}
 use Rattle.dd_expansion.specs.Limits.{greatest}
 use Rattle.dd_formula.specs.LocalRule.{LocalRule, IsRule}
 use Rattle.dd_counts.specs.Rules.{window, slices, states}
-use Rattle.dd_strip.specs.declared.strip.Strip.{Strip}
-use Rattle.dd_strip.specs.Strips.{positions, IsStrip, strip_for}
+use Rattle.dd_strip.specs.{declared.strip.Strip.Strip, Strips.positions, Strips.IsStrip, Strips.strip_for}
 use Rattle.dd_transfer.specs.Certificates.{IsDensityCertificate, IsEmptyCertificate}
-use Rattle.dd_strips.specs.Strips.{IsLeastDensity}
-use Rattle.dd_strips.specs.Claims.{StripLeast, StripEmpty, spread_of}
-use Rattle.dd_density.specs.declared.answer.Density.{Density}
-use Rattle.dd_density.specs.declared.answer.Density.TheVariants as density
-use Rattle.dd_density.specs.Densities.{IsCertifiedDensity, IsSmallDensity}
-use Rattle.dd_discharge.specs.declared.bound.Bound.{Bound}
-use Rattle.dd_discharge.specs.declared.fault.DischargeFault.{DischargeFault}
-use Rattle.dd_discharge.specs.Printed.{IsSmallBound}
-use Rattle.dd_discharge.specs.Bounds.{IsDischargeFault}
-use Rattle.dd_discharge.specs.Outcomes.{HasOneOutcome}
+use Rattle.dd_strips.specs.{Strips.IsLeastDensity, Claims.StripLeast, Claims.StripEmpty, Claims.spread_of}
+use Rattle.dd_density.specs.{declared.answer.Density.Density, Densities.IsCertifiedDensity, Densities.IsSmallDensity}
+use Rattle.dd_discharge.specs.{declared.bound.Bound.Bound, declared.fault.DischargeFault.DischargeFault, Printed.IsSmallBound}
+use Rattle.dd_discharge.specs.{Bounds.IsDischargeFault, Outcomes.HasOneOutcome}
 use Rattle.dd_question.specs.Densities.{IsNarrow}
-use Rattle.dd_certificate.specs.declared.answer.Reason.{Reason}
-use Rattle.dd_certificate.specs.declared.answer.Answer.{Answer}
-use Rattle.dd_certificate.specs.declared.answer.Answer.TheVariants as answer
-use Rattle.dd_certificate.specs.Bounds.{IsWritable}
-use Rattle.dd_certificate.specs.Text.{answer_line}
+use Rattle.dd_certificate.specs.{declared.answer.Reason.Reason, declared.answer.Answer.Answer, Bounds.IsWritable, Text.answer_line}
 use Rattle.dd_respond.specs.Bounds.{written_density, written_bound, IsRightDensity, right_least, right_empty, IsReasonOf, for_large, for_overflow, for_pivots, IsRightDischarge, right_bound, is_large, overflows, used_up}
-use Rattle.dd_respond.specs.Right.{is_unknown}
-use Rattle.dd_respond.specs.Laws.{SayTheSame}
+use Rattle.dd_respond.specs.{Right.is_unknown, Laws.SayTheSame}
+use Rattle.dd_density.specs.declared.answer.Density.TheVariants as density
+use Rattle.dd_certificate.specs.declared.answer.Answer.TheVariants as answer
 
 -- ---- least densities
 
@@ -101,7 +91,7 @@ module _ (x : LocalRule) (radius margin : ℕ) (vs : List Place) (ws : List ℕ)
   reason_right f r h for_pivots = used_up h
 
   module _ (one : HasOneOutcome x ws radius margin vs pivots) where
-    -- there is one right answer only
+    -- there is only one right answer
     one_answer : (a b : Answer) → IsRightDischarge x radius margin vs ws pivots a → IsRightDischarge x radius margin vs ws pivots b → a ≡ b
     one_answer a b (right_bound h c) (right_bound k d) = ap written_bound (one.one_bound _ _ h k)
     one_answer a b (right_bound h c) (is_large k) = absurd (one.not_large _ h k)

@@ -1,11 +1,10 @@
 -- The four questions of a conjugacy.
-use Rattle.std.proofs.Common.{◌≡◌, ℕ, zero, suc, ◌-◌, ◌≤◌, ◌<◌, Option, Some, refl, subst, arith}
-use Rattle.std.proofs.lemmas.Option.{slice_get_within}
+use Rattle.std.proofs.Common.{◌≡◌, ℕ, zero, suc, ◌≤◌, Option, Some, refl, subst, arith}
 use Rattle.dd_formula.specs.LocalRule.{LocalRule}
 use Rattle.dd_boxes.specs.Goals.{GoalOf}
-use Rattle.dd_question.specs.Conjugacies.{ConjugacyOf, parts, IsPart, EachPart}
+use Rattle.dd_question.specs.{Conjugacies.ConjugacyOf, Conjugacies.IsPart, Conjugacies.EachPart, lemmas.PartLaws.part_within}
 
--- what holds of each of the numbers
+-- what holds of each of the four numbers holds of k
 pub at_each : (P : ℕ → Type 0) (k : ℕ) → 1 ≤ k → k ≤ 4 → P 1 → P 2 → P 3 → P 4 → P k
 at_each P zero low high one two three four = absurd (omega (arith, low))
 at_each P (suc zero) low high one two three four = one
@@ -13,11 +12,6 @@ at_each P (suc (suc zero)) low high one two three four = two
 at_each P (suc (suc (suc zero))) low high one two three four = three
 at_each P (suc (suc (suc (suc zero)))) low high one two three four = four
 at_each P (suc (suc (suc (suc (suc k))))) low high one two three four = absurd (omega (arith, high))
-
-pub part_within : (c : ConjugacyOf) (k : ℕ) (x : LocalRule) (g : GoalOf) → IsPart c k x g → k ≤ 4
-part_within c k x g part =
-    let within : k - 1 < 4 = slice_get_within (parts c) (k - 1) (x, g) part.1 in
-    omega (arith, within)
 
 pub some_part : (c : ConjugacyOf) (k : ℕ) → 1 ≤ k → k ≤ 4 → (x : LocalRule) × (g : GoalOf) × IsPart c k x g
 some_part c k low high =

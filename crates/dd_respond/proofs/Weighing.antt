@@ -1,29 +1,24 @@
--- Right answers to how little a fundamental box can weigh: they are so, an output can hold them, and they have one line.
+-- Answers to how little a fundamental box can weigh: they are right, an output can hold them, and they have one first line.
 use Rattle.std.proofs.Common.{◌≡◌, ℕ, suc, ◌+◌, ◌*◌, ◌≤◌, true, List, length, refl, ap, arith, inl, inr}
-use Rattle.std.proofs.lemmas.Nat.{mul-le}
-use Rattle.std.proofs.lemmas.Bool.{cases_lt}
+use Rattle.std.proofs.lemmas.{Nat.mul-le, Bool.cases_lt}
 use Rattle.dd_values.specs.Bounds.{most_variables}
 use Rattle.dd_clause.specs.declared.clause.Literal.{Literal}
-use Rattle.dd_derivation.specs.declared.step.Step.{Step}
-use Rattle.dd_derivation.specs.Derivations.{refutes}
-use Rattle.dd_pattern.specs.Periods.{periods_of, periods_volume}
-use Rattle.dd_pattern.specs.Tile.{Tile}
+use Rattle.dd_derivation.specs.{declared.step.Step.Step, Derivations.refutes}
+use Rattle.dd_pattern.specs.{Periods.periods_of, Periods.periods_volume, Tile.Tile}
 use Rattle.dd_formula.specs.LocalRule.{LocalRule, IsRule}
-use Rattle.dd_counter.specs.declared.least.LeastWeight.{LeastWeight}
-use Rattle.dd_counter.specs.declared.least.LeastWeight.TheVariants as least
-use Rattle.dd_counter.specs.Weights.{weight_problem}
+use Rattle.dd_counter.specs.{declared.least.LeastWeight.LeastWeight, Weights.weight_problem}
 use Rattle.dd_counter.specs.Least.{greatest, LeastOn, IsLeastShown, IsRefutedBelow, IsLeast}
-use Rattle.dd_counter.specs.lemmas.Rooms.{cells_some, size_is}
-use Rattle.dd_counter.specs.lemmas.Counted.{weight_most}
+use Rattle.dd_counter.specs.lemmas.{Rooms.cells_some, Counted.weight_most}
 use Rattle.dd_certificate.specs.declared.answer.Answer.{Answer}
-use Rattle.dd_certificate.specs.declared.answer.Answer.TheVariants as answer
 use Rattle.dd_certificate.specs.Bounds.{IsWritable, IsWritableNumber, IsWritableList, IsWritableBelow, IsWritableRefutation, most_count}
 use Rattle.dd_certificate.specs.Text.{answer_line}
 use Rattle.dd_question.specs.Tori.{IsWeighable}
-use Rattle.dd_respond.specs.Laws.{SayTheSame}
-use Rattle.dd_respond.specs.Tori.{written_weight, IsRightLeast, has_least, has_none}
+use Rattle.dd_respond.specs.{Laws.SayTheSame, Tori.written_weight, Tori.IsRightLeast, Tori.has_least, Tori.has_none}
+use Rattle.dd_problem.specs.lemmas.SymbolLaws.{size_is}
+use Rattle.dd_counter.specs.declared.least.LeastWeight.TheVariants as least
+use Rattle.dd_certificate.specs.declared.answer.Answer.TheVariants as answer
 
--- ---- there is one least weight
+-- ---- there is only one least weight
 
 least_one : (x : LocalRule) (along ws : List ℕ) (v w : ℕ) → LeastOn x (periods_of along 0) ws v → LeastOn x (periods_of along 0) ws w → v ≡ w
 least_one x along ws v w one two =
@@ -53,7 +48,7 @@ RefutationsFit =
     (n : ℕ) (clauses : List (List Literal)) (steps : List Step) → refutes n clauses steps ≡ true → n ≤ most_variables →
     length clauses + length steps ≤ most_count → IsWritableRefutation steps
 
--- what the clauses of a torus count bounds the greatest weight of its configurations
+-- the size of a torus's clauses bounds the greatest weight of its configurations
 weight_small : (cells weight rest : ℕ) → 1 ≤ cells → cells * (weight * suc rest) ≤ 2000000 → weight ≤ 2000000
 weight_small cells weight rest some few =
     let one = mul-le 1 (weight * suc rest) cells (weight * suc rest) some (omega arith) in
@@ -62,10 +57,10 @@ weight_small cells weight rest some few =
 
 module _ (fit : RefutationsFit) (x : LocalRule) (along ws : List ℕ) (rule : IsRule x) (weighable : IsWeighable x along ws) where
   some_cell : 1 ≤ periods_volume (periods_of along 0) * x.nodes
-  some_cell = let torus = weighable.torus in cells_some x (periods_of along 0) rule (record { periods = torus.periods; few = torus.few })
+  some_cell = cells_some x (periods_of along 0) rule weighable.torus
 
   refuted_fits : (w : ℕ) (steps : List Step) → IsRefutedBelow x (periods_of along 0) ws w steps → IsWritableRefutation steps
-  refuted_fits w steps h = fit (weight_problem x (periods_of along 0) ws w).variables (weight_problem x (periods_of along 0) ws w).clauses steps h.refuting h.variables h.numbers
+  refuted_fits w steps h = fit (weight_problem x (periods_of along 0) ws w).variables (weight_problem x (periods_of along 0) ws w).clauses steps h.refuting h.numbered.variables h.numbered.numbers
 
   below_fits : (w : ℕ) (t : Tile) (steps : List Step) → IsLeastShown x (periods_of along 0) ws w t steps → IsWritableBelow w steps
   below_fits w t steps h = elim (cases_lt 0 w) as (λ _. IsWritableBelow w steps) [

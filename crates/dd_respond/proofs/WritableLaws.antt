@@ -1,19 +1,17 @@
--- An output can hold each right answer to a box question: the steps are those of a refutation.
+-- An output can hold each right answer to a box question: its steps are those of a refutation.
 use Rattle.std.proofs.Common.{◌≡◌, ℕ, ◌+◌, ◌≤◌, true, List, length, sym, subst}
 use Rattle.dd_values.specs.Bounds.{most_variables}
 use Rattle.dd_clause.specs.declared.clause.Literal.{Literal}
-use Rattle.dd_derivation.specs.declared.step.Step.{Step}
-use Rattle.dd_derivation.specs.Derivations.{refutes}
+use Rattle.dd_derivation.specs.{declared.step.Step.Step, Derivations.refutes}
 use Rattle.dd_formula.specs.LocalRule.{LocalRule}
 use Rattle.dd_boxes.specs.Goals.{GoalOf, breaks}
 use Rattle.dd_problem.specs.Problems.{box_problem}
 use Rattle.dd_certificate.specs.Bounds.{IsWritableRefutation, most_count}
-use Rattle.dd_contain.specs.declared.decision.Decision.{Decision}
-use Rattle.dd_contain.specs.declared.decision.Decision.TheVariants as decision
-use Rattle.dd_contain.specs.declared.equal.Equality.{Equality}
+use Rattle.dd_contain.specs.declared.{decision.Decision.Decision, equal.Equality.Equality}
 use Rattle.dd_contain.specs.Questions.{IsDecided, HasNumbers}
 use Rattle.dd_contain.specs.Equal.{joined, UnlessNo, IsEqualDecided, HasBothNumbers}
 use Rattle.dd_respond.specs.Writable.{IsWritableDecision, IsWritableEquality}
+use Rattle.dd_contain.specs.declared.decision.Decision.TheVariants as decision
 
 -- an output can hold the steps of refutations with few variables
 abbrev RefutationsFit : Type 0

@@ -1,4 +1,4 @@
--- Which questions engines are asked, and what is seen of a roster then.
+-- Which questions are put to engines, and what happens to the roster.
 use Rattle.std.specs.Prelude.{◌≡◌, List, IsTrue}
 use Rattle.dd_engines.specs.Rounds.{Seen, FirstAsked}
 use Rattle.dd_question.specs.Questions.{Asked, is_box_question}
@@ -7,8 +7,8 @@ use Rattle.dd_question.specs.Questions.{Asked, is_box_question}
 abbrev pub IsBoxQuestion : Asked → Type 0
 IsBoxQuestion k = IsTrue (is_box_question k)
 
--- Where engines are to be asked, they are kept and the first one that is left, if one is left, was asked since; elsewhere nothing
--- is seen of them.
+-- If the question is put to engines, the sound ones are kept and the first that is left, if any, was asked. Otherwise the roster
+-- is unchanged.
 pub record Engages (asks : Type 0) (before after : List Seen) : Type 0 where
   pub first : asks → FirstAsked before after
   pub nobody : (asks → ⊥) → after ≡ before

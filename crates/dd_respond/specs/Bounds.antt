@@ -6,26 +6,22 @@ use Rattle.dd_strip.specs.Strips.{strip_for}
 use Rattle.dd_transfer.specs.Certificates.{IsDensityCertificate, IsEmptyCertificate}
 use Rattle.dd_strips.specs.Strips.{IsLeastDensity, LivesNowhere}
 use Rattle.dd_density.specs.declared.answer.Density.{Density}
+use Rattle.dd_discharge.specs.{declared.bound.Bound.Bound, declared.fault.DischargeFault.DischargeFault, Amounts.bound_claimed}
+use Rattle.dd_discharge.specs.{Bounds.IsBoundOf, Bounds.IsDischargeFault, Certificates.IsBoundCertificate}
+use Rattle.dd_certificate.specs.declared.answer.{Reason.Reason, Answer.Answer}
 use Rattle.dd_density.specs.declared.answer.Density.TheVariants as density
-use Rattle.dd_discharge.specs.declared.bound.Bound.{Bound}
-use Rattle.dd_discharge.specs.declared.fault.DischargeFault.{DischargeFault}
 use Rattle.dd_discharge.specs.declared.fault.DischargeFault.TheVariants as fault
-use Rattle.dd_discharge.specs.Amounts.{bound_claimed}
-use Rattle.dd_discharge.specs.Bounds.{IsBoundOf, IsDischargeFault}
-use Rattle.dd_discharge.specs.Certificates.{IsBoundCertificate}
-use Rattle.dd_certificate.specs.declared.answer.Reason.{Reason}
 use Rattle.dd_certificate.specs.declared.answer.Reason.TheVariants as reason
-use Rattle.dd_certificate.specs.declared.answer.Answer.{Answer}
 use Rattle.dd_certificate.specs.declared.answer.Answer.TheVariants as answer
 
 -- ---- least densities
 
--- a least density, or that there is none, as it is answered
+-- the answer for a least density, or for an empty strip
 abbrev pub written_density : Density → Answer
 written_density (density.Least p q walk potentials) = answer.Density p q walk potentials
 written_density (density.Empty ranks) = answer.Empty ranks
 
--- the least density, or that no configuration lives on the strip, with what shows it; the answer is always definite
+-- the least density, or that no configuration lives on the strip, each with its evidence; the answer is always definite
 pub data IsRightDensity (x : LocalRule) (strip ws : List ℕ) : Answer → Type 0 where
   right_least : {p q : ℕ} {cycle : List ℕ} {potentials : List ℤ} → IsLeastDensity x (strip_for x strip) ws p q →
       IsDensityCertificate x (strip_for x strip) ws p q cycle potentials → IsRightDensity x strip ws (answer.Density p q cycle potentials)
@@ -33,17 +29,17 @@ pub data IsRightDensity (x : LocalRule) (strip ws : List ℕ) : Answer → Type 
 
 -- ---- discharging
 
--- a bound as it is answered
+-- the answer for a bound
 abbrev pub written_bound : Bound → Answer
 written_bound b = answer.Bound b.numerator b.denominator b.common b.amounts b.duals
 
--- why there is no bound, as it is answered
+-- the answer for each reason why there is no bound
 pub data IsReasonOf : DischargeFault → Reason → Type 0 where
   for_large : IsReasonOf fault.Large reason.Large
   for_overflow : IsReasonOf fault.Overflow reason.Overflow
   for_pivots : IsReasonOf fault.Pivots reason.Pivots
 
--- the bound with which the run of the program ends, with what shows that it is the best; or the reason why there is none
+-- the bound with which the run of the program ends, with evidence that it is the best; or the reason why there is none
 pub data IsRightDischarge (x : LocalRule) (radius margin : ℕ) (vs : List Place) (ws : List ℕ) (pivots : ℕ) : Answer → Type 0 where
   right_bound : {p q n : ℕ} {amounts duals : List ℕ} → IsBoundOf x ws radius margin vs pivots (bound_claimed p q n amounts duals) →
       IsBoundCertificate x ws radius margin vs (bound_claimed p q n amounts duals) → IsRightDischarge x radius margin vs ws pivots (answer.Bound p q n amounts duals)

@@ -6,32 +6,30 @@ use Rattle.dd_formula.specs.LocalRule.{LocalRule}
 use Rattle.dd_values.specs.declared.limits.Limits.{Limits}
 use Rattle.dd_boxes.specs.Goals.{GoalOf}
 use Rattle.dd_certificate.specs.declared.answer.Answer.{Answer}
-use Rattle.dd_certificate.specs.declared.answer.Answer.TheVariants as answer
-use Rattle.dd_certificate.specs.declared.answer.Reason.TheVariants as reason
-use Rattle.dd_contain.specs.declared.decision.Decision.{Decision}
-use Rattle.dd_contain.specs.declared.decision.Decision.TheVariants as decision
-use Rattle.dd_contain.specs.Decided.{IsLeast, NoneIn}
-use Rattle.dd_contain.specs.Questions.{IsDecided}
+use Rattle.dd_contain.specs.{declared.decision.Decision.Decision, Decided.IsLeast, Decided.NoneIn, Questions.IsDecided}
 use Rattle.dd_question.specs.Conjugacies.{ConjugacyOf, IsPart}
 use Rattle.dd_evidence.specs.Tiles.{written_periods}
+use Rattle.dd_certificate.specs.declared.answer.Answer.TheVariants as answer
+use Rattle.dd_certificate.specs.declared.answer.Reason.TheVariants as reason
+use Rattle.dd_contain.specs.declared.decision.Decision.TheVariants as decision
 
--- the question with this number comes to this decision within the limits
+-- the question with this number is decided so within the limits
 pub record ComesTo (l : Limits) (c : ConjugacyOf) (k : ℕ) (d : Decision) : Type 0 where
   pub premise : LocalRule
   pub goal : GoalOf
   pub is_part : IsPart c k premise goal
   pub decided : IsDecided premise goal l.radius l.period d
 
--- it comes to NO, by some configuration
+-- the question is answered NO, with some configuration
 abbrev pub IsNoAt : Limits → ConjugacyOf → ℕ → Type 0
 IsNoAt l c k = (t : Tile) × ComesTo l c k (decision.No t)
 
--- NO of the question with this number, as it is answered
+-- the answer if the question with this number is answered NO
 abbrev pub written_broken : ℕ → Tile → Answer
 written_broken k t = answer.Broken k (written_periods t) t.periods.shear t.symbols
 
--- BROKEN by the first of the four questions that comes to NO; else CONJUGATE, where all come to YES; else UNKNOWN, since one comes to
--- neither. Of the questions after one that comes to NO nothing is said.
+-- BROKEN by the first of the four questions that is answered NO; else CONJUGATE if all are answered YES; else UNKNOWN. Questions
+-- after one that is answered NO are left open.
 pub data IsRightConjugacy (l : Limits) (c : ConjugacyOf) : Answer → Type 0 where
   first_no : {k : ℕ} {t : Tile} → IsLeast (IsNoAt l c) 1 4 k → ComesTo l c k (decision.No t) →
       IsRightConjugacy l c (written_broken k t)

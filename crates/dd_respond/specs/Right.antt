@@ -1,62 +1,53 @@
 -- Which answers are right.
-use Rattle.std.specs.Prelude.{◌≡◌, Bool, nat_eq, codes}
-use Rattle.std.specs.List.{starts_with}
+use Rattle.std.specs.{Prelude.◌≡◌, Prelude.Bool, Prelude.nat_eq, Prelude.codes, List.starts_with}
 use Rattle.dd_pattern.specs.Tile.{Tile}
 use Rattle.dd_formula.specs.LocalRule.{LocalRule}
 use Rattle.dd_values.specs.declared.limits.Limits.{Limits}
 use Rattle.dd_boxes.specs.Goals.{GoalOf}
-use Rattle.dd_certificate.specs.declared.answer.Answer.{Answer}
+use Rattle.dd_certificate.specs.{declared.answer.Answer.Answer, declared.answer.Side.Side, Text.verdict_text}
+use Rattle.dd_contain.specs.declared.{decision.Decision.Decision, equal.Equality.Equality, equal.Half.Half}
+use Rattle.dd_contain.specs.{Questions.IsDecided, Equal.IsEqualDecided}
+use Rattle.dd_question.specs.Questions.{Asked}
+use Rattle.dd_evidence.specs.{Tiles.written_periods, Answers.IsMemberCertificate, Answers.IsListCertificate, Answers.IsMinimalCertificate}
+use Rattle.dd_respond.specs.{Bounds.IsRightDensity, Bounds.IsRightDischarge, Conjugacies.IsRightConjugacy, Tori.IsRightLeast}
 use Rattle.dd_certificate.specs.declared.answer.Answer.TheVariants as answer
-use Rattle.dd_certificate.specs.declared.answer.Side.{Side}
 use Rattle.dd_certificate.specs.declared.answer.Side.TheVariants as side
 use Rattle.dd_certificate.specs.declared.answer.Reason.TheVariants as reason
-use Rattle.dd_certificate.specs.Text.{verdict_text}
-use Rattle.dd_contain.specs.declared.decision.Decision.{Decision}
 use Rattle.dd_contain.specs.declared.decision.Decision.TheVariants as decision
-use Rattle.dd_contain.specs.declared.equal.Equality.{Equality}
 use Rattle.dd_contain.specs.declared.equal.Equality.TheVariants as equal
-use Rattle.dd_contain.specs.declared.equal.Half.{Half}
 use Rattle.dd_contain.specs.declared.equal.Half.TheVariants as half
-use Rattle.dd_contain.specs.Questions.{IsDecided}
-use Rattle.dd_contain.specs.Equal.{IsEqualDecided}
-use Rattle.dd_question.specs.Questions.{Asked}
 use Rattle.dd_question.specs.Questions as asked
-use Rattle.dd_evidence.specs.Tiles.{written_periods}
-use Rattle.dd_evidence.specs.Answers.{IsMemberCertificate, IsListCertificate, IsMinimalCertificate}
-use Rattle.dd_respond.specs.Bounds.{IsRightDensity, IsRightDischarge}
-use Rattle.dd_respond.specs.Conjugacies.{IsRightConjugacy}
-use Rattle.dd_respond.specs.Tori.{IsRightLeast}
 
 -- ---- box questions
 
--- NO, by a configuration: its periods along the axes that there are, its shear and its symbols
+-- the answer NO with a configuration: its periods along the axes of Z^d, its shear and its symbols
 abbrev pub written_no : Side → Tile → Answer
 written_no s t = answer.No s (written_periods t) t.periods.shear t.symbols
 
--- a decision as it is answered
+-- the answer that a decision gives
 abbrev pub written_decision : Decision → Answer
 written_decision (decision.Yes n steps) = answer.Yes n steps
 written_decision (decision.No t) = written_no side.Whole t
 written_decision decision.Unknown = answer.Unknown reason.Limits
 
--- the side of an equality as it is answered
+-- the side in the answer about an equality
 abbrev pub side_of : Half → Side
 side_of half.Left = side.Left
 side_of half.Right = side.Right
 
--- the decision of an equality as it is answered
+-- the answer that the decision of an equality gives
 abbrev pub written_equality : Equality → Answer
 written_equality (equal.Yes left right) = answer.YesBoth left.radius right.radius left.steps right.steps
 written_equality (equal.No h t) = written_no (side_of h) t
 written_equality equal.Unknown = answer.Unknown reason.Limits
 
--- what the question with this premise and this goal comes to within the limits
+-- the answer of the box question with this premise and this goal, decided within the limits
 pub record IsRightBox (l : Limits) (x : LocalRule) (g : GoalOf) (a : Answer) : Type 0 where
   pub decision : Decision
   pub decided : IsDecided x g l.radius l.period decision
   pub written : a ≡ written_decision decision
 
--- what the question of equality comes to within the limits
+-- the answer of a question of equality, decided within the limits
 pub record IsRightEqual (l : Limits) (x y : LocalRule) (a : Answer) : Type 0 where
   pub decision : Equality
   pub decided : IsEqualDecided x y l.radius l.period decision
@@ -64,7 +55,7 @@ pub record IsRightEqual (l : Limits) (x y : LocalRule) (a : Answer) : Type 0 whe
 
 -- ---- all questions
 
--- within these limits; the questions that have one answer only are answered by it
+-- The answer is right within these limits. If a question has only one answer, the answer is that one.
 abbrev pub IsRightTo : Limits → Asked → Answer → Type 0
 IsRightTo l (asked.membership x t) a = IsMemberCertificate x t a
 IsRightTo l (asked.box x g) a = IsRightBox l x g a
@@ -76,6 +67,6 @@ IsRightTo l (asked.smallest x) a = IsMinimalCertificate x a
 IsRightTo l (asked.conjugacy c) a = IsRightConjugacy l c a
 IsRightTo l (asked.least x along ws) a = IsRightLeast x along ws a
 
--- no definite answer: the first line says that a stated limit was met
+-- the answer is not definite: its first line says that a stated limit was met
 abbrev pub is_unknown : Answer → Bool
 is_unknown a = starts_with nat_eq (verdict_text a) (codes "UNKNOWN ")

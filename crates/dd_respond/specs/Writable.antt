@@ -1,17 +1,16 @@
 -- The decisions that an output can hold.
 use Rattle.dd_certificate.specs.Bounds.{IsWritableRefutation}
-use Rattle.dd_contain.specs.declared.decision.Decision.{Decision}
+use Rattle.dd_contain.specs.declared.{decision.Decision.Decision, equal.Equality.Equality}
 use Rattle.dd_contain.specs.declared.decision.Decision.TheVariants as decision
-use Rattle.dd_contain.specs.declared.equal.Equality.{Equality}
 use Rattle.dd_contain.specs.declared.equal.Equality.TheVariants as equality
 
--- the evidence of a YES can be written
+-- an output can hold the evidence of a YES
 abbrev pub IsWritableDecision : Decision → Type 0
 IsWritableDecision (decision.Yes n steps) = IsWritableRefutation steps
 IsWritableDecision (decision.No t) = Unit {0}
 IsWritableDecision decision.Unknown = Unit {0}
 
--- that of both sides
+-- an output can hold the evidence of both sides
 abbrev pub IsWritableEquality : Equality → Type 0
 IsWritableEquality (equality.Yes left right) = IsWritableRefutation left.steps × IsWritableRefutation right.steps
 IsWritableEquality (equality.No h t) = Unit {0}

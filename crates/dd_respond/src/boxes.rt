@@ -19,7 +19,7 @@ use dd_pattern::Periodic;
 use dd_values::{Items, Limits};
 use std::alloc::{AllocError, Global};
 
-/// The same numbers, as the answer has them.
+/// The same numbers, as wide as in answers.
 pub(crate) fn widened(alloc: Global, numbers: &[u32]) -> Result<Items<u64>, AllocError>
     ensures same { IfOk result (λ wide. wide ≡ numbers.now) }
     ensures writable { IfOk result (All IsWritableNumber) }
@@ -28,7 +28,7 @@ pub(crate) fn widened(alloc: Global, numbers: &[u32]) -> Result<Items<u64>, Allo
     Ok(Items::from_vec(wide))
 }
 
-/// NO, by a configuration: its periods along the axes that there are, its shear and its symbols.
+/// The answer NO with a configuration: its periods along the axes of Z^d, its shear and its symbols.
 fn written_no(alloc: Global, side: Side, periodic: &Periodic) -> Result<Answer, AllocError>
     ensures same { IfOk result (λ answer. answer ≡ written_no side periodic.now) }
     ensures writable { IfOk result IsWritable }
@@ -89,7 +89,7 @@ fn written_equality(alloc: Global, equality: Equality) -> Result<Answer, AllocEr
     }
 }
 
-/// What a box question comes to within the limits. The roster is asked first.
+/// Decides a box question within the limits. The roster is asked first.
 pub(crate) fn decided<E: Engine>(
     alloc: Global,
     premise: &Rule,
@@ -109,7 +109,7 @@ pub(crate) fn decided<E: Engine>(
     written_decision(alloc, decision)
 }
 
-/// Whether two rules allow the same configurations, within the limits. The roster is asked first.
+/// Decides, within the limits, whether two rules allow the same configurations. The roster is asked first.
 pub(crate) fn compared<E: Engine>(
     alloc: Global,
     left: &Rule,

@@ -1,4 +1,4 @@
-//! Answers to questions of conjugacy.
+//! Answers to questions about conjugacies.
 ghost use Rattle.std.specs.Prelude.{◌≡◌, ◌≤◌, ◌∷◌, ◌++◌, [], false, IfOk, OnOk, MatchOption};
 ghost use Rattle.dd_certificate.specs.Bounds.{IsWritable, IsWritableNumber, IsWritablePart};
 ghost use Rattle.dd_engines.specs.Rosters.{roster_seen};
@@ -20,8 +20,7 @@ use dd_question::Conjugacy;
 use dd_values::{Items, Limits};
 use std::alloc::{AllocError, Global};
 
-/// What questions come to of which none comes to NO: the radius and the steps of each that comes to YES, and whether one comes to
-/// neither.
+/// The questions answered so far, if none was answered NO: the radius and the steps of each YES, and whether one was left open.
 #[derive(Drop)]
 struct Findings {
     radii: Items<u64>,
@@ -29,7 +28,7 @@ struct Findings {
     is_open: bool,
 }
 
-/// A question that comes to NO, by its number, and a configuration that shows it.
+/// A question that was answered NO, by its number, with a configuration that shows it.
 #[derive(Drop)]
 struct Failed {
     number: u64,
@@ -49,7 +48,7 @@ impl Findings {
         }
     }
 
-    /// One more comes to YES.
+    /// Adds a question that was answered YES.
     fn push(&mut self, radius: u32, steps: Items<Step>) -> Result<(), AllocError>
         ensures radii { OnOk result (self.new.radii ≡ self.old.radii ++ radius ∷ []) }
         ensures steps { OnOk result (self.new.steps ≡ self.old.steps ++ steps ∷ []) }
@@ -61,7 +60,7 @@ impl Findings {
     }
 }
 
-/// What the question with this number comes to. The roster is asked first.
+/// Decides the question with this number. The roster is asked first.
 fn part_decided<E: Engine>(
     alloc: Global,
     conjugacy: &Conjugacy,
@@ -84,7 +83,7 @@ fn part_decided<E: Engine>(
     }
 }
 
-/// The first question that comes to NO, if there is one; no later one is asked. Else what all four come to.
+/// The first question answered NO; later ones are not asked. If there is none, `findings` has the answers of all four.
 fn first_failed<E: Engine>(
     alloc: Global,
     conjugacy: &Conjugacy,
@@ -113,7 +112,7 @@ fn first_failed<E: Engine>(
     Ok(None)
 }
 
-/// BROKEN, by the number of a question and a configuration.
+/// The answer BROKEN, with the number of a question and a configuration.
 fn written_broken(alloc: Global, number: u64, periodic: &Periodic) -> Result<Answer, AllocError>
     requires { IsWritablePart number }
     ensures same { IfOk result (λ answer. answer ≡ written_broken number periodic.now) }
@@ -144,7 +143,7 @@ fn written_findings(findings: Findings) -> Answer
     }
 }
 
-/// Whether two maps between two subshifts are inverse to each other, within the limits. The roster is asked first.
+/// Decides, within the limits, whether two maps between two subshifts are inverse to each other. The roster is asked first.
 pub(crate) fn conjugate<E: Engine>(
     alloc: Global,
     conjugacy: &Conjugacy,

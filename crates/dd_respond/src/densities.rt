@@ -29,7 +29,7 @@ fn written_density(density: Density) -> Answer
     }
 }
 
-/// The least density of the configurations on a strip, or that there are none, with what shows it.
+/// The least density of the configurations on a strip, or that there are none, each with its evidence.
 pub(crate) fn least(
     alloc: Global,
     rule: &Rule,
@@ -42,7 +42,7 @@ pub(crate) fn least(
 {
     strip_least();
     strip_empty();
-    // Read for what its type keeps.
+    // This read brings in what the type guarantees.
     let _nodes = rule.nodes();
     let density = least_density(alloc, rule, strip, weights)?;
     Ok(written_density(density))

@@ -25,7 +25,7 @@ fn written_bound(bound: Bound) -> Answer
     }
 }
 
-/// Why there is no bound, unless memory is wanting.
+/// Why there is no bound; an error if memory ran out.
 #[tactic(auto, using(crate::specs::Bounds::for_large, crate::specs::Bounds::for_overflow, crate::specs::Bounds::for_pivots))]
 fn reason_of(fault: DischargeFault) -> Result<Reason, AllocError>
     ensures reason { IfOk result (IsReasonOf fault) }
@@ -38,7 +38,7 @@ fn reason_of(fault: DischargeFault) -> Result<Reason, AllocError>
     }
 }
 
-/// The best bound, with what shows it; or why there is none.
+/// The best bound with its evidence, or the reason why there is none.
 pub(crate) fn discharged(
     alloc: Global,
     rule: &Rule,

@@ -13,7 +13,7 @@ use dd_pattern::Periodic;
 use dd_values::Items;
 use std::alloc::{AllocError, Global};
 
-/// The coordinates along the axes that there are, and then the node.
+/// The coordinates of a cell along the axes of Z^d, followed by its node.
 fn written_cell(alloc: Global, dim: u32, cell: &Cell) -> Result<Items<i64>, AllocError>
     requires { dim ≤ 3 }
     ensures { IfOk result (λ place. place ≡ written_cell dim cell.now) }
@@ -29,7 +29,7 @@ fn written_cell(alloc: Global, dim: u32, cell: &Cell) -> Result<Items<i64>, Allo
     Ok(place)
 }
 
-/// Whether a configuration lives in a rule's subshift; otherwise the first cell at which the rule is false.
+/// Whether a configuration lives in a rule's subshift; if not, the first cell at which the rule is false.
 #[tactic(auto, using(dd_evidence::specs::Answers::member_inside, dd_evidence::specs::Answers::member_outside))]
 pub(crate) fn member(alloc: Global, rule: &Rule, periodic: &Periodic) -> Result<Answer, AllocError>
     requires { Fits rule.now periodic.now }

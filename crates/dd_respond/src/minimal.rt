@@ -9,7 +9,7 @@ use dd_evidence::{minimal_patterns, starred_fit};
 use dd_formula::Rule;
 use std::alloc::{AllocError, Global};
 
-/// The list of the patterns that a rule forbids, each without the cells that it can do without.
+/// The list of the minimal patterns that a rule forbids.
 #[tactic(auto, using(dd_evidence::specs::Answers::all_minimal))]
 pub(crate) fn smallest(alloc: Global, rule: &Rule) -> Result<Answer, AllocError>
     requires { HasFewPatterns rule.now }
@@ -17,7 +17,7 @@ pub(crate) fn smallest(alloc: Global, rule: &Rule) -> Result<Answer, AllocError>
     ensures writable { IfOk result IsWritable }
 {
     starred_fit();
-    // Read for what its type keeps.
+    // This read brings in what the type guarantees.
     let _nodes = rule.nodes();
     let patterns = minimal_patterns(alloc, rule)?;
     Ok(Answer::Minimal { patterns })

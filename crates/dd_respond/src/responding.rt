@@ -19,9 +19,9 @@ use dd_engines::{Engine, Roster, kept_is_reflexive};
 use dd_question::{CheckedQuestion, Question};
 use std::alloc::{AllocError, Global};
 
-/// The right answer to a question within its limits, with each number and each list within the bounds of an output.
+/// The right answer to a question within its limits. An output can hold each of its numbers and lists.
 ///
-/// A box question is put to the roster as `decide` does. For any other question no engine is asked. The roster is kept.
+/// A box question goes to the roster as in `decide`. No other question asks an engine. The roster is kept.
 pub fn respond<E: Engine>(
     alloc: Global,
     question: &CheckedQuestion,
@@ -32,7 +32,7 @@ pub fn respond<E: Engine>(
     ensures kept { Kept (roster_seen E.asked E.given E.sound roster.old) (roster_seen E.asked E.given E.sound roster.new) }
     ensures asked { OnOk result (Engages (IsBoxQuestion question.now.question) (roster_seen E.asked E.given E.sound roster.old) (roster_seen E.asked E.given E.sound roster.new)) }
 {
-    // Law of a roster that is not asked.
+    // A law: a roster that is not asked stays as it is.
     kept_is_reflexive();
     let limits = question.limits();
     match question.question() {

@@ -1,4 +1,4 @@
-//! Answers to how little a fundamental box can weigh.
+//! Answers to the question how little a fundamental box can weigh.
 ghost use Rattle.std.specs.Prelude.{◌≡◌, IfOk};
 ghost use Rattle.dd_certificate.specs.Bounds.{IsWritable};
 ghost use Rattle.dd_counter.specs.Least.{IsLeast};
@@ -12,7 +12,7 @@ use dd_counter::{LeastWeight, least_weight};
 use dd_formula::Rule;
 use std::alloc::{AllocError, Global};
 
-/// The least weight, with a configuration that has it and steps that refute every smaller one; or steps that refute that any lives.
+/// The least weight, with a configuration that has it and steps that refute smaller ones; or steps that refute that one lives.
 fn written_weight(alloc: Global, found: LeastWeight) -> Result<Answer, AllocError>
     ensures { IfOk result (λ answer. answer ≡ written_weight found) }
 {
@@ -30,7 +30,7 @@ fn written_weight(alloc: Global, found: LeastWeight) -> Result<Answer, AllocErro
     }
 }
 
-/// How little a fundamental box with these periods and no shear weighs where its configuration lives in the rule's subshift.
+/// The least weight of a fundamental box with these periods and no shear, over the configurations in the rule's subshift.
 pub(crate) fn lightest(
     alloc: Global,
     rule: &Rule,
@@ -42,7 +42,7 @@ pub(crate) fn lightest(
     ensures writable { IfOk result IsWritable }
 {
     refutations_fit();
-    // Read for what its type keeps.
+    // This read brings in what the type guarantees.
     let _nodes = rule.nodes();
     let found = least_weight(alloc, rule, periods, weights)?;
     written_weight(alloc, found)

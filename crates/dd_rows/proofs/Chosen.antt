@@ -1,14 +1,9 @@
 -- Cells chosen by their numbers.
 use Rattle.std.proofs.Common.{◌≡◌, ◌<◌, ◌≤◌, ◌+◌, pos, ℕ, zero, suc, Bool, true, false, cond, List, [], ◌∷◌, ◌++◌, length, get_or, map, take, refl, sym, ◌∙◌, ap, arith}
-use Rattle.std.specs.Prelude.{filter}
-use Rattle.std.specs.Bool.{nat_eq}
-use Rattle.std.specs.List.{range_with_len}
-use Rattle.std.proofs.Math.ListN.{set}
-use Rattle.std.proofs.lemmas.Bool.{eq-eqb, ne_eqb, false≢true}
-use Rattle.dd_lattice.specs.Place.{place}
-use Rattle.std.proofs.lemmas.List.{append-nil}
+use Rattle.std.proofs.{Math.ListN.set, lemmas.Bool.eq-eqb, lemmas.Bool.ne_eqb, lemmas.Bool.false≢true, lemmas.List.append-nil}
 use Rattle.std.proofs.lemmas.List.FromFn.{get_or-map-range_with_len}
-use Rattle.dd_lattice.specs.declared.position.Cell.{Cell}
+use Rattle.std.specs.{Prelude.filter, Bool.nat_eq, List.range_with_len}
+use Rattle.dd_lattice.specs.{Place.place, declared.position.Cell.Cell}
 use Rattle.dd_rows.specs.listing.Levels.{chosen}
 
 moved_in : (b : Bool) (c : Cell) (xs ys zs : List Cell) → xs ≡ ys ++ zs → cond b (c ∷ xs) xs ≡ cond b (c ∷ ys) ys ++ zs
@@ -60,7 +55,7 @@ chosen_left ns cs k i h h' other =
     kept_if (nat_eq (get_or ns i 0) k) (chosen (take i ns) (take i cs) k) (get_or cs i d) (ne_eqb (get_or ns i 0) k other)
     ∙ (sym (chosen_more ns cs k i d h h') ∙ ap (λ j. chosen (take j ns) (take j cs) k) next)
 
--- those of its own are one more
+-- the list of its own number gets one more
 pub chosen_kept : (ns : List ℕ) (cs : List Cell) (k i : ℕ) (d : Cell) → i < length ns → i < length cs → get_or ns i 0 ≡ k →
     chosen (take i ns) (take i cs) k ++ get_or cs i d ∷ [] ≡ chosen (take (i + 1) ns) (take (i + 1) cs) k
 chosen_kept ns cs k i d h h' is =

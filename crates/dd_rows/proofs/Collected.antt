@@ -1,11 +1,10 @@
 -- Steps of the loops that collect lists.
 use Rattle.std.proofs.Common.{◌≡◌, ◌<◌, ◌≤◌, ◌+◌, ℕ, List, [], ◌∷◌, ◌++◌, length, get_or, map, take, drop, refl, sym, ◌∙◌, ap, arith}
-use Rattle.std.specs.List.{fold, range_with_len}
 use Rattle.std.proofs.lemmas.List.{append_assoc, map-append, map_more, take-append-drop}
-use Rattle.std.proofs.lemmas.List.Sums.{fold-append}
-use Rattle.std.proofs.lemmas.List.FromFn.{map-range_with_len_more}
+use Rattle.std.proofs.lemmas.List.{Sums.fold-append, FromFn.map-range_with_len_more}
+use Rattle.std.specs.List.{fold, range_with_len}
 
--- one more of a list that is mapped
+-- one more item of a mapped list
 pub mapped_next : {X Y : Type 0} (f : X → Y) (xs : List X) (i : ℕ) (d : X) (old new : List Y) (n : Y) → i < length xs → old ≡ map f (take i xs) → d ≡ get_or xs i d → n ≡ f d →
     new ≡ old ++ n ∷ [] → new ≡ map f (take (i + 1) xs)
 mapped_next {X} {Y} f xs i d old new n below before at value is =
@@ -13,7 +12,7 @@ mapped_next {X} {Y} f xs i d old new n below before at value is =
     ∙ (ap (λ m. map f (take i xs) ++ m ∷ []) value
     ∙ (ap (λ e. map f (take i xs) ++ f e ∷ []) at ∙ sym (map_more f xs i d below))))
 
--- one more number of a range that is mapped, behind others
+-- one more number of a mapped range, after other items
 pub range_after : {Y : Type 0} (f : ℕ → Y) (start : List Y) (n : ℕ) (old new : List Y) (y : Y) → old ≡ start ++ map f (range_with_len 0 n) → y ≡ f n → new ≡ old ++ y ∷ [] →
     new ≡ start ++ map f (range_with_len 0 (n + 1))
 range_after {Y} f start n old new y before value is =
@@ -29,7 +28,7 @@ fold_push : {A B : Type 0} (g : B → A → B) (start : B) (xs : List A) (x : A)
 fold_push g start [] x = refl
 fold_push g start (y ∷ ys) x = fold_push g (g start y) ys x
 
--- one more that is folded in
+-- one more item that is folded in
 pub folded_next : {A B X : Type 0} (g : B → A → B) (start : B) (f : X → A) (xs : List X) (i : ℕ) (d : X) (old new : B) → i < length xs → old ≡ fold g start (map f (take i xs)) → d ≡ get_or xs i d →
     new ≡ g old (f d) → new ≡ fold g start (map f (take (i + 1) xs))
 folded_next {A} {B} g start f xs i d old new below before at is =
@@ -52,7 +51,7 @@ module _ {A Y : Type 0} (g : List Y → A → List Y) (grows : (ys : List Y) (a 
       let rest = fold_grows (fold g start front) back in
       omega (arith, all, rest)
 
-  -- too many so far are too many
+  -- too many so far are too many in the end
   pub folded_large : {X : Type 0} (most : ℕ) (start : List Y) (f : X → A) (xs : List X) (n : ℕ) (old : List Y) → old ≡ fold g start (map f (take n xs)) → most < length old →
       most < length (fold g start (map f xs))
   folded_large most start f xs n old is many =

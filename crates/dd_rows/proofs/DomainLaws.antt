@@ -1,26 +1,16 @@
 -- The domain with one vector more.
 use Rattle.std.proofs.Common.{◌≡◌, ◌<◌, ◌+◌, ℕ, List, [], ◌∷◌, ◌++◌, length, get_or, take, sym, ◌∙◌, ap, subst, inl, inr, ◌⊎◌, arith, ℤ, pos, ◌+ℤ◌}
-use Rattle.std.specs.Prelude.{◌-ℤ◌}
-use Rattle.std.specs.List.{Contains}
-use Rattle.std.proofs.lemmas.Int.{ints}
-use Rattle.std.proofs.lemmas.List.{take_more}
+use Rattle.std.proofs.lemmas.{Int.ints, List.take_more}
 use Rattle.std.proofs.lemmas.List.Elements.{Contains-append_left, Contains-push, Contains-push_cases}
-use Rattle.dd_lattice.specs.Place.{Place, moved}
-use Rattle.dd_lattice.specs.Boxes.{IsCentred}
-use Rattle.dd_lattice.specs.Regions.{IsRegionOf, IsInEither, IsMoved}
-use Rattle.dd_lattice.specs.lemmas.ListLaws.{Contains-nil}
-use Rattle.dd_topology.specs.Topology.{reversed}
-use Rattle.dd_boxes.specs.lemmas.RuleLaws.{place_same}
+use Rattle.std.specs.{Prelude.◌-ℤ◌, List.Contains}
+use Rattle.dd_lattice.specs.{Place.Place, Place.moved, Boxes.IsCentred, Regions.IsRegionOf, Regions.IsInEither, Regions.IsMoved}
+use Rattle.dd_lattice.specs.lemmas.MoveLaws.{place_same}
+use Rattle.dd_values.specs.lemmas.{Members.Contains-nil, Numbers.taken_back}
+use Rattle.dd_topology.specs.{Topology.reversed, lemmas.ExtentLaws.back_and_forth}
 use Rattle.dd_rows.specs.Domains.{IsInDomain}
-
-back : (a b : ℤ) → ((a +ℤ (pos 0 -ℤ b)) +ℤ b) ≡ a
-back a b = omega (arith, ints)
 
 forth : (a b : ℤ) → a ≡ ((a +ℤ b) +ℤ (pos 0 -ℤ b))
 forth a b = omega (arith, ints)
-
-moved_back : (p v : Place) → moved (moved p (reversed v)) v ≡ p
-moved_back p v = place_same _ _ _ p.x p.y p.z (back p.x v.x) (back p.y v.y) (back p.z v.z)
 
 moved_forth : (p v : Place) → p ≡ moved (moved p v) (reversed v)
 moved_forth p v = place_same p.x p.y p.z _ _ _ (forth p.x v.x) (forth p.y v.y) (forth p.z v.z)
@@ -30,7 +20,7 @@ centred_from : (d radius : ℕ) (p : Place) → IsInDomain d radius [] p → IsC
 centred_from d radius p (inl here) = here
 centred_from d radius p (inr there) = absurd (Contains-nil there.0 there.1)
 
--- what the domain of the vectors so far and the box that is moved by the next one hold
+-- the domain of the vectors so far, with the box that is moved by the next one
 to_next : (d radius : ℕ) (vs : List Place) (v : Place) (around moved_box all : List Place) → IsRegionOf (IsInDomain d radius []) around →
     IsRegionOf (IsMoved around (reversed v)) moved_box → IsRegionOf (IsInDomain d radius vs) all → (p : Place) →
     Contains all p ⊎ Contains moved_box p → IsInDomain d radius (vs ++ v ∷ []) p
@@ -42,7 +32,7 @@ to_next d radius vs v around moved_box all box there before p (inr new) =
     let from = (there.members p).0 new in
     let origin = from.0 in
     let centred : IsCentred d radius origin = centred_from d radius origin ((box.members origin).0 from.1) in
-    let same : origin ≡ moved p v = sym (moved_back origin v) ∙ ap (λ q. moved q v) (sym from.2) in
+    let same : origin ≡ moved p v = sym (back_and_forth origin v) ∙ ap (λ q. moved q v) (sym from.2) in
     inr (v, Contains-push vs v, subst (IsCentred d radius) same centred)
 
 from_next : (d radius : ℕ) (vs : List Place) (v : Place) (around moved_box all : List Place) → IsRegionOf (IsInDomain d radius []) around →

@@ -1,22 +1,15 @@
 -- The cells of a region, in cell order.
 use Rattle.std.proofs.Common.{◌≡◌, ◌<◌, ◌≤◌, ◌+◌, ℕ, zero, suc, List, [], ◌∷◌, map, refl, sym, ◌∙◌, ap, subst, inl, inr, arith}
-use Rattle.std.specs.List.{All, Contains, range_with_len}
-use Rattle.std.specs.List.Sorted.{IsStrictlySortedBy}
-use Rattle.std.specs.Cmp.{nat_cmp_is, tied_itself}
-use Rattle.std.specs.declared.cmp.Ordering.TheVariants.{Less}
 use Rattle.std.proofs.lemmas.List.Elements.{Contains-append_cases}
-use Rattle.dd_lattice.specs.Place.{Place, IsInRange}
-use Rattle.dd_lattice.specs.Cells.{cell}
-use Rattle.dd_lattice.specs.Order.{place_cmp, cell_cmp}
-use Rattle.dd_lattice.specs.Regions.{IsRegionOf, IsNearby}
-use Rattle.dd_lattice.specs.declared.position.Cell.{Cell}
-use Rattle.dd_lattice.specs.lemmas.InOrderLaws.{place_total}
-use Rattle.dd_lattice.specs.lemmas.ListLaws.{Contains-nil, Contains-from_map, Contains-cons_cases, Contains-first, Contains-later, sorted_append, sorted_first, sorted_rest}
+use Rattle.std.specs.{List.All, List.Contains, List.range_with_len, List.Sorted.IsStrictlySortedBy, Cmp.nat_cmp_is, Cmp.tied_itself}
+use Rattle.std.specs.declared.cmp.Ordering.TheVariants.{Less}
+use Rattle.dd_lattice.specs.{Place.Place, Place.IsInRange, Cells.cell, Order.place_cmp, Order.cell_cmp}
+use Rattle.dd_lattice.specs.{Regions.IsRegionOf, Regions.IsNearby, declared.position.Cell.Cell, lemmas.InOrderLaws.place_total}
+use Rattle.dd_values.specs.lemmas.Members.{Contains-nil, Contains-from_map, Contains-cons_cases, Contains-first, Contains-later, sorted_append, sorted_first, sorted_rest}
+use Rattle.dd_values.specs.lemmas.Lists.{all_map, all_flat_map}
 use Rattle.dd_formula.specs.LocalRule.{LocalRule}
 use Rattle.dd_boxes.specs.Cells.{cells_on}
-use Rattle.dd_rows.specs.Domains.{IsInDomain, IsGround}
-use Rattle.dd_rows.specs.listing.Levels.{AreOf, AreInRange}
-use Rattle.dd_rows.specs.lemmas.Growing.{all_flat_map, all_map, range_below}
+use Rattle.dd_rows.specs.{Domains.IsInDomain, Domains.IsGround, listing.Levels.AreOf, listing.Levels.AreInRange, lemmas.Growing.range_below}
 
 -- a cell of the list has one of the positions
 record IsAt (ps : List Place) (c : Cell) : Type 0 where

@@ -1,33 +1,21 @@
 -- A program is put together from the fillings, their patterns and their rows.
 use Rattle.std.proofs.Common.{◌≡◌, ◌<◌, ◌≤◌, ◌*◌, ℕ, List, ◌∷◌, length, map, sym, ◌∙◌, ap, subst, inl, inr}
+use Rattle.std.proofs.lemmas.List.{length-map, Elements.All-weaker, FromFn.length-map-range_with_len}
 use Rattle.std.specs.List.{All}
-use Rattle.std.proofs.lemmas.List.{length-map}
-use Rattle.std.proofs.lemmas.List.Elements.{All-weaker}
-use Rattle.std.proofs.lemmas.List.FromFn.{length-map-range_with_len}
-use Rattle.dd_lattice.specs.Place.{Place}
-use Rattle.dd_lattice.specs.Cells.{cell}
-use Rattle.dd_lattice.specs.declared.position.Cell.{Cell}
+use Rattle.dd_lattice.specs.{Place.Place, Cells.cell, declared.position.Cell.Cell}
 use Rattle.dd_topology.specs.Topology.{reversed}
 use Rattle.dd_expansion.specs.Limits.{greatest}
 use Rattle.dd_formula.specs.LocalRule.{LocalRule}
-use Rattle.dd_rows.specs.declared.rows.Row.{Row}
-use Rattle.dd_rows.specs.declared.rows.Rows.{Rows}
-use Rattle.dd_rows.specs.declared.fault.RowsFault.{RowsFault}
-use Rattle.dd_rows.specs.declared.fault.RowsFault.TheVariants.{Memory}
-use Rattle.dd_rows.specs.declared.views.Views.{Views}
-use Rattle.dd_boxes.specs.Cells.{box_cells}
-use Rattle.dd_rows.specs.Domains.{IsGround}
-use Rattle.dd_rows.specs.Faults.{OnLarge}
-use Rattle.dd_rows.specs.Fillings.{look_of, fillings, HasFewFillings}
-use Rattle.dd_rows.specs.Patterns.{patterns}
-use Rattle.dd_boxes.specs.Boxes.{origin}
+use Rattle.dd_rows.specs.declared.{rows.Row.Row, rows.Rows.Rows, fault.RowsFault.RowsFault}
+use Rattle.dd_rows.specs.{declared.fault.RowsFault.TheVariants.Memory, declared.views.Views.Views, Domains.IsGround, Faults.OnLarge}
+use Rattle.dd_rows.specs.{Fillings.look_of, Fillings.fillings, Fillings.HasFewFillings, Patterns.patterns}
 use Rattle.dd_rows.specs.Programs.{rows, first_seen, greatest_weight_row, row_of, column_count, most_columns, most_rows, IsProgramOf, IsLargeProgram}
-use Rattle.dd_rows.specs.listing.Levels.{IsWord}
-use Rattle.dd_numbered.specs.Numbering.{rank}
-use Rattle.dd_rows.specs.listing.Views.{AreViews, view_of}
+use Rattle.dd_rows.specs.listing.{Levels.IsWord, Views.AreViews, Views.view_of}
 use Rattle.dd_rows.specs.listing.Sparse.{capped, asked_row}
 use Rattle.dd_rows.specs.listing.Shown.{patterns_shown, rows_shown, IsProgramShown, IsLargeShown}
 use Rattle.dd_rows.specs.lemmas.Growing.{fillings_are}
+use Rattle.dd_boxes.specs.{Cells.box_cells, Boxes.origin}
+use Rattle.dd_numbered.specs.Numbering.{rank}
 use Rattle.dd_rows.proofs.RowLaws.{all_shown, all_asked}
 
 pub memory_fault : (fault : RowsFault) (P : Type 0) → fault ≡ Memory → OnLarge fault P

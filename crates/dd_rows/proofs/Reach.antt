@@ -1,13 +1,11 @@
 -- The regions of a discharge lie near the origin, so that they stay in range.
 use Rattle.std.proofs.Common.{◌≡◌, ◌≤◌, ◌+◌, ℕ, Bool, true, false, List, [], ℤ, pos, ◌+ℤ◌, ◌≤ℤ◌, inl, inr, arith}
-use Rattle.std.specs.Prelude.{◌-ℤ◌, unsigned_abs}
-use Rattle.std.specs.List.{All, Contains}
-use Rattle.std.proofs.lemmas.Int.{ints}
-use Rattle.std.proofs.lemmas.List.Elements.{All-contains}
+use Rattle.std.proofs.lemmas.{Int.ints, List.Elements.All-contains}
+use Rattle.std.specs.{Prelude.◌-ℤ◌, Prelude.unsigned_abs, List.All, List.Contains}
 use Rattle.dd_lattice.specs.Place.{Place, place, moved, IsCoordinateInRange, IsInRange}
 use Rattle.dd_lattice.specs.Boxes.{OnAxis, IsUpTo, IsCentred, is_active}
 use Rattle.dd_lattice.specs.Regions.{IsRegionOf, IsMoved, IsNearby, LeavesRange}
-use Rattle.dd_lattice.specs.lemmas.ListLaws.{Contains-nil}
+use Rattle.dd_values.specs.lemmas.Members.{Contains-nil}
 use Rattle.dd_topology.specs.Topology.{reversed}
 use Rattle.dd_boxes.specs.Discharges.{IsVector}
 use Rattle.dd_rows.specs.Domains.{IsInDomain}

@@ -1,32 +1,24 @@
--- A filling of which the views show what they show of the last one gives no new pattern and no new row.
+-- A filling whose views show what those of the last one show gives no new pattern and no new row.
 use Rattle.std.proofs.Common.{◌≡◌, ◌<◌, ◌+◌, ℕ, zero, suc, Bool, true, false, cond, List, [], ◌∷◌, ◌++◌, length, get_or, map, take, refl, sym, ◌∙◌, ap, subst, inl, inr, arith}
-use Rattle.std.specs.Prelude.{◌||◌, ◌≤◌, All}
-use Rattle.std.specs.Bool.{nat_eq}
+use Rattle.std.proofs.lemmas.Bool.{and_from, eq-eqb}
+use Rattle.std.proofs.lemmas.List.{append-nil, map-append, map_more, take_more}
+use Rattle.std.proofs.lemmas.List.{Concat.flat_map-append, Sums.fold-append, Elements.All-push}
+use Rattle.std.specs.{Prelude.◌||◌, Prelude.◌≤◌, Prelude.All, Bool.nat_eq}
 use Rattle.std.specs.Ordering.{nat_cmp, int_eq, match_ordering, ordering_reverse}
-use Rattle.std.specs.List.{fold, flat_map, list_any}
-use Rattle.std.specs.List.Sorted.{IsStrictlySortedBy}
-use Rattle.std.specs.BTreeSet.{insert_key}
-use Rattle.std.specs.Cmp.{IsTotalOrder, tied_itself}
-use Rattle.std.specs.Cmp.Rules.{signed_items}
+use Rattle.std.specs.{List.fold, List.flat_map, List.list_any, List.Sorted.IsStrictlySortedBy, BTreeSet.insert_key}
+use Rattle.std.specs.Cmp.{IsTotalOrder, tied_itself, Rules.signed_items}
 use Rattle.std.specs.Cmp.Lexicographic.{slice_cmp, pointwise, nat_list_cmp_total}
 use Rattle.std.specs.declared.cmp.Ordering.{Ordering}
 use Rattle.std.specs.declared.cmp.Ordering.TheVariants.{Less, Equal, Greater}
-use Rattle.std.proofs.lemmas.Bool.{and_from, eq-eqb}
-use Rattle.std.proofs.lemmas.List.{append-nil, map-append, map_more, take_more}
-use Rattle.std.proofs.lemmas.List.Concat.{flat_map-append}
-use Rattle.std.proofs.lemmas.List.Sums.{fold-append}
-use Rattle.std.proofs.lemmas.List.Elements.{All-push}
 use Rattle.dd_pattern.specs.Weight.{total_weight}
-use Rattle.dd_rows.specs.declared.rows.Row.{Row}
-use Rattle.dd_rows.specs.declared.rows.Rows.{Rows}
-use Rattle.dd_rows.specs.declared.views.Views.{Views}
-use Rattle.dd_rows.specs.Patterns.{in_lexicographic_order}
+use Rattle.dd_rows.specs.{declared.rows.Row.Row, declared.rows.Rows.Rows, declared.views.Views.Views, Patterns.in_lexicographic_order}
 use Rattle.dd_rows.specs.Programs.{add_row, is_same_row, first_seen, coefficients, column_count, most_columns, most_rows}
 use Rattle.dd_rows.specs.listing.Views.{symbols_at, patterns_seen, with_patterns}
 use Rattle.dd_rows.specs.listing.Sparse.{asked_row, asked_rows, capped}
 use Rattle.dd_rows.specs.listing.Shown.{patterns_shown, IsProgramShown, IsLargeShown}
 use Rattle.dd_rows.specs.listing.Repeats.{ShowAlike, EndsAlike, ShowsSame, HasKnown}
 use Rattle.dd_rows.proofs.SortedLists.{insert_present, insert_ascends, ascends_empty}
+use Rattle.dd_values.specs.lemmas.Booleans.{or_true}
 
 take_past : {X : Type 0} (xs : List X) (i : ℕ) → length xs ≤ i → take i xs ≡ xs
 take_past [] zero past = refl
@@ -91,10 +83,6 @@ module _ {K : Type 0} {R : K → K → Ordering} (o : IsTotalOrder R) where
 
 same_row : (r : Row) → is_same_row r r ≡ true
 same_row r = and_from (pointwise int_eq r.coefficients r.coefficients) (nat_eq r.bound r.bound) ((signed_items r.coefficients r.coefficients).1 refl) (eq-eqb r.bound r.bound refl)
-
-or_true : (b : Bool) → (b || true) ≡ true
-or_true true = refl
-or_true false = refl
 
 any_last : {X : Type 0} (p : X → Bool) (xs : List X) (x : X) → p x ≡ true → list_any p (xs ++ x ∷ []) ≡ true
 any_last p [] x h = ap (λ b. b || false) h

@@ -1,34 +1,21 @@
 -- What the views of a filling show are its patterns and its row.
 use Rattle.std.proofs.Common.{◌≡◌, ◌<◌, ◌≤◌, ◌+◌, ◌*◌, ◌-◌, ◌^◌, min, mul-le-mul_left, ℕ, List, [], ◌∷◌, ◌++◌, length, get_or, map, take, drop, sym, ◌∙◌, ap, arith}
-use Rattle.std.specs.Prelude.{unwrap_or, slice_get}
-use Rattle.std.specs.List.{flat_map, range_with_len}
-use Rattle.std.specs.Ordering.{nat_cmp}
-use Rattle.std.specs.Cmp.Lexicographic.{slice_cmp}
-use Rattle.std.specs.BTreeSet.{insert_key}
-use Rattle.std.proofs.lemmas.List.{take-append-drop}
-use Rattle.std.proofs.lemmas.List.Concat.{flat_map-append}
-use Rattle.std.proofs.lemmas.List.Sums.{fold-append}
-use Rattle.std.proofs.lemmas.Simd.{map-map}
-use Rattle.dd_lattice.specs.Place.{Place}
-use Rattle.dd_lattice.specs.Cells.{cell, shifted}
-use Rattle.dd_lattice.specs.declared.position.Cell.{Cell}
+use Rattle.std.proofs.lemmas.{List.take-append-drop, List.Concat.flat_map-append, List.Sums.fold-append, Simd.map-map}
+use Rattle.std.specs.{Prelude.unwrap_or, Prelude.slice_get, List.flat_map, List.range_with_len, Ordering.nat_cmp}
+use Rattle.std.specs.{Cmp.Lexicographic.slice_cmp, BTreeSet.insert_key}
+use Rattle.dd_lattice.specs.{Place.Place, Cells.cell, Cells.shifted, declared.position.Cell.Cell}
 use Rattle.dd_topology.specs.Topology.{reversed}
 use Rattle.dd_pattern.specs.Weight.{total_weight}
 use Rattle.dd_formula.specs.LocalRule.{LocalRule}
-use Rattle.dd_rows.specs.declared.views.Views.{Views}
-use Rattle.dd_boxes.specs.Cells.{box_cells}
-use Rattle.dd_rows.specs.Fillings.{look_of}
+use Rattle.dd_rows.specs.{declared.views.Views.Views, Fillings.look_of}
 use Rattle.dd_rows.specs.Patterns.{pattern_at, givers, patterns_in, in_lexicographic_order}
-use Rattle.dd_boxes.specs.Boxes.{origin}
 use Rattle.dd_rows.specs.Programs.{coefficients, row_of, column_count, most_columns}
-use Rattle.dd_numbered.specs.Numbering.{rank}
 use Rattle.dd_rows.specs.listing.Views.{AreViews, view_of, symbols_at, patterns_seen, with_patterns}
 use Rattle.dd_rows.specs.listing.Sparse.{asked_row}
-use Rattle.dd_rows.specs.lemmas.Lists.{flat_map_agree}
-use Rattle.dd_rows.proofs.Steps.{flat_map_next}
-use Rattle.dd_rows.proofs.Collected.{front_folded}
-use Rattle.dd_rows.proofs.SortedLists.{insert_grows}
-use Rattle.dd_rows.proofs.SparseLaws.{map_agree}
+use Rattle.dd_boxes.specs.{Cells.box_cells, Boxes.origin}
+use Rattle.dd_numbered.specs.Numbering.{rank}
+use Rattle.dd_rows.proofs.{Steps.flat_map_next, Collected.front_folded, SortedLists.insert_grows}
+use Rattle.dd_values.specs.lemmas.Lists.{flat_map_agree, map_alike}
 
 module _ (x : LocalRule) (radius : ℕ) (vs : List Place) (cs : List Cell) (v : Views) (are : AreViews x radius vs cs v) where
   shown : (ss : List ℕ) (p : Place) → symbols_at ss (view_of cs (box_cells x radius) p) ≡ pattern_at (box_cells x radius) (look_of cs ss) p
@@ -41,7 +28,7 @@ module _ (x : LocalRule) (radius : ℕ) (vs : List Place) (cs : List Cell) (v : 
   ins_shown ss =
       ap (map (symbols_at ss)) are.givers
       ∙ (map-map (symbols_at ss) (λ w. view_of cs (box_cells x radius) (reversed w)) vs
-      ∙ map_agree (λ w. symbols_at ss (view_of cs (box_cells x radius) (reversed w))) (λ w. pattern_at (box_cells x radius) (look_of cs ss) (reversed w)) (λ w. shown ss (reversed w)) vs)
+      ∙ map_alike (λ w. symbols_at ss (view_of cs (box_cells x radius) (reversed w))) (λ w. pattern_at (box_cells x radius) (look_of cs ss) (reversed w)) (λ w. shown ss (reversed w)) vs)
 
   patterns_shown : (ss : List ℕ) → patterns_seen v ss ≡ patterns_in (box_cells x radius) vs (look_of cs ss)
   patterns_shown ss =
@@ -63,7 +50,7 @@ module _ (x : LocalRule) (radius : ℕ) (vs : List Place) (cs : List Cell) (v : 
       λ i. record { coefficients = sides i; bound = weight i }
 
   pub all_asked : (ps : List (List ℕ)) (ws : List ℕ) (fillings : List (List ℕ)) → map (asked_row ps v ws) fillings ≡ map (λ ss. row_of x ws radius vs ps (look_of cs ss)) fillings
-  all_asked ps ws fillings = map_agree (asked_row ps v ws) (λ ss. row_of x ws radius vs ps (look_of cs ss)) (asked_is ps ws) fillings
+  all_asked ps ws fillings = map_alike (asked_row ps v ws) (λ ss. row_of x ws radius vs ps (look_of cs ss)) (asked_is ps ws) fillings
 
 -- the patterns of one filling more
 pub patterns_next : (f : List ℕ → List (List ℕ)) (lists : List (List ℕ)) (i : ℕ) (d : List ℕ) (old new : List (List ℕ)) → i < length lists →

@@ -1,21 +1,14 @@
--- Ascending lists: where a key stands in one, and what one is once a key is put into it.
-use Rattle.std.proofs.Common.{◌≡◌, ◌<◌, ◌≤◌, ℕ, zero, suc, List, [], ◌∷◌, ◌++◌, length, get_or, take, drop, refl, sym, ◌∙◌, ap, subst, inl, inr, arith, Ok, Err, Result}
-use Rattle.std.specs.Result.{MatchResult}
-use Rattle.std.specs.List.{position_or_len, AllWithin}
-use Rattle.std.specs.List.Sorted.{IsStrictlySortedBy, IsSortedBy, IsBinarySearchResult, IsSearchInRange}
-use Rattle.std.specs.BTreeSet.{insert_key}
-use Rattle.std.specs.Ordering.{is_eq, is_lt, ordering_reverse, match_ordering}
-use Rattle.std.specs.Cmp.{IsTotalOrder}
-use Rattle.std.specs.declared.cmp.Ordering.{Ordering}
-use Rattle.std.specs.declared.cmp.Ordering.TheVariants.{Less, Equal, Greater}
-use Rattle.std.proofs.Common.{add-one}
-use Rattle.std.proofs.lemmas.Bool.{cases_lt}
-use Rattle.std.proofs.lemmas.List.Elements.{All-from_recursion, recursion_from_All}
-use Rattle.std.proofs.lemmas.List.Sorted.{searchable_from_sorted}
-use Rattle.std.proofs.lemmas.List.Sums.{position_or_len_is}
-use Rattle.std.proofs.lemmas.Map.Keys.{Less-from_sorted}
+-- Ascending lists: the place of a key, and the list after a key is inserted.
+use Rattle.std.proofs.Common.{◌≡◌, ◌<◌, ◌≤◌, ℕ, zero, suc, List, [], ◌∷◌, ◌++◌, length, get_or, take, drop, refl, sym, ◌∙◌, ap, subst, inl, inr, arith, Ok, Err, Result, add-one}
+use Rattle.std.proofs.lemmas.{Bool.cases_lt, List.Elements.All-from_recursion, List.Elements.recursion_from_All}
+use Rattle.std.proofs.lemmas.{List.Sorted.searchable_from_sorted, List.Sums.position_or_len_is, Map.Keys.Less-from_sorted}
 use Rattle.std.proofs.lemmas.Map.Views.{All-insert_key}
-use Rattle.dd_rows.specs.lemmas.Growing.{all_cons}
+use Rattle.std.specs.{Result.MatchResult, List.position_or_len, List.AllWithin}
+use Rattle.std.specs.List.Sorted.{IsStrictlySortedBy, IsSortedBy, IsBinarySearchResult, IsSearchInRange}
+use Rattle.std.specs.{BTreeSet.insert_key, Ordering.is_eq, Ordering.is_lt, Ordering.ordering_reverse, Ordering.match_ordering}
+use Rattle.std.specs.{Cmp.IsTotalOrder, declared.cmp.Ordering.Ordering}
+use Rattle.std.specs.declared.cmp.Ordering.TheVariants.{Less, Equal, Greater}
+use Rattle.dd_values.specs.lemmas.Lists.{all_cons}
 
 module _ {K : Type 0} {R : K → K → Ordering} (o : IsTotalOrder R) where
   turned : (x y : K) (r : Ordering) → R x y ≡ r → R y x ≡ ordering_reverse r
@@ -57,7 +50,7 @@ module _ {K : Type 0} {R : K → K → Ordering} (o : IsTotalOrder R) where
       ap (λ r. match_ordering r (k ∷ x ∷ ks) (x ∷ ks) (x ∷ insert_key R ks k)) (turned x k Less less)
       ∙ ap (λ (ys : List K). x ∷ ys) (insert_present ks i k up.1 inside h)
 
-  -- another goes where the lesser ones end
+  -- a new key goes where the lesser ones end
   insert_absent : (ks : List K) (i : ℕ) (k : K) → i ≤ length ks → AllWithin (λ y. R y k ≡ Less) ks 0 i → AllWithin (λ y. R y k ≡ Greater) ks i (length ks) →
       insert_key R ks k ≡ take i ks ++ k ∷ drop i ks
   insert_absent [] zero k within below above = refl

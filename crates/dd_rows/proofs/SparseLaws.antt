@@ -1,40 +1,30 @@
--- Rows of one program are the same where the exchanges along each vector are, and the right sides.
+-- Rows of one program are the same if their exchanges along each vector and their right sides are.
 use Rattle.std.proofs.Common.{◌≡◌, ◌<◌, ◌≤◌, ◌+◌, ◌*◌, ℕ, zero, suc, Bool, true, false, cond, List, [], ◌∷◌, ◌++◌, length, get_or, map, take, drop, refl, sym, ◌∙◌, ap, subst, inl, inr, arith, ℤ, pos, Option, Some, None, replicate}
-use Rattle.std.specs.Prelude.{◌-ℤ◌, ◌&&◌, ◌||◌, fold, unwrap_or, slice_get}
-use Rattle.std.specs.Bool.{Decides, nat_eq, one_answer}
-use Rattle.std.specs.Ordering.{int_eq}
-use Rattle.std.specs.List.{All, flat_map, list_any, range_with_len}
-use Rattle.std.specs.Cmp.Lexicographic.{pointwise, pointwise_decides}
-use Rattle.std.specs.Option.{option_eq}
 use Rattle.std.proofs.lemmas.Option.{same_Some}
-use Rattle.std.specs.Cmp.Rules.{signed_items}
-use Rattle.std.proofs.lemmas.Bool.{false≢true, and_parts, and_from, cases_lt, cases_eq, eq-eqb, ne_eqb, eqb-true}
+use Rattle.std.proofs.lemmas.Bool.{false≢true, and_parts, and_from, cases_lt, cases_eq, eq-eqb, eqb-true}
 use Rattle.std.proofs.lemmas.Int.{ints}
 use Rattle.std.proofs.lemmas.List.{length-append, length-map, map-append, replicate-append-replicate}
-use Rattle.std.proofs.lemmas.List.Sums.{prefix_len-le-length}
-use Rattle.std.proofs.lemmas.List.Elements.{All-nil, All-push}
+use Rattle.std.proofs.lemmas.List.{Sums.prefix_len-le-length, Elements.All-nil, Elements.All-push}
 use Rattle.std.proofs.lemmas.List.Folds.{flat_map-map}
 use Rattle.std.proofs.lemmas.List.FromFn.{length-map-range_with_len, get_or-map-range_with_len}
 use Rattle.std.proofs.Math.Seq.{take-append_seam, drop-append_seam}
+use Rattle.std.specs.Prelude.{◌-ℤ◌, ◌&&◌, ◌||◌, fold, unwrap_or, slice_get}
+use Rattle.std.specs.{Bool.Decides, Bool.nat_eq, Bool.one_answer, Ordering.int_eq}
+use Rattle.std.specs.List.{All, flat_map, list_any, range_with_len}
+use Rattle.std.specs.{Cmp.Lexicographic.pointwise, Cmp.Lexicographic.pointwise_decides, Option.option_eq, Cmp.Rules.signed_items}
 use Rattle.indexmap.specs.IndexSet.{insert_key}
-use Rattle.dd_rows.specs.declared.sparse.Exchange.{Exchange}
-use Rattle.dd_rows.specs.declared.sparse.SparseRow.{SparseRow}
-use Rattle.dd_rows.specs.declared.rows.Row.{Row}
-use Rattle.dd_rows.specs.declared.views.Views.{Views}
-use Rattle.dd_rows.specs.Patterns.{pattern_number}
+use Rattle.dd_rows.specs.declared.{sparse.Exchange.Exchange, sparse.SparseRow.SparseRow, rows.Row.Row}
+use Rattle.dd_rows.specs.{declared.views.Views.Views, Patterns.pattern_number}
 use Rattle.dd_rows.specs.Programs.{one_at, coefficients, is_same_row, add_row, first_seen, most_rows}
 use Rattle.dd_rows.specs.listing.Views.{symbols_at}
 use Rattle.dd_rows.specs.listing.Sparse.{capped, exchange_of, entry, entries, dense, IsExchange, IsSparse, AreSparse, IsWithRow, exchanges_of, asked_row, asked_rows}
+use Rattle.dd_rows.specs.lemmas.UnitLaws.{one_elsewhere}
 use Rattle.dd_pattern.specs.Weight.{total_weight}
 use Rattle.dd_rows.proofs.Collected.{folded_next, folded_large}
-use Rattle.dd_rows.specs.lemmas.Lists.{flat_map_agree, all_first, all_rest}
-use Rattle.dd_rows.specs.lemmas.Growing.{all_cons, all_map}
+use Rattle.dd_values.specs.lemmas.Lists.{flat_map_agree, map_alike, all_first, all_rest, all_cons, all_map}
 
 one_here : (k : ℕ) → one_at k k ≡ pos 1
 one_here k = ap (λ b. pos (cond b 1 0)) (eq-eqb k k refl)
-
-one_elsewhere : (k n : ℕ) → (k ≡ n → ⊥) → one_at k n ≡ pos 0
-one_elsewhere k n apart = ap (λ b. pos (cond b 1 0)) (ne_eqb k n apart)
 
 -- two differences agree at each of the places below p
 record Agree (p a b c d : ℕ) : Type 0 where
@@ -183,12 +173,8 @@ entry_is n m k true e =
     none ∙ ap (λ j. one_at k n -ℤ one_at k j) (eqb-true n m e)
 entry_is n m k false e = refl
 
-pub map_agree : {X Y : Type 0} (f g : X → Y) → ((x : X) → f x ≡ g x) → (xs : List X) → map f xs ≡ map g xs
-map_agree f g same [] = refl
-map_agree {X} {Y} f g same (x ∷ xs) = ap (λ y. y ∷ map f xs) (same x) ∙ ap (λ (ys : List Y). g x ∷ ys) (map_agree f g same xs)
-
 entries_are : (p n m : ℕ) → entries p (exchange_of n m) ≡ map (λ k. one_at k n -ℤ one_at k m) (range_with_len 0 p)
-entries_are p n m = map_agree (entry (exchange_of n m)) (λ k. one_at k n -ℤ one_at k m) (λ k. entry_is n m k (nat_eq n m) refl) (range_with_len 0 p)
+entries_are p n m = map_alike (entry (exchange_of n m)) (λ k. one_at k n -ℤ one_at k m) (λ k. entry_is n m k (nat_eq n m) refl) (range_with_len 0 p)
 
 number_most : (ps : List (List ℕ)) (q : List ℕ) → pattern_number ps q ≤ length ps
 number_most ps q = prefix_len-le-length _ ps
@@ -274,7 +260,7 @@ module _ (ps : List (List ℕ)) (v : Views) (ws : List ℕ) (most : ℕ) where
   rows_begin old new cap none is bound w =
       w.rows ∙ (ap (λ rs. add_row (map (dense (length ps)) rs) (dense (length ps) cap)) none ∙ ap (λ (r : Row). r ∷ []) (cap_stands (length v.givers) (length ps) most cap is bound))
 
-  -- the first row alone is not too many
+  -- the first row alone is not too much
   pub first_fits : (old : List SparseRow) (cap : SparseRow) → old ≡ [] → most_rows < length (add_row (map (dense (length ps)) old) (dense (length ps) cap)) → ⊥
   first_fits old cap none many =
       let size : length (add_row (map (dense (length ps)) old) (dense (length ps) cap)) ≡ 1 = ap (λ rs. length (add_row (map (dense (length ps)) rs) (dense (length ps) cap))) none in

@@ -1,21 +1,13 @@
 -- Steps of the loops of the search.
 use Rattle.std.proofs.Common.{◌≡◌, ◌<◌, ◌≤◌, ◌+◌, ◌-◌, max, ℕ, zero, suc, Bool, true, false, cond, List, [], ◌∷◌, ◌++◌, length, get_or, map, take, drop, refl, sym, ◌∙◌, ap, arith}
-use Rattle.std.specs.Prelude.{filter}
-use Rattle.std.specs.List.{flat_map, range_with_len}
 use Rattle.std.proofs.lemmas.List.{append_assoc, append-nil, map-append, length-append, take-append-drop, take_more, map_more}
-use Rattle.std.proofs.lemmas.List.Elements.{filter-append}
-use Rattle.std.proofs.lemmas.List.Concat.{flat_map-append}
-use Rattle.std.proofs.lemmas.List.FromFn.{map-range_with_len_more}
-use Rattle.dd_lattice.specs.Place.{Place}
-use Rattle.dd_lattice.specs.Cells.{cell}
+use Rattle.std.proofs.lemmas.List.{Elements.filter-append, Concat.flat_map-append, FromFn.map-range_with_len_more}
+use Rattle.std.specs.{Prelude.filter, List.flat_map, List.range_with_len}
+use Rattle.dd_lattice.specs.{Place.Place, Cells.cell, declared.position.Cell.Cell}
 use Rattle.dd_expansion.specs.Limits.{greatest}
-use Rattle.dd_lattice.specs.declared.position.Cell.{Cell}
-use Rattle.dd_formula.specs.LocalRule.{LocalRule, rule_allows}
-use Rattle.dd_rows.specs.listing.Levels.{extended_below}
-use Rattle.dd_rows.specs.lemmas.Lists.{range_last, greatest_push}
-use Rattle.dd_rows.specs.declared.fault.RowsFault.{RowsFault}
-use Rattle.dd_rows.specs.declared.fault.RowsFault.TheVariants.{Large, Memory}
-use Rattle.dd_rows.specs.Faults.{OnLarge}
+use Rattle.dd_formula.specs.{LocalRule.LocalRule, LocalRule.rule_allows, lemmas.Ranges.push_from}
+use Rattle.dd_rows.specs.{listing.Levels.extended_below, lemmas.Lists.greatest_push, declared.fault.RowsFault.RowsFault}
+use Rattle.dd_rows.specs.{declared.fault.RowsFault.TheVariants.Large, declared.fault.RowsFault.TheVariants.Memory, Faults.OnLarge}
 
 one_or_none : {X Y : Type 0} (f : X → Y) (b : Bool) (x : X) → map f (cond b (x ∷ []) []) ≡ cond b (f x ∷ []) []
 one_or_none f true x = refl
@@ -33,7 +25,7 @@ extended_one x q a ss n =
     let p : ℕ → Bool = rule_allows x a in
     let f : ℕ → List ℕ = λ s. ss ++ s ∷ [] in
     let old = range_with_len 0 n in
-    let last : range_with_len 0 (suc n) ≡ old ++ n ∷ [] = range_last 0 n ∙ ap (λ i. old ++ i ∷ []) (let same : 0 + n ≡ n = omega arith in same) in
+    let last : range_with_len 0 (suc n) ≡ old ++ n ∷ [] = push_from 0 n ∙ ap (λ i. old ++ i ∷ []) (let same : 0 + n ≡ n = omega arith in same) in
     ap (λ is. filter q (map f (filter p is))) last
     ∙ (ap (λ is. filter q (map f is)) (filter-append p old (n ∷ []))
     ∙ (ap (filter q) (map-append f (filter p old) (filter p (n ∷ [])))
@@ -83,7 +75,7 @@ extended_barred x q a ss n m next barred =
     ∙ (extended_one x q a ss n
     ∙ (ap (λ b. extended_below x q a ss n ++ cond b (cond (q (ss ++ n ∷ [])) ((ss ++ n ∷ []) ∷ []) []) []) barred ∙ append-nil (extended_below x q a ss n)))
 
--- what the lists up to one give is at most what all give
+-- what the lists up to one give is no more than what all give
 pub flat_map_grows : {X Y : Type 0} (f : X → List Y) (xs : List X) (i : ℕ) (d : X) → i < length xs → length (flat_map f (take i xs) ++ f (get_or xs i d)) ≤ length (flat_map f xs)
 flat_map_grows f xs i d below =
     let first = take (i + 1) xs in
@@ -100,7 +92,7 @@ pub flat_map_next : {X Y : Type 0} (f : X → List Y) (xs : List X) (i : ℕ) (d
 flat_map_next f xs i d below =
     ap (flat_map f) (take_more xs i d below) ∙ (flat_map-append f (take i xs) (get_or xs i d ∷ []) ∙ ap (λ ys. flat_map f (take i xs) ++ ys) (append-nil (f (get_or xs i d))))
 
--- too many symbols lists already
+-- too many lists of symbols already
 pub extended_large : (x : LocalRule) (q : List ℕ → Bool) (a : ℕ) (ss new : List ℕ) (n m most : ℕ) (old next : List (List ℕ)) → n < m → rule_allows x a n ≡ true → new ≡ ss ++ n ∷ [] →
     q new ≡ true → next ≡ old ++ extended_below x q a ss n → length next ≡ most → most < length (old ++ extended_below x q a ss m)
 extended_large x q a ss new n m most old next below allowed is kept so_far full =

@@ -1,9 +1,6 @@
 -- The domains of a discharge along some vectors.
-use Rattle.std.specs.Prelude.{ℕ, ◌≡◌, ◌⊎◌, List}
-use Rattle.std.specs.List.{Contains}
-use Rattle.dd_lattice.specs.Place.{Place, moved}
-use Rattle.dd_lattice.specs.Boxes.{IsCentred}
-use Rattle.dd_lattice.specs.Regions.{PlaceSet, IsRegionOf, seen_from}
+use Rattle.std.specs.{Prelude.ℕ, Prelude.◌≡◌, Prelude.◌⊎◌, Prelude.List, List.Contains}
+use Rattle.dd_lattice.specs.{Place.Place, Place.moved, Boxes.IsCentred, Regions.PlaceSet, Regions.IsRegionOf, Regions.seen_from}
 use Rattle.dd_lattice.specs.declared.position.Cell.{Cell}
 use Rattle.dd_formula.specs.LocalRule.{LocalRule}
 use Rattle.dd_boxes.specs.Cells.{cells_on}

@@ -2,7 +2,7 @@
 use Rattle.dd_rows.specs.declared.fault.RowsFault.{RowsFault}
 use Rattle.dd_rows.specs.declared.fault.RowsFault.TheVariants.{Large, Memory}
 
--- it is large only for the reason
+-- if the program is too large, the reason holds
 abbrev pub OnLarge : RowsFault → Type 0 → Type 0
 OnLarge Large reason = reason
 OnLarge Memory reason = Unit {0}

@@ -2,8 +2,7 @@
 use Rattle.std.specs.Prelude.{ℕ, ◌≤◌, ◌<◌, Bool, not, ◌||◌, List, [], ◌∷◌, map, filter, length, take}
 use Rattle.std.specs.List.{flat_map, range_with_len, list_all}
 use Rattle.dd_lattice.specs.declared.position.Cell.{Cell}
-use Rattle.dd_pattern.specs.Reading.{Look}
-use Rattle.dd_pattern.specs.Filling.{filled, filling_look}
+use Rattle.dd_pattern.specs.{Reading.Look, Filling.filled, Filling.filling_look}
 use Rattle.dd_formula.specs.LocalRule.{LocalRule, rule_allows, is_true}
 use Rattle.dd_boxes.specs.Fillings.{place_fits}
 
@@ -24,7 +23,7 @@ words x (c ∷ cs) = flat_map (λ s. map (λ ss. s ∷ ss) (words x cs)) (allowe
 abbrev pub is_true_if_it_fits : LocalRule → Look → Cell → Bool
 is_true_if_it_fits x look c = not (place_fits x look c) || is_true x c look
 
--- it is so at each place of the cells; no other place fits
+-- this holds at each place of the cells; no other place fits
 abbrev pub is_admissible : LocalRule → List Cell → List ℕ → Bool
 is_admissible x cs ss = list_all (is_true_if_it_fits x (look_of cs ss)) cs
 
@@ -34,7 +33,7 @@ fillings x cs = filter (is_admissible x cs) (words x cs)
 abbrev pub most_fillings : ℕ
 most_fillings = 65536
 
--- the first so many cells have too many
+-- the cells up to some number have too many fillings
 pub record HasManyFillings (x : LocalRule) (cs : List Cell) : Type 0 where
   pub cells : ℕ
   pub many : most_fillings < length (fillings x (take cells cs))

@@ -1,6 +1,5 @@
 -- The fillings that are listed are the admissible ones among all lists of symbols that the nodes allow.
-use Rattle.std.specs.Prelude.{ℕ, ◌≡◌, ◌<◌, true, List}
-use Rattle.std.specs.List.{All, Contains}
+use Rattle.std.specs.{Prelude.ℕ, Prelude.◌≡◌, Prelude.◌<◌, Prelude.true, Prelude.List, List.All, List.Contains}
 use Rattle.dd_lattice.specs.declared.position.Cell.{Cell}
 use Rattle.dd_expansion.specs.Placed.{is_flat}
 use Rattle.dd_formula.specs.LocalRule.{LocalRule}

@@ -2,15 +2,15 @@
 pub mod Domains
 -- the admissible fillings of a list of cells, in the lexicographic order of their symbols
 pub mod Fillings
--- the patterns around a position that gives, and around those that give to it
+-- the patterns around a position that sends, and around those that send to it
 pub mod Patterns
--- the program of a rule along some vectors: what each position is to hold at least
+-- the program of a rule along some vectors: how much each position holds at least
 pub mod Programs
--- why there is none
+-- why a rule has no program
 pub mod Faults
 -- that the fillings are the admissible ones
 pub mod Laws
--- what the search appends, by what stands so far
+-- what the search appends to what it has so far
 pub mod listing
--- lemmas on what stands above, with their proofs, for whoever cites them
+-- lemmas on these definitions, with their proofs, for other crates to cite
 pub mod lemmas

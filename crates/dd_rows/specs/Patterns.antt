@@ -1,12 +1,8 @@
--- The patterns around a position that gives along some vectors and around those that give to it.
+-- The patterns around a position that sends along some vectors, and around those that send to it.
 use Rattle.std.specs.Prelude.{ℕ, List, [], ◌∷◌, map, unwrap_or}
-use Rattle.std.specs.List.{fold, flat_map, position_or_len}
-use Rattle.std.specs.Ordering.{nat_cmp, is_eq}
-use Rattle.std.specs.Cmp.Lexicographic.{slice_cmp}
+use Rattle.std.specs.{List.fold, List.flat_map, List.position_or_len, Ordering.nat_cmp, Ordering.is_eq, Cmp.Lexicographic.slice_cmp}
 use Rattle.std.specs.BTreeSet.{insert_key}
-use Rattle.dd_lattice.specs.Place.{Place}
-use Rattle.dd_lattice.specs.Cells.{shifted}
-use Rattle.dd_lattice.specs.declared.position.Cell.{Cell}
+use Rattle.dd_lattice.specs.{Place.Place, Cells.shifted, declared.position.Cell.Cell}
 use Rattle.dd_topology.specs.Topology.{reversed}
 use Rattle.dd_pattern.specs.Reading.{Look}
 use Rattle.dd_formula.specs.LocalRule.{LocalRule}
@@ -30,7 +26,7 @@ patterns_in box vs look = pattern_at box look origin ∷ givers box vs look
 abbrev pub in_lexicographic_order : List (List ℕ) → List (List ℕ)
 in_lexicographic_order lists = fold (insert_key (slice_cmp nat_cmp)) [] lists
 
--- those that stand in some admissible filling of the cells
+-- the patterns that occur in some admissible filling of the cells
 abbrev pub patterns : LocalRule → ℕ → List Place → List Cell → List (List ℕ)
 patterns x radius vs cs = in_lexicographic_order (flat_map (λ ss. patterns_in (box_cells x radius) vs (look_of cs ss)) (fillings x cs))
 

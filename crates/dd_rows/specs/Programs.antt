@@ -1,26 +1,17 @@
--- The program of a rule along some vectors: what each position is to hold at least, once each has given along each vector an
--- amount that its pattern determines. Column 0 is what each holds; then there is a column for each vector and each pattern.
+-- The program of a rule along some vectors: how much each position holds at least, after each has sent along each
+-- vector an amount that its pattern determines. Column 0 is what each position holds. Then there is a column for each
+-- vector and each pattern.
 use Rattle.std.specs.Prelude.{ℕ, ◌+◌, ◌*◌, ◌<◌, ◌≤◌, ◌≡◌, ◌⊎◌, Bool, ◌&&◌, cond, pos, ◌-ℤ◌, ℤ, List, [], ◌∷◌, ◌++◌, map, length, replicate, unwrap_or}
-use Rattle.std.specs.Bool.{nat_eq}
-use Rattle.std.specs.Ordering.{int_eq}
-use Rattle.std.specs.List.{fold, flat_map, list_any, range_with_len}
+use Rattle.std.specs.{Bool.nat_eq, Ordering.int_eq, List.fold, List.flat_map, List.list_any, List.range_with_len}
 use Rattle.std.specs.Cmp.Lexicographic.{pointwise}
-use Rattle.dd_lattice.specs.Place.{Place}
-use Rattle.dd_lattice.specs.Cells.{cell}
-use Rattle.dd_lattice.specs.declared.position.Cell.{Cell}
-use Rattle.dd_pattern.specs.Reading.{Look}
-use Rattle.dd_pattern.specs.Weight.{total_weight}
+use Rattle.dd_lattice.specs.{Place.Place, Cells.cell, declared.position.Cell.Cell}
+use Rattle.dd_pattern.specs.{Reading.Look, Weight.total_weight}
 use Rattle.dd_expansion.specs.Limits.{greatest}
 use Rattle.dd_formula.specs.LocalRule.{LocalRule}
-use Rattle.dd_rows.specs.declared.rows.Row.{Row}
-use Rattle.dd_rows.specs.declared.rows.Rows.{Rows}
-use Rattle.dd_rows.specs.declared.fault.RowsFault.{RowsFault}
-use Rattle.dd_boxes.specs.Cells.{box_cells}
-use Rattle.dd_rows.specs.Domains.{IsGround}
+use Rattle.dd_rows.specs.{declared.rows.Row.Row, declared.rows.Rows.Rows, declared.fault.RowsFault.RowsFault, Domains.IsGround}
 use Rattle.dd_rows.specs.Fillings.{look_of, fillings, HasManyFillings, HasFewFillings}
-use Rattle.dd_rows.specs.Patterns.{pattern_at, givers, patterns, pattern_number}
-use Rattle.dd_boxes.specs.Boxes.{origin}
-use Rattle.dd_rows.specs.Faults.{OnLarge}
+use Rattle.dd_rows.specs.{Patterns.pattern_at, Patterns.givers, Patterns.patterns, Patterns.pattern_number, Faults.OnLarge}
+use Rattle.dd_boxes.specs.{Cells.box_cells, Boxes.origin}
 
 abbrev pub one_at : ℕ → ℕ → ℤ
 one_at k n = pos (cond (nat_eq k n) 1 0)
@@ -34,7 +25,7 @@ coefficients ps out ins =
 abbrev pub origin_weight : LocalRule → List ℕ → Look → ℕ
 origin_weight x ws look = total_weight ws (map (λ a. unwrap_or (look (cell origin a)) 0) (range_with_len 0 x.nodes))
 
--- what a filling asks: the origin holds at most its weight, less what it gives, with what it receives
+-- what a filling requires: the origin holds at most its weight, less what it sends, plus what it receives
 abbrev pub row_of : LocalRule → List ℕ → ℕ → List Place → List (List ℕ) → Look → Row
 row_of x ws radius vs ps look =
     let box = box_cells x radius in
@@ -68,7 +59,7 @@ most_columns = 256
 abbrev pub most_rows : ℕ
 most_rows = 2048
 
--- the program, which is within its limits
+-- the program, within its limits
 pub record IsProgramOf (x : LocalRule) (ws : List ℕ) (radius margin : ℕ) (vs : List Place) (p : Rows) : Type 0 where
   pub ground : List Cell
   pub is_ground : IsGround x radius margin vs ground

@@ -3,3 +3,4 @@ pub mod Ready
 pub mod FormulaLaws
 pub mod Growing
 pub mod AdmissibleLaws
+pub mod UnitLaws

@@ -85,7 +85,7 @@ pub(crate) fn box_cells(alloc: Global, rule: &Rule, radius: u32) -> Result<Items
     Ok(cells)
 }
 
-/// The cells of the domain grown by the margin, in cell order. It fails for want of memory alone.
+/// The cells of the domain grown by the margin, in cell order. It fails only if memory runs out.
 pub fn ground(
     alloc: Global,
     rule: &Rule,

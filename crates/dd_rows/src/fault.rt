@@ -7,10 +7,10 @@ use thiserror::Error;
 /// Why the program of a rule was not made.
 #[derive(Clone, Copy, Debug, PartialEq, Eq, Error)]
 pub enum RowsFault {
-    /// Some first cells have more than 65,536 admissible fillings, or there are more than 2,048 rows or 256 columns.
+    /// A prefix of the cells has more than 65,536 admissible fillings, or there are more than 2,048 rows or 256 columns.
     #[error("the program of the discharge is too large")]
     Large,
-    /// Memory was wanting.
+    /// Memory ran out.
     #[error("out of memory")]
     Memory,
 }

@@ -5,7 +5,7 @@ ghost use Rattle.dd_rows.specs.Laws.{AreCellsOf, AreTheAdmissible};
 
 use dd_formula::Rule;
 
-/// Does nothing; its contract is the law of the fillings that are listed: they are the admissible ones among all lists of
+/// Does nothing; its contract is the law of the listed fillings: they are the admissible ones among all lists of
 /// symbols that the nodes of the cells allow.
 #[tactic(auto, using(crate::specs::lemmas::AdmissibleLaws::the_admissible))]
 pub fn the_admissible(_rule: &Rule)

@@ -75,7 +75,7 @@ impl Pattern {
         }
     }
 
-    /// Takes the symbols with these numbers in place of its own, and keeps its room for them.
+    /// Replaces its symbols by those with these numbers, and keeps its memory.
     pub(crate) fn read(&mut self, symbols: &[u32], numbers: &[usize]) -> Result<(), AllocError>
         ensures { OnOk result (self.new ≡ symbols_at symbols.now numbers.now) }
     {
@@ -130,7 +130,7 @@ impl Patterns {
         self.list.len()
     }
 
-    /// Puts the pattern in its place, unless it is there.
+    /// Inserts the pattern at its place, unless it is there.
     pub(crate) fn insert(&mut self, alloc: Global, pattern: &Pattern) -> Result<(), AllocError>
         ensures { OnOk result (self.new ≡ insert_key (slice_cmp nat_cmp) self.old pattern.now) }
     {
@@ -154,7 +154,7 @@ impl Patterns {
         }
     }
 
-    /// The symbols of each.
+    /// The symbols of each pattern.
     pub(crate) fn lists(&self, alloc: Global) -> Result<Items<Items<u32>>, AllocError>
         ensures { IfOk result (λ lists. lists ≡ self.now) }
     {

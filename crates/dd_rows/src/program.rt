@@ -1,4 +1,4 @@
-//! The program of a rule along some vectors: its patterns, and the distinct rows that its fillings ask.
+//! The program of a rule along some vectors: its patterns, and the distinct rows that its fillings require.
 ghost use Rattle.std.specs.Prelude.{◌≡◌, ◌≤◌, ◌<◌, ℕ, map, length, IfOk, IfErr, OnOk, All};
 ghost use Rattle.std.specs.List.{flat_map};
 ghost use Rattle.dd_values.specs.Bounds.{most_weight, widest_radius};
@@ -32,7 +32,7 @@ const MOST_COLUMNS: usize = 256;
 /// The greatest number of rows.
 const MOST_ROWS: usize = 2_048;
 
-/// Puts the patterns that one filling shows.
+/// Adds the patterns that one filling shows.
 fn add_patterns(
     alloc: Global,
     symbols: &[u32],
@@ -51,7 +51,7 @@ fn add_patterns(
     Ok(())
 }
 
-/// The patterns that the fillings show; none are looked for once they give too many columns.
+/// The patterns that the fillings show. The search for them ends once they give too many columns.
 fn all_patterns(
     alloc: Global,
     fillings: &[Items<u32>],
@@ -74,7 +74,7 @@ fn all_patterns(
     Ok(patterns)
 }
 
-/// The row that a filling asks.
+/// The row that a filling requires.
 fn asked_row(
     alloc: Global,
     symbols: &[u32],
@@ -95,7 +95,7 @@ fn asked_row(
     Ok(SparseRow::new(list, weight_of(seen.symbols(), weights)))
 }
 
-/// Puts a row behind the others, unless it is there.
+/// Adds a row after the others, unless it is there.
 fn add_row(rows: &mut IndexSet<SparseRow>, row: SparseRow) -> Result<(), RowsFault>
     ensures ok { (vectors : ℕ) → (patterns : ℕ) → AreSparse vectors patterns rows.old.keys → IsSparse vectors patterns row →
         OnOk result (IsWithRow vectors patterns rows.old.keys row rows.new.keys) }
@@ -113,8 +113,8 @@ fn add_row(rows: &mut IndexSet<SparseRow>, row: SparseRow) -> Result<(), RowsFau
     Ok(())
 }
 
-/// The distinct rows that the fillings ask, behind the one that no position holds more than the heaviest; none are looked for
-/// once there are too many.
+/// The distinct rows that the fillings require, after the one that no position holds more than the heaviest. The
+/// search for them ends once there are too many.
 fn distinct_rows(
     alloc: Global,
     fillings: &[Items<u32>],
@@ -176,7 +176,7 @@ fn greatest_weight(weights: &[u32]) -> u32
     most
 }
 
-/// The program of a list of fillings: the patterns that they show, and the distinct rows that they ask.
+/// The program of a list of fillings: the patterns that they show, and the distinct rows that they require.
 fn program_listed(
     alloc: Global,
     fillings: &[Items<u32>],
@@ -199,7 +199,7 @@ fn program_listed(
     })
 }
 
-/// The program of the fillings, from those of which the views show something new.
+/// The program of the fillings, made from those whose views show something new.
 fn program_shown(
     alloc: Global,
     fillings: &[Items<u32>],
@@ -221,8 +221,8 @@ fn program_shown(
 /// The program of a rule along the vectors, for a domain of the radius grown by the margin. Each symbol has a weight.
 ///
 /// # Errors
-/// `Large` exactly where some first cells of the grown domain have more than 65,536 admissible fillings, or the program more
-/// than 256 columns or 2,048 rows; else `Memory`.
+/// `Large` exactly if a prefix of the cells of the grown domain has more than 65,536 admissible fillings, or the
+/// program has more than 256 columns or 2,048 rows; else `Memory`.
 pub fn program_of(
     alloc: Global,
     rule: &Rule,

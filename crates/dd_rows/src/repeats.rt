@@ -44,7 +44,7 @@ fn are_all_same(one: &[u32], other: &[u32], lists: &[Items<usize>]) -> bool
     true
 }
 
-/// Whether the views show the same of both.
+/// Whether the views show the same in both.
 fn show_alike(one: &[u32], other: &[u32], views: &Views) -> bool
     ensures { IsTrue result → ShowAlike views.now one.now other.now }
 {
@@ -57,7 +57,7 @@ fn show_alike(one: &[u32], other: &[u32], views: &Views) -> bool
     are_all_same(one, other, views.givers.as_slice())
 }
 
-/// Whether the views show the same of the last filling.
+/// Whether the views show the same in the last filling.
 fn ends_alike(shown: &[Items<u32>], symbols: &[u32], views: &Views) -> bool
     ensures { IsTrue result → EndsAlike views.now shown.now symbols.now }
 {
@@ -67,7 +67,7 @@ fn ends_alike(shown: &[Items<u32>], symbols: &[u32], views: &Views) -> bool
     }
 }
 
-/// The fillings without those of which the views show what they show of the one before. They give the same patterns and rows.
+/// The fillings without those whose views show the same as in the one before. They give the same patterns and rows.
 pub(crate) fn without_repeats(
     alloc: Global,
     fillings: &[Items<u32>],

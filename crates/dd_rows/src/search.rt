@@ -1,4 +1,4 @@
-//! The search for fillings: cell by cell, all fillings of the first cells.
+//! The search for fillings: cell by cell, it finds all fillings of the first cells.
 ghost use Rattle.std.specs.Prelude.{◌≡◌, ◌<◌, ◌≤◌, ◌+◌, ◌++◌, [], ◌∷◌, length, map, IfOk, OnOk, IfErr};
 ghost use Rattle.std.specs.List.{flat_map, range_with_len};
 ghost use Rattle.std.specs.List.Sorted.{IsStrictlySortedBy};
@@ -22,7 +22,7 @@ use std::alloc::{AllocError, Global};
 /// The greatest number of admissible fillings of the first cells.
 const MOST_FILLINGS: usize = 65_536;
 
-/// Writes one symbol more.
+/// Appends one symbol.
 fn write_symbol(longer: &mut Vec<u32>, symbol: u32) -> Result<(), AllocError>
     ensures { OnOk result (longer.new.items ≡ longer.old.items ++ symbol ∷ []) }
 {
@@ -30,7 +30,7 @@ fn write_symbol(longer: &mut Vec<u32>, symbol: u32) -> Result<(), AllocError>
     Ok(())
 }
 
-/// Puts the symbols with each one more under which the formulas are true; they are written into `longer` before.
+/// Adds each list of the symbols and one more for which the formulas are true. The lists are first written into `longer`.
 fn extend(
     alloc: Global,
     rule: &Rule,
@@ -64,7 +64,7 @@ fn extend(
     Ok(())
 }
 
-/// The fillings of one cell more.
+/// The fillings of one more cell.
 fn next_level(
     alloc: Global,
     rule: &Rule,
@@ -93,7 +93,7 @@ fn next_level(
     Ok(next)
 }
 
-/// For each of the cells, the greatest number of it and of those that the rule reads there.
+/// For each of the cells, the greatest among its number and those of the cells that the rule reads there.
 fn last_numbers(alloc: Global, rule: &Rule, cells: &[Cell]) -> Result<Vec<usize>, AllocError>
     requires ascending { IsStrictlySortedBy cell_cmp cells.now }
     requires nodes { AreOf rule.now cells.now }
@@ -107,7 +107,7 @@ fn last_numbers(alloc: Global, rule: &Rule, cells: &[Cell]) -> Result<Vec<usize>
     Ok(numbers)
 }
 
-/// The greatest number of the cell and of those that the rule reads there.
+/// The greatest among the number of the cell and those of the cells that the rule reads there.
 fn last_number(rule: &Rule, cells: &[Cell], cell: &Cell) -> usize
     requires ascending { IsStrictlySortedBy cell_cmp cells.now }
     requires node { cell.now.node < rule.now.nodes }
@@ -139,7 +139,7 @@ pub(crate) fn number_of_read(cells: &[Cell], cell: &Cell, read: &Cell) -> usize
     }
 }
 
-/// So many empty lists.
+/// A number of empty lists.
 fn empty_lists(alloc: Global, count: usize) -> Result<Vec<Items<Cell>>, AllocError>
     ensures { IfOk result (λ lists. lists.items ≡ map (chosen [] []) (range_with_len 0 count)) }
 {
@@ -150,7 +150,7 @@ fn empty_lists(alloc: Global, count: usize) -> Result<Vec<Items<Cell>>, AllocErr
     Ok(lists)
 }
 
-/// For each number of a cell the cells that have it, by the number of each cell.
+/// For each number, the cells that have it, by the number of each cell.
 fn places_by_number(
     alloc: Global,
     numbers: &[usize],
@@ -174,7 +174,7 @@ fn places_by_number(
 /// the lexicographic order of their symbols.
 ///
 /// # Errors
-/// `Large` where the first so many cells have more than 65,536 of them; else `Memory`.
+/// `Large` if a prefix of the cells has more than 65,536 of them; else `Memory`.
 pub fn fillings(alloc: Global, rule: &Rule, cells: &[Cell]) -> Result<Items<Items<u32>>, RowsFault>
     requires ascending { IsStrictlySortedBy cell_cmp cells.now }
     requires nodes { AreOf rule.now cells.now }

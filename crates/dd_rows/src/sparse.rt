@@ -1,5 +1,5 @@
-//! Rows by what they say along each vector. Along each at most two of a row's coefficients are not 0, so that rows are told
-//! apart by few numbers.
+//! Rows by what they say along each vector. Along each vector at most two of a row's coefficients are not 0, so a few
+//! numbers tell rows apart.
 ghost use Rattle.std.specs.Prelude.{◌≡◌, ◌++◌, ◌∷◌, [], pos, None, replicate, length, map, IfOk, OnOk};
 ghost use Rattle.dd_pattern.specs.Weight.{total_weight};
 ghost use Rattle.dd_rows.specs.Patterns.{pattern_number};
@@ -12,7 +12,7 @@ use crate::views::Views;
 use dd_values::Items;
 use std::alloc::{AllocError, Global};
 
-/// The numbers of the patterns by which the origin gives along a vector and receives along it, where these differ.
+/// The numbers of the patterns by which the origin sends along a vector and receives along it, if these differ.
 #[derive(Clone, Copy, PartialEq, Eq, Hash)]
 pub(crate) struct Exchange {
     gives: usize,
@@ -26,7 +26,7 @@ pub(crate) struct SparseRow {
     bound: u64,
 }
 
-/// The amounts of a pattern that gives and of the same that receives cancel.
+/// The exchange of two patterns. If they are the same, the amounts sent and received cancel.
 fn exchange_between(gives: usize, receives: usize) -> Option<Exchange>
     ensures { result ≡ exchange_of gives receives }
 {
@@ -37,7 +37,7 @@ fn exchange_between(gives: usize, receives: usize) -> Option<Exchange>
     }
 }
 
-/// The number of the pattern that the symbols show there.
+/// The number of the pattern that the symbols show at these cells.
 fn number_seen(
     symbols: &[u32],
     numbers: &[usize],
@@ -81,7 +81,7 @@ fn entry(exchange: &Option<Exchange>, pattern: usize) -> i64
     }
 }
 
-/// Puts the coefficients of each of so many patterns.
+/// Appends the coefficients of the first `patterns` patterns.
 fn push_entries(
     coefficients: &mut Items<i64>,
     exchange: &Option<Exchange>,
@@ -103,7 +103,7 @@ impl SparseRow {
         SparseRow { exchanges, bound }
     }
 
-    /// The row along so many vectors that says that no position holds more than the bound.
+    /// The row along `vectors` vectors that says that no position holds more than the bound.
     pub(crate) fn cap(alloc: Global, vectors: usize, bound: u64) -> Result<SparseRow, AllocError>
         ensures exchanges { IfOk result (λ row. row.exchanges.items ≡ replicate vectors None) }
         ensures bound { IfOk result (λ row. row.bound ≡ bound) }
@@ -112,7 +112,7 @@ impl SparseRow {
         Ok(SparseRow { exchanges, bound })
     }
 
-    /// All its coefficients, for so many patterns.
+    /// All its coefficients, for `patterns` patterns.
     pub(crate) fn dense(&self, alloc: Global, patterns: usize) -> Result<Row, AllocError>
         ensures { IfOk result (λ row. row ≡ dense patterns self.now) }
     {

@@ -1,4 +1,4 @@
-//! Where the cells that a row of the program reads stand among the cells of its fillings.
+//! The places, among the cells of the fillings, of the cells that a row of the program reads.
 ghost use Rattle.std.specs.Prelude.{◌≡◌, ◌<◌, ◌≤◌, ◌*◌, pos, map, length, IfOk, IfErr};
 ghost use Rattle.std.specs.List.{All, range_with_len};
 ghost use Rattle.std.specs.List.Sorted.{IsStrictlySortedBy};
@@ -27,9 +27,9 @@ const ORIGIN: Position = Position { x: 0, y: 0, z: 0 };
 pub(crate) struct Views {
     /// The cells of the origin's position.
     pub(crate) centre: Items<usize>,
-    /// Those of the box around the origin.
+    /// The cells of the box around the origin.
     pub(crate) origin: Items<usize>,
-    /// For each vector those of the box around its opposite, from where the origin receives.
+    /// For each vector the cells of the box around its opposite, from where the origin receives.
     pub(crate) givers: Items<Items<usize>>,
 }
 
@@ -55,7 +55,7 @@ fn view(
     Ok(numbers)
 }
 
-/// These numbers around the opposite of each vector.
+/// The numbers of the cells of the box around the opposite of each vector.
 fn givers(
     alloc: Global,
     cells: &[Cell],

@@ -5,7 +5,7 @@ use Rattle.std.proofs.lemmas.Fmt.{length-decimal-le_succ}
 use Rattle.dd_values.specs.Bounds.{most_script}
 use Rattle.dd_sample.specs.Sample.{IsSampleNumber, rules_text, queries_text, sample_text}
 
--- at most as long as it is
+-- at most as long as its length
 fits : (xs : List ℕ) (n : ℕ) → length xs ≡ n → length xs ≤ n
 fits xs n is = omega (arith, is)
 

@@ -1,29 +1,29 @@
--- Which number a word writes, by its first character and what was read of it.
+-- Which number a word gives, by its first character and what `parse` read.
 use Rattle.std.proofs.Common.{◌≡◌, ◌⊎◌, inl, inr, ℕ, zero, suc, ◌≤◌, List, slice_index, Result, Ok, sym, ◌∙◌, ap, subst, arith, decimal}
 use Rattle.std.specs.Str.Parse.{IsNumeral, digits_value, without_leading_plus, ParsesUnsigned}
 use Rattle.std.proofs.lemmas.Str.Parse.{numerals_by_value, tells_digits, without_leading_plus_none}
 use Rattle.std.proofs.lemmas.Fmt.{decimal_digit, first_decimal, parse-decimal, decimal-digits_value}
 use Rattle.dd_sample.specs.Sample.{IsWrittenBy}
 
--- a plus or a zero stands first
+-- the word begins with a plus or a zero
 abbrev pub IsLed : List ℕ → Type 0
 IsLed word = (slice_index word 0 ≡ 43) ⊎ (slice_index word 0 ≡ 48)
 
--- the number of a sample begins with a digit from 1 on
+-- the number of a sample begins with a digit from 1 to 9
 pub not_led : (word : List ℕ) (n : ℕ) → IsWrittenBy word n → ¬ IsLed word
 not_led word n writes (inl plus) = omega (arith, first_decimal n (omega (arith, writes.0.0)) (omega (arith, writes.0.1)), ap (λ w. slice_index w 0) writes.1, plus)
 not_led word n writes (inr nought) = omega (arith, first_decimal n (omega (arith, writes.0.0)) (omega (arith, writes.0.1)), ap (λ w. slice_index w 0) writes.1, nought)
 
--- what is read of a word that writes the number of a sample
+-- what is read from a word that gives the number of a sample
 pub read_again : {E : Type 0} (word : List ℕ) (n : ℕ) (r : Result ℕ E) → ParsesUnsigned 32 10 word r → IsWrittenBy word n → r ≡ Ok n
 read_again word n r parsed writes = parse-decimal 32 n word r (omega (arith, writes.0.1)) (omega (arith, writes.0.1)) writes.1 parsed
 
--- no word but 0 writes 0
+-- only the word 0 gives 0
 not_0 : (word : List ℕ) (n : ℕ) → word ≡ decimal n → ¬ IsLed word → 1 ≤ n
 not_0 word zero is plain = absurd (plain (inr (ap (λ w. slice_index w 0) (is ∙ decimal_digit 0 (omega arith)))))
 not_0 word (suc n) is plain = omega arith
 
--- the number that was read of another word
+-- the number that was read from another word
 pub written : {E : Type 0} (word : List ℕ) (n : ℕ) (r : Result ℕ E) → r ≡ Ok n → ParsesUnsigned 32 10 word r → ¬ IsLed word → n ≤ 16384
     → IsWrittenBy word n
 written word n r is_read parsed plain few =

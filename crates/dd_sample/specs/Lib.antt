@@ -1,2 +1,2 @@
--- the sample scripts, and the words that name them
+-- the sample scripts, and the words that give their numbers
 pub mod Sample

@@ -1,9 +1,8 @@
--- The sample scripts, and the words that name them.
+-- The sample scripts, and the words that give their numbers.
 use Rattle.std.specs.Prelude.{◌≡◌, ℕ, ◌*◌, ◌≤◌, List, ◌++◌, codes, Option, Some, None}
-use Rattle.std.specs.List.{repeat}
-use Rattle.std.specs.Fmt.{decimal}
+use Rattle.std.specs.{List.repeat, Fmt.decimal}
 
--- There is a sample with this number. The configuration of the last has as many symbols as a script may give.
+-- There is a sample with this number. The configuration of the last sample has as many symbols as a script allows.
 abbrev pub IsSampleNumber : ℕ → Type 0
 IsSampleNumber number = (1 ≤ number) × (number ≤ 16384)
 
@@ -11,7 +10,7 @@ IsSampleNumber number = (1 ≤ number) × (number ≤ 16384)
 abbrev pub IsWrittenBy : List ℕ → ℕ → Type 0
 IsWrittenBy word number = IsSampleNumber number × (word ≡ decimal number)
 
--- the number of a sample that the word writes; none where it writes none
+-- the sample number that the word gives, or none if it gives none
 abbrev pub IsNumberOf : List ℕ → Option ℕ → Type 0
 IsNumberOf word (Some number) = IsWrittenBy word number
 IsNumberOf word None = (number : ℕ) → ¬ IsWrittenBy word number
@@ -37,7 +36,7 @@ queries_text =
     ++ (codes "%density dom [5]\n"
     ++ codes "%discharge dom 0 0 [1 0] [-1 0] [0 1] [0 -1]\n")))))
 
--- The sample script with this number. Its configuration is two wide: the rows 1 0 and 0 1 in turn, each as often as the number says.
+-- The sample script with this number. Its configuration is two wide: the rows 1 0 and 0 1 alternate, each `number` times.
 unfoldable pub sample_text : ℕ → List ℕ
 sample_text number =
     rules_text

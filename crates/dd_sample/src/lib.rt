@@ -1,4 +1,4 @@
-//! The sample scripts: one for each number, with the same queries over a configuration that is as long as the number says.
+//! The sample scripts, one for each number. All have the same queries; the number determines the length of the configuration.
 #![tactic(auto)]
 
 mod number;

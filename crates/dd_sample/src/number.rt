@@ -1,11 +1,11 @@
-//! The numbers of samples, as words write them.
+//! The numbers of samples, as words.
 ghost use Rattle.std.specs.Prelude.{◌≡◌, ◌⊎◌, ◌↔◌, IsTrue, slice_index};
 ghost use Rattle.dd_sample.specs.Sample.{IsNumberOf};
 
-// The greatest number of a sample: its configuration has as many symbols as a script may give.
+// The greatest number of a sample: its configuration has the greatest number of symbols that a script allows.
 const LARGEST: u32 = 16_384;
 
-// Whether a plus or a zero stands first: `parse` reads numbers that are written so.
+// Whether the word begins with a plus or a zero, which `parse` would accept.
 fn is_led(word: &str) -> bool
     ensures { IsTrue result ↔ (slice_index word.now 0 ≡ 43) ⊎ (slice_index word.now 0 ≡ 48) }
 {
@@ -15,7 +15,7 @@ fn is_led(word: &str) -> bool
     }
 }
 
-/// The number of a sample that this word writes, in decimal without a leading zero.
+/// The sample number that this word gives, in decimal without a leading zero.
 pub fn sample_number(word: &str) -> Option<u32>
     ensures { IsNumberOf word.now result }
 {

@@ -1,31 +1,22 @@
--- The rules of a sample are without a fault, and mean what they are to mean.
+-- The rules of a sample have no fault, and mean what they should.
 use Rattle.std.proofs.Common.{◌≡◌, ℕ, List, [], ◌∷◌, ◌++◌, map, codes, false, ap}
-use Rattle.std.specs.Prelude.{nat_lt}
-use Rattle.std.specs.List.{flat_map}
-use Rattle.dd_written.specs.declared.lexeme.Word.{Word}
-use Rattle.dd_written.specs.declared.lexeme.Lexeme.{Lexeme}
-use Rattle.dd_written.specs.declared.tree.Atom.{Atom}
-use Rattle.dd_written.specs.declared.tree.Ball.{Ball}
-use Rattle.dd_written.specs.declared.tree.Quantifier.{Quantifier}
-use Rattle.dd_written.specs.declared.tree.Quantifier.TheVariants as quantifier
-use Rattle.dd_written.specs.declared.tree.Join.{Join}
+use Rattle.std.specs.{Prelude.nat_lt, List.flat_map}
+use Rattle.dd_written.specs.declared.{lexeme.Word.Word, lexeme.Lexeme.Lexeme, tree.Atom.Atom, tree.Ball.Ball}
+use Rattle.dd_written.specs.declared.tree.{Quantifier.Quantifier, Join.Join}
 use Rattle.dd_written.specs.declared.tree.Formula.{Formula, roll-Formula}
-use Rattle.dd_written.specs.declared.tree.Formula.TheFolds.{fold-roll-Formula}
-use Rattle.dd_written.specs.declared.tree.Formula.TheOpen.{Formula-F}
+use Rattle.dd_written.specs.declared.tree.Formula.{TheFolds.fold-roll-Formula, TheOpen.Formula-F}
 use Rattle.dd_expansion.specs.declared.formulas.Formula.{Formula as Meant}
-use Rattle.dd_faults.specs.declared.fault.Fault.{Fault}
-use Rattle.dd_faults.specs.declared.fault.Limit.TheVariants as limit
-use Rattle.dd_known.specs.declared.known.Context.{Context}
-use Rattle.dd_faults.specs.Order.{over}
-use Rattle.dd_faults.specs.Names.{named_again}
-use Rattle.dd_faults.specs.Numbers.{token_faults}
+use Rattle.dd_faults.specs.{declared.fault.Fault.Fault, Order.over, Names.named_again, Numbers.token_faults}
 use Rattle.dd_faults.specs.Formulas.{formula_faults, faults_step, atom_faults, quantifier_faults}
 use Rattle.dd_faults.specs.Commands.{written_faults}
+use Rattle.dd_known.specs.declared.known.Context.{Context}
 use Rattle.dd_meanings.specs.Formulas.{formula_of, formula_step, atom_of, joined_of, quantified_of, ball_of}
 use Rattle.dd_sampling.proofs.Whole.{front_text}
 use Rattle.dd_sampling.proofs.Tree.{word_at, w, here, step, steps, told, ball, hard, row, dies, zero_rule, dom, hard_text, row_text, dies_text, zero_text, dom_text, rule_written}
 use Rattle.dd_sampling.proofs.Meant.{implied, negation, conjunction, hard_meant, row_meant, dies_meant, zero_meant, dom_meant}
 use Rattle.dd_sampling.proofs.Sizes.{known}
+use Rattle.dd_written.specs.declared.tree.Quantifier.TheVariants as quantifier
+use Rattle.dd_faults.specs.declared.fault.Limit.TheVariants as limit
 
 -- ---- the folds, layer by layer
 
@@ -111,12 +102,12 @@ zero_means x = simp meanings
 dom_means : (x : Context) → formula_of x dom [] ≡ quantified_of quantifier.Exists (ball_of x [] (ball 162 163) ∷ []) (atom_of x (word_at 160 1 ∷ []) (told (here 166) 168))
 dom_means x = simp meanings
 
--- ---- where they stand
+-- ---- their contexts
 
 abbrev pub standing : List ℕ → ℕ → List (List ℕ) → List (List ℕ) → Context
 standing bytes number rules configurations = record { text = bytes; has_topology = false; number = number; known = known rules configurations }
 
--- the context of a rule of a sample, behind the rules of these names
+-- the context of a rule of a sample, after the rules with these names
 abbrev pub behind : List ℕ → ℕ → List (List ℕ) → Context
 behind more number rules = standing (front_text ++ more) number rules []
 

@@ -1,14 +1,11 @@
 -- The height of a sample's configuration, in decimal.
 use Rattle.std.proofs.Common.{◌≡◌, ℕ, ◌+◌, ◌-◌, ◌*◌, ◌/◌, ◌%◌, ◌^◌, ◌<◌, ◌≤◌, List, [], ◌∷◌, ◌++◌, codes, get_or, decimal, refl, sym, ap, ◌∙◌, subst, arith}
-use Rattle.std.specs.List.{repeat}
 use Rattle.std.proofs.lemmas.Fmt.{decimal_by_steps, first_decimal}
+use Rattle.std.specs.List.{repeat}
 use Rattle.dd_written.specs.Values.{decimal as value_from}
-use Rattle.dd_commands.specs.declared.script.Syntax.{Syntax}
-use Rattle.dd_commands.specs.Scripts.{IsScript}
+use Rattle.dd_commands.specs.{declared.script.Syntax.Syntax, Scripts.IsScript}
 use Rattle.dd_sample.specs.Sample.{IsSampleNumber, sample_text, rules_text, queries_text}
-use Rattle.dd_sampling.proofs.Cutting.{AreDigits}
-use Rattle.dd_sampling.proofs.Whole.{whole, regrouped}
-use Rattle.dd_sampling.proofs.Standing.{tree, whole_written}
+use Rattle.dd_sampling.proofs.{Cutting.AreDigits, Whole.whole, Whole.regrouped, Standing.tree, Standing.whole_written}
 
 digits_more : (ds : List ℕ) (d : ℕ) → AreDigits ds → 48 ≤ d → d ≤ 57 → AreDigits (ds ++ d ∷ [])
 digits_more [] d all low high = (low, high, tt)
@@ -28,7 +25,7 @@ digit_more : (n : ℕ) (ds : List ℕ) → 10 ≤ n → IsWrittenAs (n / 10) ds 
 digit_more n ds many so_far =
     (digits_more ds (48 + n % 10) so_far.0 (omega arith) (omega arith), value_more 0 ds (48 + n % 10) ∙ omega (arith, so_far.1))
 
--- the digits of a number from 1 on, the first apart
+-- the digits of a number of at least 1, the first one separately
 pub record Height (h : ℕ) : Type 0 where
   pub first : ℕ
   pub others : List ℕ

@@ -1,20 +1,14 @@
--- What each kind of written formula is written as, where it may stand, and how deep it is.
+-- For each kind of written formula: its text, where it may stand, and its depth.
 use Rattle.std.proofs.Common.{◌≡◌, ℕ, ◌+◌, ◌≤◌, List, [], ◌∷◌, ◌++◌, length, map, Bool, true, ap, arith}
-use Rattle.std.specs.Prelude.{◌&&◌, nat_le, ◌-◌}
-use Rattle.std.specs.List.{flat_map, list_all}
-use Rattle.dd_written.specs.declared.lexeme.Word.{Word}
-use Rattle.dd_written.specs.declared.lexeme.Lexeme.{Lexeme}
-use Rattle.dd_written.specs.declared.lexeme.Lexeme.TheVariants as lexeme
-use Rattle.dd_written.specs.declared.lexeme.Mark.TheVariants as mark
-use Rattle.dd_written.specs.declared.tree.Atom.{Atom}
-use Rattle.dd_written.specs.declared.tree.Ball.{Ball}
-use Rattle.dd_written.specs.declared.tree.Quantifier.{Quantifier}
-use Rattle.dd_written.specs.declared.tree.Join.{Join}
+use Rattle.std.specs.{Prelude.◌&&◌, Prelude.nat_le, Prelude.◌-◌, List.flat_map, List.list_all}
+use Rattle.dd_written.specs.declared.{lexeme.Word.Word, lexeme.Lexeme.Lexeme, tree.Atom.Atom, tree.Ball.Ball}
+use Rattle.dd_written.specs.declared.tree.{Quantifier.Quantifier, Join.Join}
 use Rattle.dd_written.specs.declared.tree.Formula.{Formula, roll-Formula}
-use Rattle.dd_written.specs.declared.tree.Formula.TheFolds.{fold-roll-Formula}
-use Rattle.dd_written.specs.declared.tree.Formula.TheOpen.{Formula-F}
+use Rattle.dd_written.specs.declared.tree.Formula.{TheFolds.fold-roll-Formula, TheOpen.Formula-F}
 use Rattle.dd_written.specs.Formulas.{text, text_step, stands, stands_step, tree_depth, tree_depth_step, chain_depth, separated_by, sign, join_rank, capital, ball_text, atom_text, IsWrittenFormula}
 use Rattle.dd_sampling.proofs.Tree.{hard, row, dies, zero_rule, dom, hard_text, row_text, dies_text, zero_text, dom_text}
+use Rattle.dd_written.specs.declared.lexeme.Lexeme.TheVariants as lexeme
+use Rattle.dd_written.specs.declared.lexeme.Mark.TheVariants as mark
 
 atom_text_is : (a : Atom) → text (roll-Formula (Formula-F.Atom a)) ≡ atom_text a
 atom_text_is a = fold-roll-Formula (List Lexeme) text_step (Formula-F.Atom a)

@@ -1,18 +1,14 @@
--- What tokens are to the grammar, where their text stands behind another one.
+-- What tokens mean to the grammar, if their text follows another one.
 use Rattle.std.proofs.Common.{◌≡◌, ℕ, zero, suc, ◌+◌, List, [], ◌∷◌, ◌++◌, length, map, take, drop, Option, Some, None, refl, ap, ◌∙◌, arith}
-use Rattle.dd_tokens.specs.declared.token.Token.{Token}
-use Rattle.dd_tokens.specs.declared.token.TokenKind.{TokenKind}
-use Rattle.dd_tokens.specs.declared.token.TokenKind.TheVariants as token
-use Rattle.dd_written.specs.declared.lexeme.Mark.{Mark}
-use Rattle.dd_written.specs.declared.lexeme.Word.{Word}
-use Rattle.dd_written.specs.declared.lexeme.Number.{Number}
-use Rattle.dd_written.specs.declared.lexeme.Lexeme.{Lexeme}
-use Rattle.dd_written.specs.declared.lexeme.Lexeme.TheVariants as lexeme
-use Rattle.dd_written.specs.Lexemes.{lexeme_of, marked, mark_at}
+use Rattle.dd_tokens.specs.declared.token.{Token.Token, TokenKind.TokenKind}
+use Rattle.dd_written.specs.declared.lexeme.{Mark.Mark, Word.Word, Number.Number}
+use Rattle.dd_written.specs.{declared.lexeme.Lexeme.Lexeme, Lexemes.lexeme_of, Lexemes.marked, Lexemes.mark_at}
 use Rattle.dd_written.specs.Values.{word_text, number_text}
 use Rattle.dd_sampling.proofs.Cutting.{up_token, turn_tokens}
+use Rattle.dd_tokens.specs.declared.token.TokenKind.TheVariants as token
+use Rattle.dd_written.specs.declared.lexeme.Lexeme.TheVariants as lexeme
 
--- from a place on the bytes are these
+-- from the position p on, the bytes are ys
 abbrev pub Stands : List ℕ → ℕ → List ℕ → Type 0
 Stands bytes p ys = (k : ℕ) → drop (p + k) bytes ≡ drop k ys
 
@@ -22,13 +18,13 @@ stands_behind (x ∷ xs) ys k =
     let one_on : suc (length xs) + k ≡ suc (length xs + k) = omega arith in
     ap (λ (j : ℕ). drop j (x ∷ (xs ++ ys))) one_on ∙ stands_behind xs ys k
 
--- what stands after its front
+-- if xs and then ys stand at p, ys stands after xs
 pub stands_after : (bytes : List ℕ) (p : ℕ) (xs ys : List ℕ) (q : ℕ) → Stands bytes p (xs ++ ys) → q ≡ p + length xs → Stands bytes q ys
 stands_after bytes p xs ys q stands is k =
     let at : q + k ≡ p + (length xs + k) = omega (arith, is) in
     ap (λ (j : ℕ). drop j bytes) at ∙ (stands (length xs + k) ∙ stands_behind xs ys k)
 
--- ---- the same behind p bytes more
+-- ---- the same, shifted by p bytes
 
 abbrev pub up_word : ℕ → Word → Word
 up_word p w = record { start = p + w.start; length = w.length }

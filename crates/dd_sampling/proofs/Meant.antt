@@ -1,25 +1,14 @@
--- What the rules of a sample mean: their formulas with numbers, and these without variables.
+-- What the rules of a sample mean: their formulas with indices, and then without variables.
 use Rattle.std.proofs.Common.{◌≡◌, ℕ, ◌+◌, List, [], ◌∷◌, ◌++◌, map, length, ap}
-use Rattle.std.specs.Prelude.{pos, negsuc}
-use Rattle.std.specs.List.{flat_map}
-use Rattle.std.specs.Option.{option_to_list}
-use Rattle.dd_lattice.specs.Place.{place}
-use Rattle.dd_lattice.specs.Cells.{cell}
-use Rattle.dd_lattice.specs.InOrder.{in_order}
-use Rattle.dd_lattice.specs.declared.position.Cell.{Cell}
-use Rattle.dd_topology.specs.declared.edge.Edge.{Edge}
-use Rattle.dd_topology.specs.Builtin.{square}
-use Rattle.dd_topology.specs.Sets.{all_symbols}
-use Rattle.dd_expansion.specs.declared.formulas.Term.{Term}
-use Rattle.dd_expansion.specs.declared.formulas.BallOf.{BallOf}
+use Rattle.std.specs.{Prelude.pos, Prelude.negsuc, List.flat_map, Option.option_to_list}
+use Rattle.dd_lattice.specs.{Place.place, Cells.cell, InOrder.in_order, declared.position.Cell.Cell}
+use Rattle.dd_topology.specs.{declared.edge.Edge.Edge, Builtin.square, Sets.all_symbols}
+use Rattle.dd_expansion.specs.declared.formulas.{Term.Term, BallOf.BallOf}
 use Rattle.dd_expansion.specs.declared.formulas.Formula.{Formula, roll-Formula}
-use Rattle.dd_expansion.specs.declared.formulas.Formula.TheFolds.{fold-roll-Formula}
-use Rattle.dd_expansion.specs.declared.formulas.Formula.TheOpen.{Formula-F}
+use Rattle.dd_expansion.specs.declared.formulas.Formula.{TheFolds.fold-roll-Formula, TheOpen.Formula-F}
 use Rattle.dd_expansion.specs.declared.expanded.Expanded.{Expanded, roll-Expanded}
-use Rattle.dd_expansion.specs.declared.expanded.Expanded.TheFolds.{fold-roll-Expanded}
-use Rattle.dd_expansion.specs.declared.expanded.Expanded.TheOpen.{Expanded-F}
-use Rattle.dd_expansion.specs.Terms.{cell_of, balls_of}
-use Rattle.dd_expansion.specs.Reads.{Reading, reads, reads_step}
+use Rattle.dd_expansion.specs.declared.expanded.Expanded.{TheFolds.fold-roll-Expanded, TheOpen.Expanded-F}
+use Rattle.dd_expansion.specs.{Terms.cell_of, Terms.balls_of, Reads.Reading, Reads.reads, Reads.reads_step}
 use Rattle.dd_expansion.specs.Expansion.{Expansion, expansion, expansion_step, at_cell, leaf, negated, all_of, any_of}
 use Rattle.dd_expansion.specs.Leaves.{instances, instances_step, clause_count, clause_count_step, total}
 use Rattle.dd_formula.specs.LocalRule.{LocalRule, local_rule, reads_at, expansion_at}
@@ -67,7 +56,7 @@ near = record { variable = 0; radius = 1 }
 abbrev pub dom_meant : Formula
 dom_meant = roll-Formula (Formula-F.Exists (near ∷ []) (symbol (term 1 []) 1))
 
--- the rule of a formula where a script has said nothing of cells
+-- the rule of a formula under the defaults
 abbrev pub plain_rule : Formula → LocalRule
 plain_rule f = local_rule square (all_symbols 1 2) f
 
@@ -164,7 +153,7 @@ or_clauses es = fold-roll-Expanded ℕ clause_count_step (Expanded-F.Or es)
 
 ruleset gates = (leaf_clauses, not_clauses, and_clauses, or_clauses)
 
--- ---- what is counted of a rule: its expansion, the numbers of its nodes and of its clauses, and the cells that it reads
+-- ---- the counts of a rule: its expansion, the numbers of its nodes and of its clauses, and the cells that it reads
 pub record Counts (f : Formula) (e : Expanded) (nodes clauses : ℕ) (cells : List Cell) : Type 0 where
   pub expanded : expansion_at (plain_rule f) 0 ≡ e
   pub nodes_are : instances e ≡ nodes

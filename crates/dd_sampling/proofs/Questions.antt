@@ -1,53 +1,44 @@
--- The questions of a sample are without a fault.
+-- The queries of a sample have no fault.
 use Rattle.std.proofs.Common.{◌≡◌, ℕ, List, [], ◌∷◌, ◌++◌, map, Bool, true, false, Option, Some, None, codes, refl, ap, ◌∙◌}
 use Rattle.std.specs.Fmt.{signed_decimal, digits}
 use Rattle.std.specs.Prelude.{pos, ◌-ℤ◌, nat_lt, not, ◌||◌, is_some, unwrap_or, if◌then◌else◌, bytes_eq}
-use Rattle.std.specs.List.{flat_map, list_any, slice_get}
-use Rattle.std.specs.Option.{option_map, option_and_then}
+use Rattle.std.specs.{List.flat_map, List.list_any, List.slice_get, Option.option_map, Option.option_and_then}
 use Rattle.dd_topology.specs.Naming.{number_of}
 use Rattle.dd_lattice.specs.Place.{Place}
 use Rattle.dd_pattern.specs.Tile.{Tile}
 use Rattle.dd_formula.specs.LocalRule.{LocalRule}
-use Rattle.dd_written.specs.declared.lexeme.Word.{Word}
-use Rattle.dd_written.specs.declared.lexeme.Number.{Number}
-use Rattle.dd_written.specs.declared.lexeme.Lexeme.{Lexeme}
-use Rattle.dd_written.specs.declared.lexeme.Lexeme.TheVariants as lexeme
-use Rattle.dd_written.specs.declared.tree.Name.TheVariants as name
+use Rattle.dd_written.specs.declared.lexeme.{Word.Word, Number.Number, Lexeme.Lexeme}
 use Rattle.dd_written.specs.Values.{word_text, written_value, unsigned, decimal as value_from}
-use Rattle.dd_commands.specs.declared.command.Entry.{Entry}
-use Rattle.dd_commands.specs.declared.command.Entry.TheVariants as entry
-use Rattle.dd_commands.specs.declared.command.Vector.{Vector}
-use Rattle.dd_commands.specs.declared.command.Request.{Request}
+use Rattle.dd_commands.specs.declared.command.{Entry.Entry, Vector.Vector, Request.Request}
 use Rattle.dd_commands.specs.Commands.{request_text}
-use Rattle.dd_faults.specs.declared.fault.Fault.{Fault}
-use Rattle.dd_faults.specs.declared.fault.Fault.TheVariants as fault
-use Rattle.dd_faults.specs.declared.fault.Limit.TheVariants as limit
-use Rattle.dd_known.specs.declared.known.Context.{Context}
-use Rattle.dd_faults.specs.Order.{when, over}
-use Rattle.dd_faults.specs.Names.{missing}
+use Rattle.dd_faults.specs.{declared.fault.Fault.Fault, Order.when, Order.over, Names.missing}
 use Rattle.dd_faults.specs.Numbers.{token_faults, entry_value, is_far}
 use Rattle.dd_faults.specs.Repeats.{first_repeat, vector_key, entry_key, twice_vector, twice_vectors}
 use Rattle.dd_faults.specs.Commands.{written_faults, radius_faults, vector_faults}
-use Rattle.dd_query.specs.declared.queries.Query.{Query}
-use Rattle.dd_query.specs.Queries.{query_of}
+use Rattle.dd_known.specs.declared.known.Context.{Context}
+use Rattle.dd_query.specs.{declared.queries.Query.Query, Queries.query_of}
 use Rattle.dd_boxes.specs.Goals.{breaks}
 use Rattle.dd_question.specs.declared.excess.Excess.{Excess}
-use Rattle.dd_question.specs.declared.excess.Excess.TheVariants as excess
 use Rattle.dd_question.specs.Questions.{membership, box, equality, density, discharge, passed, excess_of}
 use Rattle.dd_question.specs.Boxes.{is_long}
-use Rattle.dd_script.specs.Parts.{Parts}
-use Rattle.dd_script.specs.Questions.{of_both, query_excess}
+use Rattle.dd_script.specs.{Parts.Parts, Questions.of_both, Questions.query_excess}
 use Rattle.dd_sampling.proofs.Lexing.{Stands, number_at, up_word, up_number, up_lexeme, word_up, number_up}
 use Rattle.dd_sampling.proofs.Whole.{tail_text}
 use Rattle.dd_sampling.proofs.Tree.{word_at, up_entry, up_vector, up_request, question_written, vector, plus, minus, member_hard, row_hard, hard_row, hard_equals_row, zero_dies, density_dom, discharge_dom}
 use Rattle.dd_sampling.proofs.Meant.{plain_rule, hard_meant, row_meant, dies_meant, zero_meant, dom_meant}
 use Rattle.dd_sampling.proofs.Sizes.{limits, known, row_hard_short, hard_row_short, zero_dies_short, dom_narrow}
 use Rattle.dd_sampling.proofs.Faultless.{standing, names_5}
+use Rattle.dd_written.specs.declared.lexeme.Lexeme.TheVariants as lexeme
+use Rattle.dd_written.specs.declared.tree.Name.TheVariants as name
+use Rattle.dd_commands.specs.declared.command.Entry.TheVariants as entry
+use Rattle.dd_faults.specs.declared.fault.Fault.TheVariants as fault
+use Rattle.dd_faults.specs.declared.fault.Limit.TheVariants as limit
+use Rattle.dd_question.specs.declared.excess.Excess.TheVariants as excess
 
-none_and : (xs ys : List Fault) → xs ≡ [] → ys ≡ [] → xs ++ ys ≡ []
+pub none_and : (xs ys : List Fault) → xs ≡ [] → ys ≡ [] → xs ++ ys ≡ []
 none_and xs ys first second = ap (λ (zs : List Fault). zs ++ ys) first ∙ second
 
--- ---- values, tokens and vectors behind p bytes more
+-- ---- values, tokens and vectors, shifted by p bytes
 
 value_up : (bytes : List ℕ) (p : ℕ) (ys : List ℕ) → Stands bytes p ys → (k : Number) → written_value bytes (up_number p k) ≡ written_value ys k
 value_up bytes p ys stands k = ap (λ (t : List ℕ). value_from 0 (unsigned t)) (number_up bytes p ys stands k)
@@ -100,7 +91,7 @@ repeats_up bytes p ys stands seen (x ∷ xs) =
 
 -- ---- words
 
--- a word that names one of these
+-- a word that is one of these names
 named : (bytes : List ℕ) (names : List (List ℕ)) (v : Word) (t : List ℕ) → word_text bytes v ≡ t → is_some (number_of names t) ≡ true → missing bytes names (name.Word v) ≡ []
 named bytes names v t is known =
     ap (λ (s : List ℕ). when (not (is_some (number_of names s))) (fault.Unknown (name.Word v))) is
@@ -115,7 +106,7 @@ two_named bytes names others v u t s first second known_first known_second =
     ap (λ (fs : List Fault). (fs ++ (missing bytes others (name.Word u) ++ [])) ++ []) (named bytes names v t first known_first)
     ∙ ap (λ (fs : List Fault). (fs ++ []) ++ []) (named bytes others u s second known_second)
 
--- ---- each question
+-- ---- each query
 
 pub member_faultless : (bytes : List ℕ) (p : ℕ) → Stands bytes p tail_text → written_faults (asked_in bytes 8) (question_written p member_hard) ≡ []
 member_faultless bytes p stands =
@@ -142,7 +133,7 @@ zero_dies_faultless bytes p stands =
     two_named bytes names_5 names_5 (up_word p (word_at 80 4)) (up_word p (word_at 85 4)) (codes "zero") (codes "dies")
     (word_up bytes p tail_text stands (word_at 80 4)) (word_up bytes p tail_text stands (word_at 85 4)) refl refl
 
--- its one word is known, and its period is 5
+-- its only word is known, and its period is 5
 abbrev strip_by : ℕ → List Fault
 strip_by v = over (nat_lt v 1 || nat_lt 64 v || false) limit.Periods
 
@@ -154,7 +145,7 @@ density_faultless bytes p stands =
     ap (λ (v : ℕ). over (nat_lt 1000000 v) limit.Number ++ [] ++ ((missing bytes names_5 (name.Word (up_word p (word_at 99 3))) ++ []) ++ ((strip_by v ++ []) ++ []))) five
     ∙ ap (λ (fs : List Fault). (fs ++ []) ++ []) known
 
--- the tokens, the word, the numbers and the vectors of the last question
+-- the tokens, the word, the numbers and the vectors of the last query
 pub discharge_faultless : (bytes : List ℕ) (p : ℕ) → Stands bytes p tail_text → written_faults (asked_in bytes 14) (question_written p discharge_dom) ≡ []
 unfolding digits
 discharge_faultless bytes p stands =
@@ -183,7 +174,7 @@ discharge_faultless bytes p stands =
     (none_and _ _ (none_and _ _ radius (none_and _ _ margin refl))
     (none_and _ _ (none_and _ _ once (none_and _ _ vectors refl)) refl)))
 
--- ---- what each asks passes no limit
+-- ---- no query exceeds a limit
 
 abbrev pub rules_5 : List LocalRule
 rules_5 = plain_rule hard_meant ∷ plain_rule row_meant ∷ plain_rule dies_meant ∷ plain_rule zero_meant ∷ plain_rule dom_meant ∷ []

@@ -1,36 +1,27 @@
--- The rules and questions of a sample pass no limit on what is counted.
-use Rattle.std.proofs.Common.{◌≡◌, ℕ, ◌+◌, ◌-◌, ◌*◌, ◌^◌, List, [], ◌∷◌, ◌++◌, max, Bool, false, refl, ap, ◌∙◌}
+-- The rules and queries of a sample exceed no limit on counts.
+use Rattle.std.proofs.Common.{◌≡◌, ℕ, ◌+◌, ◌-◌, ◌*◌, ◌^◌, List, [], ◌∷◌, ◌++◌, max, Bool, false, refl, ap, ◌∙◌, codes}
 use Rattle.std.specs.Prelude.{pos, ◌-ℤ◌, unsigned_abs, nat_lt, nat_le, ◌||◌, ◌&&◌, true, not}
 use Rattle.std.specs.List.{list_all}
-use Rattle.dd_lattice.specs.InOrder.{in_order}
-use Rattle.dd_lattice.specs.declared.position.Cell.{Cell}
-use Rattle.dd_expansion.specs.declared.formulas.Formula.{Formula}
-use Rattle.dd_expansion.specs.declared.expanded.Expanded.{Expanded}
+use Rattle.dd_lattice.specs.{InOrder.in_order, declared.position.Cell.Cell}
+use Rattle.dd_expansion.specs.declared.{formulas.Formula.Formula, expanded.Expanded.Expanded}
 use Rattle.dd_expansion.specs.Leaves.{instances, clause_count}
-use Rattle.dd_formula.specs.LocalRule.{LocalRule, reads_at, expansion_at, is_near}
-use Rattle.dd_formula.specs.Reach.{farthest}
+use Rattle.dd_formula.specs.{LocalRule.LocalRule, LocalRule.reads_at, LocalRule.expansion_at, LocalRule.is_near, Reach.farthest}
 use Rattle.dd_formula.specs.Counts.{cell_clause_count, disallowed_pairs, largest_region}
 use Rattle.dd_counts.specs.Rules.{greatest_x, least_x, most_states, most_longer_states}
 use Rattle.dd_values.specs.declared.limits.Limits.{Limits}
-use Rattle.dd_boxes.specs.Goals.{breaks}
-use Rattle.dd_boxes.specs.Counts.{most_clauses}
-use Rattle.dd_faults.specs.declared.fault.Fault.{Fault}
-use Rattle.dd_faults.specs.declared.fault.Limit.TheVariants as limit
-use Rattle.dd_known.specs.declared.known.Known.{Known}
-use Rattle.dd_known.specs.declared.known.Setting.{Setting}
-use Rattle.dd_faults.specs.Order.{over}
-use Rattle.dd_question.specs.Boxes.{is_long}
-use Rattle.dd_question.specs.Densities.{has_many_states}
+use Rattle.dd_boxes.specs.{Goals.breaks, Counts.most_clauses}
+use Rattle.dd_faults.specs.{declared.fault.Fault.Fault, Order.over}
+use Rattle.dd_known.specs.declared.known.{Known.Known, Setting.Setting}
+use Rattle.dd_question.specs.{Boxes.is_long, Densities.has_many_states}
 use Rattle.dd_meanings.specs.Definitions.{rule_faults}
-use Rattle.dd_topology.specs.Builtin.{square}
-use Rattle.dd_topology.specs.Sets.{all_symbols}
-use Rattle.std.proofs.Common.{codes}
+use Rattle.dd_topology.specs.{Builtin.square, Sets.all_symbols}
 use Rattle.dd_sampling.proofs.Meant.{plain_rule, Counts, hard_meant, row_meant, dies_meant, zero_meant, dom_meant, hard_counts, row_counts, dies_counts, zero_counts, dom_counts}
+use Rattle.dd_faults.specs.declared.fault.Limit.TheVariants as limit
 
 abbrev pub limits : Limits
 limits = record { radius = 3; period = 3; pivots = 1000 }
 
--- what a sample says of cells, and the names that it has given
+-- the nodes, symbols and topology of a sample
 abbrev pub setting : Setting
 setting = record { nodes = codes "0" ∷ []; symbols = codes "0" ∷ codes "1" ∷ []; topology = square; sets = all_symbols 1 2 }
 
@@ -75,7 +66,7 @@ dom_few = rule_faultless dom_counts refl
 
 -- ---- questions
 
--- with what is counted of the premise and of the goal's rule
+-- by the counts of the premise and of the goal's rule
 abbrev long_by : LocalRule → ℕ → ℕ → List Cell → Bool
 long_by x clauses goal cells =
     nat_lt most_clauses (largest_region x.dimension (max 3 (farthest (in_order cells ++ []))) 3 * (x.nodes * cell_clause_count x.symbols + disallowed_pairs x + (clauses + 0)) + (goal + 0 + 1))

@@ -1,50 +1,40 @@
--- Each sample is a script: command after command without a fault.
+-- Each sample is a script: no command has a fault.
 use Rattle.std.proofs.Common.{◌≡◌, ℕ, ◌+◌, ◌*◌, ◌≤◌, List, [], ◌∷◌, ◌++◌, map, length, false, Option, None, codes, refl, sym, ap, ◌∙◌, subst}
 use Rattle.std.specs.Option.{option_or, option_map}
 use Rattle.dd_pattern.specs.Tile.{Tile}
 use Rattle.dd_expansion.specs.declared.formulas.Formula.{Formula as Meant}
 use Rattle.dd_formula.specs.LocalRule.{LocalRule}
-use Rattle.dd_written.specs.declared.lexeme.Word.{Word}
-use Rattle.dd_written.specs.declared.lexeme.Lexeme.{Lexeme}
-use Rattle.dd_written.specs.declared.tree.Name.TheVariants as name
-use Rattle.dd_written.specs.declared.tree.Formula.{Formula}
-use Rattle.dd_commands.specs.declared.command.Request.{Request}
-use Rattle.dd_commands.specs.declared.command.Entry.TheVariants as entry
-use Rattle.dd_commands.specs.declared.script.Written.{Written}
-use Rattle.dd_commands.specs.declared.script.Syntax.{Syntax}
+use Rattle.dd_written.specs.declared.{lexeme.Word.Word, lexeme.Lexeme.Lexeme, tree.Formula.Formula}
+use Rattle.dd_commands.specs.declared.{command.Request.Request, script.Written.Written, script.Syntax.Syntax}
 use Rattle.dd_commands.specs.Scripts.{IsScript}
-use Rattle.dd_faults.specs.declared.fault.Fault.{Fault}
-use Rattle.dd_faults.specs.declared.fault.Fault.TheVariants as fault
-use Rattle.dd_faults.specs.Order.{first_fault}
-use Rattle.dd_faults.specs.Commands.{written_faults}
-use Rattle.dd_query.specs.declared.queries.Query.{Query}
-use Rattle.dd_query.specs.Queries.{query_of}
-use Rattle.dd_meanings.specs.declared.meaning.Meaning.TheVariants as meaning
-use Rattle.dd_meanings.specs.Definitions.{rule_faults, tile_of}
-use Rattle.dd_meanings.specs.Formulas.{formula_of}
+use Rattle.dd_faults.specs.{declared.fault.Fault.Fault, Order.first_fault, Commands.written_faults}
+use Rattle.dd_query.specs.{declared.queries.Query.Query, Queries.query_of}
+use Rattle.dd_meanings.specs.{Definitions.rule_faults, Definitions.tile_of, Formulas.formula_of}
 use Rattle.dd_question.specs.declared.excess.Excess.{Excess}
-use Rattle.dd_script.specs.Parts.{Parts, Pair}
-use Rattle.dd_script.specs.Questions.{pairs_for}
+use Rattle.dd_script.specs.{Parts.Parts, Parts.Pair, Questions.pairs_for}
 use Rattle.dd_script.specs.Walk.{located, start, limit_of, fault_of, next, with, first_from, first_located_fault, script_of}
 use Rattle.dd_script.specs.Scripts.{Spells}
 use Rattle.dd_sample.specs.Sample.{IsSampleNumber, sample_text}
 use Rattle.dd_sampling.proofs.Lexing.{Stands, number_at, turn_numbers}
 use Rattle.dd_sampling.proofs.Whole.{front_text, tail_text, from_digits, regrouped, tail_stands, symbols_stand, symbols_at, tail_at}
 use Rattle.dd_sampling.proofs.Tree.{word_at, vector, plus, hard, row, dies, zero_rule, dom, hard_text, row_text, dies_text, zero_text, dom_text, limits_written, rule_written, conf_written, question_written, commands, questions, up_request, member_hard, row_hard, hard_row, hard_equals_row, zero_dies, density_dom, discharge_dom}
-use Rattle.dd_sampling.proofs.Standing.{tree, whole_written}
-use Rattle.dd_sampling.proofs.Heights.{Height, height_of, sample_is}
+use Rattle.dd_sampling.proofs.{Standing.tree, Standing.whole_written, Heights.Height, Heights.height_of, Heights.sample_is}
 use Rattle.dd_sampling.proofs.Meant.{plain_rule, hard_meant, row_meant, dies_meant, zero_meant, dom_meant}
 use Rattle.dd_sampling.proofs.Sizes.{known, hard_few, row_few, dies_few, zero_few, dom_few}
 use Rattle.dd_sampling.proofs.Faultless.{behind, names_1, names_2, names_3, names_4, names_5, hard_faultless, row_faultless, dies_faultless, zero_faultless, dom_faultless, hard_meaning, row_meaning, dies_meaning, zero_meaning, dom_meaning}
 use Rattle.dd_sampling.proofs.Symbols.{conf_faultless}
 use Rattle.dd_sampling.proofs.Questions.{asked_in, rules_5, member_faultless, row_hard_faultless, hard_row_faultless, equal_faultless, zero_dies_faultless, density_faultless, discharge_faultless, member_few, row_hard_few, hard_row_few, equal_few, zero_dies_few, density_few, discharge_few}
+use Rattle.dd_written.specs.declared.tree.Name.TheVariants as name
+use Rattle.dd_commands.specs.declared.command.Entry.TheVariants as entry
+use Rattle.dd_faults.specs.declared.fault.Fault.TheVariants as fault
+use Rattle.dd_meanings.specs.declared.meaning.Meaning.TheVariants as meaning
 
 -- ---- one command more
 
 no_fault : (fs gs : List Fault) → fs ≡ [] → gs ≡ [] → option_or (first_fault fs) (option_or (first_fault gs) None) ≡ None
 no_fault fs gs first second = rw (first, second) refl
 
--- the same for a question
+-- the same for a query
 no_excess : (fs : List Fault) (o : Option Excess) → fs ≡ [] → o ≡ None → option_or (first_fault fs) (option_or (first_fault []) (option_map (λ e. fault.Size (limit_of e)) o)) ≡ None
 no_excess fs o first second = rw (first, second) refl
 
@@ -65,7 +55,7 @@ nothing = ([], [])
 abbrev state : List (List ℕ) → List LocalRule → List (List ℕ) → List Tile → Asking → Parts
 state names rules configurations tiles asked = record { known = known names configurations; rules = rules; automata = []; configurations = tiles; queries = asked.0; pairs = asked.1 }
 
--- ---- a rule more
+-- ---- one more rule
 
 rule_more : (more : List ℕ) (n : ℕ) (names : List (List ℕ)) (rules : List LocalRule) (s named l : ℕ) (tokens : List Lexeme) (f : Formula) (g : Meant) (ws : List Written)
     → written_faults (behind more n names) (rule_written s named l tokens f) ≡ [] → formula_of (behind more n names) f [] ≡ g → rule_faults (plain_rule g) ≡ []
@@ -95,7 +85,7 @@ limits_none more = refl
 limits_next : (more : List ℕ) → next (front_text ++ more) false 1 start limits_written ≡ state [] [] [] [] nothing
 limits_next more = refl
 
--- the rules from each on
+-- the rules, from each of them on
 abbrev from_dom : List Written → List Written
 from_dom ws = rule_written 150 155 3 dom_text dom ∷ ws
 
@@ -126,7 +116,7 @@ defined_none more ws rest =
     rule_more more 2 [] [] 18 23 4 hard_text hard hard_meant (from_row ws) (hard_faultless more) (hard_meaning more) hard_few two in
     one_more (front_text ++ more) 1 start (state [] [] [] [] nothing) limits_written (from_hard ws) (limits_none more) (limits_next more) one
 
--- ---- a question more
+-- ---- one more query
 
 question_more : (bytes : List ℕ) (n p : ℕ) (tiles : List Tile) (qs : Asking) (a : Word × Request) (ws : List Written)
     → fault_of bytes false n (state names_5 rules_5 (codes "c" ∷ []) tiles qs) (question_written p a) ≡ None
@@ -141,7 +131,7 @@ question_more bytes n p tiles qs a ws none rest =
 abbrev NoneFrom : List ℕ → ℕ → List Tile → List Written → Type 0
 NoneFrom bytes n tiles ws = (qs : Asking) → first_from bytes false n (state names_5 rules_5 (codes "c" ∷ []) tiles qs) ws ≡ None
 
--- the questions from each on
+-- the queries, from each of them on
 abbrev asking_discharge : ℕ → List Written
 asking_discharge p = question_written p discharge_dom ∷ []
 

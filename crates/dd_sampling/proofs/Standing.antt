@@ -1,32 +1,25 @@
--- The commands of a sample, each where it may stand.
+-- The commands of a sample, each at an allowed stage.
 use Rattle.std.proofs.Common.{◌≡◌, ℕ, zero, suc, ◌+◌, ◌≤◌, List, [], ◌∷◌, ◌++◌, length, map, true, codes, refl, sym, ap, ◌∙◌, subst, arith, length-append}
 use Rattle.std.proofs.lemmas.List.{length-map}
 use Rattle.std.specs.List.{list_all}
-use Rattle.dd_written.specs.declared.lexeme.Word.{Word}
-use Rattle.dd_written.specs.declared.lexeme.Number.{Number}
-use Rattle.dd_written.specs.declared.lexeme.Lexeme.{Lexeme}
-use Rattle.dd_written.specs.declared.lexeme.Lexeme.TheVariants as lexeme
-use Rattle.dd_written.specs.declared.lexeme.Mark.TheVariants as mark
-use Rattle.dd_written.specs.declared.tree.Name.TheVariants as name
-use Rattle.dd_written.specs.declared.tree.Formula.{Formula}
-use Rattle.dd_written.specs.Formulas.{text, IsWrittenFormula, name_lexeme}
-use Rattle.dd_written.specs.Values.{word_text}
-use Rattle.dd_written.specs.Lexemes.{lexemes_of}
-use Rattle.dd_commands.specs.Table.{row as table_row}
-use Rattle.dd_commands.specs.declared.command.Request.{Request}
-use Rattle.dd_commands.specs.declared.script.Written.{Written}
-use Rattle.dd_commands.specs.declared.script.Syntax.{Syntax}
-use Rattle.dd_commands.specs.Commands.{IsRequest, request_text}
+use Rattle.dd_written.specs.declared.lexeme.{Word.Word, Number.Number, Lexeme.Lexeme}
+use Rattle.dd_written.specs.{declared.tree.Formula.Formula, Formulas.text, Formulas.IsWrittenFormula, Formulas.name_lexeme}
+use Rattle.dd_written.specs.{Values.word_text, Lexemes.lexemes_of}
+use Rattle.dd_commands.specs.{Table.row as table_row, declared.command.Request.Request, declared.script.Written.Written}
+use Rattle.dd_commands.specs.{declared.script.Syntax.Syntax, Commands.IsRequest, Commands.request_text}
 use Rattle.dd_commands.specs.Scripts.{parts, is_whole, MayStand, AreCommands, IsScript}
 use Rattle.dd_sampling.proofs.Cutting.{AreDigits}
 use Rattle.dd_sampling.proofs.Lexing.{Stands, number_at, up_word, up_lexeme, word_up, four_numbers, turn_numbers}
 use Rattle.dd_sampling.proofs.Whole.{front_text, tail_text, front_lexemes, tail_lexemes, all_lexemes, whole, symbols_at, tail_at, from_digits, regrouped, tail_stands, lexed}
 use Rattle.dd_sampling.proofs.Tree.{word_at, w, n, hard, row, dies, zero_rule, dom, hard_text, row_text, dies_text, zero_text, dom_text, member_hard, row_hard, hard_row, hard_equals_row, zero_dies, density_dom, discharge_dom, vector, plus, questions, up_vector, up_request, limits_tokens, limits_written, rule_written, conf_tokens, conf_written, question_written, defined, commands}
 use Rattle.dd_sampling.proofs.Layers.{hard_is, row_is, dies_is, zero_is, dom_is, hard_written, row_written, dies_written, zero_written, dom_written}
+use Rattle.dd_written.specs.declared.lexeme.Lexeme.TheVariants as lexeme
+use Rattle.dd_written.specs.declared.lexeme.Mark.TheVariants as mark
+use Rattle.dd_written.specs.declared.tree.Name.TheVariants as name
 
 -- ---- the parts of the lexemes
 
--- the parts of what stands before these parts
+-- the parts of these lexemes followed by more, whose parts are q
 abbrev parts_onto : List Lexeme → List Lexeme × List (List Lexeme) → List Lexeme × List (List Lexeme)
 parts_onto [] q = q
 parts_onto (lexeme.Mark mark.Percent ∷ ts) q = ([], (parts_onto ts q).0 ∷ (parts_onto ts q).1)
@@ -101,7 +94,7 @@ question_stands bytes p ys stands a word good all =
       ordered = omega arith;
     }
 
--- ---- from the tail to the whole
+-- ---- from the tail to the whole text
 
 abbrev question_parts : ℕ → List (List Lexeme)
 question_parts p = (parts (map (up_lexeme p) tail_lexemes)).1

@@ -1,29 +1,20 @@
--- The configuration of a sample is without a fault.
+-- The configuration of a sample has no fault.
 use Rattle.std.proofs.Common.{◌≡◌, ◌⊎◌, inl, inr, ℕ, zero, suc, ◌+◌, ◌*◌, ◌%◌, ◌≤◌, List, [], ◌∷◌, ◌++◌, length, map, take, Bool, true, false, codes, refl, ap, ◌∙◌, arith, length-append}
-use Rattle.std.proofs.lemmas.List.{length-map, take_at}
-use Rattle.std.proofs.lemmas.Bool.{eq-eqb, ne_eqb, le-ltb}
+use Rattle.std.proofs.lemmas.{List.length-map, List.take_at, Bool.eq-eqb, Bool.ne_eqb, Bool.le-ltb}
 use Rattle.std.specs.Prelude.{nat_lt, nat_le, not, ◌==◌, ◌||◌, if◌then◌else◌}
-use Rattle.std.specs.List.{flat_map, repeat}
-use Rattle.std.specs.Option.{option_map_or}
-use Rattle.dd_topology.specs.Naming.{number_of}
-use Rattle.dd_topology.specs.Sets.{allows}
+use Rattle.std.specs.{List.flat_map, List.repeat, Option.option_map_or}
+use Rattle.dd_topology.specs.{Naming.number_of, Sets.allows}
 use Rattle.dd_written.specs.declared.lexeme.Number.{Number}
+use Rattle.dd_written.specs.Values.{number_text, written_value, unsigned, decimal as value_from}
+use Rattle.dd_faults.specs.{declared.fault.Fault.Fault, Order.when, Order.over, Numbers.token_faults, Boxes.symbol_faults}
+use Rattle.dd_faults.specs.Commands.{written_faults}
+use Rattle.dd_sampling.proofs.{Cutting.turn, Lexing.Stands, Lexing.stands_after, Lexing.number_at, Lexing.four_numbers, Lexing.turn_numbers}
+use Rattle.dd_sampling.proofs.{Whole.front_text, Whole.tail_text, Whole.from_digits, Whole.symbols_at, Tree.conf_written, Sizes.setting}
+use Rattle.dd_sampling.proofs.{Faultless.behind, Faultless.names_5, Questions.none_and}
 use Rattle.dd_written.specs.declared.lexeme.Lexeme.TheVariants as lexeme
 use Rattle.dd_written.specs.declared.tree.Name.TheVariants as name
-use Rattle.dd_written.specs.Values.{number_text, written_value, unsigned, decimal as value_from}
-use Rattle.dd_faults.specs.declared.fault.Fault.{Fault}
 use Rattle.dd_faults.specs.declared.fault.Fault.TheVariants as fault
 use Rattle.dd_faults.specs.declared.fault.Limit.TheVariants as limit
-use Rattle.dd_faults.specs.Order.{when, over}
-use Rattle.dd_faults.specs.Numbers.{token_faults}
-use Rattle.dd_faults.specs.Boxes.{symbol_faults}
-use Rattle.dd_faults.specs.Commands.{written_faults}
-use Rattle.dd_sampling.proofs.Cutting.{turn}
-use Rattle.dd_sampling.proofs.Lexing.{Stands, stands_after, number_at, four_numbers, turn_numbers}
-use Rattle.dd_sampling.proofs.Whole.{front_text, tail_text, from_digits, symbols_at}
-use Rattle.dd_sampling.proofs.Tree.{conf_written}
-use Rattle.dd_sampling.proofs.Sizes.{setting}
-use Rattle.dd_sampling.proofs.Faultless.{behind, names_5}
 
 -- ---- each symbol is 0 or 1
 
@@ -54,14 +45,11 @@ small_token : (bytes : List ℕ) (k : Number) → IsSymbol bytes k → token_fau
 small_token bytes k (inl is) = ap (λ (t : List ℕ). over (nat_lt 1000000 (value_from 0 (unsigned t))) limit.Number) is
 small_token bytes k (inr is) = ap (λ (t : List ℕ). over (nat_lt 1000000 (value_from 0 (unsigned t))) limit.Number) is
 
-none_and : (xs ys : List Fault) → xs ≡ [] → ys ≡ [] → xs ++ ys ≡ []
-none_and xs ys first second = ap (λ (zs : List Fault). zs ++ ys) first ∙ second
-
 pub small_tokens : (bytes : List ℕ) (ks : List Number) → AreSymbols bytes ks → flat_map (token_faults bytes) (map lexeme.Number ks) ≡ []
 small_tokens bytes [] all = refl
 small_tokens bytes (k ∷ ks) all = none_and (token_faults bytes (lexeme.Number k)) (flat_map (token_faults bytes) (map lexeme.Number ks)) (small_token bytes k all.0) (small_tokens bytes ks all.1)
 
--- at the one node
+-- the fault of a symbol at the node a
 abbrev symbol_fault : Number → ℕ → List ℕ → List Fault
 symbol_fault k a t = when (not (option_map_or (λ s. allows setting.sets a s) (number_of setting.symbols t) false)) (fault.Unknown (name.Number k))
 
@@ -88,7 +76,7 @@ count_is (suc k) q =
     let four : length (four_numbers q) ≡ 4 = refl in
     omega (arith, more, four, count_is k (q + 8))
 
--- the height is read as it is written
+-- the text of the height is its digits
 height_text : (d : ℕ) (ds : List ℕ) (k : ℕ) → number_text (front_text ++ from_digits d ds k) (number_at 181 (1 + length ds)) ≡ d ∷ ds
 height_text d ds k = take_at (d ∷ ds) _ (1 + length ds) (omega arith)
 

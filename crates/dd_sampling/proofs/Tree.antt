@@ -1,31 +1,22 @@
--- What the commands of a sample are: its limits, its rules, and its questions.
+-- The commands of a sample: its limits, its rules and its queries.
 use Rattle.std.proofs.Common.{ℕ, List, [], ◌∷◌, ◌++◌, map, None}
-use Rattle.dd_written.specs.declared.lexeme.Word.{Word}
-use Rattle.dd_written.specs.declared.lexeme.Number.{Number}
-use Rattle.dd_written.specs.declared.lexeme.Lexeme.{Lexeme}
+use Rattle.dd_written.specs.declared.lexeme.{Word.Word, Number.Number, Lexeme.Lexeme}
+use Rattle.dd_written.specs.declared.tree.{Term.Term, Atom.Atom, Ball.Ball}
+use Rattle.dd_written.specs.declared.tree.Formula.{Formula, roll-Formula, TheOpen.Formula-F}
+use Rattle.dd_commands.specs.declared.{table.QueryKind.QueryKind, command.Entry.Entry, command.Vector.Vector}
+use Rattle.dd_commands.specs.declared.{command.Request.Request, command.Command.Command, script.Written.Written}
+use Rattle.dd_commands.specs.Commands.{request_text}
+use Rattle.dd_sampling.proofs.Lexing.{number_at, up_word, up_number}
 use Rattle.dd_written.specs.declared.lexeme.Lexeme.TheVariants as lexeme
 use Rattle.dd_written.specs.declared.lexeme.Mark.TheVariants as mark
 use Rattle.dd_written.specs.declared.tree.Name.TheVariants as name
-use Rattle.dd_written.specs.declared.tree.Term.{Term}
 use Rattle.dd_written.specs.declared.tree.Comparand.TheVariants as side
 use Rattle.dd_written.specs.declared.tree.Relation.TheVariants as relation
-use Rattle.dd_written.specs.declared.tree.Atom.{Atom}
-use Rattle.dd_written.specs.declared.tree.Ball.{Ball}
 use Rattle.dd_written.specs.declared.tree.Quantifier.TheVariants as quantifier
 use Rattle.dd_written.specs.declared.tree.Join.TheVariants as join
-use Rattle.dd_written.specs.declared.tree.Formula.{Formula, roll-Formula}
-use Rattle.dd_written.specs.declared.tree.Formula.TheOpen.{Formula-F}
-use Rattle.dd_commands.specs.declared.table.QueryKind.{QueryKind}
 use Rattle.dd_commands.specs.declared.table.QueryKind.TheVariants as kind
-use Rattle.dd_commands.specs.declared.command.Entry.{Entry}
 use Rattle.dd_commands.specs.declared.command.Entry.TheVariants as entry
-use Rattle.dd_commands.specs.declared.command.Vector.{Vector}
-use Rattle.dd_commands.specs.declared.command.Request.{Request}
-use Rattle.dd_commands.specs.declared.command.Command.{Command}
 use Rattle.dd_commands.specs.declared.command.Command.TheVariants as command
-use Rattle.dd_commands.specs.declared.script.Written.{Written}
-use Rattle.dd_commands.specs.Commands.{request_text}
-use Rattle.dd_sampling.proofs.Lexing.{number_at, up_word, up_number}
 
 abbrev pub word_at : ℕ → ℕ → Word
 word_at s l = record { start = s; length = l }
@@ -38,7 +29,7 @@ w s l = lexeme.Word (word_at s l)
 abbrev pub n : ℕ → Lexeme
 n s = lexeme.Number (number_at s 1)
 
--- ---- formulas: each of its words, numbers and moves by its place
+-- ---- formulas: each of their words, numbers and moves by its position
 
 abbrev pub here : ℕ → Term
 here s = record { first = word_at s 1; moves = [] }
@@ -112,7 +103,7 @@ dom_text =
     lexeme.Mark mark.Exists ∷ w 160 1 ∷ lexeme.Mark mark.OpenList ∷ w 162 1 ∷ n 163 ∷ lexeme.Mark mark.CloseList ∷ w 166 1
     ∷ lexeme.Mark mark.Equal ∷ n 168 ∷ []
 
--- ---- questions, by their places behind the symbols
+-- ---- queries, by their positions after the symbols
 
 abbrev pub asking : ℕ → ℕ → QueryKind → List Word → List Number → List Vector → Word × Request
 asking s l q ws ns vs = (word_at s l, record { kind = q; words = ws; numbers = ns; vectors = vs })
@@ -152,7 +143,7 @@ discharge_dom =
 abbrev pub questions : List (Word × Request)
 questions = member_hard ∷ row_hard ∷ hard_row ∷ hard_equals_row ∷ zero_dies ∷ density_dom ∷ discharge_dom ∷ []
 
--- ---- the same behind p bytes more
+-- ---- the same, shifted by p bytes
 
 abbrev pub up_entry : ℕ → Entry → Entry
 up_entry p (entry.Number k) = entry.Number (up_number p k)
@@ -178,7 +169,7 @@ limits_written = written limits_tokens (command.Limits (number_at 8 1) (number_a
 abbrev pub rule_written : ℕ → ℕ → ℕ → List Lexeme → Formula → Written
 rule_written s named l tokens f = written (w s 4 ∷ w named l ∷ tokens) (command.Rule (word_at named l) f)
 
--- the configuration, whose height has so many digits
+-- the configuration, whose height has this many digits
 abbrev pub conf_tokens : ℕ → List Number → List Lexeme
 conf_tokens digits ns = w 171 4 ∷ w 176 1 ∷ lexeme.Mark mark.OpenList ∷ n 179 ∷ lexeme.Number (number_at 181 digits) ∷ lexeme.Mark mark.CloseList ∷ map lexeme.Number ns
 

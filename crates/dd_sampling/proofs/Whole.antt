@@ -1,27 +1,23 @@
 -- The tokens of a sample.
 use Rattle.std.proofs.Common.{◌≡◌, ℕ, zero, suc, ◌+◌, ◌*◌, ◌≤◌, List, [], ◌∷◌, ◌++◌, length, map, take, drop, true, codes, refl, sym, ap, ◌∙◌, arith, append_assoc, length-append, append-nil, subst}
-use Rattle.std.proofs.lemmas.List.{map-append}
-use Rattle.std.specs.Prelude.{◌==◌, ◌&&◌, if◌then◌else◌, Bool}
-use Rattle.std.specs.Char.{is_ascii}
-use Rattle.std.specs.List.{repeat, list_all}
-use Rattle.std.proofs.lemmas.Bool.{eq-eqb, lt-ltb, and_from}
+use Rattle.std.proofs.lemmas.{List.map-append, Bool.eq-eqb, Bool.lt-ltb, Bool.and_from}
 use Rattle.std.proofs.lemmas.List.Folds.{list_all-append}
-use Rattle.dd_tokens.specs.declared.token.Token.{Token}
-use Rattle.dd_tokens.specs.declared.token.Tokens.{Tokens}
+use Rattle.std.specs.{Prelude.◌==◌, Prelude.◌&&◌, Prelude.if◌then◌else◌, Prelude.Bool, Char.is_ascii, List.repeat, List.list_all}
+use Rattle.dd_tokens.specs.declared.token.{Token.Token, Tokens.Tokens}
 use Rattle.dd_tokens.specs.Format.{tokens_after, tokens_of, with_front}
-use Rattle.dd_written.specs.declared.lexeme.Mark.TheVariants as mark
 use Rattle.dd_written.specs.declared.lexeme.Lexeme.{Lexeme}
-use Rattle.dd_written.specs.declared.lexeme.Lexeme.TheVariants as lexeme
 use Rattle.dd_written.specs.Lexemes.{lexeme_of, lexemes_of, stray, marked, mark_at}
 use Rattle.dd_sample.specs.Sample.{rules_text, queries_text}
 use Rattle.dd_sampling.proofs.Cutting.{up_token, tokens_up, number_token, mark_token, AreDigits, number_before, turn, turn_tokens, turns}
 use Rattle.dd_sampling.proofs.Lexing.{Stands, stands_behind, stands_after, up_lexeme, lexemes_up, number_at, turn_numbers, turn_lexemes}
+use Rattle.dd_written.specs.declared.lexeme.Mark.TheVariants as mark
+use Rattle.dd_written.specs.declared.lexeme.Lexeme.TheVariants as lexeme
 
--- up to the height of the configuration
+-- the text up to the height of the configuration
 abbrev pub front_text : List ℕ
 front_text = rules_text ++ codes "%conf c [2 "
 
--- from behind its symbols on
+-- the text after the symbols of the configuration
 abbrev pub tail_text : List ℕ
 tail_text = codes "\n" ++ queries_text
 
@@ -38,7 +34,7 @@ upper d ds n = front_text ++ (d ∷ (ds ++ 93 ∷ repeat n turn))
 abbrev pub whole : ℕ → List ℕ → ℕ → List ℕ
 whole d ds n = upper d ds n ++ tail_text
 
--- where the symbols begin
+-- the position at which the symbols begin
 abbrev pub symbols_at : List ℕ → ℕ
 symbols_at ds = 181 + (1 + length ds) + 1
 
@@ -65,7 +61,7 @@ upper_length d ds n =
 pub tail_stands : (d : ℕ) (ds : List ℕ) (n : ℕ) → Stands (whole d ds n) (tail_at ds n) tail_text
 tail_stands d ds n = subst (λ (p : ℕ). Stands (whole d ds n) p tail_text) (upper_length d ds n) (stands_behind (upper d ds n) tail_text)
 
--- the digits and what follows them, in order
+-- the text from the digits on
 abbrev pub from_digits : ℕ → List ℕ → ℕ → List ℕ
 from_digits d ds n = d ∷ (ds ++ 93 ∷ (repeat n turn ++ tail_text))
 
@@ -123,7 +119,7 @@ bracket_stands d ds ys =
 bracket_is : (d : ℕ) (ds ys : List ℕ) → lexeme_of (front_text ++ (d ∷ (ds ++ 93 ∷ ys))) (mark_token (181 + (1 + length ds))) ≡ lexeme.Mark mark.CloseList
 bracket_is d ds ys = ap (λ (bs : List ℕ). marked (mark_at (take 1 bs))) (bracket_stands d ds ys)
 
--- the symbols stand behind the bracket
+-- the symbols follow the bracket
 pub symbols_stand : (d : ℕ) (ds : List ℕ) (n : ℕ) → Stands (front_text ++ from_digits d ds n) (symbols_at ds) (repeat n turn ++ tail_text)
 symbols_stand d ds n =
     let all : length (front_text ++ (d ∷ ds)) ≡ length front_text + length (d ∷ ds) = length-append front_text (d ∷ ds) in

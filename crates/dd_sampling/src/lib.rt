@@ -1,4 +1,4 @@
-//! That each sample is a script.
+//! Each sample is a script.
 #![tactic(auto)]
 
 mod laws;

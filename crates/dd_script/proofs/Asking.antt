@@ -1,4 +1,4 @@
--- What the queries of a script ask: it goes together, as its rules, automata and configurations are the script's.
+-- What the queries of a script ask is well formed, as their rules, automata and configurations are the script's.
 use Rattle.std.proofs.Common.{◌≡◌, ◌<◌, ◌%◌, List, [], get_or, ap, sym, subst, ◌∙◌, Some, None, Option, IfSome, arith}
 use Rattle.std.specs.{List.All, Prelude.unwrap_or, Option.option_and_then}
 use Rattle.std.proofs.lemmas.{List.Elements.All-contains}
@@ -23,13 +23,13 @@ module _ (k : Known) (x : LocalRule) (t : Tile) (rule : IsRuleOf k.setting x) (k
     symbols = subst (λ n. All (λ symbol. symbol < n) t.symbols) (sym rule.symbols) kept.symbols;
   }
 
-  -- the nodes stand innermost
+  -- the nodes vary fastest
   member_allowed : HasAllowed x t
   member_allowed = allowed_from_box x t kept.tile
       (λ i within. ap (λ rows. row_allows rows (i % t.nodes) (get_or t.symbols i 0)) rule.allowed ∙ kept.allowed i within)
 
 module _ (s : Parts) (ok : IsScriptOf s) where
-  -- a question that goes together, about rules of the script
+  -- a well-formed question about rules of the script
   abbrev FitsIn : Asked → Type 0
   FitsIn a = IsFormed a × AreOf s.known a
 
@@ -84,7 +84,7 @@ module _ (s : Parts) (ok : IsScriptOf s) where
   pub question_fits : (q : Query) (a : Asked) → IsQueryWithin s.known q → ArePaired (parts_for s q) → asked s q ≡ Some a → FitsIn a
   question_fits q a within pairs is = subst (λ (o : Option Asked). IfSome o FitsIn) is (asked_fits q within pairs)
 
-  -- what passes no limit is sound
+  -- a question that exceeds no limit is sound
   pub questions_sound : ((l : Limits) (a : Asked) → IsFormed a → excess_of l a ≡ None → IsSoundAsked l a) → AreSound s
   questions_sound law q a there is =
       let of = All-contains (IsQueryOf s) s.queries q ok.queries there in

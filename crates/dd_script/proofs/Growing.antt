@@ -1,4 +1,4 @@
--- What every script keeps, where more is defined and asked.
+-- What holds of every script still holds when definitions and queries are added.
 use Rattle.std.proofs.Common.{◌≡◌, ℕ, ◌<◌, ◌≤◌, List, [], ◌∷◌, ◌++◌, length, map, refl, sym, ap, subst, ◌∙◌, arith}
 use Rattle.std.specs.{List.All, List.slice_get, Option.option_and_then}
 use Rattle.std.proofs.lemmas.{Grind.common_steps, List.Elements.All-push, List.Elements.All-weaker, List.Elements.All-head, List.Elements.All-tail, Option.gets}
@@ -8,7 +8,7 @@ use Rattle.dd_script.specs.Parts.{Parts, LocalRule, Automaton, Tile, Query, Pair
 use Rattle.dd_script.specs.Questions.{asked, parts_for, pairs_for}
 use Rattle.dd_script.specs.Kept.{IsQueryOf, AreNamed, IsScriptOf, IsAutomatonOf, IsQueryWithin, IsRuleOf, IsConfigurationOf}
 
--- items with their names, which begin with the old ones
+-- a longer list of named items, which begins with the old ones
 pub record Grown {X : Type 0} (P : X → Type 0) (old : List X) (names : List (List ℕ)) (xs : List X) : Type 0 where
   pub are : AreNamed P names xs
   pub more : length old ≤ length xs
@@ -20,7 +20,7 @@ stay are = grind arith
 pub one_more : {X : Type 0} {P : X → Type 0} {names : List (List ℕ)} {xs : List X} (name : List ℕ) (x : X) → AreNamed P names xs → P x → Grown P xs (names ++ name ∷ []) (xs ++ x ∷ [])
 one_more {P = P} {xs = xs} name x are is = grind (arith, common_steps, gets, All-push P xs x are.each is)
 
--- lists that agree at each element of a kind
+-- functions that agree on each such element map the list alike
 map_alike : {X Y : Type 0} {P : X → Type 0} (f g : X → Y) → ((x : X) → P x → f x ≡ g x) → (xs : List X) → All P xs → map f xs ≡ map g xs
 map_alike f g same [] of = refl
 map_alike {P = P} f g same (x ∷ xs) of = rw (same x (All-head P x xs of), map_alike f g same xs (All-tail P x xs of)) refl
@@ -30,7 +30,7 @@ module _ (s : Parts) (is : IsScriptOf s) {R A C : List (List ℕ)} {rs : List Lo
   abbrev pub grown : Parts
   grown = record { known = record (s.known) { rules = R; automata = A; configurations = C }; rules = rs; automata = fs; configurations = ts; queries = qs; pairs = ps }
 
-  -- a query names what it named, and asks the same, about the same pairs
+  -- a query names the same items and asks the same, about the same pairs
   same_query : (q : Query) → IsQueryWithin s.known q → IsQueryWithin grown.known q × (asked grown q ≡ asked s q) × (parts_for grown q ≡ parts_for s q)
   same_query q has = grind arith
 

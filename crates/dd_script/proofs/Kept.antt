@@ -1,31 +1,29 @@
--- What every script keeps, behind each command.
+-- What holds of every script, after each command.
 use Rattle.std.proofs.Common.{◌≡◌, ℕ, ◌≤◌, [], length, Option, None, arith}
-use Rattle.std.specs.{List.All, List.range_with_len, Option.option_or, Option.option_map}
 use Rattle.std.proofs.lemmas.{Grind.common_steps, List.Elements.All-push}
 use Rattle.std.proofs.lemmas.List.FromFn.{length-range_with_len, get_or-range_with_len}
+use Rattle.std.specs.{List.All, List.range_with_len, Option.option_or, Option.option_map}
 use Rattle.dd_topology.specs.Sets.{IsSets}
-use Rattle.dd_script.specs.Tree.{Command}
+use Rattle.dd_script.specs.{Tree.Command, declared.draft.Draft.Draft, Drafts.parts_of, Parts.Parts, Parts.Known}
+use Rattle.dd_script.specs.{Kept.IsQueryOf, Kept.IsScriptOf, Walk.with, Walk.asked_fault, Walk.parts_in, Walk.pairs_in, Walk.word_text}
 use Rattle.dd_commands.specs.Heads.{head_of, stage, next_stage}
 use Rattle.dd_meanings.specs.{Meanings.meaning, Sound.IsSoundMeaning}
 use Rattle.dd_pairs.specs.Made.{ArePairs}
-use Rattle.dd_script.specs.{declared.draft.Draft.Draft, Drafts.parts_of, Parts.Parts, Parts.Known}
-use Rattle.dd_script.specs.Kept.{IsQueryOf, IsScriptOf}
-use Rattle.dd_script.specs.Walk.{with, asked_fault, parts_in, pairs_in, word_text}
 use Rattle.dd_script.proofs.Growing.{stay, one_more, more}
 
--- nothing is defined and nothing is asked
+-- nothing is defined or asked
 abbrev pub IsFresh : Parts → Type 0
 IsFresh s = (s.rules ≡ []) × (s.automata ≡ []) × (s.configurations ≡ []) × (s.queries ≡ [])
 
--- where a command of this place belongs to the header, which comes before all others, nothing is defined
+-- while a command of this stage belongs to the header, nothing is defined
 abbrev pub IsReady : ℕ → Parts → Type 0
 IsReady place s = place ≤ 6 → IsFresh s
 
--- the numbers below a number are light, as weights
+-- the numbers up to 1,000 are small enough as weights
 light_range : (n : ℕ) → n ≤ 1001 → All (λ w. w ≤ 1000) (range_with_len 0 n)
 light_range n le = λ i d lt. omega (arith, le, length-range_with_len 0 n, get_or-range_with_len 0 n i d)
 
--- where neither of two is there, the second isn't
+-- if neither of two is there, the second isn't
 second_none : {X Y : Type 0} (o : Option Y) (f : X → Y) (p : Option X) → option_or o (option_map f p) ≡ None → p ≡ None
 second_none o f p e = grind arith
 
@@ -42,7 +40,7 @@ module _ (d : Draft) (is : IsScriptOf (parts_of d)) where
   pub ready_behind : (c : Command) → IsReady (stage (head_of c)) s → IsReady (next_stage (head_of c)) (behind c)
   ready_behind c ready = grind arith
 
-  -- past the header, more is defined or asked; in the header, where nothing is defined, all that is known may change, but the names
+  -- after the header, more is defined or asked; in the header nothing is defined, and all that is known may change but the names
   pub kept_behind : (c : Command) → IsReady (stage (head_of c)) s → IsSoundMeaning d.context (meaning d.context d.made.automata c) → asked_fault s (meaning d.context d.made.automata c) ≡ None
       → ArePairs d.context.known (parts_in s (meaning d.context d.made.automata c)) (pairs_in s (meaning d.context d.made.automata c)) → HasSets (behind c).known → IsScriptOf (behind c)
   kept_behind (Command.Rule name f) ready sound light pairs has =

@@ -1,13 +1,10 @@
 -- Bytes spell a script, or are refused.
 use Rattle.std.proofs.Common.{◌≡◌, ◌⊎◌, ℕ, zero, suc, List, [], ◌∷◌, Option, Some, None, refl, sym, ◌∙◌, inl, inr, arith}
-use Rattle.dd_script.specs.Tree.{Lexeme, Written, Syntax}
+use Rattle.dd_script.specs.{Tree.Lexeme, Tree.Written, Tree.Syntax, Parts.Parts, Walk.Located, Walk.first_located_fault, Walk.script_of}
+use Rattle.dd_script.specs.Scripts.{Spells, RefusalKind, syntax, kind_of, RefusedAs}
 use Rattle.dd_written.specs.{Lexemes.lexemes_of, reading.Laws.FormulasAreRead, lemmas.Options.nothing_some}
 use Rattle.dd_commands.specs.Scripts.{parts, stage_after, AreCommands, IsFirstBad, IsScript}
-use Rattle.dd_commands.specs.reading.Parts.{written_of}
-use Rattle.dd_commands.specs.lemmas.Whole.{written_sound, written_again}
-use Rattle.dd_script.specs.Parts.{Parts}
-use Rattle.dd_script.specs.Walk.{Located, first_located_fault, script_of}
-use Rattle.dd_script.specs.Scripts.{Spells, RefusalKind, syntax, kind_of, RefusedAs}
+use Rattle.dd_commands.specs.{reading.Parts.written_of, lemmas.Whole.written_sound, lemmas.Whole.written_again}
 
 abbrev SpelledOrRefused : List ℕ → Type 0
 SpelledOrRefused bytes = ((s : Parts) × Spells bytes s) ⊎ ((n : ℕ) × (k : RefusalKind) × RefusedAs bytes n k)

@@ -1,17 +1,16 @@
--- Going through the commands, one after the other.
+-- Reading the commands, one by one.
 use Rattle.std.proofs.Common.{◌≡◌, ℕ, ◌+◌, ◌<◌, ◌≤◌, List, [], ◌∷◌, length, drop, get_or, Option, Some, None, refl, sym, ap, subst, ◌∙◌, arith, All}
-use Rattle.std.specs.Option.{option_or, option_map}
 use Rattle.std.proofs.lemmas.{Grind.common_steps, List.drop_all, List.Elements.All-get_or}
-use Rattle.dd_script.specs.Tree.{Lexeme, Syntax}
+use Rattle.std.specs.Option.{option_or, option_map}
+use Rattle.dd_script.specs.{Tree.Lexeme, Tree.Syntax, declared.draft.Draft.Draft, Parts.Parts, Kept.IsScriptOf}
+use Rattle.dd_script.specs.Walk.{start, asked_fault, parts_in, pairs_in, Located, located, first_from, after_all, has_topology, first_located_fault, script_of, Written, stage_of, Fault, first_fault, written_faults, Meaning, meaning_of, counted_sizes}
+use Rattle.dd_script.specs.Scripts.{Spells, kind_of, HasFault}
+use Rattle.dd_script.specs.Drafts.{parts_of, draft_of, with_meaning, fault_at, Means}
 use Rattle.dd_written.specs.Lexemes.{lexemes_of}
 use Rattle.dd_commands.specs.Scripts.{parts, stage_after, AreCommands, IsScript, IsWritten}
 use Rattle.dd_faults.specs.lemmas.Nothing.{none_first, parts as no_faults}
 use Rattle.dd_meanings.specs.Sound.{IsSoundMeaning}
 use Rattle.dd_pairs.specs.Made.{ArePairs}
-use Rattle.dd_script.specs.{declared.draft.Draft.Draft, Parts.Parts, Kept.IsScriptOf}
-use Rattle.dd_script.specs.Walk.{start, asked_fault, parts_in, pairs_in, Located, located, first_from, after_all, has_topology, first_located_fault, script_of, Written, stage_of, Fault, first_fault, written_faults, Meaning, meaning_of, counted_sizes}
-use Rattle.dd_script.specs.Scripts.{Spells, kind_of, HasFault}
-use Rattle.dd_script.specs.Drafts.{parts_of, draft_of, with_meaning, fault_at, Means}
 use Rattle.dd_script.proofs.Kept.{IsReady, HasSets, ready_behind, kept_behind}
 
 -- ---- one command
@@ -19,7 +18,7 @@ use Rattle.dd_script.proofs.Kept.{IsReady, HasSets, ready_behind, kept_behind}
 abbrev pub meant : Draft → Written → Meaning
 meant d w = meaning_of d.context d.made.automata w.command
 
--- where nothing of what is written or counted is a fault, only what is asked can be one
+-- if neither the text nor the counts have a fault, only what is asked can have one
 module _ (d : Draft) (w : Written) (m : Meaning) (none : first_fault (written_faults d.context w) ≡ None) (few : counted_sizes d.context d.made.automata w.command ≡ []) (is : m ≡ meant d w) where
   pub asked_is : fault_at d w ≡ asked_fault (parts_of d) m
   asked_is = rw (none, few, is)
@@ -36,11 +35,11 @@ module _ (d : Draft) (w : Written) (m : Meaning) (none : first_fault (written_fa
 
 -- ---- the commands
 
--- the first fault from here on, and the script that comes of what is left
+-- the first fault from here on, and the script that the remaining commands lead to
 abbrev rest_of : Draft → List Written → Option Located × Parts
 rest_of d ws = (first_from d.context.text d.context.has_topology d.context.number (parts_of d) ws, after_all d.context.text d.context.has_topology d.context.number (parts_of d) ws)
 
--- i of the commands of the text are done; the first fault of the rest is that of all, and the rest leads to the whole script
+-- i commands of the text are read; the first fault of the rest is that of all, and the rest leads to the whole script
 pub record Sofar (text : List ℕ) (ws : List Written) (i : ℕ) (d : Draft) : Type 0 where
   pub from : ℕ
   pub left : List (List Lexeme)
@@ -58,7 +57,7 @@ begins text ws d written begun kept =
     subst (Sofar text ws 0) (sym begun)
     (record { from = 0; left = (parts (lexemes_of text)).1; are = written.1.1; fresh = λ header. (refl, refl, refl, refl); script = kept; same_text = refl; leads = refl })
 
--- the command stands at this place or behind it, and the others behind the command
+-- the command has this stage or a later one, and the others have at least its next stage
 next_one : (text : List ℕ) (from : ℕ) (ps : List (List Lexeme)) (w : Written) (ws : List Written) → AreCommands text from ps (w ∷ ws)
     → (from ≤ stage_of w) × (left : List (List Lexeme)) × AreCommands text (stage_after w) left ws
 next_one text from [] w ws are = absurd are
@@ -71,7 +70,7 @@ module _ (text : List ℕ) (ws : List Written) (i : ℕ) (d : Draft) (w : Writte
   here : (sofar.from ≤ stage_of w) × (left : List (List Lexeme)) × AreCommands text (stage_after w) left (drop (i + 1) ws)
   here = next_one text sofar.from sofar.left w (drop (i + 1) ws) (rw split at sofar.are)
 
-  -- the same, where this is the command's first fault
+  -- the same, if this is the command's first fault
   abbrev rest_with : Option Fault → Option Located × Parts
   rest_with found =
       let rest = rest_of (with_meaning d (meant d w)) (drop (i + 1) ws) in (option_or (option_map (located d.context.number) found) rest.0, rest.1)
@@ -82,7 +81,7 @@ module _ (text : List ℕ) (ws : List Written) (i : ℕ) (d : Draft) (w : Writte
   pub written_here : All (IsWritten text) ws → IsWritten d.context.text w
   written_here all = rw (sofar.same_text, is) (All-get_or (IsWritten text) ws i w lt all)
 
-  -- the command's meaning is taken in, and each node allows some symbols
+  -- the command's meaning is added, and each node allows some symbols
   pub goes_on : (m : Meaning) → Means d w m → (e : Draft) → e ≡ with_meaning d m → HasSets e.context.known → Sofar text ws (i + 1) e
   goes_on m means e added has =
       let all : e ≡ with_meaning d (meant d w) = added ∙ ap (with_meaning d) means.is in
@@ -97,7 +96,7 @@ module _ (text : List ℕ) (ws : List Written) (i : ℕ) (d : Draft) (w : Writte
         leads = leads_with None means.faultless;
       })
 
-  -- the walk stops here
+  -- reading stops here
   pub stops : IsScript text (tree_of text ws) → (f : Fault) → fault_at d w ≡ Some f → HasFault d.context.text d.context.number (kind_of d.context.text f)
   stops written f found =
       subst (λ (t : List ℕ). HasFault t d.context.number (kind_of t f)) (sym sofar.same_text) (record {
@@ -108,7 +107,7 @@ module _ (text : List ℕ) (ws : List Written) (i : ℕ) (d : Draft) (w : Writte
         is = refl;
       })
 
--- behind the last command
+-- after the last command
 pub spelled : (text : List ℕ) (ws : List Written) (i : ℕ) (d : Draft) → IsScript text (tree_of text ws) → Sofar text ws i d → length ws ≤ i → Spells text (parts_of d)
 spelled text ws i d written sofar done =
     let same : rest_of d [] ≡ (first_located_fault text ws, script_of text ws) = rw (drop_all i ws done) at sofar.leads in

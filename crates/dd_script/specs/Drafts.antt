@@ -1,17 +1,16 @@
--- Scripts as far as their commands have been gone through.
+-- Scripts while their commands are read one by one.
 use Rattle.std.specs.Prelude.{ℕ, ◌+◌, ◌≡◌, ◌≤◌, List, Bool, Option, None}
 use Rattle.dd_values.specs.Bounds.{most_commands}
-use Rattle.dd_script.specs.Tree.{SyntaxFault}
+use Rattle.dd_script.specs.{Tree.SyntaxFault, declared.draft.Draft.Draft, declared.fault.ScriptFault.ScriptFault}
+use Rattle.dd_script.specs.{declared.fault.ScriptKind.ScriptKind, Parts.Parts, Parts.parts}
+use Rattle.dd_script.specs.Walk.{with, context, asked_fault, parts_in, pairs_in, meaning_at, fault_of, Written, Fault, Meaning}
 use Rattle.dd_meanings.specs.Sound.{IsSoundMeaning}
 use Rattle.dd_pairs.specs.Made.{ArePairs}
-use Rattle.dd_script.specs.{declared.draft.Draft.Draft, declared.fault.ScriptFault.ScriptFault, declared.fault.ScriptKind.ScriptKind}
-use Rattle.dd_script.specs.{Parts.Parts, Parts.parts}
-use Rattle.dd_script.specs.Walk.{with, context, asked_fault, parts_in, pairs_in, meaning_at, fault_of, Written, Fault, Meaning}
 
 abbrev pub parts_of : Draft → Parts
 parts_of d = parts d.context.known d.made
 
--- at the command with the number n
+-- the draft at the command with the number n
 abbrev pub draft_of : List ℕ → Bool → ℕ → Parts → Draft
 draft_of text topology n s =
     record {
@@ -19,7 +18,7 @@ draft_of text topology n s =
       made = record { rules = s.rules; automata = s.automata; configurations = s.configurations; queries = s.queries; pairs = s.pairs };
     }
 
--- behind a command that means this
+-- the draft after a command with this meaning
 abbrev pub with_meaning : Draft → Meaning → Draft
 with_meaning d m = draft_of d.context.text d.context.has_topology (d.context.number + 1) (with d.context.text (parts_of d) m)
 
@@ -36,7 +35,7 @@ pub record Means (d : Draft) (w : Written) (m : Meaning) : Type 0 where
   pub pairs : ArePairs d.context.known (parts_in (parts_of d) m) (pairs_in (parts_of d) m)
   pub counted : d.context.number ≤ most_commands
 
--- the command that is not well formed; or memory was wanting
+-- the command that is not well formed, or memory ran out
 abbrev pub IsUnread : SyntaxFault → ScriptFault → Type 0
 IsUnread SyntaxFault.Memory e = e ≡ record { command = 0; kind = ScriptKind.Memory }
 IsUnread (SyntaxFault.At n) e = e ≡ record { command = n; kind = ScriptKind.Syntax }

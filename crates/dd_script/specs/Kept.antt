@@ -1,6 +1,5 @@
--- What every script keeps.
-use Rattle.std.specs.Prelude.{◌≡◌, None, map}
-use Rattle.std.specs.List.{All}
+-- What holds of every script.
+use Rattle.std.specs.{Prelude.◌≡◌, Prelude.None, Prelude.map, List.All}
 use Rattle.dd_known.specs.Sound.{IsSound}
 pub use Rattle.dd_query.specs.Queries.{IsQueryWithin}
 pub use Rattle.dd_meanings.specs.{Made.IsRuleOf, Made.IsAutomatonOf, Made.AreNamed, Sound.IsConfigurationOf}
@@ -8,7 +7,7 @@ use Rattle.dd_pairs.specs.Made.{ArePairs}
 use Rattle.dd_script.specs.Parts.{Parts, Query}
 pub use Rattle.dd_script.specs.Questions.{query_excess, parts_for, pairs_for}
 
--- it names what there is, its numbers and vectors are within their bounds, and neither its pairs nor what it asks pass a limit
+-- it names what exists, its numbers and vectors are within their bounds, and neither its pairs nor what it asks exceed a limit
 pub record IsQueryOf (s : Parts) (q : Query) : Type 0 where
   pub within : IsQueryWithin s.known q
   pub pairs : ArePairs s.known (parts_for s q) (pairs_for s q)
@@ -17,7 +16,7 @@ pub record IsQueryOf (s : Parts) (q : Query) : Type 0 where
 pub record IsScriptOf (s : Parts) : Type 0 where
   -- the numbers of nodes and symbols, the weights and the limits are in range and agree
   pub known : IsSound s.known
-  -- rules, automata with the rules in them, and configurations have the script's topology, nodes and symbols
+  -- rules, configurations and automata, with the rules in them, have the script's topology, nodes and symbols
   pub rules : AreNamed (IsRuleOf s.known.setting) s.known.rules s.rules
   pub automata : AreNamed (IsAutomatonOf s.known.setting) s.known.automata s.automata
   pub configurations : AreNamed (IsConfigurationOf s.known.setting) s.known.configurations s.configurations

@@ -1,16 +1,16 @@
--- the types of what is written, of its faults and of what is known
+-- the types of syntax trees, of their faults and of what is known
 pub mod Tree
 -- the parts of a script
 pub mod Parts
--- what the queries ask, and which limit on its work that passes
+-- what the queries ask, and which limit on its work a question exceeds
 pub mod Questions
--- what every script keeps
+-- what holds of every script
 pub mod Kept
--- what each command leaves, and the first fault
+-- what each command changes, and the first fault
 pub mod Walk
--- what is known of each question that a script asks
+-- what is known of each question of a script
 pub mod Asking
 -- which bytes spell a script, and how all others are refused
 pub mod Scripts
--- scripts as far as their commands have been gone through
+-- scripts while their commands are read one by one
 pub mod Drafts

@@ -7,8 +7,8 @@ pub use Rattle.dd_pairs.specs.declared.pair.Pair.{Pair}
 pub use Rattle.dd_query.specs.declared.queries.Query.{Query}
 use Rattle.dd_script.specs.declared.script.Made.{Made}
 
--- what a script says of cells and names; its rules, automata and configurations, in the order of their definitions; and its
--- queries, in order, and for each the pairs of automata that it asks about
+-- What a script says of cells and names; its rules, automata and configurations, in the order of their definitions; its queries
+-- in order; and for each query the pairs of automata that it asks about.
 pub record Parts : Type 0 where
   pub known : Known
   pub rules : List LocalRule

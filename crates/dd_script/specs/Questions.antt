@@ -1,24 +1,23 @@
 -- What the queries of a script ask.
-use Rattle.std.specs.Prelude.{ℕ, ◌-◌, List, Option, option_map}
-use Rattle.std.specs.{List.slice_get, Option.option_and_then}
+use Rattle.std.specs.{Prelude.ℕ, Prelude.◌-◌, Prelude.List, Prelude.Option, Prelude.option_map, List.slice_get, Option.option_and_then}
 use Rattle.dd_boxes.specs.{Goals.breaks, Goals.differ, Goals.always, Views.numbers_of}
-use Rattle.dd_question.specs.Questions as question
 use Rattle.dd_question.specs.{Questions.Asked, Questions.excess_of, declared.excess.Excess.Excess}
 use Rattle.dd_pairs.specs.{Parts.PartOf, Parts.image, Parts.change, Parts.pair_of, Parts.goal_of, Goals.conjugacy_by}
+use Rattle.dd_question.specs.Questions as question
 pub use Rattle.dd_pairs.specs.Queries.{of_both, of_three, of_four}
 use Rattle.dd_pairs.specs.Queries.{parts_asked, pairs_of}
 use Rattle.dd_script.specs.Parts.{Parts, LocalRule, Automaton, Query, Pair, Setting}
 
--- whether the automaton maps configurations of the first rule to such of the second
+-- whether the automaton maps configurations of the first rule to configurations of the second
 abbrev pub map_question : Setting → LocalRule → LocalRule → Automaton → Asked
 map_question s x y f = question.box x (goal_of s (image x f y))
 
--- whether two automata are maps from the first rule to the second and back, each the inverse of the other
+-- whether two automata map the rules' configurations to each other, and are inverse
 abbrev pub conjugacy_question : Setting → LocalRule → LocalRule → Automaton → Automaton → Asked
 conjugacy_question s x y f g =
     question.conjugacy (conjugacy_by x y (pair_of s (image x f y)) (pair_of s (image y g x)) (pair_of s (change x g f)) (pair_of s (change y f g)))
 
--- what the query asks, where its rules, its automata and its configuration are there
+-- what the query asks, if its rules, automata and configuration exist
 abbrev pub asked : Parts → Query → Option Asked
 asked s (Query.Member configuration rule) = of_both question.membership (slice_get s.rules rule) (slice_get s.configurations configuration)
 asked s (Query.Contains outer inner) = of_both (λ x y. question.box x (breaks y)) (slice_get s.rules inner) (slice_get s.rules outer)
@@ -35,11 +34,11 @@ asked s (Query.Density rule strip) = option_map (λ x. question.density x strip 
 asked s (Query.Least rule periods) = option_map (λ x. question.least x periods s.known.weights) (slice_get s.rules rule)
 asked s (Query.Discharge rule radius margin vectors) = option_map (λ x. question.discharge x radius margin vectors s.known.weights) (slice_get s.rules rule)
 
--- the limit on its work that the question passes, searched as far as the script says
+-- the limit that the question exceeds, searched as far as the script says
 abbrev pub query_excess : Parts → Query → Option Excess
 query_excess s q = option_and_then (excess_of s.known.limits) (asked s q)
 
--- what it puts together of rules and automata, and the pairs that it asks about
+-- the questions that it consists of, and the pairs that they ask about
 abbrev pub parts_for : Parts → Query → List PartOf
 parts_for s q = parts_asked s.rules s.automata q
 

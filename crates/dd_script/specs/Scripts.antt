@@ -1,12 +1,11 @@
 -- Which bytes spell a script, and how all others are refused.
 use Rattle.std.specs.Prelude.{ℕ, ◌≡◌, List, Some, None, string_bytes, codes}
 use Rattle.dd_written.specs.Values.{name_text}
-use Rattle.dd_script.specs.Tree.{Syntax, Fault}
+use Rattle.dd_script.specs.{Tree.Syntax, Tree.Fault, declared.fault.ScriptKind.ScriptKind, declared.fault.ScriptFault.ScriptFault}
+use Rattle.dd_script.specs.{Parts.Parts, Walk.located, Walk.first_located_fault, Walk.script_of, Walk.Limit, Walk.Fault}
 use Rattle.dd_commands.specs.Scripts.{IsScript, IsSyntaxFault}
-use Rattle.dd_script.specs.{declared.fault.ScriptKind.ScriptKind, declared.fault.ScriptFault.ScriptFault, Parts.Parts}
-use Rattle.dd_script.specs.Walk.{located, first_located_fault, script_of, Limit, Fault}
 
--- the bytes are a text of the grammar, with this meaning, and without a fault
+-- the bytes are a text of the grammar, without a fault, and this is its meaning
 pub record Spells (bytes : List ℕ) (s : Parts) : Type 0 where
   pub tree : Syntax
   pub written : IsScript bytes tree
@@ -37,7 +36,7 @@ pub record HasFault (bytes : List ℕ) (n : ℕ) (k : RefusalKind) : Type 0 wher
   pub comes_first : first_located_fault bytes tree.commands ≡ Some (located n found)
   pub is : k ≡ kind_of bytes found
 
--- how the bytes are refused: by the first command that is not well formed, else by the first fault
+-- how the bytes are refused: by the first command that is not well formed, otherwise by the first fault
 abbrev pub RefusedAs : List ℕ → ℕ → RefusalKind → Type 0
 RefusedAs bytes n syntax = IsSyntaxFault bytes n
 RefusedAs bytes n (unknown text) = HasFault bytes n (unknown text)
@@ -45,7 +44,7 @@ RefusedAs bytes n (twice text) = HasFault bytes n (twice text)
 RefusedAs bytes n dimension = HasFault bytes n dimension
 RefusedAs bytes n (size l) = HasFault bytes n (size l)
 
--- refused so; or memory was wanting
+-- refused so, or memory ran out
 abbrev pub IsRefusedAs : List ℕ → ℕ → ScriptKind → Type 0
 IsRefusedAs bytes n ScriptKind.Syntax = RefusedAs bytes n syntax
 IsRefusedAs bytes n (ScriptKind.Unknown text) = RefusedAs bytes n (unknown (string_bytes text))

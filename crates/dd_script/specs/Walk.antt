@@ -1,4 +1,4 @@
--- The commands of a script one after the other: what each leaves, and the first fault.
+-- The commands of a script one by one: what each changes, and the first fault.
 use Rattle.std.specs.Prelude.{ℕ, ◌+◌, List, [], ◌∷◌, ◌++◌, length, map, Bool, false, ◌==◌, Option, Some, None, unwrap_or, codes}
 use Rattle.std.specs.{List.list_any, List.range_with_len, Option.option_or, Option.option_map, Option.option_and_then}
 use Rattle.dd_topology.specs.{Builtin.square, Sets.SymbolSets, Sets.all_symbols, Sets.restricted}
@@ -12,9 +12,9 @@ pub use Rattle.dd_pairs.specs.Faults.{limit_of}
 use Rattle.dd_pairs.specs.{Parts.PartOf, Parts.pair_of, Faults.parts_faults, Faults.earliest}
 use Rattle.dd_script.specs.{Questions.query_excess, Questions.parts_for, Questions.pairs_for, Parts.Parts, Parts.Known, Parts.Query, Parts.Pair}
 
--- ---- where a script has said nothing
+-- ---- the defaults
 
--- the square grid with the node 0, and the symbols 0 and 1 with their numbers as weights
+-- the square grid with the node 0, and the symbols 0 and 1, whose weights are 0 and 1
 abbrev pub known_start : Known
 known_start =
     record {
@@ -31,9 +31,9 @@ known_start =
 abbrev pub start : Parts
 start = record { known = known_start; rules = []; automata = []; configurations = []; queries = []; pairs = [] }
 
--- ---- what a command leaves
+-- ---- what a command changes
 
--- with other symbols that the nodes allow, where these nodes are restricted
+-- with these sets of symbols; the nodes in the list are restricted
 abbrev pub allowing : Known → SymbolSets → List ℕ → Known
 allowing k sets nodes = record k { setting = record (k.setting) { sets = sets }; restricted = nodes }
 
@@ -41,8 +41,8 @@ allowing k sets nodes = record k { setting = record (k.setting) { sets = sets };
 abbrev pub unrestricted : Known → Known
 unrestricted k = allowing k (all_symbols (length k.setting.nodes) (length k.setting.symbols)) []
 
--- The script with a command more, of this meaning. Where nodes or symbols change, each node allows each symbol anew; and
--- where symbols change, the weight of each is its number.
+-- The script after one more command, with this meaning. If nodes or symbols change, each node allows each symbol again; if
+-- symbols change, the weight of each is its index.
 abbrev pub with : List ℕ → Parts → Meaning → Parts
 with bytes s (Meaning.Topology g) = record s { known = record (s.known) { setting = record (s.known.setting) { topology = g } } }
 with bytes s (Meaning.Nodes nodes given g) =
@@ -62,11 +62,11 @@ with bytes s (Meaning.Query query) = record s { queries = s.queries ++ query ∷
 
 -- ---- one command after the other
 
--- where the command with the number n stands; topology: whether the script has a topology command
+-- the context of the command with the number n; `topology` says whether the script has a topology command
 abbrev pub context : List ℕ → Bool → ℕ → Parts → Context
 context bytes topology n s = record { text = bytes; has_topology = topology; number = n; known = s.known }
 
--- the query, where it is one
+-- the query, if it is one
 abbrev pub query_in : Meaning → Option Query
 query_in (Meaning.Topology g) = None
 query_in (Meaning.Nodes nodes given g) = None
@@ -79,14 +79,14 @@ query_in (Meaning.Automaton name automaton) = None
 query_in (Meaning.Configuration name configuration) = None
 query_in (Meaning.Query query) = Some query
 
--- the first limit that a query's pairs, or the questions about them, pass; or else the limit that what is asked passes
+-- the first limit that the query's pairs or the questions about them exceed, otherwise the limit that what is asked exceeds
 abbrev pub query_fault : Parts → Query → Option Fault
 query_fault s q = option_or (earliest (parts_faults s.known (parts_for s q))) (option_map (λ e. Fault.Size (limit_of e)) (query_excess s q))
 
 abbrev pub asked_fault : Parts → Meaning → Option Fault
 asked_fault s m = option_and_then (query_fault s) (query_in m)
 
--- the parts that it puts together, and the pairs that it asks about
+-- the questions that it consists of, and the pairs that they ask about
 abbrev pub parts_in : Parts → Meaning → List PartOf
 parts_in s m = unwrap_or (option_map (parts_for s) (query_in m)) []
 
@@ -96,8 +96,8 @@ pairs_in s m = map (pair_of s.known.setting) (parts_in s m)
 abbrev pub meaning_at : List ℕ → Bool → ℕ → Parts → Written → Meaning
 meaning_at bytes topology n s w = meaning_of (context bytes topology n s) s.automata w.command
 
--- the first fault of what is written; where there is none, the first limit on counts that is passed; and where there is none, the
--- limit that what is asked passes
+-- The first fault of the text; if there is none, the first limit on counts that is exceeded; if there is none, the limit that
+-- what is asked exceeds.
 abbrev pub fault_of : List ℕ → Bool → ℕ → Parts → Written → Option Fault
 fault_of bytes topology n s w =
     option_or (first_fault (written_faults (context bytes topology n s) w))
@@ -106,7 +106,7 @@ fault_of bytes topology n s w =
 abbrev pub next : List ℕ → Bool → ℕ → Parts → Written → Parts
 next bytes topology n s w = with bytes s (meaning_at bytes topology n s w)
 
--- a fault, with its command's number
+-- a fault with the number of its command
 pub record Located : Type 0 where
   pub command : ℕ
   pub fault : Fault
@@ -119,12 +119,12 @@ abbrev pub first_from : List ℕ → Bool → ℕ → Parts → List Written →
 first_from bytes topology n s [] = None
 first_from bytes topology n s (w ∷ ws) = option_or (option_map (located n) (fault_of bytes topology n s w)) (first_from bytes topology (n + 1) (next bytes topology n s w) ws)
 
--- a script with these commands more
+-- the script after these commands
 abbrev pub after_all : List ℕ → Bool → ℕ → Parts → List Written → Parts
 after_all bytes topology n s [] = s
 after_all bytes topology n s (w ∷ ws) = after_all bytes topology (n + 1) (next bytes topology n s w) ws
 
--- whether it is a topology command, by its place
+-- whether it is a topology command, by its stage
 abbrev pub is_topology : Written → Bool
 is_topology w = stage_of w == stage Head.Topology
 

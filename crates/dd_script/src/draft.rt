@@ -1,4 +1,4 @@
-//! A script as far as its commands have been gone through.
+//! A script while its commands are read one by one.
 ghost use Rattle.std.specs.Prelude.{◌≡◌, ◌≤◌, ◌++◌, [], ◌∷◌, Contains, OnOk, IfOk, MatchResult};
 ghost use Rattle.dd_values.specs.Bounds.{most_commands};
 ghost use Rattle.dd_written.specs.Values.{word_text};
@@ -23,14 +23,14 @@ use dd_values::{Boxed, Items};
 use dd_written::{Name, Text, Word, name_text};
 use std::alloc::{AllocError, Global};
 
-/// A script as far as its commands have been gone through, and where the next command stands.
+/// A script after the commands read so far, and the context of the next command.
 #[derive(Drop)]
 pub(crate) struct Draft {
     pub(crate) context: Context,
     pub(crate) made: Made,
 }
 
-/// Adds a name that is not there yet. More names than any script has are taken for want of memory.
+/// Adds a name that is not in the list. More names than any script contains count as a lack of memory.
 fn add_name(alloc: Global, text: &Text, names: &mut Names, name: Word) -> Result<(), AllocError>
     requires { ¬ Contains names.old (word_text text.now name) }
     ensures { OnOk result (names.new ≡ names.old ++ word_text text.now name ∷ []) }
@@ -42,7 +42,7 @@ fn add_name(alloc: Global, text: &Text, names: &mut Names, name: Word) -> Result
 }
 
 impl Draft {
-    /// Before the first command of a text. `has_topology` is whether it has a topology command.
+    /// The draft before the first command. `has_topology` says whether the text has a topology command.
     pub(crate) fn new(alloc: Global, text: Text, has_topology: bool) -> Result<Draft, AllocError>
         ensures begun { IfOk result (λ begun. begun ≡ draft_of text has_topology 1 start) }
         ensures kept { OnOk result (IsScriptOf start) }
@@ -65,7 +65,7 @@ impl Draft {
         })
     }
 
-    /// The pairs that a query asks about; or it is refused for them, or since it asks for too much work.
+    /// The pairs that a query asks about. It is refused if these, or what it asks, exceed a limit.
     fn weigh(&self, alloc: Global, meaning: &Meaning) -> Result<Items<Pair>, Refusal>
         requires script { IsScriptOf (parts_of self.now) }
         requires sound { IsSoundMeaning self.now.context meaning.now }
@@ -91,7 +91,7 @@ impl Draft {
         }
     }
 
-    /// What the next command means, with the pairs that it asks about; or it is refused for its first fault.
+    /// What the next command means, with the pairs that it asks about; otherwise it is refused for its first fault.
     pub(crate) fn meaning_of(
         &self,
         alloc: Global,
@@ -107,7 +107,7 @@ impl Draft {
         Ok((meaning, pairs))
     }
 
-    /// Goes behind the next command, which means this and asks about these pairs.
+    /// Adds the next command, which has this meaning and asks about these pairs.
     pub(crate) fn add(
         &mut self,
         alloc: Global,
@@ -179,7 +179,7 @@ impl Draft {
         }
     }
 
-    /// The script behind the last command.
+    /// The script after the last command.
     pub(crate) fn into_script(self, alloc: Global) -> Result<Script, AllocError>
         requires { IsScriptOf (parts_of self) }
         ensures { IfOk result (λ script. script ≡ parts_of self) }

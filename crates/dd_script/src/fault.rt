@@ -1,4 +1,4 @@
-//! Why a text is no script.
+//! Why a text is not a script.
 ghost use Rattle.std.specs.Prelude.{◌≡◌};
 ghost use Rattle.dd_script.specs.declared.fault.ScriptKind.TheVariants as refused;
 ghost use Rattle.dd_script.specs.Drafts.{IsUnread};
@@ -14,25 +14,25 @@ pub enum ScriptKind {
     /// It is not well formed.
     #[error("not well formed")]
     Syntax,
-    /// This name stands for nothing.
+    /// This name refers to nothing.
     #[error("{0} stands for nothing")]
     Unknown(String),
-    /// This name is given twice, or a `vector`.
+    /// This name is given twice; `vector` for a vector.
     #[error("{0} is given twice")]
     Twice(String),
-    /// Numbers of entries do not agree.
+    /// Numbers of entries disagree.
     #[error("numbers of entries do not agree")]
     Dimension,
-    /// This limit is passed.
+    /// This limit is exceeded.
     #[error("a limit is passed")]
     Size(Limit),
-    /// Memory was wanting. The command's number is 0 then.
+    /// Memory ran out. The command's number is then 0.
     #[error("out of memory")]
     Memory,
 }
 
-/// Why a text is no script: the first command that is not well formed; else the first with another fault, and its first one.
-/// Commands are numbered from 1, and 0 is what stands before the first.
+/// Why a text is not a script: the first command that is not well formed, otherwise the first command with a fault, and its
+/// first fault. Commands are numbered from 1; 0 stands for what comes before the first.
 #[derive(Debug, Drop, Error)]
 #[error("command {command}: {kind}")]
 pub struct ScriptFault {

@@ -1,4 +1,4 @@
-//! What is known where a script has said nothing.
+//! What holds before a script defines anything.
 ghost use Rattle.std.specs.Prelude.{◌≡◌, ◌≤◌, length, IfOk, OnOk};
 ghost use Rattle.std.specs.List.{range_with_len};
 ghost use Rattle.dd_known.specs.Sound.{IsSound};
@@ -10,17 +10,16 @@ use dd_topology::{Kind, Names, Sets, Topology};
 use dd_values::{Items, Limits};
 use std::alloc::{AllocError, Global};
 
-/// The greatest radius where a script has said nothing.
+/// The default for the greatest radius.
 const RADIUS_AT_START: u32 = 4;
 
-/// The greatest period where a script has said nothing.
+/// The default for the greatest period.
 const PERIOD_AT_START: u32 = 4;
 
-/// The greatest number of pivots where a script has said nothing.
+/// The default for the greatest number of pivots.
 const PIVOTS_AT_START: u32 = 10_000;
 
-/// What holds where a script has said nothing: the square grid with the node 0, and the symbols 0 and 1 with their numbers as
-/// weights.
+/// The defaults: the square grid with the node 0, and the symbols 0 and 1, whose weights are 0 and 1.
 pub(crate) fn start(alloc: Global) -> Result<Known, AllocError>
     ensures known { IfOk result (λ known. known ≡ known_start) }
     ensures sound { OnOk result (IsSound known_start) }
@@ -29,7 +28,7 @@ pub(crate) fn start(alloc: Global) -> Result<Known, AllocError>
     let nodes = zero(alloc)?;
     let symbols = zero_and_one(alloc)?;
     let topology = Topology::builtin(alloc, Kind::Square)?;
-    // Read for what its type keeps.
+    // This read brings in what the type guarantees.
     let _dimension = topology.dim();
     let weights = Items::from_slice(alloc, &[0, 1])?;
     Ok(Known {
@@ -59,7 +58,7 @@ pub(crate) fn numbers_below(alloc: Global, count: u32) -> Result<Vec<u32>, Alloc
     (0..count).collect(alloc)
 }
 
-/// Each node allows each symbol anew.
+/// Lets each node allow each symbol again.
 pub(crate) fn allow_all(alloc: Global, known: &mut Known) -> Result<(), AllocError>
     requires nodes { 1 ≤ length known.old.setting.nodes }
     requires symbols { 1 ≤ length known.old.setting.symbols }

@@ -11,8 +11,8 @@ use dd_pairs::{Pair, conjugacy};
 use dd_query::Query;
 use dd_question::Question;
 
-/// What a query asks: with the rules, automata, pairs and configurations themselves in place of their numbers, and with the weights
-/// where something is weighed.
+/// What a query asks, with the rules, automata, pairs and configurations themselves in place of their indices, and with the
+/// weights where something is weighed.
 pub(crate) fn question_of<'a>(
     known: &'a Known,
     made: &'a Made,

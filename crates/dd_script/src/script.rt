@@ -10,14 +10,14 @@ use dd_topology::{Names, Sets, Topology};
 use dd_values::{Boxed, Items, Limits};
 use std::marker::Model;
 
-/// What the commands behind the header define and ask, in order.
+/// What the commands after the header define and ask, in order.
 #[derive(Drop)]
 pub(crate) struct Made {
     pub(crate) rules: Items<Rule>,
     pub(crate) automata: Items<Automaton>,
     pub(crate) configurations: Items<Periodic>,
     pub(crate) queries: Items<Query>,
-    /// For each query the pairs that it asks about.
+    /// For each query, the pairs that it asks about.
     pub(crate) pairs: Items<Items<Pair>>,
 }
 
@@ -29,9 +29,9 @@ pub(crate) struct Contents {
 }
 
 /// A script: what it says of cells, what it defines, and what it asks. Its numbers are in range, its parts agree in dimension,
-/// nodes and symbols, and it passes no limit.
+/// nodes and symbols, and it exceeds no limit.
 ///
-/// It is small: its parts lie together on the heap.
+/// It is small: its parts are on the heap.
 #[derive(Drop)]
 pub struct Script {
     pub(crate) contents: Boxed<Contents>,
@@ -107,7 +107,7 @@ impl Script {
         self.contents.get().known.weights.as_slice()
     }
 
-    /// How far its questions are searched.
+    /// The limits of the search for its answers.
     pub fn limits(&self) -> &Limits
         ensures value { result.now ≡ self.now.known.limits }
         ensures kept { IsScriptOf self.now }
@@ -124,8 +124,8 @@ impl Script {
         self.contents.get().made.rules.as_slice()
     }
 
-    /// The automata, compositions among them, in the order of their definitions. The rules in them have the script's topology and
-    /// the symbols that its nodes allow.
+    /// The automata and compositions, in the order of their definitions. The rules in them have the script's topology and the
+    /// symbols that its nodes allow.
     pub fn automata(&self) -> &[Automaton]
         ensures value { result.now ≡ self.now.automata }
         ensures kept { IsScriptOf self.now }
@@ -151,13 +151,13 @@ impl Script {
     }
 }
 
-/// What the queries ask. Nothing here takes memory.
+/// What the queries ask. Takes no memory.
 impl Script {
     ghost use Rattle.std.specs.Prelude.{◌≡◌, Contains};
     ghost use Rattle.dd_script.specs.Asking.{Asks, AreSound};
 
-    /// What a query of the script asks, of whichever kind it is: with the rules, automata and configurations themselves in place of
-    /// their numbers, with the script's weights where something is weighed, and with the script's limits.
+    /// What a query of the script asks, of any kind. It has the rules, automata and configurations themselves in place of their
+    /// indices, the script's weights where something is weighed, and the script's limits.
     pub fn question<'a>(&'a self, query: &'a Query) -> CheckedQuestion<'a>
         requires { Contains self.now.queries query.now }
         ensures asks { Asks self.now query.now result.question }
@@ -176,7 +176,7 @@ impl Script {
         ensures { AreSound self.now }
     {
         sound_questions();
-        // Read for what its type keeps.
+        // This read brings in what the type guarantees.
         let _limits = self.limits();
     }
 }

@@ -1,36 +1,25 @@
 -- A check accepts the whole output of a run, with the run's status: its answers are right, so they are certificates, and a
 -- text is of one output only.
 use Rattle.std.proofs.Common.{◌≡◌, ℕ, zero, suc, ◌+◌, ◌-◌, ◌<◌, ◌≤◌, List, [], ◌∷◌, ◌++◌, length, max, Bool, true, false, Some, None, refl, ap, sym, subst, ◌∙◌, add-one, append_assoc, arith}
-use Rattle.std.specs.Prelude.{Option, IsSomeAnd}
-use Rattle.std.specs.List.{All, slice_get}
 use Rattle.std.proofs.lemmas.List.Elements.{All-nil, All-cons}
-use Rattle.dd_certificate.specs.declared.answer.Answer.{Answer}
-use Rattle.dd_certificate.specs.Text.{answer_text}
-use Rattle.dd_certificate.specs.Bounds.{IsWritable}
+use Rattle.std.specs.{Prelude.Option, Prelude.IsSomeAnd, List.All, List.slice_get}
+use Rattle.dd_certificate.specs.{declared.answer.Answer.Answer, Text.answer_text, Bounds.IsWritable}
 use Rattle.dd_output.specs.declared.output.Output.{Output}
 use Rattle.dd_output.specs.Outputs.{header as whole_header, answers_text, output_text, IsWritableOutput, end_line}
 use Rattle.dd_query.specs.declared.queries.Query.{Query}
-use Rattle.dd_script.specs.Parts.{Parts}
-use Rattle.dd_script.specs.Scripts.{Spells}
-use Rattle.dd_script.specs.Questions.{asked}
+use Rattle.dd_script.specs.{Parts.Parts, Scripts.Spells, Questions.asked}
 use Rattle.dd_question.specs.Questions.{Asked}
 use Rattle.dd_values.specs.declared.limits.Limits.{Limits}
 use Rattle.dd_answer.specs.Right.{Right}
 use Rattle.dd_respond.specs.Right.{IsRightTo}
 use Rattle.dd_verify.specs.Certificates.{IsCertificateOf}
-use Rattle.dd_checker.specs.Certificates.{IsCertificateFor, IsCertificate}
-use Rattle.dd_checker.specs.Claims.{Claim}
+use Rattle.dd_checker.specs.{Certificates.IsCertificateFor, Certificates.IsCertificate, Claims.Claim}
 use Rattle.dd_session.specs.declared.status.Status.{Status}
 use Rattle.dd_session.specs.declared.status.Status.TheVariants.{Definite, SomeUnknown, Refused, ReadFault, WriteFault, Memory, BadWords, Rejected}
-use Rattle.dd_session.specs.Answers.{AllRight, has_unknown, texts}
-use Rattle.dd_session.specs.Output.{header, output_of}
-use Rattle.dd_session.specs.Sides.{status_of}
+use Rattle.dd_session.specs.{Answers.AllRight, Answers.has_unknown, Answers.texts, Output.header, Output.output_of, Sides.status_of}
 use Rattle.dd_session.specs.Checks.{most_checked, IsAcceptedAt, IsTrueAt, AcceptedTo, AllAccepted, FirstRejected, IsAllAccepted}
-use Rattle.dd_session.specs.Checked.{CheckDecides}
-use Rattle.dd_session.specs.Agreement.{IsRunOutput, IsJudgement}
-use Rattle.dd_session.proofs.Decided.{OneScript}
-use Rattle.dd_session.proofs.CheckEnds.{OneOutput}
-use Rattle.dd_session.proofs.Numbered.{few_queries}
+use Rattle.dd_session.specs.{Checked.CheckDecides, Agreement.IsRunOutput, Agreement.IsJudgement}
+use Rattle.dd_session.proofs.{Decided.OneScript, CheckEnds.OneOutput, Numbered.few_queries}
 
 abbrev AreCertificates : Type 0
 AreCertificates = (l : Limits) (k : Asked) (a : Answer) → IsRightTo l k a → IsCertificateOf l k a

@@ -3,14 +3,11 @@ use Rattle.std.proofs.Common.{◌≡◌, ◌≢◌, inl, inr, ℕ, suc, ◌+◌,
 use Rattle.std.proofs.KnownBytes.{Consumes-nil}
 use Rattle.std.specs.declared.option.Option.{Option}
 use Rattle.dd_outside.specs.Bytes.{ReadToEnd, GivesMore, GivesAtMost}
-use Rattle.dd_output.specs.declared.output.Output.{Output}
-use Rattle.dd_output.specs.Outputs.{output_text, IsWritableOutput}
-use Rattle.dd_script.specs.Parts.{Parts}
-use Rattle.dd_script.specs.Scripts.{Spells, RefusedAs, RefusalKind}
+use Rattle.dd_output.specs.{declared.output.Output.Output, Outputs.output_text, Outputs.IsWritableOutput}
+use Rattle.dd_script.specs.{Parts.Parts, Scripts.Spells, Scripts.RefusedAs, Scripts.RefusalKind}
 use Rattle.dd_session.specs.declared.status.Status.{Status}
 use Rattle.dd_session.specs.declared.status.Status.TheVariants.{Definite, SomeUnknown, Refused, ReadFault, WriteFault, Memory, BadWords, Rejected}
-use Rattle.dd_session.specs.Output.{long_line}
-use Rattle.dd_session.specs.Sides.{Told, RefusedBy}
+use Rattle.dd_session.specs.{Output.long_line, Sides.Told, Sides.RefusedBy}
 use Rattle.dd_session.specs.Checks.{most_checked, IsOutput, IsCheckable, IsRefusedOutput, malformed, no_script, IsCheckedOutput}
 use Rattle.dd_session.specs.Checked.{CheckedOver, CheckEnded, CheckDecides, WholeCheck, WholeRejection, WholeRefusedOutput, Read}
 use Rattle.dd_session.proofs.Decided.{NeverBoth, told_bytes, told_more}

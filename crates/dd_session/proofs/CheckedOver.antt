@@ -2,22 +2,17 @@
 use Rattle.std.proofs.Common.{◌≡◌, ◌≤◌, length, inl, inr, ℕ, List, Bool, true, false, codes, string_bytes, refl, sym, ap, subst}
 use Rattle.std.specs.declared.option.Option.{Option}
 use Rattle.dd_certificate.specs.declared.answer.Answer.{Answer}
-use Rattle.dd_output.specs.declared.output.Output.{Output}
-use Rattle.dd_output.specs.declared.fault.CertificateFault.TheVariants as faults
-use Rattle.dd_output.specs.Offsets.{IsOutputFault}
-use Rattle.dd_output.specs.Outputs.{output_text, IsWritableOutput}
-use Rattle.dd_script.specs.declared.fault.ScriptKind.{ScriptKind}
-use Rattle.dd_script.specs.declared.fault.ScriptKind.TheVariants as refused
-use Rattle.dd_script.specs.Parts.{Parts}
+use Rattle.dd_output.specs.{declared.output.Output.Output, Offsets.IsOutputFault, Outputs.output_text, Outputs.IsWritableOutput}
+use Rattle.dd_script.specs.{declared.fault.ScriptKind.ScriptKind, Parts.Parts}
 use Rattle.dd_script.specs.Scripts.{Spells, IsRefusedAs, syntax, unknown, twice, dimension, size}
 use Rattle.dd_session.specs.declared.status.Status.{Status}
 use Rattle.dd_session.specs.declared.status.Status.TheVariants.{Definite, SomeUnknown, Refused, ReadFault, WriteFault, Memory, BadWords, Rejected}
-use Rattle.dd_session.specs.Answers.{has_unknown}
-use Rattle.dd_session.specs.Output.{IsLineOf}
-use Rattle.dd_session.specs.Sides.{Told, RefusedBy, RefusedFor, status_of}
+use Rattle.dd_session.specs.{Answers.has_unknown, Output.IsLineOf, Sides.Told, Sides.RefusedBy, Sides.RefusedFor, Sides.status_of}
 use Rattle.dd_session.specs.Checks.{offset_line, IsOutput, IsCheckable, IsRefusedOutput, malformed, no_script}
 use Rattle.dd_session.specs.Checked.{CheckedOver}
 use Rattle.dd_session.specs.checking.Judged.{RejectedHere, AcceptedAll, AllJudged, checked_status}
+use Rattle.dd_output.specs.declared.fault.CertificateFault.TheVariants as faults
+use Rattle.dd_script.specs.declared.fault.ScriptKind.TheVariants as refused
 
 output_itself : (o : Output) → IsWritableOutput o → IsOutput (output_text o) o
 output_itself o writable = record { writable = writable; text_is = refl }

@@ -4,8 +4,7 @@ use Rattle.std.proofs.KnownBytes.{Consumes-nil}
 use Rattle.std.specs.declared.option.Option.{Option}
 use Rattle.dd_values.specs.Bounds.{most_script}
 use Rattle.dd_outside.specs.Bytes.{ReadToEnd, GivesMore, GivesAtMost}
-use Rattle.dd_script.specs.Parts.{Parts}
-use Rattle.dd_script.specs.Scripts.{Spells, RefusedAs, RefusalKind}
+use Rattle.dd_script.specs.{Parts.Parts, Scripts.Spells, Scripts.RefusedAs, Scripts.RefusalKind}
 use Rattle.dd_session.specs.declared.status.Status.{Status}
 use Rattle.dd_session.specs.declared.status.Status.TheVariants.{Definite, SomeUnknown, Refused, ReadFault, WriteFault, Memory, BadWords, Rejected}
 use Rattle.dd_session.specs.Sides.{Told}

@@ -1,32 +1,23 @@
 -- How queries ask engines, one after the other, and when nobody was asked.
 use Rattle.std.proofs.Common.{◌≡◌, ◌⊎◌, ℕ, ◌+◌, ◌<◌, ◌≤◌, List, [], ◌∷◌, ◌++◌, length, take, get_or, Bool, true, false, Some, None, refl, sym, ◌∙◌, subst, inl, inr, Result, Ok, Err}
-use Rattle.std.proofs.KnownBytes.{Appends-trans}
-use Rattle.std.proofs.lemmas.Bool.{false≢true}
-use Rattle.std.specs.Prelude.{IsSomeAnd, IsTrue, IfOk, OnErr}
-use Rattle.std.specs.declared.option.Option.{Option}
-use Rattle.std.specs.Io.KnownBytes.{Appends}
+use Rattle.std.proofs.{KnownBytes.Appends-trans, lemmas.Bool.false≢true}
+use Rattle.std.specs.{Prelude.IsSomeAnd, Prelude.IsTrue, Prelude.IfOk, Prelude.OnErr, declared.option.Option.Option, Io.KnownBytes.Appends}
 use Rattle.dd_values.specs.Bounds.{most_script}
 use Rattle.dd_outside.specs.Bytes.{ReadToEnd}
 use Rattle.dd_engines.specs.Rounds.{Seen, Kept, FirstAsked}
 use Rattle.dd_certificate.specs.Text.{answer_text}
 use Rattle.dd_sample.specs.Sample.{sample_text}
 use Rattle.dd_query.specs.declared.queries.Query.{Query}
-use Rattle.dd_script.specs.Parts.{Parts}
+use Rattle.dd_script.specs.{Parts.Parts, Questions.asked, Scripts.Spells}
 use Rattle.dd_question.specs.Questions.{Asked, is_box_question}
-use Rattle.dd_script.specs.Questions.{asked}
-use Rattle.dd_script.specs.Scripts.{Spells}
 use Rattle.dd_answer.specs.Asking.{AsksBoxes, AsksSomeBoxes}
 use Rattle.dd_respond.specs.Asking.{IsBoxQuestion, Engages}
 use Rattle.dd_session.specs.declared.status.Status.{Status}
 use Rattle.dd_session.specs.declared.status.Status.TheVariants.{Definite, SomeUnknown, Refused, ReadFault, WriteFault, Memory, BadWords, Rejected}
-use Rattle.dd_session.specs.declared.stream.RunFault.{RunFault}
-use Rattle.dd_session.specs.Output.{header}
-use Rattle.dd_session.specs.Sides.{Told, RefusedBy, status_of}
-use Rattle.dd_session.specs.Written.{AnsweredToEnd, AnsweredShort}
-use Rattle.dd_session.specs.Runs.{IsAccepted}
+use Rattle.dd_session.specs.{declared.stream.RunFault.RunFault, Output.header, Sides.Told, Sides.RefusedBy, Sides.status_of}
+use Rattle.dd_session.specs.{Written.AnsweredToEnd, Written.AnsweredShort, Runs.IsAccepted}
 use Rattle.dd_session.specs.Asking.{HeaderTaken, Begun, HasBegun, IsToEnd, IsUnanswered, AsksFirstOver, AsksFirst}
-use Rattle.dd_session.proofs.Decided.{told_bytes}
-use Rattle.dd_session.proofs.Streamed.{one_more}
+use Rattle.dd_session.proofs.{Decided.told_bytes, Streamed.one_more}
 
 -- ---- queries one by one
 

@@ -1,23 +1,15 @@
 -- The check of answers, one after the other.
 use Rattle.std.proofs.Common.{◌≡◌, ◌⊎◌, inl, inr, ℕ, suc, ◌+◌, ◌-◌, ◌<◌, ◌≤◌, max, List, [], ◌∷◌, ◌++◌, length, get_or, Bool, true, false, ◌||◌, None, Some, refl, sym, ◌∙◌, ap, subst, arith, append-nil, add-one}
-use Rattle.std.specs.Prelude.{◌↔◌, IsSomeAnd, Result, Ok, Err, OnErr}
-use Rattle.std.specs.List.{slice_get, list_any}
-use Rattle.std.specs.declared.option.Option.{Option}
-use Rattle.std.specs.Io.KnownBytes.{Appends}
-use Rattle.std.proofs.KnownBytes.{Appends-trans}
-use Rattle.std.proofs.lemmas.Bool.{cases_lt}
-use Rattle.std.proofs.lemmas.Option.{slice_get_within, slice_get_read}
-use Rattle.dd_outside.specs.Bytes.{GainsFront}
-use Rattle.dd_outside.specs.lemmas.Told.{front_after}
+use Rattle.std.proofs.{KnownBytes.Appends-trans, lemmas.Bool.cases_lt, lemmas.Option.slice_get_within, lemmas.Option.slice_get_read}
+use Rattle.std.specs.{Prelude.◌↔◌, Prelude.IsSomeAnd, Prelude.Result, Prelude.Ok, Prelude.Err, Prelude.OnErr, List.slice_get, List.list_any}
+use Rattle.std.specs.{declared.option.Option.Option, Io.KnownBytes.Appends}
+use Rattle.dd_outside.specs.{Bytes.GainsFront, lemmas.Told.front_after}
 use Rattle.dd_certificate.specs.declared.answer.Answer.{Answer}
 use Rattle.dd_query.specs.declared.queries.Query.{Query}
-use Rattle.dd_script.specs.Parts.{Parts}
+use Rattle.dd_script.specs.{Parts.Parts, Questions.query_at}
 use Rattle.dd_respond.specs.Right.{is_unknown}
-use Rattle.dd_checker.specs.declared.verdict.Verdict.{Verdict}
-use Rattle.dd_checker.specs.declared.verdict.Verdict.TheVariants.{Accepted}
-use Rattle.dd_script.specs.Questions.{query_at}
-use Rattle.dd_checker.specs.Certificates.{HasQuery, IsCertificate, IsCertificateFor}
-use Rattle.dd_checker.specs.Claims.{Claim}
+use Rattle.dd_checker.specs.declared.verdict.Verdict.{Verdict, TheVariants.Accepted}
+use Rattle.dd_checker.specs.{Certificates.HasQuery, Certificates.IsCertificate, Certificates.IsCertificateFor, Claims.Claim}
 use Rattle.dd_session.specs.Answers.{has_unknown}
 use Rattle.dd_session.specs.Checks.{accepted_line, rejected_line, accepted_lines, checked_line, IsAcceptedAt, IsTrueAt, AcceptedTo, AllAccepted, FirstRejected, broken_off, rejected, finished}
 use Rattle.dd_session.specs.Checked.{CheckFront}

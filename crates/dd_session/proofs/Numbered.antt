@@ -1,23 +1,20 @@
 -- A script has no more queries than commands, and no more commands than the limit on them.
 use Rattle.std.proofs.Common.{◌≡◌, ℕ, ◌+◌, ◌≤◌, List, [], ◌∷◌, ◌++◌, length, Bool, true, false, Option, None, Some, nat_lt, refl, sym, subst, arith, length-append}
-use Rattle.std.specs.Prelude.{if◌then◌else◌}
-use Rattle.std.specs.List.{flat_map}
-use Rattle.std.specs.Option.{option_or, option_map}
 use Rattle.std.proofs.lemmas.Bool.{ltb-false}
+use Rattle.std.specs.{Prelude.if◌then◌else◌, List.flat_map, Option.option_or, Option.option_map}
 use Rattle.dd_values.specs.Bounds.{most_commands}
 use Rattle.dd_commands.specs.declared.script.Written.{Written}
-use Rattle.dd_faults.specs.declared.fault.Limit.TheVariants as limit
-use Rattle.dd_faults.specs.declared.fault.Fault.{Fault}
-use Rattle.dd_faults.specs.declared.fault.Fault.TheVariants as fault
+use Rattle.dd_faults.specs.{declared.fault.Fault.Fault, Order.fault_rank, Order.over, Order.better, Order.first_fault}
+use Rattle.dd_faults.specs.{Commands.token_faults, Commands.faults_of, Commands.written_faults, lemmas.Nothing.some_stays}
 use Rattle.dd_known.specs.declared.known.Context.{Context}
-use Rattle.dd_faults.specs.Order.{fault_rank, over, better, noted, first_fault}
-use Rattle.dd_faults.specs.Commands.{token_faults, faults_of, written_faults}
 use Rattle.dd_meanings.specs.declared.meaning.Meaning.{Meaning}
-use Rattle.dd_meanings.specs.declared.meaning.Meaning.TheVariants as meaning
 use Rattle.dd_query.specs.declared.queries.Query.{Query}
 use Rattle.dd_script.specs.Parts.{Parts}
 use Rattle.dd_script.specs.Walk.{start, with, context, meaning_at, fault_of, next, Located, located, first_from, after_all, has_topology, script_of}
 use Rattle.dd_script.specs.Scripts.{Spells}
+use Rattle.dd_faults.specs.declared.fault.Limit.TheVariants as limit
+use Rattle.dd_faults.specs.declared.fault.Fault.TheVariants as fault
+use Rattle.dd_meanings.specs.declared.meaning.Meaning.TheVariants as meaning
 
 -- ---- where nothing is found, nothing is found first
 
@@ -35,20 +32,8 @@ none_mapped f (Some x) is = absurd (cc is)
 
 -- ---- the number of a command without a fault
 
-either : (b : Bool) (f g : Fault) → (h : Fault) × ((if b then Some g else Some f) ≡ Some h)
-either true f g = (g, refl)
-either false f g = (f, refl)
-
-better_some : (f g : Fault) → (h : Fault) × (better (Some f) g ≡ Some h)
-better_some f g = either (nat_lt (fault_rank g) (fault_rank f)) f g
-
-still_some : (f : Fault) (fs : List Fault) → noted (Some f) fs ≡ None → ⊥
-still_some f [] is = absurd (cc is)
-still_some f (g ∷ fs) is =
-    let more = better_some f g in still_some more.0 fs (subst (λ (o : Option Fault). noted o fs ≡ None) more.1 is)
-
 not_over : (passed : Bool) (rest : List Fault) → first_fault (over passed limit.Commands ++ rest) ≡ None → passed ≡ false
-not_over true rest is = absurd (still_some (fault.Size limit.Commands) rest is)
+not_over true rest is = absurd (some_stays (fault.Size limit.Commands) rest is)
 not_over false rest is = refl
 
 within : (x : Context) (w : Written) → first_fault (written_faults x w) ≡ None → nat_lt 1000 x.number ≡ false

@@ -1,20 +1,15 @@
 -- Whether some query has no definite answer, by the right answers that were found.
-use Rattle.std.proofs.Common.{◌≡◌, ℕ, zero, suc, ◌<◌, List, [], ◌∷◌, length, get_or, Bool, true, false, ◌||◌, refl, sym, ◌∙◌, subst, arith, inl, inr}
-use Rattle.std.specs.List.{Contains}
+use Rattle.std.proofs.Common.{◌≡◌, ℕ, zero, suc, ◌<◌, List, [], ◌∷◌, length, get_or, Bool, true, false, refl, sym, ◌∙◌, subst, arith, inl, inr}
 use Rattle.std.proofs.lemmas.Bool.{false≢true, or_cases}
-use Rattle.std.specs.declared.option.Option.{Option}
+use Rattle.std.specs.{List.Contains, declared.option.Option.Option}
 use Rattle.dd_certificate.specs.declared.answer.Answer.{Answer}
 use Rattle.dd_query.specs.declared.queries.Query.{Query}
-use Rattle.dd_script.specs.Parts.{Parts}
-use Rattle.dd_script.specs.Scripts.{Spells}
+use Rattle.dd_script.specs.{Parts.Parts, Scripts.Spells}
 use Rattle.dd_answer.specs.Right.{Right}
-use Rattle.dd_respond.specs.Right.{is_unknown}
-use Rattle.dd_respond.specs.Laws.{SayTheSame}
-use Rattle.dd_session.specs.Answers.{AllRight, IsOpenAs, has_unknown}
-use Rattle.dd_session.specs.declared.status.Status.{Status}
-use Rattle.dd_session.specs.Sides.{Told, status_of}
-use Rattle.dd_session.specs.Written.{WholeOutput}
-use Rattle.dd_session.specs.Runs.{RanOver, WholeRun}
+use Rattle.dd_respond.specs.{Right.is_unknown, Laws.SayTheSame}
+use Rattle.dd_session.specs.{Answers.AllRight, Answers.IsOpenAs, Answers.has_unknown, declared.status.Status.Status}
+use Rattle.dd_session.specs.{Sides.Told, Sides.status_of, Written.WholeOutput, Runs.RanOver, Runs.WholeRun}
+use Rattle.dd_values.specs.lemmas.Booleans.{or_none}
 
 abbrev pub AnswersAgree : Parts → Type 0
 AnswersAgree s = (q : Query) (a b : Answer) → Contains s.queries q → Right s q a → Right s q b → SayTheSame a b
@@ -33,10 +28,6 @@ open_from s (q ∷ queries) (a ∷ answers) right has = elim (or_cases (is_unkno
   | inl here ↦ (q, (0, omega arith, refl), (a, right.0, here))
   | inr rest ↦ later s q queries (open_from s queries answers right.2 rest)
 ]
-
-or_none : (a b : Bool) → (a || b) ≡ false → (a ≡ false) × (b ≡ false)
-or_none true b none = absurd (false≢true (sym none))
-or_none false b none = (refl, none)
 
 none_open : (s : Parts) (queries : List Query) (answers : List Answer) → AnswersAgree s → AllRight s queries answers → length answers ≡ length queries →
     has_unknown answers ≡ false → (q : Query) → Contains s.queries q → (i : ℕ) → i < length queries → get_or queries i q ≡ q → (b : Answer) → Right s q b → is_unknown b ≡ true → ⊥

@@ -1,15 +1,13 @@
 -- Why bytes are refused, by what their reader told.
 use Rattle.std.proofs.Common.{◌≡◌, ℕ, List, string_bytes, subst, sym, inl, inr}
 use Rattle.dd_script.specs.declared.fault.ScriptKind.{ScriptKind}
-use Rattle.dd_script.specs.declared.fault.ScriptKind.TheVariants as refused
 use Rattle.dd_script.specs.Scripts.{IsRefusedAs, RefusedAs, RefusalKind, syntax, unknown, twice, dimension, size}
 use Rattle.dd_session.specs.declared.status.Status.{Status}
 use Rattle.dd_session.specs.declared.status.Status.TheVariants.{Definite, SomeUnknown, Refused, ReadFault, WriteFault, Memory, BadWords, Rejected}
-use Rattle.dd_session.specs.Output.{IsLineOf, refused_line, refused_words}
-use Rattle.dd_session.specs.Sides.{Told, RefusedBy, RefusedFor}
-use Rattle.dd_session.specs.Asking.{IsToEnd}
-use Rattle.dd_session.specs.Runs.{IsRefusedBy, RanOver}
+use Rattle.dd_session.specs.{Output.IsLineOf, Output.refused_line, Output.refused_words, Sides.Told, Sides.RefusedBy, Sides.RefusedFor}
+use Rattle.dd_session.specs.{Asking.IsToEnd, Runs.IsRefusedBy, Runs.RanOver}
 use Rattle.dd_session.proofs.Engaging.{never_to_end}
+use Rattle.dd_script.specs.declared.fault.ScriptKind.TheVariants as refused
 
 no_script : (bytes : List ℕ) (n : ℕ) (k : RefusalKind) (line : List ℕ) → RefusedAs bytes n k → line ≡ refused_line refused_words n k → IsRefusedBy bytes line
 no_script bytes n k line refused is = record { command = n; kind = k; no_script = refused; line_is = is }

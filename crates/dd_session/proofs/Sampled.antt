@@ -2,17 +2,13 @@
 use Rattle.std.proofs.Common.{◌≡◌, ◌≢◌, ℕ, List, Bool, true, false, refl, sym, ◌∙◌, subst, inl, inr}
 use Rattle.std.specs.Prelude.{string_bytes}
 use Rattle.dd_certificate.specs.Text.{answer_line}
-use Rattle.dd_script.specs.Parts.{Parts}
-use Rattle.dd_script.specs.declared.fault.ScriptKind.{ScriptKind}
-use Rattle.dd_script.specs.declared.fault.ScriptKind.TheVariants as refused
+use Rattle.dd_script.specs.{Parts.Parts, declared.fault.ScriptKind.ScriptKind}
 use Rattle.dd_script.specs.Scripts.{Spells, RefusalKind, syntax, unknown, twice, dimension, size, RefusedAs, IsRefusedAs}
 use Rattle.dd_sample.specs.Sample.{sample_text}
-use Rattle.dd_session.specs.declared.status.Status.{Status}
-use Rattle.dd_session.specs.declared.status.Status.TheVariants.{BadWords}
-use Rattle.dd_session.specs.Sides.{Told, status_of}
-use Rattle.dd_session.specs.Written.{AnsweredToEnd}
-use Rattle.dd_session.specs.Samples.{is_memory, LinesOf, SampleEnded}
+use Rattle.dd_session.specs.{declared.status.Status.Status, declared.status.Status.TheVariants.BadWords, Sides.Told, Sides.status_of}
+use Rattle.dd_session.specs.{Written.AnsweredToEnd, Samples.is_memory, Samples.LinesOf, Samples.SampleEnded}
 use Rattle.dd_session.proofs.Open.{AnswersAgree, open_as}
+use Rattle.dd_script.specs.declared.fault.ScriptKind.TheVariants as refused
 
 -- the lines of all answers were written, and the end line
 pub lines_over : {K : Type 0} (sink : Told K) (s : Parts) (has : Bool) (status : Status) → AnswersAgree s

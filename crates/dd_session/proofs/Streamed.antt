@@ -1,23 +1,16 @@
 -- How the texts of answers, or their first lines, come one after the other, and what is written of an output that is cut short.
 use Rattle.std.proofs.Common.{◌≡◌, ℕ, ◌+◌, ◌<◌, List, [], ◌∷◌, ◌++◌, length, take, drop, get_or, Bool, true, false, ◌||◌, refl, sym, ◌∙◌, ap, subst, inl, inr, Result, Ok, Err, IfOk, OnOk, OnErr, append-nil, append_assoc, length-append, take-append-drop, length-take-le, arith}
-use Rattle.std.proofs.KnownBytes.{Appends-trans, Appends-nil}
-use Rattle.std.proofs.lemmas.List.{take_more}
-use Rattle.std.specs.declared.option.Option.{Option}
-use Rattle.std.specs.Io.KnownBytes.{Appends}
-use Rattle.dd_outside.specs.Bytes.{GainsFront}
-use Rattle.dd_outside.specs.lemmas.Told.{front_after}
-use Rattle.dd_certificate.specs.declared.answer.Answer.{Answer}
-use Rattle.dd_certificate.specs.Text.{answer_text}
-use Rattle.dd_certificate.specs.Bounds.{IsWritable}
+use Rattle.std.proofs.{KnownBytes.Appends-trans, KnownBytes.Appends-nil, lemmas.List.take_more}
+use Rattle.std.specs.{declared.option.Option.Option, Io.KnownBytes.Appends}
+use Rattle.dd_outside.specs.{Bytes.GainsFront, lemmas.Told.front_after}
+use Rattle.dd_certificate.specs.{declared.answer.Answer.Answer, Text.answer_text, Bounds.IsWritable}
 use Rattle.dd_query.specs.declared.queries.Query.{Query}
 use Rattle.dd_answer.specs.Right.{Right}
 use Rattle.dd_respond.specs.Right.{is_unknown}
 use Rattle.dd_script.specs.Parts.{Parts}
-use Rattle.dd_session.specs.Answers.{AllRight, has_unknown, texts}
-use Rattle.dd_session.specs.Output.{header}
-use Rattle.dd_output.specs.Outputs.{end_line}
-use Rattle.dd_session.specs.declared.stream.RunFault.{RunFault}
+use Rattle.dd_session.specs.{Answers.AllRight, Answers.has_unknown, Answers.texts, Output.header, declared.stream.RunFault.RunFault}
 use Rattle.dd_session.specs.Written.{Answered, AnsweredFront, AnsweredToEnd, AnsweredShort, WholeOutput, CutShort}
+use Rattle.dd_output.specs.Outputs.{end_line}
 
 -- ---- lists of answers
 

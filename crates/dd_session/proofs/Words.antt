@@ -1,7 +1,6 @@
 -- The words of a session.
 use Rattle.std.proofs.Common.{◌≡◌, ℕ, List, [], ◌∷◌, length, map, codes, decimal, Option, Some, None, sym, ◌∙◌, ap, arith}
-use Rattle.std.proofs.lemmas.Fmt.{decimal_injective}
-use Rattle.std.proofs.lemmas.List.{length-map}
+use Rattle.std.proofs.lemmas.{Fmt.decimal_injective, List.length-map}
 use Rattle.dd_sample.specs.Sample.{IsNumberOf}
 use Rattle.dd_session.specs.Words.{IsOnly, IsSample, IsSampleOf}
 

@@ -2,12 +2,10 @@
 use Rattle.std.specs.Prelude.{◌≡◌, ◌≤◌, ℕ, List, length, Bool}
 use Rattle.dd_values.specs.Bounds.{most_script}
 use Rattle.dd_certificate.specs.declared.answer.Answer.{Answer}
-use Rattle.dd_script.specs.Parts.{Parts}
-use Rattle.dd_script.specs.Scripts.{Spells}
+use Rattle.dd_script.specs.{Parts.Parts, Scripts.Spells}
 use Rattle.dd_session.specs.declared.status.Status.{Status}
 use Rattle.dd_session.specs.declared.status.Status.TheVariants.{Definite, SomeUnknown, Refused, ReadFault, WriteFault, Memory, BadWords, Rejected}
-use Rattle.dd_session.specs.Answers.{AllRight, has_unknown}
-use Rattle.dd_session.specs.Output.{output_of}
+use Rattle.dd_session.specs.{Answers.AllRight, Answers.has_unknown, Output.output_of}
 
 -- The bytes are this script, and the text is the whole output of a run over them, with a right answer to each query; some
 -- answer is that it is not known, or none is so.

@@ -1,8 +1,7 @@
 -- The answers of a run, and their texts.
 use Rattle.std.specs.Prelude.{◌≡◌, ℕ, ◌+◌, List, [], ◌∷◌, ◌++◌, Bool, true, false, ◌||◌, ⊤}
 use Rattle.std.specs.List.{Contains}
-use Rattle.dd_certificate.specs.declared.answer.Answer.{Answer}
-use Rattle.dd_certificate.specs.Bounds.{IsWritable}
+use Rattle.dd_certificate.specs.{declared.answer.Answer.Answer, Bounds.IsWritable}
 use Rattle.dd_query.specs.declared.queries.Query.{Query}
 use Rattle.dd_script.specs.Parts.{Parts}
 use Rattle.dd_answer.specs.Right.{Right}

@@ -1,12 +1,10 @@
 -- What a run does to a roster of engines.
-use Rattle.std.specs.Prelude.{ℕ, ◌≤◌, List, ◌++◌, length}
-use Rattle.std.specs.declared.option.Option.{Option}
+use Rattle.std.specs.{Prelude.ℕ, Prelude.◌≤◌, Prelude.List, Prelude.◌++◌, Prelude.length, declared.option.Option.Option}
 use Rattle.std.specs.Io.KnownBytes.{Appends}
 use Rattle.dd_values.specs.Bounds.{most_script}
 use Rattle.dd_outside.specs.Bytes.{ReadToEnd}
 use Rattle.dd_engines.specs.Rounds.{Seen, FirstAsked}
-use Rattle.dd_script.specs.Parts.{Parts}
-use Rattle.dd_script.specs.Scripts.{Spells}
+use Rattle.dd_script.specs.{Parts.Parts, Scripts.Spells}
 use Rattle.dd_answer.specs.Asking.{AsksSomeBoxes}
 use Rattle.dd_session.specs.declared.status.Status.{Status}
 use Rattle.dd_session.specs.declared.status.Status.TheVariants.{Definite, SomeUnknown, Refused, ReadFault, WriteFault, Memory, BadWords, Rejected}

@@ -1,15 +1,13 @@
 -- What a check read and wrote, by how it ended.
 use Rattle.std.specs.Prelude.{◌≡◌, ◌⊎◌, ℕ, ◌+◌, ◌≤◌, List, ◌++◌, length, Bool, true, false}
-use Rattle.std.specs.declared.option.Option.{Option}
-use Rattle.std.specs.Io.KnownBytes.{Appends}
+use Rattle.std.specs.{declared.option.Option.Option, Io.KnownBytes.Appends}
 use Rattle.dd_outside.specs.Bytes.{GainsFront, ReadToEnd, GivesMore}
 use Rattle.dd_certificate.specs.declared.answer.Answer.{Answer}
 use Rattle.dd_output.specs.declared.output.Output.{Output}
 use Rattle.dd_script.specs.Parts.{Parts}
 use Rattle.dd_session.specs.declared.status.Status.{Status}
 use Rattle.dd_session.specs.declared.status.Status.TheVariants.{Definite, SomeUnknown, Refused, ReadFault, WriteFault, Memory, BadWords, Rejected}
-use Rattle.dd_session.specs.Output.{long_line}
-use Rattle.dd_session.specs.Sides.{Told, IsUntouched, HasFailed}
+use Rattle.dd_session.specs.{Output.long_line, Sides.Told, Sides.IsUntouched, Sides.HasFailed}
 use Rattle.dd_session.specs.Checks.{accepted_lines, checked_line, rejected_line, most_checked, AcceptedTo, IsEnding, IsCheckable, IsRefusedOutput, IsAllAccepted, IsRejectedAfter, IsCheckedOutput}
 
 -- The whole text for bytes whose queries are all accepted was written.

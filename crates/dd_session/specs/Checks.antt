@@ -1,17 +1,12 @@
 -- What the check of an output writes, by its bytes.
 use Rattle.std.specs.Prelude.{◌≡◌, ◌⊎◌, ℕ, zero, suc, ◌+◌, ◌-◌, ◌≤◌, ◌<◌, max, List, [], ◌∷◌, ◌++◌, length, codes, Bool, true, false, IsSomeAnd}
-use Rattle.std.specs.List.{slice_get}
-use Rattle.std.specs.Fmt.{decimal}
+use Rattle.std.specs.{List.slice_get, Fmt.decimal}
 use Rattle.dd_certificate.specs.declared.answer.Answer.{Answer}
-use Rattle.dd_output.specs.declared.output.Output.{Output}
-use Rattle.dd_output.specs.Outputs.{output_text, IsWritableOutput, IsWellFormed}
+use Rattle.dd_output.specs.{declared.output.Output.Output, Outputs.output_text, Outputs.IsWritableOutput, Outputs.IsWellFormed}
 use Rattle.dd_output.specs.Offsets.{IsOffset}
-use Rattle.dd_script.specs.Parts.{Parts}
-use Rattle.dd_script.specs.Scripts.{Spells, RefusedAs, RefusalKind}
-use Rattle.dd_checker.specs.Certificates.{IsCertificate}
-use Rattle.dd_checker.specs.Claims.{Claim}
-use Rattle.dd_session.specs.Answers.{has_unknown}
-use Rattle.dd_session.specs.Output.{refused_line}
+use Rattle.dd_script.specs.{Parts.Parts, Scripts.Spells, Scripts.RefusedAs, Scripts.RefusalKind}
+use Rattle.dd_checker.specs.{Certificates.IsCertificate, Claims.Claim}
+use Rattle.dd_session.specs.{Answers.has_unknown, Output.refused_line}
 
 -- The greatest number of bytes of an output that is checked.
 abbrev pub most_checked : ℕ

@@ -1,15 +1,13 @@
 -- The texts that a run writes.
-use Rattle.std.specs.Prelude.{◌≡◌, ℕ, List, ◌++◌, codes, string_bytes}
-use Rattle.std.specs.Fmt.{decimal}
+use Rattle.std.specs.{Prelude.◌≡◌, Prelude.ℕ, Prelude.List, Prelude.◌++◌, Prelude.codes, Prelude.string_bytes, Fmt.decimal}
 use Rattle.dd_faults.specs.declared.fault.Limit.{Limit}
-use Rattle.dd_faults.specs.declared.fault.Limit.TheVariants as limit
-use Rattle.dd_certificate.specs.declared.answer.Answer.{Answer}
-use Rattle.dd_certificate.specs.Text.{answer_text}
+use Rattle.dd_certificate.specs.{declared.answer.Answer.Answer, Text.answer_text}
 use Rattle.dd_output.specs.Outputs.{header as lines_before, end_line}
 use Rattle.dd_script.specs.declared.fault.ScriptKind.{ScriptKind}
-use Rattle.dd_script.specs.declared.fault.ScriptKind.TheVariants as refused
 use Rattle.dd_script.specs.Scripts.{RefusalKind, syntax, unknown, twice, dimension, size}
 use Rattle.dd_session.specs.Answers.{texts}
+use Rattle.dd_faults.specs.declared.fault.Limit.TheVariants as limit
+use Rattle.dd_script.specs.declared.fault.ScriptKind.TheVariants as refused
 
 -- The lines before the first answer, which proofs of runs need not look into.
 unfoldable pub header : List ℕ → List ℕ

@@ -1,17 +1,13 @@
 -- What a run read and wrote, by how it ended.
 use Rattle.std.specs.Prelude.{◌≡◌, ◌⊎◌, ℕ, ◌≤◌, List, length, Bool, true, false}
-use Rattle.std.specs.declared.option.Option.{Option}
-use Rattle.std.specs.Io.KnownBytes.{Appends}
+use Rattle.std.specs.{declared.option.Option.Option, Io.KnownBytes.Appends}
 use Rattle.dd_values.specs.Bounds.{most_script}
 use Rattle.dd_outside.specs.Bytes.{GainsFront, ReadToEnd, GivesMore}
-use Rattle.dd_script.specs.Parts.{Parts}
-use Rattle.dd_script.specs.Scripts.{Spells, RefusedAs, RefusalKind}
+use Rattle.dd_script.specs.{Parts.Parts, Scripts.Spells, Scripts.RefusedAs, Scripts.RefusalKind}
 use Rattle.dd_session.specs.declared.status.Status.{Status}
 use Rattle.dd_session.specs.declared.status.Status.TheVariants.{Definite, SomeUnknown, Refused, ReadFault, WriteFault, Memory, BadWords, Rejected}
-use Rattle.dd_session.specs.Answers.{IsOpenAs}
-use Rattle.dd_session.specs.Output.{long_line, refused_line, refused_words}
-use Rattle.dd_session.specs.Sides.{Told, IsUntouched, HasFailed}
-use Rattle.dd_session.specs.Written.{WholeOutput, CutShort}
+use Rattle.dd_session.specs.{Answers.IsOpenAs, Output.long_line, Output.refused_line, Output.refused_words}
+use Rattle.dd_session.specs.{Sides.Told, Sides.IsUntouched, Sides.HasFailed, Written.WholeOutput, Written.CutShort}
 
 -- The bytes are a script, its whole output was written, and it has or has not a query without a definite answer.
 pub record WholeRun (old new : Option (List ℕ)) (bytes : List ℕ) (has : Bool) : Type 0 where

@@ -1,16 +1,12 @@
 -- What the run of a sample wrote, by how it ended.
 use Rattle.std.specs.Prelude.{◌≡◌, ◌⊎◌, ℕ, Bool, true, false}
 use Rattle.dd_certificate.specs.Text.{answer_line}
-use Rattle.dd_script.specs.declared.fault.ScriptKind.{ScriptKind}
-use Rattle.dd_script.specs.declared.fault.ScriptKind.TheVariants as refused
-use Rattle.dd_script.specs.Parts.{Parts}
-use Rattle.dd_script.specs.Scripts.{Spells}
+use Rattle.dd_script.specs.{declared.fault.ScriptKind.ScriptKind, Parts.Parts, Scripts.Spells}
 use Rattle.dd_sample.specs.Sample.{sample_text}
 use Rattle.dd_session.specs.declared.status.Status.{Status}
 use Rattle.dd_session.specs.declared.status.Status.TheVariants.{Definite, SomeUnknown, Refused, ReadFault, WriteFault, Memory, BadWords, Rejected}
-use Rattle.dd_session.specs.Answers.{IsOpenAs}
-use Rattle.dd_session.specs.Sides.{Told, IsUntouched, HasFailed}
-use Rattle.dd_session.specs.Written.{AnsweredToEnd, AnsweredShort}
+use Rattle.dd_session.specs.{Answers.IsOpenAs, Sides.Told, Sides.IsUntouched, Sides.HasFailed, Written.AnsweredToEnd, Written.AnsweredShort}
+use Rattle.dd_script.specs.declared.fault.ScriptKind.TheVariants as refused
 
 -- memory was wanting, and nothing is wrong with the text
 abbrev pub is_memory : ScriptKind → Bool

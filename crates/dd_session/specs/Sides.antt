@@ -1,7 +1,6 @@
 -- A source and a sink before and after a call, and what each status says of them.
 use Rattle.std.specs.Prelude.{◌≡◌, ◌⊎◌, ℕ, List, Bool, true, false}
-use Rattle.std.specs.declared.option.Option.{Option}
-use Rattle.std.specs.Io.KnownBytes.{Appends}
+use Rattle.std.specs.{declared.option.Option.Option, Io.KnownBytes.Appends}
 use Rattle.dd_values.specs.Counts.{Rose}
 use Rattle.dd_outside.specs.Bytes.{GainsFront}
 use Rattle.dd_script.specs.declared.fault.ScriptKind.{ScriptKind}

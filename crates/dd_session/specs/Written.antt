@@ -1,14 +1,11 @@
 -- What was written of right answers to the queries of a script.
 use Rattle.std.specs.Prelude.{◌≡◌, ◌⊎◌, ℕ, List, [], ◌++◌, length, Bool}
-use Rattle.std.specs.declared.option.Option.{Option}
-use Rattle.std.specs.Io.KnownBytes.{Appends}
+use Rattle.std.specs.{declared.option.Option.Option, Io.KnownBytes.Appends}
 use Rattle.dd_outside.specs.Bytes.{GainsFront}
-use Rattle.dd_certificate.specs.declared.answer.Answer.{Answer}
-use Rattle.dd_certificate.specs.Text.{answer_text}
+use Rattle.dd_certificate.specs.{declared.answer.Answer.Answer, Text.answer_text}
 use Rattle.dd_query.specs.declared.queries.Query.{Query}
 use Rattle.dd_script.specs.Parts.{Parts}
-use Rattle.dd_session.specs.Answers.{AllRight, has_unknown, texts}
-use Rattle.dd_session.specs.Output.{header, output_of}
+use Rattle.dd_session.specs.{Answers.AllRight, Answers.has_unknown, Answers.texts, Output.header, Output.output_of}
 use Rattle.dd_output.specs.Outputs.{end_line}
 
 -- Right answers to these queries of a script were written, from a number on, so much of each.

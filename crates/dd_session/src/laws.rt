@@ -18,7 +18,7 @@ pub fn runs_are_accepted(script: &Script)
     ensures same_status { (bytes text : List ℕ) (has : Bool) (status : AnyStatus) → IsRunOutput bytes script.now has text → length text ≤ most_checked →
         CheckDecides text status → IsJudgement status → status ≡ status_of has }
 {
-    // Read for what its type keeps.
+    // This read brings in what the type guarantees.
     let _limits = script.limits();
     right_is_certificate();
     certified(script);

@@ -136,7 +136,7 @@ fn run_bytes<K: Sink, E: Engine>(
     ensures late { (roster.new ≡ roster.old) ⊎ Begun (K.held sink.old) (K.held sink.new) bytes.now }
     ensures asked { IsToEnd result → AsksFirstOver bytes.now (roster_seen E.asked E.given E.sound roster.old) (roster_seen E.asked E.given E.sound roster.new) }
 {
-    // Law of a roster that is not asked.
+    // A law: a roster that is not asked stays as it is.
     kept_is_reflexive();
     match parse(alloc, bytes) {
         Ok(script) => run_accepted(alloc, bytes, &script, sink, roster),
@@ -161,7 +161,7 @@ fn run<S: Source, K: Sink, E: Engine>(
     ensures late { (roster.new ≡ roster.old) ⊎ HasBegun (S.left source.old) (S.left source.new) (K.held sink.old) (K.held sink.new) }
     ensures asked { IsToEnd result → AsksFirst (S.left source.old) (S.left source.new) (roster_seen E.asked E.given E.sound roster.old) (roster_seen E.asked E.given E.sound roster.new) }
 {
-    // Law of a roster that is not asked.
+    // A law: a roster that is not asked stays as it is.
     kept_is_reflexive();
     match read_all(alloc, source, MOST_SCRIPT) {
         Ok(bytes) => run_bytes(alloc, &bytes, sink, roster),
@@ -234,7 +234,7 @@ fn run_sample<K: Sink, E: Engine>(
     ensures answered { IsUnanswered result → ⊥ }
     ensures asked { IsToEnd result → AsksFirstOver (sample_text number) (roster_seen E.asked E.given E.sound roster.old) (roster_seen E.asked E.given E.sound roster.new) }
 {
-    // Law of a roster that is not asked.
+    // A law: a roster that is not asked stays as it is.
     kept_is_reflexive();
     match sample(alloc, number) {
         Ok(script) => run_lines(alloc, &script, sink, roster),
@@ -301,7 +301,7 @@ pub fn run_diddy<S: Source, K: Sink>(
         AsksFirstOver (sample_text number) (roster_seen asked given sound roster.old) (roster_seen asked given sound roster.new) }
     ensures check_asks_nobody { IsOnly (codes "check") (map string_bytes words.now) → roster.new ≡ roster.old }
 {
-    // Law of a roster that is not asked.
+    // A law: a roster that is not asked stays as it is.
     kept_is_reflexive();
     if is_only(words, "run") {
         spelled_or_refused();

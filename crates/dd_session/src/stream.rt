@@ -183,7 +183,7 @@ pub(crate) fn run_script<K: Sink, E: Engine>(
     ensures asked { OnOk result (Engages (AsksSomeBoxes script.now script.now.queries) (roster_seen E.asked E.given E.sound roster.old) (roster_seen E.asked E.given E.sound roster.new)) }
     ensures late { (roster.new ≡ roster.old) ⊎ HeaderTaken (K.held sink.old) (K.held sink.new) bytes.now }
 {
-    // Law of a roster that is not asked.
+    // A law: a roster that is not asked stays as it is.
     kept_is_reflexive();
     let header = header(alloc, bytes)?;
     write_whole(sink, &header)?;

@@ -1,48 +1,31 @@
--- A certified bound holds over every box: each position of the box meets the row of what stands around it, and the rows are summed.
-use Rattle.std.proofs.Common.{◌≡◌, ◌<◌, ◌+◌, ◌-◌, ◌*◌, ◌^◌, ◌≤◌, ℕ, zero, suc, Bool, true, false, List, [], ◌∷◌, length, get_or, map, take, drop, refl, sym, ap, subst, ◌∙◌, arith}
+-- A certified bound holds over every box: each position satisfies the row of its surroundings, and these rows are summed.
+use Rattle.std.proofs.Common.{◌≡◌, ◌<◌, ◌+◌, ◌-◌, ◌*◌, ◌^◌, ◌≤◌, ℕ, Bool, true, false, List, [], ◌∷◌, length, get_or, map, take, drop, refl, sym, ap, subst, ◌∙◌, arith}
+use Rattle.std.proofs.lemmas.{Bool.and_parts, Bool.and_from, Bool.lt-ltb, Bool.Decides.Decides-int_eq, Int.ints}
+use Rattle.std.proofs.lemmas.List.{get_or_default, Elements.All-contains, Folds.flat_map-map}
 use Rattle.std.specs.Prelude.{◌&&◌, ◌||◌, ℤ, pos, ◌+ℤ◌, ◌-ℤ◌, ◌*ℤ◌, ◌≤ℤ◌, nat_lt, int_le, int_lt, is_some}
-use Rattle.std.specs.List.{Contains, range_with_len}
-use Rattle.std.specs.Ordering.{int_eq}
-use Rattle.std.proofs.lemmas.Bool.{and_parts, and_from, lt-ltb}
-use Rattle.std.proofs.lemmas.Bool.Decides.{Decides-int_eq}
-use Rattle.std.proofs.lemmas.Int.{ints}
-use Rattle.std.proofs.lemmas.List.{get_or_default}
-use Rattle.std.proofs.lemmas.List.Elements.{All-contains}
-use Rattle.std.proofs.lemmas.List.Folds.{flat_map-map}
-use Rattle.dd_lattice.specs.Place.{Place, moved}
-use Rattle.dd_lattice.specs.Cells.{shifted}
-use Rattle.dd_lattice.specs.Boxes.{is_active, OnAxis, IsUpTo, IsCentred}
-use Rattle.dd_lattice.specs.declared.position.Cell.{Cell}
-use Rattle.dd_lattice.specs.lemmas.ListLaws.{Contains-first, Contains-later, Contains-map}
-use Rattle.dd_lattice.specs.Regions.{seen_from}
+use Rattle.std.specs.{List.Contains, List.range_with_len, Ordering.int_eq}
+use Rattle.dd_lattice.specs.{Place.Place, Place.moved, Cells.shifted, Boxes.is_active, Boxes.OnAxis, Boxes.IsUpTo, Boxes.IsCentred}
+use Rattle.dd_lattice.specs.{declared.position.Cell.Cell, Regions.seen_from, lemmas.MoveLaws.place_same, lemmas.MoveLaws.shifted_by_origin}
+use Rattle.dd_values.specs.lemmas.Members.{Contains-first, Contains-later, Contains-map}
 use Rattle.dd_topology.specs.Topology.{reversed}
 use Rattle.dd_pattern.specs.Reading.{Look}
-use Rattle.dd_expansion.specs.Limits.{greatest}
-use Rattle.dd_expansion.specs.Placed.{is_flat}
+use Rattle.dd_expansion.specs.{Limits.greatest, Placed.is_flat, lemmas.Depths.at_most_greatest}
 use Rattle.dd_formula.specs.LocalRule.{LocalRule, IsRule}
-use Rattle.dd_boxes.specs.Fillings.{Admissible}
-use Rattle.dd_boxes.specs.lemmas.RuleLaws.{place_same, shifted_by_origin, moved_from_origin}
-use Rattle.dd_rows.specs.declared.rows.Row.{Row}
-use Rattle.dd_rows.specs.declared.rows.Rows.{Rows}
-use Rattle.dd_discharge.specs.declared.bound.Bound.{Bound}
-use Rattle.dd_boxes.specs.Discharges.{IsVector, AreVectors}
-use Rattle.dd_boxes.specs.Cells.{box_cells}
-use Rattle.dd_rows.specs.Fillings.{look_of, fillings}
+use Rattle.dd_boxes.specs.{Fillings.Admissible, lemmas.RuleLaws.moved_from_origin, Discharges.IsVector, Discharges.AreVectors}
+use Rattle.dd_boxes.specs.{Cells.box_cells, Boxes.origin}
+use Rattle.dd_rows.specs.{declared.rows.Row.Row, declared.rows.Rows.Rows, Fillings.look_of, Fillings.fillings}
 use Rattle.dd_rows.specs.Patterns.{pattern_at, patterns, pattern_number}
-use Rattle.dd_boxes.specs.Boxes.{origin}
 use Rattle.dd_rows.specs.Programs.{column_count, greatest_weight_row, row_of, rows, origin_weight, one_at}
-use Rattle.dd_discharge.specs.Amounts.{total_below, column_value, MeetRows, held_over}
+use Rattle.dd_discharge.specs.{declared.bound.Bound.Bound, Amounts.total_below, Amounts.column_value, Amounts.MeetRows, Amounts.held_over}
 use Rattle.dd_discharge.specs.Certificates.{IsBoundCertificate}
 use Rattle.dd_sides.specs.Sums.{size_volume}
 use Rattle.dd_sides.specs.Sides.{side_length, side, is_near_run, is_in_grown, IsSideFilling, position_weight, side_weight}
-use Rattle.dd_sides.specs.Boundaries.{outer_count, boundary}
-use Rattle.dd_sides.specs.Lifted.{reach_of, HoldsOnSides}
+use Rattle.dd_sides.specs.{Boundaries.outer_count, Boundaries.boundary, Lifted.reach_of, Lifted.HoldsOnSides}
 use Rattle.dd_sides.specs.lemmas.BoxLaws.{IsAt, kept}
+use Rattle.dd_sides.specs.lemmas.GroundCells.{at_origin, at_giver, range_below, origin_centred, ground_reach, ground_has, ground_cells, box_centred, active_first}
 use Rattle.dd_sides.proofs.SideLaws.{side_volume, kept_is}
-use Rattle.dd_sides.proofs.Gifts.{Gift, given, received, comes_in, rows_summed}
-use Rattle.dd_sides.proofs.SeenRows.{first_seen_has}
+use Rattle.dd_sides.proofs.{Gifts.Gift, Gifts.given, Gifts.received, Gifts.comes_in, Gifts.rows_summed, SeenRows.first_seen_has}
 use Rattle.dd_sides.proofs.RowSums.{goes_out, comes, row_says}
-use Rattle.dd_sides.specs.lemmas.GroundCells.{at_origin, at_giver, range_below, origin_centred, ground_reach, ground_has, ground_cells, box_centred}
 use Rattle.dd_sides.proofs.LocalFillings.{around, shown, shown_filling, shown_pattern, shown_weight}
 
 -- ---- the cells around a position of the box are cells of the grown box
@@ -65,16 +48,13 @@ flat_run false n i a p low is flat =
     let none : a ≡ pos 0 = (Decides-int_eq a (pos 0)).0 flat in
     (Decides-int_eq p (pos 0)).1 (omega (arith, ints, low, is, none))
 
-first_active : (d : ℕ) (b : Bool) → 1 ≤ d → (is_active d 0 || b) ≡ true
-first_active d b some = ap (λ (a : Bool). a || b) (lt-ltb 0 d some)
-
 flat_parts : (d : ℕ) (u : Place) → is_flat d u ≡ true → ((is_active d 1 || int_eq u.y (pos 0)) ≡ true) × ((is_active d 2 || int_eq u.z (pos 0)) ≡ true)
 flat_parts d u flat = and_parts (nat_lt 1 d || int_eq u.y (pos 0)) (nat_lt 2 d || int_eq u.z (pos 0)) flat
 
 in_grown : (d n e : ℕ) (u p w : Place) → 1 ≤ d → is_flat d u ≡ true → IsAt (side d n) u p → IsCentred d e w → is_in_grown d n e u (moved w p) ≡ true
 in_grown d n e u p w some flat at near =
     let parts = flat_parts d u flat in
-    let on_x = near_run (is_active d 0) n e at.i u.x w.x p.x at.i_below (ap (λ (q : Place). q.x) at.is) (first_active d (int_eq u.x (pos 0)) some) near.on_x in
+    let on_x = near_run (is_active d 0) n e at.i u.x w.x p.x at.i_below (ap (λ (q : Place). q.x) at.is) (active_first d (int_eq u.x (pos 0)) some) near.on_x in
     let on_y = near_run (is_active d 1) n e at.j u.y w.y p.y at.j_below (ap (λ (q : Place). q.y) at.is) parts.0 near.on_y in
     let on_z = near_run (is_active d 2) n e at.k u.z w.z p.z at.k_below (ap (λ (q : Place). q.z) at.is) parts.1 near.on_z in
     and_from _ _ (and_from _ _ on_x on_y) on_z
@@ -86,12 +66,7 @@ at_flat d n u p flat at =
     let on_z = flat_run (is_active d 2) n at.k u.z p.z at.k_below (ap (λ (q : Place). q.z) at.is) parts.1 in
     and_from (nat_lt 1 d || int_eq p.y (pos 0)) (nat_lt 2 d || int_eq p.z (pos 0)) on_y on_z
 
--- ---- the gifts: along each vector the amount of the pattern
-
-at_most_greatest : (ns : List ℕ) (i : ℕ) → get_or ns i 0 ≤ greatest ns
-at_most_greatest [] i = omega arith
-at_most_greatest (n ∷ ns) zero = omega arith
-at_most_greatest (n ∷ ns) (suc i) = let rest = at_most_greatest ns i in omega (arith, rest)
+-- ---- the gifts: along each vector, the amount of the pattern
 
 abbrev gifts : ℕ → (Place → ℕ) → List Place → List ℕ → List Gift
 gifts m number [] a = []
@@ -120,7 +95,7 @@ comes_in_is d n m number (v ∷ vs) a low high flat =
     let outer : size_volume (side d n) - kept (side d n) v ≡ outer_count d n v = ap (λ (k : ℕ). k - kept (side d n) v) whole ∙ ap (λ (k : ℕ). n ^ d - k) inner in
     ap (λ (k : ℕ). most * k + comes_in (side d n) (gifts m number vs (drop m a))) outer ∙ ap (λ (k : ℕ). most * outer_count d n v + k) rest
 
--- ---- each row that is met
+-- ---- each row is satisfied
 
 abbrev Meets : ℕ → ℕ → ℕ → List ℕ → Row → Type 0
 Meets n common held a r = total_below (λ j. get_or r.coefficients j (pos 0) *ℤ column_value (pos held) a j) n ≤ℤ pos (common * r.bound)
@@ -138,7 +113,7 @@ giver_is v p = place_same _ _ _ _ _ _ (less v.x p.x) (less v.y p.y) (less v.z p.
 moved_row : (h q w w' o o' i i' : ℕ) → h + o ≤ q * w + i → o ≡ o' → w ≡ w' → i ≡ i' → h + o' ≤ q * w' + i'
 moved_row h q w w' o o' i i' le a b c = let d : q * w ≡ q * w' = ap (λ (z : ℕ). q * z) b in omega (arith, le, a, c, d)
 
--- what is known of a certificate
+-- what is known of the certificate
 record Known (x : LocalRule) (ws : List ℕ) (radius margin : ℕ) (vs : List Place) (b : Bound) : Type 0 where
   rule : IsRule x
   flat : (v : Place) → Contains vs v → is_flat x.dimension v ≡ true

@@ -1,10 +1,8 @@
 -- How many positions of a box receive along a vector from outside it.
 use Rattle.std.proofs.Common.{◌≡◌, ℕ, zero, suc, ◌+◌, ◌-◌, ◌*◌, ◌<◌, Bool, true, false, cond, refl, ap, ◌∙◌, inl, inr, arith}
+use Rattle.std.proofs.lemmas.{Int.ints, Bool.cases_lt}
 use Rattle.std.specs.Prelude.{ℤ, pos, negsuc, ◌+ℤ◌, ◌-ℤ◌, unsigned_abs, ◌&&◌}
-use Rattle.std.proofs.lemmas.Int.{ints}
-use Rattle.std.proofs.lemmas.Bool.{cases_lt}
-use Rattle.dd_lattice.specs.Place.{Place}
-use Rattle.dd_lattice.specs.Regions.{seen_from}
+use Rattle.dd_lattice.specs.{Place.Place, Regions.seen_from}
 use Rattle.dd_sides.specs.Sums.{Size, axis_sum, box_sum, size_volume, is_on, is_in_box, from_outside}
 use Rattle.dd_sides.specs.lemmas.AxisLaws.{axis_split, axis_same}
 use Rattle.dd_sides.specs.lemmas.BoxLaws.{kept, box_add, box_same, box_const}

@@ -1,8 +1,7 @@
--- Gifts along vectors: each position gives by what stands round it, and no more than some number. Where what each position of a
--- box holds and gives is at most what it has and receives, the box has what its positions hold, up to what comes in from outside.
+-- Gifts along vectors: what a position gives depends on its surroundings, and is bounded. If each position of a box holds and
+-- gives at most what it has and receives, the box has what its positions hold, up to what comes in from outside.
 use Rattle.std.proofs.Common.{◌≡◌, ℕ, ◌+◌, ◌-◌, ◌*◌, ◌≤◌, List, [], ◌∷◌, ap, arith}
-use Rattle.dd_lattice.specs.Place.{Place}
-use Rattle.dd_lattice.specs.Regions.{seen_from}
+use Rattle.dd_lattice.specs.{Place.Place, Regions.seen_from}
 use Rattle.dd_sides.specs.Sums.{Size, box_sum, size_volume}
 use Rattle.dd_sides.specs.lemmas.BoxLaws.{IsAt, kept, box_moved, box_at_most, box_add, box_times, box_const, box_shifted, kept_at_most}
 
@@ -20,7 +19,7 @@ abbrev pub received : List Gift → Place → ℕ
 received [] p = 0
 received (g ∷ gs) p = g.give (seen_from g.along p) + received gs p
 
--- what may come in
+-- the most that may come in from outside
 abbrev pub comes_in : Size → List Gift → ℕ
 comes_in s [] = 0
 comes_in s (g ∷ gs) = g.most * (size_volume s - kept s g.along) + comes_in s gs

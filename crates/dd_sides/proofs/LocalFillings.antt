@@ -1,30 +1,21 @@
--- What a filling shows around a position, at some cells, is an admissible filling of these cells, if they all have symbols there.
+-- If a filling has symbols at some cells around a position, these symbols are an admissible filling of those cells.
 use Rattle.std.proofs.Common.{◌≡◌, ℕ, true, List, map, refl, sym, ap, ◌∙◌, Some, None}
-use Rattle.std.specs.Prelude.{Option, is_some, unwrap_or, IfSome}
-use Rattle.std.specs.List.{Contains, range_with_len}
 use Rattle.std.proofs.lemmas.Bool.{and_parts, and_from, false≢true}
-use Rattle.dd_lattice.specs.Place.{Place, moved}
-use Rattle.dd_lattice.specs.Cells.{cell, shifted}
-use Rattle.dd_lattice.specs.declared.position.Cell.{Cell}
-use Rattle.dd_pattern.specs.Reading.{Look}
-use Rattle.dd_pattern.specs.Weight.{total_weight}
-use Rattle.dd_expansion.specs.Placed.{is_flat}
-use Rattle.dd_formula.specs.LocalRule.{LocalRule, IsRule, rule_allows, reads_at}
-use Rattle.dd_formula.specs.Allowed.{AreAllowed}
+use Rattle.std.specs.{Prelude.Option, Prelude.is_some, Prelude.unwrap_or, Prelude.IfSome, List.Contains, List.range_with_len}
+use Rattle.dd_lattice.specs.{Place.Place, Place.moved, Cells.cell, Cells.shifted, declared.position.Cell.Cell}
+use Rattle.dd_pattern.specs.{Reading.Look, Weight.total_weight}
+use Rattle.dd_expansion.specs.{Placed.is_flat, lemmas.Placed.flat_moved}
+use Rattle.dd_formula.specs.{LocalRule.LocalRule, LocalRule.IsRule, LocalRule.rule_allows, LocalRule.reads_at, Allowed.AreAllowed}
 use Rattle.dd_formula.specs.lemmas.AllowedLaws.{allowed_below}
 use Rattle.dd_boxes.specs.Fillings.{place_fits, Admissible}
 use Rattle.dd_boxes.specs.lemmas.RuleLaws.{from_place, shifted_twice, moved_from_origin, reads_given, keeps_at, list_all_weaker}
-use Rattle.dd_boxes.specs.lemmas.CutLaws.{flat_moved}
-use Rattle.dd_rows.specs.Fillings.{look_of, words, fillings}
-use Rattle.dd_rows.specs.Laws.{AreCellsOf}
-use Rattle.dd_rows.specs.Patterns.{pattern_at}
 use Rattle.dd_boxes.specs.Boxes.{origin}
-use Rattle.dd_rows.specs.Programs.{origin_weight}
+use Rattle.dd_rows.specs.{Fillings.look_of, Fillings.words, Fillings.fillings, Laws.AreCellsOf, Patterns.pattern_at, Programs.origin_weight}
 use Rattle.dd_rows.specs.lemmas.AdmissibleLaws.{the_admissible}
 use Rattle.dd_sides.specs.Sides.{position_weight}
 use Rattle.dd_sides.specs.lemmas.WordLaws.{read_word, word_has, words_have, mapped_alike}
 
--- the symbol of a cell that is counted from p
+-- the symbol of a cell, counted from p
 abbrev pub around : Look → Place → Cell → ℕ
 around look p c = unwrap_or (look (shifted p c)) 0
 
@@ -40,7 +31,7 @@ given_passes : (P : ℕ → Type 0) (o : Option ℕ) → is_some o ≡ true → 
 given_passes P None h k = absurd (false≢true h)
 given_passes P (Some s) h k = k
 
--- the cells all have symbols there
+-- all the cells have symbols there
 abbrev pub HasAll : List Cell → Look → Place → Type 0
 HasAll cs look p = (c : Cell) → Contains cs c → is_some (look (shifted p c)) ≡ true
 
@@ -83,7 +74,7 @@ shown_filling x cs look p rule of flat allowed all ok =
     (yes, allowed_below x rule c.node (around look p c) yes)) in
     (the_admissible x cs of).each (map (around look p) cs) word (shown_admissible x cs look p flat all ok)
 
--- a box of it, and the weight of its position, are those that stand around p
+-- if a box around q lies within the cells, its pattern in what is shown is its pattern around p + q
 pub shown_pattern : (cs box : List Cell) (look : Look) (p q : Place) → ((c : Cell) → Contains box c → Contains cs (shifted q c)) →
     pattern_at box (shown cs look p) q ≡ pattern_at box look (moved q p)
 shown_pattern cs box look p q within =

@@ -1,16 +1,12 @@
 -- The left side of a row, as a sum over the vectors.
 use Rattle.std.proofs.Common.{◌≡◌, ℕ, zero, suc, ◌+◌, ◌*◌, ◌<◌, ◌≤◌, Bool, cond, List, [], ◌∷◌, ◌++◌, length, get_or, map, take, drop, refl, sym, ap, subst, ◌∙◌, inl, inr, arith}
-use Rattle.std.specs.Prelude.{ℤ, pos, ◌+ℤ◌, ◌-ℤ◌, ◌*ℤ◌, ◌≤ℤ◌}
-use Rattle.std.specs.List.{flat_map, range_with_len}
-use Rattle.std.proofs.Math.ListN.{get_or-append, get_or-eq_default}
-use Rattle.std.proofs.lemmas.Bool.{cases_lt, eq-eqb, ne_eqb}
-use Rattle.std.proofs.lemmas.Int.{ints}
+use Rattle.std.proofs.{Math.ListN.get_or-append, Math.ListN.get_or-eq_default, lemmas.Bool.cases_lt, lemmas.Bool.eq-eqb, lemmas.Int.ints}
 use Rattle.std.proofs.lemmas.List.{get_or-append-add, get_or-take, get_or-drop, length-take}
 use Rattle.std.proofs.lemmas.List.FromFn.{get_or-map-range_with_len, length-map-range_with_len}
-use Rattle.dd_discharge.specs.Amounts.{total_below, column_value}
-use Rattle.dd_rows.specs.Programs.{one_at}
-use Rattle.dd_discharge.specs.lemmas.Totals.{total_same, total_sum}
+use Rattle.std.specs.{Prelude.ℤ, Prelude.pos, Prelude.◌+ℤ◌, Prelude.◌-ℤ◌, Prelude.◌*ℤ◌, Prelude.◌≤ℤ◌, List.flat_map, List.range_with_len}
+use Rattle.dd_discharge.specs.{Amounts.total_below, Amounts.column_value, lemmas.Totals.total_same, lemmas.Totals.total_sum}
 use Rattle.dd_discharge.specs.lemmas.WholeNumbers.{sum_times}
+use Rattle.dd_rows.specs.{Programs.one_at, lemmas.UnitLaws.one_elsewhere}
 
 no_more : (t : ℤ) → t ≡ t +ℤ pos 0
 no_more t = omega (arith, ints)
@@ -24,18 +20,15 @@ total_split f m (suc n) =
     ap (total_below f) (let e : m + suc n ≡ suc (m + n) = omega arith in e)
     ∙ one_more (total_below f (m + n)) (total_below f m) (total_below (λ j. f (m + j)) n) (f (m + n)) (total_split f m n)
 
--- ---- the amount with a given number
+-- ---- the amount with a given index
 
 one_here : (j o : ℕ) → j ≡ o → one_at j o ≡ pos 1
 one_here j o same = ap (λ (b : Bool). pos (cond b 1 0)) (eq-eqb j o same)
 
-one_elsewhere : (j o : ℕ) → (j ≡ o → ⊥) → one_at j o ≡ pos 0
-one_elsewhere j o apart = ap (λ (b : Bool). pos (cond b 1 0)) (ne_eqb j o apart)
-
 none_added : (t : ℤ) (n : ℕ) → t +ℤ pos 0 *ℤ pos n ≡ t
 none_added t n = omega (arith, ints)
 
-one_added : (n : ℕ) → pos 0 +ℤ pos 1 *ℤ pos n ≡ pos n
+pub one_added : (n : ℕ) → pos 0 +ℤ pos 1 *ℤ pos n ≡ pos n
 one_added n = omega (arith, ints)
 
 none_taken : (m o : ℕ) (a : ℕ → ℕ) → m ≤ o → total_below (λ j. one_at j o *ℤ pos (a j)) m ≡ pos 0
@@ -84,7 +77,7 @@ block_total m o i a =
     ∙ (total_same (λ j. both j +ℤ in_ j) (λ j. one_at j o *ℤ pos (get_or a j 0)) m (λ j _. parted (one_at j o) (one_at j i) (pos (get_or a j 0)))
     ∙ taken m o a))
 
--- ---- the vectors, each with the amounts of its own
+-- ---- the vectors, each with its own amounts
 
 abbrev pub block : ℕ → ℕ → ℕ → List ℤ
 block m o i = map (λ k. one_at k o -ℤ one_at k i) (range_with_len 0 m)
@@ -136,13 +129,10 @@ blocks_total m o f (x ∷ xs) a =
     ap (total_below F) size ∙ (total_split F m n ∙ (ap (λ (t : ℤ). t +ℤ total_below (λ j. F (m + j)) n) e1 ∙ ap (λ (t : ℤ). t1 +ℤ t) e2)) in
     added _ t1 t2 _ _ _ _ whole (block_total m o (f x) a) (blocks_total m o f xs (drop m a))
 
-first_product : (h : ℕ) → pos 0 +ℤ pos 1 *ℤ pos h ≡ pos h
-first_product h = omega (arith, ints)
-
 in_numbers : (t : ℤ) (h i o q w : ℕ) → (pos h +ℤ t) ≤ℤ pos (q * w) → t +ℤ pos i ≡ pos o → h + o ≤ q * w + i
 in_numbers t h i o q w le e = omega (arith, ints, le, e)
 
--- a row that holds: what is held and goes out is at most the right side and what comes in
+-- a row that holds: what is held and goes out is at most the right side plus what comes in
 pub row_says : {X : Type 0} (m held common w o : ℕ) (f : X → ℕ) (xs : List X) (a : List ℕ) →
     total_below (λ j. get_or (pos 1 ∷ flat_map (λ x. block m o (f x)) xs) j (pos 0) *ℤ column_value (pos held) a j) (1 + length xs * m) ≤ℤ pos (common * w) →
     held + goes_out m o xs a ≤ common * w + comes m f xs a
@@ -154,5 +144,5 @@ row_says m held common w o f xs a h =
     let later : total_below (λ j. F (1 + j)) n ≡ t =
     total_same (λ j. F (1 + j)) (λ j. get_or cs j (pos 0) *ℤ pos (get_or a j 0)) n (λ j low. ap F (let e : 1 + j ≡ suc j = omega arith in e)) in
     let whole : total_below F (1 + n) ≡ pos held +ℤ t =
-    total_split F 1 n ∙ (ap (λ (s : ℤ). s +ℤ total_below (λ j. F (1 + j)) n) (first_product held) ∙ ap (λ (s : ℤ). pos held +ℤ s) later) in
+    total_split F 1 n ∙ (ap (λ (s : ℤ). s +ℤ total_below (λ j. F (1 + j)) n) (one_added held) ∙ ap (λ (s : ℤ). pos held +ℤ s) later) in
     in_numbers t held (comes m f xs a) (goes_out m o xs a) common w (subst (λ (s : ℤ). s ≤ℤ pos (common * w)) whole h) (blocks_total m o f xs a)

@@ -1,16 +1,11 @@
--- Each row is among those that are kept where they are first seen.
+-- Each row is in the list that keeps only the first occurrence of each.
 use Rattle.std.proofs.Common.{◌≡◌, Bool, true, false, cond, List, [], ◌∷◌, ◌++◌, refl, sym, ap, subst, ◌∙◌, inl, inr, ◌⊎◌}
-use Rattle.std.specs.Prelude.{◌||◌}
-use Rattle.std.specs.Bool.{nat_eq}
-use Rattle.std.specs.List.{fold, list_any, Contains}
-use Rattle.std.specs.Ordering.{int_eq}
-use Rattle.std.specs.Cmp.Lexicographic.{pointwise}
-use Rattle.std.specs.Cmp.Rules.{signed_items}
 use Rattle.std.proofs.lemmas.Bool.{and_parts, eqb-true, false≢true, cases_Bool}
 use Rattle.std.proofs.lemmas.List.Elements.{Contains-append_left, Contains-push}
-use Rattle.dd_lattice.specs.lemmas.ListLaws.{Contains-nil, Contains-cons_cases, Contains-first, Contains-later}
-use Rattle.dd_rows.specs.declared.rows.Row.{Row}
-use Rattle.dd_rows.specs.Programs.{is_same_row, add_row, first_seen}
+use Rattle.std.specs.{Prelude.◌||◌, Bool.nat_eq, List.fold, List.list_any, List.Contains, Ordering.int_eq, Cmp.Lexicographic.pointwise}
+use Rattle.std.specs.Cmp.Rules.{signed_items}
+use Rattle.dd_values.specs.lemmas.Members.{Contains-nil, Contains-cons_cases, Contains-first, Contains-later}
+use Rattle.dd_rows.specs.{declared.rows.Row.Row, Programs.is_same_row, Programs.add_row, Programs.first_seen}
 
 same_row : (a b : Row) → is_same_row a b ≡ true → a ≡ b
 same_row a b h =

@@ -1,20 +1,15 @@
--- Side(n): how many positions it has, and how many of them receive from it.
+-- Side(n): how many positions it has, and how many of them receive from inside it.
 use Rattle.std.proofs.Common.{◌≡◌, ℕ, zero, suc, ◌-◌, ◌*◌, ◌^◌, ◌≤◌, Bool, true, false, refl, ap, ◌∙◌, arith}
-use Rattle.std.specs.Prelude.{ℤ, pos, unsigned_abs, ◌||◌, nat_lt}
-use Rattle.std.specs.Ordering.{int_eq}
-use Rattle.std.proofs.lemmas.Bool.{and_parts, lt-ltb}
-use Rattle.std.proofs.lemmas.Bool.Decides.{Decides-int_eq}
-use Rattle.dd_lattice.specs.Place.{Place}
-use Rattle.dd_lattice.specs.Boxes.{is_active}
+use Rattle.std.proofs.lemmas.Bool.{and_parts, lt-ltb, Decides.Decides-int_eq}
+use Rattle.std.specs.{Prelude.ℤ, Prelude.pos, Prelude.unsigned_abs, Prelude.◌||◌, Prelude.nat_lt, Ordering.int_eq}
+use Rattle.dd_lattice.specs.{Place.Place, Boxes.is_active}
 use Rattle.dd_boxes.specs.lemmas.SizeLaws.{first_power, second_power, third_power}
 use Rattle.dd_expansion.specs.Placed.{is_flat}
-use Rattle.dd_sides.specs.Sums.{box_sum, size_volume, from_outside}
-use Rattle.dd_sides.specs.Sides.{side_length, side}
-use Rattle.dd_sides.specs.Boundaries.{left_on, inner_count, outer_count}
-use Rattle.dd_sides.specs.lemmas.BoxLaws.{kept}
+use Rattle.dd_sides.specs.{Sums.box_sum, Sums.size_volume, Sums.from_outside, Sides.side_length, Sides.side}
+use Rattle.dd_sides.specs.{Boundaries.left_on, Boundaries.inner_count, Boundaries.outer_count, lemmas.BoxLaws.kept}
 use Rattle.dd_sides.proofs.CountLaws.{outside_count}
 
--- a box has three, two or one of its axes active
+-- three, two or one of the axes are active
 pub side_volume : (d n : ℕ) → 1 ≤ d → d ≤ 3 → size_volume (side d n) ≡ n ^ d
 side_volume zero n low high = absurd (omega arith)
 side_volume (suc zero) n low high = rw (first_power n) (omega arith)

@@ -1,28 +1,17 @@
--- The tests and sums of boxes of every side: which positions they mean.
+-- What the tests and the sums over boxes of every side mean.
 use Rattle.std.proofs.Common.{◌≡◌, ◌+◌, ◌≤◌, ℕ, zero, suc, Bool, true, false, cond, sym, ap, ◌∙◌, inl, inr, arith}
+use Rattle.std.proofs.lemmas.Bool.{and_parts, and_from, cases_Bool, false≢true}
+use Rattle.std.proofs.lemmas.{Bool.Decides.Decides-int_eq, Int.ints}
 use Rattle.std.specs.Prelude.{◌↔◌, ◌&&◌, ◌||◌, ℤ, pos, ◌+ℤ◌, ◌-ℤ◌, ◌≤ℤ◌, ◌<ℤ◌, int_le, int_lt, nat_lt}
 use Rattle.std.specs.Ordering.{int_eq}
-use Rattle.std.proofs.lemmas.Bool.{and_parts, and_from, cases_Bool, false≢true}
-use Rattle.std.proofs.lemmas.Bool.Decides.{Decides-int_eq}
-use Rattle.std.proofs.lemmas.Int.{ints}
 use Rattle.dd_lattice.specs.Place.{Place, place}
-use Rattle.dd_lattice.specs.Boxes.{is_active, OnAxis, IsUpTo, IsAmong, IsCentred, IsInSide}
-use Rattle.dd_lattice.specs.Regions.{seen_from}
+use Rattle.dd_lattice.specs.{Boxes.is_active, Boxes.OnAxis, Boxes.IsUpTo, Boxes.IsAmong, Boxes.IsCentred, Boxes.IsInSide, Regions.seen_from}
 use Rattle.dd_expansion.specs.Placed.{is_flat}
 use Rattle.dd_sides.specs.Sums.{Size, axis_sum, box_sum, is_on, is_in_box}
 use Rattle.dd_sides.specs.Sides.{side_length, side, is_near_run, is_in_grown, one_only, IsSide}
 use Rattle.dd_sides.specs.lemmas.AxisLaws.{axis_same}
-use Rattle.dd_sides.proofs.CountLaws.{axis_cond, each_axis}
-use Rattle.dd_sides.proofs.SideLaws.{first_active}
-
-le_from : (x y : ℤ) → x ≤ℤ y → int_le x y ≡ true
-le_from x y h = grind (arith, ints)
-
-le_to : (x y : ℤ) → int_le x y ≡ true → x ≤ℤ y
-le_to x y h = grind (arith, ints)
-
-lt_from : (x y : ℤ) → x <ℤ y → int_lt x y ≡ true
-lt_from x y h = grind (arith, ints)
+use Rattle.dd_sides.proofs.{CountLaws.axis_cond, CountLaws.each_axis, SideLaws.first_active}
+use Rattle.dd_values.specs.lemmas.Numbers.{le_from, le_to, lt_from}
 
 lt_to : (x y : ℤ) → int_lt x y ≡ true → x <ℤ y
 lt_to x y h = grind (arith, ints)
@@ -73,7 +62,7 @@ side_positions d n u p =
           (run_from (is_active d 2) n u.z p.z h.on_z),
     )
 
--- ---- each once
+-- ---- each position once
 
 on_past : (n : ℕ) (a q : ℤ) → a +ℤ pos n ≡ q → is_on n a q ≡ false
 on_past n a q e = grind (arith, ints)
@@ -144,7 +133,7 @@ box_once s u q =
     ∙ (axis_once s.z u.z q.z (cond (is_on s.y u.y q.y) (cond (is_on s.x u.x q.x) 1 0) 0)
     ∙ sym (each_axis (is_on s.x u.x q.x) (is_on s.y u.y q.y) (is_on s.z u.z q.z)))
 
--- ---- grown
+-- ---- grown boxes
 
 -- a coordinate of the run that is near c
 record IsNearRun (active : Bool) (n e : ℕ) (a c : ℤ) : Type 0 where
@@ -152,7 +141,7 @@ record IsNearRun (active : Bool) (n e : ℕ) (a c : ℤ) : Type 0 where
   there : OnAxis active (IsAmong n) (from -ℤ a)
   near : OnAxis active (IsUpTo e) (c -ℤ from)
 
--- the nearest one: the first, the last or c itself
+-- the nearest coordinate: the first, the last or c itself
 nearest : (n e : ℕ) (a c : ℤ) → 1 ≤ n → (a -ℤ pos e) ≤ℤ c → c <ℤ (a +ℤ pos (n + e)) → IsNearRun true n e a c
 nearest n e a c some low high = elim (cases_Bool (int_le a c)) [
   | inr before ↦

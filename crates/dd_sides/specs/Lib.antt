@@ -4,7 +4,7 @@ pub mod Sums
 pub mod Sides
 -- how much may come into a box from outside
 pub mod Boundaries
--- what a bound says of all of them
+-- a bound over all boxes
 pub mod Lifted
--- lemmas on what stands above, with their proofs, for whoever cites them
+-- lemmas on these definitions, for other crates
 pub mod lemmas

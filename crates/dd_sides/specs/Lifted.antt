@@ -1,25 +1,21 @@
--- A bound lifted to boxes of every side at every position of Z^d.
+-- A bound, lifted to boxes of every side at every position of Z^d.
 use Rattle.std.specs.Prelude.{ℕ, ◌+◌, ◌*◌, ◌^◌, ◌≤◌, ◌≡◌, true, List, map, length}
 use Rattle.dd_lattice.specs.Place.{Place}
 use Rattle.dd_topology.specs.Topology.{extent}
 use Rattle.dd_pattern.specs.Reading.{Look}
-use Rattle.dd_expansion.specs.Limits.{greatest}
-use Rattle.dd_expansion.specs.Placed.{is_flat}
+use Rattle.dd_expansion.specs.{Limits.greatest, Placed.is_flat}
 use Rattle.dd_formula.specs.LocalRule.{LocalRule}
 use Rattle.dd_boxes.specs.Fillings.{Admissible}
-use Rattle.dd_rows.specs.declared.rows.Rows.{Rows}
-use Rattle.dd_discharge.specs.declared.bound.Bound.{Bound}
-use Rattle.dd_rows.specs.Programs.{IsProgramOf}
-use Rattle.dd_discharge.specs.Amounts.{held_over}
-use Rattle.dd_sides.specs.Sides.{IsSideFilling, side_weight}
-use Rattle.dd_sides.specs.Boundaries.{boundary}
+use Rattle.dd_rows.specs.{declared.rows.Rows.Rows, Programs.IsProgramOf}
+use Rattle.dd_discharge.specs.{declared.bound.Bound.Bound, Amounts.held_over}
+use Rattle.dd_sides.specs.{Sides.IsSideFilling, Sides.side_weight, Boundaries.boundary}
 
--- how far round a position a row looks: the radius, the margin and the greatest entry of the vectors
+-- how far around a position a row looks: the radius, the margin and the greatest entry of the vectors
 abbrev pub reach_of : ℕ → ℕ → List Place → ℕ
 reach_of radius margin vs = radius + margin + greatest (map extent vs)
 
--- For each side n and each position u of Z^d, each admissible filling of Side(n), moved to u and grown by this reach, has on
--- Side(n) at least what its n^d positions hold, over the common denominator, but for what may come in from outside.
+-- For each side n and position u of Z^d: move Side(n) to u and grow it by this reach. Each admissible filling of it weighs on
+-- Side(n) at least what the n^d positions hold, over the common denominator, less what may come in from outside.
 pub record HoldsOnSides (x : LocalRule) (ws : List ℕ) (radius margin : ℕ) (vs : List Place) (b : Bound) : Type 0 where
   pub program : Rows
   pub is_program : IsProgramOf x ws radius margin vs program

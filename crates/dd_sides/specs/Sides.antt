@@ -1,16 +1,10 @@
--- Side(n) moved to a position of Z^d: its coordinates on an active axis are n in a row, and on another axis there is 0 alone.
+-- Side(n) moved to a position of Z^d: n coordinates in a row on each active axis, and only 0 on the others.
 use Rattle.std.specs.Prelude.{ℕ, ◌+◌, ◌≡◌, ◌↔◌, Bool, true, ◌&&◌, cond, is_some, nat_lt, int_le, int_lt, ℤ, pos, ◌+ℤ◌, ◌-ℤ◌, unwrap_or, List, map}
-use Rattle.std.specs.List.{range_with_len}
-use Rattle.std.specs.Ordering.{int_eq}
-use Rattle.dd_lattice.specs.Place.{Place}
-use Rattle.dd_lattice.specs.Cells.{cell}
-use Rattle.dd_lattice.specs.Boxes.{is_active, IsInSide, IsCentred}
-use Rattle.dd_lattice.specs.Regions.{seen_from}
+use Rattle.std.specs.{List.range_with_len, Ordering.int_eq}
+use Rattle.dd_lattice.specs.{Place.Place, Cells.cell, Boxes.is_active, Boxes.IsInSide, Boxes.IsCentred, Regions.seen_from}
 use Rattle.dd_lattice.specs.declared.position.Cell.{Cell}
-use Rattle.dd_pattern.specs.Reading.{Look}
-use Rattle.dd_pattern.specs.Weight.{total_weight}
-use Rattle.dd_formula.specs.LocalRule.{LocalRule}
-use Rattle.dd_formula.specs.Allowed.{AreAllowed}
+use Rattle.dd_pattern.specs.{Reading.Look, Weight.total_weight}
+use Rattle.dd_formula.specs.{LocalRule.LocalRule, Allowed.AreAllowed}
 use Rattle.dd_sides.specs.Sums.{Size, box_sizes, box_sum, is_in_box}
 
 -- how many coordinates Side(n) has on an axis
@@ -20,7 +14,7 @@ side_length active n = cond active n 1
 abbrev pub side : ℕ → ℕ → Size
 side d n = box_sizes (side_length (is_active d 0) n) (side_length (is_active d 1) n) (side_length (is_active d 2) n)
 
--- c is one of the n coordinates from a on, or at most e from them; on an axis that is not active it is 0
+-- c is within e of the n coordinates from a on; on an axis that is not active, c is 0
 abbrev pub is_near_run : Bool → ℕ → ℕ → ℤ → ℤ → Bool
 is_near_run active n e a c = cond active (int_le (a -ℤ pos e) c && int_lt c (a +ℤ pos (n + e))) (int_eq c (pos 0))
 
@@ -29,7 +23,7 @@ abbrev pub is_in_grown : ℕ → ℕ → ℕ → Place → Place → Bool
 is_in_grown d n e u p =
     is_near_run (is_active d 0) n e u.x p.x && is_near_run (is_active d 1) n e u.y p.y && is_near_run (is_active d 2) n e u.z p.z
 
--- 1 at the position q, and 0 at each other
+-- 1 at the position q, 0 elsewhere
 abbrev pub one_only : Place → Place → ℕ
 one_only q p = cond (int_eq p.x q.x && int_eq p.y q.y && int_eq p.z q.z) 1 0
 
@@ -37,21 +31,21 @@ one_only q p = cond (int_eq p.x q.x && int_eq p.y q.y && int_eq p.z q.z) 1 0
 pub record IsSide (d n : ℕ) (u : Place) : Type 0 where
   -- the positions of the box are those of Side(n), moved by u
   pub positions : (p : Place) → (is_in_box (side d n) u p ≡ true) ↔ IsInSide d n (seen_from u p)
-  -- a sum over the box takes each of them once, and no other
+  -- a sum over the box takes each of them once, and no other position
   pub once : (q : Place) → box_sum (side d n) u (one_only q) ≡ cond (is_in_box (side d n) u q) 1 0
-  -- grown by e, it has the positions that are within e of one of them
+  -- the box grown by e has the positions within e of one of them
   pub grown : (e : ℕ) (p : Place) → (is_in_grown d n e u p ≡ true) ↔ ((q : Place) × IsInSide d n (seen_from u q) × IsCentred d e (seen_from q p))
 
 -- the cells of the grown box, with each node
 abbrev pub is_grown_cell : LocalRule → ℕ → ℕ → Place → Cell → Bool
 is_grown_cell x n e u c = is_in_grown x.dimension n e u c.position && nat_lt c.node x.nodes
 
--- exactly these cells have symbols, allowed ones
+-- exactly these cells have symbols, and the symbols are allowed
 pub record IsSideFilling (x : LocalRule) (n e : ℕ) (u : Place) (look : Look) : Type 0 where
   pub domain : (c : Cell) → is_some (look c) ≡ is_grown_cell x n e u c
   pub allowed : AreAllowed x look
 
--- the weight of a position: of its cells, one for each node
+-- the weight of a position: the sum over its cells, one for each node
 abbrev pub position_weight : LocalRule → List ℕ → Look → Place → ℕ
 position_weight x ws look p = total_weight ws (map (λ a. unwrap_or (look (cell p a)) 0) (range_with_len 0 x.nodes))
 

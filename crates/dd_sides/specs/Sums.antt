@@ -1,7 +1,6 @@
--- Sums over the positions of a box, and the positions of a box that receive from outside it.
+-- Sums over the positions of a box, and which of its positions receive from outside it.
 use Rattle.std.specs.Prelude.{ℕ, zero, suc, ◌+◌, ◌*◌, ℤ, pos, ◌+ℤ◌, ◌-ℤ◌, Bool, ◌&&◌, cond, int_le, int_lt}
-use Rattle.dd_lattice.specs.Place.{Place, place}
-use Rattle.dd_lattice.specs.Regions.{seen_from}
+use Rattle.dd_lattice.specs.{Place.Place, Place.place, Regions.seen_from}
 
 -- how many coordinates a box has on each axis
 pub record Size : Type 0 where
@@ -32,6 +31,6 @@ is_on n a c = int_le a c && int_lt c (a +ℤ pos n)
 abbrev pub is_in_box : Size → Place → Place → Bool
 is_in_box s u p = is_on s.x u.x p.x && is_on s.y u.y p.y && is_on s.z u.z p.z
 
--- 1 where the position from which p receives along v, -v from it, lies outside the box, and 0 where it lies in it
+-- 1 if p receives along v from outside the box, that is, if p - v lies outside it; otherwise 0
 abbrev pub from_outside : Size → Place → Place → Place → ℕ
 from_outside s u v p = cond (is_in_box s u (seen_from v p)) 0 1

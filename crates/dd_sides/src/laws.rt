@@ -12,15 +12,15 @@ ghost use Rattle.dd_sides.specs.Sides.{side, IsSide};
 ghost use Rattle.dd_sides.specs.Boundaries.{outer_count};
 ghost use Rattle.dd_sides.specs.Lifted.{HoldsOnSides};
 
-/// Does nothing; its contract says what the boxes of side n are: they have the positions of `Side(n)`, moved to u, a sum over one
-/// takes each of these once, and grown by e one has the positions that are within e of these.
+/// Does nothing; its contract describes the box of side n at u. Its positions are those of `Side(n)`, moved by u. A sum over the
+/// box takes each once. The box grown by e has the positions within e of the box.
 #[tactic(auto, using(crate::proofs::SideParts::side_is))]
 pub fn sides_are()
     ensures { (d n : ℕ) (u : Place) → 1 ≤ d → 1 ≤ n → is_flat d u ≡ true → IsSide d n u }
 {}
 
-/// Does nothing; its contract says that what the positions of a box receive along a vector is what the positions of the box
-/// moved by its opposite give.
+/// Does nothing; its contract says that what the positions of a box receive along a vector is what the box moved by the opposite
+/// vector gives.
 #[tactic(auto, using(crate::specs::lemmas::BoxLaws::box_moved))]
 pub fn received_is_given()
     ensures { (s : Size) (u v : Place) (give : Place → ℕ) → box_sum s u (λ p. give (seen_from v p)) ≡ box_sum s (seen_from v u) give }
@@ -33,7 +33,7 @@ pub fn boundary_count()
         box_sum (side d n) u (from_outside (side d n) u v) ≡ outer_count d n v }
 {}
 
-/// Does nothing; its contract says that a certified bound holds over every box, of whatever side and at whatever position.
+/// Does nothing; its contract says that a certified bound holds over every box, of any side and at any position.
 pub fn bound_holds()
     ensures { (x : LocalRule) (ws : List ℕ) (radius margin : ℕ) (vs : List Place) (b : Bound) → IsRule x → AreVectors x.dimension vs →
         IsBoundCertificate x ws radius margin vs b → HoldsOnSides x ws radius margin vs b }

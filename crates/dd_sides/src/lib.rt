@@ -1,4 +1,4 @@
-//! Boxes of every side at every position: what a discharging bound says of their weight.
+//! Boxes of every side at every position, and what a discharging bound says of their weight.
 #![tactic(auto)]
 
 mod laws;

@@ -1,21 +1,13 @@
 -- Steps of the loops over cells.
-use Rattle.std.proofs.Common.{◌≡◌, ℕ, ◌+◌, ◌<◌, List, [], ◌∷◌, ◌++◌, length, take, drop, get_or, Option, Some, None, Bool, true, false, cond, ◌&&◌, refl, sym, ap, subst, ◌∙◌, arith, drop-cons, add-one, append_assoc}
-use Rattle.std.specs.Prelude.{map}
-use Rattle.std.specs.List.{slice_set, list_all}
+use Rattle.std.proofs.Common.{◌≡◌, ℕ, ◌+◌, ◌<◌, List, [], ◌∷◌, ◌++◌, length, take, drop, get_or, Option, Some, None, Bool, true, false, cond, ◌&&◌, refl, sym, ap, subst, ◌∙◌, arith, drop-cons, add-one, append_assoc, ◌^◌}
 use Rattle.std.proofs.lemmas.List.{length-map, length-set, take_more_set, drop-set-lt}
-use Rattle.std.proofs.lemmas.List.Edits.{map_over_more}
-use Rattle.std.proofs.lemmas.List.Folds.{list_all_more}
-use Rattle.std.proofs.lemmas.Grind.{common_steps}
-use Rattle.dd_fraction.specs.Exact.{Exact, times, plus, minus}
-use Rattle.dd_simplex.specs.table.Lines.{less, do_all_less_fit}
-use lib.IntN.{pos, neg_ℤ, ◌+ℤ◌, ◌*ℤ◌, *ℤ-one, +ℤ_idl, one}
-use Rattle.std.proofs.Common.{◌^◌}
-use Rattle.dd_fraction.specs.Exact.{inverse}
-use Rattle.std.specs.Int.RustNames.{unsigned_abs}
-use Rattle.std.proofs.lemmas.Int.{ints}
-use Rattle.dd_simplex.specs.Programs.{zero_of, one_of, fraction_at}
-use Rattle.dd_simplex.specs.table.Lines.{Line, solved_line}
+use Rattle.std.proofs.lemmas.{List.Edits.map_over_more, List.Folds.list_all_more, Grind.common_steps, Int.ints}
+use Rattle.std.specs.{Prelude.map, List.slice_set, List.list_all, Int.RustNames.unsigned_abs}
+use Rattle.dd_fraction.specs.Exact.{Exact, times, plus, minus, inverse}
 use Rattle.dd_fraction.specs.Checked.{does_product_fit, checked_product, does_sum_fit, does_less_product_fit, checked_less_product}
+use Rattle.dd_simplex.specs.table.Lines.{less, do_all_less_fit, Line, solved_line}
+use Rattle.dd_simplex.specs.Programs.{zero_of, one_of, fraction_at}
+use lib.IntN.{pos, neg_ℤ, ◌+ℤ◌, ◌*ℤ◌, *ℤ-one, +ℤ_idl, one}
 
 pub product_gives : (a b q : Exact) → Some q ≡ checked_product a b → (does_product_fit a b ≡ true) × (q ≡ times a b)
 product_gives a b q e = by (does_product_fit a b) refl
@@ -24,7 +16,7 @@ product_gives a b q e = by (does_product_fit a b) refl
     by true s = let k : Some q ≡ Some (times a b) = e ∙ ap (λ (u : Bool). cond u (Some (times a b)) None) s in (s, cc)
     by false s = let n : Option Exact = None in let k : Some q ≡ n = e ∙ ap (λ (u : Bool). cond u (Some (times a b)) None) s in absurd cc
 
--- a place that the loop has not come to
+-- a place that the loop has not reached
 unread : (f : Exact → Exact) (xs ys : List Exact) (i : ℕ) (x : Exact) → i < length xs → ys ≡ map f (take i xs) ++ drop i xs → get_or ys i x ≡ get_or xs i x
 unread f xs ys i x p e = grind (arith, common_steps, length-map (take i xs) f)
 
@@ -94,7 +86,7 @@ in_place_step f fit xs ys i x y p is all e t s =
     let at : fit (get_or xs i x) ≡ true = ap fit (sym same) ∙ t in
     (rw (list_all_more fit xs i x p, all, at) refl, ap (slice_set ys i) s ∙ map_over_more f xs ys i x p e is)
 
--- the place that was emptied: 0 less a product has no number that the product itself has not
+-- the emptied place: 0 less a product fits where the product fits
 pub emptied_fits : (q : Exact) → 0 < q.den → unsigned_abs q.num < 2 ^ 127 → q.den < 2 ^ 127 → does_sum_fit zero_of (minus q) ≡ true
 unfolding one
 emptied_fits q o p r =

@@ -1,20 +1,13 @@
 -- A choice among the first n places, and the order by ratio and variable.
 use Rattle.std.proofs.Common.{◌≡◌, ◌≢◌, ℕ, ◌+◌, ◌≤◌, List, Option, Some, None, Bool, true, false, ◌&&◌, ◌||◌, ⊎_elim, sym, ap, subst, ◌∙◌, arith}
-use Rattle.std.specs.Bool.{nat_lt}
+use Rattle.std.proofs.lemmas.{Int.ints, Bool.cases_eq}
+use Rattle.std.specs.{Bool.nat_lt, Int.RustNames.int_lt, Ordering.is_lt, Ordering.is_eq, declared.cmp.Ordering.Ordering}
+use Rattle.std.specs.declared.cmp.Ordering.TheVariants.{Less, Equal, Greater}
 use lib.IntN.{ℤ, pos}
 use lib.Signed.{le_z}
-use Rattle.std.specs.Int.RustNames.{int_lt}
-use Rattle.std.proofs.lemmas.Int.{ints}
-use Rattle.std.specs.Ordering.{is_lt, is_eq}
-use Rattle.std.specs.declared.cmp.Ordering.{Ordering}
-use Rattle.std.specs.declared.cmp.Ordering.TheVariants.{Less, Equal, Greater}
-use Rattle.std.proofs.lemmas.Bool.{cases_eq}
-use Rattle.dd_fraction.specs.Exact.{Exact, inverse}
-use Rattle.dd_fraction.specs.Checked.{does_product_fit}
-use Rattle.dd_simplex.specs.Programs.{fraction_at}
-use Rattle.dd_simplex.specs.table.Lines.{Line, line_at}
-use Rattle.dd_fraction.specs.Order.{IsAtMost, IsBelow, exact_cmp}
+use Rattle.dd_fraction.specs.{Exact.Exact, Exact.inverse, Checked.does_product_fit, Order.IsAtMost, Order.IsBelow, Order.exact_cmp}
 use Rattle.dd_fraction.specs.lemmas.OrderLaws.{at_most_refl, at_most_trans, at_most_below, below_or_at_most, below_not_at_most, at_most_antisymm, exact_cmp-below, exact_cmp-above, exact_cmp-same}
+use Rattle.dd_simplex.specs.{Programs.fraction_at, table.Lines.Line, table.Lines.line_at}
 use Rattle.dd_simplex.specs.table.Choices.{IsChosen, does_precede, Precedes, LeavesBefore, DoRatiosFit, IsRatioOf, does_limit, line_ratio}
 
 true_false : true ≡ false → ⊥

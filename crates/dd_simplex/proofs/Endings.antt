@@ -1,18 +1,16 @@
--- At the end: the columns are feasible, the duals are, and both are worth the value, so that no columns give more.
+-- At the end the columns and the duals are feasible and have the same value, so no columns give more.
 use Rattle.std.proofs.Common.{◌≡◌, ◌≢◌, ℕ, zero, suc, ◌+◌, ◌-◌, ◌<◌, ◌≤◌, List, length, Bool, true, false, cond, None, refl, sym, ap, subst, ◌∙◌, arith}
 use Rattle.std.specs.Bool.{nat_lt}
-use Rattle.dd_fraction.specs.Exact.{Exact, plus, times, minus, low}
-use Rattle.dd_fraction.specs.Order.{IsNonneg, IsAtMost}
+use Rattle.dd_fraction.specs.{Exact.Exact, Exact.plus, Exact.times, Exact.minus, Exact.low, Order.IsNonneg, Order.IsAtMost}
 use Rattle.dd_fraction.specs.lemmas.Laws.{plus_comm, zero_plus, plus_zero, zero_times, times_zero, times_one, one_times, plus_minus, plus_undo, plus_cancel, plus_low_left, low_plus, low_times, minus_minus, minus_plus, minus_times, minus_times_right}
 use Rattle.dd_fraction.specs.lemmas.Lowest.{low_low, zero_is}
 use Rattle.dd_fraction.specs.lemmas.OrderLaws.{nonneg_lowest, nonneg_plus, nonneg_times, at_most_gap, at_most_from_gap}
 use Rattle.dd_simplex.specs.Programs.{LinearProgram, IsProgram, IsFeasible, IsBest, fraction_at, coefficient, bound_at, unit, fraction_sum, zero_of, one_of}
-use Rattle.dd_simplex.specs.Dictionaries.{Dictionary, count}
-use Rattle.dd_simplex.specs.Runs.{entering, column_of, dual_of}
-use Rattle.dd_simplex.proofs.Totals.{eq_same, eq_other, total_low, total_same, total_none, total_pick, total_split, total_nonneg, zero_nonneg}
+use Rattle.dd_simplex.specs.{Dictionaries.Dictionary, Dictionaries.count, Runs.entering, Runs.column_of, Runs.dual_of}
 use Rattle.dd_simplex.specs.Laws.{dictionary_coefficient, price}
-use Rattle.dd_simplex.proofs.Equations.{Holds}
-use Rattle.dd_simplex.proofs.Reaching.{IsReached, start_holds, start_says, entering_none}
+use Rattle.dd_simplex.proofs.Totals.{eq_same, total_low, total_same, total_none, total_pick, total_split, total_nonneg, zero_nonneg}
+use Rattle.dd_simplex.proofs.{Equations.Holds, Reaching.IsReached, Reaching.start_holds, Reaching.start_says, Reaching.entering_none}
+use Rattle.dd_values.specs.lemmas.Booleans.{eq_other}
 
 -- ---- orders from sums
 at_most_from_sum : (a y b : Exact) → plus a y ≡ low b → IsNonneg y → IsAtMost a b
@@ -78,7 +76,7 @@ module _ (p : LinearProgram) (d : Dictionary) (g : IsProgram p) (r : IsReached p
   nothing_meets : (k : ℕ) → k < length p.rows → plus (fraction_sum (λ j. times (coefficient p k j) zero_of) p.columns) (bound_at p k) ≡ times one_of (bound_at p k)
   nothing_meets k q = ap (λ (t : Exact). plus t (bound_at p k)) (nothing (coefficient p k) p.columns) ∙ (zero_plus (bound_at p k) ∙ sym (one_times (bound_at p k)))
 
-  -- one column of 1, with its coefficients turned round as slacks
+  -- one column of 1, with its negated coefficients as slacks
   column_alone : (j : ℕ) → j < p.columns → (f : ℕ → Exact) → fraction_sum (λ w. times (f w) (unit w j)) p.columns ≡ low (f j)
   column_alone j q f =
       total_pick (λ w. times (f w) (unit w j)) j p.columns q (λ w _ k. ap (λ (b : Bool). times (f w) (cond b one_of zero_of)) (eq_other w j k) ∙ times_zero (f w))

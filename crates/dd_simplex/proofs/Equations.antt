@@ -1,16 +1,15 @@
 -- What a dictionary says of its variables: an equation for each basic one, and the objective. A pivot keeps what it says.
 use Rattle.std.proofs.Common.{◌≡◌, ◌≢◌, ℕ, ◌<◌, Bool, true, false, ◌&&◌, ⊎_elim, refl, sym, ap, subst, ◌∙◌, arith}
-use Rattle.std.specs.Bool.{nat_eq}
 use Rattle.std.proofs.lemmas.Bool.{cases_eq}
-use Rattle.dd_fraction.specs.Exact.{Exact, plus, times, minus, inverse, low}
-use Rattle.dd_fraction.specs.Order.{IsPositive}
+use Rattle.std.specs.Bool.{nat_eq}
+use Rattle.dd_fraction.specs.{Exact.Exact, Exact.plus, Exact.times, Exact.minus, Exact.inverse, Exact.low, Order.IsPositive}
 use Rattle.dd_fraction.specs.lemmas.Laws.{times_comm, times_assoc, times_plus, zero_plus, plus_zero, zero_times, times_zero, times_one, plus_minus, plus_four, plus_cancel, plus_low_right, low_plus, low_times, minus_times}
-use Rattle.dd_fraction.specs.lemmas.Lowest.{zero_is, one_is}
-use Rattle.dd_fraction.specs.lemmas.OrderLaws.{times_inverse_positive}
+use Rattle.dd_fraction.specs.lemmas.{Lowest.zero_is, Lowest.one_is, OrderLaws.times_inverse_positive}
 use Rattle.dd_simplex.specs.Programs.{fraction_sum, zero_of, one_of}
 use Rattle.dd_simplex.specs.Dictionaries.{Dictionary, pivoted, new_bound, less_product}
 use Rattle.dd_simplex.specs.Laws.{dictionary_coefficient, price}
 use Rattle.dd_simplex.proofs.Totals.{sum_scaled, sum_with, total_low}
+use Rattle.dd_values.specs.lemmas.Booleans.{eq_other}
 
 abbrev pub left_side : ℕ → Dictionary → (ℕ → Exact) → ℕ → Exact
 left_side n d x v = fraction_sum (λ w. times (dictionary_coefficient d v w) (x w)) n
@@ -36,9 +35,6 @@ true_false e = absurd cc
 eq_same : (v w : ℕ) → v ≡ w → nat_eq v w ≡ true
 eq_same v w h = grind arith
 
-eq_other : (v w : ℕ) → v ≢ w → nat_eq v w ≡ false
-eq_other v w h = grind arith
-
 pub apart : (d : Dictionary) (v w : ℕ) → d.is_basic v ≡ true → d.is_basic w ≡ false → v ≢ w
 apart d v w p q s = true_false (sym p ∙ (ap d.is_basic s ∙ q))
 
@@ -59,7 +55,7 @@ then_other d e r v h k = rw (eq_other v e h, eq_other v r k) (and_true (d.is_bas
     and_true true = refl
     and_true false = refl
 
--- in the new row: those of the old one, divided by the pivot
+-- coefficients in the new row: those of the old one, divided by the pivot
 pub new_row : (n : ℕ) (d : Dictionary) (e r w : ℕ) → IsTurn n d e r → dictionary_coefficient (pivoted d e r) e w ≡ times (dictionary_coefficient d r w) (inverse (d.entry r e))
 new_row n d e r w t = ⊎_elim at_e (λ (h : w ≢ e). ⊎_elim (at_r h) (λ (k : w ≢ r). other h k (d.is_basic w) refl) (cases_eq w r)) (cases_eq w e)
   where
@@ -91,7 +87,7 @@ gone q = sym (ap (plus q) (times_one (minus q)) ∙ (plus_low_right q (minus q) 
 idle : (a q : Exact) → plus a (times q zero_of) ≡ low a
 idle a q = ap (plus a) (times_zero q) ∙ plus_zero a
 
--- in a row that stays, and in the objective: the old one less a multiple of the new row's
+-- coefficients in a row that stays, and in the objective: the old one less a multiple of the new row's
 pub row_then : (n : ℕ) (d : Dictionary) (e r v w : ℕ) → IsTurn n d e r → d.is_basic v ≡ true → v ≢ r
     → dictionary_coefficient (pivoted d e r) v w ≡ plus (dictionary_coefficient d v w) (times (minus (d.entry v e)) (dictionary_coefficient (pivoted d e r) e w))
 row_then n d e r v w t b vr = ⊎_elim at_v (λ (f : w ≢ v). ⊎_elim (at_e f) (λ (h : w ≢ e). ⊎_elim (at_r f h) (λ (k : w ≢ r). other f h k (d.is_basic w) refl) (cases_eq w r)) (cases_eq w e)) (cases_eq w v)
@@ -147,7 +143,7 @@ price_then n d e r w t = ⊎_elim at_e (λ (h : w ≢ e). ⊎_elim (at_r h) (λ 
     other h l true s = rw (eq_other w e h, eq_other w r l, s) (sym (idle zero_of (minus q) ∙ zero_is))
     other h l false s = rw (eq_other w e h, eq_other w r l, eq_same e e refl, s) (ap (plus (d.cost w)) (minus_times q _))
 
--- ---- a pivot keeps the equations, and what the objective comes to
+-- ---- a pivot keeps the equations, and the value of the objective
 bound_new : (d : Dictionary) (e r : ℕ) → (pivoted d e r).bound e ≡ new_bound d e r
 bound_new d e r = rw (eq_same e e refl) refl
 

@@ -1,10 +1,10 @@
--- The least number of which something is true, and what is true of each number below another.
+-- The least number with a property, and properties of each number below another.
 use Rattle.std.proofs.Common.{◌≡◌, ◌≢◌, ℕ, zero, suc, ◌<◌, Option, Some, None, Bool, true, false, ◌&&◌, cond, ◌⊎◌, inl, inr, ⊎_elim, refl, sym, ap, subst, ◌∙◌, arith}
 use Rattle.std.proofs.lemmas.Bool.{cases_eq}
-use Rattle.dd_fraction.specs.Exact.{Exact}
-use Rattle.dd_fraction.specs.Order.{IsAtMost}
+use Rattle.dd_fraction.specs.{Exact.Exact, Order.IsAtMost}
 use Rattle.dd_fraction.specs.lemmas.OrderLaws.{at_most_refl, at_most_trans, at_most_total}
 use Rattle.dd_simplex.specs.Runs.{all_below, first_below, or_else}
+use Rattle.dd_values.specs.lemmas.Booleans.{and_both, and_second}
 
 pub and_left : (a b : Bool) → (a && b) ≡ true → a ≡ true
 and_left true b e = refl
@@ -13,13 +13,6 @@ and_left false b e = e
 pub and_right : (a b : Bool) → (a && b) ≡ true → b ≡ true
 and_right true b e = e
 and_right false b e = absurd cc
-
-pub and_both : (a b : Bool) → a ≡ true → b ≡ true → (a && b) ≡ true
-and_both a b p q = rw (p, q) refl
-
-pub and_no : (a b : Bool) → b ≡ false → (a && b) ≡ false
-and_no true b e = e
-and_no false b e = refl
 
 -- ---- each number below n
 pub all_at : (f : ℕ → Bool) (n i : ℕ) → all_below f n ≡ true → i < n → f i ≡ true
@@ -36,7 +29,7 @@ all_true f (suc n) h = and_both (all_below f n) (f n) (all_true f n (λ i p. h i
 pub all_false : (f : ℕ → Bool) (n i : ℕ) → i < n → f i ≡ false → all_below f n ≡ false
 all_false f zero i p h = absurd (omega (arith, p))
 all_false f (suc n) i p h = ⊎_elim
-    (λ (s : i ≡ n). and_no (all_below f n) (f n) (ap f (sym s) ∙ h))
+    (λ (s : i ≡ n). and_second (all_below f n) (f n) (ap f (sym s) ∙ h))
     (λ (s : i ≢ n). ap (λ (b : Bool). b && f n) (all_false f n i (omega (arith, p, s)) h))
     (cases_eq i n)
 

@@ -1,19 +1,16 @@
--- A product with 0 has no number that its factors have not, and changes nothing.
+-- Subtracting a product with 0 changes nothing, and no number of it is too large.
 use Rattle.std.proofs.Common.{◌≡◌, ℕ, ◌*◌, ◌%◌, true, nat_eq, refl, sym, ap, subst, ◌∙◌, arith}
-use Rattle.std.specs.Int.RustNames.{unsigned_abs}
 use Rattle.std.proofs.lemmas.Int.{ints, to_z-of_z}
-use Rattle.std.specs.Int.{w128}
+use Rattle.std.specs.Int.{RustNames.unsigned_abs, w128}
 use mir.Val.{SFits, to_z, of_z}
 use lib.IntN.{ℤ, pos, ◌+ℤ◌, ◌*ℤ◌}
-use Rattle.dd_fraction.specs.Divisor.{greatest_common}
-use Rattle.dd_fraction.specs.Exact.{Exact, plus, minus}
+use Rattle.dd_fraction.specs.{Divisor.greatest_common, Exact.Exact, Exact.plus, Exact.minus}
 use Rattle.dd_fraction.specs.Checked.{IsFraction, is_bounded, does_product_fit, does_sum_fit}
 use Rattle.dd_fraction.specs.lemmas.Divisors.{greatest_common-zero, greatest_common-step}
 use Rattle.dd_fraction.specs.lemmas.Laws.{plus_zero, times_zero, zero_times}
 use Rattle.dd_fraction.specs.lemmas.Lowest.{low_fraction, exact_same}
-use Rattle.dd_simplex.specs.Programs.{zero_of}
-use Rattle.dd_simplex.specs.table.Lines.{IsIdle}
-use Rattle.dd_simplex.proofs.Firsts.{and_both}
+use Rattle.dd_simplex.specs.{Programs.zero_of, table.Lines.IsIdle}
+use Rattle.dd_values.specs.lemmas.{Booleans.and_both, Numbers.times_none}
 
 -- a fraction whose numerator is 0 has the denominator 1
 pub zero_fraction_is : (b : Exact) → IsFraction b → b.num ≡ pos 0 → b ≡ zero_of
@@ -42,9 +39,6 @@ bounded_num a f = let b = f.bounded in grind (arith, b)
 
 bounded_den : (a : Exact) → IsFraction a → is_bounded (pos a.den) ≡ true
 bounded_den a f = let b = f.below in grind (arith, b)
-
-times_none : (x : ℤ) → x *ℤ pos 0 ≡ pos 0
-times_none x = omega (arith, ints)
 
 none_times : (x : ℤ) → pos 0 *ℤ x ≡ pos 0
 none_times x = omega (arith, ints)

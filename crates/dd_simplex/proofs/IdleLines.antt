@@ -1,21 +1,18 @@
 -- A line whose cell in the entering column is 0 stays as it is, and no number of it is too large.
 use Rattle.std.proofs.Common.{◌≡◌, ◌≢◌, ℕ, suc, ◌<◌, List, [], ◌∷◌, length, drop, true, ◌&&◌, refl, sym, ap, subst, ◌∙◌, arith}
-use Rattle.std.specs.List.{slice_set, list_all, All}
 use Rattle.std.proofs.lemmas.List.{set-get_or}
 use Rattle.std.proofs.lemmas.List.Elements.{All-get_or, All-from_get_or, All-set, All-map, All-drop, All-weaker}
+use Rattle.std.specs.List.{slice_set, list_all, All}
 use lib.IntN.{pos}
 use Rattle.dd_fraction.specs.Exact.{Exact, times, minus, inverse}
-use Rattle.dd_fraction.specs.Checked.{IsFraction, does_product_fit, does_sum_fit}
-use Rattle.dd_fraction.specs.lemmas.FractionFacts.{IsFraction-inverse}
+use Rattle.dd_fraction.specs.{Checked.IsFraction, Checked.does_product_fit, Checked.does_sum_fit, lemmas.FractionFacts.IsFraction-inverse}
 use Rattle.dd_fraction.specs.lemmas.Results.{IsFraction-whole}
 use Rattle.dd_simplex.specs.Programs.{fraction_at, zero_of, one_of}
 use Rattle.dd_simplex.specs.table.Lines.{Line, Table, HasFractions, line_at, less, do_all_less_fit, solved_line, does_solved_fit, changed_line, does_changed_fit}
 use Rattle.dd_simplex.specs.table.Standing.{IsTable}
-use Rattle.dd_simplex.proofs.Firsts.{and_left, and_right, and_both}
-use Rattle.dd_simplex.proofs.Idle.{idle_left, zero_fraction_is}
-use Rattle.dd_simplex.proofs.LineSteps.{parted}
-use Rattle.dd_simplex.proofs.Places.{list_at}
+use Rattle.dd_simplex.proofs.{Firsts.and_left, Firsts.and_right, Idle.idle_left, Idle.zero_fraction_is, LineSteps.parted}
 use Rattle.dd_simplex.proofs.PivotTests.{product_fraction}
+use Rattle.dd_values.specs.lemmas.{Booleans.and_both, Lists.list_at}
 
 head : (x : Exact) (xs : List Exact) → All IsFraction (x ∷ xs) → IsFraction x
 head x xs h = h 0 x (omega arith)

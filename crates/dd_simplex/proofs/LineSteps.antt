@@ -1,12 +1,10 @@
 -- The rows behind the leaving one.
 use Rattle.std.proofs.Common.{◌≡◌, ℕ, zero, suc, ◌+◌, ◌<◌, List, [], ◌∷◌, ◌++◌, length, take, drop, add-one, refl, sym, ap, subst, ◌∙◌, arith, drop-cons}
-use Rattle.std.specs.Prelude.{map}
-use Rattle.std.specs.List.{All, slice_set}
-use Rattle.std.proofs.lemmas.List.Elements.{All-drop, All-weaker}
+use Rattle.std.proofs.lemmas.List.{Elements.All-drop, Elements.All-weaker, length-map, get_or-set_same}
+use Rattle.std.specs.{Prelude.map, List.All, List.slice_set}
 use Rattle.dd_simplex.specs.table.Lines.{Line, Table, line_at, other_at, solved_line, changed_line, changed_lines, changed_table, less}
 use Rattle.dd_simplex.specs.Programs.{zero_of, fraction_at}
 use Rattle.dd_fraction.specs.Exact.{Exact, plus, times}
-use Rattle.std.proofs.lemmas.List.{length-map, get_or-set_same}
 use Rattle.dd_simplex.proofs.CellSteps.{solved_size}
 
 -- the leaving line and those behind it
@@ -33,7 +31,7 @@ rows_go f (x ∷ xs) (suc r) p h = ap (λ t. f x ∷ t) (rows_go f xs r p (omega
 pub rows_turned : {A B : Type 0} (f : A → B) (xs : List A) (r : ℕ) (p : B) → r < length xs → map f (take r xs) ++ p ∷ map f (drop (r + 1) xs) ≡ slice_set (map f xs) r p
 rows_turned f xs r p h = rw add-one (rows_go f xs r p h)
 
--- the solved line, where it comes to stand
+-- the solved line, at its new place
 pub changed_at : (lines : List Line) (e r v : ℕ) → r < length lines → line_at (changed_lines e r v lines) r ≡ solved_line v e (line_at lines r)
 changed_at lines e r v h =
     let pivot = solved_line v e (line_at lines r) in

@@ -1,23 +1,20 @@
 -- The pivot of a table stands for the pivot of the dictionary.
 use Rattle.std.proofs.Common.{◌≡◌, ◌≢◌, ℕ, ◌<◌, List, length, Bool, true, false, cond, ⊎_elim, refl, sym, ap, subst, ◌∙◌, arith}
-use Rattle.std.specs.Bool.{nat_eq}
-use Rattle.std.specs.List.{slice_set, list_all}
-use Rattle.std.proofs.lemmas.Bool.{cases_eq}
-use Rattle.std.proofs.lemmas.List.{length-set, get_or-set_same, get_or-set_other}
+use Rattle.std.proofs.lemmas.{Bool.cases_eq, List.length-set, List.get_or-set_same, List.get_or-set_other}
+use Rattle.std.specs.{Bool.nat_eq, List.slice_set, List.list_all}
 use lib.IntN.{pos}
-use Rattle.dd_fraction.specs.lemmas.FractionFacts.{IsFraction-inverse}
-use Rattle.dd_fraction.specs.Exact.{Exact, plus, times, minus, inverse}
+use Rattle.dd_fraction.specs.{lemmas.FractionFacts.IsFraction-inverse, Exact.Exact, Exact.plus, Exact.times, Exact.minus, Exact.inverse}
 use Rattle.dd_fraction.specs.Checked.{IsFraction, does_product_fit}
 use Rattle.dd_simplex.specs.Programs.{fraction_at, zero_of, one_of}
 use Rattle.dd_simplex.specs.Dictionaries.{Dictionary, pivoted, new_entry, less_product, replaced}
-use Rattle.dd_simplex.specs.table.Lines.{Line, Table, line_at, other_at, less, do_all_less_fit, solved_line, changed_line, changed_lines, changed_table, does_solved_fit, does_changed_fit, do_lines_fit, does_table_fit}
-use Rattle.dd_simplex.specs.table.Lines.{does_objective_line_fit as does_table_objective_fit}
+use Rattle.dd_simplex.specs.table.Lines.{Line, Table, line_at, other_at, less, do_all_less_fit, solved_line, changed_line, changed_lines, changed_table, does_solved_fit, does_changed_fit, do_lines_fit, does_table_fit, does_objective_line_fit as does_table_objective_fit}
 use Rattle.dd_simplex.specs.table.Standing.{IsTable, StandsFor}
 use Rattle.dd_simplex.proofs.Equations.{true_false, apart, then_entering, then_leaving, then_other}
 use Rattle.dd_simplex.proofs.Firsts.{and_left, and_right}
-use Rattle.dd_simplex.proofs.Places.{length_less, less_at, less_fits_at, list_at, beside_at, lines_size, line_same, line_other, solved_at, set_here, set_else}
+use Rattle.dd_simplex.proofs.Places.{length_less, less_at, less_fits_at, beside_at, lines_size, line_same, line_other, solved_at, set_here, set_else}
 use Rattle.dd_simplex.proofs.PivotTests.{pivot_length, other_apart, columns_apart, pivot_here, pivot_else, pivot_bound, less_here, less_else, product_fraction, sum_fraction, less_fraction}
-use Rattle.dd_simplex.proofs.Totals.{eq_same, eq_other}
+use Rattle.dd_simplex.proofs.Totals.{eq_same}
+use Rattle.dd_values.specs.lemmas.{Booleans.eq_other, Lists.list_at}
 
 module _ (n : ℕ) (t : Table) (d : Dictionary) (k : IsTable t) (s : StandsFor n t d) (e r : ℕ) (inside : e < length t.others) (line : r < length t.lines) where
   abbrev E : ℕ

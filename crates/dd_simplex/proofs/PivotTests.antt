@@ -1,9 +1,7 @@
 -- The pivot of a table, number by number: its cells and its tests are those of the dictionary that it stands for.
 use Rattle.std.proofs.Common.{◌≡◌, ◌≢◌, ℕ, ◌+◌, ◌<◌, List, length, take, drop, Bool, true, false, not, ◌&&◌, ◌||◌, cond, Some, None, ⊎_elim, refl, sym, ap, subst, ◌∙◌, arith}
-use Rattle.std.specs.Bool.{nat_eq}
-use Rattle.std.specs.List.{slice_set, list_all}
-use Rattle.std.proofs.lemmas.Bool.{cases_eq}
-use Rattle.std.proofs.lemmas.List.{length-set}
+use Rattle.std.proofs.lemmas.{Bool.cases_eq, List.length-set}
+use Rattle.std.specs.{Bool.nat_eq, List.slice_set, List.list_all}
 use Rattle.dd_fraction.specs.Exact.{Exact, plus, times, minus, inverse, low}
 use Rattle.dd_fraction.specs.Checked.{IsFraction, does_product_fit, does_sum_fit}
 use Rattle.dd_fraction.specs.lemmas.Laws.{zero_plus, low_times, minus_times, IsLowest-times}
@@ -11,14 +9,13 @@ use Rattle.dd_fraction.specs.lemmas.FractionFacts.{IsFraction-checked_product, I
 use Rattle.dd_simplex.specs.Programs.{fraction_at, zero_of, one_of}
 use Rattle.dd_simplex.specs.Dictionaries.{Dictionary, new_bound, new_entry, less_product}
 use Rattle.dd_simplex.specs.Runs.{all_below, does_quotient_fit, does_less_fit, does_row_fit, do_coefficients_fit, do_others_fit, does_objective_fit}
-use Rattle.dd_simplex.specs.table.Lines.{Line, Table, line_at, other_at, less, do_all_less_fit, solved_line, does_solved_fit, does_changed_fit, does_table_fit}
-use Rattle.dd_simplex.specs.table.Lines.{does_objective_line_fit as does_table_objective_fit}
+use Rattle.dd_simplex.specs.table.Lines.{Line, Table, line_at, other_at, less, do_all_less_fit, solved_line, does_solved_fit, does_changed_fit, does_table_fit, does_objective_line_fit as does_table_objective_fit}
 use Rattle.dd_simplex.specs.table.Standing.{IsTable, StandsFor}
-use Rattle.dd_simplex.proofs.CellSteps.{emptied_fits, solved_size}
-use Rattle.dd_simplex.proofs.Equations.{true_false, apart}
-use Rattle.dd_simplex.proofs.Firsts.{and_left, and_right, and_both, all_at, all_true}
-use Rattle.dd_simplex.proofs.Places.{less_at, less_fits, less_fits_at, list_at, list_true, beside_at, beside_true, solved_at, set_here, set_else}
-use Rattle.dd_simplex.proofs.Totals.{eq_same, eq_other}
+use Rattle.dd_simplex.proofs.{CellSteps.emptied_fits, CellSteps.solved_size, Equations.true_false, Equations.apart}
+use Rattle.dd_simplex.proofs.Firsts.{and_left, and_right, all_at, all_true}
+use Rattle.dd_simplex.proofs.Places.{less_at, less_fits, less_fits_at, list_true, beside_at, beside_true, solved_at, set_here, set_else}
+use Rattle.dd_simplex.proofs.Totals.{eq_same}
+use Rattle.dd_values.specs.lemmas.{Booleans.same_bool, Booleans.and_both, Booleans.eq_other, Lists.list_at}
 
 pub product_fraction : (a b : Exact) → 0 < a.den → 0 < b.den → does_product_fit a b ≡ true → IsFraction (times a b)
 product_fraction a b p q f = IsFraction-checked_product a b (times a b) p q (sym (ap (λ (t : Bool). cond t (Some (times a b)) None) f))
@@ -32,7 +29,7 @@ less_fraction a q b p o r f =
     let two = IsFraction-minus (times q b) one in
     sum_fraction a (minus (times q b)) p two.above (and_right (does_product_fit q b) (does_sum_fit a (minus (times q b))) f)
 
--- where a place was emptied, no number passes that the product alone does not
+-- at an emptied place, the difference fits if the product does
 emptied_less : (q b : Exact) → 0 < q.den → 0 < b.den → does_product_fit q b ≡ true → does_less_fit zero_of q b ≡ true
 emptied_less q b p r f =
     let g = product_fraction q b p r f in
@@ -40,11 +37,6 @@ emptied_less q b p r f =
 
 pub emptied_is : (q b : Exact) → less_product zero_of q b ≡ minus (times q b)
 emptied_is q b = zero_plus (minus (times q b)) ∙ (ap low (minus_times q b) ∙ (low_times (minus q) b ∙ sym (minus_times q b)))
-
-same_test : (a b : Bool) → (a ≡ true → b ≡ true) → (b ≡ true → a ≡ true) → a ≡ b
-same_test true b f g = sym (f refl)
-same_test false true f g = g refl
-same_test false false f g = refl
 
 module _ (n : ℕ) (t : Table) (d : Dictionary) (k : IsTable t) (s : StandsFor n t d) (e r : ℕ) (inside : e < length t.others) (line : r < length t.lines) where
   abbrev pub E : ℕ
@@ -112,7 +104,7 @@ module _ (n : ℕ) (t : Table) (d : Dictionary) (k : IsTable t) (s : StandsFor n
   pub coefficients_stand : (q : Exact) (us : List Exact) (a : ℕ → Exact) → length us ≡ length t.others → 0 < q.den
       → ((j : ℕ) → j < length t.others → a (other_at t.others j) ≡ fraction_at us j)
       → do_all_less_fit q (slice_set us e zero_of) pivot.cells ≡ do_coefficients_fit n d E R q a
-  coefficients_stand q us a h o is = same_test _ _ there back
+  coefficients_stand q us a h o is = same_bool _ _ there back
     where
       there : do_all_less_fit q (slice_set us e zero_of) pivot.cells ≡ true → do_coefficients_fit n d E R q a ≡ true
       there f = all_true _ n (λ w p. by w p (d.is_basic w) refl)
@@ -160,7 +152,7 @@ module _ (n : ℕ) (t : Table) (d : Dictionary) (k : IsTable t) (s : StandsFor n
 
   -- ---- the leaving row
   pub row_stands : does_solved_fit e (line_at t.lines r) ≡ does_row_fit n d E R
-  row_stands = same_test _ _ there back
+  row_stands = same_bool _ _ there back
     where
       c : Exact
       c = fraction_at (line_at t.lines r).cells e
@@ -218,7 +210,7 @@ module _ (n : ℕ) (t : Table) (d : Dictionary) (k : IsTable t) (s : StandsFor n
       ∙ ap (λ (q : Exact). does_less_fit (d.bound (line_at t.lines i).basic) (d.entry (line_at t.lines i).basic E) (new_bound d E R) && do_coefficients_fit n d E R q (d.entry (line_at t.lines i).basic)) (sym (s.entries i e p inside))
 
   pub others_stand : (list_all (does_changed_fit e pivot) (take r t.lines) && list_all (does_changed_fit e pivot) (drop (r + 1) t.lines)) ≡ do_others_fit n d E R
-  others_stand = same_test _ _ there back
+  others_stand = same_bool _ _ there back
     where
       there : (list_all (does_changed_fit e pivot) (take r t.lines) && list_all (does_changed_fit e pivot) (drop (r + 1) t.lines)) ≡ true → do_others_fit n d E R ≡ true
       there f = all_true _ n (λ v p. by v p (d.is_basic v) refl (nat_eq v R) refl)

@@ -1,15 +1,12 @@
 -- Lists of the code place by place: what a loop over cells made, and whether its numbers fit.
 use Rattle.std.proofs.Common.{◌≡◌, ◌≢◌, ℕ, zero, suc, ◌+◌, ◌<◌, List, [], ◌∷◌, length, get_or, take, drop, Bool, true, ◌&&◌, refl, sym, ap, ◌∙◌, arith}
-use Rattle.std.specs.Prelude.{map}
-use Rattle.std.specs.List.{slice_set, list_all}
 use Rattle.std.proofs.lemmas.List.{length-map, length-set, get_or-set_same, get_or-set_other}
+use Rattle.std.specs.{Prelude.map, List.slice_set, List.list_all}
 use Rattle.dd_fraction.specs.Exact.{Exact, times, inverse}
-use Rattle.dd_simplex.specs.Programs.{fraction_at, zero_of, one_of}
-use Rattle.dd_simplex.specs.Dictionaries.{less_product}
-use Rattle.dd_simplex.specs.Runs.{does_less_fit}
+use Rattle.dd_simplex.specs.{Programs.fraction_at, Programs.zero_of, Programs.one_of, Dictionaries.less_product, Runs.does_less_fit}
 use Rattle.dd_simplex.specs.table.Lines.{Line, line_at, less, do_all_less_fit, solved_line, changed_line, changed_lines}
-use Rattle.dd_simplex.proofs.Firsts.{and_left, and_right, and_both}
-use Rattle.dd_simplex.proofs.LineSteps.{rows_turned}
+use Rattle.dd_simplex.proofs.{Firsts.and_left, Firsts.and_right, LineSteps.rows_turned}
+use Rattle.dd_values.specs.lemmas.{Booleans.and_both, Lists.list_at}
 
 pub map_at : {A B : Type 0} (f : A → B) (xs : List A) (i : ℕ) (a : A) (b : B) → i < length xs → get_or (map f xs) i b ≡ f (get_or xs i a)
 map_at f [] i a b p = absurd (omega (arith, p))
@@ -41,16 +38,11 @@ less_fits q (a ∷ us) [] h f = absurd (omega (arith, h))
 less_fits q (a ∷ us) (b ∷ bs) h f =
     and_both (does_less_fit a q b) (do_all_less_fit q us bs) (f 0 (omega arith)) (less_fits q us bs (omega (arith, h)) (λ j p. f (suc j) (omega (arith, p))))
 
-pub list_at : {A : Type 0} (f : A → Bool) (xs : List A) (i : ℕ) (a : A) → list_all f xs ≡ true → i < length xs → f (get_or xs i a) ≡ true
-list_at f [] i a h p = absurd (omega (arith, p))
-list_at f (x ∷ xs) zero a h p = and_left (f x) (list_all f xs) h
-list_at f (x ∷ xs) (suc i) a h p = list_at f xs i a (and_right (f x) (list_all f xs) h) (omega (arith, p))
-
 pub list_true : {A : Type 0} (f : A → Bool) (xs : List A) (a : A) → ((i : ℕ) → i < length xs → f (get_or xs i a) ≡ true) → list_all f xs ≡ true
 list_true f [] a h = refl
 list_true f (x ∷ xs) a h = and_both (f x) (list_all f xs) (h 0 (omega arith)) (list_true f xs a (λ i p. h (suc i) (omega (arith, p))))
 
--- ---- the front and the back of a list, beside one place
+-- ---- a list but for one place
 beside_go : {A : Type 0} (f : A → Bool) (xs : List A) (r i : ℕ) (a : A) → (list_all f (take r xs) && list_all f (drop (suc r) xs)) ≡ true
     → i < length xs → i ≢ r → f (get_or xs i a) ≡ true
 beside_go f [] r i a h p k = absurd (omega (arith, p))

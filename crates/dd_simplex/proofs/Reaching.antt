@@ -1,12 +1,8 @@
 -- What holds of each dictionary that a run comes to.
 use Rattle.std.proofs.Common.{◌≡◌, ◌≢◌, ℕ, zero, suc, ◌+◌, ◌-◌, ◌<◌, ◌≤◌, length, Bool, true, false, not, ◌&&◌, ◌||◌, Some, None, ◌⊎◌, inl, inr, ⊎_elim, refl, sym, ap, subst, ◌∙◌, arith}
-use Rattle.std.specs.Bool.{nat_lt}
-use Rattle.std.specs.Ordering.{is_gt}
-use Rattle.std.specs.Int.RustNames.{int_lt}
-use Rattle.std.specs.declared.cmp.Ordering.{Ordering}
+use Rattle.std.proofs.lemmas.{Bool.cases_eq, Int.ints}
+use Rattle.std.specs.{Bool.nat_lt, Ordering.is_gt, Int.RustNames.int_lt, declared.cmp.Ordering.Ordering}
 use Rattle.std.specs.declared.cmp.Ordering.TheVariants.{Less, Equal, Greater}
-use Rattle.std.proofs.lemmas.Bool.{cases_eq}
-use Rattle.std.proofs.lemmas.Int.{ints}
 use lib.IntN.{ℤ, pos, negsuc, neg_ℤ}
 use lib.Signed.{◌≤ℤ◌, ◌<ℤ◌}
 use Rattle.dd_fraction.specs.Exact.{Exact, plus, times, minus, inverse, low}
@@ -17,23 +13,17 @@ use Rattle.dd_fraction.specs.lemmas.OrderLaws.{nonneg_plus, nonneg_times, positi
 use Rattle.dd_simplex.specs.Programs.{LinearProgram, IsProgram, coefficient, bound_at, fraction_sum, zero_of, one_of}
 use Rattle.dd_simplex.specs.Dictionaries.{Dictionary, count, start_dictionary, pivoted, new_bound, less_product}
 use Rattle.dd_simplex.specs.Runs.{is_over, may_enter, entering, ratio, is_limiting, may_leave, leaving, all_below}
-use Rattle.dd_simplex.proofs.Totals.{eq_same, eq_other, total_same, total_pick, total_split, zero_nonneg}
-use Rattle.dd_simplex.proofs.Firsts.{and_left, and_right, all_at, first_some, first_none}
 use Rattle.dd_simplex.specs.Laws.{dictionary_coefficient, price}
+use Rattle.dd_simplex.proofs.Totals.{eq_same, total_same, total_pick, total_split, zero_nonneg}
+use Rattle.dd_simplex.proofs.Firsts.{and_left, and_right, all_at, first_some, first_none}
 use Rattle.dd_simplex.proofs.Equations.{left_side, Holds, objective, IsTurn, turn_forth, turn_back, turn_objective, then_other, then_leaving, apart, true_false}
+use Rattle.dd_values.specs.lemmas.Booleans.{not_true, lt_yes, lt_no, eq_other}
 
 pub record IsReached (p : LinearProgram) (d : Dictionary) : Type 0 where
   pub bounds : (v : ℕ) → v < count p → d.is_basic v ≡ true → IsNonneg (d.bound v)
   pub forth : (s : Exact) (x : ℕ → Exact) → Holds (count p) (start_dictionary p) s x → Holds (count p) d s x
   pub back : (s : Exact) (x : ℕ → Exact) → Holds (count p) d s x → Holds (count p) (start_dictionary p) s x
   pub worth : (s : Exact) (x : ℕ → Exact) → Holds (count p) (start_dictionary p) s x → objective (count p) d s x ≡ low (x 0)
-
--- ---- the start
-lt_yes : (v n : ℕ) → v < n → nat_lt v n ≡ true
-lt_yes v n p = grind (arith, p)
-
-lt_no : (v n : ℕ) → n ≤ v → nat_lt v n ≡ false
-lt_no v n p = grind (arith, p)
 
 lt_from : (v n : ℕ) → not (nat_lt v n) ≡ true → n ≤ v
 lt_from v n h = grind (arith, h)
@@ -178,10 +168,6 @@ not_over a e = record { sign = at a.num e }
     at : (n : ℤ) → int_lt (pos 0) n ≡ false → pos 0 ≤ℤ neg_ℤ n
     at n h = omega (arith, ints, h)
 
-not_true : (b : Bool) → not b ≡ true → b ≡ false
-not_true true e = absurd cc
-not_true false e = refl
-
 pub record Enters (n : ℕ) (d : Dictionary) (e : ℕ) : Type 0 where
   pub within : e < n
   pub free : d.is_basic e ≡ false
@@ -196,7 +182,7 @@ entering_is n d e h =
       cost = over_positive (d.cost e) (and_right (not (d.is_basic e)) (is_over (d.cost e)) f.1);
     }
 
--- of what enters nowhere the price is not over 0
+-- if nothing enters, no price is over 0
 pub entering_none : (n : ℕ) (d : Dictionary) (w : ℕ) → entering n d ≡ None → w < n → IsNonneg (minus (price d w))
 entering_none n d w h q = by (d.is_basic w) refl
   where

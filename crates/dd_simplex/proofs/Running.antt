@@ -1,30 +1,22 @@
--- Along the run: the table stands for a dictionary from which the rest of the run is that of the program.
+-- Along the run, the table stands for a dictionary. The program's run goes on from there.
 use Rattle.std.proofs.Common.{◌≡◌, ◌≢◌, ℕ, zero, suc, ◌+◌, ◌<◌, List, length, Bool, true, false, ◌&&◌, cond, Option, Some, None, ⊎_elim, refl, sym, ap, subst, ◌∙◌, arith}
-use Rattle.std.proofs.lemmas.Int.{ints}
+use Rattle.std.proofs.lemmas.{Int.ints, List.length-set}
 use lib.IntN.{ℤ, pos}
 use lib.Signed.{◌<ℤ◌}
-use Rattle.dd_fraction.specs.Exact.{Exact, low}
-use Rattle.dd_fraction.specs.Checked.{IsFraction}
-use Rattle.dd_fraction.specs.lemmas.Lowest.{low_fraction, zero_is}
+use Rattle.dd_fraction.specs.{Exact.Exact, Exact.low, Checked.IsFraction, lemmas.Lowest.low_fraction, lemmas.Lowest.zero_is}
 use Rattle.dd_simplex.specs.Programs.{LinearProgram, IsProgram, IsBest, fraction_at}
 use Rattle.dd_simplex.specs.Dictionaries.{Dictionary, count, start_dictionary, pivoted}
 use Rattle.dd_simplex.specs.Runs.{is_over, entering, leaving, does_turn_fit, do_ratios_fit, Ends, Overflows, AtLimit, turn, turn_or_end, run, stop_of, RunEnds, column_of, dual_of}
 use Rattle.dd_simplex.specs.table.Lines.{Table, line_at, other_at, changed_table}
-use Rattle.dd_simplex.specs.table.Choices.{HasMisfit}
-use Rattle.dd_simplex.specs.table.Standing.{IsTable, StandsFor}
+use Rattle.dd_simplex.specs.table.{Choices.HasMisfit, Standing.IsTable, Standing.StandsFor}
 use Rattle.dd_simplex.specs.table.Steps.{DoesEnter, DoesLeave, HasTurned, HasLeft, IsStuck, IsStart}
 use Rattle.dd_simplex.specs.table.Values.{column_so_far, dual_so_far, GiveColumns, GiveDuals}
-use Rattle.dd_simplex.proofs.Endings.{is_best}
-use Rattle.std.specs.Bool.{nat_lt}
-use Rattle.std.proofs.lemmas.List.{length-set}
-use Rattle.dd_simplex.proofs.Firsts.{and_both}
-use Rattle.dd_simplex.proofs.Places.{lines_size}
-use Rattle.dd_simplex.proofs.PivotStanding.{pivot_stands, pivot_table}
+use Rattle.dd_simplex.proofs.{Endings.is_best, Places.lines_size, PivotStanding.pivot_stands, PivotStanding.pivot_table}
 use Rattle.dd_simplex.proofs.PivotTests.{table_stands}
 use Rattle.dd_simplex.proofs.Reaching.{IsReached, entering_is, leaving_is, over_positive, reached_start, reached_pivot}
 use Rattle.dd_simplex.proofs.Standing.{entering_stands, entering_none_stands, unlimited_stands, leaving_stands, ratios_stand, misfit_stands}
-use Rattle.dd_simplex.proofs.Starting.{start_table, start_stands}
-use Rattle.dd_simplex.proofs.Unbounded.{is_limited, always_leaves}
+use Rattle.dd_simplex.proofs.{Starting.start_table, Starting.start_stands, Unbounded.is_limited, Unbounded.always_leaves}
+use Rattle.dd_values.specs.lemmas.Booleans.{and_both, and_second, lt_yes}
 
 pub record IsAlong (p : LinearProgram) (pivots left : ℕ) (t : Table) : Type 0 where
   pub dictionary : Dictionary
@@ -114,10 +106,6 @@ along_turn p k left t new a h = subst (IsAlong p k left) (sym h.pivoted) (record
 and_first : (a b : Bool) → a ≡ false → (a && b) ≡ false
 and_first a b e = rw e refl
 
-and_second : (a b : Bool) → b ≡ false → (a && b) ≡ false
-and_second true b e = e
-and_second false b e = refl
-
 pub along_stuck : (p : LinearProgram) (k left : ℕ) (t : Table) → IsProgram p → IsAlong p k (suc left) t → IsStuck t → stop_of p k ≡ Overflows
 along_stuck p k left t g a h = ⊎_elim ratio (λ s. ⊎_elim none misfit s) h.reason
   where
@@ -159,9 +147,6 @@ along_stuck p k left t g a h = ⊎_elim ratio (λ s. ⊎_elim none misfit s) h.r
 pub along_limit : (p : LinearProgram) (k : ℕ) (t : Table) (e : ℕ) → IsAlong p k 0 t → DoesEnter t (Some e) → stop_of p k ≡ AtLimit
 along_limit p k t e a h =
     sym a.rest ∙ ap (turn_or_end (λ _. AtLimit) a.dictionary) (enters_is (count p) t a.dictionary a.table a.stands e h)
-
-lt_yes : (a i : ℕ) → a < i → nat_lt a i ≡ true
-lt_yes a i p = grind (arith, p)
 
 end_is : (n k : ℕ) (d : Dictionary) → entering n d ≡ None → run n k d ≡ Ends d
 end_is n zero d h = rw h refl

@@ -9,6 +9,7 @@ use Rattle.dd_simplex.specs.Laws.{DoesEnd, HasOneStop, dictionary_after, after_t
 use Rattle.dd_simplex.proofs.Endings.{reduced_column, reduced_value, combined_column, combined_bound}
 use Rattle.dd_simplex.proofs.Reaching.{IsReached, entering_is, leaving_is, reached_start, reached_pivot}
 use Rattle.dd_simplex.proofs.Unbounded.{always_leaves}
+use Rattle.dd_simplex.specs.lemmas.Dictionaries.{ends_same}
 
 -- ---- how a run stops
 never_unbounded : (p : LinearProgram) (k : ℕ) (d : Dictionary) → IsProgram p → IsReached p d → run (count p) k d ≡ Unbounded → ⊥
@@ -74,9 +75,6 @@ ends_at p k d h = record {
   where
     front : (j : ℕ) → 0 + j ≡ j
     front j = omega arith
-
-ends_same : (d e : Dictionary) → Ends d ≡ Ends e → d ≡ e
-ends_same d e h = cc
 
 pub one_stop_of : (p : LinearProgram) (k : ℕ) → IsProgram p → HasOneStop p k
 one_stop_of p k g = record {

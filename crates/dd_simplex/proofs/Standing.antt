@@ -1,17 +1,15 @@
 -- The code's choices, and its tests of numbers, are those of the dictionary that its table stands for.
 use Rattle.std.proofs.Common.{◌≡◌, ℕ, ◌<◌, ◌≤◌, length, Bool, true, false, not, ◌&&◌, ◌||◌, Option, Some, None, refl, sym, ap, subst, ◌∙◌, arith}
 use Rattle.std.specs.Ordering.{is_gt}
-use Rattle.dd_fraction.specs.Exact.{Exact, times, inverse}
-use Rattle.dd_fraction.specs.Order.{IsAtMost, exact_cmp}
-use Rattle.dd_simplex.specs.Programs.{fraction_at}
-use Rattle.dd_simplex.specs.Dictionaries.{Dictionary}
+use Rattle.dd_fraction.specs.{Exact.Exact, Exact.times, Exact.inverse, Order.IsAtMost, Order.exact_cmp}
+use Rattle.dd_simplex.specs.{Programs.fraction_at, Dictionaries.Dictionary}
 use Rattle.dd_simplex.specs.Runs.{is_over, may_enter, entering, ratio, is_limiting, may_leave, leaving, all_below, do_ratios_fit, does_quotient_fit}
 use Rattle.dd_simplex.specs.table.Lines.{Table, line_at, other_at}
 use Rattle.dd_simplex.specs.table.Choices.{IsChosen, does_enter, EntersBefore, does_limit, LeavesBefore, line_ratio, DoRatiosFit, HasMisfit}
 use Rattle.dd_simplex.specs.table.Standing.{IsTable, StandsFor}
-use Rattle.dd_simplex.proofs.Firsts.{and_left, and_right, and_both, all_at, all_true, all_false, first_is, first_absent}
-use Rattle.dd_simplex.proofs.Reaching.{test_at_most, at_most_test}
-use Rattle.dd_simplex.proofs.Equations.{true_false}
+use Rattle.dd_simplex.proofs.Firsts.{and_left, and_right, all_at, all_true, all_false, first_is, first_absent}
+use Rattle.dd_simplex.proofs.{Reaching.test_at_most, Reaching.at_most_test, Equations.true_false}
+use Rattle.dd_values.specs.lemmas.Booleans.{and_both}
 
 module _ (n : ℕ) (t : Table) (d : Dictionary) (k : IsTable t) (s : StandsFor n t d) where
   -- ---- what enters

@@ -2,13 +2,10 @@
 use Rattle.std.proofs.Common.{◌≡◌, ℕ, ◌+◌, ◌-◌, ◌<◌, ◌≤◌, length, Bool, true, false, cond, sym, ap, subst, ◌∙◌, arith}
 use Rattle.std.specs.Bool.{nat_eq}
 use lib.IntN.{pos}
-use Rattle.dd_fraction.specs.Checked.{IsFraction}
-use Rattle.dd_fraction.specs.lemmas.Results.{IsFraction-whole}
+use Rattle.dd_fraction.specs.{Checked.IsFraction, lemmas.Results.IsFraction-whole}
 use Rattle.dd_simplex.specs.Programs.{LinearProgram, IsProgram, coefficient, bound_at, unit, fraction_at, zero_of, one_of}
-use Rattle.dd_simplex.specs.Dictionaries.{count, start_dictionary}
-use Rattle.dd_simplex.specs.table.Lines.{Line, Table, line_at}
-use Rattle.dd_simplex.specs.table.Standing.{IsTable, StandsFor}
-use Rattle.dd_simplex.specs.table.Steps.{IsStart}
+use Rattle.dd_simplex.specs.{Dictionaries.count, Dictionaries.start_dictionary, table.Lines.Line, table.Lines.Table, table.Lines.line_at}
+use Rattle.dd_simplex.specs.table.{Standing.IsTable, Standing.StandsFor, Steps.IsStart}
 use Rattle.dd_simplex.proofs.Reaching.{start_column, start_slack}
 
 module _ (p : LinearProgram) (t : Table) (g : IsProgram p) (h : IsStart p t) where

@@ -1,20 +1,15 @@
 -- Sums over the first n numbers.
-use Rattle.std.proofs.Common.{◌≡◌, ◌≢◌, ℕ, zero, suc, ◌+◌, ◌<◌, Bool, true, false, cond, ⊎_elim, refl, sym, ap, subst, ◌∙◌, arith}
+use Rattle.std.proofs.Common.{◌≡◌, ◌≢◌, ℕ, zero, suc, ◌+◌, ◌<◌, Bool, true, cond, ⊎_elim, refl, sym, ap, subst, ◌∙◌, arith}
+use Rattle.std.proofs.lemmas.{Bool.cases_eq, Int.ints}
 use Rattle.std.specs.Bool.{nat_eq}
-use Rattle.std.proofs.lemmas.Bool.{cases_eq}
-use Rattle.std.proofs.lemmas.Int.{ints}
-use Rattle.dd_fraction.specs.Exact.{Exact, plus, times, low}
-use Rattle.dd_fraction.specs.Order.{IsNonneg}
+use Rattle.dd_fraction.specs.{Exact.Exact, Exact.plus, Exact.times, Exact.low, Order.IsNonneg}
 use Rattle.dd_fraction.specs.lemmas.Laws.{plus_assoc, times_comm, times_plus, plus_times, zero_plus, plus_zero, times_zero, times_assoc, plus_four, plus_low_left, plus_low_right, low_plus}
-use Rattle.dd_fraction.specs.lemmas.Lowest.{zero_is}
-use Rattle.dd_fraction.specs.lemmas.OrderLaws.{nonneg_plus}
+use Rattle.dd_fraction.specs.lemmas.{Lowest.zero_is, OrderLaws.nonneg_plus}
 use Rattle.dd_simplex.specs.Programs.{fraction_sum, zero_of}
+use Rattle.dd_values.specs.lemmas.Booleans.{eq_other}
 
 pub eq_same : (v : ℕ) → nat_eq v v ≡ true
 eq_same v = grind arith
-
-pub eq_other : (v w : ℕ) → v ≢ w → nat_eq v w ≡ false
-eq_other v w h = grind arith
 
 pub zero_zero : plus zero_of zero_of ≡ zero_of
 zero_zero = zero_plus zero_of ∙ zero_is
@@ -42,7 +37,7 @@ pub total_times : (k : Exact) (f : ℕ → Exact) (n : ℕ) → fraction_sum (λ
 total_times k f zero = sym (times_zero k)
 total_times k f (suc n) = ap (λ (t : Exact). plus t (times k (f n))) (total_times k f n) ∙ sym (times_plus k (fraction_sum f n) (f n))
 
--- one term alone
+-- one term that isn't 0
 pub total_pick : (f : ℕ → Exact) (w n : ℕ) → w < n → ((v : ℕ) → v < n → v ≢ w → f v ≡ zero_of) → fraction_sum f n ≡ low (f w)
 total_pick f w zero p h = absurd (omega (arith, p))
 total_pick f w (suc n) p h = ⊎_elim
@@ -90,7 +85,7 @@ low_each : (f : ℕ → Exact) (n : ℕ) → fraction_sum (λ v. low (f v)) n �
 low_each f zero = refl
 low_each f (suc n) = plus_low_right (fraction_sum (λ v. low (f v)) n) (f n) ∙ ap (λ (t : Exact). plus t (f n)) (low_each f n)
 
--- two terms alone
+-- two terms that aren't 0
 pub total_two : (f : ℕ → Exact) (a b n : ℕ) → a < n → b < n → a ≢ b → ((v : ℕ) → v < n → v ≢ a → v ≢ b → f v ≡ zero_of) → fraction_sum f n ≡ plus (f a) (f b)
 total_two f a b n p q ab h =
     sym (low_each f n)

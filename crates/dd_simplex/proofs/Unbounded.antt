@@ -1,25 +1,23 @@
--- Something always leaves. If nothing limited the entering variable, it could grow for ever, the basic variables with it,
--- and column 0 too. But the first row says that column 0 and its slack, both not below 0, sum to the cap.
+-- Something always leaves. If nothing limited the entering variable, it could grow for ever, and column 0 with it. But by
+-- the first row column 0 and its slack, neither below 0, sum to the cap.
 use Rattle.std.proofs.Common.{◌≡◌, ◌≢◌, ℕ, ◌+◌, ◌<◌, Bool, true, false, not, ◌&&◌, ◌||◌, cond, None, ⊎_elim, refl, sym, ap, subst, ◌∙◌, arith}
-use Rattle.std.specs.Bool.{nat_eq}
-use Rattle.std.specs.Ordering.{is_gt}
-use Rattle.std.proofs.lemmas.Bool.{cases_eq}
-use Rattle.std.proofs.lemmas.Int.{ints}
+use Rattle.std.proofs.lemmas.{Bool.cases_eq, Int.ints}
+use Rattle.std.specs.{Bool.nat_eq, Ordering.is_gt}
 use Rattle.dd_fraction.specs.Exact.{Exact, plus, times, minus, low}
 use Rattle.dd_fraction.specs.Order.{IsNonneg, IsPositive, exact_cmp}
 use Rattle.dd_fraction.specs.lemmas.Laws.{plus_comm, zero_plus, zero_times, times_zero, times_one, one_times, plus_minus, plus_low_left, plus_low_right}
-use Rattle.dd_fraction.specs.lemmas.Lowest.{low_low}
-use Rattle.dd_fraction.specs.lemmas.OrderLaws.{positive_lowest, positive_plus}
+use Rattle.dd_fraction.specs.lemmas.{Lowest.low_low, OrderLaws.positive_lowest, OrderLaws.positive_plus}
 use Rattle.dd_simplex.specs.Programs.{LinearProgram, IsProgram, coefficient, bound_at, fraction_sum, zero_of, one_of}
 use Rattle.dd_simplex.specs.Dictionaries.{Dictionary, count}
 use Rattle.dd_simplex.specs.Runs.{is_over, ratio, is_limiting, may_leave, leaving, all_below}
-use Rattle.dd_simplex.proofs.Totals.{eq_same, eq_other, total_pick, total_two, zero_nonneg}
-use Rattle.dd_simplex.proofs.Firsts.{and_both, all_true, first_none, smallest, IsSmallest}
 use Rattle.dd_simplex.specs.Laws.{dictionary_coefficient, price}
+use Rattle.dd_simplex.proofs.Totals.{eq_same, total_pick, total_two, zero_nonneg}
+use Rattle.dd_simplex.proofs.Firsts.{all_true, first_none, smallest, IsSmallest}
 use Rattle.dd_simplex.proofs.Equations.{Holds, objective, apart}
 use Rattle.dd_simplex.proofs.Reaching.{IsReached, Enters, start_says, not_over, test_at_most}
+use Rattle.dd_values.specs.lemmas.Booleans.{and_both, eq_other}
 
--- each variable's part, when e grows by 1
+-- how much each variable grows when e grows by 1
 ray : Dictionary → ℕ → ℕ → Exact
 ray d e w = cond (nat_eq w e) one_of (cond (d.is_basic w) (minus (d.entry w e)) zero_of)
 

@@ -1,14 +1,10 @@
 -- One line more gives one column more; one other variable more gives one dual more.
 use Rattle.std.proofs.Common.{◌≡◌, ◌≢◌, ℕ, ◌+◌, ◌-◌, ◌<◌, ◌≤◌, List, length, Bool, true, false, not, ◌&&◌, cond, ⊎_elim, refl, sym, ap, subst, ◌∙◌, arith}
-use Rattle.std.specs.Bool.{nat_lt}
-use Rattle.std.specs.List.{slice_set}
-use Rattle.std.proofs.lemmas.Bool.{cases_eq}
-use Rattle.std.proofs.lemmas.List.{length-set}
+use Rattle.std.proofs.lemmas.{Bool.cases_eq, List.length-set}
+use Rattle.std.specs.{Bool.nat_lt, List.slice_set}
 use Rattle.dd_fraction.specs.Exact.{Exact, minus}
-use Rattle.dd_simplex.specs.Programs.{fraction_at, zero_of}
-use Rattle.dd_simplex.specs.Dictionaries.{Dictionary}
-use Rattle.dd_simplex.specs.table.Lines.{Line, Table, line_at, other_at}
-use Rattle.dd_simplex.specs.table.Standing.{StandsFor}
+use Rattle.dd_simplex.specs.{Programs.fraction_at, Programs.zero_of, Dictionaries.Dictionary}
+use Rattle.dd_simplex.specs.table.{Lines.Line, Lines.Table, Lines.line_at, Lines.other_at, Standing.StandsFor}
 use Rattle.dd_simplex.specs.table.Values.{column_so_far, dual_so_far, GiveColumns, GiveDuals}
 use Rattle.dd_simplex.proofs.Places.{set_here, set_else}
 

@@ -34,7 +34,7 @@ fraction_quotient a b = times a (inverse b)
 abbrev pub less_product : Exact → Exact → Exact → Exact
 less_product a q b = plus a (minus (times q b))
 
--- the row of the entering variable: that of the leaving one, solved for it
+-- the entering variable's row: the leaving variable's row, solved for it
 abbrev pub new_bound : Dictionary → ℕ → ℕ → Exact
 new_bound d e r = fraction_quotient (d.bound r) (d.entry r e)
 

@@ -1,8 +1,7 @@
 -- Laws of runs: how they stop, and what each dictionary on the way is.
 use Rattle.std.specs.Prelude.{◌≡◌, ℕ, zero, suc, ◌+◌, ◌<◌, ◌⊎◌, List, length, true, cond, Option, Some, None}
 use Rattle.std.specs.Bool.{nat_eq}
-use Rattle.dd_fraction.specs.Exact.{Exact, plus, times, minus, low}
-use Rattle.dd_fraction.specs.Order.{IsNonneg}
+use Rattle.dd_fraction.specs.{Exact.Exact, Exact.plus, Exact.times, Exact.minus, Exact.low, Order.IsNonneg}
 use Rattle.dd_simplex.specs.Programs.{LinearProgram, coefficient, bound_at, unit, fraction_sum, zero_of, one_of}
 use Rattle.dd_simplex.specs.Dictionaries.{Dictionary, count, start_dictionary, pivoted}
 use Rattle.dd_simplex.specs.Runs.{entering, leaving, RunEnds, RunOverflows, RunPivots}
@@ -13,7 +12,7 @@ pub record DoesEnd (p : LinearProgram) (k : ℕ) : Type 0 where
   pub duals : List Exact
   pub ends : RunEnds p k value columns duals
 
--- a run ends, overflows or comes to its limit, no two of these, and with one result
+-- a run ends, overflows or reaches its limit, exactly one of these, and it ends with one result
 pub record HasOneStop (p : LinearProgram) (k : ℕ) : Type 0 where
   pub stops : DoesEnd p k ⊎ (RunOverflows p k ⊎ RunPivots p k)
   pub end_alone : DoesEnd p k → RunOverflows p k ⊎ RunPivots p k → ⊥
@@ -41,13 +40,13 @@ dictionary_coefficient d v w = cond (nat_eq w v) one_of (cond (d.is_basic w) zer
 abbrev pub price : Dictionary → ℕ → Exact
 price d w = cond (d.is_basic w) zero_of (d.cost w)
 
--- the row of v is a combination of the program's rows: what it has at their slacks times each
+-- the row of v is a combination of the program's rows. The factor of each is the coefficient of its slack in the row of v
 pub record IsCombination (p : LinearProgram) (d : Dictionary) (v : ℕ) : Type 0 where
   pub columns : (j : ℕ) → j < p.columns
       → low (dictionary_coefficient d v j) ≡ fraction_sum (λ k. times (dictionary_coefficient d v (p.columns + k)) (coefficient p k j)) (length p.rows)
   pub bound : low (d.bound v) ≡ fraction_sum (λ k. times (dictionary_coefficient d v (p.columns + k)) (bound_at p k)) (length p.rows)
 
--- the objective is that of the program less such a combination, by what it has at the slacks
+-- the objective is the program's, less a combination of its rows. The factor of each is the opposite of its slack's price
 pub record IsReducedObjective (p : LinearProgram) (d : Dictionary) : Type 0 where
   pub columns : (j : ℕ) → j < p.columns
       → plus (price d j) (fraction_sum (λ k. times (minus (price d (p.columns + k))) (coefficient p k j)) (length p.rows)) ≡ low (unit 0 j)

@@ -8,3 +8,5 @@ pub mod Runs
 pub mod Laws
 -- what the code keeps of a dictionary
 pub mod table
+-- lemmas on these definitions, with their proofs
+pub mod lemmas

@@ -2,8 +2,7 @@
 use Rattle.std.specs.Prelude.{◌≡◌, ℕ, zero, suc, ◌<◌, ◌-◌, List, [], ◌∷◌, length, slice_index_or, replicate, cond}
 use Rattle.std.specs.Bool.{nat_eq}
 use lib.IntN.{ℤ, pos}
-use Rattle.dd_fraction.specs.Exact.{Exact, plus, times, whole_of}
-use Rattle.dd_fraction.specs.Order.{IsAtMost, IsNonneg}
+use Rattle.dd_fraction.specs.{Exact.Exact, Exact.plus, Exact.times, Exact.whole_of, Order.IsAtMost, Order.IsNonneg}
 
 -- the sum of coefficient times column is at most the bound
 pub record ProgramRow : Type 0 where
@@ -44,7 +43,7 @@ unit v w = cond (nat_eq v w) one_of zero_of
 abbrev pub cap_row : ℕ → ℤ → ProgramRow
 cap_row columns cap = record { coefficients = one_of ∷ replicate (columns - 1) zero_of; bound = whole_of cap }
 
--- the first row is that of a cap, each row has its coefficients, and no bound is below 0
+-- the first row is that of a cap, each row has a coefficient for each column, and no bound is below 0
 pub record IsProgram (p : LinearProgram) : Type 0 where
   pub wide : 0 < p.columns
   pub rows : 0 < length p.rows

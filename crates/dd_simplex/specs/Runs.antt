@@ -1,17 +1,14 @@
--- The run by Bland's rule (1977): of the variables that may enter, or leave, the one of the least number. It stops with
--- the best value, at a limit on its pivots, or where one of its numbers passes 2^127 - 1 in absolute value.
+-- The run by Bland's rule (1977): of the variables that may enter, or leave, the least is taken. It stops with the best
+-- value, at a limit on its pivots, or where one of its numbers passes 2^127 - 1 in absolute value.
 use Rattle.std.specs.Prelude.{◌≡◌, ℕ, zero, suc, ◌+◌, ◌<◌, List, length, Bool, true, not, ◌&&◌, ◌||◌, cond, Option, Some, None}
-use Rattle.std.specs.Bool.{nat_eq}
-use Rattle.std.specs.Int.RustNames.{int_lt}
-use Rattle.std.specs.Ordering.{is_gt}
+use Rattle.std.specs.{Bool.nat_eq, Int.RustNames.int_lt, Ordering.is_gt}
 use lib.IntN.{pos}
-use Rattle.dd_fraction.specs.Exact.{Exact, times, minus, inverse}
-use Rattle.dd_fraction.specs.Order.{exact_cmp}
+use Rattle.dd_fraction.specs.{Exact.Exact, Exact.times, Exact.minus, Exact.inverse, Order.exact_cmp}
 use Rattle.dd_fraction.specs.Checked.{does_product_fit, does_sum_fit}
 use Rattle.dd_simplex.specs.declared.fault.SimplexFault.{SimplexFault}
-use Rattle.dd_simplex.specs.declared.fault.SimplexFault.TheVariants as fault
 use Rattle.dd_simplex.specs.Programs.{LinearProgram, fraction_at, zero_of, one_of}
 use Rattle.dd_simplex.specs.Dictionaries.{Dictionary, count, start_dictionary, pivoted, fraction_quotient, new_bound, new_entry}
+use Rattle.dd_simplex.specs.declared.fault.SimplexFault.TheVariants as fault
 
 abbrev pub is_over : Exact → Bool
 is_over a = int_lt (pos 0) a.num
@@ -52,35 +49,35 @@ may_leave n d e v =
 abbrev pub leaving : ℕ → Dictionary → ℕ → Option ℕ
 leaving n d e = first_below (may_leave n d e) n
 
--- the numbers of a quotient, and of `a - q · b`
+-- whether the numbers of a quotient, and of `a - q · b`, fit
 abbrev pub does_quotient_fit : Exact → Exact → Bool
 does_quotient_fit a b = does_product_fit a (inverse b)
 
 abbrev pub does_less_fit : Exact → Exact → Exact → Bool
 does_less_fit a q b = does_product_fit q b && does_sum_fit a (minus (times q b))
 
--- the numbers of the ratios
+-- whether the numbers of the ratios fit
 abbrev pub do_ratios_fit : ℕ → Dictionary → ℕ → Bool
 do_ratios_fit n d e = all_below (λ v. not (is_limiting d e v) || does_quotient_fit (d.bound v) (d.entry v e)) n
 
--- those of the entering variable's row: the quotient of 1 stands where the leaving variable comes to stand
+-- whether those of the entering variable's row fit; the quotient of 1 goes to the place of the leaving variable
 abbrev pub does_row_fit : ℕ → Dictionary → ℕ → ℕ → Bool
 does_row_fit n d e r =
     does_quotient_fit (d.bound r) (d.entry r e)
     && all_below (λ w. d.is_basic w || does_quotient_fit (cond (nat_eq w e) one_of (d.entry r w)) (d.entry r e)) n
 
--- those of the coefficients a of a line whose coefficient at e is q
+-- whether those of the coefficients a of a line fit, where q is its coefficient at e
 abbrev pub do_coefficients_fit : ℕ → Dictionary → ℕ → ℕ → Exact → (ℕ → Exact) → Bool
 do_coefficients_fit n d e r q a =
     all_below (λ w. d.is_basic w || cond (nat_eq w e) (does_product_fit q (new_entry d e r r)) (does_less_fit (a w) q (new_entry d e r w))) n
 
--- those of the other rows
+-- whether those of the other rows fit
 abbrev pub do_others_fit : ℕ → Dictionary → ℕ → ℕ → Bool
 do_others_fit n d e r =
     all_below (λ v. (not (d.is_basic v) || nat_eq v r)
     || (does_less_fit (d.bound v) (d.entry v e) (new_bound d e r) && do_coefficients_fit n d e r (d.entry v e) (d.entry v))) n
 
--- those of the objective
+-- whether those of the objective fit
 abbrev pub does_objective_fit : ℕ → Dictionary → ℕ → ℕ → Bool
 does_objective_fit n d e r =
     (does_product_fit (d.cost e) (new_bound d e r) && does_sum_fit d.value (times (d.cost e) (new_bound d e r)))
@@ -90,7 +87,7 @@ abbrev pub does_turn_fit : ℕ → Dictionary → ℕ → ℕ → Bool
 does_turn_fit n d e r =
     do_ratios_fit n d e && (does_row_fit n d e r && (do_others_fit n d e r && does_objective_fit n d e r))
 
--- how a run stops: at a dictionary with no cost over 0, by a number, at the limit, or since nothing limits what enters
+-- how a run stops: with no cost over 0, at a number that doesn't fit, at the limit, or since nothing limits what enters
 pub data Stop : Type 0 where
   Ends : Dictionary → Stop
   Overflows : Stop

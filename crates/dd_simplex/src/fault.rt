@@ -14,7 +14,7 @@ pub enum SimplexFault {
     /// The run needs more pivots than its limit.
     #[error("the simplex run passes its limit of pivots")]
     Pivots,
-    /// Memory was wanting.
+    /// Memory ran out.
     #[error("out of memory")]
     Memory,
 }

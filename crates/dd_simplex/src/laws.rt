@@ -3,20 +3,20 @@ ghost use Rattle.dd_simplex.specs.Laws.{HasOneStop, AreSoundDictionaries};
 
 use crate::program::Program;
 
-/// Does nothing; its contract is the law that a run stops in one way: it ends with one result, a number of it passes
-/// 2^127 - 1, or it comes to its limit of pivots.
+/// Does nothing; its contract says that a run stops in exactly one way: it ends with one result, one of its numbers
+/// passes 2^127 - 1, or it reaches its limit of pivots.
 pub fn one_stop(_program: &Program, _pivots: u32)
     ensures { HasOneStop _program.now _pivots }
 {
-    // Read for what its type keeps.
+    // This read brings in what the type guarantees.
     let _columns = _program.columns();
 }
 
-/// Does nothing; its contract is the law of the dictionaries on the way: their rows and objective are combinations of the
-/// program's rows, no bound falls below 0, and a variable always leaves, so that no run is unbounded.
+/// Does nothing; its contract is about the dictionaries of a run. Their rows and objective are combinations of the
+/// program's rows, no bound falls below 0, and a variable always leaves, so no run is unbounded.
 pub fn sound_pivots(_program: &Program)
     ensures { AreSoundDictionaries _program.now }
 {
-    // Read for what its type keeps.
+    // This read brings in what the type guarantees.
     let _columns = _program.columns();
 }

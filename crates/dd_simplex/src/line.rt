@@ -67,7 +67,7 @@ impl Line {
         self.take_multiple(e, pivot)
     }
 
-    /// Takes the solved line, times the cell at `e`, from the line.
+    /// Subtracts the solved line, times the cell at `e`, from the line.
     fn take_multiple(&mut self, e: usize, pivot: &Line) -> bool
         requires place { e < length self.old.cells }
         requires size { length self.old.cells ≡ length pivot.now.cells }
@@ -105,7 +105,8 @@ fn divide(cells: &mut [Fraction], by: &Fraction) -> bool
     true
 }
 
-/// Takes a multiple of the other cells from each cell. False where a number is too large; then some cells are changed.
+/// Subtracts `factor` times the other cells from the cells. False where a number is too large; then some cells are
+/// changed.
 pub fn subtract(cells: &mut [Fraction], factor: &Fraction, others: &[Fraction]) -> bool
     requires { length cells.old ≡ length others.now }
     ensures fits { result ≡ do_all_less_fit factor.now cells.old others.now }
@@ -123,8 +124,8 @@ pub fn subtract(cells: &mut [Fraction], factor: &Fraction, others: &[Fraction]) 
     true
 }
 
-/// Whether taking `factor` times `other` from the cell changes nothing, since one of the two is 0. The cell's numerator is
-/// read for its facts alone: the fraction is in lowest terms, with numbers that fit.
+/// Whether subtracting `factor` times `other` from the cell changes nothing, since one of the two is 0. The cell's
+/// numerator is read for its facts alone: the fraction is in lowest terms, with numbers that fit.
 fn is_idle(cell: &Fraction, factor: &Fraction, other: &Fraction) -> bool
     ensures { result ≡ true → IsIdle cell.now factor.now other.now }
 {

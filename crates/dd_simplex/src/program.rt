@@ -9,7 +9,7 @@ use dd_fraction::Fraction;
 use std::alloc::{AllocError, Global};
 use std::marker::Model;
 
-/// Fractions times the columns sum to at most the bound.
+/// A row: the sum of coefficient times column is at most the bound.
 #[derive(Debug, Drop)]
 pub struct Constraint {
     pub coefficients: Vec<Fraction>,
@@ -24,8 +24,7 @@ impl Model for Constraint {
     ghost view = { λ c. record { coefficients = c.coefficients.items; bound = c.bound } };
 }
 
-/// A linear program in columns of at least 0: column 0 is to be as large as possible. Its first row is "column 0 at most
-/// a cap".
+/// A linear program over columns of at least 0 that maximises column 0. Its first row is "column 0 at most a cap".
 #[derive(Debug, Drop)]
 pub struct Program {
     columns: u32,
@@ -43,10 +42,10 @@ impl Model for Program {
 }
 
 impl Program {
-    /// The program of at least one column whose one row is "column 0 at most `cap`", for a cap of at least 0.
+    /// The program whose one row is "column 0 at most `cap`". It has at least one column, and the cap is at least 0.
     ///
     /// # Errors
-    /// `AllocError` where memory was wanting.
+    /// `AllocError` if memory ran out.
     pub fn new(alloc: Global, columns: u32, cap: i64) -> Result<Program, AllocError>
         requires columns { 0 < columns }
         requires cap { pos 0 ≤ℤ cap }
@@ -69,7 +68,7 @@ impl Program {
     /// bound of at least 0.
     ///
     /// # Errors
-    /// `AllocError` where memory was wanting. The program is then as it was.
+    /// `AllocError` if memory ran out. The program is then unchanged.
     pub fn row(&mut self, coefficients: Vec<Fraction>, bound: Fraction) -> Result<(), AllocError>
         requires size { length coefficients.items ≡ self.old.columns }
         requires bound { IsNonneg bound }

@@ -1,4 +1,4 @@
-//! The run: turns by Bland's rule, until nothing enters.
+//! The run: pivots by Bland's rule until no variable enters.
 ghost use Rattle.std.specs.Prelude.{◌≡◌, IfOk, IfErr};
 ghost use Rattle.dd_simplex.specs.Programs.{IsBest};
 ghost use Rattle.dd_simplex.specs.Runs.{RunEnds, IsRunRefusal};
@@ -9,12 +9,13 @@ use crate::solution::{Solved, read_off};
 use crate::start::first_tableau;
 use std::alloc::{AllocError, Global};
 
-/// Maximises column 0 by Bland's rule (1977) in at most `pivots` pivots. The columns are at least 0 and meet each row, and
-/// no others give more: the duals have the same value.
+/// Maximises column 0 by Bland's rule (1977) in at most `pivots` pivots. The columns found are at least 0 and meet each
+/// row. No others give more, since the duals have the same value.
 ///
 /// # Errors
-/// `Overflow` exactly where a number of the run passes 2^127 - 1 in absolute value, `Pivots` exactly where the run is not
-/// at its end after that many pivots; or `Memory`.
+/// - `Overflow` exactly if a number of the run passes 2^127 - 1 in absolute value.
+/// - `Pivots` exactly if the run has not ended after that many pivots.
+/// - `Memory` if memory ran out.
 pub fn maximise(alloc: Global, program: &Program, pivots: u32) -> Result<Solved, SimplexFault>
     ensures ends { IfOk result (λ solved. RunEnds program.now pivots solved.value solved.columns solved.duals) }
     ensures best { IfOk result (λ solved. IsBest program.now solved.value solved.columns solved.duals) }

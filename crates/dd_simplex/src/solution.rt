@@ -9,8 +9,8 @@ use dd_fraction::Fraction;
 use dd_values::Items;
 use std::alloc::{AllocError, Global};
 
-/// The best columns of a program, their value, and duals of the same value: one for each row, of at least 0, whose
-/// multiples of the rows sum to at least 1 in column 0 and at least 0 in every other.
+/// The best columns of a program, their value, and duals of the same value. Each row has a dual of at least 0. The rows
+/// times their duals sum to at least 1 in column 0 and to at least 0 in every other.
 #[derive(Debug, Drop)]
 pub struct Solved {
     pub value: Fraction,
@@ -18,8 +18,8 @@ pub struct Solved {
     pub duals: Items<Fraction>,
 }
 
-/// What the tableau gives: a basic variable has its bound and each other one 0, and a slack's dual is its cost turned
-/// round.
+/// Reads the solution off the tableau. A basic variable has its bound as value, every other one 0. A row's dual is its
+/// slack's cost with the sign changed.
 pub fn read_off(alloc: Global, tableau: &Tableau, columns: usize) -> Result<Solved, AllocError>
     requires costs { length tableau.now.costs ≡ length tableau.now.others }
     requires others { (j : ℕ) → j < length tableau.now.others → other_at tableau.now.others j < columns + length tableau.now.lines }

@@ -16,7 +16,7 @@ use dd_fraction::Fraction;
 use std::cmp::Ordering;
 use std::marker::Model;
 
-/// The basic variables by lines, and the objective `value + sum of cost times variable`, in terms of the others.
+/// The lines of the basic variables and the objective `value + sum of cost times variable`, in terms of the others.
 #[derive(Drop)]
 pub struct Tableau {
     pub lines: Vec<Line>,
@@ -129,8 +129,8 @@ pub fn entering(costs: &[Fraction], others: &[usize]) -> Option<usize>
     chosen
 }
 
-/// The line with the least ratio of bound to cell at the place `e`, over the lines whose cell is over 0, and of equal
-/// ratios that of the least variable. Overflow where a number of a ratio is too large.
+/// Of the lines whose cell at `e` is over 0, the one with the least ratio of bound to cell, and of equal ratios the one
+/// with the least variable. Overflow where a number of a ratio is too large.
 pub fn leaving(lines: &[Line], e: usize) -> Result<Option<usize>, SimplexFault>
     requires sizes { All (λ (l : LineValue). e < length l.cells) lines.now }
     ensures line { MatchResult result

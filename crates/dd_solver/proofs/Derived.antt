@@ -1,18 +1,13 @@
--- The learned steps are a derivation, and a learned clause may be hinted at from then on.
+-- The learned steps are a derivation, and later steps may use a learned clause as a hint.
 use Rattle.std.proofs.Common.{◌≡◌, ℕ, suc, ◌+◌, Bool, true, ◌&&◌, List, [], ◌∷◌, ◌++◌, Option, Some, None, refl, ◌∙◌, subst, length, get_or, take, inl, inr, arith}
-use Rattle.std.proofs.lemmas.Bool.{and_parts, and_from, or_right, leb-true}
-use Rattle.std.proofs.lemmas.List.{length-append}
+use Rattle.std.proofs.lemmas.{Bool.and_parts, Bool.and_from, Bool.or_right, Bool.leb-true, List.length-append}
 use Rattle.std.proofs.lemmas.List.Elements.{All-cons, All-nil}
-use Rattle.dd_clause.specs.declared.clause.Literal.{Literal}
-use Rattle.dd_clause.specs.Clauses.{IsLiteralInRange, IsClauseInRange}
-use Rattle.dd_derivation.specs.declared.propagation.Finding.TheVariants.{Forced}
-use Rattle.dd_derivation.specs.declared.step.Step.{Step}
+use Rattle.dd_clause.specs.{declared.clause.Literal.Literal, Clauses.IsLiteralInRange, Clauses.IsClauseInRange}
+use Rattle.dd_derivation.specs.declared.{propagation.Finding.TheVariants.Forced, step.Step.Step}
 use Rattle.dd_derivation.specs.Derivations.{is_empty, is_among, finding, hint_finding, is_literal_in_range, is_proper, is_conflict, is_right, are_deletable, known_after, refutes_from}
-use Rattle.dd_trail.specs.declared.trail.Entry.{Entry}
-use Rattle.dd_trail.specs.Trails.{falses}
+use Rattle.dd_trail.specs.{declared.trail.Entry.Entry, Trails.falses}
 use Rattle.dd_solver.specs.searching.Reasons.{AreInRange, Follows, IsTrail}
-use Rattle.dd_solver.specs.searching.Analysis.{is_rightly_learned}
-use Rattle.dd_solver.specs.searching.Deleting.{MayDelete}
+use Rattle.dd_solver.specs.searching.{Analysis.is_rightly_learned, Deleting.MayDelete}
 use Rattle.dd_solver.specs.searching.Search.{after_step, known_through, is_derived}
 use Rattle.dd_solver.proofs.Forcing.{hint_clause, at_clause}
 use Rattle.dd_solver.proofs.Numbers.{Known, known_push, known_left, known_last, known_before, length-after}
@@ -25,7 +20,7 @@ pub length-through : (before : Known) (steps : List Step) → length (known_thro
 length-through before [] = omega arith
 length-through before (x ∷ steps) = length-through (after_step before x) steps ∙ omega (arith, length-after before x.deletes, length-append (known_after before x.deletes) (Some x.clause ∷ []))
 
--- the clause that forced an entry stays
+-- a step keeps the clauses that forced the trail's entries
 pub trail_after : (n : ℕ) (known : Known) (first : ℕ) (trail : List Entry) (s : Step) → IsTrail n known trail → MayDelete known first trail s.deletes → IsTrail n (after_step known s) trail
 trail_after n known first trail s ok m k d h =
     let e = ok k d h in
@@ -38,7 +33,7 @@ trail_after n known first trail s ok m k d h =
         let w = hint_clause known p r (Forced (get_or trail k d).literal) (λ x. cc) f in
         at_clause (after_step known s) p r w.0 (known_left (known_after known s.deletes) s.clause w.0 r (m.reasons_stay k r d h q ∙ w.1)) ∙ w.2
 
--- what the newest clause says
+-- the finding for the newest clause
 pub hint_new : (known : Known) (c : List Literal) (p : Literal → Bool) (r : ℕ) → r ≡ suc (length known) → hint_finding (known ++ Some c ∷ []) p r ≡ finding p c
 hint_new known c p r e = at_clause (known ++ Some c ∷ []) p r c (known_last known c r e)
 
@@ -60,7 +55,7 @@ right_from n known s r d =
     let q = and_parts (is_proper n s.clause) (is_conflict known s.clause s.hints) r in
     rw (q.0, q.1, d) refl
 
--- the steps with one more that the analysis made
+-- the learned steps and one more are a derivation
 pub derived_more : (n : ℕ) (before : Known) (steps : List Step) (s : Step) → is_derived n before steps ≡ true → is_right n (known_through before steps) s ≡ true → is_derived n before (steps ++ s ∷ []) ≡ true
 derived_more n before [] s h r = rw r refl
 derived_more n before (x ∷ steps) s h r =

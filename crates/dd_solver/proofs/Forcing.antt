@@ -1,11 +1,9 @@
 -- What a clause forces, in terms of its literals.
 use Rattle.std.proofs.Common.{◌≡◌, ℕ, Bool, true, false, cond, not, ◌&&◌, List, [], ◌∷◌, ◌++◌, Option, Some, None, refl, ap, sym, ◌∙◌, subst, inl, inr, ◌⊎◌}
-use Rattle.std.specs.List.{list_all}
-use Rattle.std.specs.Option.{option_map_or}
 use Rattle.std.proofs.lemmas.Bool.{cases_Bool, and_from, or_cases, or_left, or_right, false≢true}
 use Rattle.std.proofs.lemmas.List.Folds.{list_any-append}
-use Rattle.dd_clause.specs.declared.clause.Literal.{Literal}
-use Rattle.dd_clause.specs.Clauses.{negation}
+use Rattle.std.specs.{List.list_all, Option.option_map_or}
+use Rattle.dd_clause.specs.{declared.clause.Literal.Literal, Clauses.negation}
 use Rattle.dd_derivation.specs.declared.propagation.Finding.{Finding}
 use Rattle.dd_derivation.specs.declared.propagation.Finding.TheVariants.{Falsified, Forced, Open}
 use Rattle.dd_derivation.specs.Derivations.{same_literal, finding_of, finding, clause_of, hint_finding}
@@ -21,7 +19,7 @@ in_right xs ys x h = rw (list_any-append (same_literal x) xs ys) (or_right _ _ h
 pub in_cases : (xs ys : List Literal) (x : Literal) → In (xs ++ ys) x → (In xs x) ⊎ (In ys x)
 in_cases xs ys x h = or_cases _ _ (rw (list_any-append (same_literal x) xs ys) at h)
 
--- the one literal of a list
+-- the only literal of a list of one
 pub in_one : (x y : Literal) → In (y ∷ []) x → x ≡ y
 in_one x y h = elim (or_cases (same_literal x y) false h) [ inl a ↦ same_literal-eq x y a | inr a ↦ absurd (false≢true a) ]
 
@@ -33,7 +31,7 @@ falsified_empty p (l ∷ rest) h = absurd (go (list_all (same_literal l) rest &&
     go true h = cc
     go false h = cc
 
--- all literals of the clause are false just where it is falsified
+-- each literal of a falsified clause is false
 pub falsified_all : (p : Literal → Bool) (c : List Literal) → finding p c ≡ Falsified → (x : Literal) → In c x → p x ≡ true
 falsified_all p c h x i = elim (cases_Bool (p x)) [
   | inl t ↦ t
@@ -61,7 +59,7 @@ forced_from p c l f = go (left_of p c) (in_left_of p c l f.member f.not_false) (
         let s : list_all (same_literal l) rest ≡ true = all_same l rest (λ x j. a x (or_right _ _ j)) in
         rw (e, s, f.not_true) refl
 
--- what is said of a number is said of its clause
+-- what is found for a number is found for its clause
 pub hint_clause : (known : List (Option (List Literal))) (p : Literal → Bool) (r : ℕ) (f : Finding) → (f ≡ Open → ⊥) → hint_finding known p r ≡ f → (c : List Literal) × (clause_of known r ≡ Some c) × (finding p c ≡ f)
 hint_clause known p r f n h = go (clause_of known r) refl h
   where

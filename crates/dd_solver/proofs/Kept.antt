@@ -1,13 +1,10 @@
--- The marked steps of a refutation refute too. Each clause that a marked step hints at is marked or one of the list's,
--- so it is known under its new number when the hint is followed; and what is known there is the same clause.
+-- The marked steps of a refutation are a refutation too. A hint of a marked step names a clause of the list or of a
+-- marked step. So its new number is known where the hint is used, and names the same clause.
 use Rattle.std.proofs.Common.{◌≡◌, ℕ, suc, ◌<◌, ◌≤◌, Bool, true, false, cond, ◌&&◌, ◌||◌, List, [], ◌∷◌, ◌++◌, map, Option, Some, None, refl, ap, sym, ◌∙◌, subst, length, inl, inr, ◌⊎◌, arith}
-use Rattle.std.specs.List.{All}
-use Rattle.std.specs.Option.{option_map_or}
 use Rattle.std.proofs.lemmas.Bool.{and_parts, and_from, or_cases, or_left, or_right, false≢true, eqb-true, eq-eqb}
-use Rattle.std.proofs.lemmas.List.{length-append}
-use Rattle.std.proofs.lemmas.List.Elements.{All-nil, All-cons}
-use Rattle.dd_clause.specs.declared.clause.Literal.{Literal}
-use Rattle.dd_clause.specs.Clauses.{negation}
+use Rattle.std.proofs.lemmas.List.{length-append, Elements.All-nil, Elements.All-cons}
+use Rattle.std.specs.{List.All, Option.option_map_or}
+use Rattle.dd_clause.specs.{declared.clause.Literal.Literal, Clauses.negation}
 use Rattle.dd_derivation.specs.declared.propagation.Finding.{Finding}
 use Rattle.dd_derivation.specs.declared.propagation.Finding.TheVariants.{Falsified, Forced, Open}
 use Rattle.dd_derivation.specs.declared.step.Step.{Step}
@@ -20,7 +17,7 @@ is_empty-map : {X Y : Type 0} (f : X → Y) (xs : List X) → is_empty (map f xs
 is_empty-map f [] = refl
 is_empty-map f (x ∷ xs) = refl
 
--- the hints, under new numbers of the same clauses, end in the conflict that they ended in
+-- hints under new numbers of the same clauses end in the same conflict
 conflict_renamed : (old new : Known) (rename : ℕ → ℕ) (falses : List Literal) (hints : List ℕ) → ((h : ℕ) (x : List Literal) → is_hint h hints ≡ true → clause_of old h ≡ Some x → clause_of new (rename h) ≡ Some x) → is_conflict old falses hints ≡ true → is_conflict new falses (map rename hints) ≡ true
 conflict_renamed old new rename falses [] a h = h
 conflict_renamed old new rename falses (n ∷ hints) a h = go (λ l e. conflict_renamed old new rename (negation l ∷ falses) hints rest e) (clause_of old n) refl h
@@ -41,14 +38,13 @@ conflict_renamed old new rename falses (n ∷ hints) a h = go (λ l e. conflict_
         let s : clause_of new (rename n) ≡ Some x = a n x (or_left _ _ (eq-eqb n n refl)) e in
         rw s (next more (finding (is_among falses) x) f)
 
--- a later marked step hints at the clause of this number
+-- a marked step has this number as a hint
 abbrev pub hinted_by : ℕ → List Bool → List Step → Bool
 hinted_by number [] steps = false
 hinted_by number (m ∷ marked) [] = false
 hinted_by number (m ∷ marked) (s ∷ steps) = (m && is_hint number s.hints) || hinted_by number marked steps
 
--- What is known of the step of number `next` and of those after it, where the clauses that are kept before it have
--- numbers up to `last`.
+-- The facts about the step with the number `next` and the steps after it. The clauses kept before it have numbers up to `last`.
 pub record IsPlanned (keep : ℕ → Bool) (rename : ℕ → ℕ) (next last : ℕ) (m : Bool) (s : Step) (marked : List Bool) (steps : List Step) : Type 0 where
   pub same : keep next ≡ m
   pub number : m ≡ true → rename next ≡ suc last
@@ -61,7 +57,7 @@ Plan keep rename next last [] steps = Unit {0}
 Plan keep rename next last (m ∷ marked) [] = Unit {0}
 Plan keep rename next last (m ∷ marked) (s ∷ steps) = IsPlanned keep rename next last m s marked steps × Plan keep rename (suc next) (cond m (suc last) last) marked steps
 
--- what is kept is known under its new number
+-- each kept clause is known under its new number
 abbrev pub Agree : (ℕ → Bool) → (ℕ → ℕ) → Known → Known → Type 0
 Agree keep rename old new = (h : ℕ) (x : List Literal) → keep h ≡ true → clause_of old h ≡ Some x → clause_of new (rename h) ≡ Some x
 
@@ -94,7 +90,7 @@ right_kept n keep rename old new s k a r =
 abbrev after_step : Known → Step → Known
 after_step old s = known_after old s.deletes ++ Some s.clause ∷ []
 
--- what follows the last step is looked at, or there are more steps
+-- the kept steps refute the clauses
 pub refutes_kept : (n : ℕ) (keep : ℕ → Bool) (rename : ℕ → ℕ) (next last : ℕ) (marked : List Bool) (steps : List Step) (old new : Known) → length marked ≡ length steps → next ≡ suc (length old) → last ≡ length new → Plan keep rename next last marked steps → Agree keep rename old new → refutes_from n old steps ≡ true → refutes_from n new (kept_steps rename marked steps) ≡ true
 refutes_kept n keep rename next last [] [] old new l o w p a r = absurd (false≢true r)
 refutes_kept n keep rename next last [] (s ∷ steps) old new l o w p a r = absurd (omega arith)

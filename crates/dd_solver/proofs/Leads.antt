@@ -1,25 +1,23 @@
--- The walk along the trail: from the literals that may be false at a place, the hints so far lead to a conflict. At the
--- bottom these are the learned clause's, so the hints show that it follows. Whatever is kept or resolved, this stays.
+-- The walk along the trail. From the literals that may be false at a place, the hints so far lead to a conflict. At
+-- the bottom these are the learned clause's literals, so the hints show that it follows. It holds whatever is kept or
+-- resolved.
 use Rattle.std.proofs.Common.{◌≡◌, ℕ, ◌+◌, ◌<◌, ◌≤◌, Bool, true, false, not, ◌&&◌, List, [], ◌∷◌, ◌++◌, Option, Some, None, refl, ap, sym, ◌∙◌, subst, length, get_or, take, eqb, inl, inr, ◌⊎◌, arith}
-use Rattle.std.specs.Option.{MatchOption}
-use Rattle.std.specs.Bool.{⊤}
 use Rattle.std.proofs.lemmas.Bool.{and_parts, and_from, or_cases, or_left, or_right, not-true, false≢true, false_from_ne_true, cases_eq, le-leb, ne_eqb}
 use Rattle.std.proofs.lemmas.List.Folds.{list_any-append}
-use Rattle.dd_clause.specs.declared.clause.Literal.{Literal}
-use Rattle.dd_clause.specs.Clauses.{negation}
+use Rattle.std.specs.{Option.MatchOption, Bool.⊤}
+use Rattle.dd_clause.specs.{declared.clause.Literal.Literal, Clauses.negation}
 use Rattle.dd_derivation.specs.declared.propagation.Finding.TheVariants.{Falsified, Forced}
 use Rattle.dd_derivation.specs.Derivations.{same_literal, is_among, has_variable, clause_of, hint_finding, is_conflict, is_literal_in_range, is_proper}
 use Rattle.dd_derivation.specs.lemmas.Soundness.{same_literal-refl}
 use Rattle.dd_derivation.specs.lemmas.Findings.{In, in_here, Forces, forces_from}
-use Rattle.dd_trail.specs.declared.trail.Entry.{Entry}
-use Rattle.dd_trail.specs.Trails.{falses}
+use Rattle.dd_trail.specs.{declared.trail.Entry.Entry, Trails.falses}
+use Rattle.dd_trail.specs.lemmas.Trails.{falses-more, in_falses, in_falses_take, get_any}
 use Rattle.dd_solver.specs.searching.Reasons.{Follows, IsTrail}
 use Rattle.dd_solver.specs.searching.Analysis.{marks, Grows, AreMarked, IsMarkedClause}
 use Rattle.dd_solver.proofs.Forcing.{in_left, in_right, in_cases, in_one, falsified_all, all_falsified, forced_from, hint_clause, at_clause}
-use Rattle.dd_trail.specs.lemmas.Trails.{falses-more, in_falses, in_falses_take, get_any}
 use Rattle.dd_solver.proofs.Trails.{apart}
 
--- the literals that may be false where the hints behind place i begin
+-- the literals that may be false where the hints for the entries from place i on begin
 pub record Start (trail : List Entry) (i : ℕ) (marked : List Bool) (learned start : List Literal) : Type 0 where
   pub within : (x : Literal) → In start x → (In (falses (take i trail)) x) ⊎ (In learned x)
   pub learned_in : (x : Literal) → In learned x → In start x
@@ -30,7 +28,7 @@ abbrev pub Leads : List (Option (List Literal)) → List Entry → ℕ → List 
 Leads known trail i marked learned hints =
     (start : List Literal) → Start trail i marked learned start → is_conflict known start hints ≡ true
 
--- the learned literals are of entries from place i on
+-- the learned literals belong to entries from place i on
 abbrev pub AreFrom : List Entry → ℕ → List Literal → Type 0
 AreFrom trail i learned = (x : Literal) → In learned x → (k : ℕ) × (i ≤ k) × (k < length trail) × ((d : Entry) → negation (get_or trail k d).literal ≡ x)
 
@@ -55,7 +53,7 @@ leads_conflict known trail marked r h m start s =
 below_or_at : (k j : ℕ) → k < j + 1 → (k < j) ⊎ (k ≡ j)
 below_or_at k j h = elim (cases_eq k j) [ inl e ↦ inr e | inr n ↦ inl (omega arith) ]
 
--- an entry that is not marked
+-- the case of an entry that is not marked
 pub leads_past : (known : List (Option (List Literal))) (trail : List Entry) (j : ℕ) (d : Entry) (marked : List Bool) (learned : List Literal) (hints : List ℕ) → j < length trail → marks marked (get_or trail j d).literal ≡ false → Leads known trail (j + 1) marked learned hints → Leads known trail j marked learned hints
 leads_past known trail j d marked learned hints l u leads start s = leads start (record {
   within = λ x i. elim (s.within x i) [ inl a ↦ inl (rw (falses-more trail j d l) (in_left _ _ x a)) | inr a ↦ inr a ];
@@ -66,7 +64,7 @@ leads_past known trail j d marked learned hints l u leads start s = leads start 
   ];
 })
 
--- an entry whose literal is kept
+-- the case of an entry whose literal is kept
 pub leads_kept : (known : List (Option (List Literal))) (trail : List Entry) (j : ℕ) (d : Entry) (marked : List Bool) (learned : List Literal) (hints : List ℕ) → j < length trail → Leads known trail (j + 1) marked learned hints → Leads known trail j marked (learned ++ negation (get_or trail j d).literal ∷ []) hints
 leads_kept known trail j d marked learned hints l leads start s =
     let here : In (falses (take (j + 1) trail)) (negation (get_or trail j d).literal) = rw (falses-more trail j d l) (in_right (falses (take j trail)) _ _ (in_here [] (negation (get_or trail j d).literal))) in
@@ -87,7 +85,7 @@ leads_kept known trail j d marked learned hints l leads start s =
     })
 
 module _ (n : ℕ) (known : List (Option (List Literal))) (trail : List Entry) (ok : IsTrail n known trail) where
-  -- no literal of an entry's variable is among those that its hints begin with
+  -- the hints begin with no literal of an entry's variable
   new_variable : (j : ℕ) (d : Entry) (marked : List Bool) (learned start : List Literal) (x : Literal) → j < length trail → AreFrom trail (j + 1) learned → Start trail j marked learned start → x.variable ≡ (get_or trail j d).literal.variable → is_among start x ≡ false
   new_variable j d marked learned start x l later s v = false_from_ne_true (is_among start x) (λ i. elim (s.within x i) [
     | inl a ↦ (let w = in_falses_take trail j x (omega arith) a in
@@ -96,7 +94,7 @@ module _ (n : ℕ) (known : List (Option (List Literal))) (trail : List Entry) (
         apart n known trail ok j w.0 d (omega arith) w.2 (sym (ap (λ (y : Literal). y.variable) (w.3 d) ∙ v)))
   ])
 
-  -- an entry that is resolved with the clause that forced it
+  -- the case of an entry that is resolved with the clause that forced it
   pub leads_forced : (j : ℕ) (d : Entry) (marked marked' : List Bool) (learned : List Literal) (hints : List ℕ) (r : ℕ) → j < length trail → (get_or trail j d).reason ≡ Some r → AreFrom trail (j + 1) learned → Grows marked marked' → Covers known marked' r → Leads known trail (j + 1) marked learned hints → Leads known trail j marked' learned (r ∷ hints)
   leads_forced j d marked marked' learned hints r l reason later grows covers leads start s =
       let e = get_or trail j d in
@@ -127,7 +125,7 @@ module _ (n : ℕ) (known : List (Option (List Literal))) (trail : List Entry) (
         ];
       }))
 
-  -- a kept literal's variable is new to those kept before
+  -- a kept literal's variable differs from those kept before
   pub proper_more : (j : ℕ) (d : Entry) (learned : List Literal) → j < length trail → AreFrom trail (j + 1) learned → is_proper n learned ≡ true → is_proper n (learned ++ negation (get_or trail j d).literal ∷ []) ≡ true
   proper_more j d learned l later p =
       let r = (ok j d l).in_range in

@@ -1,33 +1,23 @@
--- What the moves of the search keep.
+-- What holds before and after each move of the search.
 use Rattle.std.proofs.Common.{◌≡◌, ℕ, zero, suc, ◌+◌, ◌<◌, ◌≤◌, Bool, true, false, not, List, [], ◌∷◌, ◌++◌, Option, Some, None, refl, ap, sym, ◌∙◌, subst, length, get_or, take, inl, inr, arith}
-use Rattle.std.specs.Prelude.{replicate}
-use Rattle.std.specs.List.{All, slice_get}
-use Rattle.std.specs.Option.{MatchOption, option_map_or}
 use Rattle.std.proofs.lemmas.Bool.{or_cases, and_parts, cases_lt, false≢true, true_from_ne_false, false_from_ne_true}
 use Rattle.std.proofs.lemmas.List.{length-append, length-replicate, append-nil}
-use Rattle.std.proofs.lemmas.List.Elements.{All-head, All-tail}
-use Rattle.std.proofs.lemmas.Option.{slice_get-get_or}
+use Rattle.std.proofs.lemmas.{List.Elements.All-head, List.Elements.All-tail, Option.slice_get-get_or}
+use Rattle.std.specs.{Prelude.replicate, List.All, List.slice_get, Option.MatchOption, Option.option_map_or}
 use Rattle.dd_clause.specs.declared.clause.Literal.{Literal}
 use Rattle.dd_clause.specs.Clauses.{IsLiteralInRange, IsClauseInRange, is_true_under, is_clause_true, Satisfies}
 use Rattle.dd_values.specs.Variables.{true_variables}
 use Rattle.dd_derivation.specs.declared.propagation.Finding.TheVariants.{Falsified, Forced, Open}
 use Rattle.dd_derivation.specs.declared.step.Step.{Step}
 use Rattle.dd_derivation.specs.Derivations.{same_literal, is_among, has_variable, is_proper, is_conflict, hint_finding, finding, clause_of, clauses_before, are_deletable, known_after}
-use Rattle.dd_derivation.specs.checking.MarksOf.{known_of}
-use Rattle.dd_derivation.specs.lemmas.Soundness.{same_literal-eq, all_false}
-use Rattle.dd_derivation.specs.lemmas.Falses.{same_variable}
-use Rattle.dd_derivation.specs.lemmas.Findings.{In, forces_from}
-use Rattle.dd_trail.specs.declared.trail.Entry.{Entry}
+use Rattle.dd_derivation.specs.{checking.MarksOf.known_of, lemmas.Soundness.same_literal-eq, lemmas.Soundness.all_false}
+use Rattle.dd_derivation.specs.lemmas.{Falses.same_variable, Findings.In, Findings.forces_from, Numbers.length-before}
+use Rattle.dd_trail.specs.{declared.trail.Entry.Entry, Trails.falses, lemmas.Trails.in-has_variable}
 use Rattle.dd_solver.specs.declared.analysis.Turn.{Turn}
-use Rattle.dd_trail.specs.Trails.{falses}
 use Rattle.dd_solver.specs.searching.Reasons.{all_known, AreInRange, EntryOk}
-use Rattle.dd_solver.specs.searching.Analysis.{is_rightly_learned, Asserts}
-use Rattle.dd_solver.specs.searching.Deleting.{MayDelete}
+use Rattle.dd_solver.specs.searching.{Analysis.is_rightly_learned, Analysis.Asserts, Deleting.MayDelete}
 use Rattle.dd_solver.specs.searching.Search.{State, after_step, known_through, known, IsSearch, AreAlive, AreOpen, GoesOn}
-use Rattle.dd_solver.proofs.Forcing.{all_falsified, hint_clause, at_clause}
-use Rattle.dd_trail.specs.lemmas.Trails.{in-has_variable}
-use Rattle.dd_solver.proofs.Trails.{trail_push, trail_front}
-use Rattle.dd_derivation.specs.lemmas.Numbers.{length-before}
+use Rattle.dd_solver.proofs.{Forcing.all_falsified, Forcing.hint_clause, Forcing.at_clause, Trails.trail_push, Trails.trail_front}
 use Rattle.dd_solver.proofs.Numbers.{Known, known_left, known_within, past_none, in_list, length-all, holds_of_clause, before-more, known_of-push, all_alive, after_push, length-after}
 use Rattle.dd_solver.proofs.Derived.{through_more, length-through, trail_after, hint_new, in_range_after, right_from, derived_more, refutes_last}
 
@@ -38,7 +28,7 @@ all_in P (y ∷ c) x a i = elim (or_cases (same_literal x y) (is_among c x) i) [
   | inr j ↦ all_in P c x (All-tail P y c a) j
 ]
 
--- a forced literal is in range, and its variable is none of the false literals'
+-- a forced literal is in range, and no false literal has its variable
 pub forced_in_range : (known : Known) (n : ℕ) (p : Literal → Bool) (r : ℕ) (l : Literal) → AreInRange n known → hint_finding known p r ≡ Forced l → IsLiteralInRange n l
 forced_in_range known n p r l a h =
     let q = hint_clause known p r (Forced l) (λ e. cc) h in
@@ -54,7 +44,7 @@ forced_new known xs r l h = false_from_ne_true _ (λ t.
       | inr e ↦ false≢true (sym f.not_true ∙ subst (In xs) e w.1)
     ])
 
--- a number without a clause says nothing
+-- a number without a clause falsifies nothing and forces nothing
 pub all_open : (known : Known) (p : Literal → Bool) → ((r : ℕ) → 0 < r → r ≤ length known → hint_finding known p r ≡ Open) → (r : ℕ) → hint_finding known p r ≡ Open
 all_open known p h zero = refl
 all_open known p h (suc k) = elim (cases_lt (length known) (suc k)) [
@@ -76,7 +66,7 @@ module _ (n : ℕ) (cs : List (List Literal)) (steps : List Step) (trail : List 
   pub search_front : (p : ℕ) → IsSearch (record { variables = n; clauses = cs; steps = steps; entries = take p trail })
   search_front p = record { in_range = s.in_range; given = s.given; trail = trail_front n (known_through (all_known cs) steps) trail p s.trail; derived = s.derived }
 
-  -- a step that is learned, and deletes what it may
+  -- the search after a learned step that deletes only what it may
   pub search_learned : (t : Step) → is_rightly_learned n (known_through (all_known cs) steps) t.clause t.hints ≡ true → MayDelete (known_through (all_known cs) steps) (length cs) trail t.deletes → IsSearch (record { variables = n; clauses = cs; steps = steps ++ t ∷ []; entries = trail })
   search_learned t r m =
       let before = known_through (all_known cs) steps in
@@ -90,7 +80,7 @@ module _ (n : ℕ) (cs : List (List Literal)) (steps : List Step) (trail : List 
         derived = derived_more n (all_known cs) steps t s.derived (right_from n before t r m.deletable);
       }
 
-  -- what the new step gives
+  -- the new step forces a literal, or the steps refute the clauses
   pub goes_on : (t : Step) (turn : Option Turn) → is_rightly_learned n (known_through (all_known cs) steps) t.clause t.hints ≡ true → MayDelete (known_through (all_known cs) steps) (length cs) trail t.deletes → MatchOption turn (t.clause ≡ []) (Asserts trail t.clause) → GoesOn (record { variables = n; clauses = cs; steps = steps ++ t ∷ []; entries = trail }) turn
   goes_on t None r m e = refutes_last n (all_known cs) steps t s.derived (right_from n (known_through (all_known cs) steps) t r m.deletable) e
   goes_on t (Some u) r m e =
@@ -117,7 +107,7 @@ alive_first cs alive e = record {
   same = rw (append-nil cs, e) (all_alive cs);
 }
 
--- the step's clause is alive, and what it deletes is not
+-- the step's clause is alive, and the clauses that it deletes are not
 pub alive_more : (cs : List (List Literal)) (steps : List Step) (alive after : List Bool) (s : Step) → AreAlive cs steps alive → length after ≡ length alive + 1 → ((xs : List (List Literal)) → known_of xs after ≡ known_after (known_of xs (alive ++ true ∷ [])) s.deletes) → are_deletable (known_through (all_known cs) steps) s.deletes ≡ true → AreAlive cs (steps ++ s ∷ []) after
 alive_more cs steps alive after s ok l a d =
     let before = clauses_before cs steps in
@@ -150,7 +140,7 @@ values_satisfy s values ok open' full value k d h =
     turned true h = refl
     turned false h = absurd (false≢true (sym h))
 
-    -- a literal that is not true is false, where its variable has a value
+    -- a literal that is not true is false, if its variable has a value
     denied : (b : Bool) (v : ℕ) → has_variable v (falses s.entries) ≡ true → true_variables values v ≡ is_among (falses s.entries) (record { variable = v; positive = false }) → is_true_under (true_variables values) (record { variable = v; positive = b }) ≡ false → is_among (falses s.entries) (record { variable = v; positive = b }) ≡ true
     denied false v h e f = sym e ∙ turned (true_variables values v) f
     denied true v h e f =

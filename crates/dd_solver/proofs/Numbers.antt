@@ -1,11 +1,9 @@
 -- The clauses by number.
 use Rattle.std.proofs.Common.{◌≡◌, ℕ, zero, suc, ◌<◌, Bool, true, cond, List, [], ◌∷◌, ◌++◌, map, Option, Some, None, is_some, refl, ap, sym, ◌∙◌, subst, length, inl, inr, ◌⊎◌, arith}
-use Rattle.std.specs.Prelude.{replicate}
-use Rattle.std.specs.List.{slice_get, slice_set, All}
-use Rattle.std.specs.Option.{option_and_then}
 use Rattle.std.proofs.lemmas.Bool.{and_parts, and_from, false≢true}
 use Rattle.std.proofs.lemmas.List.{map-append, append_assoc}
 use Rattle.std.proofs.lemmas.Option.{slice_get_within, get_or_from_slice_get}
+use Rattle.std.specs.{Prelude.replicate, List.slice_get, List.slice_set, List.All, Option.option_and_then}
 use Rattle.dd_clause.specs.declared.clause.Literal.{Literal}
 use Rattle.dd_derivation.specs.declared.step.Step.{Step}
 use Rattle.dd_derivation.specs.Derivations.{clause_of, without, are_deletable, known_after, clauses_before}
@@ -15,7 +13,7 @@ use Rattle.dd_solver.specs.searching.Reasons.{all_known}
 abbrev pub Known : Type 0
 Known = List (Option (List Literal))
 
--- a clause that is known, by its place
+-- a known clause, by its place
 
 abbrev at : Known → ℕ → Option (List Literal)
 at known k = option_and_then (λ c. c) (slice_get known k)
@@ -47,7 +45,7 @@ less_at (o ∷ known) x zero (suc k) h = h
 less_at (o ∷ known) x (suc d) zero h = h
 less_at (o ∷ known) x (suc d) (suc k) h = less_at known x d k h
 
--- and by its number
+-- a known clause, by its number
 
 pub known_push : (known : Known) (c x : List Literal) (h : ℕ) → clause_of (known ++ Some c ∷ []) h ≡ Some x → (clause_of known h ≡ Some x) ⊎ ((h ≡ suc (length known)) × (c ≡ x))
 known_push known c x zero e = absurd (cc)
@@ -86,7 +84,7 @@ length-after known (d ∷ ds) = length-after (without known d) ds ∙ one d
     one zero = refl
     one (suc d) = length-set known d
 
--- no clause is of a number that is past them
+-- a number past the last one has no clause
 pub past_none : (known : Known) (h : ℕ) → length known < h → clause_of known h ≡ None
 past_none known h l = go (clause_of known h) refl
   where
@@ -108,14 +106,14 @@ pub length-all : (cs : List (List Literal)) → length (all_known cs) ≡ length
 length-all [] = refl
 length-all (c ∷ cs) = ap suc (length-all cs)
 
--- what holds of each clause holds of the one of a number
+-- what holds for each clause holds for the clause with a number
 pub holds_of_clause : (P : List Literal → Type 0) (cs : List (List Literal)) (n : ℕ) (c : List Literal) → All P cs → clause_of (all_known cs) n ≡ Some c → P c
 holds_of_clause P cs zero c a h = absurd (cc)
 holds_of_clause P cs (suc k) c a h =
     let g : slice_get cs k ≡ Some c = sym (all_at cs k) ∙ h in
     subst P (get_or_from_slice_get cs k c c g) (a k c (slice_get_within cs k c g))
 
--- those that are alive
+-- the clauses that are alive
 
 pub before-more : (cs : List (List Literal)) (steps : List Step) (s : Step) → clauses_before cs (steps ++ s ∷ []) ≡ clauses_before cs steps ++ s.clause ∷ []
 before-more cs steps s = ap (λ (ys : List (List Literal)). cs ++ ys) (map-append (λ x. x.clause) steps (s ∷ [])) ∙ sym (append_assoc cs (map (λ x. x.clause) steps) (s.clause ∷ []))
@@ -130,7 +128,7 @@ pub all_alive : (cs : List (List Literal)) → known_of cs (replicate (length cs
 all_alive [] = refl
 all_alive (c ∷ cs) = ap (λ (ys : Known). Some c ∷ ys) (all_alive cs)
 
--- deletion, one number more or one clause more
+-- deletion, with one more number or one more clause
 
 some_set : (known : Known) (o : Option (List Literal)) (k : ℕ) → is_some (at known k) ≡ true → slice_set (known ++ o ∷ []) k None ≡ slice_set known k None ++ o ∷ []
 some_set [] o k h = absurd (false≢true h)

@@ -1,18 +1,16 @@
--- What the walk marked, and the numbers that it gave, is all that the steps' refutation needs.
+-- The marks and the new numbers are all that the refutation by the marked steps needs.
 use Rattle.std.proofs.Common.{◌≡◌, ℕ, zero, suc, ◌+◌, ◌-◌, ◌<◌, Bool, true, false, cond, ◌||◌, List, [], ◌∷◌, refl, ap, sym, ◌∙◌, subst, length, get_or, drop, leb, inl, inr, ◌⊎◌, arith}
 use Rattle.std.proofs.lemmas.Bool.{or_left, or_right, and_from, false≢true, le-leb, lt-leb, cases_lt}
 use Rattle.std.proofs.lemmas.List.{get_or-drop, length-drop}
 use Rattle.dd_clause.specs.declared.clause.Literal.{Literal}
-use Rattle.dd_derivation.specs.declared.step.Step.{Step}
-use Rattle.dd_derivation.specs.Derivations.{is_empty, refutes}
-use Rattle.dd_solver.specs.searching.Reasons.{all_known}
-use Rattle.dd_solver.specs.Trimming.{is_hint, are_used}
+use Rattle.dd_derivation.specs.{declared.step.Step.Step, Derivations.is_empty, Derivations.refutes}
+use Rattle.dd_solver.specs.{searching.Reasons.all_known, Trimming.is_hint, Trimming.are_used}
 use Rattle.dd_solver.specs.searching.Marking.{IsNeeded, IsMarking, numbers_from, renamed, kept_steps}
 use Rattle.dd_trail.specs.lemmas.Trails.{get_any}
 use Rattle.dd_solver.proofs.Kept.{Agree, hinted_by, IsPlanned, Plan, refutes_kept, used_kept}
 use Rattle.dd_solver.proofs.Numbers.{known_within, length-all}
 
--- the same by places
+-- `IsPlanned`, stated by places
 record Facts (keep : ℕ → Bool) (rename : ℕ → ℕ) (next last : ℕ) (marked : List Bool) (steps : List Step) : Type 0 where
   same : (k : ℕ) → k < length marked → keep (next + k) ≡ get_or marked k false
   number : (k : ℕ) → k < length marked → rename (next + k) ≡ get_or (numbers_from last marked) k 0

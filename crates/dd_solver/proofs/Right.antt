@@ -1,6 +1,6 @@
--- An answer that is right comes exactly where it should.
-use Rattle.std.proofs.Common.{ℕ, List, Result, Ok, Err}
-use Rattle.std.specs.Prelude.{◌↔◌, IfOk}
+-- The search finds an assignment exactly if there is one, and a refutation exactly if there is none.
+use Rattle.std.proofs.Common.{ℕ, List}
+use Rattle.std.specs.Prelude.{◌↔◌}
 use Rattle.dd_clause.specs.declared.clause.Literal.{Literal}
 use Rattle.dd_values.specs.Variables.{true_variables}
 use Rattle.dd_derivation.specs.declared.step.Outcome.{Outcome}
@@ -15,11 +15,3 @@ found_right n clauses (Refuted steps) a = (λ f. absurd f, λ s. refutes_sound n
 pub refuted_right : (n : ℕ) (clauses : List (List Literal)) (o : Outcome) → IsAnswer n clauses o → IsRefuted o ↔ ¬ (IsSatisfiable clauses)
 refuted_right n clauses (Found values) a = (λ f. absurd f, λ u. u (true_variables values, a.1))
 refuted_right n clauses (Refuted steps) a = (λ f. λ s. refutes_sound n clauses steps a s.0 s.1, λ u. tt)
-
-pub if_ok : {A E : Type 0} (r : Result A E) (P Q : A → Type 0) → ((a : A) → P a → Q a) → IfOk r P → IfOk r Q
-if_ok (Ok a) P Q f h = f a h
-if_ok (Err e) P Q f h = h
-
-pub if_ok_both : {A E : Type 0} (r : Result A E) (P Q R : A → Type 0) → ((a : A) → P a → Q a → R a) → IfOk r P → IfOk r Q → IfOk r R
-if_ok_both (Ok a) P Q R f h k = f a h k
-if_ok_both (Err e) P Q R f h k = h

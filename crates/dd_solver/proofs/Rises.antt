@@ -1,8 +1,7 @@
 -- The search ends: the trail's number is below 3 ^ n, and rises at each propagation, decision and return.
 use Rattle.std.proofs.Common.{◌≡◌, ℕ, zero, suc, ◌-◌, ◌*◌, ◌^◌, ◌<◌, Bool, true, false, List, [], ◌∷◌, ◌++◌, length, refl, sym, arith, take, drop, get_or, take-append-drop, drop-cons, ap, ◌∙◌}
+use Rattle.std.proofs.{lemmas.List.map-append, Math.Nat.pow-succ'}
 use Rattle.std.specs.Option.{is_none}
-use Rattle.std.proofs.lemmas.List.{map-append}
-use Rattle.std.proofs.Math.Nat.{pow-succ'}
 use Rattle.dd_trail.specs.declared.trail.Entry.{Entry}
 use Rattle.dd_solver.specs.searching.Search.{trail_number, decisions}
 
@@ -20,7 +19,7 @@ number_below zero (d ∷ ds) = omega arith
 number_below (suc n) (true ∷ ds) = rw (three n) (omega (arith, number_below n ds))
 number_below (suc n) (false ∷ ds) = rw (three n) (omega (arith, number_below n ds))
 
--- one place more
+-- the number rises with one place more
 number_rises : (n : ℕ) (ds : List Bool) (d : Bool) → length ds < n → trail_number n ds < trail_number n (ds ++ d ∷ [])
 unfolding trail_number
 number_rises zero ds d h = absurd (omega arith)
@@ -28,7 +27,7 @@ number_rises (suc n) [] true h = omega (arith, positive n)
 number_rises (suc n) [] false h = omega (arith, positive n)
 number_rises (suc n) (x ∷ ds) d h = omega (arith, number_rises n ds d (omega arith))
 
--- a decided place becomes a propagated one, and what follows it is let go
+-- the number rises if a decided place becomes a propagated one and the places after it are dropped
 number_rises-return : (n : ℕ) (ds es : List Bool) → length ds < n → trail_number n (ds ++ true ∷ es) < trail_number n (ds ++ false ∷ [])
 unfolding trail_number
 number_rises-return zero ds es h = absurd (omega arith)

@@ -1,10 +1,10 @@
--- The numbers that are taken one after another, to be deleted.
+-- The numbers of the clauses to be deleted, taken one after another.
 use Rattle.std.proofs.Common.{◌≡◌, ℕ, ◌+◌, ◌<◌, ◌≤◌, Bool, true, false, List, [], ◌∷◌, ◌++◌, is_some, ap, sym, ◌∙◌, get_or, arith}
 use Rattle.std.proofs.lemmas.Bool.{false≢true}
 use Rattle.dd_derivation.specs.Derivations.{clause_of, are_deletable, known_after}
 use Rattle.dd_solver.proofs.Numbers.{Known, after_more, deletable_more, other_number}
 
--- of the numbers before a place, no first ones and none but chosen ones
+-- the numbers taken before a place are chosen ones, and none of the first
 pub record Taken (known : Known) (first place : ℕ) (chosen : List Bool) (deletes : List ℕ) : Type 0 where
   pub deletable : are_deletable known deletes ≡ true
   pub first_stay : (h : ℕ) → h ≤ first → clause_of (known_after known deletes) h ≡ clause_of known h

@@ -1,17 +1,15 @@
--- A trail whose literals were decided or are forced: it stays one where an entry is added, or where it is cut.
+-- A trail whose literals were decided or are forced. It stays one if an entry is added or the trail is cut.
 use Rattle.std.proofs.Common.{◌≡◌, ℕ, ◌<◌, true, List, [], ◌∷◌, ◌++◌, Option, sym, ◌∙◌, subst, length, get_or, take, inl, inr, arith}
 use Rattle.std.proofs.lemmas.Bool.{cases_eq, false≢true}
 use Rattle.std.proofs.lemmas.List.{take-append-le, length-append, length-take, get_or-take, get_or_append_left}
 use Rattle.std.proofs.Math.Seq.{get_or-append_seam, take-append_seam}
-use Rattle.dd_clause.specs.declared.clause.Literal.{Literal}
-use Rattle.dd_clause.specs.Clauses.{negation}
+use Rattle.dd_clause.specs.{declared.clause.Literal.Literal, Clauses.negation}
 use Rattle.dd_derivation.specs.Derivations.{has_variable}
-use Rattle.dd_trail.specs.declared.trail.Entry.{Entry}
-use Rattle.dd_trail.specs.Trails.{falses}
+use Rattle.dd_trail.specs.{declared.trail.Entry.Entry, Trails.falses}
 use Rattle.dd_trail.specs.lemmas.Trails.{has_variable-in, at_falses_take, take_shorter}
 use Rattle.dd_solver.specs.searching.Reasons.{EntryOk, IsTrail}
 
--- no two entries have one variable
+-- no two entries have the same variable
 pub apart : (n : ℕ) (known : List (Option (List Literal))) (trail : List Entry) → IsTrail n known trail → (j k : ℕ) (d : Entry) → j < k → k < length trail → (get_or trail j d).literal.variable ≡ (get_or trail k d).literal.variable → ⊥
 apart n known trail ok j k d h l e =
     let e' = ok k d l in

@@ -1,23 +1,16 @@
--- The turn: what was kept first is forced before the turn's decision, since all that was kept later stands before it.
+-- The turn. The literal kept first is forced before the turn's decision, since those kept later come before that decision.
 use Rattle.std.proofs.Common.{◌≡◌, ℕ, ◌+◌, ◌<◌, ◌≤◌, Bool, true, false, List, [], ◌∷◌, ◌++◌, Option, Some, None, refl, ap, sym, ◌∙◌, subst, length, get_or, take, inl, inr, ◌⊎◌, arith}
-use Rattle.std.specs.Option.{MatchOption}
 use Rattle.std.proofs.lemmas.Bool.{false≢true, false_from_ne_true, cases_lt}
-use Rattle.dd_clause.specs.declared.clause.Literal.{Literal}
-use Rattle.dd_clause.specs.Clauses.{negation}
-use Rattle.dd_derivation.specs.Derivations.{is_among}
-use Rattle.dd_derivation.specs.lemmas.Findings.{In, in_here}
-use Rattle.dd_trail.specs.declared.trail.Entry.{Entry}
-use Rattle.dd_solver.specs.declared.analysis.Turn.{Turn}
-use Rattle.dd_solver.specs.declared.analysis.Choice.TheVariants.{Keep}
-use Rattle.dd_trail.specs.Trails.{falses}
-use Rattle.dd_solver.specs.searching.Reasons.{IsTrail}
+use Rattle.std.specs.Option.{MatchOption}
+use Rattle.dd_clause.specs.{declared.clause.Literal.Literal, Clauses.negation}
+use Rattle.dd_derivation.specs.{Derivations.is_among, lemmas.Findings.In, lemmas.Findings.in_here}
+use Rattle.dd_trail.specs.{declared.trail.Entry.Entry, Trails.falses, lemmas.Trails.in_falses_take, lemmas.Trails.at_falses_take}
+use Rattle.dd_solver.specs.{declared.analysis.Turn.Turn, declared.analysis.Choice.TheVariants.Keep, searching.Reasons.IsTrail}
 use Rattle.dd_solver.specs.searching.Analysis.{marks, ChoiceSays, Asserts}
-use Rattle.dd_solver.proofs.Forcing.{in_left, in_cases, in_one, forced_from}
-use Rattle.dd_trail.specs.lemmas.Trails.{in_falses_take, at_falses_take}
-use Rattle.dd_solver.proofs.Trails.{apart}
+use Rattle.dd_solver.proofs.{Forcing.in_left, Forcing.in_cases, Forcing.in_one, Forcing.forced_from, Trails.apart}
 
--- the turn's literal is of an entry at or above its place, the others are false before it, and nothing is marked from
--- its place up to place i
+-- The turn's literal belongs to an entry at or above its place. The others are false before that place. Nothing is
+-- marked from there up to place i.
 pub record TurnOk (trail : List Entry) (i : ℕ) (marked : List Bool) (learned : List Literal) (t : Turn) : Type 0 where
   pub top : (u : ℕ) × (t.place ≤ u) × (u < length trail) × ((d : Entry) → t.literal ≡ negation (get_or trail u d).literal)
   pub decided : (d : Entry) → (get_or trail t.place d).reason ≡ None
@@ -25,7 +18,7 @@ pub record TurnOk (trail : List Entry) (i : ℕ) (marked : List Bool) (learned :
   pub others : (x : Literal) → In learned x → (x ≡ t.literal) ⊎ (In (falses (take t.place trail)) x)
   pub between : (k : ℕ) (d : Entry) → t.place ≤ k → k < i → marks marked (get_or trail k d).literal ≡ false
 
--- without a turn nothing was kept
+-- if there is no turn, nothing was kept
 abbrev pub TurnIs : List Entry → ℕ → List Bool → List Literal → Option Turn → Type 0
 TurnIs trail i marked learned turn = MatchOption turn (learned ≡ []) (TurnOk trail i marked learned)
 

@@ -1,17 +1,12 @@
--- What the walk along the trail keeps at each place.
+-- The invariant of the walk along the trail.
 use Rattle.std.proofs.Common.{◌≡◌, ℕ, ◌+◌, ◌<◌, Bool, true, false, List, [], ◌∷◌, ◌++◌, reverse, Option, Some, None, refl, sym, subst, length, get_or}
+use Rattle.std.proofs.lemmas.{Bool.false≢true, List.reverse-append}
 use Rattle.std.specs.Option.{MatchOption}
-use Rattle.std.proofs.lemmas.Bool.{false≢true}
-use Rattle.std.proofs.lemmas.List.{reverse-append}
-use Rattle.dd_clause.specs.declared.clause.Literal.{Literal}
-use Rattle.dd_clause.specs.Clauses.{negation}
+use Rattle.dd_clause.specs.{declared.clause.Literal.Literal, Clauses.negation}
 use Rattle.dd_derivation.specs.declared.propagation.Finding.TheVariants.{Falsified}
 use Rattle.dd_derivation.specs.Derivations.{is_among, hint_finding, is_proper}
-use Rattle.dd_trail.specs.declared.trail.Entry.{Entry}
-use Rattle.dd_solver.specs.declared.analysis.Turn.{Turn}
-use Rattle.dd_solver.specs.declared.analysis.Choice.TheVariants.{Keep}
-use Rattle.dd_trail.specs.Trails.{falses}
-use Rattle.dd_solver.specs.searching.Reasons.{IsTrail}
+use Rattle.dd_trail.specs.{declared.trail.Entry.Entry, Trails.falses}
+use Rattle.dd_solver.specs.{declared.analysis.Turn.Turn, declared.analysis.Choice.TheVariants.Keep, searching.Reasons.IsTrail}
 use Rattle.dd_solver.specs.searching.Analysis.{marks, Grows, IsMarkedClause, ChoiceSays, Asserts}
 use Rattle.dd_solver.proofs.Leads.{Leads, AreFrom, covers_from, leads_conflict, leads_past, leads_kept, leads_forced, proper_more, later_more, later_past}
 use Rattle.dd_solver.proofs.Turns.{TurnIs, turn_past, turn_resolved, turn_kept, turn_asserts}

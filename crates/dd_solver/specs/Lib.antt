@@ -1,6 +1,6 @@
--- what it is for an answer to be right
+-- when an answer is right
 pub mod Answers
--- what it is for each step of a refutation to be used
+-- when each step of a refutation is used
 pub mod Trimming
 -- the state of the search and its parts
 pub mod searching

@@ -1,8 +1,8 @@
-//! The clause that is learned from a conflict: that of the first unique implication point (Marques-Silva and Sakallah
-//! 1999). The trail is walked down from the conflict. An entry whose variable is marked is resolved with the clause that
-//! forced it, whose variables are marked in turn, or it is kept: its negation goes into the learned clause. Whatever is
-//! kept, the resolved clauses' numbers are hints that show that the learned clause follows; so what is best to keep is
-//! not said in any contract.
+//! The clause learned from a conflict: that of the first unique implication point (Marques-Silva and Sakallah 1999).
+//! The trail is walked down from the conflict. An entry whose variable is marked is resolved or kept. If it is
+//! resolved, the variables of the clause that forced it are marked too. If it is kept, its negation goes into the
+//! learned clause. Either way the numbers of the resolved clauses are hints that show that the learned clause
+//! follows. So no contract says what is best to keep.
 ghost use Rattle.std.specs.Prelude.{◌≡◌, ℕ, ◌<◌, ◌≤◌, true, [], length, IfOk, MatchOption, slice_index_or, ⊤};
 ghost use Rattle.dd_clause.specs.Clauses.{IsLiteralInRange, IsClauseInRange};
 ghost use Rattle.dd_derivation.specs.declared.propagation.Finding.TheVariants.{Falsified};
@@ -23,7 +23,7 @@ pub struct Turn {
     pub literal: Literal,
 }
 
-/// The literals of the learned clause, and the clauses that it follows by. There is no turn where it is empty.
+/// The literals of the learned clause, and its hints. An empty clause has no turn.
 #[derive(Drop)]
 pub struct Learned {
     pub literals: Vec<Literal>,
@@ -31,8 +31,7 @@ pub struct Learned {
     pub turn: Option<Turn>,
 }
 
-/// What is to be done with an entry: to resolve it with the clause of this number, or to keep it. What is kept first
-/// makes the turn.
+/// What to do with an entry: resolve it with the clause with this number, or keep it. The first one kept makes the turn.
 #[derive(Clone, Copy)]
 pub enum Choice {
     Resolve(u64),
@@ -44,7 +43,7 @@ fn is_marked(marked: &[bool], literal: Literal) -> bool {
     variable >= 1 && variable <= marked.len() && marked[variable - 1]
 }
 
-/// Marks the variables of the literals. Counts those that were not marked and have their values since the last decision.
+/// Marks the variables of the literals. Counts the newly marked ones that got their values since the last decision.
 fn mark_literals(trail: &Trail, marked: &mut [bool], literals: &[Literal]) -> usize
     requires { IsClauseInRange (length marked.old) literals.now }
     ensures grows { Grows marked.old marked.new }
@@ -60,7 +59,7 @@ fn mark_literals(trail: &Trail, marked: &mut [bool], literals: &[Literal]) -> us
     latest
 }
 
-/// The same for the variables of the clause of this number.
+/// Marks the variables of the clause with this number, and counts as `mark_literals` does.
 fn mark_clause(database: &Database, trail: &Trail, marked: &mut [bool], number: u64) -> usize
     requires { AreInRange (length marked.old) database.now }
     ensures grows { Grows marked.old marked.new }
@@ -72,7 +71,7 @@ fn mark_clause(database: &Database, trail: &Trail, marked: &mut [bool], number: 
     }
 }
 
-/// Whether all literals of the clause but this one are marked, so that resolving with it adds nothing.
+/// Whether all other literals of the clause are marked, so that resolving with it adds nothing.
 fn adds_nothing(database: &Database, marked: &[bool], number: u64, literal: Literal) -> bool {
     let Some(literals) = database.find_clause(number) else {
         return false;
@@ -107,7 +106,7 @@ fn find_place(entries: &[Entry], marked: &[bool], top: usize) -> Option<usize>
     place
 }
 
-/// Makes the turn at a marked entry.
+/// The turn at a marked entry.
 fn turn_at(entries: &[Entry], marked: &[bool], place: usize) -> Option<Turn>
     requires place { place < length entries.now }
     requires in_range { (k : ℕ) (d : Entry) → k < length entries.now → IsLiteralInRange (length marked.now) (slice_index_or entries.now k d).literal }
@@ -137,8 +136,8 @@ fn turn_at_decision(entries: &[Entry], marked: &[bool], place: usize) -> Turn
 }
 
 /// What to do with the marked entry at a place, where `open` more are marked that have their values since the last
-/// decision. Above the first kept one all are resolved, unless it is the only one left; below it, those whose clause
-/// adds nothing, and those that stand before each decision.
+/// decision. Until one is kept, an entry is resolved unless it is the only one left. After that, it is resolved if
+/// its clause adds nothing or if it comes before each decision.
 fn choose(
     database: &Database,
     trail: &Trail,
@@ -176,7 +175,7 @@ fn choose(
     }
 }
 
-/// Walks down the trail from the clause of this number, whose literals are all false.
+/// Walks down the trail from the clause with this number, whose literals are all false.
 fn walk_down(
     alloc: Global,
     database: &Database,
@@ -221,7 +220,7 @@ fn walk_down(
     })
 }
 
-/// Whether the literal's variable was marked. Its mark is taken away.
+/// Whether the literal's variable was marked. Unmarks it.
 fn take_mark(marked: &mut [bool], literal: Literal) -> bool {
     let variable = literal.variable as usize;
     if variable >= 1 && variable <= marked.len() && marked[variable - 1] {
@@ -231,7 +230,7 @@ fn take_mark(marked: &mut [bool], literal: Literal) -> bool {
     false
 }
 
-/// Takes the marks of a clause's variables away, and makes those more active whose values came after a decision.
+/// Unmarks a clause's variables. Those that got their values after a decision become more active.
 fn bump_marked(order: &mut Order, trail: &Trail, marked: &mut [bool], literals: &[Literal]) {
     for literal in literals {
         if take_mark(marked, *literal) && !trail.is_fixed(literal.variable) {
@@ -240,7 +239,7 @@ fn bump_marked(order: &mut Order, trail: &Trail, marked: &mut [bool], literals: 
     }
 }
 
-/// The same for the clauses of these numbers.
+/// Calls `bump_marked` for the clauses with these numbers.
 fn bump_resolved(
     order: &mut Order,
     database: &Database,
@@ -272,7 +271,7 @@ fn mark_reasons(database: &Database, trail: &Trail, marked: &mut [bool], literal
     }
 }
 
-/// Makes each of these variables more active once, and takes its mark away.
+/// Makes each marked variable of these clauses more active once, and unmarks it.
 fn bump_reasons(
     order: &mut Order,
     database: &Database,
@@ -289,8 +288,7 @@ fn bump_reasons(
     }
 }
 
-/// Makes the variables of the learned clause more active once again, and then each variable of the clauses that forced
-/// its own.
+/// Makes the variables of the learned clause more active once again, and then each variable of the clauses that forced their values.
 fn bump_again(
     order: &mut Order,
     database: &Database,
@@ -305,8 +303,8 @@ fn bump_again(
     bump_reasons(order, database, trail, marked, literals);
 }
 
-/// Learns a clause from the one of this number, whose literals are all false. The variables of the clauses that it
-/// follows by become more active, and some of them again, where the style of the order is a broad one.
+/// Learns a clause from the one with this number, whose literals are all false. The variables of the clauses that it
+/// follows from become more active. In a broad style of order, some become more active a second time.
 pub fn learn(
     alloc: Global,
     database: &Database,

@@ -1,6 +1,7 @@
-//! Which learned clauses are deleted, and when. The literals of a learned clause got their values between so many decisions:
-//! the fewer, the more it is worth (Audemard and Simon 2009). From time to time the worse half goes, but none that forced
-//! a literal of the trail. What is chosen is looked at exactly, so no contract rests on what is kept here.
+//! Which learned clauses are deleted, and when. A clause's levels are the decisions between which its literals got
+//! their values: the fewer, the more it is worth (Audemard and Simon 2009). From time to time the worse half is
+//! deleted, but no clause that forced a literal of the trail. The choice is checked exactly, so no contract rests on
+//! what is kept here.
 ghost use Rattle.std.specs.Prelude.{◌≡◌, ℕ, List, ◌<◌, false, length, IfOk, Some, slice_index_or};
 ghost use Rattle.dd_clause.specs.declared.clause.Literal.{Literal};
 ghost use Rattle.dd_solver.specs.searching.Deleting.{AreChosen, MayDelete};
@@ -9,22 +10,22 @@ use dd_clause::Literal;
 use dd_trail::{Database, Entry, Trail};
 use std::alloc::{AllocError, Global};
 
-/// After how many learned clauses some are deleted first.
+/// The number of learned clauses at the first review.
 const FIRST_REVIEW: usize = 4000;
 
-/// What the number of clauses from one review to the next begins with.
+/// The number of clauses from the first review to the second.
 const FIRST_GAP: usize = 2000;
 
-/// What that number grows by at each review.
+/// The growth of that number from review to review.
 const GAP_GROWTH: usize = 300;
 
-/// Clauses of so many levels, or of fewer, are kept.
+/// Clauses of at most this many levels are kept.
 const KEPT_LEVELS: u32 = 2;
 
-/// Clauses of so many literals, or of fewer, are kept.
+/// Clauses of at most this many literals are kept.
 const KEPT_LENGTH: usize = 2;
 
-/// A learned clause that may be deleted. The least are kept: those of few levels, then the short, then the new.
+/// A learned clause that may be deleted. The least are kept: those of few levels, then the short ones, then the new ones.
 #[derive(Clone, Copy, PartialEq, Eq, PartialOrd, Ord)]
 struct Candidate {
     levels: u32,
@@ -32,8 +33,8 @@ struct Candidate {
     age: usize,
 }
 
-/// Of each learned clause its number of levels; of each level when it was last counted, and the number of that count; at
-/// how many learned clauses the next review is, and how many came between the last two.
+/// The number of levels of each learned clause. For each level, the number of the count that saw it last, and the
+/// number of counts. The number of learned clauses at the next review, and the number between the last two.
 #[derive(Drop)]
 pub struct Deletion {
     levels: Vec<u32>,
@@ -43,7 +44,7 @@ pub struct Deletion {
     gap: usize,
 }
 
-/// Of each number, that it isn't to be deleted where it is that of a clause that forced an entry.
+/// Marks each clause that forced an entry as not to be deleted.
 fn spare_reasons(entries: &[Entry], chosen: &mut [bool])
     ensures { AreChosen entries.now chosen.new }
 {
@@ -57,7 +58,7 @@ fn spare_reasons(entries: &[Entry], chosen: &mut [bool])
     }
 }
 
-/// The chosen numbers behind those of the list's clauses, which have a clause.
+/// The chosen numbers after those of the list's clauses, if they have a clause.
 fn take_chosen(
     alloc: Global,
     database: &Database,
@@ -91,7 +92,7 @@ impl Deletion {
         })
     }
 
-    /// Between how many decisions the literals got their values.
+    /// The number of levels of the literals.
     fn count_levels(&mut self, trail: &Trail, literals: &[Literal]) -> u32 {
         self.counts = self.counts.saturating_add(1);
         let mut count = 0u32;
@@ -105,7 +106,7 @@ impl Deletion {
         count
     }
 
-    /// The place of the levels of a learned clause, by its number.
+    /// The place of a learned clause's levels, by its number.
     fn place(&self, clauses: usize, number: u64) -> Option<usize> {
         let number = number as usize;
         if number > clauses && number - clauses <= self.levels.len() {
@@ -114,7 +115,7 @@ impl Deletion {
         None
     }
 
-    /// The number of levels that the clause of this number has now, where it is a learned one and they became fewer.
+    /// Stores the present number of levels of the clause with this number, if it is a learned one and has fewer than before.
     fn lower(&mut self, database: &Database, trail: &Trail, clauses: usize, number: u64) {
         let Some(place) = self.place(clauses, number) else {
             return;
@@ -153,7 +154,7 @@ impl Deletion {
         Ok(candidates)
     }
 
-    /// Of each number, whether it is to be deleted: the worse half of those that may be.
+    /// For each number, whether it is to be deleted: the worse half of those that may be.
     fn choose(
         &self,
         alloc: Global,
@@ -191,8 +192,8 @@ impl Deletion {
         true
     }
 
-    /// A clause of these literals is learned by these hints, with `clauses` clauses in the list. Gives the numbers of
-    /// those that are deleted with it.
+    /// Notes that a clause of these literals was learned by these hints, with `clauses` clauses in the list. Returns
+    /// the numbers of the clauses that are deleted with it.
     pub fn review(
         &mut self,
         alloc: Global,

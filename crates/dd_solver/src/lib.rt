@@ -1,5 +1,5 @@
-//! A search that learns clauses: an assignment that satisfies a clause list, or steps that refute it; and of such steps
-//! those that are used.
+//! A search that learns clauses. It finds an assignment that satisfies a clause list, or steps that refute it.
+//! Trimming keeps only the steps that are used.
 #![tactic(auto)]
 
 mod analysis;

@@ -1,6 +1,6 @@
-//! The search (Marques-Silva and Sakallah 1999, Eén and Sörensson 2003): propagate; at a conflict learn a clause and go
-//! back to where it forces a literal; else decide a variable. Each learned clause is a step of a refutation. It ends
-//! since the trail, read as a number in base 3, rises at each propagation, decision and return.
+//! The search (Marques-Silva and Sakallah 1999, Eén and Sörensson 2003): propagate; at a conflict learn a clause and
+//! go back to where it forces a literal; else decide a variable. Each learned clause is a step of a refutation. The
+//! search ends because the trail, read as a number in base 3, rises at each propagation, decision and return.
 ghost use Rattle.std.specs.Prelude.{◌≡◌, ℕ, ◌+◌, ◌<◌, ◌≤◌, ◌^◌, ◌++◌, ◌∷◌, [], true, false, List, length, All, IfOk, OnOk, OnErr, MatchOption, IsTrue, ◌↔◌};
 ghost use Rattle.dd_clause.specs.declared.clause.Literal.{Literal};
 ghost use Rattle.dd_clause.specs.Clauses.{IsClauseInRange, Satisfies};
@@ -20,8 +20,8 @@ use dd_values::Items;
 use std::alloc::{AllocError, Global};
 use std::marker::Model;
 
-/// The clauses, the steps learned so far, and of the clauses of both whether they are alive; the trail, the watched
-/// literals, the order of decisions, what learned clauses are worth, and room for the analysis.
+/// The clauses, the steps learned so far, and whether each of their clauses is alive. The trail, the watched literals
+/// and the order of decisions. The worth of learned clauses, and room for the analysis.
 #[derive(Drop)]
 pub struct Search<'a> {
     clauses: &'a [Clause],
@@ -45,7 +45,7 @@ impl<'a> Model for Search<'a> {
     ghost invariant = { λ s. IsSearch (record { variables = s.trail.variables; clauses = s.clauses.now; steps = s.steps.items; entries = s.trail.entries }) × (length s.marked.items ≡ s.trail.variables) × (s.trail.variables < 2 ^ 32) × AreAlive s.clauses.now s.steps.items s.alive.items };
 }
 
-/// Adds a step, whose clause is alive from then on, and deletes what it deletes.
+/// Adds a step. Its clause is alive from then on, and the clauses that it deletes are not.
 fn push_step(steps: &mut Vec<Step>, alive: &mut Vec<bool>, step: Step) -> Result<(), AllocError>
     ensures steps { OnOk result (steps.new.items ≡ steps.old.items ++ step ∷ []) }
     ensures alive { OnOk result ((cs : List (List Literal)) → known_of cs alive.new.items ≡ known_after (known_of cs (alive.old.items ++ true ∷ [])) step.deletes) }
@@ -95,7 +95,7 @@ impl<'a> Search<'a> {
         })
     }
 
-    /// Makes true what has to be, until a clause is falsified or none forces a literal.
+    /// Makes forced literals true, until a clause is falsified or none forces a literal. Returns the number of a falsified clause.
     fn propagate(&mut self) -> Result<Option<u64>, AllocError>
         ensures same { (self.new.variables ≡ self.old.variables) × (self.new.clauses ≡ self.old.clauses) × (self.new.steps ≡ self.old.steps) }
         ensures conflict { IfOk result (λ conflict. MatchOption conflict (IsFull self.new.variables self.new.entries → AreOpen self.new) (IsFalsified self.new)) }
@@ -121,7 +121,7 @@ impl<'a> Search<'a> {
         }
     }
 
-    /// Makes a literal true of a variable that has no value. False where each has one.
+    /// Makes a literal true whose variable has no value. Returns false if each variable has one.
     fn decide(&mut self) -> Result<bool, AllocError>
         ensures same { (self.new.variables ≡ self.old.variables) × (self.new.clauses ≡ self.old.clauses) × (self.new.steps ≡ self.old.steps) }
         ensures decided { result ≡ Ok true → left self.new < left self.old }
@@ -137,8 +137,7 @@ impl<'a> Search<'a> {
         Ok(true)
     }
 
-    /// Learns a clause from one that is falsified, as a further step. Gives where to go back to, and nothing where the
-    /// steps refute the clauses.
+    /// Learns a clause from a falsified one, as a further step. Returns where to go back to, or nothing if the steps refute the clauses.
     fn analyse(&mut self, alloc: Global, conflict: u64) -> Result<Option<Turn>, AllocError>
         requires { IsFalsified self.old conflict }
         ensures same { (self.new.variables ≡ self.old.variables) × (self.new.clauses ≡ self.old.clauses) × (self.new.entries ≡ self.old.entries) }
@@ -192,7 +191,7 @@ impl<'a> Search<'a> {
         Ok(())
     }
 
-    /// The values of the variables, where each has one and no clause is falsified.
+    /// The values of the variables, once each has one and no clause is falsified.
     fn assignment(&self, alloc: Global) -> Result<Assignment, AllocError>
         requires open { AreOpen self.now }
         requires full { IsFull self.now.variables self.now.entries }
@@ -207,7 +206,7 @@ impl<'a> Search<'a> {
         Items::from_vec(self.steps)
     }
 
-    /// Goes on until an assignment satisfies the clauses, or the steps refute them, where it gives none.
+    /// Searches until an assignment satisfies the clauses or the steps refute them. Returns no assignment in the second case.
     fn settle(&mut self, alloc: Global) -> Result<Option<Assignment>, AllocError>
         ensures same { (self.new.variables ≡ self.old.variables) × (self.new.clauses ≡ self.old.clauses) }
         ensures settled { IfOk result (λ found. MatchOption found (refutes self.new.variables self.new.clauses self.new.steps ≡ true)
@@ -244,7 +243,7 @@ pub fn solve(alloc: Global, cnf: &Cnf) -> Result<Outcome, AllocError>
     solve_with(alloc, cnf, Style::Broad)
 }
 
-/// The same in a style of search, which changes how long it takes, and which assignment or which steps it finds.
+/// Solves in a style of search. The style changes how long it takes, and which assignment or which steps it finds.
 pub fn solve_with(alloc: Global, cnf: &Cnf, style: Style) -> Result<Outcome, AllocError>
     ensures answer { IfOk result (IsAnswer cnf.now.variables cnf.now.clauses) }
     ensures found { IfOk result (λ outcome. IsFound outcome ↔ IsSatisfiable cnf.now.clauses) }

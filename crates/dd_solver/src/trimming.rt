@@ -1,6 +1,6 @@
-//! A search learns clauses that its refutation does not need in the end. Trimming walks from the last step to the first
-//! and marks those that a marked step hints at, as Goldberg and Novikov (2003) do. What is marked is kept, under new
-//! numbers. Nothing is deleted any more, so that each kept hint names the clause that it named before.
+//! A search learns clauses that its refutation does not need in the end. Trimming walks from the last step to the
+//! first and marks the hints of each marked step (Goldberg and Novikov 2003). The marked steps are kept, under new
+//! numbers. They delete nothing, so each kept hint names the same clause as before.
 ghost use Rattle.std.specs.Prelude.{◌≡◌, ℕ, suc, ◌+◌, ◌<◌, ◌≤◌, ◌^◌, ◌||◌, [], true, false, length, map, All, IfOk, MatchOption, slice_index_or};
 ghost use Rattle.dd_derivation.specs.Derivations.{refutes};
 ghost use Rattle.dd_solver.specs.Trimming.{is_hint, are_used};
@@ -11,7 +11,7 @@ use dd_derivation::Step;
 use dd_values::Items;
 use std::alloc::{AllocError, Global};
 
-/// The place among the steps of the clause of this number, where `clauses` clauses are numbered before them.
+/// The place among the steps of the clause with this number. The numbers of `clauses` clauses come before those of the steps.
 fn find_place(number: u64, clauses: usize) -> Option<usize>
     ensures { MatchOption result (number ≤ clauses) (λ place. number ≡ clauses + place + 1) }
 {
@@ -62,7 +62,7 @@ fn mark_used(alloc: Global, clauses: usize, steps: &[Step]) -> Result<Vec<bool>,
     Ok(marked)
 }
 
-/// The number that each marked step has where only those are left.
+/// The number of each marked step when only the marked ones are left.
 fn find_numbers(alloc: Global, clauses: usize, marked: &[bool]) -> Result<Vec<u64>, AllocError>
     requires { clauses + length marked.now < 2 ^ 64 }
     ensures { IfOk result (λ numbers. numbers.items ≡ numbers_from clauses marked.now) }
@@ -78,7 +78,7 @@ fn find_numbers(alloc: Global, clauses: usize, marked: &[bool]) -> Result<Vec<u6
     Ok(numbers)
 }
 
-/// The new number of the clause of a number.
+/// The new number of a clause.
 fn new_number(clauses: usize, numbers: &[u64], number: u64) -> u64
     ensures { result ≡ renamed clauses numbers.now number }
 {
@@ -130,8 +130,8 @@ fn keep_marked(
     Ok(kept)
 }
 
-/// Of steps that refute the clauses, those that the last one uses, by its hints or by the hints of others. They refute
-/// the clauses too, and delete nothing.
+/// Of steps that refute the clauses, those that the last one uses, directly or through others. They refute the
+/// clauses too, and delete nothing.
 pub fn trimmed(alloc: Global, cnf: &Cnf, steps: Items<Step>) -> Result<Items<Step>, AllocError>
     requires { refutes cnf.now.variables cnf.now.clauses steps ≡ true }
     ensures refutes { IfOk result (λ fewer. refutes cnf.now.variables cnf.now.clauses fewer ≡ true) }

@@ -55,6 +55,6 @@ strip_for r periods = strip_of (slice_index periods 0) (slice_index periods 1) r
 abbrev pub IsTooLarge : LocalRule → Strip → Type 0
 IsTooLarge r s = (most_states < states r (positions s)) ⊎ (most_longer_states < longer_states r (positions s))
 
--- neither
+-- at most 4,096 states and at most 131,072 windows
 abbrev pub IsFew : LocalRule → Strip → Type 0
 IsFew r s = (states r (positions s) ≤ most_states) × (longer_states r (positions s) ≤ most_longer_states)

@@ -1,4 +1,4 @@
-//! Strips: what is said of them before their transfer graphs are made.
+//! Strips, without their transfer graphs.
 #![tactic(auto)]
 
 mod strip;

@@ -1,33 +1,28 @@
--- A closed walk as a configuration: its period is the walk's length, and at each x stands the last slice of the state there. Each
--- place stands in some window, the windows are those of the walk's edges, so the configuration lives.
-use Rattle.std.proofs.Common.{◌≡◌, ℕ, zero, suc, ◌+◌, ◌*◌, ◌/◌, ◌%◌, ◌^◌, ◌<◌, ◌≤◌, Bool, true, false, List, [], ◌∷◌, length, map, get_or, ℤ, pos, ◌+ℤ◌, ◌≤ℤ◌, Option, Some, None, refl, ap, sym, ◌∙◌, subst, arith}
-use Rattle.std.specs.Prelude.{◌<ℤ◌, ◌-ℤ◌, cond, nat_lt, is_some, slice_get, slice_index, unwrap_or, IfSome}
-use Rattle.std.specs.List.{All, range_with_len}
-use Rattle.std.proofs.Math.Nat.{mod-eq_of_lt, pow-suc, one-le-pow}
-use Rattle.std.proofs.lemmas.Int.{ints}
-use Rattle.std.proofs.lemmas.Bool.{ltb-true}
+-- A closed walk as a configuration. Its period is the walk's length, and its slice at each x is the last one of the
+-- state there. Each place is in some window, and the windows are those of the walk's edges. So the configuration
+-- lives.
+use Rattle.std.proofs.Common.{◌≡◌, ℕ, zero, suc, ◌+◌, ◌*◌, ◌/◌, ◌%◌, ◌^◌, ◌<◌, ◌≤◌, Bool, true, false, List, [], ◌∷◌, length, map, get_or, ℤ, pos, ◌+ℤ◌, ◌≤ℤ◌, Option, None, refl, ap, sym, ◌∙◌, subst, arith}
+use Rattle.std.proofs.{Math.Nat.mod-eq_of_lt, Math.Nat.pow-suc, Math.Nat.one-le-pow, lemmas.Int.ints, lemmas.Bool.ltb-true}
 use Rattle.std.proofs.lemmas.Nat.{mul-add-lt, mod-mul-add, div-mul-add, div-add-mod', div_below, mod_below}
-use Rattle.std.proofs.lemmas.List.{ext_get_or}
-use Rattle.std.proofs.lemmas.List.FromFn.{length-map-range_with_len, get_or-map-range_with_len}
-use Rattle.dd_pattern.specs.declared.periods.Periods.{Periods}
-use Rattle.dd_pattern.specs.Periods.{residue, periods_volume}
-use Rattle.dd_pattern.specs.Tile.{Tile, IsTile, tile, tile_index, tile_look}
-use Rattle.dd_pattern.specs.Weight.{total_weight}
+use Rattle.std.proofs.lemmas.List.{ext_get_or, FromFn.length-map-range_with_len, FromFn.get_or-map-range_with_len}
+use Rattle.std.specs.Prelude.{◌<ℤ◌, ◌-ℤ◌, cond, nat_lt, is_some, slice_get, slice_index, unwrap_or}
+use Rattle.std.specs.List.{All, range_with_len}
+use Rattle.dd_pattern.specs.{declared.periods.Periods.Periods, Periods.residue, Periods.periods_volume}
+use Rattle.dd_pattern.specs.{Tile.Tile, Tile.IsTile, Tile.tile, Tile.tile_index, Tile.tile_look, Weight.total_weight}
+use Rattle.dd_pattern.specs.lemmas.Residues.{residue_below, residue_small}
 use Rattle.dd_formula.specs.LocalRule.{LocalRule, IsRule, rule_allows}
 use Rattle.dd_counts.specs.Rules.{slices, window}
-use Rattle.dd_strip.specs.declared.strip.Strip.{Strip}
-use Rattle.dd_strip.specs.Strips.{IsFor, cells, positions}
-use Rattle.dd_transfer.specs.Windows.{IsWindow, digits, stand}
-use Rattle.dd_transfer.specs.Transfers.{slice_weight}
+use Rattle.dd_strip.specs.{declared.strip.Strip.Strip, Strips.IsFor, Strips.cells, Strips.positions}
+use Rattle.dd_transfer.specs.{Windows.IsWindow, Windows.digits, Windows.stand, Transfers.slice_weight}
 use Rattle.dd_transfer.specs.Certificates.{IsClosedWalk, last_slice, walk_weight}
 use Rattle.dd_transfer.specs.Slices.{IsKeptFrom, cell_from, symbols_from, number_with_digits, slices_from, window_from}
 use Rattle.dd_transfer.specs.Laws.{AreDigits, AreEdgesOf}
 use Rattle.dd_strips.specs.Strips.{LivesOnStrip, slices_weight, tile_weight}
-use Rattle.dd_strips.proofs.Residues.{residue_below, residue_small}
 use Rattle.dd_strips.proofs.Sums.{total_below, total_below-same, total_below-first}
 use Rattle.dd_strips.proofs.Modular.{mod_of_power, mod_longer, mod_of_none}
 use Rattle.dd_strips.proofs.Tiles.{IsOnStrip, slice_symbol, tile_has, period_total}
 use Rattle.dd_strips.proofs.Rounds.{state_at, joined_round, Follows, follows}
+use Rattle.dd_values.specs.lemmas.Results.{if_some}
 
 below_at : (n : ℕ) (xs : List ℕ) (k : ℕ) → 0 < n → All (λ d. d < n) xs → slice_index xs k < n
 below_at n [] k some all = some
@@ -37,10 +32,6 @@ below_at n (x ∷ xs) (suc k) some all = below_at n xs k some (λ i d lt. all (s
 opened : (b : Bool) (o : Option ℕ) → is_some (cond b o None) ≡ true → b ≡ true
 opened true o h = refl
 opened false o h = absurd (cc)
-
-if_some : (P : ℕ → Type 0) (o : Option ℕ) → (is_some o ≡ true → IfSome o P) → IfSome o P
-if_some P None h = tt
-if_some P (Some d) h = h refl
 
 -- the periods, and the symbol at a place of the list
 abbrev pub periods_for : Strip → ℕ → Periods
@@ -212,7 +203,7 @@ module _ (r : LocalRule) (s : Strip) (walk : List ℕ) (rule : IsRule r) (for : 
       lives = λ v a flat node. (kept_there (v.x -ℤ stand r)).true_there v a (there v.x (stand r)) flat node;
     }
 
-    -- and weighs what the walk does
+    -- the configuration weighs as much as the walk
     walk_total : (ws : List ℕ) (states_ : List ℕ) → total_below (λ i. slice_weight r s ws (last_slice r s (slice_index states_ i))) (length states_) ≡ walk_weight r s ws states_
     walk_total ws [] = refl
     walk_total ws (u ∷ us) =

@@ -1,23 +1,16 @@
 -- The two laws: from walks and configurations to densities.
 use Rattle.std.proofs.Common.{◌≡◌, ℕ, suc, ◌+◌, ◌-◌, ◌*◌, ◌<◌, ◌≤◌, List, length, ℤ, pos, ◌+ℤ◌, ◌≤ℤ◌, refl, ap, sym, ◌∙◌, subst, arith, inl, inr}
-use Rattle.std.proofs.Math.Nat.{le_of_mul-le-mul_right, mul-le-mul_left}
-use Rattle.std.proofs.lemmas.Int.{ints}
-use Rattle.std.proofs.lemmas.Bool.{cases_lt}
-use Rattle.dd_pattern.specs.Reading.{Look}
-use Rattle.dd_pattern.specs.Periods.{periods_volume}
-use Rattle.dd_pattern.specs.Tile.{Tile, tile_look}
+use Rattle.std.proofs.{Math.Nat.le_of_mul-le-mul_right, Math.Nat.mul-le-mul_left, lemmas.Int.ints, lemmas.Bool.cases_lt}
+use Rattle.dd_pattern.specs.{Reading.Look, Periods.periods_volume, Tile.Tile, Tile.tile_look}
 use Rattle.dd_formula.specs.LocalRule.{LocalRule, IsRule}
 use Rattle.dd_counts.specs.Rules.{window}
 use Rattle.dd_expansion.specs.Limits.{greatest}
-use Rattle.dd_strip.specs.declared.strip.Strip.{Strip}
-use Rattle.dd_strip.specs.Strips.{IsFor, positions, IsStrip, strip_for}
+use Rattle.dd_strip.specs.{declared.strip.Strip.Strip, Strips.IsFor, Strips.positions, Strips.IsStrip, Strips.strip_for}
 use Rattle.dd_transfer.specs.Certificates.{AreStripPotentials, IsDensityCertificate, IsEmptyCertificate, potential_of, walk_weight}
-use Rattle.dd_transfer.specs.Slices.{RepeatsAcross, state_from, number_with_digits}
-use Rattle.dd_transfer.specs.Laws.{AreDigits, AreEdgesOf}
+use Rattle.dd_transfer.specs.{Slices.RepeatsAcross, Slices.state_from, Slices.number_with_digits, Laws.AreDigits, Laws.AreEdgesOf}
 use Rattle.dd_strips.specs.Strips.{IsAdmissibleStrip, LivesOnStrip, LivesNowhere, slices_weight, tile_weight}
 use Rattle.dd_strips.specs.Claims.{IsHeavy, IsShortStrip, StripLeast, StripEmpty, spread_of}
-use Rattle.dd_strips.proofs.Walks.{IsStep, walk_weighs, walk_is_heavy, walk_is_short}
-use Rattle.dd_strips.proofs.Fillings.{filling_steps}
+use Rattle.dd_strips.proofs.{Walks.IsStep, Walks.walk_weighs, Walks.walk_is_heavy, Walks.walk_is_short, Fillings.filling_steps}
 use Rattle.dd_strips.proofs.Tiles.{IsOnStrip, tile_repeats, tile_has, symbols_round, period_weighs}
 use Rattle.dd_strips.proofs.Cycles.{tile_of, on_strip, lives_on_strip, cycle_weighs}
 
@@ -30,11 +23,11 @@ strip_fits r periods rule is = record {
   z_unused = is.z_unused;
 }
 
--- what the transfer graph says of every look
+-- what the transfer graph says about every look
 abbrev pub AreEdges : LocalRule → Strip → Type 0
 AreEdges r s = (look : Look) → RepeatsAcross s look → AreEdgesOf r s look
 
--- p / q is m / l over the positions of a slice: what m and l say of the weight of n slices, p and q say
+-- p / q is m / l over the positions of a slice, so a bound by m and l on the weight of n slices is one by p and q
 at_least : (p q m l n a w : ℕ) → 0 < l → p * (l * a) ≡ m * q → m * n ≤ l * w → p * (a * n) ≤ q * w
 at_least p q m l n a w some same h =
     let one : (p * (a * n)) * l ≡ (p * (l * a)) * n = omega arith in
@@ -58,7 +51,7 @@ exactly p q m l n a w some same h =
     let down : q * w ≤ p * (a * n) = le_of_mul-le-mul_right back some in
     omega (arith, up, down)
 
--- what stays the same on the way round is no rise
+-- a way round that ends as it began does not rise
 no_rise : (a c : ℤ) (m l : ℕ) → c ≡ a → (c +ℤ pos m) ≤ℤ (a +ℤ pos l) → m ≤ l
 no_rise a c m l same h = omega (arith, ints, same, h)
 
@@ -85,7 +78,7 @@ module _ (r : LocalRule) (s : Strip) (rule : IsRule r) (for : IsFor r s) (edges 
         omega (arith, short, is)
   ]
 
-  -- so is a configuration that lives
+  -- so is a configuration that lives on the strip
   module _ (t : Tile) (on : LivesOnStrip r s t) where
     known_tile : IsOnStrip r s t
     known_tile = record {
@@ -106,7 +99,7 @@ module _ (r : LocalRule) (s : Strip) (rule : IsRule r) (for : IsFor r s) (edges 
       kept = record { allowed = λ c inside node. on.allowed c; true_there = λ v a at flat node. on.lives v a flat node };
     }
 
-    -- and comes back to its state after its period
+    -- and it is back in its state after its period
     tile_heavy : (ws : List ℕ) (m l : ℕ) (ps : List ℤ) → AreStripPotentials r s ws m l ps → m * t.periods.x ≤ l * tile_weight ws t
     tile_heavy ws m l ps potentials =
         let look = tile_look t in
@@ -130,7 +123,7 @@ module _ (r : LocalRule) (s : Strip) (rule : IsRule r) (for : IsFor r s) (edges 
   pub strip_empty_law : (ranks : List ℕ) → IsEmptyCertificate r s ranks → StripEmpty r s (greatest ranks + window r)
   strip_empty_law ranks falls = record { short = fillings_short ranks falls; nowhere = nowhere ranks falls }
 
-  -- the closed walk is a configuration of its mean
+  -- the closed walk is a configuration with its mean
   module _ (numbers : AreDigits r.symbols) (ws : List ℕ) (p q : ℕ) (walk : List ℕ) (ps : List ℤ) (c : IsDensityCertificate r s ws p q walk ps) where
     cycle_edges : AreEdgesOf r s (tile_look (tile_of r s walk))
     cycle_edges = edges (tile_look (tile_of r s walk)) (tile_repeats r s (tile_of r s walk) for (on_strip r s walk rule for numbers c.closed))

@@ -1,25 +1,9 @@
 -- The least and the greatest of a list.
 use Rattle.std.proofs.Common.{ℕ, zero, suc, ◌<◌, ◌≤◌, List, [], ◌∷◌, length, get_or, ℤ, pos, ◌≤ℤ◌, arith}
-use Rattle.std.specs.Int.{int_min, int_max}
-use Rattle.std.specs.List.{fold}
 use Rattle.std.proofs.lemmas.Int.{ints}
-use Rattle.dd_expansion.specs.Limits.{greatest}
+use Rattle.std.specs.{Int.int_min, Int.int_max, List.fold}
 use Rattle.dd_strips.specs.Claims.{least_potential, greatest_potential}
-
-min_left : (x y : ℤ) → int_min x y ≤ℤ x
-min_left x y = grind (arith, ints)
-
-min_right : (x y : ℤ) → int_min x y ≤ℤ y
-min_right x y = grind (arith, ints)
-
-max_left : (x y : ℤ) → x ≤ℤ int_max x y
-max_left x y = grind (arith, ints)
-
-max_right : (x y : ℤ) → y ≤ℤ int_max x y
-max_right x y = grind (arith, ints)
-
-along : (x y z : ℤ) → x ≤ℤ y → y ≤ℤ z → x ≤ℤ z
-along x y z p q = omega (arith, ints)
+use Rattle.dd_values.specs.lemmas.Numbers.{along, min_left, min_right, max_left, max_right}
 
 fold_low : (p : ℤ) (ps : List ℤ) → fold int_min p ps ≤ℤ p
 fold_low p [] = omega (arith, ints)
@@ -48,8 +32,3 @@ pub highest_greatest : (ps : List ℤ) (k : ℕ) → k < length ps → get_or ps
 highest_greatest [] k h = absurd (omega arith)
 highest_greatest (p ∷ ps) zero h = fold_high p ps
 highest_greatest (p ∷ ps) (suc k) h = fold_greatest p ps k (omega arith)
-
-pub at_most_greatest : (ns : List ℕ) (k : ℕ) → get_or ns k 0 ≤ greatest ns
-at_most_greatest [] k = omega arith
-at_most_greatest (n ∷ ns) zero = omega arith
-at_most_greatest (n ∷ ns) (suc k) = let rest = at_most_greatest ns k in omega arith

@@ -1,48 +1,19 @@
--- The windows of an admissible filling of a strip are steps: what the rule reads in them is there, so it is true there.
-use Rattle.std.proofs.Common.{◌≡◌, ℕ, ◌+◌, ◌<◌, ◌≤◌, Bool, true, false, List, [], length, get_or, ℤ, pos, ◌+ℤ◌, ◌≤ℤ◌, Option, Some, None, ap, ◌∙◌, arith, inl, inr}
-use Rattle.std.specs.Prelude.{◌<ℤ◌, int_le, int_lt, is_some, IfSome, IsSomeAnd}
-use Rattle.std.proofs.Math.ListN.{get_or-eq_default}
-use Rattle.std.proofs.lemmas.Int.{ints}
-use Rattle.std.proofs.lemmas.Bool.{and_from, lt-ltb, cases_lt}
-use Rattle.std.proofs.lemmas.List.Elements.{All-get_or}
-use Rattle.dd_topology.specs.Sets.{IsRow, row_allows}
+-- The windows of an admissible filling of a strip are steps: they hold what the rule reads in them, so it is true there.
+use Rattle.std.proofs.Common.{◌≡◌, ℕ, ◌+◌, ◌<◌, ◌≤◌, true, ℤ, pos, ◌+ℤ◌, ◌≤ℤ◌, Option, Some, None, ◌∙◌, arith}
+use Rattle.std.proofs.lemmas.{Int.ints, Bool.and_from, Bool.lt-ltb}
+use Rattle.std.specs.Prelude.{◌<ℤ◌, is_some, IfSome, IsSomeAnd}
 use Rattle.dd_pattern.specs.Reading.{Look}
-use Rattle.dd_formula.specs.LocalRule.{LocalRule, IsRule, rule_allows}
+use Rattle.dd_formula.specs.{LocalRule.LocalRule, LocalRule.IsRule, LocalRule.rule_allows, lemmas.AllowedLaws.allowed_below}
 use Rattle.dd_counts.specs.Rules.{window}
 use Rattle.dd_strip.specs.declared.strip.Strip.{Strip}
-use Rattle.dd_transfer.specs.Slices.{HasSlices}
-use Rattle.dd_transfer.specs.Laws.{AreEdgesOf}
+use Rattle.dd_transfer.specs.{Slices.HasSlices, Laws.AreEdgesOf}
 use Rattle.dd_strips.specs.Strips.{IsAdmissibleStrip, is_slice_cell}
 use Rattle.dd_strips.proofs.Walks.{AreSteps}
-
--- an allowed symbol is one of the alphabet
-within_row : (row : List Bool) (t : ℕ) → get_or row t false ≡ true → t < length row
-within_row row t h = elim (cases_lt t (length row)) [ inl low ↦ low | inr high ↦ absurd (let past = get_or-eq_default row false high in cc) ]
-
-no_row : (rows : List (List Bool)) (a t : ℕ) → length rows ≤ a → row_allows rows a t ≡ false
-no_row rows a t high =
-    let none : get_or rows a [] ≡ [] = get_or-eq_default rows [] high in
-    let short : length (get_or rows a []) ≡ 0 = ap length none in
-    get_or-eq_default (get_or rows a []) false (omega (arith, short))
-
-pub allowed_below : (r : LocalRule) → IsRule r → (a t : ℕ) → rule_allows r a t ≡ true → t < r.symbols
-allowed_below r rule a t h = elim (cases_lt a (length r.allowed)) [
-  | inl low ↦
-      let is : IsRow r.symbols (get_or r.allowed a []) = All-get_or (IsRow r.symbols) r.allowed a [] low rule.allowed.rows in
-      let inside = within_row (get_or r.allowed a []) t h in
-      omega (arith, inside, is.as_many)
-  | inr high ↦ absurd (let none = no_row r.allowed a t high in cc)
-]
+use Rattle.dd_values.specs.lemmas.Numbers.{le_from, lt_from}
 
 pub known_symbol : (r : LocalRule) → IsRule r → (a : ℕ) (o : Option ℕ) → is_some o ≡ true → IfSome o (λ t. rule_allows r a t ≡ true) → IsSomeAnd o (λ t. t < r.symbols)
 known_symbol r rule a None some ok = absurd (cc)
 known_symbol r rule a (Some t) some ok = allowed_below r rule a t ok
-
-le_from : (x y : ℤ) → x ≤ℤ y → int_le x y ≡ true
-le_from x y h = grind (arith, ints)
-
-lt_from : (x y : ℤ) → x <ℤ y → int_lt x y ≡ true
-lt_from x y h = grind (arith, ints)
 
 part_of : (x c : ℤ) (i j w : ℕ) → i < j → (x +ℤ pos i) ≤ℤ c → c <ℤ ((x +ℤ pos i) +ℤ pos (w + 1)) → (x ≤ℤ c) × (c <ℤ (x +ℤ pos (j + w)))
 part_of x c i j w lt p q = (omega (arith, ints), omega (arith, ints))

@@ -1,28 +1,20 @@
 -- The least density of a strip is one fraction: each of two configurations of least density weighs no less than the other, and two
 -- fractions in lowest terms with equal cross products are the same.
-use Rattle.std.proofs.Common.{◌≡◌, ℕ, zero, suc, ◌+◌, ◌*◌, ◌/◌, ◌%◌, ◌<◌, ◌≤◌, List, ap, sym, ◌∙◌, subst, arith}
-use Rattle.std.specs.Int.{IsGcd}
+use Rattle.std.proofs.Common.{◌≡◌, ℕ, zero, suc, ◌*◌, ◌%◌, ◌<◌, ◌≤◌, List, ap, sym, ◌∙◌, subst, arith}
 use Rattle.std.proofs.Math.Nat.{le_of_mul-le-mul_right, mul-le-mul_left, mul-le-mul_right, eq_of_mul-eq-mul_right}
-use Rattle.std.proofs.lemmas.Nat.{mod_below, mod-mul-add, div-add-mod'}
-use Rattle.std.proofs.lemmas.Nat.Gcd.{IsGcd-from_zero, IsGcd-from_mod, same_from_IsGcd}
-use Rattle.dd_pattern.specs.declared.periods.Periods.{Periods}
-use Rattle.dd_pattern.specs.Periods.{ArePeriodsIn, periods_volume}
+use Rattle.std.proofs.lemmas.Nat.{mod_below, Gcd.IsGcd-from_zero, Gcd.IsGcd-from_mod, Gcd.same_from_IsGcd}
+use Rattle.std.specs.Int.{IsGcd}
+use Rattle.dd_pattern.specs.{declared.periods.Periods.Periods, Periods.ArePeriodsIn, Periods.periods_volume}
 use Rattle.dd_formula.specs.LocalRule.{LocalRule}
 use Rattle.dd_strip.specs.declared.strip.Strip.{Strip}
 use Rattle.dd_strips.specs.Strips.{IsLeastDensity, tile_weight}
+use Rattle.dd_fraction.specs.lemmas.Divisors.{mod-scaled}
 
 -- a greatest common divisor, and that of k times the numbers
 record Scaled (a b k : ℕ) : Type 0 where
   common : ℕ
   is : IsGcd a b common
   scaled : IsGcd (a * k) (b * k) (common * k)
-
-mod_scaled : (a b k : ℕ) → 0 < k → 0 < b → (a * k) % (b * k) ≡ a % b * k
-mod_scaled a b k some b_some =
-    let rest : a % b < b = mod_below a b b_some in
-    let below : a % b * k < b * k = omega (arith, mul-le-mul_right k rest) in
-    let whole : a / b * (b * k) + a % b * k ≡ a * k = omega (arith, ap (λ (x : ℕ). x * k) (div-add-mod' a b)) in
-    subst (λ (x : ℕ). x % (b * k) ≡ a % b * k) whole (mod-mul-add (a / b) (b * k) (a % b * k) below)
 
 -- Euclid's steps for both
 scaled_from : (n a b k : ℕ) → 0 < k → b < n → Scaled a b k
@@ -33,7 +25,7 @@ scaled_from (suc n) a (suc b) k some lt =
     let next = scaled_from n (suc b) (a % suc b) k some (omega arith) in record {
       common = next.common;
       is = IsGcd-from_mod a (suc b) next.common next.is;
-      scaled = IsGcd-from_mod (a * k) (suc b * k) (next.common * k) (subst (λ (x : ℕ). IsGcd (suc b * k) x (next.common * k)) (sym (mod_scaled a (suc b) k some (omega arith))) next.scaled);
+      scaled = IsGcd-from_mod (a * k) (suc b * k) (next.common * k) (subst (λ (x : ℕ). IsGcd (suc b * k) x (next.common * k)) (sym (mod-scaled a (suc b) k some (omega arith))) next.scaled);
     }
 
 -- numbers in lowest terms, k times
@@ -54,7 +46,7 @@ same_fraction p q a b q_some b_some one other cross =
     let over : p * b ≡ a * b = cross ∙ ap (λ (x : ℕ). a * x) same in
     (eq_of_mul-eq-mul_right b b_some p a over, same)
 
--- of two fractions, from a configuration of the one
+-- p / q is at most a / b, if a / b is the density of a configuration
 no_more : (p q a b n w : ℕ) → 0 < n → p * n ≤ q * w → a * n ≡ b * w → p * b ≤ a * q
 no_more p q a b n w some less is =
     let one : b * (p * n) ≤ b * (q * w) = mul-le-mul_left b less in

@@ -1,9 +1,7 @@
 -- Whole numbers modulo a number.
-use Rattle.std.proofs.Common.{◌≡◌, ℕ, ◌+◌, ◌*◌, ◌%◌, ◌/◌, ◌<◌, ◌≤◌, ℤ, pos, ◌+ℤ◌, unsigned_abs, arith, refl, ap, sym, ◌∙◌}
-use Rattle.std.proofs.Math.Nat.{mul-le-mul_left, mod-lt, mod-eq_of_lt, add-mul-mod_self_right}
-use Rattle.std.proofs.lemmas.Int.{ints, int_rem_euclid_is}
-use Rattle.std.proofs.lemmas.Nat.{div-add-mod'}
-use Rattle.dd_pattern.specs.Periods.{residue}
+use Rattle.std.proofs.Common.{◌≡◌, ℕ, ◌+◌, ◌*◌, ◌%◌, ◌/◌, ◌<◌, ◌≤◌, ℤ, pos, ◌+ℤ◌, unsigned_abs, arith, ap, sym, ◌∙◌}
+use Rattle.std.proofs.{Math.Nat.mul-le-mul_left, Math.Nat.add-mul-mod_self_right, lemmas.Int.ints, lemmas.Nat.div-add-mod'}
+use Rattle.dd_pattern.specs.{Periods.residue, lemmas.Residues.residue_is}
 
 -- x with enough multiples of n added
 record Raised (x : ℤ) (n : ℕ) : Type 0 where
@@ -15,16 +13,7 @@ raised x n h =
     let one : unsigned_abs x * 1 ≤ unsigned_abs x * n = mul-le-mul_left (unsigned_abs x) h in
     record { natural = unsigned_abs (x +ℤ pos (unsigned_abs x * n)); is = omega (arith, ints) }
 
-residue_is : (x : ℤ) (n k m : ℕ) → 0 < n → x +ℤ pos (k * n) ≡ pos m → residue x n ≡ m % n
-residue_is x n k m h e = ap unsigned_abs (int_rem_euclid_is x (pos n) n k m h refl e)
-
-pub residue_below : (x : ℤ) (n : ℕ) → 0 < n → residue x n < n
-residue_below x n h = let p = raised x n h in rw (residue_is x n (unsigned_abs x) p.natural h p.is) (mod-lt p.natural h)
-
-pub residue_small : (k n : ℕ) → k < n → residue (pos k) n ≡ k
-residue_small k n h = mod-eq_of_lt h
-
--- it is the same n further
+-- the residue is the same n further
 pub residue_round : (x : ℤ) (n : ℕ) → 0 < n → residue (x +ℤ pos n) n ≡ residue x n
 residue_round x n h =
     let p = raised x n h in
@@ -33,7 +22,7 @@ residue_round x n h =
     let more : (x +ℤ pos n) +ℤ pos (a * n) ≡ pos (p.natural + 1 * n) = omega (arith, ints) in
     residue_is (x +ℤ pos n) n a (p.natural + 1 * n) h more ∙ (add-mul-mod_self_right p.natural 1 n ∙ sym (residue_is x n a p.natural h whole))
 
--- and one further it is one more, or begins anew
+-- one further, the residue is one more, or 0 again
 pub residue_next : (x : ℤ) (n : ℕ) → 0 < n → residue (x +ℤ pos 1) n ≡ (residue x n + 1) % n
 residue_next x n h =
     let p = raised x n h in

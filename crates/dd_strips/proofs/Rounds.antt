@@ -1,20 +1,16 @@
--- A closed walk, walked round and round: at each whole number x it is at a state, and an edge leads from there to the state at the
--- next x. As each state's last slice is that of the edge to it, a state's slices are the last slices of the states before it.
+-- A closed walk, walked round and round. At each whole number x it is at a state, and an edge leads from there to the
+-- state at the next x. Each state's last slice is that of the edge to it. So a state's slices are the last slices of
+-- the states before it.
 use Rattle.std.proofs.Common.{◌≡◌, ℕ, zero, suc, ◌+◌, ◌*◌, ◌%◌, ◌^◌, ◌<◌, List, [], ◌∷◌, length, ℤ, pos, ◌+ℤ◌, ap, sym, ◌∙◌, subst, arith, inl, inr}
-use Rattle.std.specs.Prelude.{slice_index}
-use Rattle.std.proofs.Math.Nat.{mod-eq_of_lt, pow-suc, pow-zero, mul-mod_left}
-use Rattle.std.proofs.lemmas.Bool.{cases_lt}
+use Rattle.std.proofs.{Math.Nat.mod-eq_of_lt, Math.Nat.pow-suc, Math.Nat.pow-zero, Math.Nat.mul-mod_left, lemmas.Bool.cases_lt}
 use Rattle.std.proofs.lemmas.Nat.{mod-mul-add}
-use Rattle.dd_pattern.specs.Periods.{residue}
+use Rattle.std.specs.Prelude.{slice_index}
+use Rattle.dd_pattern.specs.{Periods.residue, lemmas.Residues.residue_below}
 use Rattle.dd_formula.specs.LocalRule.{LocalRule}
 use Rattle.dd_counts.specs.Rules.{slices, states, window}
-use Rattle.dd_strip.specs.declared.strip.Strip.{Strip}
-use Rattle.dd_strip.specs.Strips.{positions}
-use Rattle.dd_transfer.specs.Windows.{IsWindow}
-use Rattle.dd_transfer.specs.Transfers.{IsEdge}
-use Rattle.dd_transfer.specs.Certificates.{IsWalk, IsClosedWalk, last_slice}
-use Rattle.dd_strips.proofs.Residues.{residue_below, residue_next}
-use Rattle.dd_strips.proofs.Modular.{mod_of_power}
+use Rattle.dd_strip.specs.{declared.strip.Strip.Strip, Strips.positions}
+use Rattle.dd_transfer.specs.{Windows.IsWindow, Transfers.IsEdge, Certificates.IsWalk, Certificates.IsClosedWalk, Certificates.last_slice}
+use Rattle.dd_strips.proofs.{Residues.residue_next, Modular.mod_of_power}
 
 -- some edge from u to v
 pub record IsJoined (r : LocalRule) (s : Strip) (u v : ℕ) : Type 0 where

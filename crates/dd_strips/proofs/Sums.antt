@@ -1,9 +1,7 @@
 -- Sums over the first numbers, and over lists.
 use Rattle.std.proofs.Common.{◌≡◌, ℕ, zero, suc, ◌+◌, ◌*◌, ◌<◌, List, [], ◌∷◌, length, map, get_or, refl, ap, sym, ◌∙◌, arith}
-use Rattle.std.specs.Prelude.{sum_by}
-use Rattle.std.specs.List.{range_with_len}
-use Rattle.std.proofs.lemmas.List.Sums.{sum_by-cons}
-use Rattle.std.proofs.lemmas.List.FromFn.{sum_by-map-range_with_len_more}
+use Rattle.std.proofs.lemmas.List.{Sums.sum_by-cons, FromFn.sum_by-map-range_with_len_more}
+use Rattle.std.specs.{Prelude.sum_by, List.range_with_len}
 
 abbrev pub total_below : (ℕ → ℕ) → ℕ → ℕ
 total_below f zero = 0
@@ -59,7 +57,7 @@ total_below-turned f (suc m) n =
     let sum : total_below (λ i. total_below (f i) n) m + total_below (f m) n ≡ total_below (λ j. total_below (λ i. f i j) m + f m j) n = omega (arith, rest, both) in
     sum
 
--- n numbers of a sequence that repeats after n have one sum, wherever they begin
+-- n numbers of a sequence that repeats after n have the same sum, wherever they begin
 pub total_below-round : (f : ℕ → ℕ) (n : ℕ) → ((k : ℕ) → f (k + n) ≡ f k) → (x : ℕ) → total_below (λ k. f (x + k)) n ≡ total_below f n
 total_below-round f n h zero = total_below-same (λ k. f (0 + k)) f n (λ k _. ap f (omega arith))
 total_below-round f n h (suc x) =

@@ -1,27 +1,22 @@
--- Configurations with the strip's periods and no shear: every slice of them is there, they repeat after their period in the first
--- axis, and so many slices, wherever they begin, weigh what the fundamental box does.
+-- Configurations with the strip's periods and no shear. They have every slice, and repeat after their period along
+-- the first axis. As many slices as that period, wherever they begin, weigh as much as the fundamental box.
 use Rattle.std.proofs.Common.{◌≡◌, ℕ, zero, suc, ◌+◌, ◌*◌, ◌/◌, ◌%◌, ◌<◌, Bool, List, [], ◌∷◌, length, map, get_or, ℤ, pos, ◌+ℤ◌, Option, None, refl, ap, sym, ◌∙◌, arith}
+use Rattle.std.proofs.{Math.Nat.mod-eq_of_lt, Math.Nat.div-eq_of_lt, lemmas.Int.ints, lemmas.Bool.lt-ltb}
+use Rattle.std.proofs.lemmas.Nat.{mod-mul-add, div-mul-add, div-add-mod', mod_below, div_below}
 use Rattle.std.specs.Prelude.{◌-ℤ◌, ◌*ℤ◌, cond, nat_lt, slice_get, slice_index, unwrap_or, IsSomeAnd, sum_by}
 use Rattle.std.specs.List.{All, range_with_len}
-use Rattle.std.proofs.Math.Nat.{mod-eq_of_lt, div-eq_of_lt}
-use Rattle.std.proofs.lemmas.Int.{ints}
-use Rattle.std.proofs.lemmas.Bool.{lt-ltb}
-use Rattle.std.proofs.lemmas.Nat.{mul-add-lt, mod-mul-add, div-mul-add, div-add-mod', mod_below, div_below}
-use Rattle.dd_lattice.specs.Place.{place}
-use Rattle.dd_lattice.specs.Cells.{cell}
-use Rattle.dd_lattice.specs.declared.position.Cell.{Cell}
-use Rattle.dd_pattern.specs.Periods.{residue, quotient}
-use Rattle.dd_pattern.specs.Tile.{Tile, IsTile, tile_index, tile_look}
+use Rattle.dd_lattice.specs.{Place.place, Cells.cell, declared.position.Cell.Cell}
+use Rattle.dd_pattern.specs.{Periods.residue, Periods.quotient, Tile.Tile, Tile.IsTile, Tile.tile_index, Tile.tile_look}
+use Rattle.dd_pattern.specs.lemmas.{TileSizes.below_table, Residues.residue_below, Residues.residue_small}
 use Rattle.dd_formula.specs.LocalRule.{LocalRule}
-use Rattle.dd_strip.specs.declared.strip.Strip.{Strip}
-use Rattle.dd_strip.specs.Strips.{IsFor, cells, positions}
-use Rattle.dd_transfer.specs.Windows.{cell_at}
-use Rattle.dd_transfer.specs.Slices.{RepeatsAcross, HasSlices, across, cell_from, symbols_from}
+use Rattle.dd_strip.specs.{declared.strip.Strip.Strip, Strips.IsFor, Strips.cells, Strips.positions}
+use Rattle.dd_transfer.specs.{Windows.cell_at, Slices.RepeatsAcross, Slices.HasSlices, Slices.across, Slices.cell_from, Slices.symbols_from}
 use Rattle.dd_transfer.specs.Laws.{AreEdgesOf}
 use Rattle.dd_strips.specs.Strips.{slices_weight, tile_weight}
-use Rattle.dd_strips.proofs.Residues.{residue_below, residue_small, residue_round}
+use Rattle.dd_strips.proofs.Residues.{residue_round}
 use Rattle.dd_strips.proofs.Sums.{total_below, total_below-same, total_below-rows, total_below-turned, total_below-round, sum_by-listed, sum_by-places}
-use Rattle.dd_strips.proofs.Walks.{plus_zero, weight_none, weight_longer}
+use Rattle.dd_strips.proofs.Walks.{weight_none, weight_longer}
+use Rattle.dd_values.specs.lemmas.Numbers.{plus_zero}
 
 -- it has the strip's nodes and periods, and symbols of the alphabet
 pub record IsOnStrip (r : LocalRule) (s : Strip) (t : Tile) : Type 0 where
@@ -44,9 +39,6 @@ no_shear x q k none = ap (λ (n : ℕ). x -ℤ q *ℤ pos n) none ∙ nothing x 
 residue_again : (v : ℤ) (n k : ℕ) → 0 < k → n ≡ k → residue (pos (residue v k)) n ≡ residue v n
 residue_again v n k some same =
     ap (residue (pos (residue v k))) same ∙ (residue_small (residue v k) k (residue_below v k some) ∙ ap (residue v) (sym same))
-
-table_below : (a w b h : ℕ) → a < h → b < w → a * w + b < h * w
-table_below a w b h p q = omega (arith, mul-add-lt a w b h p q)
 
 known_at : (P : ℕ → Type 0) (xs : List ℕ) (k : ℕ) → All P xs → k < length xs → IsSomeAnd (slice_get xs k) P
 known_at P [] k all lt = absurd (omega arith)
@@ -74,8 +66,8 @@ module _ (r : LocalRule) (s : Strip) (t : Tile) (for : IsFor r s) (on : IsOnStri
       let y = residue_below c.position.y p.y on.tile.periods.y_some in
       let z = residue_below c.position.z p.z on.tile.periods.z_some in
       let x = residue_below c.position.x p.x on.tile.periods.x_some in
-      let row = table_below _ _ _ _ z y in
-      let all = table_below _ _ _ _ (table_below _ _ _ _ row x) node in
+      let row = below_table _ _ _ _ z y in
+      let all = below_table _ _ _ _ (below_table _ _ _ _ row x) node in
       omega (arith, all, index_straight c, on.tile.full)
 
   pub tile_repeats : RepeatsAcross s (tile_look t)
@@ -146,7 +138,7 @@ module _ (r : LocalRule) (s : Strip) (t : Tile) (for : IsFor r s) (on : IsOnStri
 
   -- the weights of the slices of a period are the rows and columns of one table, which is the fundamental box
   module _ (ws : List ℕ) where
-    -- what the symbol at a place of the list weighs, and the symbols of a position
+    -- the weight of the symbol at a place of the list, and of the symbols of a position
     abbrev at : ℕ → ℕ
     at i = slice_index ws (get_or t.symbols i 0)
 
@@ -194,7 +186,7 @@ module _ (r : LocalRule) (s : Strip) (t : Tile) (for : IsFor r s) (on : IsOnStri
           let sum : slices_weight s ws (tile_look t) (pos x) (suc n) ≡ total_below (λ k. slices_weight s ws (tile_look t) (pos (x + k)) 1) n + slices_weight s ws (tile_look t) (pos (x + n)) 1 = omega (arith, rest, more) in
           sum
 
-      -- as many slices as the period weigh what the fundamental box does
+      -- as many slices as the period weigh as much as the fundamental box
       pub period_weighs : (x : ℕ) → slices_weight s ws (tile_look t) (pos x) t.periods.x ≡ tile_weight ws t
       period_weighs x =
           slices_total x t.periods.x

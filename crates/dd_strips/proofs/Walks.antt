@@ -1,27 +1,22 @@
--- Slices that the rule keeps are a walk: along it the potentials rise by at most l times what the slices weigh less m for each, and
--- the ranks fall. Both are sums over the edges, which telescope.
+-- Slices that obey the rule are a walk. Along it the potentials rise by at most l times the slices' weight, less m
+-- for each slice, and the ranks fall. Both are sums over the edges, which telescope.
 use Rattle.std.proofs.Common.{◌≡◌, ℕ, zero, suc, ◌+◌, ◌*◌, ◌<◌, ◌≤◌, List, map, ℤ, pos, ◌+ℤ◌, ◌≤ℤ◌, unsigned_abs, ap, sym, ◌∙◌, subst, arith}
-use Rattle.std.specs.Prelude.{◌<ℤ◌, ◌-ℤ◌, slice_index, unwrap_or}
-use Rattle.std.specs.List.{range_with_len}
-use Rattle.std.proofs.lemmas.Int.{ints}
-use Rattle.std.proofs.lemmas.Nat.{mod_below}
-use Rattle.std.proofs.lemmas.List.Sums.{sum_by-append}
-use Rattle.dd_pattern.specs.Reading.{Look}
-use Rattle.dd_pattern.specs.Weight.{total_weight}
+use Rattle.std.proofs.lemmas.{Int.ints, Nat.mod_below, List.Sums.sum_by-append}
+use Rattle.std.specs.{Prelude.◌<ℤ◌, Prelude.◌-ℤ◌, Prelude.slice_index, Prelude.unwrap_or, List.range_with_len}
+use Rattle.dd_pattern.specs.{Reading.Look, Weight.total_weight}
 use Rattle.dd_formula.specs.LocalRule.{LocalRule}
 use Rattle.dd_counts.specs.Rules.{states, window}
-use Rattle.dd_expansion.specs.Limits.{greatest}
-use Rattle.dd_strip.specs.declared.strip.Strip.{Strip}
-use Rattle.dd_strip.specs.Strips.{cells, positions}
+use Rattle.dd_expansion.specs.{Limits.greatest, lemmas.Depths.at_most_greatest}
+use Rattle.dd_strip.specs.{declared.strip.Strip.Strip, Strips.cells, Strips.positions}
 use Rattle.dd_transfer.specs.Transfers.{IsEdge, slice_weight}
 use Rattle.dd_transfer.specs.Certificates.{AreStripPotentials, IsEmptyCertificate, potential_of}
 use Rattle.dd_transfer.specs.Slices.{HasSlices, IsKeptFrom, cell_from, symbols_from, slices_from, state_from}
 use Rattle.dd_transfer.specs.Laws.{AreEdgesOf}
-use Rattle.dd_strips.specs.Strips.{slices_weight}
-use Rattle.dd_strips.specs.Claims.{least_potential, greatest_potential, spread_of}
-use Rattle.dd_strips.proofs.Extremes.{lowest_least, highest_greatest, at_most_greatest}
+use Rattle.dd_strips.specs.{Strips.slices_weight, Claims.least_potential, Claims.greatest_potential, Claims.spread_of}
+use Rattle.dd_strips.proofs.Extremes.{lowest_least, highest_greatest}
+use Rattle.dd_values.specs.lemmas.Numbers.{plus_zero}
 
--- the window from x on is there, and the rule keeps it
+-- the window from x on is there, and obeys the rule
 pub record IsStep (r : LocalRule) (look : Look) (x : ℤ) : Type 0 where
   pub has : HasSlices r look x (window r + 1)
   pub kept : IsKeptFrom r look x
@@ -29,9 +24,6 @@ pub record IsStep (r : LocalRule) (look : Look) (x : ℤ) : Type 0 where
 -- n steps from x on
 abbrev pub AreSteps : LocalRule → Look → ℤ → ℕ → Type 0
 AreSteps r look x n = (i : ℕ) → i < n → IsStep r look (x +ℤ pos i)
-
-pub plus_zero : (x : ℤ) → (x +ℤ pos 0) ≡ x
-plus_zero x = omega (arith, ints)
 
 pub one_more : (x : ℤ) (i : ℕ) → ((x +ℤ pos i) +ℤ pos 1) ≡ x +ℤ pos (suc i)
 one_more x i = omega (arith, ints)
@@ -49,7 +41,7 @@ risen a b c m i l w v p q =
     let both : l * (w + v) ≡ l * w + l * v = omega arith in
     rw (more, both) (omega (arith, ints, p, q))
 
--- what rises by so much between bounds
+-- a rise between bounds
 bounded : (a c low high : ℤ) (m l : ℕ) → (c +ℤ pos m) ≤ℤ (a +ℤ pos l) → low ≤ℤ c → a ≤ℤ high → m ≤ l + unsigned_abs (high -ℤ low)
 bounded a c low high m l p q s = omega (arith, ints)
 

@@ -1,18 +1,13 @@
 -- Worked rows: the definitions on small rules and looks.
 use Rattle.std.proofs.Common.{◌≡◌, ◌+◌, ◌%◌, true, false, [], ◌∷◌, pos, negsuc, unsigned_abs, Some, refl, ap, arith}
-use Rattle.dd_lattice.specs.Place.{place}
-use Rattle.dd_lattice.specs.Cells.{cell}
-use Rattle.dd_lattice.specs.declared.position.Cell.{Cell}
-use Rattle.dd_pattern.specs.Reading.{Look}
-use Rattle.dd_pattern.specs.Tile.{Tile, tile, tile_look}
+use Rattle.dd_lattice.specs.{Place.place, Cells.cell, declared.position.Cell.Cell}
+use Rattle.dd_pattern.specs.{Reading.Look, Tile.Tile, Tile.tile, Tile.tile_look}
 use Rattle.dd_expansion.specs.declared.formulas.Formula.{Formula, roll-Formula}
-use Rattle.dd_expansion.specs.declared.formulas.Formula.TheFolds.{fold-roll-Formula}
-use Rattle.dd_expansion.specs.declared.formulas.Formula.TheOpen.{Formula-F}
+use Rattle.dd_expansion.specs.declared.formulas.Formula.{TheFolds.fold-roll-Formula, TheOpen.Formula-F}
 use Rattle.dd_expansion.specs.Truth.{Truth, truth_step}
 use Rattle.dd_formula.specs.LocalRule.{LocalRule, is_true}
 use Rattle.dd_strip.specs.Strips.{strip_of}
-use Rattle.dd_strips.specs.Strips.{LivesNowhere, is_slice_cell, slices_weight, tile_weight}
-use Rattle.dd_strips.specs.Claims.{spread_of}
+use Rattle.dd_strips.specs.{Strips.LivesNowhere, Strips.is_slice_cell, Strips.slices_weight, Strips.tile_weight, Claims.spread_of}
 
 -- a rule of the line, over the symbols 0 and 1
 abbrev line : Formula → LocalRule
@@ -35,14 +30,14 @@ three_of_five = refl
 spread_is : spread_of (pos 1 ∷ negsuc 1 ∷ pos 3 ∷ pos 0 ∷ []) ≡ 5
 spread_is = refl
 
--- on the strip of one position lives the configuration 0 1 0 1 .. of the rule that is always true
+-- the configuration 0 1 0 1 .. on the strip of one position, of the rule that is always true
 abbrev two : Tile
 two = tile 1 (record { x = 2; y = 1; z = 1; shear = 0 }) 1 (0 ∷ 1 ∷ [])
 
 two_weighs : tile_weight (3 ∷ 4 ∷ []) two ≡ 7
 two_weighs = refl
 
--- and nothing lives on any strip of the rule that is never true
+-- nothing lives on any strip of the rule that is never true
 never_true : (look : Look) (c : Cell) → is_true (line (roll-Formula (Formula-F.Or []))) c look ≡ false
 never_true look c = ap (λ (t : Truth). t (c ∷ []) look) (fold-roll-Formula Truth (truth_step []) (Formula-F.Or []))
 

@@ -1,13 +1,8 @@
--- Strips: fillings of some slices, and configurations that repeat with the strip's periods in the axes after the first.
+-- Strips: fillings of some slices, and configurations that repeat with the strip's periods along the axes after the first.
 use Rattle.std.specs.Prelude.{◌≡◌, ℕ, ◌*◌, ◌<◌, ◌≤◌, ◌&&◌, Bool, ℤ, pos, ◌+ℤ◌, int_le, int_lt, nat_lt, is_some, List}
 use Rattle.dd_lattice.specs.declared.position.Cell.{Cell}
-use Rattle.dd_pattern.specs.Reading.{Look}
-use Rattle.dd_pattern.specs.Periods.{periods_volume}
-use Rattle.dd_pattern.specs.Tile.{Tile, IsTile}
-use Rattle.dd_pattern.specs.Weight.{total_weight}
-use Rattle.dd_formula.specs.LocalRule.{LocalRule}
-use Rattle.dd_formula.specs.Allowed.{AreAllowed, HasAllowed}
-use Rattle.dd_formula.specs.Living.{Fits, Lives}
+use Rattle.dd_pattern.specs.{Reading.Look, Periods.periods_volume, Tile.Tile, Tile.IsTile, Weight.total_weight}
+use Rattle.dd_formula.specs.{LocalRule.LocalRule, Allowed.AreAllowed, Allowed.HasAllowed, Living.Fits, Living.Lives}
 use Rattle.dd_boxes.specs.Fillings.{Admissible}
 use Rattle.dd_strip.specs.declared.strip.Strip.{Strip}
 use Rattle.dd_transfer.specs.Slices.{RepeatsAcross, symbols_from}
@@ -16,14 +11,14 @@ use Rattle.dd_transfer.specs.Slices.{RepeatsAcross, symbols_from}
 abbrev pub is_slice_cell : LocalRule → ℤ → ℕ → Cell → Bool
 is_slice_cell r x k c = int_le x c.position.x && int_lt c.position.x (x +ℤ pos k) && nat_lt c.node r.nodes
 
--- a filling of k slices of the strip from x on: exactly their cells have symbols, allowed ones, and the coordinates of the axes
--- after the first are read modulo the strip's periods
+-- a filling of k slices of the strip from x on: exactly their cells have symbols, and these are allowed; coordinates
+-- along the axes after the first are read modulo the strip's periods
 pub record IsStripFilling (r : LocalRule) (s : Strip) (x : ℤ) (k : ℕ) (look : Look) : Type 0 where
   pub domain : (c : Cell) → is_some (look c) ≡ is_slice_cell r x k c
   pub repeats : RepeatsAcross s look
   pub allowed : AreAllowed r look
 
--- one at which the rule is true at each place that fits
+-- such a filling in which the rule is true at each place that fits
 pub record IsAdmissibleStrip (r : LocalRule) (s : Strip) (x : ℤ) (k : ℕ) (look : Look) : Type 0 where
   pub filling : IsStripFilling r s x k look
   pub admissible : Admissible r look
@@ -32,8 +27,8 @@ pub record IsAdmissibleStrip (r : LocalRule) (s : Strip) (x : ℤ) (k : ℕ) (lo
 abbrev pub slices_weight : Strip → List ℕ → Look → ℤ → ℕ → ℕ
 slices_weight s ws look x n = total_weight ws (symbols_from s look x n)
 
--- a configuration with the strip's periods in the axes after the first, any period in the first and no shear, that lives in
--- the rule's subshift
+-- a configuration that lives in the rule's subshift, with the strip's periods along the axes after the first, any
+-- period along the first, and no shear
 pub record LivesOnStrip (r : LocalRule) (s : Strip) (t : Tile) : Type 0 where
   pub tile : IsTile t
   pub fits : Fits r t
@@ -50,7 +45,7 @@ LivesNowhere r s = (t : Tile) → LivesOnStrip r s t → ⊥
 abbrev pub tile_weight : List ℕ → Tile → ℕ
 tile_weight ws t = total_weight ws t.symbols
 
--- some configuration on the strip weighs p / q a position, and none less
+-- some configuration on the strip weighs p / q per position, and none weighs less
 pub record IsLeastDensity (r : LocalRule) (s : Strip) (ws : List ℕ) (p q : ℕ) : Type 0 where
   pub positive : 0 < q
   pub some : Tile

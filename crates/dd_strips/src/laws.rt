@@ -22,8 +22,8 @@ pub fn strip_least()
     slices_are_walks();
 }
 
-/// Does nothing; its contract says what ranks show: no admissible filling of the strip has more slices than the greatest rank
-/// and those of a state, and no configuration lives on it.
+/// Does nothing; its contract says what ranks show: no admissible filling of the strip has more slices than the
+/// greatest rank plus the number of slices of a state, and no configuration lives on it.
 pub fn strip_empty()
     ensures { (r : LocalRule) (periods ranks : List ℕ) → IsRule r → IsStrip r periods →
         IsEmptyCertificate r (strip_for r periods) ranks → StripEmpty r (strip_for r periods) (greatest ranks + window r) }
@@ -31,7 +31,7 @@ pub fn strip_empty()
     slices_are_walks();
 }
 
-/// Does nothing; its contract says that a strip has one least density: two fractions in lowest terms that are it are the same.
+/// Does nothing; its contract says that a strip has one least density: fractions in lowest terms that are its least density are the same.
 pub fn one_density()
     ensures { (r : LocalRule) (s : Strip) (ws : List ℕ) (p q a b : ℕ) → IsLeastDensity r s ws p q → IsLeastDensity r s ws a b →
         IsGcd p q 1 → IsGcd a b 1 → (p ≡ a) × (q ≡ b) }

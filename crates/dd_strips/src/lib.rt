@@ -1,4 +1,4 @@
-//! Strips of every length: what a closed walk of a transfer graph and its potentials, or ranks, say of them.
+//! Strips of every length: what a closed walk of a transfer graph and its potentials, or ranks, say about them.
 #![tactic(auto)]
 
 mod laws;

@@ -4,13 +4,13 @@ use Rattle.dd_tokens.specs.{declared.piece.Piece.Piece, declared.piece.Piece.The
 use Rattle.dd_tokens.specs.{declared.token.TokenKind.TokenKind, declared.token.Token.Token}
 use Rattle.dd_tokens.specs.Format.{tokens_after, first, with_piece, piece_size, with_front, IsPieceWithin}
 
--- the bytes that belong to a piece are passed over
+-- the bytes that belong to a piece are skipped
 pub over : (n place : ℕ) (bytes : List ℕ) → n ≤ length bytes → tokens_after n place bytes ≡ tokens_after 0 (place + n) (drop n bytes)
 over zero place bytes le = ap (λ p. tokens_after 0 p bytes) (omega arith)
 over (suc n) place [] le = absurd (omega arith)
 over (suc n) place (b ∷ bytes) le = over n (place + 1) bytes (omega arith) ∙ ap (λ p. tokens_after 0 p (drop n bytes)) (omega arith)
 
--- the tokens at a place are the piece there and the tokens behind it
+-- the tokens at a position are the piece there and the tokens after it
 pub next : (piece : Piece) (place : ℕ) (bytes : List ℕ) → piece ≡ first bytes → 0 < piece_size piece → piece_size piece ≤ length bytes
     → tokens_after 0 place bytes ≡ with_piece piece place (tokens_after 0 (place + piece_size piece) (drop (piece_size piece) bytes))
 next piece place [] is some within = absurd (omega (arith, some, within))

@@ -1,4 +1,4 @@
--- The lexical format of a script: blanks and comments, and tokens, longest first, up to the first place where none begins.
+-- The lexical format of a script: blanks, comments and tokens, longest first, up to the first position where none begins.
 use Rattle.std.specs.Prelude.{ℕ, zero, suc, ◌+◌, ◌-◌, List, [], ◌∷◌, ◌++◌, ◌<◌, ◌≤◌, Bool, false, ◌&&◌, ◌||◌, not, ◌==◌, nat_le, if◌then◌else◌, drop, codes}
 use Rattle.std.specs.List.{prefix_len, list_any}
 use Rattle.dd_tokens.specs.declared.token.TokenKind.TheVariants.{Word, Number, Negative, Mark}
@@ -17,15 +17,15 @@ is_letter b = nat_le 97 b && nat_le b 122
 abbrev pub is_digit : ℕ → Bool
 is_digit b = nat_le 48 b && nat_le b 57
 
--- the tokens of one byte that are no word and no number
+-- the tokens of one byte that are neither words nor numbers
 abbrev pub is_sign : ℕ → Bool
 is_sign b = list_any (λ s. s == b) (codes "AE%()[].=!&|~@:")
 
--- a byte that a comment goes on with: no line feed, and not over 127
+-- a byte that a comment may contain: no line feed, and at most 127
 abbrev pub is_comment : ℕ → Bool
 is_comment b = not (b == 10) && nat_le b 127
 
--- the first byte passes
+-- the first byte passes the test
 abbrev pub starts : (ℕ → Bool) → List ℕ → Bool
 starts p [] = false
 starts p (b ∷ bytes) = p b
@@ -42,7 +42,7 @@ is_pair b bytes = (b == 45 && starts (λ c. c == 62) bytes) || (b == 33 && start
 abbrev pub is_both_ways : ℕ → List ℕ → Bool
 is_both_ways b bytes = b == 60 && starts (λ c. c == 45) bytes && starts (λ c. c == 62) (drop 1 bytes)
 
--- A comment, of which the first hyphen is gone, goes up to the line feed or to the end; a byte over 127 in it is a fault.
+-- A comment, after its first hyphen, extends to the line feed or to the end. A byte over 127 in it is a fault.
 abbrev pub comment : List ℕ → Piece
 comment bytes =
     if starts (λ b. nat_le 128 b) (drop (prefix_len is_comment bytes) bytes) then Fault (1 + prefix_len is_comment bytes)
@@ -52,7 +52,7 @@ comment bytes =
 abbrev pub number : ℕ → List ℕ → Piece
 number b bytes = if b == 48 && starts is_digit bytes then Fault 0 else Cut Number (1 + prefix_len is_digit bytes)
 
--- what stands at the front: so many bytes of a blank or a comment, a token of so many bytes, or a fault so many bytes on
+-- what the bytes begin with: a blank or a comment, a token, or a fault some bytes on
 abbrev pub front : ℕ → List ℕ → Piece
 front b bytes =
     if is_blank b then Gap 1
@@ -75,23 +75,23 @@ piece_size (Gap n) = n
 piece_size (Cut kind n) = n
 piece_size (Fault n) = 0
 
--- a piece lies within so many bytes, and has one at least
+-- a piece has at least one byte and at most `room`; a fault is one of `room` bytes
 abbrev pub IsPieceWithin : Piece → ℕ → Type 0
 IsPieceWithin (Gap n) room = (0 < n) × (n ≤ room)
 IsPieceWithin (Cut kind n) room = (0 < n) × (n ≤ room)
 IsPieceWithin (Fault n) room = n < room
 
--- tokens before others
+-- these tokens, followed by the others
 abbrev pub with_front : List Token → Tokens → Tokens
 with_front list others = record { list = list ++ others.list; stop = others.stop }
 
--- a piece at a place, before the tokens of the rest
+-- a piece at a position, followed by the tokens of the rest
 abbrev pub with_piece : Piece → ℕ → Tokens → Tokens
 with_piece (Gap n) place rest = rest
 with_piece (Cut kind n) place rest = with_front (record { kind = kind; start = place; length = n } ∷ []) rest
 with_piece (Fault n) place rest = record { list = []; stop = place + n }
 
--- The tokens of bytes that stand from a place on, where so many of them still belong to the piece before.
+-- The tokens of the bytes from a position on, whose first `within` bytes belong to the piece before.
 abbrev pub tokens_after : ℕ → ℕ → List ℕ → Tokens
 tokens_after within place [] = record { list = []; stop = place }
 tokens_after (suc within) place (b ∷ bytes) = tokens_after within (place + 1) bytes

@@ -1,2 +1,2 @@
--- blanks, comments and tokens, longest first, up to the first place where none begins
+-- blanks, comments and tokens, longest first, up to the first position where none begins
 pub mod Format

@@ -1,4 +1,4 @@
-//! The whole bytes, piece by piece.
+//! Cuts bytes into tokens, piece by piece.
 ghost use Rattle.std.specs.Prelude.{◌≡◌, ◌≤◌, length, IfOk};
 ghost use Rattle.dd_values.specs.Bounds.{most_script};
 ghost use Rattle.dd_tokens.specs.Format.{tokens_of};
@@ -8,8 +8,8 @@ use crate::token::{Token, Tokens};
 use dd_values::Items;
 use std::alloc::{AllocError, Global};
 
-/// Cuts at most 1,048,576 bytes into tokens, each as long as it can be, up to the first place where no token
-/// and no blank begins.
+/// Cuts at most 1,048,576 bytes into tokens, each as long as possible, up to the first position where neither a token nor a
+/// blank begins.
 pub fn tokens(alloc: Global, bytes: &[u8]) -> Result<Tokens, AllocError>
     requires { length bytes.now ≤ most_script }
     ensures value { IfOk result (λ cut. cut ≡ tokens_of bytes.now) }

@@ -1,4 +1,4 @@
-//! The bytes of a script cut into tokens.
+//! Cuts the bytes of a script into tokens.
 #![tactic(auto)]
 
 mod cutting;

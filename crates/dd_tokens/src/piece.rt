@@ -1,4 +1,4 @@
-//! What stands at the front of some bytes: a blank, a comment, a token, or a fault.
+//! What some bytes begin with: a blank, a comment, a token, or a fault.
 ghost use Rattle.std.specs.Prelude.{◌≡◌, ◌≤◌, ◌<◌, ◌+◌, length};
 ghost use Rattle.std.specs.List.{prefix_len};
 ghost use Rattle.dd_values.specs.Bounds.{most_script};
@@ -6,14 +6,14 @@ ghost use Rattle.dd_tokens.specs.Format.{is_letter, is_digit, is_comment, is_pai
 
 use crate::token::TokenKind;
 
-/// What stands at the front of some bytes.
+/// What some bytes begin with.
 #[derive(Clone, Copy, Debug, PartialEq, Eq)]
 pub enum Piece {
-    /// So many bytes of a blank or a comment.
+    /// A blank or a comment of this many bytes.
     Gap(u32),
-    /// A token of so many bytes.
+    /// A token of this many bytes.
     Cut(TokenKind, u32),
-    /// After so many bytes stands one that cannot stand there.
+    /// A byte that isn't allowed, after this many bytes.
     Fault(u32),
 }
 
@@ -117,7 +117,7 @@ fn front(first: u8, bytes: &[u8]) -> Piece
     Piece::Fault(0)
 }
 
-/// What stands at the front of the bytes, of which there is one at least.
+/// What the bytes begin with; there is at least one.
 pub fn first(bytes: &[u8]) -> Piece
     requires some { 0 < length bytes.now }
     requires few { length bytes.now ≤ most_script }

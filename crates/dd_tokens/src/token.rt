@@ -1,4 +1,4 @@
-//! The tokens of a script and where their bytes stand.
+//! The tokens of a script, with their positions.
 use dd_values::Items;
 
 /// What a token is.
@@ -14,20 +14,20 @@ pub enum TokenKind {
     Mark,
 }
 
-/// A token and where its bytes stand.
+/// A token and its position.
 #[derive(Clone, Copy, Debug, PartialEq, Eq)]
 pub struct Token {
     pub kind: TokenKind,
-    /// The place of its first byte, from 0.
+    /// The position of its first byte, from 0.
     pub start: u32,
     /// How many bytes it has.
     pub length: u32,
 }
 
-/// The tokens at the front of some bytes, in order, and the place where they stop.
+/// The tokens that some bytes begin with, in order, and the position at which they stop.
 #[derive(Debug, Drop)]
 pub struct Tokens {
     pub list: Items<Token>,
-    /// The place of the first byte that belongs to no token and no blank, or the number of bytes.
+    /// The position of the first byte that belongs to no token and no blank; the number of bytes if there is none.
     pub stop: u32,
 }

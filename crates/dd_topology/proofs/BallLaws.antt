@@ -1,20 +1,16 @@
 -- Adjacency and balls: their lists have exactly the cells of their sets.
-use Rattle.std.proofs.Common.{◌≡◌, ℕ, zero, suc, List, [], ◌∷◌, Bool, true, false, cond, refl, ap, sym, ◌∙◌, subst, inl, inr, ◌⊎◌, Contains, eq-eqb}
-use Rattle.std.specs.Prelude.{◌==◌, ◌||◌}
-use Rattle.std.specs.Bool.{Decides}
-use Rattle.std.specs.List.{flat_map}
-use Rattle.std.proofs.lemmas.Bool.{eqb-true, and_parts, and_from}
-use Rattle.std.proofs.lemmas.Bool.Decides.{Decides-int_eq}
+use Rattle.std.proofs.Common.{◌≡◌, ℕ, zero, suc, List, [], ◌∷◌, Bool, true, false, cond, refl, ap, sym, ◌∙◌, subst, inl, inr, Contains, eq-eqb}
+use Rattle.std.proofs.lemmas.Bool.{eqb-true, and_parts, and_from, Decides.Decides-int_eq}
 use Rattle.std.proofs.lemmas.List.Elements.{Contains-append_left, Contains-append_right, Contains-append_cases}
-use Rattle.dd_lattice.specs.Place.{Place}
-use Rattle.dd_lattice.specs.Cells.{cell}
-use Rattle.dd_lattice.specs.declared.position.Cell.{Cell}
-use Rattle.dd_lattice.specs.lemmas.ListLaws.{Contains-first, Contains-nil, Contains-cons_cases}
-use Rattle.dd_topology.specs.declared.edge.Edge.{Edge}
-use Rattle.dd_topology.specs.Topology.{end_of, start_of, Leads}
+use Rattle.std.specs.{Prelude.◌==◌, Prelude.◌||◌, Bool.Decides, List.flat_map}
+use Rattle.dd_lattice.specs.{Place.Place, Cells.cell, declared.position.Cell.Cell}
+use Rattle.dd_values.specs.lemmas.Members.{Contains-first, Contains-nil, Contains-cons_cases}
+use Rattle.dd_values.specs.lemmas.Booleans.{or_left, or_right, or_cases}
+use Rattle.dd_topology.specs.{declared.edge.Edge.Edge, Topology.end_of, Topology.start_of, Topology.Leads}
 use Rattle.dd_topology.specs.Balls.{IsAdjacent, IsInBall, same_place, leads, is_adjacent, edge_ends, edge_starts, beside, neighbours, ball}
-use Rattle.dd_topology.proofs.CoordinateLaws.{place_is, back_and_forth, forth_and_back}
 use Rattle.dd_topology.specs.lemmas.ListLaws.{some_passes, passes_any, in_flat_map, into_flat_map}
+use Rattle.dd_topology.specs.lemmas.ExtentLaws.{back_and_forth}
+use Rattle.dd_topology.proofs.CoordinateLaws.{place_is, forth_and_back}
 
 same_place-exact : (p q : Place) → Decides (same_place p q) (p ≡ q)
 same_place-exact p q = (
@@ -33,18 +29,6 @@ leads-exact e a b = (
       ),
   λ h. and_from _ _ (and_from _ _ (eq-eqb e.from a.node (sym h.0)) (eq-eqb e.to b.node (sym (ap (λ c. c.node) h.1)))) ((same_place-exact _ _).1 (sym (ap (λ c. c.position) h.1))),
 )
-
-or_cases : (x y : Bool) → (x || y) ≡ true → (x ≡ true) ⊎ (y ≡ true)
-or_cases true y h = inl refl
-or_cases false y h = inr h
-
-or_left : (x y : Bool) → x ≡ true → (x || y) ≡ true
-or_left true y h = refl
-or_left false y h = absurd (cc)
-
-or_right : (x y : Bool) → y ≡ true → (x || y) ≡ true
-or_right true y h = refl
-or_right false y h = h
 
 -- the test of adjacency says what the relation says
 pub is_adjacent-exact : (es : List Edge) (a b : Cell) → Decides (is_adjacent es a b) (IsAdjacent es a b)

@@ -1,14 +1,10 @@
 -- Coordinates, as the code's words of 32 bits have them, and sums of positions.
 use Rattle.std.proofs.Common.{◌≡◌, ℕ, ℤ, pos, ◌+ℤ◌, ◌-ℤ◌, arith, to_z, of_z, w32, eq-eqb, ap, sym, ◌∙◌, true, false}
-use Rattle.std.specs.Bool.{one_answer}
-use Rattle.std.specs.Ordering.{int_eq}
-use Rattle.std.specs.Prelude.{◌==◌, ◌&&◌}
 use Rattle.std.proofs.lemmas.Bool.{eqb-true, false_from_ne_true, and_left, and_right, and_from}
-use Rattle.std.proofs.lemmas.Bool.Decides.{Decides-int_eq}
-use Rattle.std.proofs.lemmas.Int.{ints}
+use Rattle.std.proofs.lemmas.{Bool.Decides.Decides-int_eq, Int.ints}
+use Rattle.std.specs.{Bool.one_answer, Ordering.int_eq, Prelude.◌==◌, Prelude.◌&&◌}
 use Rattle.dd_lattice.specs.Place.{Place, place, moved, IsCoordinateInRange, IsInRange}
-use Rattle.dd_topology.specs.Topology.{reversed}
-use Rattle.dd_topology.specs.Balls.{same_place}
+use Rattle.dd_topology.specs.{Topology.reversed, Balls.same_place}
 
 pub difference_of_near : (x : ℤ) → IsCoordinateInRange x → to_z w32 (of_z w32 (pos 0 -ℤ to_z w32 (of_z w32 x))) ≡ pos 0 -ℤ x
 difference_of_near x near = omega (arith, ints)
@@ -49,9 +45,6 @@ module _ (p by s : Place) (near : IsInRange p) (near' : IsInRange by) (near'' : 
 
 pub place_is : (a b c : ℤ) (p : Place) → a ≡ p.x → b ≡ p.y → c ≡ p.z → place a b c ≡ p
 place_is a b c p x y z = ap (λ t. place t b c) x ∙ (ap (λ t. place p.x t c) y ∙ ap (λ t. place p.x p.y t) z)
-
-pub back_and_forth : (p by : Place) → moved (moved p (reversed by)) by ≡ p
-back_and_forth p by = place_is _ _ _ p (omega (arith, ints)) (omega (arith, ints)) (omega (arith, ints))
 
 pub forth_and_back : (p by : Place) → moved (moved p by) (reversed by) ≡ p
 forth_and_back p by = place_is _ _ _ p (omega (arith, ints)) (omega (arith, ints)) (omega (arith, ints))

@@ -1,12 +1,9 @@
 -- What the edges of a topology keep, edge by edge.
 use Rattle.std.proofs.Common.{◌≡◌, ◌≤◌, ℕ, List, [], ◌∷◌, Bool, true, false, cond, nat_lt, length, arith, refl}
-use Rattle.std.specs.Prelude.{nat_le, unsigned_abs, max}
-use Rattle.std.specs.List.{list_all}
-use Rattle.std.proofs.lemmas.Bool.{and_parts, and_from}
-use Rattle.std.proofs.lemmas.Bool.Decides.{nat_tests}
+use Rattle.std.proofs.lemmas.Bool.{and_parts, and_from, Decides.nat_tests}
+use Rattle.std.specs.{Prelude.nat_le, Prelude.unsigned_abs, Prelude.max, List.list_all}
 use Rattle.dd_lattice.specs.Place.{Place}
-use Rattle.dd_topology.specs.declared.edge.Edge.{Edge}
-use Rattle.dd_topology.specs.Topology.{extent, are_short}
+use Rattle.dd_topology.specs.{declared.edge.Edge.Edge, Topology.extent, Topology.are_short}
 use Rattle.dd_topology.specs.Grid.{Grid, IsGrid, edge_reach, is_offset, is_edge}
 
 edge_reach-le : (d axis : ℕ) → edge_reach d axis ≤ 4

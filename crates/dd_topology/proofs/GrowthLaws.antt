@@ -1,31 +1,24 @@
 -- Why the rounds of growth make a ball: only cells beside the frontier can be new.
 use Rattle.std.proofs.Common.{◌≡◌, ◌+◌, ◌<◌, ◌≤◌, ◌↔◌, ℕ, zero, suc, List, [], ◌∷◌, ◌++◌, Bool, true, false, ◌&&◌, refl, ap, sym, ◌∙◌, subst, inl, inr, ◌⊎◌, arith, take, get_or, length, Contains, true≢false, add-one, zero-add, suc-add, ◌-◌, eq-eqb}
-use Rattle.std.specs.Prelude.{Result, Ok, Err, IfOk, Some, None, cond, ◌==◌, if◌then◌else◌}
-use Rattle.std.specs.List.{All, flat_map, list_all}
-use Rattle.std.specs.List.Sorted.{IsStrictlySortedBy}
-use Rattle.std.specs.BTreeSet.{insert_key}
 use Rattle.std.proofs.lemmas.List.{take_more}
 use Rattle.std.proofs.lemmas.List.Elements.{All-contains, All-cons, All-nil, Contains-append_left, Contains-append_right, Contains-append_cases}
-use Rattle.std.proofs.lemmas.List.Folds.{list_all-append}
-use Rattle.std.proofs.lemmas.Bool.{and_parts, and_left, and_right, false_from_ne_true}
-use Rattle.dd_lattice.specs.Place.{IsInRange, is_in_range}
-use Rattle.dd_lattice.specs.Order.{cell_cmp}
-use Rattle.dd_lattice.specs.InOrder.{in_order}
-use Rattle.dd_lattice.specs.declared.position.Cell.{Cell}
-use Rattle.dd_lattice.specs.lemmas.InOrderLaws.{cells_equal}
-use Rattle.dd_lattice.specs.lemmas.RangeLaws.{in_range_from_test, test_from_in_range}
-use Rattle.dd_lattice.specs.lemmas.ListLaws.{All-from_contains, Contains-first, Contains-nil, Contains-cons_cases}
+use Rattle.std.proofs.lemmas.{List.Folds.list_all-append, Bool.and_left, Bool.and_right, Bool.false_from_ne_true}
+use Rattle.std.specs.Prelude.{Result, IfOk, Some, None, cond, ◌==◌, if◌then◌else◌}
+use Rattle.std.specs.{List.All, List.flat_map, List.list_all, List.Sorted.IsStrictlySortedBy, BTreeSet.insert_key}
+use Rattle.dd_lattice.specs.{Place.IsInRange, Place.is_in_range, Order.cell_cmp, InOrder.in_order, declared.position.Cell.Cell}
+use Rattle.dd_lattice.specs.lemmas.{InOrderLaws.cells_equal, RangeLaws.in_range_from_test, RangeLaws.test_from_in_range}
 use Rattle.dd_lattice.specs.declared.fault.LatticeFault.{LatticeFault}
 use Rattle.dd_lattice.specs.declared.fault.LatticeFault.TheVariants.{Range, Memory}
-use Rattle.dd_topology.specs.declared.edge.Edge.{Edge}
-use Rattle.dd_topology.specs.Topology.{in_range}
+use Rattle.dd_values.specs.lemmas.Members.{All-from_contains, Contains-first, Contains-nil, Contains-cons_cases}
+use Rattle.dd_values.specs.lemmas.{Lists.passes, Results.if_ok_both}
+use Rattle.dd_topology.specs.{declared.edge.Edge.Edge, Topology.in_range}
 use Rattle.dd_topology.specs.Balls.{CellSet, IsAdjacent, IsInBall, IsCellListOf, IsCellFaultOf, CellsLeaveRange, edge_ends, edge_starts, beside, neighbours, ball, are_in_range}
-use Rattle.dd_topology.specs.keeping.Growth.{AddsCells}
-use Rattle.dd_topology.specs.lemmas.ListLaws.{in_flat_map, into_flat_map}
+use Rattle.dd_topology.specs.{keeping.Growth.AddsCells, lemmas.ListLaws.in_flat_map, lemmas.ListLaws.into_flat_map}
 use Rattle.dd_topology.specs.lemmas.OrderLaws.{kept-insert_key, has-insert_key, from-insert_key, is-in_order}
 use Rattle.dd_topology.proofs.BallLaws.{from_neighbours, into_neighbours, in_ball, ball_holds}
 
--- the cells that are found are those of the ball of radius r, and all that are beside one of them are found, but for those beside the frontier
+-- the cells found are the ball of radius r. Each neighbour of one of them is found too, except for neighbours of the
+-- frontier
 pub record IsGrown (es : List Edge) (c : Cell) (r : ℕ) (found frontier : List Cell) : Type 0 where
   pub members : (d : Cell) → Contains found d ↔ IsInBall es c r d
   pub in_range : All (λ d. IsInRange d.position) found
@@ -44,11 +37,6 @@ grown_start es c near = record {
   closed = λ b d h adjacent. inl h;
 }
 
-list_all_member : {X : Type 0} (p : X → Bool) (xs : List X) (x : X) → list_all p xs ≡ true → Contains xs x → p x ≡ true
-list_all_member p [] x h there = absurd (Contains-nil x there)
-list_all_member p (y ∷ ys) x h there =
-    let parts = and_parts _ _ h in elim (Contains-cons_cases y ys x there) [ inl same ↦ ap p (sym same) ∙ parts.0 | inr after ↦ list_all_member p ys x parts.1 after ]
-
 some_fails : {X : Type 0} (p : X → Bool) (xs : List X) → list_all p xs ≡ false → (x : X) × Contains xs x × (p x ≡ false)
 some_fails p [] h = absurd (cc)
 some_fails {X} p (x ∷ xs) h = by_head (p x) refl h (some_fails p xs)
@@ -65,7 +53,7 @@ grown_more es c r found frontier now fresh grown near adds = rw add-one (record 
   in_range = All-from_contains (λ d. IsInRange d.position) now (λ d there.
       elim ((adds.members d).0 there) [
         | inl before ↦ All-contains (λ e. IsInRange e.position) found d grown.in_range before
-        | inr beside ↦ in_range_from_test d.position (list_all_member (λ e. is_in_range e.position) (flat_map (neighbours es) frontier) d near beside)
+        | inr beside ↦ in_range_from_test d.position (passes (λ e. is_in_range e.position) (flat_map (neighbours es) frontier) d near beside)
       ]);
   frontier_found = adds.fresh_found;
   closed = λ b d there adjacent.
@@ -134,10 +122,6 @@ left_range es c k r found frontier within grown far =
       outside = λ near. true≢false (sym (test_from_in_range d.0.position near) ∙ d.2);
     }
 
-ok_with_both : {V E : Type 0} (result : Result V E) (P Q S : V → Type 0) → ((v : V) → P v → Q v → S v) → IfOk result P → IfOk result Q → IfOk result S
-ok_with_both (Ok v) P Q S both p q = both v p q
-ok_with_both (Err e) P Q S both p q = tt
-
 finished : (es : List Edge) (c : Cell) (r : ℕ) (found frontier cells : List Cell) → IsGrown es c r found frontier → cells ≡ found → IsStrictlySortedBy cell_cmp cells → IsCellListOf (IsInBall es c r) cells
 finished es c r found frontier cells grown same ascending = record {
   ascending = ascending;
@@ -148,11 +132,11 @@ finished es c r found frontier cells grown same ascending = record {
 -- a list that was made of the cells that are found, if it was made
 module _ {V E : Type 0} (result : Result V E) (items : V → List Cell) (es : List Edge) (c : Cell) (r : ℕ) (found frontier : List Cell) where
   pub cells_at_last : IsGrown es c r found frontier → IfOk result (λ v. items v ≡ found) → IfOk result (λ v. IsStrictlySortedBy cell_cmp (items v)) → IfOk result (λ v. IsCellListOf (IsInBall es c r) (items v))
-  cells_at_last grown same ascending = ok_with_both result _ _ _ (λ v. finished es c r found frontier (items v) grown) same ascending
+  cells_at_last grown same ascending = if_ok_both result _ _ _ (λ v. finished es c r found frontier (items v) grown) same ascending
 
   pub list_at_last : IsGrown es c r found frontier → IfOk result (λ v. items v ≡ found) → IfOk result (λ v. IsStrictlySortedBy cell_cmp (items v)) → IfOk result (λ v. items v ≡ in_order (ball es c r))
   list_at_last grown same ascending =
-      ok_with_both result _ _ _ (λ v same' ascending'.
+      if_ok_both result _ _ _ (λ v same' ascending'.
       let list = finished es c r found frontier (items v) grown same' ascending' in
       is-in_order (items v) (ball es c r) ascending' (λ d there. ball_holds es c r d ((list.members d).0 there)) (λ d there. (list.members d).1 (in_ball es c r d there)))
       same ascending
@@ -225,7 +209,7 @@ pub part_out_of_range : {X : Type 0} (f : X → List Cell) (xs : List X) (i : �
 part_out_of_range f xs i x below is far =
     let d = some_fails (λ c. is_in_range c.position) (f x) far in
     let there : Contains (flat_map f xs) d.0 = into_flat_map f xs x d.0 (i, below, sym is) d.1 in
-    false_from_ne_true (are_in_range (flat_map f xs)) (λ near. true≢false (sym (list_all_member (λ c. is_in_range c.position) (flat_map f xs) d.0 near there) ∙ d.2))
+    false_from_ne_true (are_in_range (flat_map f xs)) (λ near. true≢false (sym (passes (λ c. is_in_range c.position) (flat_map f xs) d.0 near there) ∙ d.2))
 
 -- where an edge has the node of a cell, and a cell in range at its other end
 module _ (n m : ℕ) (other given : Cell) (same : n ≡ m) (near : Some given ≡ in_range other) where

@@ -1,22 +1,16 @@
 -- At most one edge for each label and node, and what it makes of a move.
 use Rattle.std.proofs.Common.{◌≡◌, ◌+◌, ◌<◌, ℕ, List, [], ◌∷◌, ◌++◌, Bool, true, false, ◌&&◌, map, length, get_or, take, Option, Some, None, Contains, refl, ap, sym, ◌∙◌, inl, inr, arith, true≢false, eq-eqb}
-use Rattle.std.specs.Prelude.{◌==◌, MatchOption, find, position, slice_get, if◌then◌else◌}
-use Rattle.std.specs.List.{list_any}
-use Rattle.std.specs.Option.{option_and_then, option_map}
 use Rattle.std.proofs.lemmas.Bool.{eqb-true, and_parts, and_from, cases_order}
-use Rattle.std.proofs.lemmas.Bool.Decides.{nat_tests}
-use Rattle.std.proofs.lemmas.List.{take_more, get_or_default, map-append}
-use Rattle.std.proofs.lemmas.List.Folds.{list_any_at}
-use Rattle.std.proofs.lemmas.List.Quantifiers.{all_pairs_push}
-use Rattle.dd_lattice.specs.Place.{IsInRange, is_in_range}
-use Rattle.dd_lattice.specs.declared.position.Cell.{Cell}
-use Rattle.dd_lattice.specs.lemmas.RangeLaws.{test_from_in_range}
+use Rattle.std.proofs.lemmas.{Bool.Decides.nat_tests, List.take_more, List.get_or_default, List.map-append}
+use Rattle.std.proofs.lemmas.List.{Folds.list_any_at, Quantifiers.all_pairs_push}
+use Rattle.std.specs.Prelude.{◌==◌, MatchOption, find, position, slice_get, if◌then◌else◌}
+use Rattle.std.specs.{List.list_any, Option.option_and_then, Option.option_map}
+use Rattle.dd_lattice.specs.{Place.IsInRange, Place.is_in_range, declared.position.Cell.Cell, lemmas.RangeLaws.test_from_in_range}
 use Rattle.dd_topology.specs.declared.edge.Edge.{Edge}
 use Rattle.dd_topology.specs.Topology.{leaves, end_of, in_range, IsMove, starts_alike, AreSingle}
-use Rattle.indexmap.specs.IndexSet.{insert_key}
-use Rattle.dd_topology.specs.keeping.Kept.{move_of}
-use Rattle.dd_topology.specs.declared.topology.Move.{Move}
+use Rattle.dd_topology.specs.{keeping.Kept.move_of, declared.topology.Move.Move}
 use Rattle.dd_topology.specs.lemmas.ListLaws.{found, missed, list_any-map, position-map, find-position, find_alike, insert_key-new}
+use Rattle.indexmap.specs.IndexSet.{insert_key}
 
 pub starts_alike-flip : (e f : Edge) → starts_alike e f ≡ false → starts_alike f e ≡ false
 starts_alike-flip e f h = grind (arith, nat_tests)
@@ -36,13 +30,13 @@ single_more es i e within is before new =
 alike : (e f : Edge) → e.label ≡ f.label → e.from ≡ f.from → starts_alike e f ≡ true
 alike e f label from = and_from _ _ (eq-eqb e.label f.label label) (eq-eqb e.from f.from from)
 
--- two edges with one label from one node do not stand at two places
+-- two edges with the same label and first node are not at two places
 apart : (es : List Edge) → AreSingle es → (e f : Edge) (i j : ℕ) → i < j → j < length es → get_or es i e ≡ e → get_or es j f ≡ f → e.label ≡ f.label → e.from ≡ f.from → ⊥
 apart es single e f i j before below is is' label from =
     let same : get_or es j e ≡ f = get_or_default es j e f below ∙ is' in
     true≢false (sym (alike e f label from) ∙ (ap (λ x. starts_alike e x) (sym same) ∙ (ap (λ x. starts_alike x (get_or es j e)) (sym is) ∙ single i j e before below)))
 
--- two edges with one label from one node are one edge
+-- two edges with the same label and first node are the same edge
 one_edge : (es : List Edge) → AreSingle es → (e f : Edge) → Contains es e → Contains es f → e.label ≡ f.label → e.from ≡ f.from → e ≡ f
 one_edge es single e f (i, below, is) (j, below', is') label from =
     elim (cases_order i j) [
@@ -88,7 +82,7 @@ found_by_move es moves is c label r at =
     ∙ (sym (find-position (λ e. same_move m (move_of e)) es)
     ∙ find_alike (λ e. same_move m (move_of e)) (leaves c label) (λ e. ap (λ b. b && (c.node == e.from)) (flip label e.label) ∙ ap (λ b. (e.label == label) && b) (flip c.node e.from)) es)
 
--- a move that is there repeats an edge's
+-- a move that is in the list is that of an edge
 pub repeats_from : (es : List Edge) (moves : List Move) (e : Edge) → moves ≡ map move_of es → list_any (same_move (move_of e)) moves ≡ true → list_any (starts_alike e) es ≡ true
 repeats_from es moves e is h = sym (list_any-map move_of (same_move (move_of e)) es) ∙ (ap (list_any (same_move (move_of e))) (sym is) ∙ h)
 

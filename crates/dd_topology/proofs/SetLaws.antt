@@ -1,14 +1,12 @@
 -- Flat lists as rows, and the rows of sets.
 use Rattle.std.proofs.Common.{◌≡◌, ◌+◌, ◌-◌, ◌*◌, ◌≤◌, ◌<◌, ℕ, zero, suc, Bool, true, false, List, [], ◌∷◌, ◌++◌, length, eq-eqb, take, drop, get_or, set, replicate, zero-add, suc-add, append_assoc, append-nil, refl, ap, sym, ◌∙◌, arith}
-use Rattle.std.specs.Prelude.{◌||◌}
-use Rattle.std.specs.List.{All, list_any}
 use Rattle.std.proofs.Math.Nat.{zero-mul, suc-mul, mul-le-mul_right}
 use Rattle.std.proofs.lemmas.List.{take-replicate, drop-replicate, take-append-drop, take-append-le, drop-append-le, take_all, drop_all, drop-drop, get_or_default, get_or-take, get_or-drop, length-append, length-take-le, length-drop, length-set, length-replicate, same_lists}
 use Rattle.std.proofs.lemmas.List.Elements.{All-get_or, All-replicate, All-set, Contains-get_or}
 use Rattle.std.proofs.lemmas.List.FromFn.{get_or-map-range_with_len, length-map-range_with_len}
+use Rattle.std.specs.{Prelude.◌||◌, List.All, List.list_any}
 use Rattle.dd_topology.specs.Sets.{SymbolSets, IsRow, IsSets, all_symbols, is_listed, symbol_row, restricted}
-use Rattle.dd_topology.specs.keeping.Kept.{in_rows}
-use Rattle.dd_topology.specs.lemmas.ListLaws.{passes_any}
+use Rattle.dd_topology.specs.{keeping.Kept.in_rows, lemmas.ListLaws.passes_any}
 
 pub item_below : (n m a t : ℕ) → a < n → t < m → a * m + t < n * m
 item_below n m a t h k = omega (arith, suc-mul a m, mul-le-mul_right m (let le : suc a ≤ n = omega arith in le))

@@ -1,17 +1,10 @@
 -- Tables without repeats.
 use Rattle.std.proofs.Common.{◌≡◌, ◌<◌, ℕ, List, [], ◌∷◌, Bool, true, false, ◌||◌, length, take, get_or, Contains, refl, ap, sym, ◌∙◌, arith, true≢false}
-use Rattle.std.specs.Prelude.{AllPairs, bytes_eq}
-use Rattle.std.specs.List.{list_any}
-use Rattle.std.proofs.lemmas.Bool.{false_from_ne_true}
-use Rattle.std.proofs.lemmas.List.{get_or-take, length-take}
-use Rattle.std.proofs.lemmas.List.Kept.{AllPairs-cons}
-use Rattle.std.proofs.lemmas.Option.{slice_get_within, get_or_from_slice_get}
-use Rattle.std.proofs.lemmas.Slice.Eq.{bytes_eq-Decides}
-use Rattle.dd_lattice.specs.lemmas.ListLaws.{All-from_contains}
-use Rattle.dd_topology.specs.Topology.{starts_alike}
-use Rattle.dd_topology.specs.Grid.{IsFirstTwice}
-use Rattle.dd_topology.specs.Builtin.{has_repeat}
-use Rattle.dd_topology.specs.declared.edge.Edge.{Edge}
+use Rattle.std.proofs.lemmas.{Bool.false_from_ne_true, List.get_or-take, List.length-take, List.Kept.AllPairs-cons}
+use Rattle.std.proofs.lemmas.{Option.slice_get_within, Option.get_or_from_slice_get, Slice.Eq.bytes_eq-Decides}
+use Rattle.std.specs.{Prelude.AllPairs, Prelude.bytes_eq, List.list_any}
+use Rattle.dd_values.specs.lemmas.Members.{All-from_contains}
+use Rattle.dd_topology.specs.{Topology.starts_alike, Grid.IsFirstTwice, Builtin.has_repeat, declared.edge.Edge.Edge}
 use Rattle.dd_topology.specs.lemmas.ListLaws.{some_passes, passes_any}
 use Rattle.dd_topology.proofs.MoveLaws.{starts_alike-flip}
 

@@ -1,21 +1,16 @@
 -- Adjacent cells and balls, as sets and as lists.
 use Rattle.std.specs.Prelude.{◌≡◌, ◌⊎◌, ◌↔◌, ℕ, zero, suc, ◌==◌, ◌&&◌, ◌||◌, Bool, cond, List, [], ◌∷◌, ◌++◌, All, Contains}
-use Rattle.std.specs.List.{flat_map, list_any, list_all}
-use Rattle.std.specs.List.Sorted.{IsStrictlySortedBy}
-use Rattle.std.specs.Ordering.{int_eq}
-use Rattle.dd_lattice.specs.Place.{Place, moved, IsInRange, is_in_range}
-use Rattle.dd_lattice.specs.Order.{cell_cmp}
-use Rattle.dd_lattice.specs.Regions.{LeavesRangeAt, IsFaultAt}
-use Rattle.dd_lattice.specs.declared.position.Cell.{Cell}
+use Rattle.std.specs.{List.flat_map, List.list_any, List.list_all, List.Sorted.IsStrictlySortedBy, Ordering.int_eq}
+use Rattle.dd_lattice.specs.{Place.Place, Place.moved, Place.IsInRange, Place.is_in_range, Order.cell_cmp}
+use Rattle.dd_lattice.specs.{Regions.LeavesRangeAt, Regions.IsFaultAt, declared.position.Cell.Cell}
 use Rattle.dd_lattice.specs.declared.fault.LatticeFault.{LatticeFault}
-use Rattle.dd_topology.specs.declared.edge.Edge.{Edge}
-use Rattle.dd_topology.specs.Topology.{Leads, end_of, start_of}
+use Rattle.dd_topology.specs.{declared.edge.Edge.Edge, Topology.Leads, Topology.end_of, Topology.start_of}
 
 -- a set of cells
 abbrev pub CellSet : Type 1
 CellSet = Cell → Type 0
 
--- some edge leads from the one to the other, in either direction
+-- an edge joins the two cells, in either direction
 abbrev pub IsAdjacent : List Edge → Cell → CellSet
 IsAdjacent es a b = (e : Edge) × Contains es e × (Leads e a b ⊎ Leads e b a)
 
@@ -34,7 +29,7 @@ pub record IsCellListOf (S : CellSet) (cells : List Cell) : Type 0 where
 abbrev pub CellsLeaveRange : CellSet → Type 0
 CellsLeaveRange S = LeavesRangeAt (λ (c : Cell). c.position) S
 
--- the fault with which the list of a set is not made: `Range` only where the set leaves the range
+-- why the list of a set is not made: `Range` only if the set leaves the range
 abbrev pub IsCellFaultOf : CellSet → LatticeFault → Type 0
 IsCellFaultOf S = IsFaultAt (λ (c : Cell). c.position) S
 

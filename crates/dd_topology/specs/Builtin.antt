@@ -2,8 +2,7 @@
 use Rattle.std.specs.Prelude.{ℕ, Bool, false, ◌||◌, ℤ, pos, negsuc, List, [], ◌∷◌, ◌++◌, codes}
 use Rattle.std.specs.List.{list_any}
 use Rattle.dd_lattice.specs.Place.{Place, place}
-use Rattle.dd_topology.specs.declared.edge.Edge.{Edge}
-use Rattle.dd_topology.specs.declared.builtin.Kind.{Kind}
+use Rattle.dd_topology.specs.declared.{edge.Edge.Edge, builtin.Kind.Kind}
 use Rattle.dd_topology.specs.declared.builtin.Kind.TheVariants.{Line, Square, King, Triangle, Hex, Cube}
 use Rattle.dd_topology.specs.Grid.{Grid, grid}
 

@@ -2,11 +2,9 @@
 use Rattle.std.specs.Prelude.{◌≡◌, ◌≤◌, ℕ, ◌&&◌, Bool, true, cond, nat_lt, nat_le, unsigned_abs, List, Some, length, slice_get, take}
 use Rattle.std.specs.List.{list_all, list_any}
 use Rattle.dd_lattice.specs.Place.{Place}
-use Rattle.dd_topology.specs.declared.edge.Edge.{Edge}
-use Rattle.dd_topology.specs.declared.fault.TopologyFault.{TopologyFault}
+use Rattle.dd_topology.specs.declared.{edge.Edge.Edge, fault.TopologyFault.TopologyFault}
 use Rattle.dd_topology.specs.declared.fault.TopologyFault.TheVariants.{Twice, Memory}
-use Rattle.dd_topology.specs.Naming.{AreDistinct}
-use Rattle.dd_topology.specs.Topology.{starts_alike, AreSingle}
+use Rattle.dd_topology.specs.{Naming.AreDistinct, Topology.starts_alike, Topology.AreSingle}
 
 pub record Grid : Type 0 where
   pub dimension : ℕ

@@ -12,5 +12,5 @@ pub mod Builtin
 pub mod Sets
 -- what a topology keeps beside its edges, and a round of a ball's growth
 pub mod keeping
--- lemmas on what stands above, with their proofs, for whoever cites them
+-- lemmas on these definitions, with their proofs
 pub mod lemmas

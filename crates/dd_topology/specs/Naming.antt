@@ -4,15 +4,15 @@ use Rattle.std.specs.declared.alloc.Global.{Global}
 use Rattle.dd_topology.specs.declared.names.NameFault.{NameFault}
 use Rattle.dd_topology.specs.declared.names.NameFault.TheVariants.{Twice, Memory}
 
--- no name stands twice
+-- no name occurs twice
 abbrev pub AreDistinct : List (List ℕ) → Type 0
 AreDistinct names = AllPairs (λ a b. a ≢ b) names
 
--- the number of a name: how many names stand before it
+-- the number of a name: how many names come before it
 abbrev pub number_of : List (List ℕ) → List ℕ → Option ℕ
 number_of names name = position (bytes_eq name) names
 
--- what a refused name is answered: the name itself, and that it is there; or that it is not, and memory ran out
+-- a refusal holds the name. Either the name is there already, or memory ran out
 abbrev pub IsNameRefusal : List (List ℕ) → String Global → NameFault → Type 0
 IsNameRefusal names name (Twice back) = (back ≡ name) × Contains names (string_bytes name)
 IsNameRefusal names name (Memory back) = (back ≡ name) × ¬ Contains names (string_bytes name)

@@ -39,6 +39,6 @@ is_listed symbols t = list_any (λ s. s == t) symbols
 abbrev pub symbol_row : ℕ → List ℕ → List Bool
 symbol_row m symbols = map (is_listed symbols) (range_with_len 0 m)
 
--- the node allows exactly these, and each other node what it allowed
+-- the node allows exactly these, and each other node allows what it did before
 abbrev pub restricted : SymbolSets → ℕ → List ℕ → SymbolSets
 restricted s a symbols = symbol_sets s.symbols (slice_set s.allowed a (symbol_row s.symbols symbols))

@@ -1,17 +1,14 @@
 -- Moves along the edges of a topology, over all of Z^3.
 use Rattle.std.specs.Prelude.{◌≡◌, ℕ, ◌==◌, ◌&&◌, Bool, false, max, nat_le, unsigned_abs, pos, ◌-ℤ◌, List, Option, Some, None, if◌then◌else◌, Contains, AllPairs}
-use Rattle.std.specs.List.{find, list_all}
-use Rattle.std.specs.Option.{option_map}
-use Rattle.dd_lattice.specs.Place.{Place, place, moved, is_in_range}
-use Rattle.dd_lattice.specs.Cells.{cell}
-use Rattle.dd_lattice.specs.declared.position.Cell.{Cell}
+use Rattle.std.specs.{List.find, List.list_all, Option.option_map}
+use Rattle.dd_lattice.specs.{Place.Place, Place.place, Place.moved, Place.is_in_range, Cells.cell, declared.position.Cell.Cell}
 use Rattle.dd_topology.specs.declared.edge.Edge.{Edge}
 
 -- the way back
 abbrev pub reversed : Place → Place
 reversed p = place (pos 0 -ℤ p.x) (pos 0 -ℤ p.y) (pos 0 -ℤ p.z)
 
--- where an edge leads from a cell of its first node, and where it comes from to a cell of its second
+-- the end of an edge from a cell of its first node, and the start of an edge to a cell of its second
 abbrev pub end_of : Cell → Edge → Cell
 end_of c e = cell (moved c.position e.offset) e.to
 
@@ -37,7 +34,7 @@ Leads e a b = (a.node ≡ e.from) × (b ≡ end_of a e)
 abbrev pub IsMove : List Edge → Cell → ℕ → Cell → Type 0
 IsMove es a label b = (e : Edge) × Contains es e × (e.label ≡ label) × Leads e a b
 
--- two edges with one label from one node
+-- two edges with the same label and first node
 abbrev pub starts_alike : Edge → Edge → Bool
 starts_alike e f = e.label == f.label && e.from == f.from
 

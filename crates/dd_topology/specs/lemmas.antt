@@ -1,3 +1,4 @@
 pub mod ListLaws
 pub mod NamingLaws
 pub mod OrderLaws
+pub mod ExtentLaws

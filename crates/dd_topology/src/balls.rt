@@ -1,4 +1,4 @@
-//! Adjacent cells, and balls: a ball grows in rounds, each from the cells that the round before found first.
+//! Adjacent cells, and balls: a ball grows in rounds, each from the cells that were new in the round before.
 ghost use Rattle.std.specs.Prelude.{◌≡◌, ◌↔◌, ◌++◌, [], true, false, IsTrue, IfOk, IfErr, OnOk};
 ghost use Rattle.std.specs.List.{flat_map};
 ghost use Rattle.std.specs.List.Sorted.{IsStrictlySortedBy};
@@ -16,7 +16,7 @@ use std::alloc::{AllocError, Global};
 use std::collections::BTreeSet;
 
 impl Topology {
-    /// Whether some edge leads from the one cell to the other, in either direction.
+    /// Whether an edge joins the two cells, in either direction.
     pub fn adjacent(&self, a: &Cell, b: &Cell) -> bool
         ensures test { result ≡ is_adjacent self.now.edges a.now b.now }
         ensures exact { IsTrue result ↔ IsAdjacent self.now.edges a.now b.now }
@@ -37,7 +37,7 @@ impl Topology {
         self.ball_within(alloc, centre, radius, &mut found)
     }
 
-    /// The same, where the cells that the rounds find are gathered in a set that is empty at first.
+    /// The ball, whose cells the rounds gather in a set that is empty at first.
     fn ball_within(
         &self,
         alloc: Global,
@@ -50,7 +50,7 @@ impl Topology {
         ensures list { IfOk result (λ v. v.items ≡ in_order (ball self.now.edges centre.now radius)) }
         ensures fault { IfErr result (IsCellFaultOf (IsInBall self.now.edges centre.now radius)) }
     {
-        // A cell holds only a position in range: the rounds begin with one.
+        // A cell's position is in range, so the rounds begin in range.
         let position = &centre.position;
         let _ = &position.x;
         found.insert(*centre)?;
@@ -66,7 +66,7 @@ impl Topology {
     }
 }
 
-/// Whether some edge leads from the one cell to the other, in either direction.
+/// Whether an edge joins the two cells, in either direction.
 fn some_edge_joins(edges: &[Edge], a: &Cell, b: &Cell) -> bool
     ensures { result ≡ is_adjacent edges.now a.now b.now }
 {
@@ -155,7 +155,7 @@ fn neighbours_of(alloc: Global, edges: &[Edge], cells: &[Cell]) -> Result<Vec<Ce
     Ok(reached)
 }
 
-/// Adds the cells to those that are found, and gives those that were not among them.
+/// Adds the cells to those found, and returns the new ones.
 fn fresh_cells(
     alloc: Global,
     found: &mut BTreeSet<Cell>,
@@ -173,7 +173,7 @@ fn fresh_cells(
     Ok(fresh)
 }
 
-/// Adds the cells adjacent to those of the frontier to those that are found, and gives those that were not among them.
+/// Adds the cells adjacent to the frontier to those found, and returns the new ones.
 fn next_frontier(
     alloc: Global,
     edges: &[Edge],

@@ -149,7 +149,7 @@ fn link(label: u32, x: i32, y: i32, z: i32) -> Edge
     }
 }
 
-/// An edge from a first node to a second.
+/// An edge from node 0 to node 1.
 fn forth(label: u32, x: i32, y: i32, z: i32) -> Edge
     requires { IsInRange (place x y z) }
     ensures { result ≡ forth label (place x y z) }
@@ -162,7 +162,7 @@ fn forth(label: u32, x: i32, y: i32, z: i32) -> Edge
     }
 }
 
-/// An edge from a second node to a first.
+/// An edge from node 1 to node 0.
 fn back(label: u32, x: i32, y: i32, z: i32) -> Edge
     requires { IsInRange (place x y z) }
     ensures { result ≡ back label (place x y z) }
@@ -175,7 +175,7 @@ fn back(label: u32, x: i32, y: i32, z: i32) -> Edge
     }
 }
 
-/// The topology of a table, in which no label stands twice and no two edges have one label and one first node.
+/// The topology of a table, in which no label occurs twice and no two edges have the same label and first node.
 fn made(
     alloc: Global,
     dim: u32,

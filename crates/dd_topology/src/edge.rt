@@ -36,7 +36,7 @@ pub(crate) fn start_of(cell: &Cell, edge: &Edge) -> Option<Cell>
     })
 }
 
-/// The way back: the position on the other side of the origin.
+/// The way back: the position with each coordinate negated.
 pub fn reversed(offset: &Position) -> Position
     ensures { result ≡ reversed offset.now }
 {

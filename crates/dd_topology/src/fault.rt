@@ -7,7 +7,7 @@ pub enum TopologyFault {
     /// The label of the first edge whose label and first node an earlier edge has.
     #[error("the label {0} has two edges from one node")]
     Twice(u32),
-    /// Memory was wanting.
+    /// Memory ran out.
     #[error("out of memory")]
     Memory,
 }

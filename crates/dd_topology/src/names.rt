@@ -22,13 +22,13 @@ impl Model for Names {
     ghost invariant = { λ names. length names.known.keys < 2 ^ 32 };
 }
 
-/// Why a name was not added. The name comes back.
+/// Why a name was not added. It holds the name.
 #[derive(Debug, Drop, Error)]
 pub enum NameFault {
     /// The name was added before.
     #[error("the name is there already")]
     Twice(String),
-    /// Memory was wanting.
+    /// Memory ran out.
     #[error("out of memory")]
     Memory(String),
 }
@@ -48,7 +48,7 @@ impl Names {
     /// Adds a name, and gives its number.
     ///
     /// # Errors
-    /// The name comes back, and the names stay as they were. `Twice` where the name was added before; else `Memory`.
+    /// `Twice` if the name was added before, else `Memory`. The fault holds the name, and the list is unchanged.
     pub fn add(&mut self, name: String) -> Result<u32, NameFault>
         requires { length self.old < 2 ^ 32 - 1 }
         ensures number { IfOk result (λ number. number ≡ length self.old) }

@@ -5,7 +5,7 @@ ghost use Rattle.dd_topology.specs.Sets.{all_symbols, restricted, allows, symbol
 use std::alloc::{AllocError, Global};
 use std::marker::Model;
 
-/// For each of some nodes the symbols that it allows, at least one.
+/// The symbols that each node allows, at least one.
 #[derive(Debug, Drop)]
 pub struct Sets {
     nodes: u32,
@@ -26,7 +26,7 @@ impl Model for Sets {
         × (length s.allowed.items ≡ s.nodes * s.symbols) };
 }
 
-/// Answers for exactly these symbols.
+/// Makes the row allow exactly these symbols.
 fn allow_listed(row: &mut [bool], symbols: &[u32])
     requires { All (λ s. s < length row.old) symbols.now }
     ensures { row.new ≡ symbol_row (length row.old) symbols.now }
@@ -40,7 +40,7 @@ fn allow_listed(row: &mut [bool], symbols: &[u32])
 }
 
 impl Sets {
-    /// Every node allows every one of so many symbols.
+    /// The sets in which every node allows every symbol.
     pub fn new(alloc: Global, nodes: u32, symbols: u32) -> Result<Sets, AllocError>
         requires nodes { 1 ≤ nodes }
         requires symbols { 1 ≤ symbols }
@@ -84,7 +84,7 @@ impl Sets {
         self.symbols
     }
 
-    /// The same sets once more.
+    /// A copy of the sets.
     pub fn copy(&self, alloc: Global) -> Result<Sets, AllocError>
         ensures value { IfOk result (λ copy. copy ≡ self.now) }
         ensures kept { IsSets (length self.now.allowed) self.now }

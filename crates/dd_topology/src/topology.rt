@@ -75,8 +75,8 @@ impl Topology {
     /// The topology with these labels and edges.
     ///
     /// # Errors
-    /// `Twice` where a label has two edges from one node, with the label of the first edge whose label and first node an
-    /// earlier one has; or `Memory`.
+    /// `Twice` if two edges have the same label and first node. It holds the label of the first edge that repeats an
+    /// earlier one in both. Or `Memory`.
     pub fn from_edges(
         alloc: Global,
         dim: u32,
@@ -127,8 +127,8 @@ impl Topology {
         self.labels.find(name)
     }
 
-    /// The edges, in the order in which they were given. The lists that definitions over edges make have the cells of the
-    /// relations, past the range of positions too.
+    /// The edges, in the order in which they were given. Adjacency as a test and balls as lists agree with the relations,
+    /// past the range of positions too.
     pub fn edges(&self) -> &[Edge]
         ensures edges { result.now ≡ self.now.edges }
         ensures adjacent { (a : AnyCell) → (b : AnyCell) → (is_adjacent result.now a b ≡ true) ↔ IsAdjacent result.now a b }

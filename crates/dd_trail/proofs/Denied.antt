@@ -1,16 +1,13 @@
 -- Literals become false and are taken back again.
 use Rattle.std.proofs.Common.{◌≡◌, ◌≢◌, ℕ, ◌+◌, ◌*◌, ◌<◌, ◌≤◌, Bool, true, false, cond, not, ◌&&◌, ◌||◌, List, [], ◌∷◌, ◌++◌, refl, ap, sym, ◌∙◌, subst, length, get_or, set, take, inl, inr, arith, eqb, get_or-set_same, get_or-set_other}
-use Rattle.std.specs.Bool.{IsTrue}
-use Rattle.std.specs.Prelude.{◌↔◌}
 use Rattle.std.proofs.lemmas.Bool.{cases_eq, false≢true, false_from_ne_true, or_left}
 use Rattle.std.proofs.lemmas.List.{length-set, length-append, length-take, take-append-le, get_or-take, get_or_append_left, take_all, take_more}
 use Rattle.std.proofs.Math.Seq.{get_or-append_seam, take-append_seam}
-use Rattle.dd_clause.specs.declared.clause.Literal.{Literal}
-use Rattle.dd_clause.specs.Clauses.{IsLiteralInRange, negation}
+use Rattle.std.specs.{Bool.IsTrue, Prelude.◌↔◌}
+use Rattle.dd_clause.specs.{declared.clause.Literal.Literal, Clauses.IsLiteralInRange, Clauses.negation}
 use Rattle.dd_derivation.specs.Derivations.{same_literal, is_among, has_variable}
 use Rattle.dd_derivation.specs.lemmas.Soundness.{literal-eq, same_literal-eq, same_literal-refl}
-use Rattle.dd_trail.specs.declared.trail.Entry.{Entry}
-use Rattle.dd_trail.specs.Trails.{falses, IsFree, IsFull}
+use Rattle.dd_trail.specs.{declared.trail.Entry.Entry, Trails.falses, Trails.IsFree, Trails.IsFull}
 use Rattle.dd_trail.specs.keeping.Values.{code, IsDenied}
 use Rattle.dd_trail.specs.lemmas.Trails.{in-has_variable, absent, take_shorter}
 use Rattle.dd_trail.proofs.Valued.{valued_of, length_within, full_exactly, falses-snoc}

@@ -1,18 +1,14 @@
--- A trail whose variables are distinct and in range gives each of them a value, so there are no more entries than
--- variables; and where there are as many, each variable has one.
+-- A trail whose variables are distinct and in range has no more entries than there are variables. If it has as many, each
+-- variable has a value.
 use Rattle.std.proofs.Common.{◌≡◌, ◌≢◌, ℕ, zero, suc, ◌+◌, ◌-◌, ◌<◌, ◌≤◌, Bool, true, false, not, ◌||◌, List, [], ◌∷◌, ◌++◌, Option, Some, None, refl, ap, sym, ◌∙◌, subst, length, get_or, set, take, inl, inr, arith, eqb, add-one, get_or-set_same, get_or-set_other}
-use Rattle.std.specs.Bool.{beq, IsTrue}
-use Rattle.std.specs.Prelude.{◌↔◌}
 use Rattle.std.proofs.lemmas.Bool.{cases_eq, eq-eqb, eqb-true, ne_eqb, false≢true, and_left}
 use Rattle.std.proofs.lemmas.List.{length-set, length-append, take-append-le, get_or_append_left, take_all, take_more}
 use Rattle.std.proofs.Math.Seq.{get_or-append_seam, take-append_seam}
-use Rattle.dd_clause.specs.declared.clause.Literal.{Literal}
-use Rattle.dd_clause.specs.Clauses.{IsLiteralInRange, negation}
-use Rattle.dd_derivation.specs.Derivations.{same_literal, is_among, has_variable}
-use Rattle.dd_trail.specs.declared.trail.Entry.{Entry}
-use Rattle.dd_trail.specs.Trails.{falses, IsFull}
-use Rattle.dd_trail.specs.keeping.Values.{IsNewTo}
-use Rattle.dd_trail.specs.lemmas.Trails.{falses-append, has_variable-in, in-has_variable, absent, among_snoc}
+use Rattle.std.specs.{Bool.beq, Bool.IsTrue, Prelude.◌↔◌}
+use Rattle.dd_clause.specs.{declared.clause.Literal.Literal, Clauses.IsLiteralInRange, Clauses.negation}
+use Rattle.dd_derivation.specs.{Derivations.same_literal, Derivations.is_among, Derivations.has_variable, lemmas.Falses.among_snoc}
+use Rattle.dd_trail.specs.{declared.trail.Entry.Entry, Trails.falses, Trails.IsFull, keeping.Values.IsNewTo}
+use Rattle.dd_trail.specs.lemmas.Trails.{falses-append, has_variable-in, in-has_variable, absent}
 
 -- a variable with this value makes its literal of this sign false
 abbrev pub value_denies : Bool → Option Bool → Bool

@@ -2,7 +2,7 @@
 pub mod Trails
 -- what a look at the clauses finds
 pub mod Propagation
--- lemmas on trails, with their proofs, for whoever cites them
+-- lemmas on trails, with their proofs
 pub mod lemmas
 -- how the code keeps which literals are false
 pub mod keeping

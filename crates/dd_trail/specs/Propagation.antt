@@ -6,7 +6,7 @@ use Rattle.dd_derivation.specs.Derivations.{hint_finding, is_among}
 use Rattle.dd_trail.specs.declared.propagation.Scan.{Scan}
 use Rattle.dd_trail.specs.declared.propagation.Scan.TheVariants.{Conflict, Unit, Nothing}
 
--- a clause that is falsified or forces a literal, or else what is then said
+-- a clause that is falsified or forces a literal, or else what then holds
 abbrev pub Says : List (Option (List Literal)) → List Literal → Type 0 → Scan → Type 0
 Says known falses otherwise (Conflict r) = hint_finding known (is_among falses) r ≡ Falsified
 Says known falses otherwise (Unit r l) = hint_finding known (is_among falses) r ≡ Forced l

@@ -1,7 +1,6 @@
 -- The trail of a search: the literals that are true, in the order in which they became so.
 use Rattle.std.specs.Prelude.{◌≡◌, ℕ, ◌≤◌, true, false, List, map}
-use Rattle.dd_clause.specs.declared.clause.Literal.{Literal}
-use Rattle.dd_clause.specs.Clauses.{negation}
+use Rattle.dd_clause.specs.{declared.clause.Literal.Literal, Clauses.negation}
 use Rattle.dd_derivation.specs.Derivations.{has_variable}
 use Rattle.dd_trail.specs.declared.trail.Entry.{Entry}
 

@@ -1,4 +1,4 @@
-//! The clauses that a search may use, by number: those of the list, and after them those learned, but for the deleted ones.
+//! The clauses that a search may use, by number: those of the list and then the learned ones, without the deleted ones.
 ghost use Rattle.std.specs.Prelude.{◌≡◌, ◌≤◌, ◌+◌, length};
 ghost use Rattle.std.specs.Option.{option_copied};
 ghost use Rattle.dd_derivation.specs.Derivations.{clause_of};
@@ -8,7 +8,7 @@ use dd_clause::{Clause, Literal};
 use dd_derivation::{Known, Step};
 use std::marker::Model;
 
-/// The clauses of a list and, behind them, those of the steps, as far as they are alive; and how many numbers there are.
+/// The clauses of a list and then those of the steps, as far as they are alive, and how many numbers there are.
 #[derive(Drop)]
 pub struct Database<'a> {
     known: Known<'a>,
@@ -27,7 +27,7 @@ impl<'a> Model for Database<'a> {
 }
 
 impl<'a> Database<'a> {
-    /// Over those of these clauses and steps that are alive.
+    /// The database of those clauses and steps that are alive.
     pub fn new(clauses: &'a [Clause], steps: &'a [Step], alive: &'a [bool]) -> Database<'a>
         requires { length clauses.now + length steps.now ≤ length alive.now }
         ensures { result ≡ known_to clauses.now steps.now alive.now }
@@ -38,7 +38,7 @@ impl<'a> Database<'a> {
         }
     }
 
-    /// How many numbers there are, those of deleted clauses among them.
+    /// How many numbers there are, including those of deleted clauses.
     pub fn count(&self) -> u64
         ensures { result ≡ length self.now }
     {

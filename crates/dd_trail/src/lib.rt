@@ -1,5 +1,5 @@
-//! The trail of a search over clauses: the literals that are true, in the order in which they became so; what the clauses
-//! make true next, found by two watched literals; and which variable is decided next.
+//! The trail of a search over clauses: the literals that are true, in the order in which they became so. Two watched
+//! literals find what the clauses make true next. An order says which variable is decided next.
 #![tactic(auto)]
 
 mod database;

@@ -1,7 +1,7 @@
-//! The order in which variables are decided: first those that took part in the latest conflicts (Moskewicz, Madigan, Zhao,
-//! Zhang and Malik 2001, Eén and Sörensson 2003), each with the value that it had last (Pipatsrisawat and Darwiche 2007).
-//! They stand in a binary heap. What is taken from it is looked at exactly, so no contract rests on the order: a bad one
-//! costs time.
+//! The order in which variables are decided: first those that took part in the latest conflicts (Moskewicz, Madigan,
+//! Zhao, Zhang and Malik 2001, Eén and Sörensson 2003), each with the value that it had last (Pipatsrisawat and Darwiche
+//! 2007). They stand in a binary heap. What is taken from it is tested exactly, so no contract rests on the order: a bad
+//! one only costs time.
 ghost use Rattle.std.specs.Prelude.{◌≡◌, ◌<◌, ◌^◌, MatchOption, ⊤};
 ghost use Rattle.dd_trail.specs.Trails.{IsFree, IsFull};
 
@@ -12,28 +12,28 @@ use std::alloc::{AllocError, Global};
 /// What a conflict adds to a variable's activity at first, and the least that one ever adds.
 const FIRST_INCREMENT: u64 = 1 << 10;
 
-/// Where an activity is above this, all are made smaller.
+/// If an activity is above this, all are made smaller.
 const MOST_ACTIVE: u64 = 1 << 60;
 
 /// How many bits the activities then lose.
 const LOST_BITS: u32 = 32;
 
-/// After each conflict the increment grows by this part of itself, where the style is broad.
+/// In the broad style the increment grows after each conflict by one part in this many.
 const BROAD_PART: u64 = 64;
 
-/// The same where it is focused.
+/// The same in the focused style.
 const FOCUSED_PART: u64 = 20;
 
-/// How much the order goes by the latest conflicts.
+/// How much the latest conflicts weigh in the order.
 #[derive(Clone, Copy, Debug)]
 pub enum Style {
-    /// A conflict counts for long: what it adds grows by 1/64 from each to the next. The variables of the learned clause are
-    /// made more active a second time, and then those of the clauses that forced its literals (Liang, Ganesh, Poupart and
-    /// Czarnecki 2016). It is the better one where a contradiction lies deep among many variables: boxes, pigeonholes.
+    /// A conflict counts for long: each adds 1/64 more than the one before. The variables of the learned clause are made
+    /// more active a second time, and then those of the clauses that forced its literals (Liang, Ganesh, Poupart and
+    /// Czarnecki 2016). This is better where a contradiction lies deep among many variables: boxes, pigeonholes.
     Broad,
-    /// The latest conflicts count most: what one adds grows by 1/20, and a variable becomes more active once for all clauses
-    /// of the conflict, as in MiniSat (Eén and Sörensson 2003). It is the better one on large tori, where each cell is as good
-    /// as any other: the search stays among the cells where it is.
+    /// The latest conflicts count most: each adds 1/20 more than the one before, and a variable becomes more active once
+    /// for all clauses of the conflict, as in MiniSat (Eén and Sörensson 2003). This is better on large tori, where each
+    /// cell is as good as any other: the search stays among the cells where it is.
     Focused,
 }
 
@@ -46,7 +46,7 @@ struct Rank {
 }
 
 /// The variables. Those at the first places of the heap wait to be decided, and those that were taken stand behind them
-/// until they are put back. Each variable's rank stands under its number. A conflict adds the increment to an activity.
+/// until they are put back. Each variable's rank is kept at its number. A conflict adds the increment to an activity.
 #[derive(Drop)]
 pub struct Order {
     heap: Vec<usize>,
@@ -57,7 +57,7 @@ pub struct Order {
 }
 
 impl Order {
-    /// All variables wait, and are to be false.
+    /// All variables wait, with the value false.
     pub fn new(alloc: Global, variables: usize, style: Style) -> Result<Order, AllocError> {
         let idle = Rank {
             activity: 0,
@@ -80,7 +80,7 @@ impl Order {
         })
     }
 
-    /// How much the order goes by the latest conflicts.
+    /// How much the latest conflicts weigh in the order.
     pub fn style(&self) -> Style {
         self.style
     }
@@ -185,7 +185,7 @@ impl Order {
         Some(first)
     }
 
-    /// A literal whose variable has no value, as the order has it. Nothing where each variable has one.
+    /// A literal of the first variable in the order that has no value. `None` if each variable has one.
     pub fn choose(&mut self, trail: &Trail) -> Option<Literal>
         requires { trail.now.variables < 2 ^ 32 }
         ensures { MatchOption result (IsFull trail.now.variables trail.now.entries) (λ l. IsFree trail.now.variables trail.now.entries l.variable) }

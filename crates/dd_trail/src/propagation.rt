@@ -1,4 +1,4 @@
-//! Unit propagation looks for a clause that is falsified, or whose one literal that is not false has to be true.
+//! Unit propagation looks for a clause that is falsified or forces a literal.
 ghost use Rattle.std.specs.Prelude.{◌≡◌};
 ghost use Rattle.dd_derivation.specs.declared.propagation.Finding.TheVariants.{Open};
 ghost use Rattle.dd_derivation.specs.Derivations.{hint_finding, is_among};
@@ -15,7 +15,7 @@ use dd_derivation::{Finding, find};
 pub enum Scan {
     /// All literals of the clause of this number are false.
     Conflict(u64),
-    /// All but this one are, which has no value.
+    /// All of its literals but this one are false, and this one has no value.
     Unit(u64, Literal),
     /// No such clause was found.
     Nothing,

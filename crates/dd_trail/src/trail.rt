@@ -1,5 +1,5 @@
-//! The literals that are true, in the order in which they became so, and which literals are false. What a trail says
-//! of a literal depends on its entries alone; one truth value for each literal makes each look cost the same.
+//! The literals that are true, in the order in which they became so, and which literals are false. What a trail says of a
+//! literal depends only on its entries. With one truth value for each literal, every look costs the same.
 ghost use Rattle.std.specs.Prelude.{◌≡◌, ℕ, ◌+◌, ◌<◌, ◌≤◌, ◌^◌, ◌++◌, ◌∷◌, [], true, false, length, take, slice_set, ◌-◌, IfOk, OnOk, OnErr, MatchOption, IsTrue, ◌↔◌};
 ghost use Rattle.dd_clause.specs.Clauses.{IsLiteralInRange};
 ghost use Rattle.dd_values.specs.Variables.{true_variables};
@@ -17,18 +17,18 @@ use std::marker::Model;
 pub struct Entry {
     /// The literal.
     pub literal: Literal,
-    /// The number of the clause that forced it, and nothing where it was decided.
+    /// The number of the clause that forced it, or `None` if it was decided.
     pub reason: Option<u64>,
 }
 
-/// Where a variable's entry stands, and how many decisions stand up to there.
+/// The place of a variable's entry, and the number of decisions up to there.
 #[derive(Clone, Copy)]
 struct Spot {
     place: usize,
     level: usize,
 }
 
-/// The entries; for each literal whether it is false; of each variable its entry's place, and the places of the decisions.
+/// The entries, whether each literal is false, where each variable's entry stands, and where the decisions stand.
 #[derive(Drop)]
 pub struct Trail {
     variables: usize,
@@ -172,7 +172,7 @@ impl Trail {
         None
     }
 
-    /// The values of the variables. One that has none is false.
+    /// The values of the variables. A variable without a value is false.
     pub fn assignment(&self, alloc: Global) -> Result<Assignment, AllocError>
         ensures length { IfOk result (λ values. length values ≡ self.now.variables) }
         ensures values { IfOk result (λ values. (v : ℕ) → 1 ≤ v → v ≤ self.now.variables → true_variables values v ≡ is_among (falses self.now.entries) (record { variable = v; positive = false })) }
@@ -218,7 +218,7 @@ impl Trail {
         }
     }
 
-    /// Of each literal, by its place in a list of all of them, whether it is false.
+    /// For each literal, by its place in a list of all of them, whether it is false.
     pub fn denied(&self) -> &[bool] {
         self.denied.as_slice()
     }

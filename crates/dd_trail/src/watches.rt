@@ -1,8 +1,8 @@
 //! Two watched literals (Moskewicz, Madigan, Zhao, Zhang and Malik 2001): a clause needs no look while the two literals
 //! that it watches are not false. So only the clauses that watch a literal are looked at when it becomes false, and
-//! nothing is undone on a return. What a clause is found to say is looked at exactly, so no contract rests on the watches:
-//! one that is missed costs time. Nor does an invariant say that the places kept here are within their lists: the tests
-//! below that look for this never fail.
+//! nothing is undone when the search goes back. What a clause is found to say is tested exactly, so no contract rests on
+//! the watches: a missed one only costs time. No invariant says that the places kept here are within their lists; the
+//! tests for this below never fail.
 ghost use Rattle.std.specs.Prelude.{◌≡◌, ◌<◌, ◌^◌, length, IfOk, MatchOption, ⊤};
 ghost use Rattle.dd_trail.specs.Trails.{falses, IsFull};
 ghost use Rattle.dd_trail.specs.Propagation.{Says, AreOpenBetween};
@@ -48,10 +48,10 @@ impl Code {
     }
 }
 
-/// Stands behind the literals of each clause. It is no literal's, and never false.
+/// Stands behind the literals of each clause. It is the code of no literal, and never false.
 const END: Code = Code { place: 0 };
 
-/// A clause that watches a literal, by the place of its literals, and another of its literals. Where that one is true,
+/// A clause that watches a literal, given by the place of its literals, and another of its literals. If that one is true,
 /// the clause needs no look.
 #[derive(Clone, Copy)]
 struct Watcher {
@@ -59,25 +59,31 @@ struct Watcher {
     other: Code,
 }
 
-/// For each literal the clauses that watch it, and room for such a list while it is passed; the literals of all clauses,
-/// those first that a clause watches, and beside each its clause's number; how many clauses there are; how far the trail
-/// is read, and the list of its next literal; how many clauses were looked at since they were added; and whether there
-/// are watchers of deleted clauses.
+/// The watchers of each literal, and how far the trail is read.
 #[derive(Drop)]
 pub struct Watches {
+    /// For each literal the clauses that watch it.
     lists: Vec<Vec<Watcher>>,
+    /// Room for one of these lists while it is passed.
     passed: Vec<Watcher>,
+    /// The literals of all clauses, the watched ones of each first.
     literals: Vec<Code>,
+    /// Beside each literal its clause's number.
     numbers: Vec<u32>,
+    /// How many clauses there are.
     count: u32,
+    /// How far the trail is read.
     read: usize,
+    /// How far the list of its next literal is passed.
     at: usize,
+    /// How many clauses were looked at since they were added.
     scanned: u64,
+    /// Whether there are watchers of deleted clauses.
     has_deleted: bool,
 }
 
-/// What is done with a clause whose watched literal became false: it stays with the other watched literal true, or it
-/// watches a further literal beside the other, or all but the other are false.
+/// What is done with a clause whose watched literal became false: it stays, since the other watched literal is true; or
+/// it moves to watch a further literal beside the other; or all but the other are false.
 #[derive(Clone, Copy)]
 enum Look {
     Stays(Code),
@@ -93,7 +99,7 @@ fn watch(lists: &mut Vec<Vec<Watcher>>, literal: Code, watcher: Watcher) -> Resu
     Ok(())
 }
 
-/// The first place, from one on, of a literal that is not false.
+/// The first place, from `from` on, of a literal that is not false.
 fn find_not_false(denied: &[bool], literals: &[Code], from: usize) -> Option<usize>
     ensures { MatchOption result ⊤ (λ place. place < length literals.now) }
 {
@@ -132,8 +138,8 @@ fn rewatch(denied: &[bool], literals: &mut [Code], clause: u32, became_false: Co
     }
 }
 
-/// Passes the watchers of a literal that became false, from a place on. Those that watch a further literal now go to
-/// its list, and the last takes their place. Gives the place of one whose clause may be falsified or force a literal.
+/// Passes the watchers of a literal that became false, from a place on. Those that watch a further literal now go to its
+/// list, and the last takes their place. Returns the place of a clause that may be falsified or force a literal.
 fn pass_from(
     denied: &[bool],
     literals: &mut [Code],
@@ -206,7 +212,7 @@ impl Watches {
         self.watch_first(start, end)
     }
 
-    /// The clause whose literals begin at a place, and end before another with the mark of an end, watches the first two.
+    /// The clause from `start` to before `end`, with its end mark last, watches its first two literals.
     fn watch_first(&mut self, start: usize, end: usize) -> Result<(), AllocError> {
         let clause = u32::try_from(start).unwrap_or(0);
         if end <= self.literals.len() && start < end && end - start > 2 {
@@ -262,14 +268,14 @@ impl Watches {
         Ok(())
     }
 
-    /// Some clauses are deleted, if there are such numbers: they are dropped at the next cut.
+    /// Notes that the clauses of these numbers, if any, are deleted. They are dropped at the next cut.
     pub fn note_deleted(&mut self, numbers: &[u64]) {
         if !numbers.is_empty() {
             self.has_deleted = true;
         }
     }
 
-    /// The trail was cut to this length. Of each clause it is told whether it is alive.
+    /// The trail was cut to this length. `alive` says of each clause whether it is alive.
     pub fn cut(&mut self, length: usize, alive: &[bool]) -> Result<(), AllocError> {
         if length <= self.read {
             self.read = length;
@@ -298,7 +304,7 @@ impl Watches {
         }
     }
 
-    /// Passes the watchers of a literal that became false, from where they were passed to. Gives the place of a clause
+    /// Passes the watchers of a literal that became false, from where they were passed to. Returns the place of a clause
     /// that may be falsified or force a literal.
     fn pass(&mut self, trail: &Trail, became_false: Code) -> Result<Option<u32>, AllocError> {
         self.exchange(became_false);
@@ -321,13 +327,13 @@ impl Watches {
         Ok(clause)
     }
 
-    /// Reads the trail on from where it was read to, until a clause is falsified or forces a literal: of each literal
-    /// that became false all watchers are passed.
+    /// Reads the trail on until a clause is falsified or forces a literal. For each literal that became false all
+    /// watchers are passed.
     fn read(&mut self, database: &Database, trail: &Trail) -> Result<Scan, AllocError>
         ensures { IfOk result (Says database.now (falses trail.now.entries) ⊤) }
     {
         let entries = trail.entries();
-        // This many turns are never made. A `loop` would have to be shown to end, by places of which nothing is known.
+        // So many turns are never made. A `loop` would need a proof that it ends, and nothing is known of the places.
         for _ in 0..u64::MAX {
             let read = self.read;
             if read >= entries.len() {
@@ -349,7 +355,7 @@ impl Watches {
     }
 
     /// Looks for a clause that is falsified or forces a literal. A clause that was added is looked at once, as it may
-    /// have one literal; where each variable has a value, all are looked at once more.
+    /// have only one literal. If each variable has a value, all are looked at once more.
     pub fn find(&mut self, database: &Database, trail: &Trail) -> Result<Scan, AllocError>
         requires { trail.now.variables < 2 ^ 32 }
         ensures { IfOk result (Says database.now (falses trail.now.entries) (IsFull trail.now.variables trail.now.entries → AreOpenBetween database.now (falses trail.now.entries) 0 (length database.now))) }

@@ -1,19 +1,16 @@
 -- The symbols of a window that their nodes allow.
 use Rattle.std.proofs.Common.{◌≡◌, ℕ, zero, suc, ◌+◌, ◌*◌, ◌/◌, ◌%◌, ◌<◌, ◌≤◌, Bool, true, false, List, [], ◌∷◌, length, get_or, ℤ, pos, ◌≤ℤ◌, unsigned_abs, Option, Some, None, refl, ap, sym, ◌∙◌, subst, arith}
-use Rattle.std.specs.Prelude.{nat_lt, int_le, slice_get, IfSome, cond, ◌&&◌}
-use Rattle.std.proofs.lemmas.Int.{ints}
-use Rattle.std.proofs.lemmas.Bool.{and_parts, ltb-true, lt-ltb, cond_both}
+use Rattle.std.proofs.lemmas.{Int.ints, Bool.and_parts, Bool.ltb-true, Bool.lt-ltb, Bool.cond_both}
 use Rattle.std.proofs.lemmas.Nat.{mod-mul-add, div-add-mod', mod_below, div-mul-add}
+use Rattle.std.specs.Prelude.{nat_lt, int_le, slice_get, IfSome, cond, ◌&&◌}
 use Rattle.dd_lattice.specs.declared.position.Cell.{Cell}
 use Rattle.dd_pattern.specs.Periods.{residue}
-use Rattle.dd_formula.specs.LocalRule.{LocalRule, rule_allows}
-use Rattle.dd_formula.specs.Allowed.{AreAllowed}
-use Rattle.dd_strip.specs.declared.strip.Strip.{Strip}
-use Rattle.dd_strip.specs.Strips.{IsSized, IsFor, cells, positions}
+use Rattle.dd_formula.specs.{LocalRule.LocalRule, LocalRule.rule_allows, Allowed.AreAllowed}
+use Rattle.dd_strip.specs.{declared.strip.Strip.Strip, Strips.IsSized, Strips.IsFor, Strips.cells, Strips.positions}
 use Rattle.dd_transfer.specs.Windows.{IsFullWindow, Shown, slice_index_of, window_index, shown_look, cell_at}
 use Rattle.dd_transfer.specs.placing.Formulas.{AllowsAll}
-use Rattle.dd_transfer.proofs.Stands.{le_from}
 use Rattle.dd_transfer.proofs.Places.{parts_of, index_of_cell}
+use Rattle.dd_values.specs.lemmas.Numbers.{le_from}
 
 -- the symbol at a place is allowed at the place's node
 abbrev pub allowed_at : LocalRule → Shown → ℕ → Type 0

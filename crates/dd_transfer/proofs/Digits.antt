@@ -1,9 +1,7 @@
 -- Digits of numbers.
 use Rattle.std.proofs.Common.{◌≡◌, ℕ, zero, suc, ◌+◌, ◌/◌, ◌%◌, ◌<◌, List, [], ◌∷◌, ◌++◌, length, arith, refl, ap, sym, ◌∙◌}
+use Rattle.std.proofs.lemmas.{Nat.mod_below, List.length-append, List.Elements.All-push}
 use Rattle.std.specs.List.{All}
-use Rattle.std.proofs.lemmas.Nat.{mod_below}
-use Rattle.std.proofs.lemmas.List.{length-append}
-use Rattle.std.proofs.lemmas.List.Elements.{All-push}
 use Rattle.dd_transfer.specs.Windows.{digits}
 
 pub digits_length : (base count number : ℕ) → length (digits base count number) ≡ count

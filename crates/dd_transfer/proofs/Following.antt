@@ -1,31 +1,27 @@
 -- The windows of a look are edges of the transfer graph exactly where the rule is kept in them.
 use Rattle.std.proofs.Common.{◌≡◌, ℕ, ◌+◌, ◌*◌, ◌%◌, ◌^◌, ◌<◌, true, List, [], ◌∷◌, ℤ, pos, ◌+ℤ◌, ◌≤ℤ◌, unsigned_abs, Option, refl, ap, sym, ◌∙◌, subst, arith}
-use Rattle.std.specs.Prelude.{◌<ℤ◌, ◌-ℤ◌, ◌↔◌, ◌&&◌, ◌||◌, nat_lt, is_some, IfSome}
-use Rattle.std.specs.List.{list_all}
-use Rattle.std.specs.Ordering.{int_eq}
-use Rattle.std.proofs.lemmas.Bool.{and_parts, and_from, ltb-true}
-use Rattle.std.proofs.lemmas.Int.{ints}
-use Rattle.std.proofs.lemmas.Nat.{mod-mul-add}
+use Rattle.std.proofs.lemmas.{Bool.and_parts, Bool.and_from, Bool.ltb-true, Int.ints, Nat.mod-mul-add}
 use Rattle.std.proofs.Math.Nat.{pow-suc, pow-zero}
-use Rattle.dd_lattice.specs.Place.{Place, place, moved}
-use Rattle.dd_lattice.specs.Cells.{cell, shifted}
-use Rattle.dd_lattice.specs.declared.position.Cell.{Cell}
+use Rattle.std.specs.Prelude.{◌<ℤ◌, ◌-ℤ◌, ◌↔◌, ◌&&◌, ◌||◌, nat_lt, is_some, IfSome}
+use Rattle.std.specs.{List.list_all, Ordering.int_eq}
+use Rattle.dd_lattice.specs.{Place.Place, Place.place, Place.moved, Cells.cell, Cells.shifted, declared.position.Cell.Cell}
+use Rattle.dd_lattice.specs.lemmas.MoveLaws.{place_same}
 use Rattle.dd_pattern.specs.Reading.{Look}
 use Rattle.dd_expansion.specs.Placed.{is_flat}
 use Rattle.dd_formula.specs.LocalRule.{LocalRule, IsRule, is_of, is_true, reads_at, rule_allows}
 use Rattle.dd_formula.specs.Reach.{all_cells}
 use Rattle.dd_counts.specs.Rules.{least_x, greatest_x, slices, states, window}
-use Rattle.dd_strip.specs.declared.strip.Strip.{Strip}
-use Rattle.dd_strip.specs.Strips.{IsFor, positions}
+use Rattle.dd_strip.specs.{declared.strip.Strip.Strip, Strips.IsFor, Strips.positions}
 use Rattle.dd_transfer.specs.Windows.{IsKept, IsWindow, window_look, numbered_window, stand}
 use Rattle.dd_transfer.specs.Transfers.{IsEdge}
 use Rattle.dd_transfer.specs.Slices.{RepeatsAcross, IsInSlices, HasSlices, IsKeptFrom, slices_from, state_from, window_from}
 use Rattle.dd_transfer.specs.Laws.{AreEdgesOf}
-use Rattle.dd_transfer.proofs.Stands.{between, le_from, least_low, greatest_high, reads_between, within_window}
+use Rattle.dd_transfer.proofs.Stands.{between, least_low, greatest_high, reads_between, within_window}
 use Rattle.dd_transfer.proofs.Slicing.{given, symbols_joined, slices_joined, slices_longer, slices_below, digits_from, slice_weighs}
-use Rattle.dd_transfer.proofs.Moving.{along, part, IsInside, place_same, plus_zero, if_some, part_same, part_inside, moved_inside, truth_same}
+use Rattle.dd_transfer.proofs.Moving.{along, part, IsInside, part_same, part_inside, moved_inside, truth_same}
+use Rattle.dd_values.specs.lemmas.{Numbers.plus_zero, Numbers.le_from, Results.if_some}
 
--- back from x, and there again
+-- moved back by x, and forth again
 back_and_there : (x c : ℤ) → ((c -ℤ x) +ℤ x) ≡ c
 back_and_there x c = omega (arith, ints)
 
@@ -35,7 +31,7 @@ back_inside x c n p q = (omega (arith, ints), omega (arith, ints))
 turned : (x y : ℤ) → (x +ℤ y) ≡ (y +ℤ x)
 turned x y = omega (arith, ints)
 
--- fewer slices among those that are there
+-- fewer slices, where more have symbols
 pub fewer : (r : LocalRule) (look : Look) (x y : ℤ) (m n : ℕ) → x ≤ℤ y → (y +ℤ pos m) ≤ℤ (x +ℤ pos n) → HasSlices r look x n → HasSlices r look y m
 fewer r look x y m n low high has c inside node = has c (record { from = lower x y c.position.x low inside.from; before = higher c.position.x (y +ℤ pos m) (x +ℤ pos n) inside.before high }) node
   where

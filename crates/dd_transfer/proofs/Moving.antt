@@ -1,30 +1,24 @@
--- The window of a look from x on says of the symbols, counted from x, what the look says: the rule is kept in the one exactly where
--- it is kept in the other.
+-- The window of a look from x on has the symbols of the look, counted from x. So the rule is kept in the window exactly
+-- if it is kept in the look.
 use Rattle.std.proofs.Common.{◌≡◌, ℕ, zero, suc, ◌+◌, ◌*◌, ◌/◌, ◌%◌, ◌<◌, ◌≤◌, Bool, true, false, List, [], ◌∷◌, length, ℤ, pos, ◌+ℤ◌, ◌≤ℤ◌, unsigned_abs, Option, Some, None, refl, ap, sym, ◌∙◌, subst, arith, inl, inr}
-use Rattle.std.specs.Prelude.{◌<ℤ◌, ◌&&◌, cond, int_le, nat_lt, is_some, slice_get, unwrap_or, IfSome}
-use Rattle.std.specs.List.{list_all}
 use Rattle.std.proofs.lemmas.Int.{ints}
 use Rattle.std.proofs.lemmas.Bool.{and_parts, and_from, cases_lt, lt-ltb, ltb-true}
-use Rattle.std.proofs.lemmas.Nat.{mul-add-lt, mod-mul-add, div-mul-add}
-use Rattle.std.proofs.Math.Nat.{mul-le-mul_right}
-use Rattle.dd_lattice.specs.Place.{Place, place, moved}
-use Rattle.dd_lattice.specs.Cells.{cell, shifted}
-use Rattle.dd_lattice.specs.declared.position.Cell.{Cell}
-use Rattle.dd_pattern.specs.Reading.{Look}
-use Rattle.dd_pattern.specs.Periods.{residue}
+use Rattle.std.proofs.{lemmas.Nat.mul-add-lt, lemmas.Nat.mod-mul-add, lemmas.Nat.div-mul-add, Math.Nat.mul-le-mul_right}
+use Rattle.std.specs.Prelude.{◌<ℤ◌, ◌&&◌, cond, int_le, nat_lt, is_some, slice_get, unwrap_or}
+use Rattle.std.specs.List.{list_all}
+use Rattle.dd_lattice.specs.{Place.Place, Place.place, Place.moved, Cells.cell, Cells.shifted, declared.position.Cell.Cell}
+use Rattle.dd_lattice.specs.lemmas.MoveLaws.{place_same}
+use Rattle.dd_pattern.specs.{Reading.Look, Periods.residue}
 use Rattle.dd_expansion.specs.Placed.{is_flat}
-use Rattle.dd_formula.specs.LocalRule.{LocalRule, IsRule, is_of, is_true, reads_at}
-use Rattle.dd_formula.specs.Reach.{all_cells}
+use Rattle.dd_formula.specs.{LocalRule.LocalRule, LocalRule.IsRule, LocalRule.is_of, LocalRule.is_true, LocalRule.reads_at, Reach.all_cells}
 use Rattle.dd_formula.specs.lemmas.RuleLaws.{truth_by_given}
 use Rattle.dd_counts.specs.Rules.{least_x, greatest_x, window}
-use Rattle.dd_strip.specs.declared.strip.Strip.{Strip}
-use Rattle.dd_strip.specs.Strips.{IsFor, cells}
+use Rattle.dd_strip.specs.{declared.strip.Strip.Strip, Strips.IsFor, Strips.cells}
 use Rattle.dd_transfer.specs.Windows.{cell_at, slice_index_of, window_index, window_look, stand}
 use Rattle.dd_transfer.specs.Slices.{RepeatsAcross, IsInSlices, HasSlices, across, cell_from, symbols_from}
-use Rattle.dd_transfer.proofs.Stands.{between, le_from, le_to, reads_between, within_window}
-use Rattle.dd_transfer.proofs.Places.{slice_below, cell_at_index}
-use Rattle.dd_transfer.proofs.Numbers.{listed-at, length-listed}
-use Rattle.dd_transfer.proofs.Slicing.{given, symbol_from, symbol_given}
+use Rattle.dd_transfer.proofs.{Stands.between, Stands.reads_between, Stands.within_window, Places.slice_below, Places.cell_at_index}
+use Rattle.dd_transfer.proofs.{Numbers.listed-at, Numbers.length-listed, Slicing.given, Slicing.symbol_from, Slicing.symbol_given}
+use Rattle.dd_values.specs.lemmas.Numbers.{plus_zero, le_from, le_to}
 
 -- the position x along the first axis
 abbrev pub along : ℤ → Place
@@ -39,12 +33,6 @@ pub record IsInside (r : LocalRule) (s : Strip) (c : Cell) : Type 0 where
   pub right : pos 0 ≤ℤ c.position.x
   pub within : unsigned_abs c.position.x < window r + 1
   pub node : c.node < s.nodes
-
-pub place_same : (a b c x y z : ℤ) → a ≡ x → b ≡ y → c ≡ z → place a b c ≡ place x y z
-place_same a b c x y z p q r = cc
-
-pub plus_zero : (x : ℤ) → (x +ℤ pos 0) ≡ x
-plus_zero x = omega (arith, ints)
 
 same_sum : (x c : ℤ) → pos 0 ≤ℤ c → x +ℤ pos (unsigned_abs c) ≡ c +ℤ x
 same_sum x c h = omega (arith, ints)
@@ -66,10 +54,6 @@ row_of a c b n h = elim (cases_lt a n) [
   | inl lt ↦ lt
   | inr le ↦ let more : n * c ≤ a * c = mul-le-mul_right c le in absurd (omega arith)
 ]
-
-pub if_some : (P : ℕ → Type 0) (o : Option ℕ) → (is_some o ≡ true → IfSome o P) → IfSome o P
-if_some P None h = tt
-if_some P (Some d) h = h refl
 
 module _ (r : LocalRule) (s : Strip) (look : Look) (x : ℤ) (for : IsFor r s) (repeats : RepeatsAcross s look) (has : HasSlices r look x (window r + 1)) where
   index_below : (c : Cell) → IsInside r s c → window_index s c < (window r + 1) * cells s

@@ -33,7 +33,7 @@ set_parts xs i v h =
 
 -- ---- what is left to carry
 
--- the first digits are those of a number, and those of the next number, with what stands behind them, are wanted
+-- the first digits are those of a number. Those of the next number, followed by the other digits, are what is wanted
 pub record Carries (base at : ℕ) (xs wanted : List ℕ) : Type 0 where
   pub number : ℕ
   pub begun : take at xs ≡ digits base at number

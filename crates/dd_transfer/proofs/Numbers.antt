@@ -1,16 +1,12 @@
 -- Numbers and their digits, and lists of the first values of a function.
 use Rattle.std.proofs.Common.{◌≡◌, ℕ, zero, suc, ◌+◌, ◌*◌, ◌/◌, ◌%◌, ◌^◌, ◌<◌, ◌≤◌, List, [], ◌∷◌, ◌++◌, length, map, Some, refl, ap, sym, ◌∙◌, subst, arith, append_assoc}
-use Rattle.std.specs.Prelude.{slice_get}
-use Rattle.std.specs.List.{All, fold, range_with_len}
 use Rattle.std.proofs.Math.Nat.{pow-suc, pow-zero, mul-le-mul_right}
 use Rattle.std.proofs.lemmas.Nat.{div-add-mod', mod-mul-add, div-mul-add, div_below}
 use Rattle.std.proofs.lemmas.Option.{slice_get-get_or}
 use Rattle.std.proofs.lemmas.List.FromFn.{map-range_with_len_more, length-map-range_with_len, get_or-map-range_with_len}
-use Rattle.std.proofs.lemmas.List.Elements.{All-head, All-tail}
-use Rattle.std.proofs.lemmas.List.Sums.{fold-append}
-use Rattle.dd_transfer.specs.Windows.{digits}
-use Rattle.dd_transfer.specs.Slices.{number_with_digits}
-use Rattle.dd_transfer.specs.Laws.{AreDigits}
+use Rattle.std.proofs.lemmas.List.{Elements.All-head, Elements.All-tail, Sums.fold-append}
+use Rattle.std.specs.{Prelude.slice_get, List.All, List.fold, List.range_with_len}
+use Rattle.dd_transfer.specs.{Windows.digits, Slices.number_with_digits, Laws.AreDigits}
 use Rattle.dd_transfer.proofs.Digits.{digits_length, digits_below}
 
 abbrev pub step : ℕ → ℕ → ℕ → ℕ
@@ -33,7 +29,7 @@ followed base n (d ∷ ds) =
 pub joined : (base : ℕ) (ds es : List ℕ) → number_with_digits base (ds ++ es) ≡ number_with_digits base ds * base ^ length es + number_with_digits base es
 joined base ds es = fold-append (step base) 0 ds es ∙ followed base (number_with_digits base ds) es
 
--- digits that follow a number are digits behind its digits
+-- the digits of a number with more digits behind it are its digits and then these
 after : (base m n : ℕ) (ds : List ℕ) → All (λ d. d < base) ds → digits base (m + length ds) (fold (step base) n ds) ≡ digits base m n ++ ds
 after base m n [] ok = ap (λ (k : ℕ). digits base k n) (let e : m + 0 ≡ m = omega arith in e) ∙ sym (append-nil (digits base m n))
   where

@@ -1,19 +1,14 @@
 -- The cells of a slice by their places, and reading modulo the strip's periods.
-use Rattle.std.proofs.Common.{◌≡◌, ℕ, zero, suc, ◌+◌, ◌*◌, ◌/◌, ◌%◌, ◌<◌, ◌≤◌, Bool, true, false, List, [], ◌∷◌, length, ℤ, pos, ◌+ℤ◌, unsigned_abs, to_z, of_z, w32, refl, ap, sym, ◌∙◌, subst, arith, inl, inr}
-use Rattle.std.specs.Prelude.{nat_lt, ◌||◌, ◌&&◌, ◌⊎◌}
-use Rattle.std.specs.Ordering.{int_eq}
-use Rattle.std.proofs.lemmas.Int.{ints}
-use Rattle.std.proofs.lemmas.Bool.{and_from, cases_lt, lt-ltb}
+use Rattle.std.proofs.Common.{◌≡◌, ℕ, zero, suc, ◌+◌, ◌*◌, ◌/◌, ◌%◌, ◌<◌, ◌≤◌, Bool, true, false, List, [], ◌∷◌, length, ℤ, pos, ◌+ℤ◌, unsigned_abs, refl, ap, sym, ◌∙◌, subst, arith, inl, inr}
+use Rattle.std.proofs.lemmas.{Int.ints, Bool.and_from, Bool.cases_lt, Bool.lt-ltb}
 use Rattle.std.proofs.lemmas.Nat.{mul-add-lt, mod-mul-add, div-mul-add, div-add-mod', mod_below, div_below}
-use Rattle.dd_lattice.specs.Place.{IsCoordinateInRange, Place, place, moved}
-use Rattle.dd_lattice.specs.Cells.{cell}
-use Rattle.dd_lattice.specs.declared.position.Cell.{Cell}
+use Rattle.std.specs.{Prelude.nat_lt, Prelude.◌||◌, Prelude.◌&&◌, Prelude.◌⊎◌, Ordering.int_eq}
+use Rattle.dd_lattice.specs.{Place.Place, Place.place, Place.moved, Cells.cell, declared.position.Cell.Cell}
 use Rattle.dd_pattern.specs.Periods.{residue}
 use Rattle.dd_pattern.specs.lemmas.Residues.{residue_below, residue_small, residue_added, meets}
 use Rattle.dd_expansion.specs.Placed.{is_flat}
 use Rattle.dd_formula.specs.LocalRule.{LocalRule}
-use Rattle.dd_strip.specs.declared.strip.Strip.{Strip}
-use Rattle.dd_strip.specs.Strips.{IsSized, IsFor, cells, positions}
+use Rattle.dd_strip.specs.{declared.strip.Strip.Strip, Strips.IsSized, Strips.IsFor, Strips.cells, Strips.positions}
 use Rattle.dd_transfer.specs.Windows.{slice_index_of, cell_at}
 
 pub slice_below : (s : Strip) (c : Cell) → IsSized s → c.node < s.nodes → slice_index_of s c < cells s
@@ -60,10 +55,6 @@ residue_moved d v n some =
     let m = meets v n some in
     let one : (d +ℤ v) +ℤ pos (m.times * n) ≡ (d +ℤ pos (residue v n)) +ℤ pos (m.times' * n) = omega (arith, ints, m.is) in
     sym (residue_added (d +ℤ v) n m.times some) ∙ (ap (λ z. residue z n) one ∙ residue_added (d +ℤ pos (residue v n)) n m.times' some)
-
--- a sum of coordinates, as the code has it
-pub sum_of_near : (x y : ℤ) → IsCoordinateInRange x → IsCoordinateInRange y → to_z w32 (of_z w32 (to_z w32 (of_z w32 x) +ℤ to_z w32 (of_z w32 y))) ≡ x +ℤ y
-sum_of_near x y p q = omega (arith, ints)
 
 -- the cells of a slice are cells of Z^d
 zero_at : (x : ℕ) → x < 1 → int_eq (pos x) (pos 0) ≡ true

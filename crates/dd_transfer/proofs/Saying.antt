@@ -1,23 +1,16 @@
 -- The formulas at the places of a window say what the rule says there.
 use Rattle.std.proofs.Common.{◌≡◌, ℕ, zero, suc, ◌+◌, ◌<◌, Bool, true, false, List, [], ◌∷◌, ◌++◌, length, get_or, Option, Some, None, Result, Ok, Err, IfOk, pos, ◌+ℤ◌, refl, ap, sym, ◌∙◌, subst, arith, inl, inr}
-use Rattle.std.specs.Prelude.{◌&&◌, cond, int_le, nat_lt}
-use Rattle.std.specs.List.{list_all}
-use mathlib.Core.Path.{fun_ext}
 use Rattle.std.proofs.lemmas.Bool.{and_from, and_parts, cases_lt}
 use Rattle.std.proofs.lemmas.List.{get_or_append_left, get_or_push, length-append}
-use Rattle.dd_lattice.specs.Place.{Place}
-use Rattle.dd_lattice.specs.Cells.{cell, shifted}
-use Rattle.dd_lattice.specs.declared.position.Cell.{Cell}
+use Rattle.std.specs.{Prelude.◌&&◌, Prelude.cond, Prelude.int_le, Prelude.nat_lt, List.list_all}
+use mathlib.Core.Path.{fun_ext}
+use Rattle.dd_lattice.specs.{Place.Place, Cells.cell, Cells.shifted, declared.position.Cell.Cell}
 use Rattle.dd_pattern.specs.Reading.{Look, HasSymbolsBelow}
-use Rattle.dd_expansion.specs.declared.expanded.Expanded.{Expanded}
-use Rattle.dd_expansion.specs.Leaves.{holds}
+use Rattle.dd_expansion.specs.{declared.expanded.Expanded.Expanded, Leaves.holds}
 use Rattle.dd_numbered.specs.declared.numbered.Numbered.{Numbered, roll-Numbered}
-use Rattle.dd_numbered.specs.declared.numbered.Numbered.TheOpen.{Numbered-F}
-use Rattle.dd_numbered.specs.Numbered.{holds_in}
-use Rattle.dd_numbered.specs.Numbering.{read_by, symbol_with}
+use Rattle.dd_numbered.specs.{declared.numbered.Numbered.TheOpen.Numbered-F, Numbered.holds_in, Numbering.read_by, Numbering.symbol_with}
 use Rattle.dd_formula.specs.LocalRule.{LocalRule, is_true}
-use Rattle.dd_strip.specs.declared.strip.Strip.{Strip}
-use Rattle.dd_strip.specs.Strips.{cells}
+use Rattle.dd_strip.specs.{declared.strip.Strip.Strip, Strips.cells}
 use Rattle.dd_transfer.specs.Windows.{Shown, IsFullWindow, IsTrueAlong, cell_at, shown_look, stand, window_index, window_look}
 use Rattle.dd_transfer.specs.placing.Formulas.{Standpoint, standpoint, window_numbers, numbers_near, SaysAt, ArePlaces}
 use Rattle.dd_transfer.proofs.Truths.{window_below, along_from_slice, slice_from_along}
@@ -28,7 +21,7 @@ symbol_cond : (ss : List ℕ) (b : Bool) (o : Option ℕ) → symbol_with ss (co
 symbol_cond ss true o = refl
 symbol_cond ss false o = refl
 
--- by the numbers of a window's cells its symbols are read
+-- the numbers of a window's cells give its symbols
 near_reads : (s : Strip) (v : Place) (ss : List ℕ) (c : Cell) → read_by (numbers_near (standpoint s v)) ss c ≡ window_look s ss (shifted v c)
 near_reads s v ss c = symbol_cond ss (int_le (pos 0) (c.position.x +ℤ v.x) && nat_lt c.node s.nodes) (Some (window_index s (shifted v c)))
 

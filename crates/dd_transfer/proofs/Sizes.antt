@@ -1,31 +1,25 @@
 -- The numbers of states, slices and windows, and what a graph keeps.
 use Rattle.std.proofs.Common.{◌≡◌, ℕ, zero, suc, ◌+◌, ◌-◌, ◌*◌, ◌/◌, ◌%◌, ◌^◌, ◌<◌, ◌≤◌, Bool, true, false, List, [], ◌∷◌, length, get_or, Option, Some, None, max, refl, ap, sym, ◌∙◌, subst, arith, inl, inr}
+use Rattle.std.proofs.lemmas.Bool.{cases_lt, lt-ltb, ltb-true, cases_Bool, and_parts}
+use Rattle.std.proofs.lemmas.{Nat.mul-add-lt, List.Elements.All-head, List.Elements.All-tail, List.Sums.sum_by-cons}
+use Rattle.std.proofs.Math.Nat.{pow-suc, mul-div_cancel_left, mul-mod_left, pow-le-pow_left, pow-le-pow_right, mul-le-mul_left, mul-le-mul_right}
 use Rattle.std.specs.Prelude.{◌⊎◌, ◌↔◌, cond, nat_lt, ◌&&◌, slice_index, slice_index_or, sum_by}
 use Rattle.std.specs.List.{All}
-use Rattle.std.proofs.lemmas.Bool.{cases_lt, lt-ltb, ltb-true, cases_Bool, and_parts}
-use Rattle.std.proofs.lemmas.Nat.{mul-add-lt}
-use Rattle.std.proofs.lemmas.List.Elements.{All-head, All-tail}
-use Rattle.std.proofs.lemmas.List.Sums.{sum_by-cons}
-use Rattle.std.proofs.Math.Nat.{pow-suc, mul-div_cancel_left, mul-mod_left, one-le-pow, pow-le-pow_left, pow-le-pow_right, mul-le-mul_left, mul-le-mul_right}
 use Rattle.dd_pattern.specs.Weight.{AreWeights, total_weight}
 use Rattle.dd_formula.specs.LocalRule.{LocalRule, IsRule}
 use Rattle.dd_counts.specs.Rules.{slices, states, longer_states, window}
-use Rattle.dd_strip.specs.declared.strip.Strip.{Strip}
+use Rattle.dd_strip.specs.{declared.strip.Strip.Strip, Strips.IsSized, Strips.IsFor, Strips.cells, Strips.positions, Strips.HasWeights}
 use Rattle.dd_transfer.specs.Graphs.{Transfer, IsTransfer, transfer, target, next_of, window_of, weight_at}
-use Rattle.dd_strip.specs.Strips.{IsSized, IsFor, cells, positions, HasWeights}
 use Rattle.dd_transfer.specs.Windows.{AreWindows, IsWindow, digits}
 use Rattle.dd_transfer.specs.Transfers.{IsGraphOf, IsEdge, slice_weight}
 use Rattle.dd_transfer.proofs.Digits.{digits_length, digits_below}
-
--- of the numbers of slices and of slices of a state
-some_power : (s w : ℕ) → 0 < s → 0 < s ^ w
-some_power s w some = one-le-pow w s some
+use Rattle.dd_values.specs.lemmas.Numbers.{power_some}
 
 more_power : (s w : ℕ) → s ^ (w + 1) ≡ s ^ w * s
 more_power s w = let e : w + 1 ≡ suc w = omega arith in ap (λ (n : ℕ). s ^ n) e ∙ pow-suc s w
 
 divided : (s w : ℕ) → 0 < s → s ^ (w + 1) / s ^ w ≡ s
-divided s w some = ap (λ (n : ℕ). n / s ^ w) (more_power s w) ∙ mul-div_cancel_left s (some_power s w some)
+divided s w some = ap (λ (n : ℕ). n / s ^ w) (more_power s w) ∙ mul-div_cancel_left s (power_some s w some)
 
 last_power : (s w : ℕ) → 1 ≤ w → s ^ w % s ≡ 0
 last_power s zero h = absurd (omega arith)
@@ -34,7 +28,7 @@ last_power s (suc w) h = ap (λ (n : ℕ). n % s) (pow-suc s w) ∙ mul-mod_left
 at_least : (s w : ℕ) → 0 < s → 1 ≤ w → s ≤ s ^ w
 at_least s zero some h = absurd (omega arith)
 at_least s (suc w) some h =
-    let one : 1 * s ≤ s ^ w * s = mul-le-mul_right s (some_power s w some) in
+    let one : 1 * s ≤ s ^ w * s = mul-le-mul_right s (power_some s w some) in
     omega (arith, one, pow-suc s w)
 
 one_power : (w : ℕ) → 1 ^ w ≡ 1
@@ -47,7 +41,7 @@ few_cells b c w two h small = elim (cases_lt 8 c) [
   | inr le ↦ le
   | inl more ↦
       let s = b ^ c in
-      let some : 0 < s = some_power b c (omega arith) in
+      let some : 0 < s = power_some b c (omega arith) in
       let low : 2 ^ c ≤ b ^ c = pow-le-pow_left two c in
       let nine : 2 ^ 9 ≤ 2 ^ c = pow-le-pow_right {n = 2} (omega arith) more in
       let big : 512 ≤ s = omega (arith, low, nine) in
@@ -132,7 +126,7 @@ edge_from r s n m windows weights n_is m_is are u t v e =
     rw (lt-ltb u n state, lt-ltb t m slice, opened) (ap (λ (x : ℕ). Some x) leads)
 
 pub some_states : (r : LocalRule) (s : Strip) (n : ℕ) → IsRule r → n ≡ states r (positions s) → 0 < n
-some_states r s n rule is = omega (arith, is, some_power (slices r (positions s)) (window r) (some_power r.symbols (r.nodes * positions s) rule.symbols.0))
+some_states r s n rule is = omega (arith, is, power_some (slices r (positions s)) (window r) (power_some r.symbols (r.nodes * positions s) rule.symbols.0))
 
 -- the parts make the graph of the rule
 pub graph_is : (r : LocalRule) (s : Strip) (ws : List ℕ) (n count : ℕ) (windows : List Bool) (weights : List ℕ) → IsRule r → IsFor r s → HasWeights r ws →
@@ -146,8 +140,8 @@ graph_is r s ws n count windows weights rule for has n_is count_is few small are
     let c = cells s in
     let m = slices r (positions s) in
     let m_is : m ≡ b ^ c = ap (λ (x : ℕ). b ^ (x * positions s)) (sym for.nodes) in
-    let m_some : 0 < m = some_power b (r.nodes * positions s) b_some in
-    let n_some : 0 < n = omega (arith, n_is, some_power m w m_some) in
+    let m_some : 0 < m = power_some b (r.nodes * positions s) b_some in
+    let n_some : 0 < n = omega (arith, n_is, power_some m w m_some) in
     let q_is : count / n ≡ m = ap (λ (x : ℕ). x / n) count_is ∙ (ap (λ (x : ℕ). longer_states r (positions s) / x) n_is ∙ divided m w m_some) in
     let all : count ≡ n * (count / n) = count_is ∙ (more_power m w ∙ (ap (λ (x : ℕ). x * m) (sym n_is) ∙ ap (λ (x : ℕ). n * x) (sym q_is))) in
     let here : AreWindows r s (n * (count / n)) windows = subst (λ (x : ℕ). AreWindows r s x windows) all are in

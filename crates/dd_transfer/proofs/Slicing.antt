@@ -1,19 +1,14 @@
 -- The symbols of the slices of a look, in a list and as a number.
 use Rattle.std.proofs.Common.{◌≡◌, ℕ, zero, suc, ◌+◌, ◌*◌, ◌/◌, ◌%◌, ◌^◌, ◌<◌, List, ◌++◌, length, ℤ, pos, ◌+ℤ◌, ◌≤ℤ◌, Option, Some, None, refl, ap, sym, ◌∙◌, subst, arith}
-use Rattle.std.specs.Prelude.{◌<ℤ◌, unwrap_or, IsSomeAnd}
-use Rattle.std.specs.List.{All}
-use Rattle.std.proofs.lemmas.Int.{ints}
-use Rattle.std.proofs.lemmas.Nat.{mod_below, div_below, pow-add}
+use Rattle.std.proofs.lemmas.{Int.ints, Nat.mod_below, Nat.div_below, Nat.pow-add}
 use Rattle.std.proofs.Math.Nat.{pow-suc, pow-zero, mul-add-mod_self_right, add-mul-div_right}
+use Rattle.std.specs.{Prelude.◌<ℤ◌, Prelude.unwrap_or, Prelude.IsSomeAnd, List.All}
 use Rattle.dd_lattice.specs.declared.position.Cell.{Cell}
-use Rattle.dd_pattern.specs.Reading.{Look}
-use Rattle.dd_pattern.specs.Weight.{total_weight}
+use Rattle.dd_pattern.specs.{Reading.Look, Weight.total_weight}
 use Rattle.dd_formula.specs.LocalRule.{LocalRule}
 use Rattle.dd_counts.specs.Rules.{slices}
-use Rattle.dd_strip.specs.declared.strip.Strip.{Strip}
-use Rattle.dd_strip.specs.Strips.{IsSized, IsFor, cells, positions}
-use Rattle.dd_transfer.specs.Windows.{cell_at, digits}
-use Rattle.dd_transfer.specs.Transfers.{slice_weight}
+use Rattle.dd_strip.specs.{declared.strip.Strip.Strip, Strips.IsSized, Strips.IsFor, Strips.cells, Strips.positions}
+use Rattle.dd_transfer.specs.{Windows.cell_at, Windows.digits, Transfers.slice_weight}
 use Rattle.dd_transfer.specs.Slices.{IsInSlices, HasSlices, cell_from, symbols_from, number_with_digits, slices_from}
 use Rattle.dd_transfer.proofs.Alphabets.{some_cells}
 use Rattle.dd_transfer.proofs.Numbers.{joined, digits_of, number_below, listed, listed-same, listed-add, length-listed, listed-all}
@@ -22,7 +17,7 @@ use Rattle.dd_transfer.proofs.Numbers.{joined, digits_of, number_below, listed, 
 abbrev pub symbol_from : Strip → Look → ℤ → ℕ → ℕ
 symbol_from s look x k = unwrap_or (look (cell_from s x k)) 0
 
--- that a symbol is there
+-- a symbol is given
 pub record Given (r : LocalRule) (o : Option ℕ) : Type 0 where
   pub symbol : ℕ
   pub is : o ≡ Some symbol
@@ -101,7 +96,7 @@ module _ (r : LocalRule) (s : Strip) (look : Look) (for : IsFor r s) where
   pub slices_powers : (n : ℕ) → slices r (positions s) ^ n ≡ r.symbols ^ (n * cells s)
   slices_powers n = ap (λ (b : ℕ). b ^ n) slices_power ∙ power_power r.symbols (cells s) n
 
-  -- the number of slices is that of the first ones and of those behind them
+  -- the number of a row of slices, from the numbers of its first slices and of the rest
   pub slices_joined : (x : ℤ) (m n : ℕ) → slices_from r s look x (m + n) ≡ slices_from r s look x m * slices r (positions s) ^ n + slices_from r s look (x +ℤ pos m) n
   slices_joined x m n =
       let b = r.symbols in

@@ -1,42 +1,19 @@
 -- How far a rule reads to the left and to the right.
 use Rattle.std.proofs.Common.{◌≡◌, ℕ, zero, suc, ◌+◌, ◌-◌, ◌<◌, ◌≤◌, Bool, true, List, [], ◌∷◌, ◌++◌, ℤ, pos, negsuc, ◌≤ℤ◌, unsigned_abs, ◌+ℤ◌, refl, ap, sym, ◌∙◌, subst, arith, inl, inr}
-use Rattle.std.specs.Prelude.{int_le, ◌&&◌, ◌-ℤ◌, max, ◌⊎◌}
-use Rattle.std.specs.Int.{int_min, int_max}
-use Rattle.std.specs.List.{list_all, flat_map, range_with_len}
-use Rattle.std.proofs.lemmas.Int.{ints}
-use Rattle.std.proofs.lemmas.Bool.{and_parts, and_from, leb-true, cases_eq}
+use Rattle.std.proofs.lemmas.{Int.ints, Bool.and_parts, Bool.and_from, Bool.leb-true, Bool.cases_eq}
 use Rattle.std.proofs.lemmas.List.Folds.{list_all-append}
-use Rattle.dd_lattice.specs.declared.position.Cell.{Cell}
-use Rattle.dd_lattice.specs.lemmas.InOrderLaws.{list_all-in_order}
+use Rattle.std.specs.{Prelude.int_le, Prelude.◌&&◌, Prelude.◌-ℤ◌, Prelude.max, Prelude.◌⊎◌, Int.int_min, Int.int_max}
+use Rattle.std.specs.List.{list_all, flat_map, range_with_len}
+use Rattle.dd_lattice.specs.{declared.position.Cell.Cell, lemmas.InOrderLaws.list_all-in_order}
 use Rattle.dd_topology.specs.Topology.{extent}
 use Rattle.dd_formula.specs.LocalRule.{LocalRule, IsRule, is_near, reads_at, cells_at}
 use Rattle.dd_formula.specs.Reach.{all_cells}
 use Rattle.dd_counts.specs.Rules.{least_x, greatest_x, slice_span, window}
 use Rattle.dd_transfer.specs.Windows.{stand}
-
-pub le_from : (x y : ℤ) → x ≤ℤ y → int_le x y ≡ true
-le_from x y h = grind (arith, ints)
-
-pub le_to : (x y : ℤ) → int_le x y ≡ true → x ≤ℤ y
-le_to x y h = grind (arith, ints)
-
-min_left : (x y : ℤ) → int_min x y ≤ℤ x
-min_left x y = grind (arith, ints)
-
-min_right : (x y : ℤ) → int_min x y ≤ℤ y
-min_right x y = grind (arith, ints)
+use Rattle.dd_values.specs.lemmas.Numbers.{le_from, le_to, along, min_left, min_right, max_left, max_right}
 
 min_both : (x y b : ℤ) → b ≤ℤ x → b ≤ℤ y → b ≤ℤ int_min x y
 min_both x y b p q = grind (arith, ints)
-
-max_left : (x y : ℤ) → x ≤ℤ int_max x y
-max_left x y = grind (arith, ints)
-
-max_right : (x y : ℤ) → y ≤ℤ int_max x y
-max_right x y = grind (arith, ints)
-
-along : (x y z : ℤ) → x ≤ℤ y → y ≤ℤ z → x ≤ℤ z
-along x y z p q = omega (arith, ints)
 
 pub least_low : (from : ℤ) (cs : List Cell) → least_x from cs ≤ℤ from
 least_low from [] = omega (arith, ints)

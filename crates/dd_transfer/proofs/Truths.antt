@@ -1,34 +1,20 @@
--- A rule in a window: it is true at a whole x where it is true at the cells of a slice.
-use Rattle.std.proofs.Common.{◌≡◌, ℕ, zero, suc, ◌+◌, ◌*◌, ◌<◌, true, List, [], ◌∷◌, ℤ, pos, ◌+ℤ◌, unsigned_abs, None, refl, ap, sym, ◌∙◌, subst, arith}
-use Rattle.std.specs.Prelude.{nat_lt, int_le, slice_get, IfSome, cond, ◌&&◌}
-use Rattle.std.specs.List.{All}
+-- A rule in a window: it is true at all places of an x if it is true at the cells of the slice.
+use Rattle.std.proofs.Common.{◌≡◌, ℕ, ◌+◌, ◌*◌, ◌<◌, true, ℤ, pos, ◌+ℤ◌, unsigned_abs, None, refl, ap, sym, ◌∙◌, subst, arith}
 use Rattle.std.proofs.lemmas.Bool.{cond_both}
-use Rattle.dd_lattice.specs.Place.{Place, place}
-use Rattle.dd_lattice.specs.Cells.{cell, shifted}
-use Rattle.dd_lattice.specs.declared.position.Cell.{Cell}
-use Rattle.dd_pattern.specs.Reading.{Look, HasSymbolsBelow}
-use Rattle.dd_pattern.specs.Periods.{residue}
+use Rattle.std.specs.Prelude.{nat_lt, int_le, slice_get, IfSome, cond, ◌&&◌}
+use Rattle.dd_lattice.specs.{Place.Place, Place.place, Cells.cell, Cells.shifted, declared.position.Cell.Cell}
+use Rattle.dd_pattern.specs.{Reading.HasSymbolsBelow, Periods.residue}
 use Rattle.dd_expansion.specs.Terms.{origin_at}
-use Rattle.dd_formula.specs.LocalRule.{LocalRule, is_true}
-use Rattle.dd_formula.specs.lemmas.RuleLaws.{truth_moved_back}
-use Rattle.dd_strip.specs.declared.strip.Strip.{Strip}
-use Rattle.dd_strip.specs.Strips.{IsSized, IsFor, cells}
+use Rattle.dd_formula.specs.{LocalRule.LocalRule, LocalRule.is_true, lemmas.RuleLaws.truth_moved_back, lemmas.LookLaws.same_look}
+use Rattle.dd_strip.specs.{declared.strip.Strip.Strip, Strips.IsSized, Strips.IsFor, Strips.cells}
 use Rattle.dd_transfer.specs.Windows.{IsFullWindow, Shown, slice_index_of, window_index, shown_look, cell_at, IsTrueAlong}
 use Rattle.dd_transfer.proofs.Places.{parts_of, slice_below, cell_at_index, residue_moved, flat_at}
-
-below_at : (n : ℕ) (xs : List ℕ) → All (λ s. s < n) xs → (i : ℕ) → IfSome (slice_get xs i) (λ s. s < n)
-below_at n [] h i = tt
-below_at n (x ∷ xs) h zero = h zero x (omega arith)
-below_at n (x ∷ xs) h (suc i) = below_at n xs (λ k d within. h (suc k) d (omega arith)) i
+use Rattle.dd_values.specs.lemmas.Lists.{below_at}
 
 pub window_below : (r : LocalRule) (w : Shown) → IsFullWindow r w → HasSymbolsBelow r.symbols (shown_look w)
 window_below r w full c =
     cond_both (int_le (pos 0) c.position.x && nat_lt c.node w.strip.nodes) (slice_get w.symbols (window_index w.strip c)) None (λ o. IfSome o (λ s. s < r.symbols))
     (λ _. below_at r.symbols w.symbols full.known (window_index w.strip c)) (λ _. tt)
-
--- two functions that agree everywhere are one
-same_look : (f g : Look) → ((c : Cell) → f c ≡ g c) → f ≡ g
-same_look f g h = λ i c. h c i
 
 -- a position moved into the slice at its x
 abbrev pub into : Strip → Place → Place

@@ -1,12 +1,9 @@
 -- The list of windows, one more at a time.
 use Rattle.std.proofs.Common.{◌≡◌, ◌≤◌, ◌<◌, ◌+◌, ℕ, List, [], ◌∷◌, ◌++◌, length, get_or, Bool, true, false, arith, refl, ap, sym, ◌∙◌, subst, inl, inr}
-use Rattle.std.specs.Prelude.{◌⊎◌, ◌↔◌, IsTrue}
-use Rattle.std.specs.List.{All}
-use Rattle.std.proofs.lemmas.Bool.{cases_lt}
-use Rattle.std.proofs.lemmas.List.{get_or_append_left, get_or_push, length-append}
+use Rattle.std.proofs.lemmas.{Bool.cases_lt, List.get_or_append_left, List.get_or_push, List.length-append}
+use Rattle.std.specs.{Prelude.◌⊎◌, Prelude.◌↔◌, Prelude.IsTrue, List.All}
 use Rattle.dd_formula.specs.LocalRule.{LocalRule, IsRule}
-use Rattle.dd_strip.specs.declared.strip.Strip.{Strip}
-use Rattle.dd_strip.specs.Strips.{IsFor}
+use Rattle.dd_strip.specs.{declared.strip.Strip.Strip, Strips.IsFor}
 use Rattle.dd_transfer.specs.Windows.{Shown, shown, shown_look, IsFullWindow, IsKept, IsWindow, AreWindows, window_cells, digits}
 use Rattle.dd_transfer.proofs.Digits.{digits_length, digits_below}
 

@@ -1,11 +1,10 @@
--- What certifies the least density of a strip: a closed walk of its transfer graph and potentials; or ranks, where no walk goes on
--- for ever.
+-- What certifies the least density of a strip: a closed walk of its transfer graph and potentials; or ranks, if no walk
+-- is infinite.
 use Rattle.std.specs.Prelude.{◌≡◌, ℕ, ◌+◌, ◌*◌, ◌%◌, ◌<◌, ℤ, pos, ◌-ℤ◌, ◌≤ℤ◌, List, [], ◌∷◌, length, slice_index, slice_index_or}
 use Rattle.std.specs.Int.{IsGcd}
 use Rattle.dd_formula.specs.LocalRule.{LocalRule}
 use Rattle.dd_counts.specs.Rules.{slices, states}
-use Rattle.dd_strip.specs.declared.strip.Strip.{Strip}
-use Rattle.dd_strip.specs.Strips.{positions}
+use Rattle.dd_strip.specs.{declared.strip.Strip.Strip, Strips.positions}
 use Rattle.dd_transfer.specs.Transfers.{IsEdge, slice_weight}
 
 -- each state has an edge to the next: from u through the states to v

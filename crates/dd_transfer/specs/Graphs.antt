@@ -39,5 +39,5 @@ pub record IsTransfer (g : Transfer) : Type 0 where
   pub small : g.states * g.slices ≤ most_longer_states
   -- a state's last slice is its number modulo the slices
   pub divides : g.states % g.slices ≡ 0
-  -- no walk through each state once is heavier
+  -- so a walk through each state once weighs at most 2^25
   pub light : (t : ℕ) → t < g.slices → g.states * weight_at g t ≤ 2 ^ 25

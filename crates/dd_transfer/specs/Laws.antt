@@ -1,16 +1,12 @@
--- The laws of slices: what the transfer graph says of the slices of a look.
+-- The laws of slices: how the slices of a look relate to the transfer graph.
 use Rattle.std.specs.Prelude.{◌≡◌, ◌↔◌, ℕ, ◌+◌, ◌*◌, ◌<◌, ◌^◌, true, ℤ, pos, ◌+ℤ◌, List, ◌++◌, length, is_some, ◌&&◌}
 use Rattle.std.specs.List.{All, list_all}
-use Rattle.dd_lattice.specs.Place.{Place}
-use Rattle.dd_lattice.specs.Cells.{cell, shifted}
-use Rattle.dd_pattern.specs.Reading.{Look}
-use Rattle.dd_pattern.specs.Weight.{total_weight}
+use Rattle.dd_lattice.specs.{Place.Place, Cells.cell, Cells.shifted}
+use Rattle.dd_pattern.specs.{Reading.Look, Weight.total_weight}
 use Rattle.dd_formula.specs.LocalRule.{LocalRule, reads_at}
 use Rattle.dd_counts.specs.Rules.{slices, window}
-use Rattle.dd_strip.specs.declared.strip.Strip.{Strip}
-use Rattle.dd_strip.specs.Strips.{positions}
-use Rattle.dd_transfer.specs.Windows.{digits, stand, IsWindow}
-use Rattle.dd_transfer.specs.Transfers.{IsEdge, slice_weight}
+use Rattle.dd_strip.specs.{declared.strip.Strip.Strip, Strips.positions}
+use Rattle.dd_transfer.specs.{Windows.digits, Windows.stand, Windows.IsWindow, Transfers.IsEdge, Transfers.slice_weight}
 use Rattle.dd_transfer.specs.Slices.{HasSlices, IsKeptFrom, symbols_from, number_with_digits, slices_from, state_from, window_from}
 
 -- numbers and their digits
@@ -21,9 +17,10 @@ pub record AreDigits (base : ℕ) : Type 0 where
   pub number_is : (count n : ℕ) → n < base ^ count → number_with_digits base (digits base count n) ≡ n
   pub joined : (ds es : List ℕ) → number_with_digits base (ds ++ es) ≡ number_with_digits base ds * base ^ length es + number_with_digits base es
 
--- what the transfer graph says of the slices of a look that repeats across the strip
+-- how the slices of a look that repeats across the strip relate to the transfer graph
 pub record AreEdgesOf (r : LocalRule) (s : Strip) (look : Look) : Type 0 where
-  -- slices from x on are the first ones and those behind them, and their number is that of the first ones with the last one's
+  -- m + n slices from x on are the first m and then the other n; the number of n + 1 slices has the last slice as its
+  -- last digit
   pub joined : (x : ℤ) (m n : ℕ) → symbols_from s look x (m + n) ≡ symbols_from s look x m ++ symbols_from s look (x +ℤ pos m) n
   pub longer : (x : ℤ) (n : ℕ) → slices_from r s look x (n + 1) ≡ slices_from r s look x n * slices r (positions s) + slices_from r s look (x +ℤ pos n) 1
   -- a slice weighs what its symbols weigh

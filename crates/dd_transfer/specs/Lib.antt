@@ -8,7 +8,7 @@ pub mod Transfers
 pub mod Certificates
 -- the slices of a look, and the edges that they make
 pub mod Slices
--- what the transfer graph says of the slices of a look
+-- how the slices of a look relate to the transfer graph
 pub mod Laws
 -- the rule at the places of a window, as the code keeps it
 pub mod placing

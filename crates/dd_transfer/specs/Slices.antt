@@ -2,15 +2,11 @@
 -- and the states and windows that they make.
 use Rattle.std.specs.Prelude.{◌≡◌, ℕ, ◌+◌, ◌*◌, ◌/◌, ◌%◌, ◌<◌, true, ℤ, pos, ◌+ℤ◌, ◌≤ℤ◌, ◌<ℤ◌, List, map, unwrap_or, IfSome, IsSomeAnd}
 use Rattle.std.specs.List.{fold, range_with_len}
-use Rattle.dd_lattice.specs.Place.{Place, place}
-use Rattle.dd_lattice.specs.Cells.{cell}
-use Rattle.dd_lattice.specs.declared.position.Cell.{Cell}
-use Rattle.dd_pattern.specs.Periods.{residue}
-use Rattle.dd_pattern.specs.Reading.{Look}
+use Rattle.dd_lattice.specs.{Place.Place, Place.place, Cells.cell, declared.position.Cell.Cell}
+use Rattle.dd_pattern.specs.{Periods.residue, Reading.Look}
 use Rattle.dd_formula.specs.LocalRule.{LocalRule, rule_allows}
 use Rattle.dd_counts.specs.Rules.{window}
-use Rattle.dd_strip.specs.declared.strip.Strip.{Strip}
-use Rattle.dd_strip.specs.Strips.{cells}
+use Rattle.dd_strip.specs.{declared.strip.Strip.Strip, Strips.cells}
 use Rattle.dd_transfer.specs.Windows.{cell_at, stand, IsTrueAlong}
 
 -- where a position is read: modulo the strip's periods

@@ -5,10 +5,8 @@ use Rattle.dd_formula.specs.LocalRule.{LocalRule}
 use Rattle.dd_counts.specs.Rules.{slices, states, longer_states}
 use Rattle.dd_transfer.specs.declared.fault.TransferFault.{TransferFault}
 use Rattle.dd_transfer.specs.declared.fault.TransferFault.TheVariants.{Size, Memory}
-use Rattle.dd_strip.specs.declared.strip.Strip.{Strip}
-use Rattle.dd_transfer.specs.Graphs.{Transfer, IsTransfer, next_of, weight_at}
-use Rattle.dd_strip.specs.Strips.{positions, cells, IsTooLarge, IsFew}
-use Rattle.dd_transfer.specs.Windows.{digits, IsWindow}
+use Rattle.dd_transfer.specs.{Graphs.Transfer, Graphs.IsTransfer, Graphs.next_of, Graphs.weight_at, Windows.digits, Windows.IsWindow}
+use Rattle.dd_strip.specs.{declared.strip.Strip.Strip, Strips.positions, Strips.cells, Strips.IsTooLarge, Strips.IsFew}
 
 -- from the state u by the slice t to the state v: the window of u and t is one of the rule, and v is this window without
 -- its first slice

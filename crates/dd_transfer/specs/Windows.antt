@@ -1,18 +1,12 @@
 -- Windows of a strip: slices at x = 0, 1 and so on, which are read modulo the strip's periods in the other axes.
 use Rattle.std.specs.Prelude.{◌≡◌, ℕ, zero, suc, ◌+◌, ◌*◌, ◌/◌, ◌%◌, ◌<◌, ◌≤◌, ◌&&◌, cond, nat_lt, int_le, true, List, [], ◌∷◌, ◌++◌, Option, None, slice_get, slice_index_or, length, false, Bool, ◌↔◌, pos, ℤ, ◌-ℤ◌, unsigned_abs}
 use Rattle.std.specs.List.{All}
-use Rattle.dd_lattice.specs.Place.{Place, place}
-use Rattle.dd_lattice.specs.Cells.{cell}
-use Rattle.dd_lattice.specs.declared.position.Cell.{Cell}
-use Rattle.dd_pattern.specs.Reading.{Look}
-use Rattle.dd_pattern.specs.Periods.{residue}
+use Rattle.dd_lattice.specs.{Place.Place, Place.place, Cells.cell, declared.position.Cell.Cell}
+use Rattle.dd_pattern.specs.{Reading.Look, Periods.residue}
 use Rattle.dd_expansion.specs.Placed.{is_flat}
-use Rattle.dd_formula.specs.LocalRule.{LocalRule, is_true}
-use Rattle.dd_formula.specs.Allowed.{AreAllowed}
-use Rattle.dd_formula.specs.Reach.{all_cells}
+use Rattle.dd_formula.specs.{LocalRule.LocalRule, LocalRule.is_true, Allowed.AreAllowed, Reach.all_cells}
 use Rattle.dd_counts.specs.Rules.{least_x, window}
-use Rattle.dd_strip.specs.declared.strip.Strip.{Strip}
-use Rattle.dd_strip.specs.Strips.{IsFor, cells}
+use Rattle.dd_strip.specs.{declared.strip.Strip.Strip, Strips.IsFor, Strips.cells}
 
 -- a number's digits in a base, so many of them, the most significant first
 abbrev pub digits : ℕ → ℕ → ℕ → List ℕ
@@ -76,7 +70,7 @@ pub record IsFullWindow (r : LocalRule) (w : Shown) : Type 0 where
 abbrev pub cell_at : Strip → ℤ → ℕ → Cell
 cell_at s x i = let k = i / s.nodes in cell (place x (pos (k % s.y)) (pos (k / s.y))) (i % s.nodes)
 
--- the list says of each window below a number whether the rule keeps it
+-- the list says for each window with a smaller number whether the rule keeps it
 pub record AreWindows (r : LocalRule) (s : Strip) (n : ℕ) (windows : List Bool) : Type 0 where
   pub each : length windows ≡ n
   pub tells : (k : ℕ) → k < n → (slice_index_or windows k false ≡ true) ↔ IsWindow r s k

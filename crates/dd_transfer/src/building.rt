@@ -19,11 +19,12 @@ use dd_pattern::weight_of;
 use dd_strip::Strip;
 use std::alloc::{AllocError, Global};
 
-/// The transfer graph of a rule over a strip with these periods in the second and the third axis, where each symbol weighs
-/// as much as its weight says.
+/// The transfer graph of a rule over a strip with these periods in the second and the third axis, with these weights of
+/// the symbols.
 ///
 /// # Errors
-/// `Size` where there are more than 4,096 states or more than 131,072 windows, which are states with one slice more; else `Memory`.
+/// `Size` where there are more than 4,096 states or more than 131,072 windows, which are states with one slice more; else
+/// `Memory`.
 pub fn graph(
     alloc: Global,
     rule: &Rule,
@@ -51,7 +52,7 @@ pub fn graph(
     Ok(graph_of(alloc, rule, strip, weights, states, count)?)
 }
 
-/// The same with so many states and windows.
+/// The transfer graph with so many states and windows.
 fn graph_of(
     alloc: Global,
     rule: &Rule,
@@ -130,7 +131,7 @@ fn slice_weights(
     Ok(sums)
 }
 
-/// What a slice weighs; the list takes the symbols of its cells.
+/// What a slice weighs. The symbols of its cells are written into the list.
 fn slice_weight(symbols: &mut [u32], rule: &Rule, strip: Strip, weights: &[u32], slice: u32) -> u64
     requires strip { IsFor rule.now strip }
     requires weights { HasWeights rule.now weights.now }

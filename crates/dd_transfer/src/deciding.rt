@@ -33,7 +33,7 @@ pub(crate) fn allows_all(rule: &Rule) -> bool
     true
 }
 
-/// Whether each symbol of the window is one that its node allows; each is where the rule allows all.
+/// Whether each symbol of the window is one that its node allows. This is so if the rule allows all.
 fn are_allowed(rule: &Rule, allows_all: bool, window: &Window) -> bool
     requires window { IsFullWindow rule.now window.now }
     requires all { IsTrue allows_all → AllowsAll rule.now }
@@ -52,8 +52,8 @@ fn are_allowed(rule: &Rule, allows_all: bool, window: &Window) -> bool
     true
 }
 
-/// Whether each symbol of the window is allowed and the rule, of which these are the formulas at its places, is true where it
-/// stands.
+/// Whether each symbol of the window is allowed, and the rule is true where it stands. The formulas are those of the rule
+/// at its places.
 pub(crate) fn is_kept(rule: &Rule, formulas: &[Numbered], allows_all: bool, window: &Window) -> bool
     requires window { IsFullWindow rule.now window.now }
     requires all { IsTrue allows_all → AllowsAll rule.now }

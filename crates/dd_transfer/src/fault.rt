@@ -10,7 +10,7 @@ pub enum TransferFault {
     /// The strip has more than 4,096 states, or more than 131,072 windows: states with one slice more.
     #[error("the strip has more than 4096 states, or more than 131072 windows")]
     Size,
-    /// Memory was wanting.
+    /// Memory ran out.
     #[error("out of memory")]
     Memory,
 }

@@ -5,7 +5,7 @@ ghost use Rattle.dd_transfer.specs.Graphs.{transfer, IsTransfer, next_of, target
 use std::marker::Model;
 
 /// A state is a row of slices, numbered with the first slice as the most significant digit. An edge by a slice leads from
-/// a state to the state that has this slice behind it and its first slice no more.
+/// a state to the state without the first slice and with this slice at the end.
 #[derive(Debug, Drop)]
 pub struct Graph {
     states: u32,

@@ -7,8 +7,8 @@ ghost use Rattle.dd_strip.specs.Strips.{IsFor};
 ghost use Rattle.dd_transfer.specs.Slices.{RepeatsAcross};
 ghost use Rattle.dd_transfer.specs.Laws.{AreDigits, AreEdgesOf};
 
-/// Does nothing; its contract says what the edges of a transfer graph are of the slices of a look: wherever a look that repeats
-/// across the strip is kept by the rule, slice after slice, these slices are a walk through the graph.
+/// Does nothing; its contract relates the slices of a look to the edges of a transfer graph. Wherever the rule keeps a
+/// look that repeats across the strip, slice after slice, these slices are a walk through the graph.
 pub fn slices_are_walks()
     ensures digits { (base : ℕ) → AreDigits base }
     ensures edges { (r : LocalRule) (s : Strip) (look : Look) → IsRule r → IsFor r s → RepeatsAcross s look → AreEdgesOf r s look }

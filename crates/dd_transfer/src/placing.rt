@@ -15,7 +15,7 @@ use dd_values::Items;
 use std::alloc::{AllocError, Global};
 use std::marker::Model;
 
-/// The numbers of a window's cells, which are counted from a place.
+/// The numbers of a window's cells, where cells are counted from a place.
 #[derive(Debug, Drop)]
 struct Near {
     strip: Strip,
@@ -73,7 +73,7 @@ fn formula_at(alloc: Global, rule: &Rule, strip: Strip, at: &Cell) -> Result<Num
     Numbered::new(alloc, rule.expansion(at.node), &near)
 }
 
-/// The rule at each of its places in a window, which are at this `x`.
+/// The rule at each of its places in a window. All of them are at this `x`.
 pub(crate) fn formulas(
     alloc: Global,
     rule: &Rule,

@@ -38,8 +38,8 @@ pub(crate) fn write_digits(symbols: &mut [u32], base: u32, number: u32)
     }
 }
 
-/// Writes the digits of the next number in place of those of a number: the last one that may grow does, and those behind it,
-/// which are as great as they can be, begin again.
+/// Replaces the digits of a number by those of the next one. The last digit that can grow does, and those behind it,
+/// which are at their greatest, begin again.
 pub(crate) fn advance_digits(symbols: &mut [u32], base: u32)
     requires { 0 < base }
     ensures { (n : ℕ) → symbols.old ≡ digits base (length symbols.old) n → symbols.new ≡ digits base (length symbols.old) (n + 1) }
@@ -73,7 +73,7 @@ impl Window {
         self.symbols.as_slice()
     }
 
-    /// Puts the digits of a number in place of the symbols, the first cell's as the most significant.
+    /// Replaces the symbols by the digits of a number, the most significant at the first cell.
     pub(crate) fn write(&mut self, base: u32, number: u32)
         requires { 0 < base }
         ensures { self.new ≡ shown self.old.strip (digits base (length self.old.symbols) number) }
@@ -81,7 +81,7 @@ impl Window {
         write_digits(self.symbols.as_mut_slice(), base, number);
     }
 
-    /// Puts the digits of the next number in place of those of a number.
+    /// Replaces the digits of a number by those of the next one.
     pub(crate) fn advance(&mut self, base: u32)
         requires { 0 < base }
         ensures { (n : ℕ) → self.old.symbols ≡ digits base (length self.old.symbols) n →

@@ -1,10 +1,8 @@
 -- A question on a box of at most three positions is small.
 use Rattle.std.proofs.Common.{◌≡◌, ℕ, zero, suc, ap, ◌+◌, ◌*◌, ◌≤◌, arith}
 use Rattle.dd_lattice.specs.Boxes.{centred, volume}
-use Rattle.dd_formula.specs.LocalRule.{LocalRule}
-use Rattle.dd_formula.specs.Counts.{place_clauses}
-use Rattle.dd_boxes.specs.Goals.{GoalOf}
-use Rattle.dd_boxes.specs.Counts.{goal_clauses, question_clauses}
+use Rattle.dd_formula.specs.{LocalRule.LocalRule, Counts.place_clauses}
+use Rattle.dd_boxes.specs.{Goals.GoalOf, Counts.goal_clauses, Counts.question_clauses}
 
 pub few_in_a_box : (x : LocalRule) (g : GoalOf) (n : ℕ) → x.dimension ≡ 1 → n ≤ 1 → place_clauses x ≤ 1000 → goal_clauses g ≤ 1000 →
     question_clauses x g (volume (centred x.dimension n)) ≤ 2000000

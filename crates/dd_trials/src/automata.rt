@@ -22,7 +22,7 @@ fn image(alloc: Global, script: &Script) -> Result<Periodic, Fail> {
     Ok(apply(alloc, automaton, configuration)?)
 }
 
-/// The filling of the cells of the line from a first one on, with these symbols.
+/// The filling of a line with these symbols, from the position `first` on.
 fn line(alloc: Global, first: i32, symbols: &[u32]) -> Result<Filling, Fail> {
     let mut cells = Vec::new(alloc);
     let mut copies = Vec::new(alloc);
@@ -39,7 +39,7 @@ fn line(alloc: Global, first: i32, symbols: &[u32]) -> Result<Filling, Fail> {
     Ok(Filling::new(cells, copies))
 }
 
-/// The value at the origin of the first of the two automata that a goal compares.
+/// The value at the origin of the first of the two automata in the goal.
 fn first_of(
     alloc: Global,
     premise: &Rule,
@@ -57,7 +57,7 @@ fn first_of(
     }
 }
 
-/// The same of the first goal that the script asks for.
+/// The value at the origin of the first automaton in the script's first box question.
 fn first_value(alloc: Global, script: &Script, filling: &Filling) -> Result<Option<u32>, Fail> {
     for query in script.queries() {
         if let Question::Box { premise, goal } = script.question(query).question() {
@@ -67,11 +67,11 @@ fn first_value(alloc: Global, script: &Script, filling: &Filling) -> Result<Opti
     Err("a box question".into())
 }
 
-// The exclusive or of the two neighbours, twice over in the query.
+// The exclusive or of the two neighbours; the query applies it twice.
 const SCRIPT: &str =
     "%dim 1 %rule full o@o %auto r when o.lt!=o.rt give 1 else 0 %compose rr r r %conf c [4] 0 1 0 0 %same rr r full";
 
-// The first cell and the symbols from there on, and the value of the twofold automaton at the origin.
+// The position of the first cell, the symbols from there on, and the value at the origin of the automaton applied twice.
 const VALUES: [(i32, &[u32], Option<u32>); 3] = [
     (-2, &[0, 0, 0, 0, 1], Some(1)),
     (-2, &[1, 0, 0, 0, 1], Some(0)),
@@ -79,7 +79,7 @@ const VALUES: [(i32, &[u32], Option<u32>); 3] = [
     (-1, &[0, 0, 0, 1], None),
 ];
 
-/// Asserts the values of the twofold automaton, and the image of the configuration.
+/// Asserts the values of the automaton applied twice, and the image of the configuration.
 fn assert_values(rt: &impl Abort, alloc: Global, script: &Script) -> Result<(), Fail> {
     for (first, symbols, wanted) in &VALUES {
         let filling = line(alloc, *first, symbols)?;

@@ -1,4 +1,4 @@
-// A box of at most three cells: the assignments that satisfy its clauses are the admissible fillings with the goal.
+// Boxes of at most three cells: the assignments that satisfy the clauses are the admissible fillings with the goal.
 ghost use Rattle.std.specs.Prelude.{◌<◌, ◌≤◌, IfSome};
 ghost use Rattle.std.specs.List.{All};
 ghost use Rattle.dd_formula.specs.Automata.{IsAutomaton};
@@ -37,7 +37,7 @@ fn symbol(is_zero: bool, is_one: bool) -> Option<usize>
     }
 }
 
-/// The number of the filling that the first values give to so many cells, if exactly one input of each cell is true.
+/// The number of the filling that the first values give to `cells` cells, if exactly one input of each cell is true.
 fn filling_number(values: &[bool], cells: usize) -> Option<usize> {
     let mut number = 0usize;
     let mut weight = 1usize;
@@ -55,7 +55,7 @@ fn filling_number(values: &[bool], cells: usize) -> Option<usize> {
     Some(number)
 }
 
-/// How many satisfying assignments each filling has, by its number.
+/// How many satisfying assignments each filling has; fillings are given by number.
 fn satisfying(alloc: Global, cnf: &Cnf, cells: usize) -> Result<[u32; 8], Fail> {
     if cnf.variables() > 16 {
         return Err("few variables".into());
@@ -74,7 +74,7 @@ fn satisfying(alloc: Global, cnf: &Cnf, cells: usize) -> Result<[u32; 8], Fail> 
     Ok(found)
 }
 
-/// Whether the rule is true at each of the cells at which all that it reads is given.
+/// Whether the rule is true at each of the cells for which all that it reads is given.
 fn is_admissible(rule: &Rule, filling: &Filling, cells: &[Cell]) -> Result<bool, Fail>
     requires { All (λ s. s < rule.now.symbols) filling.now.symbols }
 {
@@ -98,7 +98,7 @@ fn is_broken(rule: &Rule, filling: &Filling) -> Result<bool, Fail>
     Ok(false)
 }
 
-/// The symbol that the automaton gives a node of the origin, or `None` where something that it reads isn't given.
+/// The symbol that the automaton gives a node of the origin; `None` if something that it reads isn't given.
 pub(crate) fn value(
     alloc: Global,
     premise: &Rule,
@@ -170,7 +170,7 @@ fn box_cells(alloc: Global, rule: &Rule, radius: u32) -> Result<Vec<Cell>, Fail>
     Ok(cells)
 }
 
-/// Which fillings of the cells are admissible and have the goal at the origin, by number: 1 where one is, else 0.
+/// For each filling of the cells, by number: 1 if it is admissible and has the goal at the origin, otherwise 0.
 fn admissible(alloc: Global, rule: &Rule, goal: &Goal, cells: &[Cell]) -> Result<[u32; 8], Fail>
     requires { IsGoalFor rule.now (goal_of rule.now goal.now) }
 {
@@ -190,7 +190,7 @@ fn admissible(alloc: Global, rule: &Rule, goal: &Goal, cells: &[Cell]) -> Result
     Ok(wanted)
 }
 
-/// For each filling of the box of a radius, how many assignments it has that satisfy the clauses, and how many it has to have.
+/// For each filling of the box: the number of assignments that satisfy the clauses, and the number that there should be.
 fn compared(
     alloc: Global,
     premise: &Rule,
@@ -205,7 +205,7 @@ fn compared(
     Ok((found, admissible(alloc, premise, goal, &cells)?))
 }
 
-/// The same of the script's first box question.
+/// The two numbers for each filling, in the script's first box question.
 fn compared_query(
     alloc: Global,
     script: &Script,
@@ -244,8 +244,8 @@ const OPPOSITE: &str = "%auto f when o=1 give 1 else 0 %auto g when o=1 give 0 e
 
 const TWICE: &str = "%auto f when o=1 give 0 else 1 %compose h f f %auto g else 0 %same h g x";
 
-/// A topology, a premise, a query with the rules and automata that it names, a radius, and the number of admissible
-/// fillings with the goal.
+/// A topology, a premise, a query with the rules and automata that it names, a radius, and the number of admissible fillings
+/// with the goal.
 const QUESTIONS: &[(&str, &str, &str, u32, u32)] = &[
     ("%dim 1", "o=1 -> o.rt=0", "%empty x", 1, 5),
     ("%dim 1", "o.lt=o.rt", "%empty x", 1, 4),

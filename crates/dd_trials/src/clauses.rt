@@ -1,4 +1,4 @@
-// The clauses of a small question and the numbers of those of larger ones, worked out by hand.
+// The clauses of a small question, and the numbers of clauses of larger ones, worked out by hand.
 use crate::questions::clauses_of;
 use crate::scripts::script_of;
 use dd_clause::{Clause, Cnf};
@@ -51,7 +51,7 @@ fn no_cell_has_two_symbols(rt: HostRuntime) -> Result<(), Fail> {
     Ok(())
 }
 
-/// How many clauses are counted for a question about the script's rule, up to a radius and a period.
+/// The number of clauses of a question about the script's rule, up to a radius and a period.
 fn size_of(script: &Script, goal: u32, radius: u32, period: u32) -> Result<u32, Fail> {
     if radius > 8 {
         return Err("a radius".into());
@@ -65,25 +65,25 @@ fn size(alloc: Global, script: &str, goal: u32, radius: u32, period: u32) -> Res
     size_of(&script, goal, radius, period)
 }
 
-/// A script with a rule, how many clauses the goal takes, a radius, a period, and how many clauses the question has on its largest
-/// box or torus: there are `2 * radius + 1` or `period` positions along each axis, whichever are more. At each cell of each position one
-/// clause says that it has a symbol, one for each two symbols that it has not both, one for each symbol that its node doesn't
-/// allow that it hasn't that, and one that the rule is true there. To these the gates of the rule come: a gate over `k`
-/// parts has `k + 1` clauses, one that two parts are alike has 4, and no clause is left out where a cell lies at the edge.
+/// A script with a rule, the number of clauses of the goal, a radius, a period, and the number of clauses on the largest box or
+/// torus. Along each axis this has `2 * radius + 1` or `period` positions, whichever is more. Each cell has one clause that it
+/// has a symbol, one for each two symbols that it hasn't both, one for each symbol that its node doesn't allow, and one that the
+/// rule is true. Then come the gates of the rule: a gate over `k` parts has `k + 1` clauses, an equivalence has 4. Cells at the
+/// edge have all these clauses too.
 const SIZES: [(&str, u32, u32, u32, u32); 18] = [
-    // 1 + 1 + 1 of a cell, and a gate over two parts.
+    // A cell has 1 + 1 + 1 clauses, and a gate over two parts.
     (BOTH, 0, 0, 1, 6),
     (BOTH, 0, 1, 1, 18),
     (BOTH, 0, 1, 4, 24),
-    // Nothing but a symbol is asked for, so there is no gate; a negation is none either.
+    // Only a symbol is asked for, so there is no gate; a negation needs none either.
     ("%dim 1 %rule x o=1", 0, 8, 8, 51),
     ("%dim 1 %rule x !(o.rt=1)", 0, 0, 8, 24),
-    // An implication is a gate over two parts, of which one is a gate over two: 3 + 3 + 3 on each of 9, 16 and 25 positions.
+    // An implication is a gate over two parts, one of them a gate over two: 3 + 3 + 3 on each of 9, 16 and 25 positions.
     ("%rule x o=1 -> (o.rt=0 & o.up=0)", 0, 1, 3, 81),
     ("%rule x o=1 -> (o.rt=0 & o.up=0)", 7, 1, 4, 151),
     ("%rule x o=1 -> (o.rt=0 & o.up=0)", 7, 2, 4, 232),
     ("%dim 1 %rule x o=1 <-> o.rt=1", 0, 1, 1, 21),
-    // A cell and its neighbour have both the symbol 0, both 1 or both 2: three gates over two and one over these, beside 1 + 3 + 1.
+    // A cell and its neighbour both have 0, both 1 or both 2: three gates over two and one over these, in addition to 1 + 3 + 1.
     ("%dim 1 %alphabet 0 1 2 %rule x o.rt=o", 0, 0, 2, 36),
     // One of three symbols isn't allowed: 1 + 3 + 1 + 1.
     (
@@ -93,7 +93,7 @@ const SIZES: [(&str, u32, u32, u32, u32); 18] = [
         8,
         102,
     ),
-    // The second node has no such move, and a constant is a gate over nothing: 2 * 3 + 1.
+    // The second node has no such move; a constant is a gate over nothing: 2 * 3 + 1.
     (
         "%dim 1 %nodes a b %topology (x a [0] b) (y b [0] a) %rule x o.x=1",
         0,
@@ -101,12 +101,12 @@ const SIZES: [(&str, u32, u32, u32, u32); 18] = [
         2,
         21,
     ),
-    // A cell and its neighbours are 4, 5 and 7: two gates over 4 beside 2 * 3, or one over 5 or 7 beside 3.
+    // A ball has 4, 5 or 7 cells: two gates over 4 in addition to 2 * 3, or one over 5 or 7 in addition to 3.
     ("%topology hex %rule x Ep[o1] p=1", 0, 1, 3, 144),
     ("%rule x Ep[o1] p=1", 1, 8, 8, 2602),
     ("%dim 3 %rule x Ep[o1] p=1", 0, 1, 4, 704),
     ("%dim 3 %rule x Ep[o1] p=1", 0, 8, 8, 54_043),
-    // The last that passes no limit, and one past it: a ball of 63 cells, at each two gates over two and one over these, beside 64 and 3.
+    // At the limit, and one over it: a ball of 63 cells, each with two gates over two and one over these; and 64, and 3.
     ("%dim 3 %rule x Ap[o3] p=1", 1_670_829, 8, 8, 2_000_000),
     ("%dim 3 %rule x Ap[o3] p=o", 0, 8, 8, 2_000_001),
 ];

@@ -1,4 +1,4 @@
-// Every filling of a few cells, by a number.
+// Every filling of a few cells, numbered.
 ghost use Rattle.std.specs.Prelude.{◌≡◌, ◌<◌, ◌≤◌, length, IfOk};
 ghost use Rattle.std.specs.List.{All};
 
@@ -8,7 +8,7 @@ use dd_pattern::Filling;
 use std::alloc::{AllocError, Global};
 use std::test::Fail;
 
-/// The last digits of a number in the base, the very last one first.
+/// The last `count` digits of a number in this base, the last one first.
 pub(crate) fn digits(
     alloc: Global,
     count: usize,
@@ -27,7 +27,7 @@ pub(crate) fn digits(
     Ok(digits)
 }
 
-/// The filling of the cells with this number: its digits are the symbols of the cells in cell order.
+/// The filling of the cells with this number. The digits of the number are the symbols of the cells in cell order.
 pub(crate) fn filling(
     alloc: Global,
     cells: &[Cell],
@@ -45,7 +45,7 @@ pub(crate) fn filling(
     Ok(Filling::new(cells, symbols))
 }
 
-/// The cell of a node at the origin.
+/// The cell at the origin with this node.
 pub(crate) fn at_origin(node: u32) -> Cell
     ensures { result.node ≡ node }
 {
@@ -55,7 +55,7 @@ pub(crate) fn at_origin(node: u32) -> Cell
     }
 }
 
-/// Whether the rule is true at a cell, or `None` where something that it reads there isn't given.
+/// Whether the rule is true at a cell; `None` if something that it reads there isn't given.
 #[tactic(auto, using(dd_formula::specs::lemmas::Reached::filling_below))]
 pub(crate) fn truth(rule: &Rule, filling: &Filling, at: &Cell) -> Result<Option<bool>, Fail>
     requires { All (λ s. s < rule.now.symbols) filling.now.symbols }

@@ -1,4 +1,4 @@
-// A rule on the hexagonal lattice, at both nodes of the origin, over fillings of what it reads there.
+// A rule on the hexagonal lattice, at both nodes of the origin, for fillings of what it reads there.
 use crate::fillings::{at_origin, truth};
 use crate::scripts::script_of;
 use dd_formula::Rule;
@@ -15,7 +15,7 @@ fn is_at(cell: &Cell, place: &Place) -> bool {
     cell.position.x == place.0 && cell.position.y == place.1 && cell.node == place.2
 }
 
-/// What the rule reads at the nodes of the origin, in cell order.
+/// The cells that the rule reads at the nodes of the origin, in cell order.
 fn cells_of(alloc: Global, rule: &Rule) -> Result<Vec<Cell>, AllocError> {
     let mut cells = Vec::new(alloc);
     for node in 0..rule.nodes() {
@@ -24,7 +24,7 @@ fn cells_of(alloc: Global, rule: &Rule) -> Result<Vec<Cell>, AllocError> {
     in_order(alloc, &cells)
 }
 
-/// The filling of what the rule reads at the nodes of the origin, with 1 at these cells and 0 at the others.
+/// The filling of these cells, with 1 at some of them and 0 at the others.
 fn filling_with(alloc: Global, rule: &Rule, ones: &[Place]) -> Result<Filling, Fail> {
     let read = cells_of(alloc, rule)?;
     let cells = in_order(alloc, &read)?;
@@ -39,7 +39,7 @@ fn filling_with(alloc: Global, rule: &Rule, ones: &[Place]) -> Result<Filling, F
     Ok(Filling::new(cells, symbols))
 }
 
-/// What the rule says at a node of the origin.
+/// Whether the rule is true at a node of the origin.
 fn truth_at(rule: &Rule, filling: &Filling, node: u32) -> Result<Option<bool>, Fail> {
     if !filling.symbols().iter().all(|s| *s < rule.symbols()) {
         return Err("symbols of the rule".into());
@@ -50,8 +50,8 @@ fn truth_at(rule: &Rule, filling: &Filling, node: u32) -> Result<Option<bool>, F
 // No two neighbours are both 1.
 const HARD: &str = "%topology hex %rule hard Ap[o1] (p~o -> !(p=1 & o=1))";
 
-// The cells with 1, and whether the rule is true at the first node and at the second one. The neighbours of the first node are the second
-// nodes at (0,0), (-1,0) and (0,-1), and those of the second one the first nodes at (0,0), (1,0) and (0,1).
+// The cells with 1, and whether the rule is true at the first node and at the second. The first node has the second nodes at
+// (0,0), (-1,0) and (0,-1) as neighbours, the second has the first nodes at (0,0), (1,0) and (0,1).
 const TRUTHS: &[(&[Place], bool, bool)] = &[
     (&[], true, true),
     (&[(0, 0, 0)], true, true),

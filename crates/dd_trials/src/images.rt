@@ -1,4 +1,4 @@
-// The pairs of automata by which images and conjugacies are asked for, on configurations.
+// The pairs of automata in questions about images and conjugacies, applied to configurations.
 
 use crate::scripts::{parsed, script_of};
 use dd_automaton::apply;
@@ -32,7 +32,7 @@ fn image(
     Ok(apply(alloc, automaton, periodic)?)
 }
 
-/// Asserts the images of the script's first configuration under the two automata that the goal compares.
+/// Asserts the images of the script's first configuration under the two automata in the goal.
 fn assert_images(
     rt: &impl Abort,
     alloc: Global,
@@ -51,7 +51,7 @@ fn assert_images(
     Ok(())
 }
 
-/// Asserts the same of the first box question of the script.
+/// Asserts the images for the first box question of the script.
 fn assert_image(
     rt: &impl Abort,
     alloc: Global,
@@ -67,7 +67,7 @@ fn assert_image(
     Err("a box question".into())
 }
 
-/// Asserts what the two ways round give for the script's first conjugacy: the map and then the map back, and the other way.
+/// Asserts what both compositions of the script's first conjugacy give: the map and then the map back, and the reverse.
 fn assert_rounds(
     rt: &impl Abort,
     alloc: Global,
@@ -109,8 +109,8 @@ const APART: &str = "%rule y o=1 -> o.rt=0";
 
 const FULL: &str = "%rule y o@o";
 
-/// A setting with a configuration, an automaton, a rule, and 1 at the cells where the configuration's image breaks the rule or has a
-/// symbol that isn't allowed.
+/// A setting with a configuration, an automaton, a rule, and the cells that are marked 1: there the configuration's image breaks
+/// the rule or has a symbol that isn't allowed.
 const IMAGES: &[(&str, &str, &str, &[u32])] = &[
     // The images are 1 1 0 0 0 0, 0 0 1 1 0 0 and 1 1 1 1 1 1.
     (LINE, LEFT, APART, &[1, 0, 0, 0, 0, 0]),
@@ -122,7 +122,7 @@ const IMAGES: &[(&str, &str, &str, &[u32])] = &[
     (HEX, ONES, FULL, &[0, 1, 0, 1]),
     // The image is 0 1 0 0.
     (HEX, ACROSS, FULL, &[0, 1, 0, 0]),
-    // The first node at (1,0) has the second one at (0,0) as its neighbour along b.
+    // The first node at (1,0) has the second node at (0,0) as its neighbour along b.
     (HEX, ACROSS, "%rule y o.b=0", &[0, 1, 1, 0]),
     (HEX, ACROSS, "%rule y o.b=1", &[1, 1, 0, 1]),
 ];
@@ -137,13 +137,13 @@ fn images_that_break_rules(rt: HostRuntime) -> Result<(), Fail> {
     Ok(())
 }
 
-// 64 negations, which are 64 deep, and 63.
+// 64 negations, of depth 64, and 63.
 const DEEP: &str = "%rule y !!!!!!!!!!!!!!!!!!!!!!!!!!!!!!!!!!!!!!!!!!!!!!!!!!!!!!!!!!!!!!!!o=1";
 
 const LESS_DEEP: &str =
     "%rule y !!!!!!!!!!!!!!!!!!!!!!!!!!!!!!!!!!!!!!!!!!!!!!!!!!!!!!!!!!!!!!!o=1";
 
-/// A setting, a rule, and whether the rule is too deep once it also says that the symbols are allowed.
+/// A setting, a rule, and whether the rule becomes too deep when allowed symbols are added to it.
 const DEPTHS: &[(&str, &str, bool)] = &[
     ("%topology hex ", DEEP, false),
     ("%topology hex %only 1 0 ", DEEP, true),
@@ -153,7 +153,7 @@ const DEPTHS: &[(&str, &str, bool)] = &[
     ("%dim 1 %only 0 0 1 ", DEEP, false),
 ];
 
-/// Whether the text in parts is a script, or passes the limit on depth.
+/// Whether the parts make a script, or a text that exceeds the limit on depth.
 fn is_deep(alloc: Global, parts: &[&str]) -> Result<bool, Fail> {
     match parsed(alloc, parts)? {
         Ok(_) => Ok(false),
@@ -178,11 +178,11 @@ fn rules_too_deep_for_images(rt: HostRuntime) -> Result<(), Fail> {
 
 const THREE: &str = "%dim 1 %alphabet 0 1 2 %rule x o@o %conf c [3] 0 1 2 ";
 
-// Each second node has the first ones at its place and one further as its neighbours along a and along b.
+// The neighbours of each second node along a and b are the first nodes at its position and one further.
 const HEXAGONS: &str = "%topology hex %rule x o@o %conf c [3 1] 1 0 0 0 0 0 ";
 
-/// A setting with a configuration, a map and a map back, the configuration, its image under the map and then the map back, and that
-/// under the map back and then the map.
+/// A setting with a configuration, a map and a map back, the configuration, its image under the map and then the map back, and
+/// its image under the map back and then the map.
 const ROUNDS: &[(&str, &str, &str, &[u32], &[u32], &[u32])] = &[
     (
         LINE,

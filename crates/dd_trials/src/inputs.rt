@@ -5,7 +5,7 @@ use dd_lattice::{Cell, Position};
 use std::alloc::{AllocError, Global};
 use std::test::Fail;
 
-/// The cell of the line at a place, or `None` where that is out of range.
+/// The cell at a position of the line; `None` if that is out of range.
 pub(crate) fn cell_at(x: i32) -> Option<Cell> {
     let position = Position::new(x, 0, 0)?;
     Some(Cell { position, node: 0 })
@@ -18,7 +18,7 @@ fn plus(variable: u32) -> Signal {
     }
 }
 
-/// The cells 1 and 2, with two signals and with three.
+/// The cells 1 and 2, the first with two signals, the second with three.
 fn two_cells(alloc: Global) -> Result<Inputs, AllocError> {
     let mut inputs = Inputs::new(alloc);
     let position = Position { x: 1, y: 0, z: 0 };
@@ -33,7 +33,7 @@ fn two_cells(alloc: Global) -> Result<Inputs, AllocError> {
     Ok(inputs)
 }
 
-/// The place of a cell on the line, a symbol, and the variable of its signal.
+/// The position of a cell on the line, a symbol, and the variable of its signal.
 const SIGNALS: &[(i32, u32, Option<u32>)] = &[
     (1, 0, Some(1)),
     (1, 1, Some(2)),

@@ -1,4 +1,4 @@
-//! Trials of several crates together: scripts, what their rules say, and the gates and clauses of the same rules.
+//! Trials of several crates together: scripts, the truth of their rules, and the gates and clauses of these rules.
 #![tactic(auto)]
 
 #[cfg(test)]

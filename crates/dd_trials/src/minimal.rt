@@ -6,13 +6,13 @@ use std::alloc::Global;
 use std::process::Abort;
 use std::test::Fail;
 
-/// A symbol for each cell that is read, or none where the cell is left out.
+/// A symbol for each cell that is read; none for a cell that is left out.
 type Pattern = &'static [Option<u32>];
 
 const HARD: &str = "%rule x o=1 -> (o.rt=0 & o.up=0)";
 
-// The first node has the second nodes at (0,-1), (-1,0) and (0,0) as neighbours, and the second one the first nodes at (0,0), (1,0)
-// and (0,1). In cell order a node's own cell is the third of those read at the first node, and the second of those read at the second.
+// The first node has the second nodes at (0,-1), (-1,0) and (0,0) as neighbours, the second has the first nodes at (0,0), (1,0)
+// and (0,1). In cell order, a node's own cell is the third that is read at the first node, and the second at the second node.
 const HEXAGONS: &str = "%topology hex %rule x Ap[o1] (p~o -> !(p=1 & o=1))";
 
 const SECOND_IS_1: &str = "%topology hex %only 1 1 %rule x Ap[o1] (p~o -> !(p=1 & o=1))";
@@ -41,7 +41,7 @@ const MINIMAL: &[(&str, u32, &[Pattern])] = &[
         0,
         &[&[Some(0), Some(1)], &[Some(1), Some(0)]],
     ),
-    // Of 0 0 1 the first cell is left out, since 1 0 1 breaks the rule too; of 0 1 1 it isn't.
+    // Of 0 0 1 the first cell is left out, since 1 0 1 breaks the rule too. Of 0 1 1 it is kept.
     (
         "%dim 1 %rule x o=o.rt & o.rt=o.rt.rt",
         0,
@@ -57,7 +57,7 @@ const MINIMAL: &[(&str, u32, &[Pattern])] = &[
         0,
         &[&[Some(0), Some(0)], &[Some(0), Some(2)]],
     ),
-    // Where the symbol 1 isn't allowed, every symbol behind a 0 breaks the rule.
+    // If the symbol 1 isn't allowed, every symbol after a 0 breaks the rule.
     (
         "%dim 1 %alphabet 0 1 2 %only 0 0 2 %rule x o=0 -> o.rt=1",
         0,

@@ -28,25 +28,25 @@ fn goal_clauses(alloc: Global, premise: &Rule, goal: &Goal) -> Result<u32, Alloc
     }
 }
 
-/// Does nothing; its contract is the law of the box of one radius.
+/// Does nothing; its contract is the law of the box of this radius.
 fn one_radius(premise: &Rule, goal: &Goal, _radius: u32)
     ensures { OneBox premise.now (goal_of premise.now goal.now) _radius }
 {
     one_box(premise, goal);
 }
 
-/// Whether the box of a radius holds all that the goal reads.
+/// Whether the box of this radius holds all that the goal reads.
 fn reaches(alloc: Global, premise: &Rule, goal: &Goal, radius: u32) -> Result<bool, AllocError>
     requires { IsGoalFor premise.now (goal_of premise.now goal.now) }
     ensures { IfOk result (λ found. IsTrue found → Reaches (goal_of premise.now goal.now) radius) }
 {
     one_radius(premise, goal, radius);
-    // Read for what its type keeps.
+    // This read brings in what the type guarantees.
     let _symbols = premise.symbols();
     Ok(least_radius(alloc, goal)? <= radius)
 }
 
-/// The clauses of a question on the box of radius 0, or on the line on that of radius 1.
+/// The clauses of a question on the box of radius 0; on the line also on that of radius 1.
 #[tactic(auto, using(crate::proofs::Counting::few_in_a_box, crate::proofs::Counting::few_at_the_origin))]
 pub(crate) fn clauses_of(
     alloc: Global,

@@ -12,7 +12,7 @@ fn joined(alloc: Global, parts: &[&str]) -> Result<Vec<u8>, AllocError> {
     Ok(bytes)
 }
 
-/// The script of a text in parts, or why it is none.
+/// The script whose text has these parts, or why it is none.
 pub(crate) fn parsed(alloc: Global, parts: &[&str]) -> Result<Result<Script, ScriptFault>, Fail> {
     let bytes = joined(alloc, parts)?;
     if bytes.len() > 1_048_576 {
@@ -21,7 +21,7 @@ pub(crate) fn parsed(alloc: Global, parts: &[&str]) -> Result<Result<Script, Scr
     Ok(parse(alloc, &bytes))
 }
 
-/// The script of a text in parts.
+/// The script whose text has these parts.
 pub(crate) fn script_of(alloc: Global, parts: &[&str]) -> Result<Script, Fail> {
     Ok(parsed(alloc, parts)??)
 }

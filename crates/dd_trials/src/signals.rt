@@ -1,4 +1,4 @@
-// The signal of a rule says what its formula says, at every filling of what it reads.
+// The signal of a rule has the truth value of its formula, for every filling of what it reads.
 ghost use Rattle.std.specs.Prelude.{◌<◌, ◌≤◌};
 ghost use Rattle.std.specs.List.Sorted.{IsStrictlySortedBy};
 ghost use Rattle.dd_lattice.specs.Order.{cell_cmp};
@@ -15,7 +15,7 @@ use std::alloc::{AllocError, Global};
 use std::process::Abort;
 use std::test::Fail;
 
-/// So many signals, the first one of the variable `first`.
+/// `count` signals, whose variables begin with `first`.
 fn signals_from(alloc: Global, first: u32, count: u32) -> Result<Vec<Signal>, AllocError> {
     let mut signals = Vec::new(alloc);
     for place in 0..count {
@@ -41,7 +41,7 @@ fn inputs_of(alloc: Global, cells: &[Cell], symbols: u32) -> Result<Inputs, Allo
     Ok(inputs)
 }
 
-/// The gates of the rule's template at a node of the origin, over so many variables, and their signal.
+/// The gates of the rule's template at a node of the origin, over this many variables, and their signal.
 fn placed(
     alloc: Global,
     rule: &Rule,
@@ -63,7 +63,7 @@ fn placed(
     Ok((circuit, signal))
 }
 
-/// The gates of the rule at a node of the origin, and their signal. Its template gives the same.
+/// The gates of the rule at a node of the origin, and their signal. The rule's template gives the same.
 fn compiled(
     alloc: Global,
     rule: &Rule,
@@ -91,7 +91,7 @@ fn compiled(
     Ok((circuit, signal))
 }
 
-/// The values of the inputs where the cells have these symbols.
+/// The values of the inputs if the cells have these symbols.
 fn input_values(alloc: Global, filled: &[u32], symbols: u32) -> Result<Vec<bool>, AllocError> {
     let mut values = Vec::new(alloc);
     for here in filled {
@@ -117,7 +117,7 @@ fn value_of(
     Ok(value.ok_or("a variable of the circuit")? == signal.positive)
 }
 
-/// What the rule and its signal say at a node of the origin, at each filling of what the rule reads there.
+/// The truth of the rule and the value of its signal at a node of the origin, for each filling of what the rule reads there.
 fn truths(alloc: Global, rule: &Rule, node: u32) -> Result<Vec<(Option<bool>, bool)>, Fail>
     requires { node < rule.now.nodes }
 {
@@ -134,7 +134,7 @@ fn truths(alloc: Global, rule: &Rule, node: u32) -> Result<Vec<(Option<bool>, bo
     Ok(truths)
 }
 
-/// How often the rule is true. Its signal has to say the same each time.
+/// How often the rule is true. Asserts that its signal agrees each time.
 fn times_true(rt: &impl Abort, truths: &[(Option<bool>, bool)]) -> usize {
     for (truth, value) in truths {
         assert_eq!(rt; *truth, Some(*value));
@@ -142,7 +142,7 @@ fn times_true(rt: &impl Abort, truths: &[(Option<bool>, bool)]) -> usize {
     truths.iter().filter(|(_, value)| *value).count()
 }
 
-/// At how many fillings of what it reads the rule is true, node by node.
+/// For how many fillings of what it reads the rule is true, node by node.
 fn times_by_node(rt: &impl Abort, alloc: Global, rule: &Rule) -> Result<Vec<usize>, Fail> {
     let mut times = Vec::new(alloc);
     for node in 0..rule.nodes() {
@@ -152,13 +152,13 @@ fn times_by_node(rt: &impl Abort, alloc: Global, rule: &Rule) -> Result<Vec<usiz
     Ok(times)
 }
 
-/// The same of the first rule of a script.
+/// For how many fillings the first rule of a script is true, node by node.
 fn times_of_first(rt: &impl Abort, alloc: Global, script: &Script) -> Result<Vec<usize>, Fail> {
     let rule = script.rules().first().ok_or("a rule")?;
     times_by_node(rt, alloc, rule)
 }
 
-/// The same of the rule with this formula, after the beginning of a script.
+/// For how many fillings the rule with this formula is true, after the beginning of a script.
 fn times_in(
     rt: &impl Abort,
     alloc: Global,
@@ -169,10 +169,10 @@ fn times_in(
     times_of_first(rt, alloc, &script)
 }
 
-/// Formulas, and at how many fillings each is true at each node.
+/// Formulas, and for how many fillings each is true at each node.
 type Times = &'static [(&'static str, &'static [usize])];
 
-/// Asserts the times of each formula after the beginning of a script.
+/// Asserts how often each formula is true, after the beginning of a script.
 fn assert_times(
     rt: &impl Abort,
     alloc: Global,
@@ -186,7 +186,7 @@ fn assert_times(
     Ok(())
 }
 
-// The second node has no move x, and the first no move y.
+// The second node has no move x, the first no move y.
 const TWO_NODES: &str = "%dim 1 %nodes a b %topology (x a [0] b) (y b [1] a) %rule r ";
 
 const ATOMS: Times = &[
@@ -235,7 +235,7 @@ fn formulas_over_three_symbols(rt: HostRuntime) -> Result<(), Fail> {
     assert_times(&rt, rt.alloc(), THREE_SYMBOLS, FORMULAS)
 }
 
-/// Asserts that the circuit is one gate over the inputs 1 and 2, and its values where the first one alone is true.
+/// Asserts that the circuit is one gate over the inputs 1 and 2, and its values if only the first one is true.
 fn assert_one_gate(
     rt: &impl Abort,
     alloc: Global,

@@ -1,4 +1,4 @@
-// Whether two automata agree on a rule's configurations: what runs answer, and what a check makes of the answers.
+// Whether two automata agree on a rule's configurations: the answers of runs, and what a check makes of them.
 use crate::outputs::{assert_answers, assert_checks, assert_first_lines, assert_lines};
 use std::alloc::{AllocError, Global};
 use std::test::Fail;
@@ -10,17 +10,17 @@ const AGREEMENTS: [(&str, &str); 6] = [
         "%dim 1 %rule full o@o %auto r when o.lt!=o.rt give 1 else 0 %compose rr r r %auto far when o.lt.lt!=o.rt.rt give 1 else 0 %auto id when o=1 give 1 else 0 %same rr far full %same r id full",
         "query 1 YES 2\nquery 2 NO 1\n",
     ),
-    // They agree on a single configuration, and nowhere else.
+    // They agree on only one configuration.
     (
         "%auto id when o=1 give 1 else 0 %auto nul else 0 %rule z o=0 %rule full o@o %same id nul z %same id nul full",
         "query 1 YES 0\nquery 2 NO 1 1\n",
     ),
-    // Rule 110 in two writings, and its mirror image.
+    // Rule 110, written in two ways, and its mirror image.
     (
         "%dim 1 %rule full o@o %auto f when o.lt=1 & o=1 & o.rt=1 give 0 when o=1 | o.rt=1 give 1 else 0 %auto g when o!=o.rt give 1 when o.lt=0 & o=1 give 1 else 0 %auto m when o.lt=1 & o=1 & o.rt=1 give 0 when o=1 | o.lt=1 give 1 else 0 %same f g full %same f m full",
         "query 1 YES 1\nquery 2 NO 3\n",
     ),
-    // On the premise alone.
+    // They agree only on configurations of the premise.
     (
         "%dim 1 %rule alt o!=o.rt %auto id when o=1 give 1 else 0 %auto op when o.rt=1 give 0 else 1 %same id op alt",
         "query 1 YES 1\n",
@@ -30,7 +30,7 @@ const AGREEMENTS: [(&str, &str); 6] = [
         "%topology hex %rule full o@o %auto ex when o.a=1 give 1 else 0 %auto id when o=1 give 1 else 0 %compose twice ex ex %same twice id full %same ex id full",
         "query 1 YES 0\nquery 2 NO 1 1\n",
     ),
-    // All configurations have the period 3, past the limit.
+    // All configurations have the period 3, which exceeds the limit.
     (
         "%dim 1 %alphabet 0 1 2 %limits 4 2 10 %rule cyc (o=0 -> o.rt=1) & (o=1 -> o.rt=2) & (o=2 -> o.rt=0) %auto id when o=1 give 1 when o=2 give 2 else 0 %auto nul else 0 %same id nul cyc",
         "query 1 UNKNOWN limits\n",
@@ -39,7 +39,7 @@ const AGREEMENTS: [(&str, &str); 6] = [
 
 // Scripts, and the whole answers, each with the configuration on which the automata differ.
 const DIFFERENCES: [(&str, &str); 4] = [
-    // The exclusive or of the neighbours is 0 where all cells are 1.
+    // The exclusive or of the neighbours is 0 if all cells are 1.
     (
         "%dim 1 %rule full o@o %auto r when o.lt!=o.rt give 1 else 0 %auto id when o=1 give 1 else 0 %same r id full",
         "query 1 NO 1\nconf 1\n",
@@ -48,12 +48,12 @@ const DIFFERENCES: [(&str, &str); 4] = [
         "%auto id when o=1 give 1 else 0 %auto nul else 0 %rule full o@o %same id nul full",
         "query 1 NO 1 1\nconf 1\n",
     ),
-    // The first true case counts: both are true at a 1.
+    // The first true case counts; at a 1 both cases are true.
     (
         "%dim 1 %rule full o@o %auto f when o=1 give 0 when o@o give 1 else 0 %auto g when o@o give 1 when o=1 give 0 else 0 %same f g full",
         "query 1 NO 1\nconf 1\n",
     ),
-    // The second node's value is told by the second node: there alone they differ.
+    // The value at the second node depends on the second node, and only there they differ.
     (
         "%dim 1 %nodes a b %topology (x a [0] b) (x b [0] a) %only a 0 %rule full o@o %auto id when o=1 give 1 else 0 %auto nul else 0 %same id nul full",
         "query 1 NO 1\nconf 0 1\n",
@@ -63,7 +63,7 @@ const DIFFERENCES: [(&str, &str); 4] = [
 const DIFFERENT: &str =
     "%auto id when o=1 give 1 else 0 %auto nul else 0 %rule full o@o %same id nul full";
 
-// The lines of an answer to the last script, and whether a check accepts them.
+// Lines of answers to the last script, and whether a check accepts them.
 const CHECKED: [(&str, bool); 4] = [
     ("query 1 NO 1 1\nconf 1\n", true),
     // At the origin both values are 0.
@@ -85,7 +85,7 @@ const NAMES: [&str; 16] = [
     "a", "b", "c", "d", "e", "f", "g", "h", "i", "j", "k", "l", "m", "n", "o", "p",
 ];
 
-// The elementary automaton with a number of Wolfram's: its bit k is the value where the cell, between its neighbours, spells k.
+// The elementary automaton with this number, after Wolfram: bit k is the value of a cell that, with its neighbours, spells k.
 fn push_elementary(
     alloc: Global,
     text: &mut String,
@@ -104,7 +104,7 @@ fn push_elementary(
     text.push_str(format!(in alloc; " else {value}\n")?.as_str())
 }
 
-// The queries whether sixteen of these automata, from a number on, commute with the shift.
+// The queries whether sixteen of these automata, from the number `first` on, commute with the shift.
 fn commuting(alloc: Global, first: u32) -> Result<String, AllocError> {
     let mut text = String::from_str(
         alloc,
@@ -119,7 +119,7 @@ fn commuting(alloc: Global, first: u32) -> Result<String, AllocError> {
     Ok(text)
 }
 
-// That they all do, with the radius of the compositions.
+// The answers that all of them do, with the radius of the compositions.
 fn sixteen_yes(alloc: Global) -> Result<String, AllocError> {
     let mut lines = String::new(alloc);
     for number in 1..17u32 {

@@ -1,4 +1,4 @@
-// Discharging: values that are known, what a check makes of the answers of runs, and of answers that are not theirs.
+// Discharging: known values, and what a check makes of the answers of runs and of other answers.
 use crate::outputs::{assert_answers, assert_checks, assert_lines};
 use std::test::Fail;
 
@@ -8,7 +8,7 @@ const DISCHARGES: [(&str, &str); 16] = [
         "%rule dom Ep[o1] p=1 %discharge dom 0 0 [1 0] [-1 0] [0 1] [0 -1]",
         "query 1 BOUND 1/5\n",
     ),
-    // One over the number of cells that a 1 dominates.
+    // 1 divided by the number of cells that a 1 dominates.
     (
         "%rule tot Ep[o1] (p=1 & !(p@o)) %discharge tot 0 0 [1 0] [-1 0] [0 1] [0 -1]",
         "query 1 BOUND 1/4\n",
@@ -21,7 +21,7 @@ const DISCHARGES: [(&str, &str); 16] = [
         "%topology king %rule dom Ep[o1] p=1 %discharge dom 0 0 [1 0] [-1 0] [0 1] [0 -1] [1 1] [-1 -1] [1 -1] [-1 1]",
         "query 1 BOUND 1/9\n",
     ),
-    // A quarter of its cells, of which a position has two.
+    // A quarter of the cells; a position has two.
     (
         "%topology hex %rule dom Ep[o1] p=1 %discharge dom 0 0 [1 0] [-1 0] [0 1] [0 -1]",
         "query 1 BOUND 1/2\n",
@@ -30,7 +30,7 @@ const DISCHARGES: [(&str, &str); 16] = [
         "%dim 3 %rule dom Ep[o1] p=1 %discharge dom 0 0 [1 0 0] [-1 0 0] [0 1 0] [0 -1 0] [0 0 1] [0 0 -1]",
         "query 1 BOUND 1/7\n",
     ),
-    // What independent sets leave out, as a 0 weighs 1: two of the three cells of a triangle, three of the four of a square of kings.
+    // What independent sets leave out (a 0 weighs 1): two of three cells of a triangle, three of four of a square of kings.
     (
         "%topology triangle %weights 1 0 %rule apart o=0 | (o.rt=0 & o.up=0 & o.ne=0) %discharge apart 0 1 [1 0] [1 1]",
         "query 1 BOUND 2/3\n",
@@ -39,8 +39,8 @@ const DISCHARGES: [(&str, &str); 16] = [
         "%topology king %weights 1 0 %rule apart o=0 | (o.rt=0 & o.up=0 & o.ne=0 & o.nw=0) %discharge apart 0 1 [1 0] [0 1] [1 1]",
         "query 1 BOUND 3/4\n",
     ),
-    // Of three in a row one at most is 0. The region of two cells holds no place of the rule; with a margin it forbids that both
-    // are 0; patterns of three cells know what stands before and after.
+    // At most one of three in a row is 0. The region of two cells is too small for the rule. With a margin it forbids that both
+    // are 0. Patterns of three cells show what comes before and after.
     (
         "%dim 1 %rule apart o=0 -> (o.rt=1 & o.rt.rt=1) %discharge apart 0 0 [1]",
         "query 1 BOUND 0/1\n",
@@ -53,7 +53,7 @@ const DISCHARGES: [(&str, &str); 16] = [
         "%dim 1 %rule apart o=0 -> (o.rt=1 & o.rt.rt=1) %discharge apart 1 1 [1]",
         "query 1 BOUND 2/3\n",
     ),
-    // And where a cell gives to the next two: the region of three cells holds one place, and with a margin all.
+    // The same if a cell gives to the next two. The region of three cells has room for the rule once, with a margin everywhere.
     (
         "%dim 1 %rule apart o=0 -> (o.rt=1 & o.rt.rt=1) %discharge apart 0 0 [1] [2]",
         "query 1 BOUND 1/2\n",
@@ -72,15 +72,15 @@ const DISCHARGES: [(&str, &str); 16] = [
         "%rule full o@o %discharge full 2 0 [1 0]",
         "query 1 UNKNOWN large\n",
     ),
-    // A weight that nothing forces.
+    // Nothing forces a weight.
     (
         "%dim 1 %rule full o@o %discharge full 0 0 [1]",
         "query 1 BOUND 0/1\n",
     ),
 ];
 
-// Whole answers, with their amounts and duals. What their bounds say of small boxes is in docs/wrong-bodies.md: a 0 has a 1 in front of
-// it, or three steps away; and the rule stands two cells to the left of the cell that it restricts, so that the margin shows it.
+// Whole answers, with their amounts and duals. docs/wrong-bodies.md says what the bounds mean for small boxes. A 0 has a 1 to
+// its right, or three steps away. The last rule stands two cells to the left of the cell that it restricts; the margin shows it.
 const WHOLE_BOUNDS: [(&str, &str); 3] = [
     (
         "%dim 1 %rule cover o=1 | o.rt=1 %discharge cover 0 0 [1]",
@@ -98,13 +98,13 @@ const WHOLE_BOUNDS: [(&str, &str); 3] = [
 
 const COVERS: &str = "%dim 1 %rule cover o=1 | o.rt=1 %density cover [] %discharge cover 0 0 [1]";
 
-// The lines of answers to it, and whether a check accepts them.
+// Lines of answers to it, and whether a check accepts them.
 const CHECKED: [(&str, bool); 14] = [
     (
         "query 1 DENSITY 1/2\ncycle 2 0 1\npotentials 0 1\nquery 2 BOUND 1/2\ndenominator 2\namounts 0 1\nduals 0 1 1\n",
         true,
     ),
-    // It may go round twice, and the potentials and what they are counted from are free.
+    // The cycle may go round twice, and the potentials may start from any number. The denominator may be a multiple.
     (
         "query 1 DENSITY 1/2\ncycle 4 1 0 1 0\npotentials -7 -6\nquery 2 BOUND 1/2\ndenominator 4\namounts 0 2\nduals 0 2 2\n",
         true,
@@ -131,22 +131,22 @@ const CHECKED: [(&str, bool); 14] = [
     ),
     ("query 1 EMPTY\nranks 1 0\nquery 2 UNKNOWN large\n", false),
     ("query 1 UNKNOWN pivots\nquery 2 UNKNOWN large\n", false),
-    // Duals of nothing.
+    // Duals that are all 0.
     (
         "query 1 DENSITY 1/2\ncycle 2 0 1\npotentials 0 1\nquery 2 BOUND 1/2\ndenominator 2\namounts 0 1\nduals 0 0 0\n",
         false,
     ),
-    // A denominator that the bound's does not divide.
+    // A denominator that is no multiple of the bound's.
     (
         "query 1 DENSITY 1/2\ncycle 2 0 1\npotentials 0 1\nquery 2 BOUND 1/2\ndenominator 3\namounts 0 1\nduals 0 1 1\n",
         false,
     ),
-    // Amounts that fail the row of a 0 after a 1.
+    // Amounts that break the row of a 0 after a 1.
     (
         "query 1 DENSITY 1/2\ncycle 2 0 1\npotentials 0 1\nquery 2 BOUND 1/2\ndenominator 2\namounts 1 0\nduals 0 1 1\n",
         false,
     ),
-    // A bound that holds and is not the best.
+    // A bound that holds but is not the best.
     (
         "query 1 DENSITY 1/2\ncycle 2 0 1\npotentials 0 1\nquery 2 BOUND 1/3\ndenominator 6\namounts 0 2\nduals 0 3 3\n",
         false,

@@ -1,8 +1,8 @@
-// Box questions, by their answers' first lines.
+// Box questions, by the first lines of their answers.
 use crate::outputs::{assert_answers, assert_lines};
 use std::test::Fail;
 
-// Rules that contain others or are equal to them, and the least box that shows that they are not.
+// Containment and equality of rules, with the least radius or the first periods that decide.
 const CONTAINED_OR_EQUAL: [(&str, &str); 5] = [
     (
         "%rule hard o=1 -> (o.rt=0 & o.up=0) %rule row o=1 -> o.rt=0 %contains row hard %contains hard row %equal hard row",
@@ -26,7 +26,7 @@ const CONTAINED_OR_EQUAL: [(&str, &str); 5] = [
     ),
 ];
 
-// With limits of boxes and periods that are reached or not.
+// Limits on boxes and periods that are met or not.
 const LIMITS_OF_BOXES: [(&str, &str); 6] = [
     (
         "%dim 1 %limits 3 4 10000 %rule dies (o=1 -> o.rt=1) & !(o=1 & o.rt=1 & o.rt.rt=1) %rule zero o=0 %contains zero dies",
@@ -55,7 +55,7 @@ const LIMITS_OF_BOXES: [(&str, &str); 6] = [
     ),
 ];
 
-// Rules of which no configuration is a member, and rules over two nodes.
+// Rules that no configuration obeys, and rules over two nodes.
 const EMPTY_OR_OF_TWO_NODES: [(&str, &str); 3] = [
     ("%dim 1\n%rule x o=0 & o=1\n%empty x", "query 1 YES 0\n"),
     (
@@ -68,13 +68,13 @@ const EMPTY_OR_OF_TWO_NODES: [(&str, &str); 3] = [
     ),
 ];
 
-// Six symbols in an order that repeats only along a sheared vector: the least periods come with a shear.
+// Six symbols in an order that repeats only along a sheared vector, so the first periods come with a shear.
 const SHEARED: [(&str, &str); 1] = [(
     "%alphabet 0 1 2 3 4 5 %limits 0 3 10 %rule six (o=0 -> o.rt=2 & o.up=5) & (o=1 -> o.rt=3 & o.up=0) & (o=2 -> o.rt=4 & o.up=1) & (o=3 -> o.rt=5 & o.up=2) & (o=4 -> o.rt=0 & o.up=3) & (o=5 -> o.rt=1 & o.up=4) %rule no o!=1 %contains no six",
     "query 1 NO 3 2 shear 1\nconf 1 3 5 0 2 4\n",
 )];
 
-// Nodes that allow some symbols alone.
+// Nodes that allow only some symbols.
 const RESTRICTED: [(&str, &str); 2] = [
     // The second node is always 0.
     (

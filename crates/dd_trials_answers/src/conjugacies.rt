@@ -1,5 +1,5 @@
-// Whether an automaton maps one rule's configurations into another's, and whether two are inverse maps between them: what runs answer, and
-// what a check makes of the answers.
+// Whether an automaton maps one rule's configurations into another's, and whether two are inverse maps between them: the answers
+// of runs, and what a check makes of them.
 use crate::outputs::{assert_answers, assert_checks, assert_lines};
 use std::test::Fail;
 
@@ -9,7 +9,7 @@ const MAPS: [(&str, &str); 5] = [
         "%dim 1 %rule full o@o %rule z o=0 %auto nul else 0 %auto id when o=1 give 1 else 0 %maps nul full z %maps id full z",
         "query 1 YES 0\nquery 2 NO 1\n",
     ),
-    // The shift to the left, the one to the right, and a map that loses what was there.
+    // The shift to the left, the shift to the right, and a map that loses information.
     (
         "%dim 1 %rule row o=1 -> o.rt=0 %auto sl when o.rt=1 give 1 else 0 %auto sr when o.lt=1 give 1 else 0 %auto nul else 0 %conjugate sl sr row row %conjugate nul nul row row",
         "query 1 CONJUGATE 2 1 0 0\nquery 2 BROKEN 3 2\n",
@@ -19,8 +19,8 @@ const MAPS: [(&str, &str); 5] = [
         "%topology hex %rule full o@o %auto ex when o.a=1 give 1 else 0 %conjugate ex ex full full",
         "query 1 CONJUGATE 0 0 0 0\n",
     ),
-    // All configurations of the rule have the period 3, past the limit: that the identity doesn't map it into the other isn't found, but
-    // that it doesn't map the other into it is.
+    // All configurations of the rule have the period 3, which exceeds the limit. So it isn't found that the identity doesn't map
+    // it into the other rule. That the identity doesn't map the other rule into it is found.
     (
         "%dim 1 %alphabet 0 1 2 %limits 4 2 10 %rule cyc (o=0 -> o.rt=1) & (o=1 -> o.rt=2) & (o=2 -> o.rt=0) %rule no o!=1 %auto id when o=1 give 1 when o=2 give 2 else 0 %conjugate id id cyc no %conjugate id id no cyc",
         "query 1 BROKEN 2 1\nquery 2 BROKEN 1 1\n",
@@ -31,7 +31,7 @@ const MAPS: [(&str, &str); 5] = [
     ),
 ];
 
-// Scripts, and the whole answers, each with the configuration that shows it.
+// Scripts and the whole answers, each with a configuration as its evidence.
 const BROKEN: [(&str, &str); 6] = [
     (
         "%dim 1 %rule full o@o %rule z o=0 %auto id when o=1 give 1 else 0 %maps id full z",
@@ -54,7 +54,7 @@ const BROKEN: [(&str, &str); 6] = [
         "%rule full o@o %auto nul else 0 %auto id when o=1 give 1 else 0 %conjugate nul id full full",
         "query 1 BROKEN 3 1 1\nconf 1\n",
     ),
-    // One way round gives back what was there, and the other doesn't.
+    // One composition gives back the configuration, the other doesn't.
     (
         "%dim 1 %rule z o=0 %rule full o@o %auto id when o=1 give 1 else 0 %auto nul else 0 %conjugate id nul z full",
         "query 1 BROKEN 4 1\nconf 1\n",
@@ -67,17 +67,17 @@ const LOSING: &str =
 // The lines of an answer to this script, and whether a check accepts them.
 const CHECKED: [(&str, bool); 10] = [
     ("query 1 BROKEN 3 2\nconf 1 0\n", true),
-    // Neither the question nor the periods need be the first.
+    // Neither the question nor the periods need to be the first.
     ("query 1 BROKEN 4 2\nconf 1 0\n", true),
     ("query 1 BROKEN 3 3\nconf 1 0 0\n", true),
     ("query 1 UNKNOWN limits\n", true),
-    // At the origin what was there is given back.
+    // The symbol at the origin is given back.
     ("query 1 BROKEN 3 2\nconf 0 1\n", false),
-    // It doesn't obey the rule; and the image of one that does is 0 throughout, which obeys the rule.
+    // The configuration doesn't obey the rule. If one does, its image is 0 throughout, which obeys the rule too.
     ("query 1 BROKEN 3 1\nconf 1\n", false),
     ("query 1 BROKEN 1 2\nconf 1 0\n", false),
     ("query 1 NO 2\nconf 1 0\n", false),
-    // No steps refute that something is lost.
+    // No steps refute that information is lost.
     (
         "query 1 CONJUGATE 1 1 0 0\nrefutation 1\nstep 0 1 0 0\nrefutation 1\nstep 0 1 0 0\nrefutation 1\nstep 0 1 0 0\nrefutation 1\nstep 0 1 0 0\n",
         false,
@@ -88,18 +88,18 @@ const CHECKED: [(&str, bool); 10] = [
 const ONES: &str =
     "%dim 1 %rule ones o=1 %auto id when o=1 give 1 else 0 %conjugate id id ones ones";
 
-// The same for a script whose automata are inverse maps. The first two questions have the same clauses, and so do the others.
+// The same for a script whose automata are inverse maps. The first two questions have the same clauses, and so do the last two.
 const INVERSE: [(&str, bool); 4] = [
     (
         "query 1 CONJUGATE 0 0 0 0\nrefutation 1\nstep 0 3 5 10 14 19 27 20 21 25 32 33 0 0\nrefutation 1\nstep 0 3 5 10 14 19 27 20 21 25 32 33 0 0\nrefutation 1\nstep 0 3 21 26 32 5 10 14 17 28 36 37 0 0\nrefutation 1\nstep 0 3 21 26 32 5 10 14 17 28 36 37 0 0\n",
         true,
     ),
-    // The steps of the second question for the third, and the other way round.
+    // The steps of the second and the third question are exchanged.
     (
         "query 1 CONJUGATE 0 0 0 0\nrefutation 1\nstep 0 3 5 10 14 19 27 20 21 25 32 33 0 0\nrefutation 1\nstep 0 3 21 26 32 5 10 14 17 28 36 37 0 0\nrefutation 1\nstep 0 3 5 10 14 19 27 20 21 25 32 33 0 0\nrefutation 1\nstep 0 3 21 26 32 5 10 14 17 28 36 37 0 0\n",
         false,
     ),
-    // The radius of the fourth question is another one, and its steps are left out.
+    // The radius of the fourth question is another, and its steps are missing.
     (
         "query 1 CONJUGATE 0 0 0 1\nrefutation 1\nstep 0 3 5 10 14 19 27 20 21 25 32 33 0 0\nrefutation 1\nstep 0 3 5 10 14 19 27 20 21 25 32 33 0 0\nrefutation 1\nstep 0 3 21 26 32 5 10 14 17 28 36 37 0 0\nrefutation 1\nstep 0 3 21 26 32 5 10 14 17 28 36 37 0 0\n",
         false,

@@ -1,4 +1,4 @@
-// Least densities of strips: values that are known, what a check makes of the answers of runs, and of answers that are not theirs.
+// Least densities of strips: known values, and what a check makes of the answers of runs and of other answers.
 use crate::outputs::{assert_checks, assert_lines};
 use std::test::Fail;
 
@@ -8,7 +8,7 @@ const DENSITIES: [(&str, &str); 15] = [
         "%dim 1 %rule cover o=1 | o.rt=1 %density cover []",
         "query 1 DENSITY 1/2\n",
     ),
-    // Perfect codes reach it.
+    // Perfect codes have this density.
     (
         "%rule dom Ep[o1] p=1 %density dom [5]",
         "query 1 DENSITY 1/5\n",
@@ -18,12 +18,12 @@ const DENSITIES: [(&str, &str); 15] = [
         "%rule hard o=1 -> (o.rt=0 & o.up=0) %density hard [8]",
         "query 1 DENSITY 0/1\n",
     ),
-    // A 0 weighs 1: of seven cells round, three can be 1, and the next slice takes those beside them.
+    // A 0 weighs 1. Of seven cells in a circle three can be 1, and the next slice has its 1s beside them.
     (
         "%weights 1 0 %rule hard o=1 -> (o.rt=0 & o.up=0) %density hard [7]",
         "query 1 DENSITY 4/7\n",
     ),
-    // What is missing to a densest set without the differences 2 and 3, which has two of five.
+    // What a densest set without the differences 2 and 3 leaves out; it has two of five.
     (
         "%dim 1 %weights 1 0 %rule apart !(o=1 & o.rt.rt=1) & !(o=1 & o.rt.rt.rt=1) %density apart []",
         "query 1 DENSITY 3/5\n",
@@ -32,7 +32,7 @@ const DENSITIES: [(&str, &str); 15] = [
         "%dim 3 %rule cover o=1 | o.rt=1 %density cover [1 2]",
         "query 1 DENSITY 1/2\n",
     ),
-    // Perfect codes of the king's and of the hexagonal lattice, there a quarter of all cells and two cells a position.
+    // Perfect codes of the king's and the hexagonal lattice; the latter has two cells a position, a quarter of them in the code.
     (
         "%topology king %rule dom Ep[o1] p=1 %density dom [3]",
         "query 1 DENSITY 1/9\n",
@@ -41,27 +41,27 @@ const DENSITIES: [(&str, &str); 15] = [
         "%topology hex %rule dom Ep[o1] p=1 %density dom [2]",
         "query 1 DENSITY 1/2\n",
     ),
-    // Each cell has a codeword in itself or beside it, and no two cells the same ones.
+    // Each cell has a codeword at or beside it, and no two cells have the same ones.
     (
         "%dim 1 %rule id (o=1 | o.lt=1 | o.rt=1) & (o.lt=1 | o.rt.rt=1) & (o=1 | o.lt=1 | o.rt.rt=1 | o.rt.rt.rt=1) %density id []",
         "query 1 DENSITY 1/2\n",
     ),
-    // The only cycle goes round three symbols, which weigh 8 together.
+    // The only cycle goes through three symbols, which weigh 8 together.
     (
         "%dim 1 %alphabet 0 1 2 %weights 1 0 7 %rule three (o=0 -> o.rt=1) & (o=1 -> o.rt=2) & (o=2 -> o.rt=0) %density three []",
         "query 1 DENSITY 8/3\n",
     ),
-    // The weightless loop of 1s stands beside the rest.
+    // The loop of 1s weighs nothing.
     (
         "%dim 1 %weights 1 0 %rule up o=1 -> o.rt=1 %density up []",
         "query 1 DENSITY 0/1\n",
     ),
-    // A node that allows the 1 alone, beside one that allows both symbols.
+    // A node that allows only the 1, beside one that allows both symbols.
     (
         "%dim 1 %nodes a b %topology (r a [1] a) %only b 1 %rule full o@o %density full []",
         "query 1 DENSITY 1/1\n",
     ),
-    // A strip that ends, and colourings with two colours round a strip of three cells and of four.
+    // A strip that ends, and colourings with two colours of strips of circumference three and four.
     (
         "%dim 1 %rule stuck o.rt=1 & !(o=1 & o.rt=1) %density stuck []",
         "query 1 EMPTY\n",
@@ -76,7 +76,7 @@ const DENSITIES: [(&str, &str); 15] = [
     ),
 ];
 
-// One of two neighbours is a 1, so the state 0 leads to 1 alone, and 1 to both.
+// One of any two neighbours is 1, so the state 0 leads only to 1, and 1 to both.
 const COVER: &str = "%dim 1 %rule cover o=1 | o.rt=1 %density cover []";
 
 const CHECKED_CYCLES: [(&str, bool); 9] = [
@@ -84,25 +84,25 @@ const CHECKED_CYCLES: [(&str, bool); 9] = [
     // Constant potentials, and one too few.
     ("query 1 DENSITY 1/2\ncycle 2 0 1\npotentials 0 0\n", false),
     ("query 1 DENSITY 1/2\ncycle 2 0 1\npotentials 0\n", false),
-    // Walks that don't close: no 0 stands beside another.
+    // Walks that don't close: no two 0s are neighbours.
     ("query 1 DENSITY 0/1\ncycle 1 0\npotentials 0 0\n", false),
     (
         "query 1 DENSITY 1/2\ncycle 4 0 0 1 1\npotentials 0 1\n",
         false,
     ),
-    // A state that isn't there.
+    // A state that doesn't exist.
     ("query 1 DENSITY 1/2\ncycle 2 0 2\npotentials 0 1\n", false),
-    // Cycles that aren't the lightest, and one that isn't what it is said to be.
+    // A cycle that isn't the lightest, and one that doesn't have the stated mean.
     (
         "query 1 DENSITY 2/3\ncycle 3 0 1 1\npotentials 0 1\n",
         false,
     ),
     ("query 1 DENSITY 1/2\ncycle 1 1\npotentials 0 1\n", false),
-    // Something lives.
+    // The strip has a configuration.
     ("query 1 EMPTY\nranks 1 0\n", false),
 ];
 
-// Where a slice has four cells, the mean of a cycle is four times the density.
+// If a slice has four cells, the mean of a cycle is four times the density.
 const ROUND: &str = "%rule two o!=o.up & o!=o.rt %density two [4]";
 
 const CHECKED_ROUND: [(&str, bool); 2] = [
@@ -116,7 +116,7 @@ const CHECKED_ROUND: [(&str, bool); 2] = [
     ),
 ];
 
-// A strip on which nothing lives.
+// A strip without a configuration.
 const STUCK: &str = "%dim 1 %rule stuck o.rt=1 & !(o=1 & o.rt=1) %density stuck []";
 
 const CHECKED_RANKS: [(&str, bool); 3] = [

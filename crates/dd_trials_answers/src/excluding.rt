@@ -1,4 +1,4 @@
-//! What checked answers exclude from a spike, from a checkerboard and from a configuration of the script.
+//! What accepted answers exclude from a spike, a checkerboard and a configuration of the script.
 ghost use Rattle.dd_checker.specs.Lifted.{IsWhole};
 
 use dd_answer::answer;
@@ -12,7 +12,7 @@ use std::alloc::{AllocError, Global};
 use std::process::Abort;
 use std::test::Fail;
 
-// Two queries with a YES, and one with a NO.
+// Two queries with the answer YES, and one with NO.
 const SCRIPT: &[u8] = b"%dim 1
 %rule sparse o=1 -> Ap[o2] (p=1 -> p@o)
 %rule hard o=1 -> Ap[o1] (p=1 -> p@o)
@@ -24,7 +24,7 @@ const SCRIPT: &[u8] = b"%dim 1
 %contains sparse hard
 ";
 
-// The place of an answer, a query, and whether the answer, taken for one to that query, excludes the goal.
+// The index of an answer, a query, and whether this answer to this query excludes the goal.
 const ROWS: &[(usize, u32, bool)] = &[
     (0, 1, true),
     (0, 2, false),
@@ -56,7 +56,7 @@ fn answers_to(alloc: Global, script: &Script) -> Result<Vec<Answer>, AllocError>
     Ok(answers)
 }
 
-// Whether the answer, taken for one to this query, excludes the goal from the configuration at a place of the line.
+// Whether this answer to this query excludes the goal from the configuration at a position of the line.
 fn excludes_at<C: Configuration>(
     alloc: Global,
     script: &Script,
@@ -73,7 +73,7 @@ fn excludes_at<C: Configuration>(
     Ok(excludes(alloc, script, query, answer, configuration, &place)?)
 }
 
-// Asserts that it does so at each of the places, or at none.
+// Asserts that it does so at each of the positions, or at none.
 fn assert_places<C: Configuration>(
     rt: &impl Abort,
     alloc: Global,

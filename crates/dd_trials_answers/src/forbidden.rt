@@ -1,8 +1,8 @@
-// Forbidden patterns: the lists that runs write, and what a check makes of each, and of lists that are not theirs.
+// Forbidden patterns: the lists that runs write, and what a check makes of these and of other lists.
 use crate::outputs::{assert_answers, assert_checks};
 use std::test::Fail;
 
-// Scripts, and the lines of their answers.
+// Scripts and the lines of their answers.
 const LISTS: [(&str, &str); 10] = [
     // The cells are the origin, the one to the right and the one above.
     (
@@ -25,7 +25,7 @@ const LISTS: [(&str, &str); 10] = [
         "%dim 1 %alphabet 0 1 2 %only 0 0 2 %rule a o=1 | o.rt=0 %forbidden a",
         "query 1 LIST 2\npattern 0 0 2\npattern 0 2 2\n",
     ),
-    // A third symbol that isn't allowed leaves the three patterns as they were; where it is allowed, there are eight.
+    // A third symbol that isn't allowed changes nothing: there are three patterns. If it is allowed, there are eight.
     (
         "%alphabet 0 1 2 %only 0 0 1 %rule hard o=1 -> (o.rt=0 & o.up=0) %forbidden hard",
         "query 1 LIST 3\npattern 0 1 0 1\npattern 0 1 1 0\npattern 0 1 1 1\n",
@@ -39,7 +39,7 @@ const LISTS: [(&str, &str); 10] = [
         "%topology hex %rule free Ap[o1] (p~o -> !(p=1 & o=1)) %rule q o=0 %forbidden q",
         "query 1 LIST 2\npattern 0 1\npattern 1 1\n",
     ),
-    // Each node has its own allowed symbols, and the cells that it reads have theirs.
+    // Each node has its own allowed symbols, and so do the cells that it reads.
     (
         "%dim 1 %nodes a b %topology (x a [0] b) (x b [0] a) %only b 1 %rule p o=0 %forbidden p",
         "query 1 LIST 2\npattern 0 1\npattern 1 1\n",
@@ -50,7 +50,7 @@ const LISTS: [(&str, &str); 10] = [
     ),
 ];
 
-// The lines of an answer to the first script, and whether a check accepts them.
+// Lines of answers to the first script, and whether a check accepts them.
 const CHECKED: [(&str, bool); 5] = [
     (
         "query 1 LIST 3\npattern 0 1 0 1\npattern 0 1 1 0\npattern 0 1 1 1\n",

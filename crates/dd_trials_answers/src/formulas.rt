@@ -1,4 +1,4 @@
-// What formulas say, by configurations in which they are true, or false first at a cell that was found by hand.
+// What formulas mean: configurations in which they are true, or in which they are first false at a cell found by hand.
 use dd_trials_runs::run_on;
 use std::alloc::{AllocError, Global};
 use std::test::Fail;
@@ -95,13 +95,13 @@ pub(crate) const CONNECTIVES_AND_QUANTIFIERS: [(&str, &str); 2] = [
     ),
 ];
 
-// A node that is further than a rule may read from the node two moves away.
+// A node 15 moves from p. If p is two moves away, it is further than a rule may read.
 const FAR: &str = "p.rt.rt.rt.rt.rt.rt.rt.rt.rt.rt.rt.rt.rt.rt.rt";
 
-// Three balls, of which each begins at the nodes of the one before.
+// Three balls, each around the nodes of the one before.
 const LARGE: &str = "Ap[o3] Aq[p3] Ar[q3]";
 
-// What rules and automata come to, with the words FAR and LARGE for these texts: the limit that they pass, or none.
+// Rules and automata, with the words FAR and LARGE for these texts, and the limit that they exceed, if any.
 const EXPANSIONS: [(&str, &str); 10] = [
     ("%rule a Ap[o1] FAR=0", "end"),
     ("%rule a Ap[o2] FAR=0", "refused 1 size reach"),
@@ -110,7 +110,7 @@ const EXPANSIONS: [(&str, &str); 10] = [
         "%topology king %rule a LARGE r=0",
         "refused 2 size instances",
     ),
-    // Instances come before reach, and those of an automaton are of all its cases.
+    // Repetitions come first, then instances, then reach; an automaton has the instances of all its cases.
     (
         "%topology king %rule a Ap[o2] LARGE FAR=0",
         "refused 2 twice p",
@@ -137,7 +137,7 @@ const EXPANSIONS: [(&str, &str); 10] = [
     ),
 ];
 
-// The script with the texts for the words FAR and LARGE.
+// The script, with these texts in place of the words FAR and LARGE.
 fn written_out(alloc: Global, script: &str) -> Result<String, AllocError> {
     let script = script.replace(alloc, "FAR", FAR)?;
     script.replace(alloc, "LARGE", LARGE)

@@ -1,26 +1,26 @@
-// The least weight of a torus: what runs answer, and what a check makes of the answers.
+// The least weight of a torus: the answers of runs, and what a check makes of them.
 use crate::outputs::{assert_answers, assert_checks, assert_lines};
 use std::test::Fail;
 
 // Scripts, and the first lines of their answers.
 const WEIGHTS: [(&str, &str); 5] = [
-    // Two cells never dominate nine: the first leaves four, of which a second reaches at most three.
+    // Two 1s never dominate nine cells: the first leaves four, and a second reaches at most three of them.
     ("%rule dom Ep[o1] p=1 %least dom [3 3]", "query 1 LEAST 3\n"),
     (
         "%dim 1 %rule cover o=1 | o.rt=1 %rule stuck o.rt=1 & !(o=1 & o.rt=1) %rule z o=0 %least cover [3] %least stuck [2] %least z [2]",
         "query 1 LEAST 2\nquery 2 NONE\nquery 3 LEAST 0\n",
     ),
-    // Both symbols weigh something, and a row of an odd period doesn't alternate.
+    // Both symbols have a weight, and a row of odd period can't alternate.
     (
         "%dim 1 %weights 2 3 %rule alt o!=o.rt %least alt [2] %least alt [3]",
         "query 1 LEAST 5\nquery 2 NONE\n",
     ),
-    // Eight cells on two nodes, of which each dominates itself and three others.
+    // Eight cells on two nodes; each dominates itself and three others.
     (
         "%topology hex %rule dom Ep[o1] p=1 %least dom [2 2]",
         "query 1 LEAST 2\n",
     ),
-    // The symbol 0 would be lighter, and isn't allowed.
+    // The symbol 0 would be lighter, but isn't allowed.
     (
         "%dim 1 %only 0 1 %rule full o@o %least full [4]",
         "query 1 LEAST 4\n",
@@ -35,14 +35,14 @@ const NOTHING: [(&str, &str); 1] = [(
 
 const ONES: &str = "%dim 1 %rule ones o=1 %least ones [1]";
 
-// The lines of an answer to this script, and whether a check accepts them. The clauses are (1 2) and (-1 -2) of the cell, (2) of the rule, and
-// (3 -2), (-3 2) and (-3) of the weight.
+// Lines of answers to this script, and whether a check accepts them. The clauses are (1 2) and (-1 -2) for the cell, (2) for the
+// rule, and (3 -2), (-3 2) and (-3) for the weight.
 const CHECKED: [(&str, bool); 9] = [
     (
         "query 1 LEAST 1\nconf 1\nrefutation 1\nstep 0 3 4 6 0 0\n",
         true,
     ),
-    // Another weight, one less and one more.
+    // Wrong weights: one less and one more.
     ("query 1 LEAST 0\nconf 1\n", false),
     (
         "query 1 LEAST 2\nconf 1\nrefutation 1\nstep 0 3 4 6 0 0\n",
@@ -57,12 +57,12 @@ const CHECKED: [(&str, bool); 9] = [
         "query 1 LEAST 1\nconf 1 1\nrefutation 1\nstep 0 3 4 6 0 0\n",
         false,
     ),
-    // Steps of another list.
+    // Steps for another list of clauses.
     (
         "query 1 LEAST 1\nconf 1\nrefutation 1\nstep 0 3 5 6 0 0\n",
         false,
     ),
-    // Something lives.
+    // A configuration lives.
     ("query 1 NONE\nrefutation 1\nstep 0 3 4 6 0 0\n", false),
     ("query 1 UNKNOWN limits\n", false),
     ("query 1 YES 0\nrefutation 1\nstep 0 3 4 6 0 0\n", false),

@@ -1,5 +1,5 @@
-//! Trials of what runs answer to each kind of query, of what a check makes of their answers and of others, and of what accepted answers
-//! exclude from configurations that are functions, in words of the outside.
+//! Trials of the answers of runs to each kind of query, of what a check makes of these and other answers, and of what accepted
+//! answers exclude from configurations that are functions. They use the crates from outside.
 #![tactic(auto)]
 
 #[cfg(test)]

@@ -1,4 +1,4 @@
-// Queries of membership.
+// Queries about membership.
 use crate::formulas;
 use crate::outputs::assert_answers;
 use dd_trials_runs::HARD;
@@ -12,7 +12,7 @@ const NO_QUERIES: [(&str, &str); 4] = [
     ("%limits 8 8 100000", ""),
 ];
 
-// Members of rules, and the first cells at which others break them.
+// Configurations that obey rules, and the first cells at which others break them.
 const MEMBERS: [(&str, &str); 7] = [
     (HARD, "query 1 IN\n"),
     (
@@ -27,7 +27,7 @@ const MEMBERS: [(&str, &str); 7] = [
         "%rule r o.up.up=0 %conf c [1 3] 1 0 0 %member c r",
         "query 1 OUT 0 1 0\n",
     ),
-    // An implication groups to the right, and a negation before all others.
+    // An implication groups to the right, and a negation binds tightest.
     (
         "%conf z [1 1] 0 %rule a o=1 -> o=0 -> o=1 %member z a",
         "query 1 IN\n",
@@ -62,19 +62,19 @@ const MEMBERS_ELSEWHERE: [(&str, &str); 4] = [
     ),
 ];
 
-// Words that could be read in two ways, and tokens that could be cut in two.
+// Words that could be read in two ways, and tokens that could be split.
 const WORDS_AND_TOKENS: [(&str, &str); 4] = [
-    // A word that is a variable in scope is no symbol.
+    // A word that is a variable in scope is not a symbol.
     (
         "%alphabet o i %conf z [1 1] i %rule a o=o %member z a",
         "query 1 IN\n",
     ),
-    // The words of commands are names like others.
+    // The words of commands may be names.
     (
         "%alphabet rule conf %conf when [1 1] conf %rule dim o=conf %member when dim",
         "query 1 IN\n",
     ),
-    // `-->` begins a comment, and tokens may stand without blanks.
+    // `-->` begins a comment, and tokens need no blanks between them.
     (
         "%conf z [1 1] 0 %rule a o=0 --> o=1\n%member z a",
         "query 1 IN\n",
@@ -82,7 +82,7 @@ const WORDS_AND_TOKENS: [(&str, &str); 4] = [
     ("%conf z[1 1]0%rule a Ap[o1]p=0%member z a", "query 1 IN\n"),
 ];
 
-// With sheared periods: a row is shifted by the shear against the one below it.
+// With sheared periods, each row is shifted by the shear against the row below it.
 const SHEARED: [(&str, &str); 2] = [
     (
         "%alphabet 0 1 2 %conf c [3 1] [2] 1 2 0 %rule d (o=0 -> o.rt=1 & o.up=1) & (o=1 -> o.rt=2 & o.up=2) & (o=2 -> o.rt=0 & o.up=0) %member c d",

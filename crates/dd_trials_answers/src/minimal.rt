@@ -1,17 +1,17 @@
-// Minimal forbidden patterns: the lists that runs write, and what a check makes of each, and of lists that are not theirs.
+// Minimal forbidden patterns: the lists that runs write, and what a check makes of these and of other lists.
 use crate::outputs::{assert_answers, assert_checks};
 use std::test::Fail;
 
-// Scripts, and the lines of their answers.
+// Scripts and the lines of their answers.
 const LISTS: [(&str, &str); 8] = [
-    // The cells are the origin, the one to the right and the one above. Of the three fillings that break the rule the first and the
-    // second leave a cell out each, and the third agrees with both.
+    // The cells are the origin, the one to its right and the one above. Of the three fillings that break the rule, the first and
+    // the second each leave out one cell, and the third agrees with both patterns.
     (
         "%rule hard o=1 -> (o.rt=0 & o.up=0) %minimal hard",
         "query 1 MINIMAL 2\npattern 0 1 * 1\npattern 0 1 1 *\n",
     ),
     ("%rule full o@o %minimal full", "query 1 MINIMAL 0\n"),
-    // The rule is false whatever it reads, and where it reads nothing.
+    // A rule that is false whatever it reads, and one that reads nothing.
     (
         "%dim 1 %rule x o=0 & o=1 %rule y !(o@o) %minimal x %minimal y",
         "query 1 MINIMAL 1\npattern 0 *\nquery 2 MINIMAL 1\npattern 0\n",
@@ -26,12 +26,12 @@ const LISTS: [(&str, &str); 8] = [
         "%dim 1 %rule eq o=o.rt %minimal eq",
         "query 1 MINIMAL 2\npattern 0 0 1\npattern 0 1 0\n",
     ),
-    // Where the cell is left out its allowed symbols alone count: with the symbol 1 the rule is true.
+    // A cell is left out only if the rule is false for all its allowed symbols; with the symbol 1 the rule is true.
     (
         "%dim 1 %alphabet 0 1 2 %only 0 0 2 %rule a o=1 | o.rt=0 %minimal a",
         "query 1 MINIMAL 1\npattern 0 * 2\n",
     ),
-    // The pattern * 1 1 is minimal too, and each filling that it forbids is forbidden without it.
+    // The pattern * 1 1 is minimal too, but other patterns already forbid each filling that it forbids.
     (
         "%dim 1 %rule r !((o.lt=1 & o=1) | (o.lt=0 & o.rt=1)) %minimal r",
         "query 1 MINIMAL 2\npattern 0 0 * 1\npattern 0 1 1 *\n",
@@ -43,7 +43,7 @@ const LISTS: [(&str, &str); 8] = [
     ),
 ];
 
-// The lines of an answer to the first script, and whether a check accepts them.
+// Lines of answers to the first script, and whether a check accepts them.
 const CHECKED: [(&str, bool); 9] = [
     (
         "query 1 MINIMAL 2\npattern 0 1 * 1\npattern 0 1 1 *\n",
@@ -54,7 +54,7 @@ const CHECKED: [(&str, bool); 9] = [
         false,
     ),
     ("query 1 MINIMAL 1\npattern 0 1 * 1\n", false),
-    // A cell that was left out has a symbol, and one that is kept has none.
+    // A symbol for a cell that is left out, and none for a cell that is kept.
     (
         "query 1 MINIMAL 2\npattern 0 1 0 1\npattern 0 1 1 *\n",
         false,
@@ -63,7 +63,7 @@ const CHECKED: [(&str, bool); 9] = [
         "query 1 MINIMAL 2\npattern 0 1 * *\npattern 0 1 1 *\n",
         false,
     ),
-    // The fillings that break the rule, whole.
+    // The whole fillings that break the rule.
     (
         "query 1 MINIMAL 3\npattern 0 1 0 1\npattern 0 1 1 0\npattern 0 1 1 1\n",
         false,

@@ -13,7 +13,7 @@ fn check_of(alloc: Global, bytes: &[u8]) -> Result<Status, AllocError> {
     Ok(check_diddy(alloc, &mut source, &mut sink))
 }
 
-// The status of a run or a check with these lines of answers, all right.
+// The status of a run or a check with these lines of answers, if all are right.
 fn status_with(answers: &str) -> Status {
     if answers.contains("UNKNOWN") {
         Status::SomeUnknown
@@ -28,8 +28,8 @@ fn output_of(alloc: Global, script: &str, answers: &str) -> Result<String, Alloc
     format!(in alloc; "diddy 1\nscript {length}\n{script}\n{answers}end\n")
 }
 
-// The whole output of a run over a script with these engines. Asserts that the run and a check of that output end as these lines of
-// answers say.
+// The whole output of a run of a script with these engines. Asserts that the run, and a check of its output, end with the status
+// for these lines of answers.
 fn checked_output(
     rt: &impl Abort,
     alloc: Global,
@@ -43,7 +43,7 @@ fn checked_output(
     Ok(output)
 }
 
-/// Asserts that a run over the script gives answers with these first lines, without engines and with those of the program, and
+/// Asserts that a run of the script gives answers with these first lines, without engines and with those of the program, and
 /// that a check accepts each output.
 pub(crate) fn assert_first_lines(
     rt: &impl Abort,
@@ -59,7 +59,7 @@ pub(crate) fn assert_first_lines(
     Ok(())
 }
 
-/// Asserts that each script has the first lines of answers beside it, and that a check accepts the output.
+/// Asserts that each script has these first lines of answers, and that a check accepts the output.
 pub(crate) fn assert_lines(
     rt: &impl Abort,
     alloc: Global,
@@ -71,7 +71,7 @@ pub(crate) fn assert_lines(
     Ok(())
 }
 
-/// Asserts that each script has the lines of answers beside it without engines, and that a check accepts the output.
+/// Asserts that each script has these lines of answers without engines, and that a check accepts the output.
 pub(crate) fn assert_answers(
     rt: &impl Abort,
     alloc: Global,
@@ -85,8 +85,7 @@ pub(crate) fn assert_answers(
     Ok(())
 }
 
-/// Asserts what a check makes of outputs for this script with each of these lines of answers: that it accepts them, or rejects
-/// one.
+/// Asserts that a check accepts the output with each of these lines of answers, or rejects an answer in it.
 pub(crate) fn assert_checks(
     rt: &impl Abort,
     alloc: Global,

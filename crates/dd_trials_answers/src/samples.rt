@@ -1,4 +1,4 @@
-// Runs of the sample scripts: their lines, worked out by hand, and words that ask for none.
+// Runs of the sample scripts: their lines, worked out by hand, and words that ask for no sample.
 use crate::outputs::assert_first_lines;
 use dd_engines::Roster;
 use dd_outside::{MemorySink, MemorySource, ReadAllFault, read_all};
@@ -21,11 +21,11 @@ const SMALLEST: &str = "%limits 3 3 1000\n\
     %density dom [5]\n\
     %discharge dom 0 0 [1 0] [-1 0] [0 1] [0 -1]\n";
 
-// The chessboard has no two 1s side by side. What `hard` asks of the right neighbour `row` asks too, and the box of radius 1 has both
-// cells. For `row` a 1 may have a 1 above it: columns of 1s and of 0s in turn have the periods 2 and 1, and with the period 1 along a row
-// a 1 is its own neighbour. By `dies` a 1 has a 1 to its right and no second one, so there is none: the rule at the 1 and at its
-// neighbour read three cells further, and in the box of radius 2 the second place is missing. A 1 dominates five cells, and on a strip
-// of period 5 some code dominates each cell once.
+// The chessboard has no two neighbouring 1s. `hard` implies `row`, and the box of radius 1 has the cells for this. For `row` a 1
+// may have a 1 above it: alternating columns of 1s and 0s have the periods 2 and 1; with the period 1 along a row, a 1 is its
+// own neighbour. By `dies` a 1 has a 1 to its right but no second one, so there is none. This takes the rule at the 1 and at its
+// neighbour, which reads three cells from the 1; the box of radius 2 ends before. A 1 dominates five cells, and a strip of
+// period 5 has a code that dominates each cell once.
 const LINES: &str =
     "query 1 IN\nquery 2 YES 1\nquery 3 NO 2 1\nquery 4 NO right 2 1\nquery 5 YES 3\n\
     query 6 DENSITY 1/5\nquery 7 BOUND 1/5\n";
@@ -39,7 +39,7 @@ fn the_smallest_sample_is_a_script(rt: HostRuntime) -> Result<(), Fail> {
     assert_first_lines(&rt, alloc, SMALLEST, LINES)
 }
 
-// The words, with one blank between two of them, and whether they ask for a sample.
+// The words, with one blank between them, and whether they ask for a sample.
 const WORDS: [(&str, bool); 17] = [
     ("sample 1", true),
     ("sample 10", true),

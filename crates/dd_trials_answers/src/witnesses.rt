@@ -1,8 +1,8 @@
-// What a check makes of answers to box questions and to membership: configurations and cells that show what they are to show, or not.
+// What a check makes of answers to box questions and membership: configurations and cells that are evidence, or are not.
 use crate::outputs::assert_checks;
 use std::test::Fail;
 
-// Each script has one query. Beside it stand the lines of answers, and whether a check accepts them.
+// Scripts with one query, each with lines of answers and whether a check accepts them.
 const BOX_QUESTIONS: [(&str, &[(&str, bool)]); 4] = [
     (
         "%limits 2 3 10 %rule hard o=1 -> (o.rt=0 & o.up=0) %rule row o=1 -> o.rt=0 %contains hard row",
@@ -11,12 +11,12 @@ const BOX_QUESTIONS: [(&str, &[(&str, bool)]); 4] = [
             // The periods need not be the first.
             ("query 1 NO 3 1\nconf 1 0 0\n", true),
             ("query 1 UNKNOWN limits\n", true),
-            // It breaks the rule, but not at the origin; it breaks nothing; it does not obey the premise.
+            // The first breaks the rule, but not at the origin; the second breaks nothing; the third doesn't obey the premise.
             ("query 1 NO 2 1\nconf 0 1\n", false),
             ("query 1 NO 1 1\nconf 0\n", false),
             ("query 1 NO 1 1\nconf 1\n", false),
             ("query 1 NO 2 1 shear 1\nconf 1 0\n", false),
-            // A period past the limit, and another number of periods, of symbols or of sides.
+            // A period over the limit, and wrong numbers of periods, symbols or sides.
             ("query 1 NO 4 1\nconf 1 0 1 0\n", false),
             ("query 1 NO 2\nconf 1 0\n", false),
             ("query 1 NO 2 1\nconf 1 0 0\n", false),
@@ -43,14 +43,14 @@ const BOX_QUESTIONS: [(&str, &[(&str, bool)]); 4] = [
         "%rule a o=0 %rule b o=1 %equal a b",
         &[
             ("query 1 NO left 1 1\nconf 0\n", true),
-            // Each side shows it.
+            // Both sides have evidence.
             ("query 1 NO right 1 1\nconf 1\n", true),
             ("query 1 NO left 1 1\nconf 1\n", false),
             ("query 1 NO right 1 1\nconf 0\n", false),
             ("query 1 NO 1 1\nconf 0\n", false),
         ],
     ),
-    // The steps of the left side say nothing of the right one.
+    // The steps of the left side don't refute the right one.
     (
         "%rule hard o=1 -> (o.rt=0 & o.up=0) %rule row o=1 -> o.rt=0 %equal hard row",
         &[
@@ -68,9 +68,9 @@ const BOX_QUESTIONS: [(&str, &[(&str, bool)]); 4] = [
     ),
 ];
 
-// Shears, nodes that allow some symbols alone, and membership.
+// Shears, nodes that allow only some symbols, and membership.
 const OTHERS: [(&str, &[(&str, bool)]); 4] = [
-    // Going up shifts by the shear: by 2 as by -1, where a step up and one to the right meet another symbol.
+    // A step up shifts by the shear. A shift by 2 is one by -1, so a step up and one to the right meet another symbol.
     (
         "%alphabet 0 1 2 %rule three Ap[o1] (p~o -> p!=o) %rule diagonal o=o.rt.up %contains diagonal three",
         &[
@@ -98,7 +98,7 @@ const OTHERS: [(&str, &[(&str, bool)]); 4] = [
             ("query 1 NO 1 1\nconf 0 1\n", false),
         ],
     ),
-    // The first cell in which it is false, of the fundamental box.
+    // Only the first cell of the fundamental box at which the rule is false will do.
     (
         "%dim 1 %rule far o.rt.rt=1 %conf c [3] 1 1 0 %member c far",
         &[

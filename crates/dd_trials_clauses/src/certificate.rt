@@ -1,5 +1,5 @@
-// An answer of each kind, written. Outputs read back, and texts that are none with the number of their bytes that begin one, counted
-// by hand.
+// How an answer of each kind is written, outputs that are read back, and texts that are no outputs, with the lengths of the
+// prefixes that could begin one, counted by hand.
 use crate::samples::{SAMPLES, Sample, answer_of};
 use dd_certificate::{Answer, answer_line, write_answer};
 use dd_output::{CertificateFault, read_output, write_output};
@@ -7,7 +7,7 @@ use std::alloc::{AllocError, Global};
 use std::process::Abort;
 use std::test::Fail;
 
-/// Asserts how an answer to query 7 is written, its line alone and as a whole.
+/// Asserts how an answer to query 7 is written: its first line, and the whole.
 fn assert_written(
     rt: &impl Abort,
     alloc: Global,
@@ -44,7 +44,7 @@ fn writes_each_kind(rt: HostRuntime) -> Result<(), Fail> {
     Ok(())
 }
 
-/// Of a text that is no output, as many of its bytes as begin one.
+/// The length of the longest prefix of the text that could begin an output; `None` if the text isn't refused.
 fn refused_at(alloc: Global, text: &[u8]) -> Option<u64> {
     match read_output(alloc, text) {
         Err(CertificateFault::Malformed(at)) => Some(at),
@@ -56,7 +56,7 @@ const SCRIPT: &str = "%dim 1\n%rule x o=0 & o=1\n%empty x\n";
 
 const LINES: &str = "query 1 YES 0\nrefutation 1\nstep 0 6 3 4 2 0 0\nend\n";
 
-/// An output whose one answer is that of query 1.
+/// An output with one answer, to query 1.
 fn output_of(alloc: Global, answer: &Answer) -> Result<Vec<u8>, AllocError> {
     let mut text = Vec::from_slice(alloc, b"diddy 1\nscript 5\n%dim \n")?;
     text.extend_from_slice(write_answer(alloc, 1, answer)?.as_slice())?;
@@ -64,13 +64,13 @@ fn output_of(alloc: Global, answer: &Answer) -> Result<Vec<u8>, AllocError> {
     Ok(text)
 }
 
-/// The same with the answer of a sample.
+/// An output with the answer of a sample.
 fn output_with(alloc: Global, sample: &Sample) -> Result<Vec<u8>, AllocError> {
     let answer = answer_of(alloc, sample)?;
     output_of(alloc, &answer)
 }
 
-/// Asserts that what is read of an output is written as that output.
+/// Asserts that the output is read, and written again as the same text.
 fn assert_read(rt: &impl Abort, alloc: Global, text: &[u8]) -> Result<(), AllocError> {
     match read_output(alloc, text) {
         Ok(output) => {
@@ -107,7 +107,7 @@ fn refuses_cut_texts(rt: HostRuntime) -> Result<(), Fail> {
     Ok(())
 }
 
-/// The head of an output, the lines after the script, and where it stops to be one.
+/// The head of an output, the lines after the script, and the offset at which the text stops being an output.
 const ALTERED: &[(&str, &str, u64)] = &[
     ("diddy 2\nscript 34\n", LINES, 6),
     ("diddy 1\nscript 35\n", LINES, 53),
@@ -164,7 +164,7 @@ fn refuses_altered_texts(rt: HostRuntime) -> Result<(), Fail> {
     Ok(())
 }
 
-/// Answers behind the 26 bytes of an output's beginning, and where, from there, it stops to be one.
+/// Answers after the first 26 bytes of an output, and the offset from there at which the text stops being an output.
 const FAULTY: &[(&str, u32)] = &[
     ("NOR\n", 2),
     ("NONE\n", 5),

@@ -9,7 +9,7 @@ fn literal(number: i32) -> Literal {
     }
 }
 
-/// The clauses of a text of numbers, each ended by 0. A clause out of range is left out.
+/// The clauses that the numbers give, with 0 at the end of each. A clause out of range is left out.
 fn cnf_of(alloc: Global, variables: u8, numbers: &[i32]) -> Result<Cnf, AllocError> {
     let mut cnf = Cnf::new(alloc, u32::from(variables));
     let mut literals = Vec::new(alloc);
@@ -31,7 +31,7 @@ fn assignment_of(alloc: Global, values: &[bool]) -> Result<Assignment, AllocErro
     Ok(Assignment::new(Vec::from_slice(alloc, values)?))
 }
 
-// The variable 3 is the conjunction of 1 and 2, of which one has to be true and one false.
+// The variable 3 is the conjunction of 1 and 2, one of which must be true and one false.
 const GATE: &[i32] = &[1, 2, 0, -1, -2, 0, -3, 1, 0, -3, 2, 0, 3, -1, -2, 0];
 
 const GATE_IS_TRUE: &[i32] = &[1, 2, 0, -1, -2, 0, -3, 1, 0, -3, 2, 0, 3, -1, -2, 0, 3, 0];
@@ -72,7 +72,7 @@ fn wants_a_value_for_each_variable(rt: HostRuntime) -> Result<(), Fail> {
     Ok(())
 }
 
-/// A clause of seven literals, one of one, and one of which a variable is above 8.
+/// A clause of seven literals, a clause of one, and a clause with a variable above 8.
 const LONG: &[i32] = &[1, -2, 3, -4, 5, -6, 7, 0, 8, 0, 1, 9, 0];
 
 #[test]

@@ -16,7 +16,7 @@ fn clause_of(alloc: Global, numbers: &[i32]) -> Result<Clause, AllocError> {
     Clause::from_literals(alloc, literals.as_slice())
 }
 
-/// The clauses over three variables whose numbers are each ended by 0. A clause out of range is left out.
+/// The clauses over three variables that the numbers give, with 0 at the end of each. A clause out of range is left out.
 fn cnf_of(alloc: Global, numbers: &[i32]) -> Result<Cnf, AllocError> {
     let mut cnf = Cnf::new(alloc, 3);
     for clause in numbers.split(|number| *number == 0) {
@@ -28,7 +28,7 @@ fn cnf_of(alloc: Global, numbers: &[i32]) -> Result<Cnf, AllocError> {
     Ok(cnf)
 }
 
-/// The steps whose literals, hints and deletes are each ended by 0.
+/// The steps that the numbers give, with 0 at the end of the literals, of the hints and of the deletes.
 fn steps_of(alloc: Global, numbers: &[i32]) -> Result<Vec<Step>, AllocError> {
     let mut steps = Vec::new(alloc);
     let mut literals = Vec::new(alloc);
@@ -59,10 +59,10 @@ fn steps_of(alloc: Global, numbers: &[i32]) -> Result<Vec<Step>, AllocError> {
     Ok(steps)
 }
 
-// The variable 3 is the conjunction of 1 and 2, of which one has to be true and one false, and 3 is true.
+// The variable 3 is the conjunction of 1 and 2, one of which must be true and one false, and 3 is true.
 const GATE_IS_TRUE: &[i32] = &[1, 2, 0, -1, -2, 0, -3, 1, 0, -3, 2, 0, 3, -1, -2, 0, 3, 0];
 
-/// What the check says of the steps, and what it says with the same marks after the last step was checked alone.
+/// The result of the check, and its result with the same marks after the last step was checked on its own.
 fn check_twice(alloc: Global, clauses: &[i32], steps: &[i32]) -> Result<[bool; 2], AllocError> {
     let cnf = cnf_of(alloc, clauses)?;
     let steps = steps_of(alloc, steps)?;
@@ -75,7 +75,7 @@ fn check_twice(alloc: Global, clauses: &[i32], steps: &[i32]) -> Result<[bool; 2
     Ok([first, second])
 }
 
-/// Asserts what is said of each list of steps for the gate, both times.
+/// Asserts the result for each list of steps for the gate, both times.
 fn assert_checks(
     rt: &impl Abort,
     alloc: Global,
@@ -88,21 +88,21 @@ fn assert_checks(
     Ok(())
 }
 
-/// Steps that need no others, and whether they are a refutation.
+/// Steps that use no other steps, and whether they are a refutation.
 const HINTS_OF_ONE_STEP: &[(&[i32], bool)] = &[
     (&[0, 6, 3, 4, 2, 0, 0], true),
     (&[0, 6, 3, 4, 2, 0, 6, 0], true),
     (&[0, 6, 3, 4, 2, 0, 1, 2, 3, 4, 5, 6, 0], true),
-    // no step, no hint, a hint left out, one that is too many
+    // no step, no hint, a missing hint, one hint too many
     (&[], false),
     (&[0, 0, 0], false),
     (&[0, 6, 4, 2, 0, 0], false),
     (&[0, 6, 3, 4, 2, 5, 0, 0], false),
-    // a literal that is true already, two that are not false, a number that is not there
+    // a literal that is already true, two literals that are not false, a number that doesn't exist
     (&[0, 6, 3, 3, 4, 2, 0, 0], false),
     (&[0, 1, 6, 3, 4, 2, 0, 0], false),
     (&[0, 7, 6, 3, 4, 2, 0, 0], false),
-    // a number deleted twice, and one that is not there
+    // a number deleted twice, and one that doesn't exist
     (&[0, 6, 3, 4, 2, 0, 6, 6, 0], false),
     (&[0, 6, 3, 4, 2, 0, 7, 0], false),
     // the last clause is not empty
@@ -116,10 +116,10 @@ fn follows_the_hints_of_one_step(rt: HostRuntime) -> Result<(), Fail> {
     Ok(())
 }
 
-/// The literals 1 and 2 and then the empty clause, each from what stands before it.
+/// The literals 1 and 2 and then the empty clause, each derived from what comes before it.
 const BOTH_AND_NOTHING: &[i32] = &[1, 0, 6, 3, 0, 0, 2, 0, 6, 4, 0, 0, 0, 7, 8, 2, 0, 0];
 
-/// Steps that are checked in turn, and whether they are a refutation.
+/// Steps that are checked one after the other, and whether they are a refutation.
 const STEPS_IN_TURN: &[(&[i32], bool)] = &[
     (BOTH_AND_NOTHING, true),
     (
@@ -127,7 +127,7 @@ const STEPS_IN_TURN: &[(&[i32], bool)] = &[
         true,
     ),
     (&[0, 6, 3, 4, 2, 0, 0, 0, 6, 3, 4, 2, 0, 0], true),
-    // hints on clauses that were deleted, of the list and of a step
+    // hints to deleted clauses, of the list and of a step
     (
         &[1, 0, 6, 3, 0, 6, 0, 2, 0, 6, 4, 0, 0, 0, 7, 8, 2, 0, 0],
         false,
@@ -138,7 +138,7 @@ const STEPS_IN_TURN: &[(&[i32], bool)] = &[
     ),
     // a step that deletes itself
     (&[1, 0, 6, 3, 0, 7, 0, 0, 6, 3, 4, 2, 0, 0], false),
-    // a variable twice, with one sign and with both, and one out of range
+    // a repeated variable, with one sign and with both, and a variable out of range
     (&[1, 1, 0, 6, 3, 0, 0, 0, 6, 3, 4, 2, 0, 0], false),
     (&[1, -1, 0, 6, 3, 0, 0, 0, 6, 3, 4, 2, 0, 0], false),
     (&[4, 1, 0, 6, 3, 0, 0, 0, 6, 3, 4, 2, 0, 0], false),
@@ -160,15 +160,15 @@ fn a_literal_that_stands_twice_in_a_clause_counts_once(rt: HostRuntime) -> Resul
     Ok(())
 }
 
-/// The clauses of 9, and of -9 and 1, each with the first of the list as its hint, and then 1 from both: no variable is 9.
+/// The clauses of 9, and of -9 and 1, each with the first of the list as its hint, then 1 from both. No variable is 9.
 const OUT_OF_RANGE: &[i32] = &[9, 0, 1, 0, 0, -9, 1, 0, 1, 0, 0, 1, 0, 7, 8, 0, 0];
 
-/// Steps, the place of the one that is checked after those before it, and whether it is right.
+/// Steps, the index of the one that is checked after those before it, and whether it is right.
 const STEPS_AFTER_EARLIER_ONES: &[(&[i32], usize, bool)] = &[
     (BOTH_AND_NOTHING, 0, true),
     (BOTH_AND_NOTHING, 1, true),
     (BOTH_AND_NOTHING, 2, true),
-    // what an earlier step deletes is gone, also where that step is not right
+    // what an earlier step deletes is gone, even if that step is not right
     (&[1, 0, 6, 3, 0, 3, 3, 0, 2, 0, 6, 4, 0, 0], 1, true),
     (&[1, 0, 6, 3, 0, 3, 3, 0, 1, 0, 6, 3, 0, 0], 1, false),
     (
@@ -176,7 +176,7 @@ const STEPS_AFTER_EARLIER_ONES: &[(&[i32], usize, bool)] = &[
         2,
         false,
     ),
-    // earlier steps may name a variable out of range, which hints give a value
+    // earlier steps may use a variable out of range, to which hints give a value
     (OUT_OF_RANGE, 0, false),
     (OUT_OF_RANGE, 2, true),
     (

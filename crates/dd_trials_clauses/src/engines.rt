@@ -1,4 +1,4 @@
-// Rosters of engines of each kind, of which most are no good, asked twice over a few lists.
+// Rosters of engines of each kind, most of them bad, asked twice about a few lists.
 ghost use Rattle.std.specs.Prelude.{false};
 
 use dd_clause::{Assignment, Clause, Cnf, Literal};
@@ -17,9 +17,9 @@ enum Habit {
     AllFalse,
     /// It proposes nothing.
     Silent,
-    /// Memory is wanting at its first call; later it proposes nothing.
+    /// Memory runs out at its first call; later it proposes nothing.
     NoMemoryAtFirst,
-    /// It proposes nothing at its first call, and a refutation without steps later.
+    /// It proposes nothing at its first call, later a refutation without steps.
     ChangesItsMind,
 }
 
@@ -94,7 +94,7 @@ enum Answer {
     Memory,
 }
 
-/// What is answered, and how many engines are left.
+/// The answer, and how many engines are left.
 type Left = (Answer, usize);
 
 fn answer_of(answer: Result<Option<Outcome>, AllocError>) -> Answer {
@@ -113,7 +113,7 @@ fn literal(number: i32) -> Literal {
     }
 }
 
-/// The clauses of a text of numbers over two variables, each ended by 0.
+/// The clauses over two variables that the numbers give, with 0 at the end of each.
 fn cnf_of(alloc: Global, numbers: &[i32]) -> Result<Cnf, AllocError> {
     let mut cnf = Cnf::new(alloc, 2);
     let mut literals = Vec::new(alloc);
@@ -137,10 +137,10 @@ const TWO_FLIPS: &[i32] = &[1, 2, 0, -1, 2, 0];
 // All variables false satisfy it.
 const NEGATIVE: &[i32] = &[-1, -2, 0];
 
-// Unit propagation refutes it, also where a literal stands twice.
+// Unit propagation refutes it, even though a literal is repeated.
 const CHAIN: &[i32] = &[-2, 0, -1, 2, 2, 0, 1, 1, 0];
 
-// Nothing satisfies it, and unit propagation finds nothing.
+// It can't be satisfied, and unit propagation finds nothing.
 const SQUARE: &[i32] = &[1, 2, 0, 1, -2, 0, -1, 2, 0, -1, -2, 0];
 
 const EMPTY_CLAUSE: &[i32] = &[1, 0, 0];
@@ -159,7 +159,7 @@ const PROPAGATOR: Member = Member::Propagator;
 
 const WALKER: Member = Member::Walker(2);
 
-// The clauses, the engines, and what the first and the second asking leave.
+// The clauses, the engines, and the results of asking once and of asking again.
 const CASES: &[(&[i32], &[Member], Left, Left)] = &[
     (TWO_FLIPS, &[], (Answer::Nothing, 0), (Answer::Nothing, 0)),
     (
@@ -365,7 +365,7 @@ const CASES: &[(&[i32], &[Member], Left, Left)] = &[
     ),
 ];
 
-/// What a roster of these members answers when it is asked twice over the clauses, with how many are left each time.
+/// The two answers of a roster of these members that is asked twice about the clauses, with how many are left each time.
 fn asked_twice(alloc: Global, cnf: &Cnf, members: &[Member]) -> Result<[Left; 2], AllocError> {
     let mut engines: Vec<Box<dyn Engine>> = Vec::new(alloc);
     for member in members {

@@ -1,4 +1,4 @@
-// An engine of one's own, and a roster that has it.
+// A user's own engine, and a roster with it.
 ghost use Rattle.std.specs.Prelude.{false};
 
 use dd_clause::{Assignment, Clause, Cnf, Literal};

@@ -1,4 +1,4 @@
-//! Trials of clause lists, derivations, searches, engines, and the texts of their certificates: tables of cases beside what is proved.
+//! Trials of clause lists, derivations, searches, engines and the texts of certificates: tables of cases beside the proofs.
 #![tactic(auto)]
 
 #[cfg(test)]

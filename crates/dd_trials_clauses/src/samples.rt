@@ -5,7 +5,7 @@ use dd_derivation::Step;
 use dd_values::Items;
 use std::alloc::{AllocError, Global};
 
-/// One step, with the clause of these literals.
+/// One step with the clause of these literals.
 fn steps(
     alloc: Global,
     literals: &[i32],
@@ -129,7 +129,7 @@ fn broken(alloc: Global, part: u64, periods: &[u64], shear: u64) -> Result<Answe
     })
 }
 
-/// The weight 2, with a refutation of what is smaller.
+/// The weight 2, with a refutation of smaller weights.
 fn least(alloc: Global) -> Result<Answer, AllocError> {
     Ok(Answer::Least {
         weight: 2,
@@ -147,7 +147,7 @@ fn least_of_all(alloc: Global) -> Result<Answer, AllocError> {
     })
 }
 
-/// An answer that is written, where there are several of a kind by what they differ in.
+/// The answers that are written; several of a kind differ in what their fields give.
 pub(crate) enum Sample {
     Yes,
     YesBoth,
@@ -197,7 +197,7 @@ pub(crate) fn answer_of(alloc: Global, sample: &Sample) -> Result<Answer, AllocE
     }
 }
 
-/// Each sample with the first line of its text, as the answer to query 7, and the lines after it.
+/// Each sample with the first line of its text, as an answer to query 7, and the lines after it.
 pub(crate) const SAMPLES: &[(Sample, &str, &str)] = &[
     (
         Sample::Yes,

@@ -1,5 +1,5 @@
-// Clause lists that are solved, and a refutation that is trimmed. A list is given by its literals as signed numbers, each
-// clause ended by 0.
+// Clause lists that are solved, and a refutation that is trimmed. A list is given by signed numbers, with 0 at the end of each
+// clause.
 use dd_clause::{Clause, Cnf, Literal, satisfies};
 use dd_derivation::{Marks, Outcome, Step, check_refutation};
 use dd_solver::{solve, trimmed};
@@ -19,7 +19,7 @@ fn clause_of(alloc: Global, numbers: &[i32]) -> Result<Clause, AllocError> {
     Clause::from_literals(alloc, literals.as_slice())
 }
 
-/// The clauses of the numbers. One that is out of range is left out.
+/// The clauses that the numbers give. A clause out of range is left out.
 fn cnf_of(alloc: Global, variables: u8, numbers: &[i32]) -> Result<Cnf, AllocError> {
     let mut cnf = Cnf::new(alloc, u32::from(variables));
     let mut clause: Vec<i32> = Vec::new(alloc);
@@ -37,8 +37,8 @@ fn cnf_of(alloc: Global, variables: u8, numbers: &[i32]) -> Result<Cnf, AllocErr
     Ok(cnf)
 }
 
-/// That each of some things is in one of the holes, one thing more than there are holes, and no two are in one. The
-/// variable `first + holes * t + h` says that the thing t is in the hole h.
+/// The pigeonhole clauses: each thing is in one of the holes, there is one more thing than holes, and no two things share a
+/// hole. The variable `first + holes * t + h` says that the thing t is in the hole h.
 fn push_crowded(numbers: &mut Vec<i32>, first: i32, holes: i32) -> Result<(), AllocError> {
     let place = |thing: i32, hole: i32| {
         first
@@ -61,7 +61,7 @@ fn push_crowded(numbers: &mut Vec<i32>, first: i32, holes: i32) -> Result<(), Al
     Ok(())
 }
 
-/// The answer, which the checks of assignments and of refutations are asked about.
+/// The answer, confirmed by the check of assignments or of refutations.
 fn answer(alloc: Global, cnf: &Cnf) -> Result<&'static str, AllocError> {
     match solve(alloc, cnf)? {
         Outcome::Found(assignment) => {
@@ -86,8 +86,8 @@ fn seven_in_six(alloc: Global) -> Result<Vec<i32>, AllocError> {
     Ok(numbers)
 }
 
-/// Four things in three holes, and 40 variables before them with clauses of their own, which most of their values
-/// satisfy. A search that learns nothing refutes the last clauses once for each of these values.
+/// Four things in three holes. Before them come 40 variables with clauses of their own, which most of their values satisfy. A
+/// search that learns nothing refutes the pigeonhole clauses once for each of these values.
 fn four_in_three(alloc: Global) -> Result<Vec<i32>, AllocError> {
     let mut numbers = Vec::new(alloc);
     for pair in 0..20u8 {
@@ -99,8 +99,8 @@ fn four_in_three(alloc: Global) -> Result<Vec<i32>, AllocError> {
     Ok(numbers)
 }
 
-/// A number of variables, the number of the clauses, their literals, and the answer. In the first two the variable 3 is
-/// the conjunction of 1 and 2, of which one has to be true and one false.
+/// A number of variables, the number of clauses, their literals, and the answer. In the first two cases the variable 3 is the
+/// conjunction of 1 and 2, one of which must be true and one false.
 const CASES: &[(u8, usize, &[i32], &str)] = &[
     (
         3,
@@ -127,7 +127,7 @@ const CASES: &[(u8, usize, &[i32], &str)] = &[
     ),
 ];
 
-/// Asserts how many clauses the numbers make, and what is answered.
+/// Asserts how many clauses the numbers give, and the answer.
 fn assert_answer(
     rt: &impl Abort,
     alloc: Global,
@@ -154,7 +154,7 @@ fn finds_or_refutes(rt: HostRuntime) -> Result<(), Fail> {
     Ok(())
 }
 
-/// Four clauses over two variables, which nothing satisfies.
+/// Four clauses over two variables that can't be satisfied.
 const SQUARE: &[i32] = &[1, 2, 0, -1, 2, 0, 1, -2, 0, -1, -2, 0];
 
 fn step_of(alloc: Global, clause: &[i32], hints: &[u64]) -> Result<Step, AllocError> {
@@ -165,7 +165,7 @@ fn step_of(alloc: Global, clause: &[i32], hints: &[u64]) -> Result<Step, AllocEr
     })
 }
 
-/// Three steps that refute these clauses, of which the first is not used.
+/// Three steps that refute these clauses; the first is not used.
 fn three_steps(alloc: Global) -> Result<Items<Step>, AllocError> {
     let mut steps = Items::new(alloc);
     steps.push(step_of(alloc, &[1], &[1, 3])?)?;
@@ -174,7 +174,7 @@ fn three_steps(alloc: Global) -> Result<Items<Step>, AllocError> {
     Ok(steps)
 }
 
-// The first of the three steps is not used, so the others have lesser numbers.
+// The first of the three steps is not used, so the others get smaller numbers.
 #[test]
 fn leaves_out_a_step_that_is_not_used(rt: HostRuntime) -> Result<(), Fail> {
     let alloc = rt.alloc();

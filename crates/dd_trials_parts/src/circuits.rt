@@ -32,7 +32,7 @@ fn a_conjunction_of_two_inputs(rt: HostRuntime) -> Result<(), Fail> {
     Ok(())
 }
 
-/// The values of three inputs, and those of the eight gates below over them.
+/// The values of three inputs, and the values of the eight gates below.
 const VALUES_OF_GATES: &[([bool; 3], [bool; 8])] = &[
     (
         [false, false, false],
@@ -68,7 +68,7 @@ const VALUES_OF_GATES: &[([bool; 3], [bool; 8])] = &[
     ),
 ];
 
-/// Conjunctions of no, of one and of three of the three inputs.
+/// Conjunctions of none, one and all of the three inputs.
 fn push_conjunctions(circuit: &mut Circuit) -> Result<(), AllocError>
     requires inputs { 3 ≤ size circuit.old }
     requires few { size circuit.old ≤ 100 }
@@ -81,7 +81,7 @@ fn push_conjunctions(circuit: &mut Circuit) -> Result<(), AllocError>
     Ok(())
 }
 
-/// Disjunctions of no, of one and of three of the three inputs.
+/// Disjunctions of none, one and all of the three inputs.
 fn push_disjunctions(circuit: &mut Circuit) -> Result<(), AllocError>
     requires inputs { 3 ≤ size circuit.old }
     requires few { size circuit.old ≤ 100 }
@@ -94,7 +94,7 @@ fn push_disjunctions(circuit: &mut Circuit) -> Result<(), AllocError>
     Ok(())
 }
 
-/// Gates of three inputs: three conjunctions, three disjunctions and two equivalences.
+/// Gates over three inputs: three conjunctions, three disjunctions and two equivalences.
 fn eight_gates(alloc: Global) -> Result<Circuit, AllocError>
     ensures { IfOk result (λ circuit. circuit.inputs ≡ 3) }
 {

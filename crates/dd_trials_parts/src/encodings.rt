@@ -23,7 +23,7 @@ fn minus(variable: u32) -> Signal
     plus(variable).opposite()
 }
 
-/// The clauses with signed numbers, as in a DIMACS file.
+/// The clauses as signed numbers, as in a DIMACS file.
 fn numbered(alloc: Global, cnf: &Cnf) -> Result<Vec<Vec<i64>>, AllocError> {
     let mut clauses = Vec::new(alloc);
     for clause in cnf.clauses() {
@@ -68,7 +68,7 @@ fn a_conjunction_of_two_inputs(rt: HostRuntime) -> Result<(), Fail> {
     Ok(())
 }
 
-/// Conjunctions of no, of one and of three of the three inputs.
+/// Conjunctions of none, one and all of the three inputs.
 fn push_conjunctions(circuit: &mut Circuit) -> Result<(), AllocError>
     requires inputs { 3 ≤ size circuit.old }
     requires few { size circuit.old ≤ 100 }
@@ -81,7 +81,7 @@ fn push_conjunctions(circuit: &mut Circuit) -> Result<(), AllocError>
     Ok(())
 }
 
-/// Disjunctions of no, of one and of three of the three inputs.
+/// Disjunctions of none, one and all of the three inputs.
 fn push_disjunctions(circuit: &mut Circuit) -> Result<(), AllocError>
     requires inputs { 3 ≤ size circuit.old }
     requires few { size circuit.old ≤ 100 }

@@ -23,7 +23,7 @@ enum Call {
     Div,
 }
 
-// `Over` makes each operand's numerators a fraction; the other calls are those of their name.
+// `Over` makes a fraction of the operands' numerators; the other calls have their usual meaning.
 fn answer(call: Call, left: &Fraction, right: &Fraction) -> Option<(i128, i128)> {
     let result = match call {
         Call::Over => Fraction::new(left.num(), right.num()),
@@ -44,12 +44,12 @@ fn answer(call: Call, left: &Fraction, right: &Fraction) -> Option<(i128, i128)>
 /// A numerator and a denominator.
 type Pair = (i128, i128);
 
-/// The fraction of an operand, which has to be one.
+/// The operand as a fraction, which it must be.
 fn operand(rt: &impl Abort, pair: Pair) -> Fraction {
     Fraction::new(pair.0, pair.1).expect(rt, "an operand is a fraction")
 }
 
-/// A call, its operands and what it gives.
+/// A call, its operands, and its result.
 const CALLS: &[(Call, Pair, Pair, Option<Pair>)] = &[
     (Call::Over, (4, 1), (-6, 1), Some((-2, 3))),
     (Call::Over, (-4, 1), (-6, 1), Some((2, 3))),
@@ -90,13 +90,13 @@ fn gives_the_exact_fraction_or_none(rt: HostRuntime) {
     assert!(rt; Fraction::new(1, MIN).is_none());
 }
 
-/// A fraction, two factors whose product is taken from it, and what is left.
+/// A fraction, two factors whose product is subtracted from it, and the difference.
 const DIFFERENCES: &[(Pair, Pair, Pair, Option<Pair>)] = &[
     ((1, 2), (1, 3), (3, 4), Some((1, 4))),
     ((7, 6), (1, 2), (1, 3), Some((1, 1))),
     ((5, 7), (-2, 3), (1, 5), Some((89, 105))),
     ((1, 6), (1, 2), (1, 3), Some((0, 1))),
-    // The least number of 16 bits, and the greatest denominators.
+    // The least number of 16 bits and the greatest denominators.
     (
         (-32768, 1),
         (-32768, 1),
@@ -109,7 +109,7 @@ const DIFFERENCES: &[(Pair, Pair, Pair, Option<Pair>)] = &[
         (32766, 65531),
         Some((-70356933443584, 281436323512305)),
     ),
-    // One past 16 bits.
+    // One more than 16 bits hold.
     ((32768, 1), (1, 1), (1, 1), Some((32767, 1))),
     ((1, 65536), (1, 65536), (1, 1), Some((0, 1))),
     ((-P126, 1), (P63, 1), (P63, 2), Some((-P126 - P126 / 2, 1))),

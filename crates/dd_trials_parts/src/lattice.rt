@@ -33,7 +33,7 @@ fn a_region_and_its_copy(rt: HostRuntime) -> Result<(), Fail> {
     Ok(())
 }
 
-/// A dimension, by how much the edge of the range grows, and the fault.
+/// A dimension, by how much the box at the edge of the range is grown, and the fault.
 const GROWN_EDGES: &[(u32, u32, Option<LatticeFault>)] = &[
     (1, 0, None),
     (1, 1, Some(LatticeFault::Range)),

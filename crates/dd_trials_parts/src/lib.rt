@@ -1,4 +1,4 @@
-//! Trials of numbers, lattices, circuits and the texts of scripts, a module each: tables of cases beside what is proved.
+//! Trials of numbers, lattices, circuits and the texts of scripts, one module each: tables of cases beside the proofs.
 #![tactic(auto)]
 
 #[cfg(test)]

@@ -4,7 +4,7 @@ use dd_outside::{
 };
 use std::test::Fail;
 
-// The limit, the most bytes of a read, the read that fails, and what comes of the bytes `abcd`.
+// The limit, the most bytes of a read, the read that fails, and the result for the bytes `abcd`.
 #[test]
 fn reads_to_the_end_within_a_limit(rt: HostRuntime) -> Result<(), Fail> {
     let alloc = rt.alloc();
@@ -51,7 +51,7 @@ fn writes_up_to_a_fault(rt: HostRuntime) -> Result<(), Fail> {
     Ok(())
 }
 
-// The quiet source gives all its bytes, and the quiet sink takes each piece whole.
+// The quiet source gives all its bytes, and the quiet sink takes each piece completely.
 #[test]
 fn the_quiet_ones_never_fail(rt: HostRuntime) -> Result<(), Fail> {
     let alloc = rt.alloc();

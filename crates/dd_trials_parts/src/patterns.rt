@@ -15,22 +15,22 @@ fn cell_at(x: i32, y: i32, z: i32) -> Option<Cell>
 /// The symbols of two rows of three.
 const SIX: &[u32] = &[0, 1, 2, 3, 4, 5];
 
-/// The dimension, the periods, the shear and the symbols of a configuration, a place, and its symbol.
+/// The dimension, the periods, the shear and the symbols of a configuration, a position, and the symbol there.
 const SYMBOLS: &[(u32, [u32; 3], u32, &[u32], (i32, i32, i32), u32)] = &[
     (2, [3, 2, 1], 0, SIX, (0, 0, 0), 0),
     (2, [3, 2, 1], 0, SIX, (2, 1, 0), 5),
     (2, [3, 2, 1], 0, SIX, (-4, -3, 0), 5),
     (2, [3, 2, 1], 0, SIX, (1_048_576, -1, 0), 4),
-    // one row, and the row above it starts two further to the right
+    // one row; the row above it starts two to the right
     (2, [3, 1, 1], 2, &[7, 8, 9], (0, 1, 0), 8),
     (2, [3, 1, 1], 2, &[7, 8, 9], (1, -1, 0), 7),
     (2, [3, 1, 1], 2, &[7, 8, 9], (0, 3, 0), 7),
-    // two rows, and the third is the first, one further to the right
+    // two rows; the third is the first, moved one to the right
     (2, [3, 2, 1], 1, SIX, (0, 2, 0), 2),
     (2, [3, 2, 1], 1, SIX, (0, 3, 0), 5),
     (2, [3, 2, 1], 1, SIX, (0, -1, 0), 4),
     (2, [3, 2, 1], 1, SIX, (-1, -4, 0), 1),
-    // two layers, each sheared alike
+    // two layers, both sheared in the same way
     (3, [2, 1, 2], 1, &[0, 1, 2, 3], (0, 1, 5), 3),
     (3, [2, 1, 2], 1, &[0, 1, 2, 3], (1, -1, -2), 0),
 ];
@@ -49,7 +49,7 @@ fn symbols_of_periodic_configurations(rt: HostRuntime) -> Result<(), Fail> {
     Ok(())
 }
 
-/// A dimension, periods, a shear, a number of nodes and symbols that make no configuration.
+/// A dimension, periods, a shear, a number of nodes and symbols that give no configuration.
 const NO_CONFIGURATIONS: &[(u32, [u32; 3], u32, u32, &[u32])] = &[
     (0, [1, 1, 1], 0, 1, &[7]),
     (4, [1, 1, 1], 0, 1, &[7]),
@@ -74,7 +74,7 @@ fn no_periodic_configurations(rt: HostRuntime) -> Result<(), Fail> {
     Ok(())
 }
 
-/// A dimension, the largest period, and all periods and shears in their order.
+/// A dimension, the largest period, and all periods and shears in order.
 const PERIODS: &[(u32, u32, &[(u32, u32, u32, u32)])] = &[
     (1, 2, &[(1, 1, 1, 0), (2, 1, 1, 0)]),
     (
@@ -127,7 +127,7 @@ const FAR: Cell = Cell {
     node: 0,
 };
 
-/// The filling of three cells, which are given out of order.
+/// A filling of three cells, given out of order.
 fn three_filled(alloc: Global) -> Result<Filling, Fail> {
     let domain = in_order(alloc, &[ABOVE, RIGHT, ORIGIN])?;
     let symbols = Vec::from_slice(alloc, &[4, 5, 6])?;
@@ -156,7 +156,7 @@ fn fillings(rt: HostRuntime) -> Result<(), Fail> {
     Ok(())
 }
 
-/// The symbols of the filling on the cells, or none where it has not all of them.
+/// The symbols of the filling on these cells; empty if it lacks one of them.
 fn restricted(alloc: Global, filling: &Filling, cells: &[Cell]) -> Result<Vec<u32>, Fail> {
     let domain = in_order(alloc, cells)?;
     match filling.restrict(alloc, &domain)? {

@@ -1,10 +1,10 @@
-// Small linear programs, with results worked out by a reference in exact fractions and by going through all vertices.
+// Small linear programs. The results come from a reference with exact fractions, and from trying all vertices.
 use dd_fraction::Fraction;
 use dd_simplex::{Program, SimplexFault, Solved, maximise};
 use std::alloc::{AllocError, Global};
 use std::test::Fail;
 
-/// A whole number, or two with a '/' between them.
+/// An integer, or two integers with a '/' between them.
 fn fraction(text: &str) -> Result<Fraction, Fail> {
     let (num, den) = match text.split_once('/') {
         Some(parts) => parts,
@@ -70,7 +70,7 @@ fn described(alloc: Global, answer: &Result<Solved, SimplexFault>) -> Result<Str
     }
 }
 
-// Columns, cap, rows of coefficients and a bound, limit of pivots, what is wanted.
+// The number of columns, the cap, rows of coefficients with a bound, the limit on pivots, and the result.
 const CASES: &[(&str, u32, i64, &str, u32, &str)] = &[
     (
         "one column under its cap",
@@ -370,8 +370,8 @@ const CASES: &[(&str, u32, i64, &str, u32, &str)] = &[
         6,
         "Overflow",
     ),
-    // The objective is column 0, so its numbers are those of the line of column 0, which comes before it. In the next six
-    // cases no other line has a number that passes.
+    // The objective is column 0, so its numbers are those of the line of column 0, which comes before it. In the next six cases
+    // no other line has a number that is too large.
     (
         "first past 2^127: the product in the value, 9 * 2^124",
         2,

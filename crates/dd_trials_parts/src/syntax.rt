@@ -1,10 +1,10 @@
-// Texts with the command of the first fault, or none where the whole is well formed.
+// Texts with the command of the first fault, or with none if all are well formed.
 use dd_commands::{SyntaxFault, read};
 use std::alloc::Global;
 use std::process::Abort;
 use std::test::Fail;
 
-/// The first command that is not well formed, and none where all are.
+/// The fault of the first command that is not well formed, or none.
 fn first_fault(alloc: Global, bytes: &[u8]) -> Option<SyntaxFault> {
     if bytes.len() > 1_048_576 {
         return Some(SyntaxFault::Memory);
@@ -38,7 +38,7 @@ fn well_formed_texts_have_no_fault(rt: HostRuntime) {
     }
 }
 
-/// Asserts that the first fault of each text is at the command beside it, where 0 is what stands before the first.
+/// Asserts that the first fault of each text is at this command; 0 stands for what comes before the first.
 fn assert_first_faults(rt: &impl Abort, alloc: Global, faults: &[(&[u8], u32)]) {
     for (text, command) in faults {
         let expected = Some(SyntaxFault::At { command: *command });
@@ -46,7 +46,7 @@ fn assert_first_faults(rt: &impl Abort, alloc: Global, faults: &[(&[u8], u32)]) 
     }
 }
 
-/// Bytes and words that stand where none may, before the first command, in one and behind it.
+/// Bytes and words that may not stand before the first command, in a command, or after it.
 const FAULTS_OF_TEXT: [(&[u8], u32); 9] = [
     (b"x", 0),
     (b"%", 1),
@@ -59,7 +59,7 @@ const FAULTS_OF_TEXT: [(&[u8], u32); 9] = [
     (b"x %rule a o=0", 0),
 ];
 
-/// Commands of the header that stand in another order, twice, or with other parts.
+/// Commands of the header in the wrong order, repeated, or with wrong parts.
 const FAULTS_OF_HEADERS: [(&[u8], u32); 15] = [
     (b"%rule a o=0 %dim 2", 2),
     (b"%dim 2 %dim 2", 2),
@@ -78,7 +78,7 @@ const FAULTS_OF_HEADERS: [(&[u8], u32); 15] = [
     (b"%weights 1 2 %only 0 0", 2),
 ];
 
-/// Configurations and queries with other parts, and words that are no command.
+/// Configurations and queries with wrong parts, and words that are no command.
 const FAULTS_OF_COMMANDS: [(&[u8], u32); 13] = [
     (b"%conf c [-1] 0", 1),
     (b"%conf c [1]", 1),
@@ -95,7 +95,7 @@ const FAULTS_OF_COMMANDS: [(&[u8], u32); 13] = [
     (b"%%empty a", 1),
 ];
 
-/// Rules and automata with no whole formula or case.
+/// Rules and automata in which a formula or a case is incomplete.
 const FAULTS_OF_FORMULAS: [(&[u8], u32); 7] = [
     (b"%auto a when o=1 else 0", 1),
     (b"%auto a when o=1 give 0", 1),
@@ -115,7 +115,7 @@ fn the_first_fault_is_found(rt: HostRuntime) {
     assert_first_faults(&rt, alloc, &FAULTS_OF_FORMULAS);
 }
 
-/// Each piece so many times, one after the other.
+/// The pieces one after the other, each repeated this many times.
 fn written(alloc: Global, pieces: &[(&[u8], u32)]) -> Result<Vec<u8>, Fail> {
     let mut text = Vec::new(alloc);
     for (piece, times) in pieces {

@@ -136,13 +136,13 @@ fn a_move_is_missing_where_no_edge_leaves(rt: HostRuntime) -> Result<(), Fail> {
         (Some(b), None)
     );
     assert_eq!(rt; (topology.label("x"), topology.label("y")), (Some(0), None));
-    // The ball has stopped growing long before its radius.
+    // The ball stops growing long before this radius.
     let ball = topology.ball(alloc, &b, 4_000_000_000)?;
     assert_eq!(rt; ball.as_slice(), [a, b].as_slice());
     Ok(())
 }
 
-/// A node, a symbol, and whether the node allows it where the second node is restricted to the symbols 2 and 0.
+/// A node, a symbol, and whether the node allows it. The second node is restricted to the symbols 2 and 0.
 const ALLOWED: &[(u32, u32, bool)] = &[
     (0, 0, true),
     (0, 1, true),

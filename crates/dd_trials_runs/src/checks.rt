@@ -7,17 +7,17 @@ use std::alloc::Global;
 use std::process::Abort;
 use std::test::Fail;
 
-/// The output of a run whose one answer is a refutation of six clauses.
+/// The output of a run with one answer, a refutation of six clauses.
 pub(crate) const OUTPUT: &str =
     "diddy 1\nscript 34\n%dim 1\n%rule x o=0 & o=1\n%empty x\n\nquery 1 YES 0\nrefutation 1\nstep 0 6 3 4 2 0 0\nend\n";
 
 // The answer.
 const ANSWER: &str = "query 1 YES 0\nrefutation 1\nstep 0 6 3 4 2 0 0\n";
 
-// Each row of these tables has a part of the output, which stands in it once, what stands there in its place, the status of a
-// check, and what it writes.
+// Each row of these tables has a part of the output that occurs once, its replacement, the status of the check, and what the
+// check writes.
 
-// Lines that are no lines of an output, refused where the longest front of some output ends.
+// Lines that no output has. Each is refused where the longest prefix of an output ends.
 const LINES: [(&str, &str, Status, &str); 16] = [
     ("diddy 1", "Diddy 1", Status::Refused, "refused at 0\n"),
     ("diddy 1", "diddy 2", Status::Refused, "refused at 6\n"),
@@ -33,7 +33,7 @@ const LINES: [(&str, &str, Status, &str); 16] = [
     ("query 1", "query  1", Status::Refused, "refused at 59\n"),
     // MINIMAL begins with the same letter.
     ("YES 0", "MAYBE", Status::Refused, "refused at 62\n"),
-    // There is at least one step, and there are as many as are said.
+    // There is at least one step, and as many as the line before says.
     (
         "refutation 1",
         "refutation 0",
@@ -59,13 +59,13 @@ const LINES: [(&str, &str, Status, &str); 16] = [
         "refused at 99\n",
     ),
     ("2 0 0", "2 0 0 0", Status::Refused, "refused at 98\n"),
-    // Nothing stands behind the end.
+    // Nothing may follow the end.
     ("end\n", "end", Status::Refused, "refused at 102\n"),
     ("end\n", "end\n\n", Status::Refused, "refused at 103\n"),
     ("end\n", "end\nend\n", Status::Refused, "refused at 103\n"),
 ];
 
-// Numbers with a leading zero, and numbers up to their limits and past them.
+// Numbers with a leading zero, numbers at their limits, and numbers beyond.
 const NUMBERS: [(&str, &str, Status, &str); 11] = [
     ("YES 0", "YES 00", Status::Refused, "refused at 66\n"),
     ("YES 0", "YES -0", Status::Refused, "refused at 65\n"),
@@ -110,7 +110,7 @@ const NUMBERS: [(&str, &str, Status, &str); 11] = [
     ("6 3 4 2", "-6 3 4 2", Status::Refused, "refused at 87\n"),
 ];
 
-// Scripts of another length, that are none, or that ask something else.
+// Scripts of another length, texts that are no scripts, and scripts that ask something else.
 const SCRIPTS: [(&str, &str, Status, &str); 9] = [
     ("script 34", "script 33", Status::Refused, "refused at 52\n"),
     ("script 34", "script 35", Status::Refused, "refused at 53\n"),
@@ -120,7 +120,7 @@ const SCRIPTS: [(&str, &str, Status, &str); 9] = [
         Status::Refused,
         "refused at 16\n",
     ),
-    // All that follows could be the front of so long a script, but of no longer one.
+    // All that follows could begin a script of this length, but no script may be longer.
     (
         "script 34",
         "script 1048576",
@@ -159,7 +159,7 @@ const SCRIPTS: [(&str, &str, Status, &str); 9] = [
     ),
 ];
 
-// Another box, and hints and deletes that refute its clauses or don't.
+// Another box, and hints and deletes that refute its clauses or fail to.
 const STEPS: [(&str, &str, Status, &str); 13] = [
     ("YES 0", "YES 5", Status::Rejected, "query 1 rejected\n"),
     ("YES 0", "YES 9", Status::Rejected, "query 1 rejected\n"),
@@ -169,7 +169,7 @@ const STEPS: [(&str, &str, Status, &str); 13] = [
         Status::Definite,
         "query 1 accepted\nchecked 1\n",
     ),
-    // A hint too few, hints in an order in which the first is not a unit, and one after the conflict.
+    // One hint too few, hints in an order in which the first is not a unit, and a hint after the conflict.
     ("6 3 4 2", "6 4 2", Status::Rejected, "query 1 rejected\n"),
     ("6 3 4 2", "6 3 4", Status::Rejected, "query 1 rejected\n"),
     ("6 3 4 2", "3 4 2 6", Status::Rejected, "query 1 rejected\n"),
@@ -193,7 +193,7 @@ const STEPS: [(&str, &str, Status, &str); 13] = [
         Status::Definite,
         "query 1 accepted\nchecked 1\n",
     ),
-    // What is no longer there, and the step itself.
+    // Deletes of a clause that is gone, and of the step itself.
     ("2 0 0", "2 0 6 6 0", Status::Rejected, "query 1 rejected\n"),
     ("2 0 0", "2 0 7 0", Status::Rejected, "query 1 rejected\n"),
     ("2 0 0", "2 0 8 0", Status::Rejected, "query 1 rejected\n"),
@@ -264,7 +264,7 @@ const ANSWERS: [(&str, &str, Status, &str); 11] = [
     ),
 ];
 
-// Asserts what the check of these bytes comes to.
+// Asserts the status of the check of these bytes, and what it writes.
 fn assert_check(
     rt: &impl Abort,
     alloc: Global,
@@ -285,7 +285,7 @@ fn assert_check(
     Ok(())
 }
 
-// Asserts what the check of the output with each of these changes comes to.
+// Asserts the same for the output with each of these changes.
 fn assert_changes(
     rt: &impl Abort,
     alloc: Global,

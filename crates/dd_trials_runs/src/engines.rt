@@ -1,4 +1,4 @@
-//! Engines for runs, of which most are no good.
+//! Engines for runs, most of them bad.
 ghost use Rattle.std.specs.Prelude.{false};
 
 use crate::runs::words_of;
@@ -20,13 +20,13 @@ pub enum Habit {
     NoSteps,
     /// That all variables are false.
     AllFalse,
-    /// Memory is wanting at its first call; later it proposes nothing.
+    /// Memory runs out at the first call; later calls propose nothing.
     NoMemoryAtFirst,
-    /// Nothing at its first call, and a refutation without steps later.
+    /// Nothing at the first call, later a refutation without steps.
     ChangesItsMind,
-    /// By turns nothing, what is right, and a refutation without steps.
+    /// In turn: nothing, a right answer, a refutation without steps.
     ByTurns,
-    /// A refutation without steps of a list of just this size, and nothing of any other.
+    /// A refutation without steps for a list of exactly this size, otherwise nothing.
     OfSize { variables: u32, clauses: usize },
 }
 
@@ -47,13 +47,13 @@ impl Fake {
     }
 }
 
-/// That all variables of the list are false.
+/// The proposal that all variables are false.
 fn all_false(alloc: Global, cnf: &Cnf) -> Result<Proposal, AllocError> {
     let values = vec![in alloc; false; cnf.variables() as usize]?;
     Ok(Proposal::Found(Assignment::new(values)))
 }
 
-/// What is right.
+/// The right answer.
 fn solved(alloc: Global, cnf: &Cnf) -> Result<Proposal, AllocError> {
     match solve(alloc, cnf)? {
         Outcome::Found(assignment) => Ok(Proposal::Found(assignment)),
@@ -65,7 +65,7 @@ fn no_steps(alloc: Global) -> Proposal {
     Proposal::Refutation(Items::new(alloc))
 }
 
-/// What an engine of this habit proposes at a turn, from 0 on.
+/// What an engine with this habit proposes at this turn, from 0.
 fn proposal_of(habit: Habit, turn: u32, alloc: Global, cnf: &Cnf) -> Result<Proposal, AllocError> {
     match habit {
         Habit::Silent => Ok(Proposal::Nothing),
@@ -112,10 +112,10 @@ impl Engine for Fake {
 /// A member of a roster.
 #[derive(Clone, Copy, Debug)]
 pub enum Member {
-    /// One that proposes what its habit is.
+    /// An engine with this habit.
     Fake(Habit),
     Propagator,
-    /// One of so many flips.
+    /// An engine that makes this many flips.
     Walker(u32),
 }
 
@@ -125,7 +125,7 @@ pub const NO_ENGINES: &[Member] = &[];
 /// The engines of the program.
 pub const OF_PROGRAM: &[Member] = &[Member::Propagator, Member::Walker(10_000)];
 
-/// The status of a session of one word over these bytes with these engines, and how many engines are left.
+/// The status of a session with one word, these bytes and these engines, and how many engines are left.
 pub fn session_over(
     alloc: Global,
     word: &str,

@@ -1,5 +1,5 @@
-//! Trials of sessions that no clause tells: how texts and outputs are refused, that each fault is answered where it comes, and that
-//! engines that are no good change no line. What they run sessions with serves the trials of answers too.
+//! Trials of sessions, for what no contract says: how texts and outputs are refused, that each fault is answered where it
+//! occurs, and that bad engines change no line. The trials of answers run sessions with these calls too.
 #![tactic(auto)]
 
 #[cfg(test)]

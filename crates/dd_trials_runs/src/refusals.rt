@@ -1,11 +1,11 @@
-// Texts that are refused, and how their lines go on.
+// Texts that are refused, and the rest of their lines.
 use crate::runs::run_on;
 use dd_session::Status;
 use std::alloc::{AllocError, Global};
 use std::process::Abort;
 use std::test::Fail;
 
-// Asserts that each text is refused, and that its line goes on as is said beside it.
+// Asserts that each text is refused, with the given rest of the line.
 fn assert_refused(rt: &impl Abort, alloc: Global, rows: &[(&[u8], &str)]) -> Result<(), Fail> {
     for (text, rest) in rows {
         let (status, output) = run_on(alloc, text)?;
@@ -16,7 +16,7 @@ fn assert_refused(rt: &impl Abort, alloc: Global, rows: &[(&[u8], &str)]) -> Res
     Ok(())
 }
 
-// What no script is, by its bytes, its tokens or its commands.
+// Texts that are no scripts because of their bytes, their tokens or their commands.
 const NOT_WELL_FORMED: [(&[u8], &str); 17] = [
     (b"x", "0 syntax"),
     (b"%", "1 syntax"),
@@ -44,9 +44,9 @@ const FAULTS_OF_NAMES: [(&[u8], &str); 16] = [
     (b"%rule a o=2", "1 unknown 2"),
     (b"%rule a o.no=0", "1 unknown no"),
     (b"%rule a Ap[q1] p=1", "1 unknown q"),
-    // A quantified variable is known in the body alone.
+    // A quantified variable is known only in the body.
     (b"%rule a Ap[p1] p=1", "1 unknown p"),
-    // What is unknown comes before what is given twice and before limits.
+    // An unknown name takes precedence over a repetition and over limits.
     (b"%rule a o=0 %rule a o=2", "2 unknown 2"),
     (b"%rule a o=1000001", "1 unknown 1000001"),
     (b"%rule a o=0 %rule a o=1", "2 twice a"),
@@ -63,7 +63,7 @@ const FAULTS_OF_NAMES: [(&[u8], &str); 16] = [
     (b"%rule a o=0 %discharge a 0 0 [] []", "2 twice vector"),
 ];
 
-// Another number of dimensions, nodes, weights or symbols.
+// Wrong numbers of dimensions, nodes, weights or symbols.
 const FAULTS_OF_NUMBERS: [(&[u8], &str); 9] = [
     (b"%dim 4", "1 dimension"),
     (b"%dim 1000001", "1 dimension"),
@@ -76,7 +76,7 @@ const FAULTS_OF_NUMBERS: [(&[u8], &str); 9] = [
     (b"%rule a o=0 %density a [1 1]", "2 dimension"),
 ];
 
-// Symbols that their nodes do not allow, nodes that are restricted twice, and shears.
+// Symbols that their node does not allow, nodes restricted twice, and shears.
 const FAULTS_OF_NODES_AND_SHEARS: [(&[u8], &str); 9] = [
     (
         b"%alphabet 0 1 2 %only 0 0 2 %rule a o!=1 %empty a %conf c [1 1] 1",
@@ -92,7 +92,7 @@ const FAULTS_OF_NODES_AND_SHEARS: [(&[u8], &str); 9] = [
     (b"%conf c [3 1] [-1] 0 1 0", "1 syntax"),
 ];
 
-// Limits that are passed.
+// Limits that are exceeded.
 const PAST_A_LIMIT: [(&[u8], &str); 16] = [
     (
         b"%rule aaaaaaaaaaaaaaaaaaaaaaaaaaaaaaaaa o=0",
@@ -131,7 +131,7 @@ fn refuses_what_is_no_script(rt: HostRuntime) -> Result<(), Fail> {
     assert_refused(&rt, alloc, &PAST_A_LIMIT)
 }
 
-// A period of 2,000,000, and so many symbols.
+// A configuration with a period of 2,000,000 and this many symbols.
 fn long_configuration(alloc: Global, symbols: usize) -> Result<Vec<u8>, AllocError> {
     let mut text = Vec::new(alloc);
     text.extend_from_slice(b"%dim 1 %alphabet 0 a %conf c [2000000] ")?;
@@ -141,7 +141,7 @@ fn long_configuration(alloc: Global, symbols: usize) -> Result<Vec<u8>, AllocErr
     Ok(text)
 }
 
-// Products of periods are compared as they are written, also where a period passes the limit on numbers.
+// Products of periods are compared as written, even if a period exceeds the limit on numbers.
 #[test]
 fn a_long_period_is_no_shorter_one(rt: HostRuntime) -> Result<(), Fail> {
     let alloc = rt.alloc();

@@ -1,4 +1,4 @@
-// Runs over rosters of engines, of which most are no good: the same lines come out, and those that are found wrong go.
+// Runs with rosters of engines, most of them bad: the lines are the same, and engines that are found wrong are dropped.
 use crate::engines::{Habit, Member, OF_PROGRAM, session_over};
 use crate::runs::{first_lines, run_over};
 use dd_outside::MemorySink;
@@ -27,7 +27,7 @@ const NO: &str = "%rule hard o=1 -> (o.rt=0 & o.up=0) %rule row o=1 -> o.rt=0 %c
 const DIES: &str =
     "%dim 1 %limits 3 4 10000 %rule dies (o=1 -> o.rt=1) & !(o=1 & o.rt=1 & o.rt.rt=1) %rule zero o=0 %contains zero dies";
 
-// The engines, and how many are left of them after each of the first two scripts.
+// The engines, and how many of them are left after each of the first two scripts.
 const LEFT: &[(&[Member], usize, usize)] = &[
     (&[], 0, 0),
     (&[NO_STEPS], 0, 0),
@@ -64,7 +64,7 @@ fn the_lines_are_the_same_over_every_roster(rt: HostRuntime) -> Result<(), Fail>
     Ok(())
 }
 
-// Engines that want no memory.
+// Engines that never run out of memory.
 const FAKES: [Member; 5] = [SILENT, NO_STEPS, ALL_FALSE, FICKLE, BY_TURNS];
 
 #[test]
@@ -83,7 +83,7 @@ fn the_lines_are_the_same_over_every_pair(rt: HostRuntime) -> Result<(), Fail> {
     Ok(())
 }
 
-// Want of memory of an engine ends the run, and the engine stays. What was written is the lines before the first answer.
+// If an engine runs out of memory, the run ends and the engine stays. Only the lines before the first answer are written.
 #[test]
 fn an_engine_wants_memory(rt: HostRuntime) -> Result<(), Fail> {
     let alloc = rt.alloc();
@@ -98,8 +98,8 @@ fn an_engine_wants_memory(rt: HostRuntime) -> Result<(), Fail> {
     Ok(())
 }
 
-// The sizes of the clauses of the boxes of radius 0 to 4. An engine that refutes those of one radius alone is found wrong
-// exactly where the search asks of that radius: so it is the clauses of the boxes that engines are asked for, and no others.
+// The sizes of the clauses of the boxes of radius 0 to 4. An engine that refutes only those of one radius is found wrong exactly
+// if the search asks about that radius. So engines are asked about the clauses of the boxes, and nothing else.
 #[test]
 fn engines_are_asked_for_the_boxes_themselves(rt: HostRuntime) -> Result<(), Fail> {
     let alloc = rt.alloc();
@@ -115,8 +115,8 @@ fn engines_are_asked_for_the_boxes_themselves(rt: HostRuntime) -> Result<(), Fai
     Ok(())
 }
 
-// The script, the engine, how many bytes the sink takes, and its call that fails. The engine would be dropped at its first call,
-// or at its second; the sink fails before the first is made, or before the second.
+// The script, the engine, how many bytes the sink takes, and which of its calls fails. The engine would be dropped at its first
+// or second call; the sink fails before that call is made.
 #[test]
 fn no_engine_is_asked_before_the_text_before_is_written(rt: HostRuntime) -> Result<(), Fail> {
     let alloc = rt.alloc();
@@ -136,7 +136,7 @@ fn no_engine_is_asked_before_the_text_before_is_written(rt: HostRuntime) -> Resu
     Ok(())
 }
 
-// With other words, and for inputs that are refused, no engine is asked.
+// For other words, and for inputs that are refused, no engine is asked.
 #[test]
 fn nobody_is_asked_without_a_run(rt: HostRuntime) -> Result<(), Fail> {
     let alloc = rt.alloc();

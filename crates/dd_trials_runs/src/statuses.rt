@@ -1,4 +1,4 @@
-// How sessions end where the input is too long, or where a source or a sink fails.
+// How sessions end if the input is too long, or if a source or a sink fails.
 use crate::checks::OUTPUT;
 use crate::runs::{HARD, words_of};
 use dd_engines::Roster;
@@ -34,9 +34,9 @@ fn a_long_input_is_refused(rt: HostRuntime) -> Result<(), Fail> {
 // A session without a fault: its word, its input, its status, and what it writes.
 type Session = (&'static str, &'static str, Status, &'static str);
 
-// Sixteen bytes are read and written at most at a time. Each session has the number of its reads, of which the last finds the
-// end, and how many bytes are held where its first, second and further write fails. The lines of a run before the first
-// answer are written together, and each answer by itself, as are the lines of a check and of a sample. A sample reads nothing.
+// At most sixteen bytes are read or written at a time. Each session has the number of its reads, the last of which finds the
+// end, and how many bytes are held if its first, second or later write fails. The lines before the first answer of a run are
+// written together, and then each answer separately; so are the lines of a check and of a sample. A sample reads nothing.
 const SESSIONS: [(Session, u64, &[usize]); 7] = [
     (
         (
@@ -103,9 +103,9 @@ const SESSIONS: [(Session, u64, &[usize]); 7] = [
 // The calls that fail, and how much a sink holds.
 #[derive(Clone, Copy, Debug)]
 struct Outside {
-    // The number of the read that fails, from 1; 0 where none does.
+    // The number of the read that fails, from 1; 0 if none does.
     read: u64,
-    // And of the write.
+    // The same for writes.
     write: u64,
     capacity: usize,
 }
@@ -127,7 +127,7 @@ fn session_over(
     Ok((status, Vec::from_slice(alloc, sink.held_bytes())?))
 }
 
-// Asserts that the session ends with the status, and that this many bytes of what it writes are held then.
+// Asserts that the session ends with the status, and that the sink then holds this many bytes of its output.
 fn assert_front(
     rt: &impl Abort,
     alloc: Global,
@@ -147,7 +147,7 @@ fn assert_front(
     Ok(())
 }
 
-// Whichever read fails, nothing is written.
+// If any read fails, nothing is written.
 fn assert_reads(rt: &impl Abort, alloc: Global, session: Session, reads: u64) -> Result<(), Fail> {
     let (_, _, status, written) = session;
     let capacity = written.len();
@@ -167,7 +167,7 @@ fn assert_reads(rt: &impl Abort, alloc: Global, session: Session, reads: u64) ->
     assert_front(rt, alloc, session, outside, (status, capacity))
 }
 
-// Whichever write fails, what was written before it is held.
+// If any write fails, the sink holds what was written before it.
 fn assert_writes(
     rt: &impl Abort,
     alloc: Global,
@@ -194,7 +194,7 @@ fn assert_writes(
     assert_front(rt, alloc, session, outside, (status, capacity))
 }
 
-// A sink that is too small is filled.
+// A sink that is too small is filled completely.
 fn assert_capacities(rt: &impl Abort, alloc: Global, session: Session) -> Result<(), Fail> {
     let (_, _, _, written) = session;
     for capacity in 0..written.len() {
@@ -219,7 +219,7 @@ fn each_fault_has_its_status(rt: HostRuntime) -> Result<(), Fail> {
     Ok(())
 }
 
-// Words that ask for nothing leave the source and the sink alone.
+// Words that are no command leave the source and the sink alone.
 #[test]
 fn other_words_do_nothing(rt: HostRuntime) -> Result<(), Fail> {
     let alloc = rt.alloc();

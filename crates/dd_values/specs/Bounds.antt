@@ -5,7 +5,7 @@ use Rattle.std.specs.Prelude.{ℕ, ◌^◌}
 abbrev pub most_variables : ℕ
 most_variables = 2 ^ 24
 
--- the greatest number, in absolute value, that an output holds outside its refutations
+-- the greatest absolute value of a number in an output, outside its refutations
 abbrev pub most_number : ℕ
 most_number = 2 ^ 40
 
@@ -24,3 +24,13 @@ most_weight = 1000
 -- the greatest radius of a ball, and the greatest radius and margin of a discharge
 abbrev pub widest_radius : ℕ
 widest_radius = 3
+
+-- the greatest radius of a box, period of a torus and number of pivots that a script may have tried
+abbrev pub greatest_radius : ℕ
+greatest_radius = 8
+
+abbrev pub greatest_period : ℕ
+greatest_period = 8
+
+abbrev pub most_pivots : ℕ
+most_pivots = 100000

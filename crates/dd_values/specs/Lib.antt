@@ -8,3 +8,5 @@ pub mod Variables
 pub mod Counts
 -- what lists and boxes keep
 pub mod formers
+-- lemmas on truth values, numbers and lists, for all crates
+pub mod lemmas

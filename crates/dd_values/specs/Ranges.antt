@@ -1,8 +1,8 @@
 -- The ranges of the limits within which questions are answered.
 use Rattle.std.specs.Prelude.{◌≤◌}
-use Rattle.dd_values.specs.declared.limits.Limits.{Limits}
+use Rattle.dd_values.specs.{declared.limits.Limits.Limits, Bounds.greatest_radius, Bounds.greatest_period, Bounds.most_pivots}
 
 pub record AreLimits (l : Limits) : Type 0 where
-  pub radius : l.radius ≤ 8
-  pub period : (1 ≤ l.period) × (l.period ≤ 8)
-  pub pivots : l.pivots ≤ 100000
+  pub radius : l.radius ≤ greatest_radius
+  pub period : (1 ≤ l.period) × (l.period ≤ greatest_period)
+  pub pivots : l.pivots ≤ most_pivots

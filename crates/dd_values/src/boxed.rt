@@ -26,7 +26,7 @@ impl<T> Boxed<T> {
         &self.inner
     }
 
-    /// The value, off the heap. It takes no memory.
+    /// Moves the value off the heap. It takes no memory.
     pub fn into_inner(self) -> T
         ensures { result ≡ self }
     {
@@ -34,14 +34,14 @@ impl<T> Boxed<T> {
         Box::into_inner(inner)
     }
 
-    /// A box as it is. It takes no memory.
+    /// Wraps a `Box`. It takes no memory.
     pub fn from_box(inner: Box<T>) -> Boxed<T>
         ensures { result ≡ inner.value }
     {
         Boxed { inner }
     }
 
-    /// Gives the box back. It takes no memory.
+    /// Gives the `Box` back. It takes no memory.
     pub fn into_box(self) -> Box<T>
         ensures { result.value ≡ self }
     {

@@ -70,14 +70,14 @@ impl<T> Items<T> {
         self.vec.is_empty()
     }
 
-    /// The item at a place, counted from 0, or `None` behind the last.
+    /// The item at an index, counted from 0, or `None` past the end.
     pub fn get(&self, at: usize) -> Option<&T>
         ensures { option_copied result ≡ slice_get self.now at }
     {
         self.vec.get(at)
     }
 
-    /// Takes the last item off.
+    /// Removes the last item and returns it.
     pub fn pop(&mut self) -> Option<T>
         ensures { MatchOption result ((self.old ≡ []) × (self.new ≡ [])) (λ last. self.old ≡ self.new ++ last ∷ []) }
     {
@@ -86,7 +86,7 @@ impl<T> Items<T> {
 }
 
 impl<T: Drop> Items<T> {
-    /// Puts an item at the end. After want of memory the list is as it was.
+    /// Adds an item at the end. If memory runs out, the list is unchanged.
     pub fn push(&mut self, item: T) -> Result<(), AllocError>
         ensures ok { OnOk result (self.new ≡ self.old ++ item ∷ []) }
         ensures err { OnErr result (self.new ≡ self.old) }

@@ -1,23 +1,18 @@
--- The forms of certificates: what each has, and that an output can hold it.
-use Rattle.std.proofs.Common.{◌≡◌, ◌≢◌, ℕ, Bool, true, List, refl}
+-- The forms of certificates: what each contains, and that an output can hold it.
+use Rattle.std.proofs.{Common.◌≡◌, Common.◌≢◌, Common.ℕ, Common.Bool, Common.true, Common.List, Common.refl, lemmas.Result.IfOk-weaker}
 use Rattle.std.specs.Prelude.{◌↔◌, Result, IfOk}
-use Rattle.std.proofs.lemmas.Result.{IfOk-weaker}
 use Rattle.dd_derivation.specs.declared.step.Step.{Step}
-use Rattle.dd_formula.specs.LocalRule.{LocalRule, IsRule}
-use Rattle.dd_values.specs.declared.limits.Limits.{Limits}
-use Rattle.dd_values.specs.Ranges.{AreLimits}
+use Rattle.dd_formula.specs.{LocalRule.LocalRule, LocalRule.IsRule, Living.Lives}
+use Rattle.dd_values.specs.{declared.limits.Limits.Limits, Ranges.AreLimits}
 use Rattle.dd_boxes.specs.Goals.{GoalOf, breaks, IsGoalFor, KeepsRule}
-use Rattle.dd_certificate.specs.declared.answer.Side.{Side}
-use Rattle.dd_certificate.specs.declared.answer.Side.TheVariants as side
-use Rattle.dd_certificate.specs.declared.answer.Reason.{Reason}
-use Rattle.dd_certificate.specs.declared.answer.Answer.{Answer}
-use Rattle.dd_certificate.specs.declared.answer.Answer.TheVariants as answer
+use Rattle.dd_certificate.specs.declared.answer.{Side.Side, Reason.Reason, Answer.Answer}
 use Rattle.dd_certificate.specs.Bounds.{IsWritable, IsWritableRefutation}
 use Rattle.dd_pattern.specs.Tile.{Tile}
-use Rattle.dd_formula.specs.Living.{Lives}
 use Rattle.dd_evidence.specs.Answers.{IsMemberCertificate, member_inside}
 use Rattle.dd_verify.specs.Evidence.{IsYes, IsNo, IsBoxCertificate, box_yes, box_no, IsEqualCertificate, equal_yes, left_no, right_no, equal_unknown}
 use Rattle.dd_verify.proofs.Writable.{radius_writable, no_writable}
+use Rattle.dd_certificate.specs.declared.answer.Side.TheVariants as side
+use Rattle.dd_certificate.specs.declared.answer.Answer.TheVariants as answer
 
 pub inside_of : {x : LocalRule} {t : Tile} → IsMemberCertificate x t answer.Inside → Lives x t
 inside_of (member_inside h) = h
@@ -40,7 +35,7 @@ module _ {l : Limits} {x y : LocalRule} where
   pub right_of : {along : List ℕ} {shear : ℕ} {symbols : List ℕ} → IsEqualCertificate l x y (answer.No side.Right along shear symbols) → IsNo l y (breaks x) along shear symbols
   right_of (right_no h) = h
 
--- an answer of another form
+-- an answer of another form is no certificate
 pub no_equal : (l : Limits) (x y : LocalRule) (a : Answer) → ((n m : ℕ) (steps others : List Step) → a ≢ answer.YesBoth n m steps others) →
     ((s : Side) (along : List ℕ) (shear : ℕ) (symbols : List ℕ) → a ≢ answer.No s along shear symbols) → ((r : Reason) → a ≢ answer.Unknown r) →
     IsEqualCertificate l x y a → ⊥
@@ -53,7 +48,7 @@ module _ (l : Limits) (x : LocalRule) (g : GoalOf) (limits : AreLimits l) (rule 
   pub yes_fits : (n : ℕ) (steps : List Step) → KeepsRule g → IsGoalFor x g → IsYes l x g n steps → IsWritableRefutation steps → IsWritable (answer.Yes n steps)
   yes_fits n steps kept ok told fit = (radius_writable l x g n steps limits rule kept ok told, fit)
 
--- the side does not matter
+-- this holds for either side
 pub no_fits : {l : Limits} {x : LocalRule} {g : GoalOf} {along : List ℕ} {shear : ℕ} {symbols : List ℕ} → AreLimits l → IsRule x → IsNo l x g along shear symbols →
     IsWritable (answer.No side.Whole along shear symbols)
 no_fits {l = l} {x = x} {g = g} {along = along} {shear = shear} {symbols = symbols} limits rule told = no_writable l x g along shear symbols limits rule told side.Whole
@@ -64,7 +59,7 @@ module _ (l : Limits) (x y : LocalRule) (limits : AreLimits l) (left_rule : IsRu
   both_fit n m steps others left_goal right_goal one other fit both =
       (radius_writable l x (breaks y) n steps limits left_rule right_rule left_goal one, radius_writable l y (breaks x) m others limits right_rule left_rule right_goal other, fit, both)
 
--- where a test says whether there is evidence, it says whether there is a certificate of that form, one that an output can hold
+-- a test that decides whether there is evidence decides whether there is a certificate that an output can hold
 pub decides : {E : Type 0} (r : Result Bool E) (P W C : Type 0) → (P → W) → (P → C) → (C → P) → IfOk r (λ b. (b ≡ true) ↔ P) → IfOk r (λ b. (b ≡ true) ↔ (W × C))
 decides r P W C fits made taken told =
     IfOk-weaker r (λ b. (b ≡ true) ↔ P) (λ b. (b ≡ true) ↔ (W × C)) (λ b is. (λ h. (fits (is.0 h), made (is.0 h)), λ both. is.1 (taken both.1))) told

@@ -1,22 +1,18 @@
 -- What certificates claim.
 use Rattle.std.proofs.Common.{ℕ, List}
-use Rattle.dd_derivation.specs.declared.step.Step.{Step}
-use Rattle.dd_derivation.specs.lemmas.Soundness.{refutes_sound}
+use Rattle.dd_derivation.specs.{declared.step.Step.Step, lemmas.Soundness.refutes_sound}
 use Rattle.dd_formula.specs.LocalRule.{LocalRule, IsRule}
 use Rattle.dd_values.specs.declared.limits.Limits.{Limits}
-use Rattle.dd_boxes.specs.Goals.{GoalOf, breaks, IsGoalFor}
-use Rattle.dd_boxes.specs.Boxes.{Suffices, HoldsNowhere}
+use Rattle.dd_boxes.specs.{Goals.GoalOf, Goals.breaks, Goals.IsGoalFor, Boxes.Suffices, Boxes.HoldsNowhere}
 use Rattle.dd_boxes.specs.lemmas.FromBox.{from_least, holds_nowhere}
 use Rattle.dd_pattern.specs.Tile.{Tile}
-use Rattle.dd_problem.specs.Problems.{box_problem}
-use Rattle.dd_problem.specs.pushing.Told.{IsToldGoal}
-use Rattle.dd_problem.specs.lemmas.BoxShows.{box_shows, shown_decides}
+use Rattle.dd_problem.specs.{Problems.box_problem, pushing.Told.IsToldGoal, lemmas.BoxShows.box_shows, lemmas.BoxShows.shown_decides}
 use Rattle.dd_certificate.specs.declared.answer.Answer.{Answer}
 use Rattle.dd_evidence.specs.Answers.{IsMemberCertificate, member_inside, member_outside}
 use Rattle.dd_verify.specs.Evidence.{IsBoxCertificate, box_yes, box_no, box_unknown, IsEqualCertificate, equal_yes, left_no, right_no, equal_unknown, IsYes}
 use Rattle.dd_verify.specs.Holding.{MemberClaim, says_inside, says_outside, BoxClaim, says_nowhere, says_witness, says_nothing, EqualClaim, says_equal, says_left, says_right, says_none}
 
--- Where the steps refute the clauses of a box, no admissible filling of it has the goal at the origin, so the goal holds
+-- If the steps refute the clauses of a box, no admissible filling of the box has the goal at the origin. So the goal holds
 -- nowhere.
 pub yes_claims : (l : Limits) (x : LocalRule) (g : GoalOf) (n : ℕ) (steps : List Step) → IsRule x → IsGoalFor x g → IsToldGoal x g → IsYes l x g n steps →
     HoldsNowhere x g n

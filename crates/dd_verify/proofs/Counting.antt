@@ -1,14 +1,11 @@
--- Every radius up to the largest that is asked for has few clauses.
+-- The clauses are few for every radius up to the largest that may be asked for.
 use Rattle.std.proofs.Common.{ℕ, ◌<◌, ◌≤◌, List, arith}
 use Rattle.std.specs.Prelude.{max}
 use Rattle.dd_lattice.specs.Boxes.{centred, volume}
 use Rattle.dd_formula.specs.LocalRule.{LocalRule, IsRule}
 use Rattle.dd_values.specs.declared.limits.Limits.{Limits}
-use Rattle.dd_boxes.specs.Goals.{GoalOf}
-use Rattle.dd_boxes.specs.Boxes.{IsLeastRadius}
-use Rattle.dd_boxes.specs.Counts.{question_clauses, most_clauses}
-use Rattle.dd_boxes.specs.lemmas.SizeLaws.{fewer, box_up}
-use Rattle.dd_boxes.specs.lemmas.ReachLaws.{one_least}
+use Rattle.dd_boxes.specs.{Goals.GoalOf, Boxes.IsLeastRadius, Counts.question_clauses, Counts.most_clauses}
+use Rattle.dd_boxes.specs.lemmas.{SizeLaws.fewer, SizeLaws.box_up, ReachLaws.one_least}
 use Rattle.dd_derivation.specs.declared.step.Step.{Step}
 use Rattle.dd_verify.specs.Evidence.{IsYes}
 use Rattle.dd_question.specs.Boxes.{IsAskable}
@@ -19,7 +16,7 @@ box_few l x g least n rule askable is le =
     let most = max l.radius least in
     fewer x g most l.period (volume (centred x.dimension n)) (box_up x.dimension n most l.period rule.dimension.0 rule.dimension.1 le) (askable.small least is)
 
--- ---- other radii are not asked for: the least radius is one
+-- ---- no other radius is asked for: there is only one least radius
 
 pub too_near : (l : Limits) (x : LocalRule) (g : GoalOf) (n : ℕ) (steps : List Step) (least : ℕ) → IsLeastRadius g least → n < least → IsYes l x g n steps → ⊥
 too_near l x g n steps least is near told =

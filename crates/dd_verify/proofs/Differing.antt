@@ -2,21 +2,16 @@
 use Rattle.std.proofs.Common.{◌≡◌, ℕ, ◌<◌, Bool, true, sym, subst}
 use Rattle.std.specs.Prelude.{◌↔◌}
 use Rattle.dd_pattern.specs.Tile.{Tile, IsTile}
-use Rattle.dd_formula.specs.LocalRule.{LocalRule}
-use Rattle.dd_formula.specs.Allowed.{HasAllowed}
-use Rattle.dd_formula.specs.Living.{Fits, Lives}
-use Rattle.dd_formula.specs.Automata.{CommonNumbers, IsAutomaton}
-use Rattle.dd_formula.specs.declared.automaton.Automaton.{Automaton}
-use Rattle.dd_boxes.specs.Goals.{differ}
-use Rattle.dd_boxes.specs.Views.{numbers_of}
-use Rattle.dd_boxes.specs.Witnesses.{IsWitness}
+use Rattle.dd_formula.specs.{LocalRule.LocalRule, Allowed.HasAllowed, Living.Fits, Living.Lives}
+use Rattle.dd_formula.specs.{Automata.CommonNumbers, Automata.IsAutomaton, declared.automaton.Automaton.Automaton}
+use Rattle.dd_boxes.specs.{Goals.differ, Views.numbers_of, Witnesses.IsWitness}
 use Rattle.dd_automaton.specs.Images.{IsDefinedOn, DifferAtOrigin}
 
 abbrev setting : ℕ → ℕ → ℕ → CommonNumbers
 setting d n s = record { dimension = d; nodes = n; symbols = s }
 
 module _ (x : LocalRule) (t : Tile) (fits : Fits x t) where
-  -- the configuration's numbers are the premise's
+  -- the configuration has the dimension, nodes and symbols of the premise
   pub defined : (f : Automaton) → IsAutomaton (numbers_of x) f → IsDefinedOn f t
   defined f formed = record {
     symbols = x.symbols;
@@ -25,7 +20,7 @@ module _ (x : LocalRule) (t : Tile) (fits : Fits x t) where
     below = fits.symbols;
   }
 
-  -- of one that lives in the premise's subshift, the test decides whether it shows the goal
+  -- if the configuration lives in the premise's subshift, the test decides whether it shows the goal
   pub difference_decides : (f g : Automaton) → IsTile t → HasAllowed x t → Lives x t → (b : Bool) → (b ≡ true) ↔ DifferAtOrigin f g t →
       (b ≡ true) ↔ IsWitness x (differ (numbers_of x) f g) t
   difference_decides f g tile allowed lives b told = (

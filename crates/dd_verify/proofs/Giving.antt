@@ -1,23 +1,19 @@
--- The configuration that is made of the numbers of an answer.
+-- The configuration that is made from the numbers of an answer.
 use Rattle.std.proofs.Common.{◌≡◌, ℕ, ◌*◌, ◌<◌, ◌≤◌, Bool, true, List, [], ◌∷◌, length, refl, ap, sym, subst, ◌∙◌, arith}
-use Rattle.std.specs.Prelude.{◌↔◌, slice_index_or}
-use Rattle.std.specs.List.{All}
 use Rattle.std.proofs.lemmas.Nat.{mul-le}
-use Rattle.dd_pattern.specs.declared.periods.Periods.{Periods}
-use Rattle.dd_pattern.specs.Periods.{AreWithin, periods_of, periods_volume}
+use Rattle.std.specs.{Prelude.◌↔◌, Prelude.slice_index_or, List.All}
+use Rattle.dd_pattern.specs.{declared.periods.Periods.Periods, Periods.AreWithin, Periods.periods_of, Periods.periods_volume}
 use Rattle.dd_pattern.specs.Tile.{Tile, tile, IsPeriodic}
 use Rattle.dd_formula.specs.LocalRule.{LocalRule, IsRule}
 use Rattle.dd_values.specs.declared.limits.Limits.{Limits}
-use Rattle.dd_boxes.specs.Goals.{GoalOf}
-use Rattle.dd_boxes.specs.Witnesses.{IsWitness}
+use Rattle.dd_boxes.specs.{Goals.GoalOf, Witnesses.IsWitness}
 use Rattle.dd_evidence.specs.Tiles.{given_periods, given_tile}
-use Rattle.dd_verify.specs.Evidence.{IsNo}
-use Rattle.dd_verify.specs.Given.{IsGiven}
+use Rattle.dd_verify.specs.{Evidence.IsNo, Given.IsGiven}
 
 abbrev sheared : ℕ → ℕ → ℕ → ℕ → Periods
 sheared x y z shear = record { x = x; y = y; z = z; shear = shear }
 
--- ---- the configuration that the code makes of the numbers
+-- ---- the configuration that the code makes from the numbers
 
 pub made_tile : (r : LocalRule) (along : List ℕ) (shear d n x y z : ℕ) (items symbols : List ℕ) → d ≡ r.dimension → n ≡ r.nodes → x ≡ slice_index_or along 0 1 →
     y ≡ slice_index_or along 1 1 → z ≡ slice_index_or along 2 1 → items ≡ symbols →
@@ -30,7 +26,7 @@ made_tile r along shear d n x y z items symbols d_is n_is x_is y_is z_is symbols
     ∙ (ap (λ k. tile r.dimension (given_periods along shear) k items) n_is
     ∙ ap (λ k. tile r.dimension (given_periods along shear) r.nodes k) symbols_are))))
 
--- it is small
+-- its periods are small
 given_small : (x : LocalRule) (most : ℕ) (along : List ℕ) (shear : ℕ) (symbols : List ℕ) → IsRule x → most ≤ 8 → IsGiven x most along shear symbols →
     IsPeriodic (given_tile x along shear symbols)
 given_small x most along shear symbols rule few given =

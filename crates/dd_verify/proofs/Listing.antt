@@ -1,38 +1,26 @@
--- A rule is false exactly where the cells that it reads have the symbols of a listed pattern.
+-- A rule is false exactly where the cells that it reads show a listed pattern.
 use Rattle.std.proofs.Common.{◌≡◌, ℕ, zero, suc, ◌<◌, Bool, true, false, List, [], ◌∷◌, map, length, get_or, slice_get, Some, None, refl, ap, sym, ◌∙◌, arith, rules}
-use Rattle.std.specs.Prelude.{◌↔◌, Option, is_some, Contains}
-use Rattle.std.specs.List.{list_all, position_or_len}
-use Rattle.std.specs.Ordering.{is_eq}
+use Rattle.std.proofs.lemmas.{Option.slice_get_within, Option.slice_get-get_or, List.length-map}
+use Rattle.std.proofs.lemmas.{List.Sums.list_all-from_AllPass, Cmp.tied_itself}
+use Rattle.std.specs.{Prelude.◌↔◌, Prelude.Option, Prelude.is_some, Prelude.Contains, List.list_all, List.position_or_len, Ordering.is_eq}
 use Rattle.std.specs.declared.cmp.Ordering.{Ordering}
 use Rattle.std.specs.declared.cmp.Ordering.TheVariants.{Less, Equal, Greater}
-use Rattle.std.proofs.lemmas.Option.{slice_get_within, slice_get-get_or}
-use Rattle.std.proofs.lemmas.List.{length-map}
-use Rattle.std.proofs.lemmas.List.Sums.{list_all-from_AllPass}
-use Rattle.std.specs.Cmp.{IsTotalOrder}
-use Rattle.std.specs.Cmp.Rules.{comparing}
-use Rattle.std.proofs.lemmas.Cmp.{tied_itself}
-use Rattle.dd_lattice.specs.declared.position.Cell.{Cell}
-use Rattle.dd_lattice.specs.Place.{Place}
-use Rattle.dd_lattice.specs.Cells.{cell, shifted}
-use Rattle.dd_lattice.specs.Order.{cell_cmp}
-use Rattle.dd_lattice.specs.lemmas.InOrderLaws.{cells_equal, list_all-in_order}
-use Rattle.dd_pattern.specs.Reading.{Look}
-use Rattle.dd_pattern.specs.Filling.{filled, filling_look}
+use Rattle.std.specs.Cmp.{IsTotalOrder, Rules.comparing}
+use Rattle.dd_lattice.specs.{declared.position.Cell.Cell, Place.Place, Cells.cell, Cells.shifted, Order.cell_cmp}
+use Rattle.dd_lattice.specs.lemmas.{InOrderLaws.cells_equal, InOrderLaws.list_all-in_order, MoveLaws.shifted_by_origin}
+use Rattle.dd_pattern.specs.{Reading.Look, Filling.filled, Filling.filling_look}
 use Rattle.dd_formula.specs.LocalRule.{LocalRule, is_true, reads_at, cells_at}
 use Rattle.dd_forbidden.specs.Breaking.{is_true_at_origin, IsBreaking}
-use Rattle.dd_boxes.specs.Boxes.{origin}
-use Rattle.dd_boxes.specs.lemmas.RuleLaws.{keeps_at, shifted_by_origin}
-use Rattle.dd_certificate.specs.declared.answer.Listed.{Listed}
-use Rattle.dd_certificate.specs.declared.answer.Answer.{Answer}
-use Rattle.dd_evidence.specs.Lists.{listed, IsForbiddenList}
-use Rattle.dd_evidence.specs.Answers.{IsListCertificate, all_forbidden}
+use Rattle.dd_boxes.specs.{Boxes.origin, lemmas.RuleLaws.keeps_at}
+use Rattle.dd_certificate.specs.declared.answer.{Listed.Listed, Answer.Answer}
+use Rattle.dd_evidence.specs.{Lists.listed, Lists.IsForbiddenList, Answers.IsListCertificate, Answers.all_forbidden}
 use Rattle.dd_verify.specs.Holding.{AreReadAt, TellsBreaking, ListClaim, says_list}
 
 abbrev pub ListedBreak : Type 0
 ListedBreak = (x : LocalRule) (patterns : List Listed) (a : ℕ) (ss : List ℕ) → IsForbiddenList x patterns → a < x.nodes →
     Contains patterns (listed a ss) ↔ IsBreaking x a ss
 
--- ---- the place of a cell among cells
+-- ---- the index of a cell in a list of cells
 
 cell_total : IsTotalOrder cell_cmp
 cell_total = search (comparing, rules) depth 9
@@ -48,7 +36,7 @@ same_cell x c Less is h = absurd (cc h)
 same_cell x c Equal is h = cells_equal x c is
 same_cell x c Greater is h = absurd (cc h)
 
--- where the place is one of the list, the cell stands there
+-- if the index is below the length, the cell is there
 stands_first : (x : Cell) (cs : List Cell) (c : Cell) (b : Bool) → is_cell c x ≡ b → (place_of cs c < length cs → get_or cs (place_of cs c) c ≡ c) →
     place_of (x ∷ cs) c < length (x ∷ cs) → get_or (x ∷ cs) (place_of (x ∷ cs) c) c ≡ c
 stands_first x cs c true is rest h =
@@ -62,7 +50,7 @@ stands : (cs : List Cell) (c : Cell) → place_of cs c < length cs → get_or cs
 stands [] c h = refl
 stands (x ∷ cs) c h = stands_first x cs c (is_cell c x) refl (stands cs c) h
 
--- the place of a cell of the list is one of it
+-- a cell of the list has an index below the length
 within_first : (x : Cell) (cs : List Cell) (i : ℕ) (c d : Cell) (b : Bool) → is_cell c x ≡ b →
     ((j : ℕ) → j < length cs → is_cell c (get_or cs j d) ≡ true → place_of cs c < length cs) →
     i < length (x ∷ cs) → is_cell c (get_or (x ∷ cs) i d) ≡ true → place_of (x ∷ cs) c < length (x ∷ cs)

@@ -1,10 +1,9 @@
 -- Symbols as numbers of 32 bits.
 use Rattle.std.proofs.Common.{◌≡◌, ℕ, ◌<◌, ◌≤◌, List, length, take, get_or, ◌∙◌, arith}
+use Rattle.std.proofs.lemmas.List.{take_all, Elements.All-from_get_or}
 use Rattle.std.specs.List.{All}
-use Rattle.std.proofs.lemmas.List.{take_all}
-use Rattle.std.proofs.lemmas.List.Elements.{All-from_get_or}
 
--- the list has the first i symbols, each below the size
+-- the list consists of the first i symbols, each below the size
 pub record IsNarrowed (symbols : List ℕ) (size i : ℕ) (list : List ℕ) : Type 0 where
   pub read : list ≡ take i symbols
   pub below : (k : ℕ) → k < i → get_or symbols k 0 < size

@@ -1,30 +1,24 @@
--- Certificates of conjugacies: the four questions, and that an output can hold what answers them.
-use Rattle.std.proofs.Common.{◌≡◌, ◌≢◌, ℕ, zero, suc, ◌-◌, ◌≤◌, Bool, true, false, List, [], ◌∷◌, length, slice_get, Some, None, refl, ap, sym, subst, ◌∙◌, arith}
-use Rattle.std.specs.Prelude.{◌↔◌, slice_index_or}
-use Rattle.std.specs.List.{All}
-use Rattle.std.proofs.lemmas.Bool.{false≢true}
-use Rattle.std.proofs.lemmas.List.Elements.{All-nil, All-cons}
+-- Certificates of conjugacies: the four questions, and that an output can hold their answers.
+use Rattle.std.proofs.Common.{◌≡◌, ◌≢◌, ℕ, zero, suc, ◌-◌, Bool, true, false, List, [], ◌∷◌, length, slice_get, Some, None, refl, ap, sym, subst, ◌∙◌, arith}
+use Rattle.std.proofs.lemmas.{Bool.false≢true, List.Elements.All-nil, List.Elements.All-cons}
+use Rattle.std.specs.{Prelude.◌↔◌, Prelude.slice_index_or, List.All}
 use Rattle.dd_derivation.specs.declared.step.Step.{Step}
 use Rattle.dd_formula.specs.LocalRule.{LocalRule}
-use Rattle.dd_values.specs.declared.limits.Limits.{Limits}
-use Rattle.dd_values.specs.Ranges.{AreLimits}
+use Rattle.dd_values.specs.{declared.limits.Limits.Limits, Ranges.AreLimits}
 use Rattle.dd_boxes.specs.Goals.{GoalOf}
 use Rattle.dd_problem.specs.pushing.Told.{IsToldGoal}
-use Rattle.dd_certificate.specs.declared.answer.Reason.{Reason}
-use Rattle.dd_certificate.specs.declared.answer.Reason.TheVariants as reason
-use Rattle.dd_certificate.specs.declared.answer.Answer.{Answer}
-use Rattle.dd_certificate.specs.declared.answer.Answer.TheVariants as answer
-use Rattle.dd_certificate.specs.declared.answer.Side.TheVariants as side
+use Rattle.dd_certificate.specs.declared.answer.{Reason.Reason, Answer.Answer}
 use Rattle.dd_certificate.specs.Bounds.{IsWritable, IsWritableNumber, IsWritableRefutation}
-use Rattle.dd_question.specs.Boxes.{IsSoundBox}
-use Rattle.dd_question.specs.Conjugacies.{ConjugacyOf, parts, IsPart, EachPart}
+use Rattle.dd_question.specs.{Boxes.IsSoundBox, Conjugacies.ConjugacyOf, Conjugacies.parts, Conjugacies.IsPart, Conjugacies.EachPart}
+use Rattle.dd_question.specs.lemmas.PartLaws.{part_within}
 use Rattle.dd_verify.specs.Evidence.{IsYes, IsNo, IsConjugacyCertificate, conjugate, broken, conjugacy_unknown}
 use Rattle.dd_verify.specs.Holding.{ConjugacyClaim, says_conjugate, says_broken, says_no_more}
-use Rattle.dd_verify.proofs.Deciding.{nothing_holds}
-use Rattle.dd_verify.proofs.Writable.{radius_writable, no_writable}
-use Rattle.dd_verify.proofs.Claiming.{yes_claims}
+use Rattle.dd_verify.proofs.{Deciding.nothing_holds, Writable.radius_writable, Writable.no_writable, Claiming.yes_claims}
+use Rattle.dd_certificate.specs.declared.answer.Reason.TheVariants as reason
+use Rattle.dd_certificate.specs.declared.answer.Answer.TheVariants as answer
+use Rattle.dd_certificate.specs.declared.answer.Side.TheVariants as side
 
--- ---- the questions by their numbers
+-- ---- the questions by their index
 
 no_more : (c : ConjugacyOf) (k : ℕ) (x : LocalRule) (g : GoalOf) → slice_get (parts c) (suc (suc (suc (suc (suc k)))) - 1) ≡ Some (x, g) → ⊥
 no_more c k x g is =
@@ -32,7 +26,7 @@ no_more c k x g is =
     let none : slice_get (parts c) (suc (suc (suc (suc k)))) ≡ None = refl in
     cc (sym none ∙ (sym (ap (slice_get (parts c)) at) ∙ is))
 
--- what holds of each question holds of the one with this number
+-- what holds of each question holds of the one with this index
 pub of_part : (P : LocalRule → GoalOf → Type 0) (c : ConjugacyOf) (k : ℕ) (x : LocalRule) (g : GoalOf) → EachPart P c → IsPart c k x g → P x g
 of_part P c zero x g each is = absurd (omega (arith, is.0))
 of_part P c (suc zero) x g each is = let same : (c.from, c.image) ≡ (x, g) = cc is.1 in subst (λ (p : LocalRule × GoalOf). P p.0 p.1) same each.image
@@ -42,16 +36,7 @@ of_part P c (suc (suc (suc (suc zero)))) x g each is =
     let same : (c.to, c.round_back) ≡ (x, g) = cc is.1 in subst (λ (p : LocalRule × GoalOf). P p.0 p.1) same each.round_back
 of_part P c (suc (suc (suc (suc (suc k))))) x g each is = absurd (no_more c k x g is.1)
 
--- there are four
-pub part_few : (c : ConjugacyOf) (k : ℕ) (x : LocalRule) (g : GoalOf) → IsPart c k x g → k ≤ 4
-part_few c zero x g is = omega arith
-part_few c (suc zero) x g is = omega arith
-part_few c (suc (suc zero)) x g is = omega arith
-part_few c (suc (suc (suc zero))) x g is = omega arith
-part_few c (suc (suc (suc (suc zero)))) x g is = omega arith
-part_few c (suc (suc (suc (suc (suc k))))) x g is = absurd (no_more c k x g is.1)
-
--- ---- a NO of one of them
+-- ---- NO to one of them
 
 abbrev pub BrokenAt : Limits → ConjugacyOf → ℕ → List ℕ → ℕ → List ℕ → Type 0
 BrokenAt l c k along shear symbols = (x : LocalRule) × (g : GoalOf) × IsPart c k x g × IsNo l x g along shear symbols
@@ -63,15 +48,15 @@ broken_of (broken {x = x} {g = g} is h) = (x, g, is, h)
 module _ (l : Limits) (c : ConjugacyOf) (limits : AreLimits l) (sound : EachPart (IsSoundBox l) c) (k : ℕ) (x : LocalRule) (g : GoalOf) (is : IsPart c k x g)
     (along : List ℕ) (shear : ℕ) (symbols : List ℕ) where
   pub broken_fits : IsNo l x g along shear symbols → IsWritable (answer.Broken k along shear symbols)
-  broken_fits no_of = ((is.0, part_few c k x g is), no_writable l x g along shear symbols limits (of_part (IsSoundBox l) c k x g sound is).0 no_of side.Whole)
+  broken_fits no_of = ((is.0, part_within c k x g is), no_writable l x g along shear symbols limits (of_part (IsSoundBox l) c k x g sound is).0 no_of side.Whole)
 
-  -- the question with a number is one
+  -- the question with the index k is o
   pub no_taken : BrokenAt l c k along shear symbols → IsNo l x g along shear symbols
   no_taken told =
       let same : (told.0, told.1) ≡ (x, g) = cc (told.2.1, is.1) in
       subst (λ (p : LocalRule × GoalOf). IsNo l p.0 p.1 along shear symbols) same told.3
 
--- ---- a YES of each
+-- ---- YES to each
 
 abbrev four_of : {A : Type 0} → List A → A → List A
 four_of xs d = slice_index_or xs 0 d ∷ slice_index_or xs 1 d ∷ slice_index_or xs 2 d ∷ slice_index_or xs 3 d ∷ []
@@ -88,7 +73,7 @@ all_four : {A : Type 0} (P : A → Type 0) (a b e f : A) → P a → P b → P e
 all_four P a b e f one two three last =
     All-cons P a (b ∷ e ∷ f ∷ []) one (All-cons P b (e ∷ f ∷ []) two (All-cons P e (f ∷ []) three (All-cons P f [] last (All-nil P))))
 
--- the radius and the steps with this number are a YES
+-- the radius and the steps with this index are a YES
 abbrev pub IsYesAt : Limits → List ℕ → List (List Step) → ℕ → LocalRule → GoalOf → Type 0
 IsYesAt l radii steps k x g = IsYes l x g (slice_index_or radii k 0) (slice_index_or steps k [])
 
@@ -126,7 +111,7 @@ module _ (l : Limits) (c : ConjugacyOf) (limits : AreLimits l) (sound : EachPart
     subst (All IsWritableRefutation) (sym (four steps [] told.steps_four)) (all_four IsWritableRefutation _ _ _ _ one two three last),
   )
 
-  -- what the tests of the four say
+  -- the tests of the four questions decide whether there is a certificate
   pub each_decides : length radii ≡ 4 → length steps ≡ 4 → IsYesAt l radii steps 0 c.from c.image → IsFitAt steps 0 → IsYesAt l radii steps 1 c.to c.image_back → IsFitAt steps 1 →
       IsYesAt l radii steps 2 c.from c.round → IsFitAt steps 2 → (b : Bool) → (b ≡ true) ↔ IsYesAt l radii steps 3 c.to c.round_back → (b ≡ true → IsFitAt steps 3) →
       (b ≡ true) ↔ (IsWritable (answer.Conjugate radii steps) × IsConjugacyCertificate l c (answer.Conjugate radii steps))
@@ -136,11 +121,11 @@ module _ (l : Limits) (c : ConjugacyOf) (limits : AreLimits l) (sound : EachPart
     λ both. last.1 (each_of both.1).round_back,
   )
 
--- where a test of what each certificate has fails, there is none
+-- if a test that every certificate passes fails, there is no certificate
 pub lacking : (b : Bool) (P W C : Type 0) → (b ≡ true) ↔ P → b ≡ false → (C → P) → (false ≡ true) ↔ (W × C)
 lacking b P W C told fails taken = nothing_holds (W × C) (λ both. false≢true (sym fails ∙ told.1 (taken both.1)))
 
--- that it is not known, for the one reason that there can be
+-- the only reason for UNKNOWN is the limits
 reason_of : {l : Limits} {c : ConjugacyOf} {r : Reason} → IsConjugacyCertificate l c (answer.Unknown r) → r ≡ reason.Limits
 reason_of conjugacy_unknown = refl
 
@@ -151,7 +136,7 @@ unknown_decides l c r b told = (
   λ both. told.1 (reason_of both.1),
 )
 
--- an answer of another form
+-- an answer of another form is no certificate
 pub no_conjugacy : (l : Limits) (c : ConjugacyOf) (a : Answer) → ((radii : List ℕ) (steps : List (List Step)) → a ≢ answer.Conjugate radii steps) →
     ((k : ℕ) (along : List ℕ) (shear : ℕ) (symbols : List ℕ) → a ≢ answer.Broken k along shear symbols) → ((r : Reason) → a ≢ answer.Unknown r) →
     IsConjugacyCertificate l c a → ⊥

@@ -1,46 +1,22 @@
--- What the symbols of a fundamental box say of every cell, and what the origin's truth is.
+-- What the symbols of a fundamental box say of every cell, and of the rule at the origin.
 use Rattle.std.proofs.Common.{◌≡◌, ℕ, ◌<◌, Bool, true, length, get_or, ap, sym, subst, ◌∙◌, arith, Some, None, inl, inr, pos}
+use Rattle.std.proofs.lemmas.{Int.ints, Bool.cases_lt, Bool.lt-ltb, Bool.le-ltb, Option.slice_get-get_or}
 use Rattle.std.specs.Prelude.{Option, IfSome, cond, slice_get, ◌-ℤ◌, ◌*ℤ◌}
-use Rattle.std.proofs.lemmas.Int.{ints}
-use Rattle.std.proofs.lemmas.Bool.{cases_lt, lt-ltb, le-ltb}
-use Rattle.std.proofs.lemmas.Option.{slice_get-get_or}
-use Rattle.dd_lattice.specs.Cells.{cell}
-use Rattle.dd_lattice.specs.declared.position.Cell.{Cell}
-use Rattle.dd_pattern.specs.declared.periods.Periods.{Periods}
-use Rattle.dd_pattern.specs.Periods.{base_of, residue, quotient, unsheared}
+use Rattle.dd_lattice.specs.{Cells.cell, lemmas.MoveLaws.place_same}
+use Rattle.dd_pattern.specs.{declared.periods.Periods.Periods, Periods.base_of, Periods.residue, Periods.quotient, Periods.unsheared}
 use Rattle.dd_pattern.specs.lemmas.Residues.{residue_small, quotient_small}
 use Rattle.dd_pattern.specs.Tile.{Tile, IsTile, IsPeriodic, IsInBox, tile_index, tile_look, cell_in}
-use Rattle.dd_pattern.specs.lemmas.BoxLaws.{cell_at_index, index_of_cell, in_box}
-use Rattle.dd_pattern.specs.lemmas.TileSizes.{index_below}
+use Rattle.dd_pattern.specs.lemmas.BoxLaws.{index_of_cell, in_box}
 use Rattle.dd_formula.specs.LocalRule.{LocalRule, IsRule, rule_allows, is_true, is_given}
-use Rattle.dd_formula.specs.Allowed.{HasAllowed}
-use Rattle.dd_formula.specs.Living.{Fits}
-use Rattle.dd_formula.specs.lemmas.Reached.{box_given}
+use Rattle.dd_formula.specs.{Allowed.HasAllowed, Living.Fits, lemmas.Reached.box_given}
 use Rattle.dd_boxes.specs.Boxes.{origin}
-use Rattle.dd_boxes.specs.lemmas.RuleLaws.{place_same}
+use Rattle.dd_question.specs.lemmas.AllowedLaws.{allowed_at_cell}
 
 -- ---- allowed symbols
 
--- the symbol with the number k is one that its node allows
+-- the symbol with the index k is one that its node allows
 abbrev pub IsAllowedAt : LocalRule → Tile → ℕ → Type 0
 IsAllowedAt r t k = rule_allows r (cell_in t k).node (get_or t.symbols k 0) ≡ true
-
--- what the test of a cell tells of its number
-pub allowed_is : (r : LocalRule) (t : Tile) (k : ℕ) (c : Cell) (symbol : ℕ) (b : Bool) → c ≡ cell_in t k → symbol ≡ get_or t.symbols k 0 →
-    b ≡ rule_allows r c.node symbol → rule_allows r (cell_in t k).node (get_or t.symbols k 0) ≡ b
-allowed_is r t k c symbol b is_cell is_symbol told =
-    sym (told ∙ (ap (λ (d : Cell). rule_allows r d.node symbol) is_cell ∙ ap (rule_allows r (cell_in t k).node) is_symbol))
-
-allowed_at_cell : (r : LocalRule) (t : Tile) (c : Cell) → IsTile t → ((k : ℕ) → k < length t.symbols → IsAllowedAt r t k) → c.node < t.nodes →
-    IfSome (tile_look t c) (λ s. rule_allows r c.node s ≡ true)
-allowed_at_cell r t c tile all node =
-    let k = tile_index t c in
-    let within : k < length t.symbols = index_below t tile c node in
-    let same : (cell_in t k).node ≡ c.node = ap (λ (d : Cell). d.node) (cell_at_index t tile c.position c.node node) in
-    let here : rule_allows r c.node (get_or t.symbols k 0) ≡ true = subst (λ a. rule_allows r a (get_or t.symbols k 0) ≡ true) same (all k within) in
-    let look : tile_look t c ≡ Some (get_or t.symbols k 0) =
-    ap (λ b. cond b (slice_get t.symbols k) None) (lt-ltb c.node t.nodes node) ∙ slice_get-get_or t.symbols k 0 within in
-    subst (λ (o : Option ℕ). IfSome o (λ s. rule_allows r c.node s ≡ true)) (sym look) here
 
 pub allowed_from_box : (r : LocalRule) (t : Tile) → IsTile t → ((k : ℕ) → k < length t.symbols → IsAllowedAt r t k) → HasAllowed r t
 allowed_from_box r t tile all c =
@@ -74,7 +50,7 @@ base_of-origin p x y z =
 pub origin_in_box : (t : Tile) (a : ℕ) → IsTile t → a < t.nodes → IsInBox t (cell origin a)
 origin_in_box t a tile node = record { base = base_of-origin t.periods tile.periods.x_some tile.periods.y_some tile.periods.z_some; node = node }
 
--- so all that is read there is given
+-- so the symbols of all cells that are read there are given
 pub origin_told : (r : LocalRule) (t : Tile) (a : ℕ) (answer : Option Bool) → IsRule r → Fits r t → IsPeriodic t → a < r.nodes →
     answer ≡ cond (is_given r (cell origin a) (tile_look t)) (Some (is_true r (cell origin a) (tile_look t))) None →
     answer ≡ Some (is_true r (cell origin a) (tile_look t))

@@ -1,19 +1,15 @@
 -- The place of a cell, as an answer gives it.
 use Rattle.std.proofs.Common.{◌≡◌, ℕ, ◌+◌, ◌≤◌, Bool, true, List, [], ◌∷◌, ◌++◌, length, take, get_or, ap, sym, ◌∙◌, arith, ℤ, pos, length-append}
-use Rattle.std.specs.Prelude.{◌↔◌}
-use lib.Pointwise.{pointwise}
-use Rattle.std.specs.Ordering.{int_eq}
-use Rattle.std.proofs.lemmas.Bool.Decides.{Decides-int_eq}
-use Rattle.std.proofs.lemmas.Slice.Eq.{slice_eq-Decides}
+use Rattle.std.proofs.lemmas.{Bool.Decides.Decides-int_eq, Slice.Eq.slice_eq-Decides}
 use Rattle.std.proofs.lemmas.List.{take_all, take_more, take-append-le, append_cancel_left, length-take-le}
-use Rattle.dd_formula.specs.LocalRule.{LocalRule}
+use Rattle.std.specs.{Prelude.◌↔◌, Ordering.int_eq}
+use lib.Pointwise.{pointwise}
+use Rattle.dd_formula.specs.{LocalRule.LocalRule, Living.IsFirstFalse, lemmas.FirstCells.first_cell}
 use Rattle.dd_lattice.specs.declared.position.Cell.{Cell}
 use Rattle.dd_pattern.specs.Tile.{Tile}
-use Rattle.dd_formula.specs.Living.{IsFirstFalse}
 use Rattle.dd_evidence.specs.Cells.{written_cell, IsOutside}
-use Rattle.dd_formula.specs.lemmas.FirstCells.{first_cell}
 
--- d coordinates of xs, and then n
+-- the first d coordinates of xs, followed by n
 module _ (d n : ℕ) (xs place : List ℤ) (few : d ≤ length xs) where
   pub place_length : place ≡ take d xs ++ pos n ∷ [] → length place ≡ d + 1
   place_length is =
@@ -39,7 +35,7 @@ module _ (d n : ℕ) (xs place : List ℤ) (few : d ≤ length xs) where
   place_whole z many last front =
       split z many ∙ (ap (λ f. f ++ get_or place d z ∷ []) front ∙ ap (λ l. take d xs ++ l ∷ []) last)
 
--- where the first cell at which the rule is false is known, its place is the only one
+-- if the first cell at which the rule is false is known, only its place is right
 pub outside_at : (x : LocalRule) (t : Tile) (c : Cell) (d : ℕ) (place : List ℤ) (b : Bool) → d ≡ x.dimension → IsFirstFalse x t c →
     (b ≡ true) ↔ (place ≡ written_cell d c) → (b ≡ true) ↔ IsOutside x t place
 outside_at x t c d place b same first told = (

@@ -1,10 +1,8 @@
--- From the tests of numbers one by one to what an output can hold.
+-- From tests of single numbers to what an output can hold.
 use Rattle.std.proofs.Common.{◌≡◌, ℕ, ◌≤◌, Bool, true, List, length, sym, ◌∙◌, ℤ}
-use Rattle.std.specs.Prelude.{◌↔◌, nat_le, unsigned_abs}
-use Rattle.std.specs.List.{All, list_all}
-use Rattle.std.proofs.lemmas.Bool.{leb-true, le-leb}
-use Rattle.std.proofs.lemmas.List.Elements.{All-weaker}
+use Rattle.std.proofs.lemmas.{Bool.leb-true, Bool.le-leb, List.Elements.All-weaker}
 use Rattle.std.proofs.lemmas.List.Sums.{AllPass-from_list_all, list_all-from_AllPass}
+use Rattle.std.specs.{Prelude.◌↔◌, Prelude.nat_le, Prelude.unsigned_abs, List.All, List.list_all}
 use Rattle.dd_certificate.specs.Bounds.{most_number, IsWritableNumber, IsWritableSigned, IsWritableList}
 
 module _ {X : Type 0} (size : X → ℕ) (xs : List X) (b : Bool) (is : b ≡ list_all (λ x. nat_le (size x) most_number) xs) where

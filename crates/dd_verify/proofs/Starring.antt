@@ -1,22 +1,12 @@
 -- What the minimal patterns of a rule say.
 use Rattle.std.proofs.Common.{◌≡◌, ℕ, ◌<◌, Bool, true, false, List, [], Some, None, refl, ap, sym, ◌∙◌}
-use Rattle.std.specs.Prelude.{◌↔◌, Option, nat_eq}
-use Rattle.std.specs.List.{All}
-use Rattle.std.specs.Bool.{Decides}
-use Rattle.std.specs.Option.{option_eq}
-use Rattle.std.specs.Cmp.Lexicographic.{pointwise}
-use Rattle.std.proofs.lemmas.Bool.{false≢true}
-use Rattle.std.proofs.lemmas.Bool.Decides.{Decides-eqb}
-use Rattle.std.proofs.lemmas.Slice.Eq.{slice_eq-Decides}
+use Rattle.std.proofs.lemmas.{Bool.false≢true, Bool.Decides.Decides-eqb, Slice.Eq.slice_eq-Decides}
+use Rattle.std.specs.{Prelude.◌↔◌, Prelude.Option, Prelude.nat_eq, List.All, Bool.Decides, Option.option_eq, Cmp.Lexicographic.pointwise}
 use Rattle.dd_formula.specs.LocalRule.{LocalRule, IsRule, cells_at}
 use Rattle.dd_forbidden.specs.Breaking.{are_allowed, is_true_at_origin}
-use Rattle.dd_minimal.specs.Patterns.{is_covered}
-use Rattle.dd_minimal.specs.Minimal.{IsMinimalList}
-use Rattle.dd_minimal.specs.Claims.{NeedsEach, AreNew}
-use Rattle.dd_certificate.specs.declared.answer.Starred.{Starred}
-use Rattle.dd_certificate.specs.declared.answer.Answer.{Answer}
-use Rattle.dd_evidence.specs.Lists.{starred, IsStarredList, patterns_at}
-use Rattle.dd_evidence.specs.Answers.{IsMinimalCertificate, all_minimal}
+use Rattle.dd_minimal.specs.{Patterns.is_covered, Minimal.IsMinimalList, Claims.NeedsEach, Claims.AreNew}
+use Rattle.dd_certificate.specs.declared.answer.{Starred.Starred, Answer.Answer}
+use Rattle.dd_evidence.specs.{Lists.starred, Lists.IsStarredList, Lists.patterns_at, Answers.IsMinimalCertificate, Answers.all_minimal}
 use Rattle.dd_verify.specs.Holding.{TellsCovered, SayMinimal, MinimalClaim, says_minimal}
 use Rattle.dd_verify.proofs.Listing.{says_kept}
 
@@ -31,7 +21,7 @@ AreNeeded = (r : LocalRule) (a : ℕ) (ps : List (List (Option ℕ))) → IsRule
 abbrev AllAreNew : Type 0
 AllAreNew = (r : LocalRule) (a : ℕ) (ps : List (List (Option ℕ))) → IsMinimalList r a ps → AreNew r a [] ps
 
--- and of what is listed of all nodes
+-- the same for the lists of all nodes
 abbrev HaveNodes : Type 0
 HaveNodes = (x : LocalRule) (patterns : List Starred) → IsStarredList x patterns → All (λ p. p.node < x.nodes) patterns
 

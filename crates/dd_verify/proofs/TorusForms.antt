@@ -1,38 +1,27 @@
--- Answers to how little a fundamental box can weigh: their configurations, the room that their clauses have, that an output can
--- hold them, and what they claim.
+-- Answers to the question how little a fundamental box can weigh: their configurations, the size of their clauses, that an
+-- output can hold them, and what they claim.
 use Rattle.std.proofs.Common.{◌≡◌, ◌≢◌, ℕ, suc, ◌*◌, ◌<◌, ◌≤◌, Bool, true, List, [], ◌∷◌, length, inl, inr, refl, ap, sym, subst, ◌∙◌, arith}
-use Rattle.std.specs.Prelude.{◌↔◌, max}
-use Rattle.std.specs.List.{All}
 use Rattle.std.proofs.lemmas.Nat.{mul-le}
+use Rattle.std.specs.{Prelude.◌↔◌, List.All}
 use Rattle.dd_values.specs.Bounds.{most_weight}
-use Rattle.dd_pattern.specs.declared.periods.Periods.{Periods}
-use Rattle.dd_pattern.specs.Periods.{periods_of, periods_volume}
-use Rattle.dd_pattern.specs.Tile.{Tile, tile, IsTile, IsPeriodic, most_symbols}
-use Rattle.dd_pattern.specs.Weight.{AreWeights, total_weight}
+use Rattle.dd_pattern.specs.{declared.periods.Periods.Periods, Periods.periods_of, Periods.periods_volume}
+use Rattle.dd_pattern.specs.{Tile.Tile, Tile.tile, Tile.IsTile, Tile.IsPeriodic, Tile.most_symbols, Weight.AreWeights, Weight.total_weight}
 use Rattle.dd_expansion.specs.Limits.{greatest}
-use Rattle.dd_formula.specs.LocalRule.{LocalRule, IsRule}
-use Rattle.dd_formula.specs.Living.{Fits}
+use Rattle.dd_formula.specs.{LocalRule.LocalRule, LocalRule.IsRule, Living.Fits}
 use Rattle.dd_strip.specs.Strips.{HasWeights}
-use Rattle.dd_derivation.specs.declared.step.Step.{Step}
-use Rattle.dd_derivation.specs.Derivations.{IsRefuting}
-use Rattle.dd_boxes.specs.Goals.{always}
-use Rattle.dd_boxes.specs.Counts.{most_clauses}
-use Rattle.dd_boxes.specs.Witnesses.{IsWitness}
-use Rattle.dd_problem.specs.TorusPeriods.{AreTorusPeriods}
-use Rattle.dd_counter.specs.Weights.{weight_problem, weight_count}
-use Rattle.dd_counter.specs.Least as counted
-use Rattle.dd_counter.specs.Laws.{SaysWeights}
-use Rattle.dd_counter.specs.lemmas.Counted.{weight_most}
+use Rattle.dd_derivation.specs.{declared.step.Step.Step, Derivations.IsRefuting}
+use Rattle.dd_boxes.specs.{Goals.always, Counts.most_clauses, Witnesses.IsWitness, TorusPeriods.AreTorusPeriods}
+use Rattle.dd_counter.specs.{Weights.weight_problem, Weights.weight_count, Laws.SaysWeights, lemmas.Counted.weight_most}
 use Rattle.dd_counter.specs.lemmas.Rooms.{room_at}
 use Rattle.dd_certificate.specs.declared.answer.Answer.{Answer}
-use Rattle.dd_certificate.specs.declared.answer.Answer.TheVariants as answer
 use Rattle.dd_certificate.specs.Bounds.{IsWritable, IsWritableNumber, IsWritableList, IsWritableBelow, IsWritableRefutation}
-use Rattle.dd_question.specs.Tori.{IsTorus, IsWeighable}
+use Rattle.dd_question.specs.Tori.{IsWeighable}
 use Rattle.dd_verify.specs.Tori.{torus_tile, HasWeight, IsBoundedBy, IsTorusCertificate, torus_least, torus_none, TorusClaim, claims_least_on, claims_none_on}
+use Rattle.dd_certificate.specs.declared.answer.Answer.TheVariants as answer
 
 -- ---- the configuration
 
--- that the code makes of the symbols
+-- the configuration that the code makes from the symbols
 pub torus_made : (x : LocalRule) (along : List ℕ) (d n : ℕ) (items symbols : List ℕ) → d ≡ x.dimension → n ≡ x.nodes → items ≡ symbols →
     tile d (periods_of along 0) n items ≡ torus_tile x along symbols
 torus_made x along d n items symbols d_is n_is symbols_are =
@@ -46,14 +35,14 @@ pub fits_torus : (x : LocalRule) (along symbols : List ℕ) → All (λ s. s < x
 fits_torus x along symbols below = record { dimension = refl; nodes = refl; symbols = below }
 
 -- it has few enough symbols
-pub torus_small : (x : LocalRule) (along symbols : List ℕ) → IsTorus x along → IsTile (torus_tile x along symbols) → IsPeriodic (torus_tile x along symbols)
+pub torus_small : (x : LocalRule) (along symbols : List ℕ) → AreTorusPeriods x.dimension x.nodes (periods_of along 0) → IsTile (torus_tile x along symbols) → IsPeriodic (torus_tile x along symbols)
 torus_small x along symbols torus is =
     record { tile = is; small = (let full = is.full in let few = torus.few in omega (arith, full, few)) }
 
 pub on_torus_of : {x : LocalRule} {along ws : List ℕ} {w : ℕ} {symbols : List ℕ} → HasWeight x along ws w symbols → IsOnTorus x along symbols
 on_torus_of told = (told.lives.tile, told.lives.fits)
 
--- what is tested of the configuration, is tested of its symbols
+-- a test of the configuration is a test of its symbols
 pub weight_decides : (x : LocalRule) (along ws : List ℕ) (w : ℕ) (symbols : List ℕ) (t : Tile) (b : Bool) → t ≡ torus_tile x along symbols →
     (b ≡ true) ↔ (IsWitness x always t × (total_weight ws t.symbols ≡ w)) → (b ≡ true) ↔ HasWeight x along ws w symbols
 weight_decides x along ws w symbols t b is told = (
@@ -67,17 +56,9 @@ weights_for x ws t weights fits =
 
 -- ---- the clauses
 
-pub torus_of : (x : LocalRule) (along : List ℕ) → IsTorus x along → AreTorusPeriods x (periods_of along 0)
-torus_of x along torus = record { periods = torus.periods; few = torus.few }
-
-same_greatest : (ws : List ℕ) → counted.greatest ws ≡ greatest ws
-same_greatest [] = refl
-same_greatest (w ∷ ws) = ap (max w) (same_greatest ws)
-
 room_most : (x : LocalRule) (along ws : List ℕ) → IsWeighable x along ws →
-    weight_count x (periods_of along 0) ws (periods_volume (periods_of along 0) * x.nodes * counted.greatest ws) ≤ most_clauses
-room_most x along ws weighable =
-    subst (λ g. weight_count x (periods_of along 0) ws (periods_volume (periods_of along 0) * x.nodes * g) ≤ most_clauses) (sym (same_greatest ws)) weighable.small
+    weight_count x (periods_of along 0) ws (periods_volume (periods_of along 0) * x.nodes * greatest ws) ≤ most_clauses
+room_most x along ws weighable = weighable.small
 
 pub room_of : (x : LocalRule) (along ws : List ℕ) (w : ℕ) (symbols : List ℕ) → IsWeighable x along ws → HasWeight x along ws w symbols →
     weight_count x (periods_of along 0) ws w ≤ most_clauses
@@ -101,7 +82,7 @@ pub none_of : {x : LocalRule} {along ws : List ℕ} {steps : List Step} → IsTo
     IsRefuting (weight_problem x (periods_of along 0) ws 0) steps
 none_of (torus_none h) = h
 
--- an answer of another form
+-- an answer of another form is no certificate
 pub no_torus : (x : LocalRule) (along ws : List ℕ) (a : Answer) → ((w : ℕ) (symbols : List ℕ) (steps : List Step) → a ≢ answer.Least w symbols steps) →
     ((steps : List Step) → a ≢ answer.Nothing steps) → IsTorusCertificate x along ws a → ⊥
 no_torus x along ws a least_form none_form (torus_least has bounded) = least_form _ _ _ refl
@@ -109,11 +90,11 @@ no_torus x along ws a least_form none_form (torus_none h) = none_form _ refl
 
 -- ---- what an output can hold
 
-all_most : (ws : List ℕ) → All (λ w. w ≤ most_weight) ws → counted.greatest ws ≤ most_weight
+all_most : (ws : List ℕ) → All (λ w. w ≤ most_weight) ws → greatest ws ≤ most_weight
 all_most [] small = omega arith
 all_most (w ∷ ws) small =
     let first : w ≤ most_weight = small 0 w (omega arith) in
-    let rest : counted.greatest ws ≤ most_weight = all_most ws (λ k d below. small (suc k) d (omega (arith, below))) in
+    let rest : greatest ws ≤ most_weight = all_most ws (λ k d below. small (suc k) d (omega (arith, below))) in
     omega (arith, first, rest)
 
 module _ (x : LocalRule) (along ws : List ℕ) (rule : IsRule x) (weighable : IsWeighable x along ws) (w : ℕ) (symbols : List ℕ) (has : HasWeight x along ws w symbols) where
@@ -122,11 +103,11 @@ module _ (x : LocalRule) (along ws : List ℕ) (rule : IsRule x) (weighable : Is
 
   pub weight_fits : IsWritableNumber w
   weight_fits =
-      let le : total_weight ws symbols ≤ length symbols * counted.greatest ws = weight_most ws symbols in
+      let le : total_weight ws symbols ≤ length symbols * greatest ws = weight_most ws symbols in
       let few : periods_volume (periods_of along 0) * x.nodes ≤ most_symbols = weighable.torus.few in
       let cells : length symbols ≤ 65536 = (let full = many in omega (arith, few, full)) in
-      let bound : length symbols * counted.greatest ws ≤ 65536 * most_weight =
-      mul-le (length symbols) (counted.greatest ws) 65536 most_weight cells (all_most ws weighable.weights.small) in
+      let bound : length symbols * greatest ws ≤ 65536 * most_weight =
+      mul-le (length symbols) (greatest ws) 65536 most_weight cells (all_most ws weighable.weights.small) in
       let is = has.weighs in
       omega (arith, le, bound, is)
 
@@ -148,7 +129,7 @@ module _ (x : LocalRule) (along ws : List ℕ) (rule : IsRule x) (weighable : Is
     λ both. told.1 (both.0.2, bounded_of both.1),
   )
 
--- with 0 there is nothing to refute, and there are no steps
+-- with the weight 0 there is nothing to refute, and there are no steps
 pub nothing_below : (x : LocalRule) (along ws : List ℕ) (w : ℕ) (steps : List Step) (b : Bool) → w ≡ 0 → (b ≡ true) ↔ (steps ≡ []) →
     (b ≡ true) ↔ (IsWritableBelow w steps × IsBoundedBy x along ws w steps)
 nothing_below x along ws w steps b zero_is told = (
@@ -159,7 +140,7 @@ nothing_below x along ws w steps b zero_is told = (
   ],
 )
 
--- with more there are steps, of a refutation
+-- with a greater weight, the steps are those of a refutation
 pub something_below : (x : LocalRule) (along ws : List ℕ) (w : ℕ) (steps : List Step) (b : Bool) → w ≢ 0 →
     (b ≡ true) ↔ IsRefuting (weight_problem x (periods_of along 0) ws w) steps → (b ≡ true → IsWritableRefutation steps) →
     (b ≡ true) ↔ (IsWritableBelow w steps × IsBoundedBy x along ws w steps)
@@ -175,12 +156,12 @@ none_decides x along ws steps b told fit = (λ h. (fit h, torus_none (told.0 h))
 
 -- the law of weights
 abbrev AreSaid : LocalRule → Type 0
-AreSaid x = (p : Periods) (ws : List ℕ) → AreTorusPeriods x p → length ws ≡ x.symbols → SaysWeights x p ws
+AreSaid x = (p : Periods) (ws : List ℕ) → AreTorusPeriods x.dimension x.nodes p → length ws ≡ x.symbols → SaysWeights x p ws
 
 pub torus_claims : (x : LocalRule) (along ws : List ℕ) → AreSaid x → IsWeighable x along ws → (a : Answer) → IsTorusCertificate x along ws a → TorusClaim x along ws a
 torus_claims x along ws said weighable a (torus_least {w = w} {symbols = symbols} {steps = steps} has bounded) =
-    let says = said (periods_of along 0) ws (torus_of x along weighable.torus) weighable.weights.each in
+    let says = said (periods_of along 0) ws weighable.torus weighable.weights.each in
     claims_least_on (says.least w (torus_tile x along symbols) steps (refl, has.lives) has.weighs bounded)
 torus_claims x along ws said weighable a (torus_none {steps = steps} h) =
-    let says = said (periods_of along 0) ws (torus_of x along weighable.torus) weighable.weights.each in
+    let says = said (periods_of along 0) ws weighable.torus weighable.weights.each in
     claims_none_on (says.none steps h)

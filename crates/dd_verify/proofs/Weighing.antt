@@ -1,8 +1,7 @@
--- From the checks of densities and bounds to what is a certificate and can be written, and what it claims.
+-- From the checks of densities and bounds to certificates that can be written, and what they claim.
 use Rattle.std.proofs.Common.{◌≡◌, ℕ, ◌+◌, Bool, true, false, List, refl, sym, ◌∙◌, ℤ}
+use Rattle.std.proofs.lemmas.{Bool.false≢true, Result.IfOk-weaker}
 use Rattle.std.specs.Prelude.{◌↔◌, Result, IfOk}
-use Rattle.std.proofs.lemmas.Bool.{false≢true}
-use Rattle.std.proofs.lemmas.Result.{IfOk-weaker}
 use Rattle.dd_lattice.specs.Place.{Place}
 use Rattle.dd_expansion.specs.Limits.{greatest}
 use Rattle.dd_formula.specs.LocalRule.{LocalRule, IsRule}
@@ -10,18 +9,16 @@ use Rattle.dd_counts.specs.Rules.{window}
 use Rattle.dd_strip.specs.Strips.{IsStrip, strip_for}
 use Rattle.dd_transfer.specs.Certificates.{IsDensityCertificate, IsEmptyCertificate}
 use Rattle.dd_strips.specs.Claims.{StripLeast, StripEmpty, spread_of}
-use Rattle.dd_discharge.specs.declared.bound.Bound.{Bound}
-use Rattle.dd_discharge.specs.Amounts.{bound_claimed}
+use Rattle.dd_discharge.specs.{declared.bound.Bound.Bound, Amounts.bound_claimed, Certificates.IsBoundCertificate, Certificates.BestOf}
 use Rattle.dd_boxes.specs.Discharges.{AreVectors}
-use Rattle.dd_discharge.specs.Certificates.{IsBoundCertificate, BestOf}
 use Rattle.dd_sides.specs.Lifted.{HoldsOnSides}
 use Rattle.dd_certificate.specs.declared.answer.Answer.{Answer}
-use Rattle.dd_certificate.specs.declared.answer.Answer.TheVariants as answer
-use Rattle.dd_verify.proofs.Deciding.{if_both}
 use Rattle.dd_verify.proofs.WholeSides.{configurations_hold}
 use Rattle.dd_verify.specs.Bounds.{IsStripCertificate, strip_least, strip_empty, StripClaim, claims_least, claims_empty, IsDischargeCertificate, best, too_large, overflow, no_pivots, DischargeClaim, claims_bound, no_claim}
+use Rattle.dd_values.specs.lemmas.Results.{if_ok_both}
+use Rattle.dd_certificate.specs.declared.answer.Answer.TheVariants as answer
 
--- ---- a test of what can be written, and then one of what is shown
+-- ---- a test of what can be written, then a test of what is shown
 
 pub not_written : (b : Bool) (A B : Type 0) → (b ≡ true) ↔ A → b ≡ false → (false ≡ true) ↔ (A × B)
 not_written b A B told fails = (λ h. absurd (false≢true h), λ both. absurd (false≢true (sym fails ∙ told.1 both.0)))
@@ -29,15 +26,15 @@ not_written b A B told fails = (λ h. absurd (false≢true h), λ both. absurd (
 pub written : {E : Type 0} (r : Result Bool E) (A B : Type 0) → A → IfOk r (λ b. (b ≡ true) ↔ B) → IfOk r (λ b. (b ≡ true) ↔ (A × B))
 written r A B a told = IfOk-weaker r (λ b. (b ≡ true) ↔ B) (λ b. (b ≡ true) ↔ (A × B)) (λ b is. (λ h. (a, is.0 h), λ both. is.1 both.1)) told
 
--- a test that says no only of what does not hold says yes of what holds
+-- a test that is false only of what doesn't hold is true of what holds
 told_so : (b : Bool) (A : Type 0) → (b ≡ false → A → ⊥) → A → b ≡ true
 told_so true A refuted a = refl
 told_so false A refuted a = absurd (refuted refl a)
 
--- an answer that is yes of what holds alone, and no of what does not
+-- an answer that is yes only of what holds, and no only of what doesn't
 pub decided_so : {E : Type 0} (r : Result Bool E) (A : Type 0) → IfOk r (λ b. b ≡ true → A) → IfOk r (λ b. b ≡ false → A → ⊥) → IfOk r (λ b. (b ≡ true) ↔ A)
 decided_so r A shown refuted =
-    if_both r (λ b. b ≡ true → A) (λ b. b ≡ false → A → ⊥) (λ b. (b ≡ true) ↔ A) (λ b here never. (here, told_so b A never)) shown refuted
+    if_ok_both r (λ b. b ≡ true → A) (λ b. b ≡ false → A → ⊥) (λ b. (b ≡ true) ↔ A) (λ b here never. (here, told_so b A never)) shown refuted
 
 -- ---- the forms of certificates
 

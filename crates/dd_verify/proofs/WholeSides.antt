@@ -1,32 +1,20 @@
--- What the admissible fillings within reach of a box weigh on it, each configuration that obeys the rule weighs too.
+-- A bound on what admissible fillings weigh on a box holds for each configuration that obeys the rule.
 use Rattle.std.proofs.Common.{◌≡◌, ◌<◌, ◌≤◌, ◌+◌, ◌*◌, ◌^◌, ℕ, Bool, true, false, List, length, refl, ap, ◌∙◌, arith, None}
-use Rattle.std.specs.Prelude.{◌&&◌, ◌||◌, ℤ, pos, ◌+ℤ◌, ◌-ℤ◌, cond, nat_lt, int_le, int_lt, is_some, unwrap_or}
-use Rattle.std.specs.List.{range_with_len}
-use Rattle.std.specs.Ordering.{int_eq}
 use Rattle.std.proofs.lemmas.Bool.{and_parts, and_from, cond_both, lt-ltb, ltb-true}
-use Rattle.std.proofs.lemmas.Bool.Decides.{Decides-int_eq}
-use Rattle.std.proofs.lemmas.Int.{ints}
-use Rattle.std.proofs.Math.Nat.{mul-le-mul}
-use Rattle.dd_lattice.specs.Place.{Place}
-use Rattle.dd_lattice.specs.Cells.{cell, shifted}
-use Rattle.dd_lattice.specs.Boxes.{is_active}
-use Rattle.dd_lattice.specs.declared.position.Cell.{Cell}
-use Rattle.dd_pattern.specs.Reading.{Look}
-use Rattle.dd_pattern.specs.Weight.{total_weight}
+use Rattle.std.proofs.{lemmas.Bool.Decides.Decides-int_eq, lemmas.Int.ints, Math.Nat.mul-le-mul}
+use Rattle.std.specs.Prelude.{◌&&◌, ◌||◌, ℤ, pos, ◌+ℤ◌, ◌-ℤ◌, cond, nat_lt, int_le, int_lt, is_some, unwrap_or}
+use Rattle.std.specs.{List.range_with_len, Ordering.int_eq}
+use Rattle.dd_lattice.specs.{Place.Place, Cells.cell, Cells.shifted, Boxes.is_active, declared.position.Cell.Cell}
+use Rattle.dd_pattern.specs.{Reading.Look, Weight.total_weight}
 use Rattle.dd_expansion.specs.Placed.{is_flat}
-use Rattle.dd_formula.specs.LocalRule.{LocalRule, IsRule, rule_allows}
-use Rattle.dd_formula.specs.Living.{Obeys}
-use Rattle.dd_boxes.specs.Fillings.{Admissible, IsConfiguration}
-use Rattle.dd_boxes.specs.lemmas.RuleLaws.{reads_given, keeps_at}
-use Rattle.dd_boxes.specs.lemmas.CutLaws.{cond_domain, cond_symbols}
-use Rattle.dd_discharge.specs.declared.bound.Bound.{Bound}
-use Rattle.dd_discharge.specs.Amounts.{held_over}
+use Rattle.dd_formula.specs.{LocalRule.LocalRule, LocalRule.IsRule, LocalRule.rule_allows, Living.Obeys}
+use Rattle.dd_boxes.specs.{Fillings.Admissible, Fillings.IsConfiguration, lemmas.RuleLaws.reads_given, lemmas.RuleLaws.keeps_at}
+use Rattle.dd_boxes.specs.lemmas.CutLaws.{cond_symbols}
+use Rattle.dd_discharge.specs.{declared.bound.Bound.Bound, Amounts.held_over}
 use Rattle.dd_sides.specs.Sides.{side_length, side, is_near_run, is_in_grown, is_grown_cell, IsSideFilling, position_weight, side_weight}
-use Rattle.dd_sides.specs.Boundaries.{boundary}
-use Rattle.dd_sides.specs.Lifted.{reach_of, HoldsOnSides}
-use Rattle.dd_sides.specs.lemmas.BoxLaws.{IsAt, box_at_most}
-use Rattle.dd_sides.specs.lemmas.GroundCells.{active_first, range_below}
-use Rattle.dd_sides.specs.lemmas.WordLaws.{mapped_alike}
+use Rattle.dd_sides.specs.{Boundaries.boundary, Lifted.reach_of, Lifted.HoldsOnSides, lemmas.BoxLaws.IsAt, lemmas.BoxLaws.box_at_most}
+use Rattle.dd_sides.specs.lemmas.{GroundCells.active_first, GroundCells.range_below, WordLaws.mapped_alike}
+use Rattle.dd_values.specs.lemmas.Booleans.{cond_domain}
 
 -- ---- the grown box lies in Z^d
 
@@ -43,7 +31,7 @@ grown_flat d n e u p h =
     let inner = and_parts on_x on_y outer.0 in
     and_from (nat_lt 1 d || int_eq p.y (pos 0)) (nat_lt 2 d || int_eq p.z (pos 0)) (near_flat (is_active d 1) n e u.y p.y inner.1) (near_flat (is_active d 2) n e u.z p.z outer.1)
 
--- ---- and the box lies in it
+-- ---- the box lies in the grown box
 
 on_near : (n e i : ℕ) (a c : ℤ) → i < n → c ≡ a +ℤ pos i → (int_le (a -ℤ pos e) c && int_lt c (a +ℤ pos (n + e))) ≡ true
 on_near n e i a c low is = grind (arith, ints)

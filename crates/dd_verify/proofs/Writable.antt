@@ -1,26 +1,18 @@
--- An output can hold each certificate: its numbers are small, and the steps are those of a refutation.
+-- An output can hold each certificate: its numbers are small, and its steps are those of a refutation.
 use Rattle.std.proofs.Common.{◌≡◌, ℕ, zero, suc, ◌*◌, ◌≤◌, ◌<◌, List, length, get_or, arith, ℤ, inl, inr}
+use Rattle.std.proofs.lemmas.{Bool.cases_lt, Nat.mul-le, List.Elements.All-from_get_or}
 use Rattle.std.specs.List.{All}
-use Rattle.std.proofs.lemmas.Bool.{cases_lt}
-use Rattle.std.proofs.lemmas.Nat.{mul-le}
-use Rattle.std.proofs.lemmas.List.Elements.{All-from_get_or}
-use Rattle.dd_pattern.specs.Periods.{periods_volume}
-use Rattle.dd_pattern.specs.Tile.{Tile, IsPeriodic}
+use Rattle.dd_pattern.specs.{Periods.periods_volume, Tile.Tile, Tile.IsPeriodic}
 use Rattle.dd_derivation.specs.declared.step.Step.{Step}
-use Rattle.dd_formula.specs.LocalRule.{LocalRule, IsRule}
-use Rattle.dd_formula.specs.Living.{Fits}
-use Rattle.dd_values.specs.declared.limits.Limits.{Limits}
-use Rattle.dd_boxes.specs.Goals.{GoalOf, IsGoalFor, KeepsRule}
-use Rattle.dd_boxes.specs.lemmas.ReachLaws.{least_near}
-use Rattle.dd_certificate.specs.declared.answer.Side.{Side}
-use Rattle.dd_certificate.specs.declared.answer.Answer.{Answer}
-use Rattle.dd_certificate.specs.declared.answer.Answer.TheVariants as answer
+use Rattle.dd_formula.specs.{LocalRule.LocalRule, LocalRule.IsRule, Living.Fits}
+use Rattle.dd_values.specs.{declared.limits.Limits.Limits, Ranges.AreLimits}
+use Rattle.dd_boxes.specs.{Goals.GoalOf, Goals.IsGoalFor, Goals.KeepsRule, lemmas.ReachLaws.least_near}
+use Rattle.dd_certificate.specs.declared.answer.{Side.Side, Answer.Answer}
 use Rattle.dd_certificate.specs.Bounds.{IsWritable, IsWritableNumber, HasShear}
-use Rattle.dd_evidence.specs.Cells.{IsOutside}
-use Rattle.dd_evidence.specs.Tiles.{given_periods}
+use Rattle.dd_evidence.specs.{Cells.IsOutside, Tiles.given_periods}
 use Rattle.dd_evidence.specs.Answers.{IsMemberCertificate, member_inside, member_outside}
 use Rattle.dd_verify.specs.Evidence.{IsYes, IsNo}
-use Rattle.dd_values.specs.Ranges.{AreLimits}
+use Rattle.dd_certificate.specs.declared.answer.Answer.TheVariants as answer
 
 -- ---- places
 

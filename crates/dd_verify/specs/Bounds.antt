@@ -1,52 +1,46 @@
--- Which answers to questions of least densities and of discharging are certificates, and what they claim.
+-- Which answers to questions about least densities and discharging are certificates, and what they claim.
 use Rattle.std.specs.Prelude.{ℕ, ◌+◌, ◌*◌, ◌^◌, ◌≤◌, ◌≡◌, true, ℤ, List, length}
 use Rattle.dd_lattice.specs.Place.{Place}
 use Rattle.dd_pattern.specs.Reading.{Look}
-use Rattle.dd_expansion.specs.Limits.{greatest}
-use Rattle.dd_expansion.specs.Placed.{is_flat}
-use Rattle.dd_formula.specs.LocalRule.{LocalRule}
-use Rattle.dd_formula.specs.Living.{Obeys}
+use Rattle.dd_expansion.specs.{Limits.greatest, Placed.is_flat}
+use Rattle.dd_formula.specs.{LocalRule.LocalRule, Living.Obeys}
 use Rattle.dd_boxes.specs.Fillings.{IsConfiguration}
 use Rattle.dd_counts.specs.Rules.{window}
 use Rattle.dd_strip.specs.Strips.{strip_for}
 use Rattle.dd_transfer.specs.Certificates.{IsInLowestTerms, walk_weight, IsDensityCertificate, IsEmptyCertificate}
 use Rattle.dd_strips.specs.Claims.{StripLeast, StripEmpty, spread_of}
-use Rattle.dd_discharge.specs.declared.bound.Bound.{Bound}
-use Rattle.dd_discharge.specs.Amounts.{bound_claimed, held_over}
+use Rattle.dd_discharge.specs.{declared.bound.Bound.Bound, Amounts.bound_claimed, Amounts.held_over}
 use Rattle.dd_discharge.specs.Certificates.{IsBoundCertificate, BestOf}
-use Rattle.dd_sides.specs.Sides.{side_weight}
-use Rattle.dd_sides.specs.Boundaries.{boundary}
-use Rattle.dd_sides.specs.Lifted.{HoldsOnSides}
-use Rattle.dd_certificate.specs.declared.answer.Reason.{Reason}
+use Rattle.dd_sides.specs.{Sides.side_weight, Boundaries.boundary, Lifted.HoldsOnSides}
+use Rattle.dd_certificate.specs.declared.answer.{Reason.Reason, Answer.Answer}
 use Rattle.dd_certificate.specs.declared.answer.Reason.TheVariants as reason
-use Rattle.dd_certificate.specs.declared.answer.Answer.{Answer}
 use Rattle.dd_certificate.specs.declared.answer.Answer.TheVariants as answer
 
--- ---- least densities: a closed walk through the strip's transfer graph, with potentials that show that none is lighter; or ranks
--- that show that there is none
+-- ---- least densities: a closed walk through the strip's transfer graph, with potentials that show that no walk is lighter; or
+-- ranks that show that there is no closed walk
 
--- a certificate of the least density, or of there being none
+-- a certificate of the least density, or of there being no configuration
 pub data IsStripCertificate (x : LocalRule) (strip ws : List ℕ) : Answer → Type 0 where
   strip_least : {p q : ℕ} {cycle : List ℕ} {potentials : List ℤ} → IsDensityCertificate x (strip_for x strip) ws p q cycle potentials →
       IsStripCertificate x strip ws (answer.Density p q cycle potentials)
   strip_empty : {ranks : List ℕ} → IsEmptyCertificate x (strip_for x strip) ranks → IsStripCertificate x strip ws (answer.Empty ranks)
 
--- p / q is the least density of all configurations on the strip; and with m / l the cycle's mean, no strip of whatever length is
--- lighter than its slices times this, but for the spread of the potentials
+-- p / q is the least density of all configurations on the strip. Each strip of finite length weighs at least its number of
+-- slices times m / l, the cycle's mean, less the spread of the potentials.
 pub record IsLeastOnStrip (x : LocalRule) (strip ws : List ℕ) (p q : ℕ) (cycle : List ℕ) (potentials : List ℤ) : Type 0 where
   pub m : ℕ
   pub l : ℕ
   pub mean : IsInLowestTerms m l (walk_weight x (strip_for x strip) ws cycle) (length cycle)
   pub least : StripLeast x (strip_for x strip) ws p q l m (spread_of potentials)
 
--- what such an answer claims
+-- what an answer about the least density claims
 pub data StripClaim (x : LocalRule) (strip ws : List ℕ) : Answer → Type 0 where
   claims_least : {p q : ℕ} {cycle : List ℕ} {potentials : List ℤ} → IsLeastOnStrip x strip ws p q cycle potentials → StripClaim x strip ws (answer.Density p q cycle potentials)
   claims_empty : {ranks : List ℕ} → StripEmpty x (strip_for x strip) (greatest ranks + window x) → StripClaim x strip ws (answer.Empty ranks)
 
 -- ---- discharging: amounts that hold the bound, with duals that show that no amounts hold more
 
--- a certificate of the bound, or a reason why there may be none
+-- a certificate of the bound, or a reason why none is given
 pub data IsDischargeCertificate (x : LocalRule) (radius margin : ℕ) (vs : List Place) (ws : List ℕ) : Answer → Type 0 where
   best : {p q n : ℕ} {amounts duals : List ℕ} → IsBoundCertificate x ws radius margin vs (bound_claimed p q n amounts duals) →
       IsDischargeCertificate x radius margin vs ws (answer.Bound p q n amounts duals)
@@ -54,16 +48,16 @@ pub data IsDischargeCertificate (x : LocalRule) (radius margin : ℕ) (vs : List
   overflow : IsDischargeCertificate x radius margin vs ws (answer.Unknown reason.Overflow)
   no_pivots : IsDischargeCertificate x radius margin vs ws (answer.Unknown reason.Pivots)
 
--- What a bound p / q says. Of the program: no amounts that meet its rows hold more. Of the lattice: wherever in Z^d Side(n) lies, for
--- each n, each admissible filling of the positions within reach of it weighs on it at least p / q for each of its n^d positions, but
--- for what these may receive from outside it; so does each configuration that obeys the rule at every position.
+-- What a bound p / q says. No amounts that meet the program's rows hold more. Move Side(n) to any position of Z^d: each
+-- admissible filling of the positions within reach weighs on it at least p / q for each of its n^d positions, less what these
+-- may receive from outside. So does each configuration that obeys the rule.
 pub record IsBestBound (x : LocalRule) (ws : List ℕ) (radius margin : ℕ) (vs : List Place) (b : Bound) : Type 0 where
   pub best : BestOf x ws radius margin vs b.numerator b.denominator
   pub sides : HoldsOnSides x ws radius margin vs b
   pub configurations : (n : ℕ) (u : Place) (look : Look) → 1 ≤ n → is_flat x.dimension u ≡ true → IsConfiguration x look → Obeys x look
       → held_over b * n ^ x.dimension ≤ b.common * side_weight x ws look n u + boundary x.dimension n (length sides.program.patterns) vs b.amounts
 
--- what such an answer claims
+-- what an answer about discharging claims
 pub data DischargeClaim (x : LocalRule) (radius margin : ℕ) (vs : List Place) (ws : List ℕ) : Answer → Type 0 where
   claims_bound : {p q n : ℕ} {amounts duals : List ℕ} → IsBestBound x ws radius margin vs (bound_claimed p q n amounts duals) →
       DischargeClaim x radius margin vs ws (answer.Bound p q n amounts duals)

@@ -9,7 +9,7 @@ use Rattle.dd_verify.specs.Holding.{MemberClaim, BoxClaim, EqualClaim, Conjugacy
 use Rattle.dd_verify.specs.Tori.{IsTorusCertificate, TorusClaim}
 use Rattle.dd_verify.specs.Bounds.{IsStripCertificate, StripClaim, IsDischargeCertificate, DischargeClaim}
 
--- a certificate of what is asked, within these limits
+-- the answer is a certificate of what is asked, within these limits
 abbrev pub IsCertificateOf : Limits → Asked → Answer → Type 0
 IsCertificateOf l (asked.membership x t) a = IsMemberCertificate x t a
 IsCertificateOf l (asked.box x g) a = IsBoxCertificate l x g a
@@ -21,7 +21,7 @@ IsCertificateOf l (asked.density x strip ws) a = IsStripCertificate x strip ws a
 IsCertificateOf l (asked.least x along ws) a = IsTorusCertificate x along ws a
 IsCertificateOf l (asked.discharge x radius margin vs ws) a = IsDischargeCertificate x radius margin vs ws a
 
--- what an answer to it claims
+-- what an answer to the question claims
 abbrev pub ClaimOf : Asked → Answer → Type 0
 ClaimOf (asked.membership x t) a = MemberClaim x t a
 ClaimOf (asked.box x g) a = BoxClaim x g a

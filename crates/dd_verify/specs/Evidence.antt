@@ -1,23 +1,20 @@
--- Which answers to box questions, to one and to several of them, are certificates.
+-- Which answers are certificates of a box question, or of a question made up of several.
 use Rattle.std.specs.Prelude.{ℕ, ◌≡◌, ◌≤◌, max, List, [], ◌∷◌, length}
 use Rattle.dd_pattern.specs.Periods.{AreWithin}
 use Rattle.dd_formula.specs.LocalRule.{LocalRule}
-use Rattle.dd_derivation.specs.declared.step.Step.{Step}
-use Rattle.dd_derivation.specs.Derivations.{IsRefuting}
+use Rattle.dd_derivation.specs.{declared.step.Step.Step, Derivations.IsRefuting}
 use Rattle.dd_values.specs.declared.limits.Limits.{Limits}
-use Rattle.dd_boxes.specs.Goals.{GoalOf, breaks}
-use Rattle.dd_boxes.specs.Boxes.{IsLeastRadius}
-use Rattle.dd_boxes.specs.Witnesses.{IsWitness}
+use Rattle.dd_boxes.specs.{Goals.GoalOf, Goals.breaks, Boxes.IsLeastRadius, Witnesses.IsWitness}
 use Rattle.dd_problem.specs.Problems.{box_problem}
 use Rattle.dd_question.specs.Conjugacies.{ConjugacyOf, IsPart}
 use Rattle.dd_evidence.specs.Tiles.{given_periods, given_tile}
+use Rattle.dd_certificate.specs.declared.answer.Answer.{Answer}
 use Rattle.dd_certificate.specs.declared.answer.Side.TheVariants as side
 use Rattle.dd_certificate.specs.declared.answer.Reason.TheVariants as reason
-use Rattle.dd_certificate.specs.declared.answer.Answer.{Answer}
 use Rattle.dd_certificate.specs.declared.answer.Answer.TheVariants as answer
 
--- n is at least the goal's least radius, and at most the limit or that, whichever is greater; and the steps refute the
--- clauses that ask for an admissible filling of B(n) with the goal at the origin
+-- n is at least the goal's least radius, and at most the greater of that and the limit. The steps refute the clauses that ask
+-- for an admissible filling of B(n) with the goal at the origin.
 pub record IsYes (l : Limits) (x : LocalRule) (g : GoalOf) (n : ℕ) (steps : List Step) : Type 0 where
   pub least : ℕ
   pub is_least : IsLeastRadius g least
@@ -25,14 +22,14 @@ pub record IsYes (l : Limits) (x : LocalRule) (g : GoalOf) (n : ℕ) (steps : Li
   pub high : n ≤ max l.radius least
   pub refuting : IsRefuting (box_problem x g n) steps
 
--- there is a period for each axis, of at most the limit, and a shear less than the first; and the configuration has allowed
--- symbols, lives in the premise's subshift and has the goal at the origin
+-- There is a period for each axis, of at most the limit, and a shear less than the first. The configuration has allowed symbols,
+-- lives in the premise's subshift and has the goal at the origin.
 pub record IsNo (l : Limits) (x : LocalRule) (g : GoalOf) (along : List ℕ) (shear : ℕ) (symbols : List ℕ) : Type 0 where
   pub as_many : length along ≡ x.dimension
   pub periods : AreWithin x.dimension l.period (given_periods along shear)
   pub witness : IsWitness x g (given_tile x along shear symbols)
 
--- a YES with its steps, a NO with its configuration, or that the limits were met
+-- YES with its steps, NO with its configuration, or UNKNOWN if the limits were met
 pub data IsBoxCertificate (l : Limits) (x : LocalRule) (g : GoalOf) : Answer → Type 0 where
   box_yes : {n : ℕ} {steps : List Step} → IsYes l x g n steps → IsBoxCertificate l x g (answer.Yes n steps)
   box_no : {along : List ℕ} {shear : ℕ} {symbols : List ℕ} → IsNo l x g along shear symbols → IsBoxCertificate l x g (answer.No side.Whole along shear symbols)
@@ -46,7 +43,7 @@ pub data IsEqualCertificate (l : Limits) (x y : LocalRule) : Answer → Type 0 w
   right_no : {along : List ℕ} {shear : ℕ} {symbols : List ℕ} → IsNo l y (breaks x) along shear symbols → IsEqualCertificate l x y (answer.No side.Right along shear symbols)
   equal_unknown : IsEqualCertificate l x y (answer.Unknown reason.Limits)
 
--- ---- conjugacies: a YES of each of the four questions, with its steps; or a NO of one of them
+-- ---- conjugacies: YES to each of the four questions, with its steps; or NO to one of them
 
 pub data IsConjugacyCertificate (l : Limits) (c : ConjugacyOf) : Answer → Type 0 where
   conjugate : {n1 n2 n3 n4 : ℕ} {s1 s2 s3 s4 : List Step} → IsYes l c.from c.image n1 s1 → IsYes l c.to c.image_back n2 s2 → IsYes l c.from c.round n3 s3 →

@@ -1,29 +1,18 @@
 -- What the answers to a question claim.
 use Rattle.std.specs.Prelude.{ℕ, ◌≡◌, ◌<◌, ◌↔◌, true, false, ℤ, Option, Some, List, [], ◌∷◌, map, All, Contains}
-use Rattle.dd_lattice.specs.Place.{Place}
-use Rattle.dd_lattice.specs.Cells.{cell, shifted}
-use Rattle.dd_lattice.specs.declared.position.Cell.{Cell}
-use Rattle.dd_pattern.specs.Reading.{Look}
-use Rattle.dd_pattern.specs.Tile.{Tile, tile_look}
-use Rattle.dd_formula.specs.LocalRule.{LocalRule, is_true, cells_at}
-use Rattle.dd_formula.specs.Living.{Lives}
+use Rattle.dd_lattice.specs.{Place.Place, Cells.cell, Cells.shifted, declared.position.Cell.Cell}
+use Rattle.dd_pattern.specs.{Reading.Look, Tile.Tile, Tile.tile_look}
+use Rattle.dd_formula.specs.{LocalRule.LocalRule, LocalRule.is_true, LocalRule.cells_at, Living.Lives}
 use Rattle.dd_forbidden.specs.Breaking.{are_allowed}
-use Rattle.dd_minimal.specs.Patterns.{is_covered}
-use Rattle.dd_minimal.specs.Claims.{NeedsEach, AreNew}
-use Rattle.dd_boxes.specs.Goals.{GoalOf, breaks}
-use Rattle.dd_boxes.specs.Boxes.{HoldsNowhere}
-use Rattle.dd_boxes.specs.Witnesses.{IsWitness}
+use Rattle.dd_minimal.specs.{Patterns.is_covered, Claims.NeedsEach, Claims.AreNew}
+use Rattle.dd_boxes.specs.{Goals.GoalOf, Goals.breaks, Boxes.HoldsNowhere, Witnesses.IsWitness}
 use Rattle.dd_question.specs.Conjugacies.{ConjugacyOf, IsPart}
 use Rattle.dd_derivation.specs.declared.step.Step.{Step}
-use Rattle.dd_certificate.specs.declared.answer.Reason.{Reason}
-use Rattle.dd_certificate.specs.declared.answer.Side.TheVariants as side
-use Rattle.dd_certificate.specs.declared.answer.Listed.{Listed}
-use Rattle.dd_certificate.specs.declared.answer.Starred.{Starred}
+use Rattle.dd_certificate.specs.declared.answer.{Reason.Reason, Listed.Listed, Starred.Starred}
 use Rattle.dd_certificate.specs.declared.answer.Answer.{Answer}
+use Rattle.dd_evidence.specs.{Cells.written_cell, Tiles.given_tile, Lists.listed, Lists.patterns_at}
+use Rattle.dd_certificate.specs.declared.answer.Side.TheVariants as side
 use Rattle.dd_certificate.specs.declared.answer.Answer.TheVariants as answer
-use Rattle.dd_evidence.specs.Cells.{written_cell}
-use Rattle.dd_evidence.specs.Tiles.{given_tile}
-use Rattle.dd_evidence.specs.Lists.{listed, patterns_at}
 
 -- ---- membership
 
@@ -35,15 +24,15 @@ pub data MemberClaim (x : LocalRule) (t : Tile) : Answer → Type 0 where
   says_inside : Lives x t → MemberClaim x t answer.Inside
   says_outside : {place : List ℤ} → IsFalseAt x t place → MemberClaim x t (answer.Outside place)
 
--- ---- box questions: YES, that the goal holds nowhere; NO, that the configuration lives in the premise's subshift and has the
--- goal at the origin; UNKNOWN, nothing
+-- ---- box questions. YES: the goal holds nowhere. NO: the configuration lives in the premise's subshift and has the goal at the
+-- origin. UNKNOWN: nothing
 
 pub data BoxClaim (x : LocalRule) (g : GoalOf) : Answer → Type 0 where
   says_nowhere : {n : ℕ} {steps : List Step} → HoldsNowhere x g n → BoxClaim x g (answer.Yes n steps)
   says_witness : {along : List ℕ} {shear : ℕ} {symbols : List ℕ} → IsWitness x g (given_tile x along shear symbols) → BoxClaim x g (answer.No side.Whole along shear symbols)
   says_nothing : {r : Reason} → BoxClaim x g (answer.Unknown r)
 
--- ---- equality: no configuration of x breaks y, and none of y breaks x; or one of the side's rule breaks the other
+-- ---- equality: no configuration of x breaks y, and none of y breaks x; or one of the named side's rule breaks the other
 
 pub data EqualClaim (x y : LocalRule) : Answer → Type 0 where
   says_equal : {n m : ℕ} {steps others : List Step} → HoldsNowhere x (breaks y) n → HoldsNowhere y (breaks x) m → EqualClaim x y (answer.YesBoth n m steps others)
@@ -51,8 +40,8 @@ pub data EqualClaim (x y : LocalRule) : Answer → Type 0 where
   says_right : {along : List ℕ} {shear : ℕ} {symbols : List ℕ} → IsWitness y (breaks x) (given_tile y along shear symbols) → EqualClaim x y (answer.No side.Right along shear symbols)
   says_none : {r : Reason} → EqualClaim x y (answer.Unknown r)
 
--- ---- conjugacies: the goal of each of the four questions holds nowhere; or a configuration of a question's premise has its goal at
--- the origin
+-- ---- conjugacies: the goal of each of the four questions holds nowhere; or a configuration of one question's premise has its
+-- goal at the origin
 
 pub data ConjugacyClaim (c : ConjugacyOf) : Answer → Type 0 where
   says_conjugate : {n1 n2 n3 n4 : ℕ} {s1 s2 s3 s4 : List Step} → HoldsNowhere c.from c.image n1 → HoldsNowhere c.to c.image_back n2 → HoldsNowhere c.from c.round n3 →
@@ -67,7 +56,7 @@ pub data ConjugacyClaim (c : ConjugacyOf) : Answer → Type 0 where
 abbrev pub AreReadAt : LocalRule → Look → Place → ℕ → List ℕ → Type 0
 AreReadAt x look v a ss = map (λ c. look (shifted v c)) (cells_at x a) ≡ map Some ss
 
--- wherever these are symbols that their nodes allow, the rule is false exactly where they are a listed pattern
+-- where the cells that are read have allowed symbols, the rule is false exactly if these are a listed pattern
 abbrev pub TellsBreaking : LocalRule → List Listed → Type 0
 TellsBreaking x patterns = (look : Look) (v : Place) (a : ℕ) (ss : List ℕ) → a < x.nodes → AreReadAt x look v a ss →
     are_allowed x (cells_at x a) ss ≡ true → (is_true x (cell v a) look ≡ false) ↔ Contains patterns (listed a ss)
@@ -77,20 +66,20 @@ pub data ListClaim (x : LocalRule) : Answer → Type 0 where
 
 -- ---- minimal forbidden patterns
 
--- wherever the cells that are read have symbols that their nodes allow, the rule is false exactly where these agree with a pattern
+-- where the cells that are read have allowed symbols, the rule is false exactly if these agree with a pattern
 abbrev pub TellsCovered : LocalRule → ℕ → List (List (Option ℕ)) → Type 0
 TellsCovered x a ps = (look : Look) (v : Place) (ss : List ℕ) → AreReadAt x look v a ss → are_allowed x (cells_at x a) ss ≡ true →
     (is_true x (cell v a) look ≡ false) ↔ (is_covered ps ss ≡ true)
 
--- what the patterns of a node say
+-- what the minimal patterns of a node say
 pub record SayMinimal (x : LocalRule) (a : ℕ) (ps : List (List (Option ℕ))) : Type 0 where
   pub tells : TellsCovered x a ps
-  -- without any of the cells that a pattern keeps it would forbid what the rule allows
+  -- a pattern without one of its cells would forbid something that the rule allows
   pub needed : All (NeedsEach x a) ps
-  -- each pattern has a breaking filling that agrees with none listed before it
+  -- each pattern has a breaking filling that agrees with no earlier pattern
   pub new : AreNew x a [] ps
 
--- each pattern is one of some node
+-- each pattern belongs to a node
 pub data MinimalClaim (x : LocalRule) : Answer → Type 0 where
   says_minimal : {patterns : List Starred} → All (λ p. p.node < x.nodes) patterns → ((a : ℕ) → a < x.nodes → SayMinimal x a (patterns_at a patterns)) →
       MinimalClaim x (answer.Minimal patterns)

@@ -1,6 +1,6 @@
 -- which answers to questions are certificates, and what they claim
 pub mod Certificates
--- which answers to box questions, to one and to several of them, are certificates
+-- which answers are certificates of a box question, or of a question made up of several
 pub mod Evidence
 -- what the answers to a question claim, kind by kind
 pub mod Holding
@@ -8,5 +8,5 @@ pub mod Holding
 pub mod Bounds
 -- which answers about least weights on tori are certificates, and what they claim
 pub mod Tori
--- the numbers of configurations
+-- the numbers that give a configuration
 pub mod Given

@@ -1,15 +1,10 @@
--- Which answers to how little a fundamental box can weigh are certificates, and what they claim.
+-- Which answers to the question how little a fundamental box can weigh are certificates, and what they claim.
 use Rattle.std.specs.Prelude.{ℕ, ◌≡◌, ◌<◌, List}
-use Rattle.dd_pattern.specs.Periods.{periods_of}
-use Rattle.dd_pattern.specs.Tile.{Tile, tile}
-use Rattle.dd_pattern.specs.Weight.{total_weight}
+use Rattle.dd_pattern.specs.{Periods.periods_of, Tile.Tile, Tile.tile, Weight.total_weight}
 use Rattle.dd_formula.specs.LocalRule.{LocalRule}
-use Rattle.dd_derivation.specs.declared.step.Step.{Step}
-use Rattle.dd_derivation.specs.Derivations.{IsRefuting}
-use Rattle.dd_boxes.specs.Goals.{always}
-use Rattle.dd_boxes.specs.Witnesses.{IsWitness}
-use Rattle.dd_counter.specs.Weights.{weight_problem}
-use Rattle.dd_counter.specs.Least.{LeastOn, NoneOn}
+use Rattle.dd_derivation.specs.{declared.step.Step.Step, Derivations.IsRefuting}
+use Rattle.dd_boxes.specs.{Goals.always, Witnesses.IsWitness}
+use Rattle.dd_counter.specs.{Weights.weight_problem, Least.LeastOn, Least.NoneOn}
 use Rattle.dd_certificate.specs.declared.answer.Answer.{Answer}
 use Rattle.dd_certificate.specs.declared.answer.Answer.TheVariants as answer
 
@@ -22,17 +17,17 @@ pub record HasWeight (x : LocalRule) (along ws : List ℕ) (w : ℕ) (symbols : 
   pub lives : IsWitness x always (torus_tile x along symbols)
   pub weighs : total_weight ws symbols ≡ w
 
--- the steps refute the clauses that ask for one that lives and weighs less; there is nothing to refute below 0
+-- the steps refute the clauses that ask for a living configuration of less weight; with the weight 0 there is nothing to refute
 abbrev pub IsBoundedBy : LocalRule → List ℕ → List ℕ → ℕ → List Step → Type 0
 IsBoundedBy x along ws w steps = 0 < w → IsRefuting (weight_problem x (periods_of along 0) ws w) steps
 
--- a configuration of the least weight, with steps that refute each smaller one; or steps that refute that one lives
+-- a configuration of the least weight, with steps that refute all smaller weights; or steps that refute that one lives
 pub data IsTorusCertificate (x : LocalRule) (along ws : List ℕ) : Answer → Type 0 where
   torus_least : {w : ℕ} {symbols : List ℕ} {steps : List Step} → HasWeight x along ws w symbols → IsBoundedBy x along ws w steps →
       IsTorusCertificate x along ws (answer.Least w symbols steps)
   torus_none : {steps : List Step} → IsRefuting (weight_problem x (periods_of along 0) ws 0) steps → IsTorusCertificate x along ws (answer.Nothing steps)
 
--- what such an answer claims, of all configurations of these periods and no shear that live in the rule's subshift
+-- what an answer claims of all configurations with these periods and no shear that live in the rule's subshift
 pub data TorusClaim (x : LocalRule) (along ws : List ℕ) : Answer → Type 0 where
   claims_least_on : {w : ℕ} {symbols : List ℕ} {steps : List Step} → LeastOn x (periods_of along 0) ws w → TorusClaim x along ws (answer.Least w symbols steps)
   claims_none_on : {steps : List Step} → NoneOn x (periods_of along 0) → TorusClaim x along ws (answer.Nothing steps)

@@ -15,7 +15,7 @@ use dd_certificate::Answer;
 use dd_question::{CheckedQuestion, Question};
 use std::alloc::{AllocError, Global};
 
-/// Whether an answer is a certificate of what is asked within the question's limits, one that an output can hold.
+/// Whether an answer is a certificate of what is asked within the question's limits, and an output can hold it.
 pub fn check_question(
     alloc: Global,
     question: &CheckedQuestion,

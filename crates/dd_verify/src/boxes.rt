@@ -29,7 +29,7 @@ fn is_whole(side: Side) -> bool
     matches!(side, Side::Whole)
 }
 
-/// Whether an answer is a certificate of a box question, one that an output can hold.
+/// Whether an answer is a certificate of a box question, and an output can hold it.
 #[tactic(auto, using(crate::specs::Evidence::box_unknown))]
 pub(crate) fn check_box(
     alloc: Global,
@@ -42,7 +42,7 @@ pub(crate) fn check_box(
     requires askable { IsAskable limits.now premise.now (goal_of premise.now goal.now) }
     ensures { IfOk result (λ accepted. IsTrue accepted ↔ (IsWritable answer.now × IsBoxCertificate limits.now premise.now (goal_of premise.now goal.now) answer.now)) }
 {
-    // Read for what its type keeps.
+    // This read brings in what the type guarantees.
     let _symbols = premise.symbols();
     match answer {
         Answer::Yes { radius, steps } => {
@@ -72,7 +72,7 @@ pub(crate) fn check_box(
     }
 }
 
-/// Whether the configuration shows the goal of the side's question.
+/// Whether the configuration shows the goal of the question on this side.
 fn check_side(
     alloc: Global,
     left: &Rule,
@@ -105,7 +105,7 @@ fn check_side(
     }
 }
 
-/// Whether both radii are such as were asked for, and the steps refute the clauses of their boxes.
+/// Whether both radii are within the limits, and the steps refute the clauses of their boxes.
 #[tactic(auto, using(crate::specs::Evidence::equal_yes, crate::proofs::BoxForms::both_fit, crate::proofs::BoxForms::both_of))]
 fn check_both(
     alloc: Global,
@@ -134,7 +134,7 @@ fn check_both(
     check_yes(alloc, right, &goal, limits, right_radius, right_steps)
 }
 
-/// Whether an answer is a certificate of whether two rules allow the same configurations, one that an output can hold.
+/// Whether an answer is a certificate of whether two rules allow the same configurations, and an output can hold it.
 #[tactic(auto, using(crate::specs::Evidence::equal_unknown))]
 pub(crate) fn check_equal(
     alloc: Global,

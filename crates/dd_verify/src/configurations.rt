@@ -17,7 +17,7 @@ use dd_lattice::{Cell, Position};
 use dd_pattern::Periodic;
 use std::alloc::{AllocError, Global};
 
-/// Whether each symbol of the fundamental box is one that its node allows.
+/// Whether each symbol of the fundamental box is allowed at its node.
 fn has_allowed(rule: &Rule, periodic: &Periodic) -> bool
     requires { Fits rule.now periodic.now }
     ensures { IsTrue result ↔ HasAllowed rule.now periodic.now }
@@ -39,14 +39,14 @@ pub(crate) fn lives(rule: &Rule, periodic: &Periodic) -> bool
     match rule.member(periodic) {
         Membership::Inside => true,
         Membership::Outside(_) => {
-            // Read for what its type keeps.
+            // This read brings in what the type guarantees.
             let _symbols = periodic.symbols();
             false
         }
     }
 }
 
-/// Whether it has allowed symbols alone, and lives in the rule's subshift.
+/// Whether the configuration has only allowed symbols and lives in the rule's subshift.
 fn inhabits(rule: &Rule, periodic: &Periodic) -> bool
     requires { Fits rule.now periodic.now }
     ensures { IsTrue result ↔ (HasAllowed rule.now periodic.now × Lives rule.now periodic.now) }
@@ -57,13 +57,13 @@ fn inhabits(rule: &Rule, periodic: &Periodic) -> bool
     lives(rule, periodic)
 }
 
-/// Whether the rule is false at the origin with this node.
+/// Whether the rule is false at this node of the origin.
 fn is_broken_at(rule: &Rule, node: u32, periodic: &Periodic) -> bool
     requires node { node < rule.now.nodes }
     requires fits { Fits rule.now periodic.now }
     ensures { result ≡ not (is_true rule.now (cell origin node) (tile_look periodic.now)) }
 {
-    // Read for what its type keeps.
+    // This read brings in what the type guarantees.
     let _symbols = periodic.symbols();
     let position = Position { x: 0, y: 0, z: 0 };
     match rule.truth(&Cell { position, node }, periodic) {
@@ -72,7 +72,7 @@ fn is_broken_at(rule: &Rule, node: u32, periodic: &Periodic) -> bool
     }
 }
 
-/// Whether the rule is false at the origin, at some node.
+/// Whether the rule is false at some node of the origin.
 fn is_broken(rule: &Rule, periodic: &Periodic) -> bool
     requires { Fits rule.now periodic.now }
     ensures { IsTrue result ↔ HasGoal (breaks rule.now) (tile_look periodic.now) origin }
@@ -85,14 +85,14 @@ fn is_broken(rule: &Rule, periodic: &Periodic) -> bool
     false
 }
 
-/// Whether each symbol of the configuration is one that its node allows in the premise, it lives in the premise's subshift,
-/// and some node of the origin breaks the goal. It takes no memory.
+/// Whether the configuration shows that a rule doesn't follow from the premise: its symbols are allowed, it lives in the
+/// premise's subshift, and some node of the origin breaks `goal`. It takes no memory.
 pub fn check_periodic(premise: &Rule, goal: &Rule, periodic: &Periodic) -> bool
     requires fits { Fits premise.now periodic.now }
     requires alike { AreAlike premise.now goal.now }
     ensures { IsTrue result ↔ IsWitness premise.now (breaks goal.now) periodic.now }
 {
-    // Read for what its type keeps.
+    // This read brings in what the type guarantees.
     let _symbols = periodic.symbols();
     if !inhabits(premise, periodic) {
         return false;
@@ -100,7 +100,7 @@ pub fn check_periodic(premise: &Rule, goal: &Rule, periodic: &Periodic) -> bool
     is_broken(goal, periodic)
 }
 
-/// The same of any goal. The values of automata take memory.
+/// Whether the configuration shows any kind of goal. The values of automata take memory.
 pub(crate) fn shows(
     alloc: Global,
     premise: &Rule,
@@ -111,7 +111,7 @@ pub(crate) fn shows(
     requires goal { IsGoalFor premise.now (goal_of premise.now goal.now) }
     ensures { IfOk result (λ shown. IsTrue shown ↔ IsWitness premise.now (goal_of premise.now goal.now) periodic.now) }
 {
-    // Read for what its type keeps.
+    // This read brings in what the type guarantees.
     let _symbols = periodic.symbols();
     match goal {
         Goal::Breaks(rule) => Ok(check_periodic(premise, rule, periodic)),

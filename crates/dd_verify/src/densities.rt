@@ -80,7 +80,7 @@ fn is_empty(
     check_empty(alloc, rule, strip, ranks)
 }
 
-/// Whether an answer is a certificate of the least density of a strip, one that an output can hold.
+/// Whether an answer is a certificate of the least density of a strip, and an output can hold it.
 #[tactic(auto, using(crate::specs::Bounds::strip_least, crate::specs::Bounds::strip_empty, crate::proofs::Weighing::least_of))]
 pub(crate) fn check_strip(
     alloc: Global,

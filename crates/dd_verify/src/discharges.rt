@@ -58,7 +58,7 @@ fn is_of_discharge(reason: Reason) -> bool
     matches!(reason, Reason::Large | Reason::Overflow | Reason::Pivots)
 }
 
-/// Whether an answer is a certificate of what discharging gives, one that an output can hold.
+/// Whether an answer is a certificate of what discharging gives, and an output can hold it.
 #[tactic(auto, using(crate::specs::Bounds::best, crate::specs::Bounds::overflow, crate::specs::Bounds::too_large, crate::specs::Bounds::no_pivots, crate::proofs::Weighing::bound_of))]
 pub(crate) fn check_discharge(
     alloc: Global,

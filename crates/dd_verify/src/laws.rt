@@ -16,8 +16,8 @@ use dd_question::{CheckedQuestion, Question};
 use dd_sides::bound_holds;
 use dd_strips::{strip_empty, strip_least};
 
-/// Only looks at the goal's automata, for what they keep: each cell that one reads is a cell of Z^d with one of the nodes, and
-/// the gates of its value say the value.
+/// Only looks at the goal's automata. Its contract says that each cell that an automaton reads is a cell of Z^d with one of the
+/// nodes, and that the gates of its value compute the value.
 fn tell_goal(goal: &Goal)
     ensures { (x : LocalRule) → IsGoalFor x (goal_of x goal.now) → KeepsRule (goal_of x goal.now) → IsToldGoal x (goal_of x goal.now) }
 {
@@ -33,9 +33,8 @@ fn tell_goal(goal: &Goal)
     }
 }
 
-/// Only looks at what is asked; its contract says that what a certificate of the question claims is true:
-/// of a bound also that boxes of every side length, wherever they lie, weigh at least what it says, up to what may come in
-/// from outside them.
+/// Only looks at what is asked; its contract says that what a certificate of the question claims is true. For a bound this
+/// includes boxes of every side, at any position: they weigh at least what the bound says, less what may come in from outside.
 pub fn claims_hold(question: &CheckedQuestion)
     ensures { (answer : AnyAnswer) → IsCertificateOf question.now.limits question.now.question answer → ClaimOf question.now.question answer }
 {

@@ -1,4 +1,4 @@
-//! The check of answers to questions: which are certificates, and what they claim. It trusts nothing of a search, and does none.
+//! The check of answers: which are certificates, and what they claim. It trusts no search and makes none.
 #![tactic(auto)]
 
 mod answering;

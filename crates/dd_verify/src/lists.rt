@@ -30,7 +30,7 @@ fn are_same(left: &[Listed], right: &[Listed]) -> bool
     true
 }
 
-/// Whether these are the patterns that the rule forbids, in their order.
+/// Whether these are the patterns that the rule forbids, in the right order.
 fn is_list(alloc: Global, rule: &Rule, patterns: &[Listed]) -> Result<bool, AllocError>
     requires { HasFewPatterns rule.now }
     ensures { IfOk result (λ same. IsTrue same ↔ IsForbiddenList rule.now patterns.now) }
@@ -40,14 +40,14 @@ fn is_list(alloc: Global, rule: &Rule, patterns: &[Listed]) -> Result<bool, Allo
     Ok(are_same(list.as_slice(), patterns))
 }
 
-/// Whether an answer is the list of the patterns that a rule forbids, one that an output can hold.
+/// Whether an answer is the list of the patterns that a rule forbids, and an output can hold it.
 #[tactic(auto, using(dd_evidence::specs::Answers::all_forbidden))]
 pub(crate) fn check_list(alloc: Global, rule: &Rule, answer: &Answer) -> Result<bool, AllocError>
     requires { HasFewPatterns rule.now }
     ensures { IfOk result (λ accepted. IsTrue accepted ↔ (IsWritable answer.now × IsListCertificate rule.now answer.now)) }
 {
     lists_fit();
-    // Read for what its type keeps.
+    // This read brings in what the type guarantees.
     let _nodes = rule.nodes();
     match answer {
         Answer::List { patterns } => is_list(alloc, rule, patterns.as_slice()),

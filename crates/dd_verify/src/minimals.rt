@@ -30,7 +30,7 @@ fn are_same(left: &[Starred], right: &[Starred]) -> bool
     true
 }
 
-/// Whether these are the minimal patterns of the rule, in their order.
+/// Whether these are the minimal patterns of the rule, in the right order.
 fn is_minimal(alloc: Global, rule: &Rule, patterns: &[Starred]) -> Result<bool, AllocError>
     requires { HasFewPatterns rule.now }
     ensures { IfOk result (λ same. IsTrue same ↔ IsStarredList rule.now patterns.now) }
@@ -40,14 +40,14 @@ fn is_minimal(alloc: Global, rule: &Rule, patterns: &[Starred]) -> Result<bool, 
     Ok(are_same(list.as_slice(), patterns))
 }
 
-/// Whether an answer is the list of the minimal patterns that a rule forbids, one that an output can hold.
+/// Whether an answer is the list of the minimal patterns that a rule forbids, and an output can hold it.
 #[tactic(auto, using(dd_evidence::specs::Answers::all_minimal))]
 pub(crate) fn check_minimal(alloc: Global, rule: &Rule, answer: &Answer) -> Result<bool, AllocError>
     requires { HasFewPatterns rule.now }
     ensures { IfOk result (λ accepted. IsTrue accepted ↔ (IsWritable answer.now × IsMinimalCertificate rule.now answer.now)) }
 {
     starred_fit();
-    // Read for what its type keeps.
+    // This read brings in what the type guarantees.
     let _nodes = rule.nodes();
     match answer {
         Answer::Minimal { patterns } => is_minimal(alloc, rule, patterns.as_slice()),

@@ -11,7 +11,7 @@ pub(crate) fn is_number(number: u64) -> bool
     number <= MOST_NUMBER
 }
 
-/// A number that an output can hold, and not 0.
+/// Whether it is a number that an output can hold, and not 0.
 pub(crate) fn is_denominator(number: u64) -> bool
     ensures { IsTrue result ↔ IsWritableDenominator number }
 {
@@ -57,7 +57,7 @@ pub(crate) fn are_numbers(numbers: &[u64]) -> bool
     are_small(numbers)
 }
 
-/// Numbers, one at least.
+/// Whether there is at least one number, and an output can hold each.
 pub(crate) fn is_list(numbers: &[u64]) -> bool
     ensures { IsTrue result ↔ IsWritableList numbers.now }
 {
@@ -67,7 +67,7 @@ pub(crate) fn is_list(numbers: &[u64]) -> bool
     are_small(numbers)
 }
 
-/// Signed numbers, one at least.
+/// Whether there is at least one signed number, and an output can hold each.
 pub(crate) fn is_signed_list(numbers: &[i64]) -> bool
     ensures { IsTrue result ↔ ((1 ≤ length numbers.now) × All IsWritableSigned numbers.now) }
 {
@@ -77,7 +77,7 @@ pub(crate) fn is_signed_list(numbers: &[i64]) -> bool
     are_small_signed(numbers)
 }
 
-/// Whether an output can hold how many they are.
+/// Whether an output can hold the length of the list.
 pub(crate) fn has_writable_length(numbers: &[u64]) -> bool
     ensures { IsTrue result ↔ (length numbers.now ≤ most_number) }
 {

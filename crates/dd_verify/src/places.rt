@@ -29,7 +29,7 @@ fn is_node(number: &i64, node: u32) -> bool
     *number == i64::from(node)
 }
 
-/// Whether these are the coordinates of the cell along the axes that there are, and then its node.
+/// Whether these are the coordinates of the cell along the axes of Z^d, followed by its node.
 fn is_place(dim: u32, cell: &Cell, place: &[i64]) -> bool
     requires { dim ≤ 3 }
     ensures { IsTrue result ↔ (place.now ≡ written_cell dim cell.now) }
@@ -45,7 +45,7 @@ fn is_place(dim: u32, cell: &Cell, place: &[i64]) -> bool
     place[..count] == coordinates[..count]
 }
 
-/// Whether the place is that of the first cell at which the rule is false.
+/// Whether this is the place of the first cell at which the rule is false.
 fn is_outside(rule: &Rule, periodic: &Periodic, place: &[i64]) -> bool
     requires { Fits rule.now periodic.now }
     ensures { IsTrue result ↔ IsOutside rule.now periodic.now place.now }
@@ -72,7 +72,7 @@ fn is_member_certificate(rule: &Rule, periodic: &Periodic, answer: &Answer) -> b
     }
 }
 
-/// The same, of one that an output can hold, as it can hold each.
+/// Whether an answer is such a certificate and an output can hold it, as it can hold each of them.
 pub(crate) fn check_member(rule: &Rule, periodic: &Periodic, answer: &Answer) -> bool
     requires { Fits rule.now periodic.now }
     ensures { IsTrue result ↔ (IsWritable answer.now × IsMemberCertificate rule.now periodic.now answer.now) }

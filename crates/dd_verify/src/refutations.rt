@@ -42,7 +42,7 @@ fn refutes(
     Ok(check_refutation(&cnf, steps, &mut marks))
 }
 
-/// Whether the radius is one that was asked for, and the steps refute the clauses of its box.
+/// Whether the radius is within the limits, and the steps refute the clauses of its box.
 pub(crate) fn check_yes(
     alloc: Global,
     premise: &Rule,
@@ -55,7 +55,7 @@ pub(crate) fn check_yes(
     ensures exact { IfOk result (λ accepted. IsTrue accepted ↔ IsYes limits.now premise.now (goal_of premise.now goal.now) radius steps.now) }
     ensures writable { IfOk result (λ accepted. IsTrue accepted → IsWritableRefutation steps.now) }
 {
-    // Read for what its type keeps.
+    // This read brings in what the type guarantees.
     let _symbols = premise.symbols();
     let least = least_radius(alloc, goal)?;
     let most = limits.radius.max(least);

@@ -1,4 +1,4 @@
-//! Answers to how little a fundamental box can weigh: a configuration, and steps that refute every smaller weight.
+//! Answers to the question how little a fundamental box can weigh: a configuration, and steps that refute every smaller weight.
 ghost use Rattle.std.specs.Prelude.{◌≡◌, ◌≤◌, ◌<◌, ◌↔◌, length, IsTrue, IfOk, MatchOption};
 ghost use Rattle.dd_pattern.specs.Periods.{periods_of};
 ghost use Rattle.dd_pattern.specs.Tile.{IsTile};
@@ -9,11 +9,11 @@ ghost use Rattle.dd_derivation.specs.Derivations.{IsRefuting};
 ghost use Rattle.dd_boxes.specs.Goals.{always};
 ghost use Rattle.dd_boxes.specs.Counts.{most_clauses};
 ghost use Rattle.dd_boxes.specs.Witnesses.{IsWitness};
-ghost use Rattle.dd_problem.specs.TorusPeriods.{AreTorusPeriods};
+ghost use Rattle.dd_boxes.specs.TorusPeriods.{AreTorusPeriods};
 ghost use Rattle.dd_counter.specs.Weights.{weight_problem, weight_count};
 ghost use Rattle.dd_certificate.specs.declared.answer.Answer.TheVariants as answer;
 ghost use Rattle.dd_certificate.specs.Bounds.{IsWritable, IsWritableBelow, IsWritableRefutation};
-ghost use Rattle.dd_question.specs.Tori.{IsTorus, IsWeighable};
+ghost use Rattle.dd_question.specs.Tori.{IsWeighable};
 ghost use Rattle.dd_verify.specs.Tori.{torus_tile, HasWeight, IsBoundedBy, IsTorusCertificate};
 
 use crate::configurations::shows;
@@ -26,14 +26,14 @@ use dd_formula::Rule;
 use dd_pattern::Periodic;
 use std::alloc::{AllocError, Global};
 
-/// The configuration with these symbols, where there is one of the rule's dimension, nodes and alphabet.
+/// The configuration with these symbols, if there is one with the rule's dimension, nodes and alphabet.
 fn on_torus(
     alloc: Global,
     rule: &Rule,
     periods: [u32; 3],
     symbols: &[u64],
 ) -> Result<Option<Periodic>, AllocError>
-    requires { IsTorus rule.now periods }
+    requires { AreTorusPeriods rule.now.dimension rule.now.nodes (periods_of periods 0) }
     ensures { IfOk result (λ found. MatchOption found (IsTile (torus_tile rule.now periods symbols.now) × Fits rule.now (torus_tile rule.now periods symbols.now) → ⊥)
         (λ periodic. (periodic ≡ torus_tile rule.now periods symbols.now) × Fits rule.now (torus_tile rule.now periods symbols.now))) }
 {
@@ -64,7 +64,7 @@ fn weighs(
     shows(alloc, rule, &Goal::Always, periodic)
 }
 
-/// Whether the symbols are those of a configuration that lives in the rule's subshift and has this weight.
+/// Whether the symbols give a configuration that lives in the rule's subshift and has this weight.
 fn has_weight(
     alloc: Global,
     rule: &Rule,
@@ -82,8 +82,8 @@ fn has_weight(
     }
 }
 
-/// Whether the steps refute the clauses that ask for a configuration that lives and weighs less than `below`, where this is at
-/// least 1.
+/// Whether the steps refute the clauses that ask for a configuration that lives and weighs less than `below`, which is at least
+/// 1.
 fn refutes_below(
     alloc: Global,
     rule: &Rule,
@@ -92,7 +92,7 @@ fn refutes_below(
     below: u64,
     steps: &[Step],
 ) -> Result<bool, AllocError>
-    requires periods { AreTorusPeriods rule.now (periods_of periods 0) }
+    requires periods { AreTorusPeriods rule.now.dimension rule.now.nodes (periods_of periods 0) }
     requires weights { length weights.now ≡ rule.now.symbols }
     requires count { weight_count rule.now (periods_of periods 0) weights.now below ≤ most_clauses }
     ensures exact { IfOk result (λ refuted. IsTrue refuted ↔ IsRefuting (weight_problem rule.now (periods_of periods 0) weights.now below) steps.now) }
@@ -107,7 +107,7 @@ fn refutes_below(
     Ok(check_refutation(&cnf, steps, &mut marks))
 }
 
-/// Whether the steps refute that a configuration lives and weighs less; there are none where nothing weighs less than 0.
+/// Whether the steps refute that a living configuration weighs less than `weight`. If that is 0, there must be no steps.
 fn bounds(
     alloc: Global,
     rule: &Rule,
@@ -116,7 +116,7 @@ fn bounds(
     weight: u64,
     steps: &[Step],
 ) -> Result<bool, AllocError>
-    requires periods { AreTorusPeriods rule.now (periods_of periods 0) }
+    requires periods { AreTorusPeriods rule.now.dimension rule.now.nodes (periods_of periods 0) }
     requires weights { length weights.now ≡ rule.now.symbols }
     requires count { weight_count rule.now (periods_of periods 0) weights.now weight ≤ most_clauses }
     ensures { IfOk result (λ shown. IsTrue shown ↔ (IsWritableBelow weight steps.now × IsBoundedBy rule.now periods weights.now weight steps.now)) }
@@ -127,7 +127,7 @@ fn bounds(
     refutes_below(alloc, rule, periods, weights, weight, steps)
 }
 
-/// Whether this is the least weight, by the configuration and the steps, and an output can hold them.
+/// Whether the configuration and the steps show that this is the least weight, and an output can hold them.
 fn is_least(
     alloc: Global,
     rule: &Rule,
@@ -141,7 +141,7 @@ fn is_least(
     ensures { IfOk result (λ accepted. IsTrue accepted ↔ (IsWritable (answer.Least weight symbols.now steps.now)
         × IsTorusCertificate rule.now periods weights.now (answer.Least weight symbols.now steps.now))) }
 {
-    // Read for what its type keeps.
+    // This read brings in what the type guarantees.
     let _nodes = rule.nodes();
     if !has_weight(alloc, rule, periods, weights, weight, symbols)? {
         return Ok(false);
@@ -149,7 +149,7 @@ fn is_least(
     bounds(alloc, rule, periods, weights, weight, steps)
 }
 
-/// Whether an answer is a certificate of how little a fundamental box can weigh, one that an output can hold.
+/// Whether an answer is a certificate of how little a fundamental box can weigh, and an output can hold it.
 pub(crate) fn check_torus(
     alloc: Global,
     rule: &Rule,

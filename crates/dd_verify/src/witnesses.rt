@@ -15,7 +15,7 @@ use dd_pattern::Periodic;
 use dd_values::Limits;
 use std::alloc::{AllocError, Global};
 
-/// The period along an axis, 1 where none is given.
+/// The period along an axis; 1 if none is given.
 fn along(periods: &[u64], axis: usize) -> u64
     ensures { result ≡ slice_index_or periods.now axis 1 }
 {
@@ -26,7 +26,7 @@ fn along(periods: &[u64], axis: usize) -> u64
     }
 }
 
-/// Whether there is a period for each axis, from 1 to `most`, and a shear less than the first, 0 in one dimension.
+/// Whether there is a period from 1 to `most` for each axis, and the shear is less than the first, and 0 in one dimension.
 fn are_periods(dim: u32, most: u32, periods: &[u64], shear: u64) -> bool
     requires dim { (1 ≤ dim) × (dim ≤ 3) }
     requires most { 1 ≤ most }
@@ -47,7 +47,7 @@ fn are_periods(dim: u32, most: u32, periods: &[u64], shear: u64) -> bool
         && (1 < dim || shear == 0)
 }
 
-/// The symbols, where each is below the alphabet's size.
+/// The symbols, if each is below the alphabet's size.
 pub(crate) fn narrowed(
     alloc: Global,
     symbols: &[u64],
@@ -66,8 +66,8 @@ pub(crate) fn narrowed(
     Ok(Some(list))
 }
 
-/// The configuration with these periods, this shear and these symbols, where there is one of the premise's dimension, nodes and
-/// alphabet, with periods of at most `most`.
+/// The configuration with these periods, this shear and these symbols. There is one if it has the premise's dimension, nodes and
+/// alphabet, and periods of at most `most`.
 fn given(
     alloc: Global,
     premise: &Rule,
@@ -80,7 +80,7 @@ fn given(
     ensures { IfOk result (λ found. MatchOption found (IsGiven premise.now most periods.now shear symbols.now → ⊥)
         (λ periodic. (periodic ≡ given_tile premise.now periods.now shear symbols.now) × IsGiven premise.now most periods.now shear symbols.now)) }
 {
-    // Read for what its type keeps.
+    // This read brings in what the type guarantees.
     let nodes = premise.nodes();
     if !are_periods(premise.dim(), most, periods, shear) {
         return Ok(None);
@@ -99,7 +99,7 @@ fn given(
     }
 }
 
-/// Whether the periods are of those that were asked for, and the configuration shows the goal.
+/// Whether the periods are within the limits, and the configuration shows the goal.
 pub(crate) fn check_no(
     alloc: Global,
     premise: &Rule,

@@ -1,4 +1,4 @@
--- What is written of formulas is read, unless what follows would go on.
+-- Written formulas are read, unless what follows would continue them.
 use Rattle.std.proofs.Common.{◌≡◌, ℕ, zero, suc, ◌-◌, ◌+◌, ◌≤◌, ◌<◌, Bool, true, false, List, [], ◌∷◌, ◌++◌, map, length, drop, Some, refl, ap, subst, ◌∙◌, append_assoc, arith, inl, inr, nat_le, ◌&&◌}
 use Rattle.std.specs.List.{flat_map, list_all, AllByRecursion}
 use Rattle.std.proofs.lemmas.Bool.{and_parts, cases_eq, ltb-true, le-leb, leb-true}
@@ -26,7 +26,7 @@ ends_begins Join.Implies place (Lexeme.Mark Mark.Arrow ∷ tokens) le e = absurd
 ends_begins Join.Iff place (Lexeme.Mark Mark.BothWays ∷ tokens) le e = absurd (omega (arith, le, ltb-true place 4 e))
 ends_begins j place tokens le e = refl
 
--- a sign stands behind a formula of a tighter place
+-- a sign may follow a formula that binds tighter
 sign_there : (j : Join) (place : ℕ) (tokens : List Lexeme) → place < join_rank j → (ends place (Lexeme.Mark (sign j) ∷ tokens) ≡ true) × (begins j (Lexeme.Mark (sign j) ∷ tokens) ≡ true)
 sign_there Join.And place tokens lt = (le-leb (suc place) 1 lt, refl)
 sign_there Join.Or place tokens lt = (le-leb (suc place) 2 lt, refl)
@@ -63,7 +63,7 @@ quantifier_again variable b balls rest = ap (λ (x : List Ball × List Lexeme). 
 
 -- ---- chains
 
--- the reader of the parts reads f, whatever follows that cannot belong to it
+-- the reader of the parts reads f, whatever follows that can't belong to it
 abbrev ReadBy : Reader Formula → ℕ → Formula → Type 0
 ReadBy part place f = (rest : List Lexeme) → ends place rest ≡ true → part (text f ++ rest) ≡ Some (f, rest)
 
@@ -89,9 +89,9 @@ chain_again j part place f g gs rest each lt none e =
     let others = more_again j part place (g ∷ gs) (length behind) rest each.1 (length_more j (g ∷ gs) rest) lt none e in
     rw (append_assoc (text f) (more_text j (g ∷ gs)) rest, each.0 behind (ends_more j place (g ∷ gs) rest lt e), others, (sign_there j place ((text g ++ more_text j gs) ++ rest) lt).1) refl
 
--- ---- places
+-- ---- precedence
 
--- what is read at a place is read at each looser one
+-- what is read at one precedence is read at each looser one
 looser : (unary : Reader Formula) (tokens : List Lexeme) (f : Formula) (rest : List Lexeme) (low place : ℕ) → low ≤ place → place ≤ 4 → ends place rest ≡ true → level_at unary low tokens ≡ Some (f, rest) → level_at unary place tokens ≡ Some (f, rest)
 looser unary tokens f rest low zero under le e r =
     let same : low ≡ 0 = omega (arith, under) in
@@ -105,11 +105,11 @@ looser unary tokens f rest low (suc place) under le e r = elim (cases_eq low (su
 
 -- ---- formulas
 
--- a formula is read at each place where it may stand
+-- a formula is read at each precedence at which it may stand
 abbrev IsReadAgain : Formula → Type 0
 IsReadAgain f = (budget place : ℕ) (rest : List Lexeme) → place ≤ 4 → stands f place ≡ true → tree_depth f ≤ budget → ends place rest ≡ true → level_at (unary_at budget) place (text f ++ rest) ≡ Some (f, rest)
 
--- the same, where what is known of the formula is said by its parts
+-- the same, stated by the parts of the formula
 abbrev IsLayerRead : Formula-F Formula → Type 0
 IsLayerRead x = (budget place : ℕ) (rest : List Lexeme) → place ≤ 4 → stands_step (map-Formula Formula (ℕ → Bool) stands x) place ≡ true → tree_depth_step (map-Formula Formula ℕ tree_depth x) ≤ budget → ends place rest ≡ true
     → level_at (unary_at budget) place (text_step (map-Formula Formula (List Lexeme) text x) ++ rest) ≡ Some (roll-Formula x, rest)
@@ -129,7 +129,7 @@ quantified_again : (budget : ℕ) (q : Quantifier) (variable : Word) (balls : Li
 quantified_again budget q variable [] f rest some inner = absurd (omega (arith, leb-true 1 0 some))
 quantified_again budget q variable (b ∷ balls) f rest some inner = nested_quantifier (unary_at budget) q _ ∙ rw (quantifier_again variable b balls (text f ++ rest), inner) refl
 
--- the parts of a chain, each of which is read again
+-- each part of a chain is read
 parts_again : (budget place : ℕ) (j : Join) (n i : ℕ) (fs : List Known) → place ≤ 4 → list_all (λ (h : ℕ → Bool). h place) (map stands (map formula_of fs)) ≡ true → chain_depth j n i (map tree_depth (map formula_of fs)) ≤ budget
     → AllByRecursion (ReadBy (level_at (unary_at budget) place) place) (map formula_of fs)
 parts_again budget place j n i [] le fit deep = tt
@@ -176,6 +176,6 @@ read_again : (f : Formula) → IsReadAgain f
 read_again = ind-Formula IsReadAgain (λ x y is budget place rest le fit deep e.
     rw (text_of x) (subst IsLayerRead is (step_again y) budget place rest le (rw (stands_of x place) at fit) (omega (arith, deep, depth_of x)) e))
 
--- what follows a formula cannot belong to it
+-- what follows a formula can't belong to it
 pub formula_again : (f : Formula) (rest : List Lexeme) → IsWrittenFormula f → ends 4 rest ≡ true → formula_at (text f ++ rest) ≡ Some (f, rest)
 formula_again f rest is e = rw (read_again f 64 4 rest (omega arith) is.grouped is.shallow e, le-leb (tree_depth f) 64 is.shallow) refl

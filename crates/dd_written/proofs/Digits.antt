@@ -1,14 +1,14 @@
--- Digits whose value is cut off.
+-- The value of digits, cut off at a limit.
 use Rattle.std.proofs.Common.{◌≡◌, ℕ, ◌+◌, ◌-◌, ◌*◌, ◌≤◌, ◌<◌, List, [], ◌∷◌, length, min, drop, get_or, sym, ap, ◌∙◌, arith}
 use Rattle.std.proofs.lemmas.List.{drop_more}
 use Rattle.dd_written.specs.Values.{decimal}
 
--- equal values below the limit give equal values below the limit
+-- values that are equal up to the limit stay so with more digits
 decimal_cut : (v w : ℕ) (digits : List ℕ) → min v 4294967295 ≡ min w 4294967295 → min (decimal v digits) 4294967295 ≡ min (decimal w digits) 4294967295
 decimal_cut v w [] e = e
 decimal_cut v w (d ∷ digits) e = decimal_cut (v * 10 + (d - 48)) (w * 10 + (d - 48)) digits (omega (arith, e))
 
--- one digit more, of those that are left
+-- the next of the remaining digits
 pub decimal_more : (digits : List ℕ) (i old new total : ℕ) → i < length digits → min (decimal old (drop i digits)) 4294967295 ≡ total → new ≡ min (old * 10 + (get_or digits i 0 - 48)) 4294967295
     → (new ≤ 4294967295) × (min (decimal new (drop (i + 1) digits)) 4294967295 ≡ total)
 decimal_more digits i old new total lt so_far made = (

@@ -1,4 +1,4 @@
--- Formulas: what each is written as, where each may stand without parentheses, and how deep each is.
+-- Formulas: the text of each, where each may stand without parentheses, and how deep each is.
 use Rattle.std.specs.Prelude.{◌≡◌, ℕ, ◌+◌, ◌-◌, ◌≤◌, List, [], ◌∷◌, ◌++◌, length, Bool, true, ◌&&◌, nat_le, max, min}
 use Rattle.std.specs.List.{flat_map, list_all}
 use Rattle.dd_written.specs.Tree.{Word, Mark, Lexeme, Name, Term, Comparand, Relation, Atom, Ball, Quantifier, Join, Formula, Formula-F, fold-Formula}
@@ -40,7 +40,7 @@ sign Join.Or = Mark.Or
 sign Join.Implies = Mark.Arrow
 sign Join.Iff = Mark.BothWays
 
--- texts with a mark between each two
+-- texts, with a mark between neighbours
 abbrev pub separated_by : Mark → List (List Lexeme) → List Lexeme
 separated_by m [] = []
 separated_by m (t ∷ ts) = t ++ flat_map (λ u. Lexeme.Mark m ∷ u) ts
@@ -56,8 +56,8 @@ text_step (Formula-F.Chain j fs) = separated_by (sign j) fs
 abbrev pub text : Formula → List Lexeme
 text = fold-Formula (List Lexeme) text_step
 
--- The places of a formula, from the tightest: 0 behind `!` and a quantifier and as a part of `&`, 1 as a part of `|`,
--- 2 of `->`, 3 of `<->`, 4 in parentheses and alone.
+-- The precedence of a place, from the tightest: 0 after `!` or a quantifier and as a part of `&`, 1 as a part of `|`, 2 of `->`,
+-- 3 of `<->`, and 4 in parentheses or alone.
 abbrev pub join_rank : Join → ℕ
 join_rank Join.And = 1
 join_rank Join.Or = 2
@@ -75,14 +75,14 @@ stands_step (Formula-F.Chain j fs) place = nat_le (join_rank j) place && nat_le 
 abbrev pub stands : Formula → ℕ → Bool
 stands = fold-Formula (ℕ → Bool) stands_step
 
--- How many of the signs of n parts stand over part i: `a -> b -> c` is `a -> (b -> c)`, and `a <-> b <-> c` is `(a <-> b) <-> c`.
+-- How many of the signs of n parts stand above part i: `a -> b -> c` is `a -> (b -> c)`; `a <-> b <-> c` is `(a <-> b) <-> c`.
 abbrev pub signs_over : Join → ℕ → ℕ → ℕ
 signs_over Join.And n i = 1
 signs_over Join.Or n i = 1
 signs_over Join.Implies n i = min (i + 1) (n - 1)
 signs_over Join.Iff n i = min (n - i) (n - 1)
 
--- how deep the parts from part i on make a chain of n parts
+-- the depth that the parts from i on give to a chain of n parts
 abbrev pub chain_depth : Join → ℕ → ℕ → List ℕ → ℕ
 chain_depth j n i [] = 0
 chain_depth j n i (d ∷ ds) = max (signs_over j n i + d) (chain_depth j n (i + 1) ds)
@@ -97,11 +97,11 @@ tree_depth_step (Formula-F.Chain j ds) = chain_depth j (length ds) 0 ds
 abbrev pub tree_depth : Formula → ℕ
 tree_depth = fold-Formula ℕ tree_depth_step
 
--- a depth, cut off at the first number over the limit
+-- a depth, cut off just over the limit
 abbrev pub cut_depth : ℕ → ℕ
 cut_depth n = min n 65
 
--- A formula that stands alone, each of its parts at its place, and of a depth within the limit.
+-- A formula that can stand alone, with its parts grouped correctly, and a depth within the limit.
 pub record IsWrittenFormula (f : Formula) : Type 0 where
   pub grouped : stands f 4 ≡ true
   pub shallow : tree_depth f ≤ 64

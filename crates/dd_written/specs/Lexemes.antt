@@ -1,10 +1,10 @@
--- The tokens of a script as the grammar sees them.
+-- The tokens of a script, as the grammar sees them.
 use Rattle.std.specs.Prelude.{ℕ, List, [], ◌∷◌, ◌++◌, length, map, take, drop, ◌==◌, ◌&&◌, Option, Some, None, if◌then◌else◌, codes, bytes_eq}
 use Rattle.std.specs.{List.find, List.zip, List.list_all, Option.option_map, Char.is_ascii}
 use Rattle.dd_tokens.specs.{declared.token.Token.Token, declared.token.TokenKind.TokenKind, Format.tokens_of}
 use Rattle.dd_written.specs.Tree.{Mark, Lexeme}
 
--- the marks of one byte, each behind its byte
+-- the marks of one byte, each after its byte
 abbrev pub signs : List (ℕ × Mark)
 signs =
     zip (codes "AE%()[].=!&|~@:") (Mark.All ∷ Mark.Exists ∷ Mark.Percent ∷ Mark.Open ∷ Mark.Close ∷ Mark.OpenList ∷ Mark.CloseList
@@ -33,7 +33,7 @@ lexeme_of bytes t = elim t.kind as (λ kind. Lexeme) [
   | TokenKind.Mark ↦ marked (mark_at (take t.length (drop t.start bytes)))
 ]
 
--- what follows the tokens: nothing, where they and the blanks are all of the bytes, which are ASCII; else a byte that belongs to none
+-- a stray token at the end, unless all bytes are ASCII and belong to tokens or blanks
 abbrev pub stray : List ℕ → List Lexeme
 stray bytes = if (tokens_of bytes).stop == length bytes && list_all is_ascii bytes then [] else Lexeme.Stray ∷ []
 

@@ -1,12 +1,12 @@
--- the types of what is written
+-- the types of syntax trees
 pub mod Tree
--- the tokens of a script as the grammar sees them
+-- the tokens of a script, as the grammar sees them
 pub mod Lexemes
 -- the texts of words and numbers, and the values of numbers
 pub mod Values
--- formulas as they are written
+-- formulas and their texts
 pub mod Formulas
--- mirrors of the readers
+-- the readers, as functions
 pub mod reading
--- lemmas on what stands above, with their proofs, for whoever cites them
+-- lemmas on these definitions, for other crates
 pub mod lemmas

@@ -12,16 +12,16 @@ abbrev pub name_text : List ℕ → Name → List ℕ
 name_text bytes (Name.Word w) = word_text bytes w
 name_text bytes (Name.Number n) = number_text bytes n
 
--- the value of more digits, behind some of this value
+-- the value of the digits, after digits with the value `value`
 abbrev pub decimal : ℕ → List ℕ → ℕ
 decimal value [] = value
 decimal value (digit ∷ digits) = decimal (value * 10 + (digit - 48)) digits
 
--- without a hyphen before it
+-- the text without a hyphen at its front
 abbrev pub unsigned : List ℕ → List ℕ
 unsigned [] = []
 unsigned (b ∷ bytes) = if b == 45 then bytes else b ∷ bytes
 
--- the absolute value of a number as it is written
+-- the absolute value of a written number
 abbrev pub written_value : List ℕ → Number → ℕ
 written_value bytes n = decimal 0 (unsigned (number_text bytes n))

@@ -1,4 +1,4 @@
-//! How deep a formula is, as far as the limit asks.
+//! How deep a formula is, counted up to just over the limit.
 ghost use Rattle.std.specs.Prelude.{◌≡◌, ◌<◌, ◌+◌, length, map};
 ghost use Rattle.dd_written.specs.Formulas.{tree_depth, signs_over, chain_depth, cut_depth};
 
@@ -13,7 +13,7 @@ fn deeper(depth: u32, more: u32) -> u32
     more.saturating_add(depth).min(MOST_DEEP + 1)
 }
 
-/// How many signs of a chain of so many parts stand over one of them.
+/// How many signs of a chain of `count` parts stand above the part at `place` in the syntax tree.
 fn signs_over(join: Join, count: usize, place: usize) -> u32
     requires { place < count }
     ensures { result ≡ cut_depth (signs_over join count place) }
@@ -26,7 +26,7 @@ fn signs_over(join: Join, count: usize, place: usize) -> u32
     signs.min(65) as u32
 }
 
-/// The depth, and 65 for all that are deeper than 64.
+/// The depth; 65 for all depths over 64.
 #[cycle(measure)]
 pub(crate) fn capped_depth(formula: &Formula) -> u32
     ensures { result ≡ cut_depth (tree_depth formula.now) }

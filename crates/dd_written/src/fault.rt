@@ -6,16 +6,16 @@ use crate::lexeme::Lexeme;
 use std::alloc::AllocError;
 use thiserror::Error;
 
-/// What was read at the front of some tokens, and the tokens behind it.
+/// What was read from the front of some tokens, and the tokens after it.
 pub(crate) type Read<'a, T> = Result<(T, &'a [Lexeme]), ReadFault>;
 
 /// Why nothing was read of the tokens.
 #[derive(Debug, Drop, Error)]
 pub enum ReadFault {
-    /// The tokens are no text of what was asked for.
+    /// The tokens don't begin with what was to be read.
     #[error("not well formed")]
     Syntax,
-    /// Memory was wanting.
+    /// Memory ran out.
     #[error("out of memory")]
     Memory,
 }

@@ -11,7 +11,7 @@ use crate::tree::{Atom, Ball, Comparand, Formula, Join, Name, Quantifier, Relati
 use dd_values::{Boxed, Items};
 use std::alloc::Global;
 
-/// The name at the front, and the tokens behind it.
+/// The name at the front, and the tokens after it.
 pub fn read_name(tokens: &[Lexeme]) -> Read<'_, Name>
     ensures { Gives (λ x. (x.0, x.1.now)) result (name_at tokens.now) }
 {
@@ -54,7 +54,7 @@ fn side(alloc: Global, tokens: &[Lexeme]) -> Read<'_, Comparand>
     }
 }
 
-/// What is said of a term, behind it.
+/// What an atom says of its term, read after the term.
 fn relation(alloc: Global, tokens: &[Lexeme]) -> Read<'_, Relation>
     ensures { Gives (λ x. (x.0, x.1.now)) result (relation_at tokens.now) }
 {
@@ -78,7 +78,7 @@ fn relation(alloc: Global, tokens: &[Lexeme]) -> Read<'_, Relation>
     }
 }
 
-/// A formula without parts.
+/// An atom: a formula without parts.
 fn leaf(alloc: Global, tokens: &[Lexeme]) -> Read<'_, Formula>
     ensures { Gives (λ x. (x.0, x.1.now)) result (leaf_at tokens.now) }
 {
@@ -100,7 +100,7 @@ fn balls(alloc: Global, tokens: &[Lexeme]) -> Read<'_, Items<Ball>>
     Ok((balls, rest))
 }
 
-/// The variable and the balls of a quantifier, behind its capital.
+/// The variable and the balls of a quantifier, read after its capital.
 fn quantifier(alloc: Global, tokens: &[Lexeme]) -> Read<'_, (Word, Items<Ball>)>
     ensures { Gives (λ x. (x.0, x.1.now)) result (quantifier_at tokens.now) }
 {
@@ -132,7 +132,7 @@ fn begins(join: Join, tokens: &[Lexeme]) -> bool
     }
 }
 
-/// A formula of the tightest place. The budget bounds how many of `!`, quantifiers and parentheses stand in one another.
+/// A formula that binds tightest. `budget` bounds how deep `!`, quantifiers and parentheses are nested.
 #[cycle(read)]
 fn unary(alloc: Global, budget: u32, tokens: &[Lexeme]) -> Read<'_, Formula>
     ensures { Gives (λ x. (x.0, x.1.now)) result (unary_at budget tokens.now) }
@@ -182,7 +182,7 @@ fn quantified(alloc: Global, budget: u32, kind: Quantifier, tokens: &[Lexeme]) -
     Ok((formula, rest))
 }
 
-/// A part of a chain: the looser a sign binds, the looser are those that its parts may hold.
+/// A part of a chain. The looser the sign binds, the looser the chains that its parts may contain.
 #[cycle(read)]
 fn part(alloc: Global, budget: u32, join: Join, tokens: &[Lexeme]) -> Read<'_, Formula>
     ensures { Gives (λ x. (x.0, x.1.now)) result (part_at join (unary_at budget) tokens.now) }
@@ -195,7 +195,7 @@ fn part(alloc: Global, budget: u32, join: Join, tokens: &[Lexeme]) -> Read<'_, F
     }
 }
 
-/// One part, or a chain of two or more with the sign between them, as far as it goes.
+/// One part, or a chain of two or more with the sign between them, as long as possible.
 #[cycle(read)]
 fn chain(alloc: Global, budget: u32, join: Join, tokens: &[Lexeme]) -> Read<'_, Formula>
     ensures { Gives (λ x. (x.0, x.1.now)) result (chain_at join (part_at join (unary_at budget)) tokens.now) }
@@ -217,10 +217,10 @@ fn chain(alloc: Global, budget: u32, join: Join, tokens: &[Lexeme]) -> Read<'_, 
     Ok((Formula::Chain { join, parts }, rest))
 }
 
-/// A formula of a depth of at most 64 at the front, as far as it goes, and the tokens behind it.
+/// The longest formula at the front, of a depth of at most 64, and the tokens after it.
 ///
 /// # Errors
-/// No formula of such a depth stands there, or want of memory.
+/// The tokens begin with no formula of such a depth, or memory ran out.
 pub fn read_formula(alloc: Global, tokens: &[Lexeme]) -> Read<'_, Formula>
     ensures { Gives (λ x. (x.0, x.1.now)) result (formula_at tokens.now) }
 {

@@ -1,20 +1,20 @@
-//! The tokens of a script as the grammar sees them.
+//! The tokens of a script, as the grammar sees them.
 
-/// A word, by the place of its bytes.
+/// A word, by the position of its bytes.
 #[derive(Clone, Copy, Debug, PartialEq, Eq)]
 pub struct Word {
-    /// The place of its first byte, from 0.
+    /// The position of its first byte, from 0.
     pub start: u32,
     /// How many bytes it has.
     pub length: u32,
 }
 
-/// A number, by the place of its bytes.
+/// A number, by the position of its bytes.
 #[derive(Clone, Copy, Debug, PartialEq, Eq)]
 pub struct Number {
-    /// The place of its first byte, from 0; that of a negative number is its `-`.
+    /// The position of its first byte, from 0; a negative number begins with its `-`.
     pub start: u32,
-    /// How many bytes it has, with the `-`.
+    /// How many bytes it has, including the `-`.
     pub length: u32,
 }
 
@@ -59,7 +59,7 @@ pub enum Mark {
     BothWays,
 }
 
-/// A token as the grammar sees it.
+/// A token, as the grammar sees it.
 #[derive(Clone, Copy, Debug, PartialEq, Eq)]
 pub enum Lexeme {
     /// Letters from `a` to `z`.
@@ -70,6 +70,6 @@ pub enum Lexeme {
     Negative(Number),
     /// A capital or a sign.
     Mark(Mark),
-    /// A byte that belongs to no token and no blank. It has no place in any command.
+    /// A byte that belongs to no token and no blank. No command may contain it.
     Stray,
 }

@@ -1,4 +1,4 @@
-//! From the bytes of a script to its tokens as the grammar sees them.
+//! From the bytes of a script to tokens for the grammar.
 ghost use Rattle.std.specs.Prelude.{◌≡◌, ◌≤◌, ◌+◌, length, map, IfOk};
 ghost use Rattle.std.specs.{Char.is_ascii, List.list_all};
 ghost use Rattle.dd_values.specs.Bounds.{most_script};
@@ -10,7 +10,7 @@ use dd_tokens::{Token, TokenKind, tokens};
 use dd_values::Items;
 use std::alloc::{AllocError, Global};
 
-/// The mark of one byte.
+/// The mark that consists of this byte.
 fn sign(byte: u8) -> Option<Mark>
     ensures { result ≡ sign_of byte }
 {
@@ -74,7 +74,7 @@ fn is_ascii(bytes: &[u8]) -> bool
     bytes.iter().all(|byte| byte.is_ascii())
 }
 
-/// The tokens of at most 1,048,576 bytes, and a stray one where the bytes are not tokens and blanks whole, all ASCII.
+/// The tokens of at most 1,048,576 bytes. A stray token follows unless all bytes are ASCII and belong to tokens or blanks.
 pub fn lexemes(alloc: Global, bytes: &[u8]) -> Result<Items<Lexeme>, AllocError>
     requires { length bytes.now ≤ most_script }
     ensures value { IfOk result (λ lexemes. lexemes ≡ lexemes_of bytes.now) }

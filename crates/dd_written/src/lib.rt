@@ -1,4 +1,4 @@
-//! The grammar of formulas: from bytes to tokens, and from tokens to formulas as they are written.
+//! The grammar of formulas: from bytes to tokens, and from tokens to syntax trees of formulas.
 #![tactic(auto)]
 
 mod depth;

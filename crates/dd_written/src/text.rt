@@ -1,4 +1,4 @@
-//! The text of a script, in which names and numbers stand.
+//! The text of a script, which contains its names and numbers.
 ghost use Rattle.std.specs.Prelude.{◌≡◌, take, drop, min, IfOk};
 ghost use Rattle.std.specs.Str.{IsAscii};
 ghost use Rattle.dd_written.specs.Values.{name_text, decimal, written_value};
@@ -11,7 +11,7 @@ use std::alloc::{AllocError, Global};
 use std::marker::Model;
 use std::str;
 
-/// The bytes of a script, all of them ASCII.
+/// The bytes of a script, all ASCII.
 #[derive(Debug, Drop)]
 pub struct Text {
     bytes: Items<u8>,
@@ -27,7 +27,7 @@ impl Model for Text {
     ghost invariant = { λ text. IsAscii text.bytes };
 }
 
-/// The value of digits, and the greatest number of 32 bits for all that are greater.
+/// The value of the digits, at most 4,294,967,295.
 #[tactic(auto, using(crate::proofs::Digits::decimal_more))]
 fn decimal(digits: &[u8]) -> u32
     ensures { result ≡ min (decimal 0 digits.now) 4294967295 }
@@ -51,7 +51,7 @@ impl Text {
         Ok(Text { bytes })
     }
 
-    /// So many bytes from a place on, as far as there are.
+    /// The `length` bytes from `start` on, or as many as there are.
     pub fn part(&self, start: u32, length: u32) -> &str
         ensures { result.now ≡ take length (drop start self.now) }
     {
@@ -72,7 +72,7 @@ pub fn name_text(text: &Text, name: Name) -> &str
     }
 }
 
-/// The absolute value of a number, and the greatest number of 32 bits for all that are greater.
+/// The absolute value of a number, at most 4,294,967,295.
 pub fn number_value(text: &Text, number: Number) -> u32
     ensures { result ≡ min (written_value text.now number) 4294967295 }
 {

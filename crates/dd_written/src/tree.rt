@@ -1,4 +1,4 @@
-//! Formulas as they are written.
+//! The syntax trees of formulas.
 use crate::lexeme::{Number, Word};
 use dd_values::{Boxed, Items};
 
@@ -11,14 +11,14 @@ pub enum Name {
     Number(Number),
 }
 
-/// A variable and the moves from it, by their labels: `o.rt.up`.
+/// A variable followed by moves, given by their labels: `o.rt.up`.
 #[derive(Debug, Drop)]
 pub struct Term {
     pub first: Word,
     pub moves: Items<Word>,
 }
 
-/// What stands on the right of `=` and `!=`. A single word is a term without moves, though it may name a symbol.
+/// The right side of `=` and `!=`. A single word is a term without moves, though it may name a symbol.
 #[derive(Debug, Drop)]
 pub enum Comparand {
     /// A variable with its moves, or the word for a symbol.
@@ -42,7 +42,7 @@ pub enum Relation {
     AtNode(Name),
 }
 
-/// A formula without parts: a term, and what is said of it.
+/// A formula without parts: a term and a statement about it.
 #[derive(Debug, Drop)]
 pub struct Atom {
     pub term: Term,
@@ -78,7 +78,7 @@ pub enum Join {
     Iff,
 }
 
-/// A formula as it is written, with its parentheses.
+/// The syntax tree of a formula, with its parentheses.
 #[derive(Debug, Drop)]
 pub enum Formula {
     /// A formula without parts.
@@ -95,7 +95,7 @@ pub enum Formula {
     },
     /// A formula in parentheses.
     Group(Boxed<Formula>),
-    /// Two or more parts with the same sign between each two.
+    /// Two or more parts, with the same sign between them.
     Chain {
         join: Join,
         parts: Items<Formula>,

@@ -1,10 +1,10 @@
-//! Words by their text.
+//! The text of words.
 ghost use Rattle.std.specs.Prelude.{◌≡◌, bytes_eq, take, drop};
 ghost use Rattle.dd_written.specs.Values.{word_text};
 
 use crate::lexeme::Word;
 
-/// So many bytes from a place on, as far as there are.
+/// The `length` bytes from `start` on, or as many as there are.
 pub(crate) fn part(bytes: &[u8], start: u32, length: u32) -> &[u8]
     ensures { result.now ≡ take length (drop start bytes.now) }
 {
@@ -21,7 +21,7 @@ pub fn word_bytes(bytes: &[u8], word: Word) -> &[u8]
     part(bytes, word.start, word.length)
 }
 
-/// Whether the bytes are those that are wanted.
+/// Whether the text is the wanted one.
 pub fn same_bytes(text: &[u8], wanted: &[u8]) -> bool
     ensures { result ≡ bytes_eq text.now wanted.now }
 {

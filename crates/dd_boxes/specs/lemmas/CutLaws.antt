@@ -1,39 +1,19 @@
 -- The part of a filling that lies in a moved box.
-use Rattle.std.proofs.Common.{◌≡◌, ℕ, ◌≤◌, Bool, true, false, refl, ap, sym, ◌∙◌, None, arith, ℤ, pos, ◌+ℤ◌}
-use Rattle.std.specs.Prelude.{cond, ◌&&◌, ◌||◌, Option, is_some, IfSome, nat_lt, unsigned_abs}
-use Rattle.std.specs.Ordering.{int_eq}
+use Rattle.std.proofs.Common.{◌≡◌, ℕ, ◌≤◌, Bool, true, false, refl, ap, sym, ◌∙◌, None, arith, ℤ, pos}
 use Rattle.std.proofs.lemmas.Int.{ints}
 use Rattle.std.proofs.lemmas.Bool.{and_parts, and_from, cond_both, leb-true, le-leb}
 use Rattle.std.proofs.lemmas.Bool.Decides.{Decides-int_eq}
-use Rattle.dd_lattice.specs.Place.{Place, moved}
-use Rattle.dd_lattice.specs.Cells.{cell, shifted}
-use Rattle.dd_lattice.specs.Boxes.{is_active, spread}
+use Rattle.std.specs.Prelude.{cond, ◌&&◌, ◌||◌, Option, is_some, IfSome, nat_lt, unsigned_abs}
+use Rattle.std.specs.Ordering.{int_eq}
+use Rattle.dd_lattice.specs.{Place.Place, Place.moved, Cells.cell, Cells.shifted, Boxes.is_active, Boxes.spread}
 use Rattle.dd_lattice.specs.declared.position.Cell.{Cell}
 use Rattle.dd_pattern.specs.Reading.{Look}
-use Rattle.dd_expansion.specs.Placed.{is_flat}
-use Rattle.dd_formula.specs.LocalRule.{LocalRule, rule_allows, reads_at}
-use Rattle.dd_formula.specs.Allowed.{AreAllowed}
+use Rattle.dd_expansion.specs.{Placed.is_flat, lemmas.Placed.sum_is_zero, lemmas.Placed.sum_on_axis, lemmas.Placed.flat_moved}
+use Rattle.dd_formula.specs.{LocalRule.LocalRule, LocalRule.rule_allows, LocalRule.reads_at, Allowed.AreAllowed}
 use Rattle.dd_boxes.specs.Fillings.{place_fits, Admissible, is_up_to, in_box, is_cell_in_box, is_box_cell, IsBoxFilling}
 use Rattle.dd_boxes.specs.Boxes.{Covers}
 use Rattle.dd_boxes.specs.lemmas.RuleLaws.{from_place, shifted_twice, reads_given, keeps_at, list_all_weaker}
-
--- the sum of two positions of Z^d is one
-zero_sum : (x y : ℤ) → int_eq x (pos 0) ≡ true → int_eq y (pos 0) ≡ true → int_eq (x +ℤ y) (pos 0) ≡ true
-zero_sum x y h k =
-    let a : x ≡ pos 0 = (Decides-int_eq x (pos 0)).0 h in
-    let b : y ≡ pos 0 = (Decides-int_eq y (pos 0)).0 k in
-    (Decides-int_eq (x +ℤ y) (pos 0)).1 (omega (arith, ints))
-
-flat_axis : (active : Bool) (x y : ℤ) → (active || int_eq x (pos 0)) ≡ true → (active || int_eq y (pos 0)) ≡ true → (active || int_eq (x +ℤ y) (pos 0)) ≡ true
-flat_axis true x y h k = refl
-flat_axis false x y h k = zero_sum x y h k
-
-pub flat_moved : (d : ℕ) (u v : Place) → is_flat d u ≡ true → is_flat d v ≡ true → is_flat d (moved u v) ≡ true
-flat_moved d u v h k =
-    let us = and_parts (nat_lt 1 d || int_eq u.y (pos 0)) (nat_lt 2 d || int_eq u.z (pos 0)) h in
-    let vs = and_parts (nat_lt 1 d || int_eq v.y (pos 0)) (nat_lt 2 d || int_eq v.z (pos 0)) k in
-    and_from (nat_lt 1 d || int_eq (u.y +ℤ v.y) (pos 0)) (nat_lt 2 d || int_eq (u.z +ℤ v.z) (pos 0))
-    (flat_axis (nat_lt 1 d) u.y v.y us.0 vs.0) (flat_axis (nat_lt 2 d) u.z v.z us.1 vs.1)
+use Rattle.dd_values.specs.lemmas.Booleans.{cond_domain}
 
 -- a box lies in Z^d
 box_axis : (active : Bool) (n : ℕ) (x : ℤ) → is_up_to (spread active n) x ≡ true → (active || int_eq x (pos 0)) ≡ true
@@ -80,10 +60,6 @@ cut x n look v c = cond (is_box_cell x n c) (look (shifted v c)) None
 cut_agrees : (x : LocalRule) (n : ℕ) (look : Look) (v : Place) (c : Cell) → is_some (cut x n look v c) ≡ true → cut x n look v c ≡ look (shifted v c)
 cut_agrees x n look v c =
     cond_both (is_box_cell x n c) (look (shifted v c)) None (λ o. is_some o ≡ true → o ≡ look (shifted v c)) (λ _ _. refl) (λ _ h. absurd (cc))
-
-pub cond_domain : (b : Bool) (o : Option ℕ) → (b ≡ true → is_some o ≡ true) → is_some (cond b o None) ≡ b
-cond_domain true o h = h refl
-cond_domain false o h = refl
 
 pub cond_symbols : (P : ℕ → Type 0) (b : Bool) (o : Option ℕ) → IfSome o P → IfSome (cond b o None) P
 cond_symbols P true o h = h

@@ -1,28 +1,20 @@
 -- What no admissible filling of one box has at the origin, no admissible filling has anywhere.
 use Rattle.std.proofs.Common.{◌≡◌, ℕ, ◌<◌, ◌≤◌, Bool, true, false, List, length, refl, ap, sym, ◌∙◌}
-use Rattle.std.specs.Prelude.{◌&&◌, ◌||◌, is_some, nat_lt, slice_get}
-use Rattle.std.specs.List.{list_all}
-use Rattle.std.proofs.lemmas.Bool.{and_parts, lt-ltb, ltb-true}
-use Rattle.std.proofs.lemmas.Option.{slice_get-get_or}
-use Rattle.dd_lattice.specs.Place.{Place}
-use Rattle.dd_lattice.specs.Cells.{cell, shifted}
-use Rattle.dd_lattice.specs.declared.position.Cell.{Cell}
-use Rattle.dd_pattern.specs.Reading.{Look}
-use Rattle.dd_pattern.specs.Tile.{Tile, IsTile, tile_look, tile_index}
-use Rattle.dd_pattern.specs.lemmas.TileSizes.{index_below}
-use Rattle.dd_expansion.specs.Placed.{is_flat}
-use Rattle.dd_formula.specs.LocalRule.{LocalRule, reads_at}
-use Rattle.dd_formula.specs.Allowed.{HasAllowed}
-use Rattle.dd_formula.specs.Living.{Fits}
-use Rattle.dd_formula.specs.Automata.{CommonNumbers, value, counted}
-use Rattle.dd_formula.specs.declared.automaton.Automaton.{Automaton}
+use Rattle.std.proofs.lemmas.{Bool.and_parts, Bool.lt-ltb, Bool.ltb-true, Option.slice_get-get_or}
+use Rattle.std.specs.{Prelude.◌&&◌, Prelude.◌||◌, Prelude.is_some, Prelude.nat_lt, Prelude.slice_get, List.list_all}
+use Rattle.dd_lattice.specs.{Place.Place, Cells.cell, Cells.shifted, declared.position.Cell.Cell, lemmas.MoveLaws.shifted_by_origin}
+use Rattle.dd_pattern.specs.{Reading.Look, Tile.Tile, Tile.IsTile, Tile.tile_look, Tile.tile_index, lemmas.TileSizes.index_below}
+use Rattle.dd_expansion.specs.{Placed.is_flat, lemmas.Placed.flat_moved}
+use Rattle.dd_formula.specs.{LocalRule.LocalRule, LocalRule.reads_at, Allowed.HasAllowed, Living.Fits}
+use Rattle.dd_formula.specs.{Automata.CommonNumbers, Automata.value, Automata.counted, declared.automaton.Automaton.Automaton}
 use Rattle.dd_boxes.specs.Goals.{GoalOf, breaks, differ, always, HasGoal, AreAlike, AreOver, IsGoalFor}
 use Rattle.dd_boxes.specs.Fillings.{in_box, is_box_cell, is_cell_within, IsConfiguration}
 use Rattle.dd_boxes.specs.Boxes.{origin, Suffices, Reaches, IsLeastRadius, Covers, Never, IsInNoConfiguration, IsInNoTile, HoldsNowhere}
-use Rattle.dd_boxes.specs.lemmas.RuleLaws.{from_place, moved_from_origin, shifted_by_origin, reads_given, keeps_at, value_keeps, list_all_weaker}
-use Rattle.dd_boxes.specs.lemmas.CutLaws.{flat_moved, flat_box, wider_box, wider_cells, cut, cond_domain, cut_is_filling, cut_near, cut_admissible}
+use Rattle.dd_boxes.specs.lemmas.RuleLaws.{from_place, moved_from_origin, reads_given, keeps_at, value_keeps, list_all_weaker}
+use Rattle.dd_boxes.specs.lemmas.CutLaws.{flat_box, wider_box, wider_cells, cut, cut_is_filling, cut_near, cut_admissible}
+use Rattle.dd_values.specs.lemmas.Booleans.{cond_domain}
 
--- alike rules have one box
+-- alike rules have the same box
 pub box_alike : (x y : LocalRule) (n : ℕ) (c : Cell) → AreAlike x y → is_box_cell y n c ≡ is_box_cell x n c
 box_alike x y n c same = rw (same.dimension, same.nodes) refl
 
@@ -58,7 +50,7 @@ differ_at_origin x s f g n look v a over node reach covers apart same =
     value_keeps g less look origin v a (cut_at_origin x n look v) (has ((counted g).reads a) (reach a node).1) in
     apart (sym left ∙ (same ∙ right))
 
--- the goal goes from v to the origin of the cut
+-- a goal at v holds at the origin of the cut
 goal_at_origin : (x : LocalRule) (g : GoalOf) (n : ℕ) (look : Look) (v : Place) → IsGoalFor x g → Reaches g n → Covers x n look v → HasGoal g look v →
     HasGoal g (cut x n look v) origin
 goal_at_origin x (breaks y) n look v ok reach covers there = (
@@ -88,7 +80,7 @@ pub never_in_configuration : (x : LocalRule) (g : GoalOf) (n : ℕ) → Never x 
 never_in_configuration x g n never look full obeys v flat there =
     never.nowhere look full.allowed (λ u a level node _. obeys u a level node) v flat (configuration_covers x n look v full flat) there
 
--- a periodic configuration is one
+-- a periodic configuration is a configuration
 look_is_some : (t : Tile) (c : Cell) → tile_index t c < length t.symbols → is_some (slice_get t.symbols (tile_index t c)) ≡ true
 look_is_some t c below = ap is_some (slice_get-get_or t.symbols (tile_index t c) 0 below)
 
@@ -130,6 +122,6 @@ suffices_more x g n m ok reach le suffices look filling admissible there =
     flat_origin false true = refl
     flat_origin false false = refl
 
--- the radii that reach are those from the least one on
+-- the radii that reach are the least one and all greater ones
 pub from_least : (g : GoalOf) (least n : ℕ) → IsLeastRadius g least → least ≤ n → Reaches g n
 from_least g least n is le = reaches_more g least n le is.reaches

@@ -1,15 +1,10 @@
--- What one box says.
+-- What one box shows.
 use Rattle.std.proofs.Common.{◌≡◌, ℕ, ◌≤◌, Bool, true, false, ℤ, pos, ◌≤ℤ◌, ◌-ℤ◌, arith}
+use Rattle.std.proofs.lemmas.{Int.ints, Bool.and_from, Bool.leb-true, Bool.le-leb}
 use Rattle.std.specs.Prelude.{◌↔◌, unsigned_abs}
-use Rattle.std.proofs.lemmas.Int.{ints}
-use Rattle.std.proofs.lemmas.Bool.{and_from, leb-true, le-leb}
-use Rattle.dd_lattice.specs.Place.{Place}
-use Rattle.dd_lattice.specs.Boxes.{IsCentred, IsUpTo, OnAxis, is_active, spread}
+use Rattle.dd_lattice.specs.{Place.Place, Boxes.IsCentred, Boxes.IsUpTo, Boxes.OnAxis, Boxes.is_active, Boxes.spread}
 use Rattle.dd_formula.specs.LocalRule.{LocalRule}
-use Rattle.dd_boxes.specs.Goals.{GoalOf}
-use Rattle.dd_boxes.specs.Fillings.{is_up_to, in_box}
-use Rattle.dd_boxes.specs.Laws.{OneBox}
-use Rattle.dd_boxes.specs.lemmas.CutLaws.{box_parts}
+use Rattle.dd_boxes.specs.{Goals.GoalOf, Fillings.is_up_to, Fillings.in_box, Laws.OneBox, lemmas.CutLaws.box_parts}
 use Rattle.dd_boxes.specs.lemmas.FromBox.{holds_nowhere, suffices_more, from_least}
 
 axis_from_test : (active : Bool) (n : ℕ) (c : ℤ) → is_up_to (spread active n) c ≡ true → OnAxis active (IsUpTo n) c

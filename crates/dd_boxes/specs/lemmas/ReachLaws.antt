@@ -1,29 +1,22 @@
 -- The least radius of a goal is how far it reads.
 use Rattle.std.proofs.Common.{◌≡◌, ℕ, ◌<◌, ◌≤◌, Bool, true, false, List, [], ◌∷◌, refl, sym, subst, arith, ℤ, pos}
-use Rattle.std.specs.Prelude.{◌&&◌, ◌||◌, max, nat_lt, unsigned_abs}
-use Rattle.std.specs.Ordering.{int_eq}
-use Rattle.std.specs.List.{list_all}
-use Rattle.std.proofs.lemmas.Int.{ints}
-use Rattle.std.proofs.lemmas.Bool.{and_parts, and_from, leb-true, le-leb}
+use Rattle.std.proofs.lemmas.{Int.ints, Bool.and_parts, Bool.and_from, Bool.leb-true, Bool.le-leb}
 use Rattle.std.proofs.lemmas.Bool.Decides.{nat_tests, Decides-int_eq}
-use Rattle.dd_lattice.specs.Boxes.{is_active, spread}
-use Rattle.dd_lattice.specs.declared.position.Cell.{Cell}
+use Rattle.std.specs.{Prelude.◌&&◌, Prelude.◌||◌, Prelude.max, Prelude.nat_lt, Prelude.unsigned_abs, Ordering.int_eq, List.list_all}
+use Rattle.dd_lattice.specs.{Boxes.is_active, Boxes.spread, declared.position.Cell.Cell}
 use Rattle.dd_topology.specs.Topology.{extent}
 use Rattle.dd_expansion.specs.Placed.{is_flat, is_cell_in}
 use Rattle.dd_formula.specs.LocalRule.{LocalRule, IsRule, most_reach, reads_at, is_of}
 use Rattle.dd_formula.specs.Reach.{reach, automaton_reach}
-use Rattle.dd_formula.specs.Automata.{CommonNumbers, IsAutomaton, counted, is_cell_of}
-use Rattle.dd_formula.specs.Values.{IsPlaced}
-use Rattle.dd_formula.specs.declared.automaton.Automaton.{Automaton}
-use Rattle.dd_formula.specs.lemmas.AutomatonLaws.{near_reads}
+use Rattle.dd_formula.specs.{Automata.CommonNumbers, Automata.IsAutomaton, Automata.counted, Automata.is_cell_of, Values.IsPlaced}
+use Rattle.dd_formula.specs.{declared.automaton.Automaton.Automaton, lemmas.AutomatonLaws.near_reads}
 use Rattle.dd_formula.specs.lemmas.ReachLaws.{is_within, reads_within, reach_within, reach_near, automaton_reads_within, automaton_reach_within}
 use Rattle.dd_boxes.specs.Goals.{GoalOf, breaks, differ, always, IsGoalFor, KeepsRule}
 use Rattle.dd_boxes.specs.Fillings.{is_up_to, in_box, is_cell_in_box, is_box_cell, is_cell_within}
-use Rattle.dd_boxes.specs.Boxes.{goal_reach, IsLeastRadius}
-use Rattle.dd_boxes.specs.lemmas.RuleLaws.{list_all_weaker}
+use Rattle.dd_boxes.specs.{Boxes.goal_reach, Boxes.IsLeastRadius, lemmas.RuleLaws.list_all_weaker}
 use Rattle.dd_boxes.specs.lemmas.CutLaws.{box_parts, flat_box}
 
--- a cell of Z^d is in the box of radius k exactly where it is at most k away
+-- a cell of Z^d is in the box of radius k exactly if it is at most k away
 flat_near : (active : Bool) (k : ℕ) (x : ℤ) → (active || int_eq x (pos 0)) ≡ true → unsigned_abs x ≤ k → is_up_to (spread active k) x ≡ true
 flat_near true k x h near = le-leb _ _ near
 flat_near false k x h near = let zero_there : x ≡ pos 0 = (Decides-int_eq x (pos 0)).0 h in le-leb _ _ (omega (arith, ints))
@@ -118,7 +111,7 @@ module _ (s : CommonNumbers) (f g : Automaton) (some : 1 ≤ s.dimension) where
       one_least (differ s f g) least radius is
       (radius_is_least (λ a node. held f least a (is.reaches a node).0) (λ a node. held g least a (is.reaches a node).1))
 
--- where all that they read are cells of Z^d
+-- the least radius of two automata that read only cells of Z^d
 pub farthest_is_least : (s : CommonNumbers) (f g : Automaton) → 1 ≤ s.dimension → IsAutomaton s f → IsAutomaton s g → IsPlaced f → IsPlaced g →
     IsLeastRadius (differ s f g) (max (automaton_reach s.nodes f) (automaton_reach s.nodes g))
 farthest_is_least s f g some left right in_left in_right = radius_is_least s f g some (in_left s left) (in_right s right)

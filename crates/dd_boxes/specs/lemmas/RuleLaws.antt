@@ -1,46 +1,24 @@
 -- What a rule says and an automaton gives at a place, by the symbols of the cells that they read there.
-use Rattle.std.proofs.Common.{◌≡◌, ℕ, Bool, true, List, [], ◌∷◌, Some, None, refl, subst, ap, sym, ◌∙◌, arith, ℤ, pos, ◌+ℤ◌}
-use Rattle.std.specs.Prelude.{Option, is_some}
-use Rattle.std.specs.List.{list_all}
-use Rattle.std.proofs.lemmas.Int.{ints}
-use Rattle.std.proofs.lemmas.Bool.{and_parts, and_from}
-use Rattle.dd_lattice.specs.Place.{Place, place, moved}
-use Rattle.dd_lattice.specs.Cells.{cell, shifted}
-use Rattle.dd_lattice.specs.declared.position.Cell.{Cell}
+use Rattle.std.proofs.Common.{◌≡◌, ℕ, Bool, true, List, [], ◌∷◌, refl, ap, sym, ◌∙◌, arith, ℤ, pos, ◌+ℤ◌}
+use Rattle.std.proofs.lemmas.{Int.ints, Bool.and_parts, Bool.and_from}
+use Rattle.std.specs.{Prelude.is_some, List.list_all}
+use Rattle.dd_lattice.specs.{Place.Place, Place.place, Place.moved, Cells.cell, Cells.shifted, declared.position.Cell.Cell}
+use Rattle.dd_lattice.specs.lemmas.MoveLaws.{place_same}
 use Rattle.dd_pattern.specs.Reading.{Look}
-use Rattle.dd_expansion.specs.Terms.{origin_at}
-use Rattle.dd_expansion.specs.Truth.{are_equal}
-use Rattle.dd_expansion.specs.lemmas.TruthKeeps.{truth_keeps}
-use Rattle.dd_expansion.specs.lemmas.TruthAt.{at_origin}
-use Rattle.dd_formula.specs.LocalRule.{LocalRule, is_true, reads_at}
-use Rattle.dd_formula.specs.Automata.{value, counted}
-use Rattle.dd_formula.specs.declared.automaton.Automaton.{Automaton}
-use Rattle.dd_formula.specs.lemmas.ValueLaws.{value_by_reads, equal_values}
+use Rattle.dd_expansion.specs.{Terms.origin_at, Truth.are_equal, lemmas.TruthKeeps.truth_keeps, lemmas.TruthAt.at_origin}
+use Rattle.dd_formula.specs.{LocalRule.LocalRule, LocalRule.is_true, LocalRule.reads_at, Automata.value, Automata.counted}
+use Rattle.dd_formula.specs.{declared.automaton.Automaton.Automaton, lemmas.ValueLaws.value_by_reads, lemmas.ValueLaws.equal_to_some}
+use Rattle.dd_values.specs.lemmas.Numbers.{zero_plus}
 
 -- the symbols, by cells that are counted from v
 abbrev pub from_place : Look → Place → Look
 from_place look v c = look (shifted v c)
 
-pub place_same : (a b c x y z : ℤ) → a ≡ x → b ≡ y → c ≡ z → place a b c ≡ place x y z
-place_same a b c x y z p q r = cc
-
 sum_moved : (a b c : ℤ) → ((a +ℤ b) +ℤ c) ≡ a +ℤ (b +ℤ c)
 sum_moved a b c = omega (arith, ints)
 
-zero_plus : (x : ℤ) → (pos 0 +ℤ x) ≡ x
-zero_plus x = omega (arith, ints)
-
-plus_zero : (x : ℤ) → (x +ℤ pos 0) ≡ x
-plus_zero x = omega (arith, ints)
-
 pub moved_from_origin : (v : Place) → moved (place (pos 0) (pos 0) (pos 0)) v ≡ v
 moved_from_origin v = place_same _ _ _ v.x v.y v.z (zero_plus v.x) (zero_plus v.y) (zero_plus v.z)
-
-pub moved_by_origin : (v : Place) → moved v (place (pos 0) (pos 0) (pos 0)) ≡ v
-moved_by_origin v = place_same _ _ _ v.x v.y v.z (plus_zero v.x) (plus_zero v.y) (plus_zero v.z)
-
-pub shifted_by_origin : (c : Cell) → shifted (place (pos 0) (pos 0) (pos 0)) c ≡ c
-shifted_by_origin c = ap (λ p. cell p c.node) (moved_by_origin c.position)
 
 pub shifted_twice : (u v : Place) (c : Cell) → shifted v (shifted u c) ≡ shifted (moved u v) c
 shifted_twice u v c =
@@ -50,8 +28,8 @@ shifted_twice u v c =
 abbrev pub reads_given : LocalRule → Look → Place → ℕ → Bool
 reads_given r look v a = list_all (λ c. is_some (look (shifted v c))) (reads_at r a)
 
--- Two looks that agree, one counted from u and one from v, where the first has symbols: where the first has all that is
--- read, the rule says the same of both.
+-- Two looks, one counted from u and one from v, agree where the first has symbols. If the first has all that is read,
+-- the rule says the same of both.
 pub keeps_at : (r : LocalRule) (less more : Look) (u v : Place) (a : ℕ) →
     ((c : Cell) → is_some (from_place less u c) ≡ true → from_place less u c ≡ from_place more v c) →
     reads_given r less u a ≡ true → is_true r (cell u a) less ≡ is_true r (cell v a) more
@@ -65,11 +43,6 @@ list_all_weaker p q weaker [] h = refl
 list_all_weaker p q weaker (x ∷ xs) h =
     let both = and_parts (p x) (list_all p xs) h in
     and_from (q x) (list_all q xs) (weaker x both.0) (list_all_weaker p q weaker xs both.1)
-
--- and the automaton gives the same
-equal_to_some : (a b : Option ℕ) → a ≡ b → is_some a ≡ true → are_equal a b ≡ true
-equal_to_some None b e h = absurd (cc)
-equal_to_some (Some x) b e h = subst (λ o. are_equal (Some x) o ≡ true) e (equal_values x x refl)
 
 pub value_keeps : (f : Automaton) (less more : Look) (u v : Place) (a : ℕ) →
     ((c : Cell) → is_some (from_place less u c) ≡ true → from_place less u c ≡ from_place more v c) →

@@ -1,14 +1,10 @@
--- A question is small where the largest of its limits is: of smaller boxes, and where fewer positions are asked.
+-- A question within limits is small if the largest one is: smaller boxes and fewer positions take no more clauses.
 use Rattle.std.proofs.Common.{◌≡◌, ℕ, zero, suc, ◌+◌, ◌*◌, ◌^◌, ◌≤◌, ap, ◌∙◌, arith, pos}
+use Rattle.std.proofs.{Math.Nat.pow-zero, Math.Nat.pow-suc, lemmas.Int.ints, lemmas.Nat.mul-le}
 use Rattle.std.specs.Prelude.{◌-ℤ◌}
-use Rattle.std.proofs.Math.Nat.{pow-zero, pow-suc}
-use Rattle.std.proofs.lemmas.Int.{ints}
-use Rattle.std.proofs.lemmas.Nat.{mul-le}
 use Rattle.dd_lattice.specs.Boxes.{span, centred, volume}
-use Rattle.dd_formula.specs.LocalRule.{LocalRule}
-use Rattle.dd_formula.specs.Counts.{place_clauses, largest_region, largest_clauses}
-use Rattle.dd_boxes.specs.Goals.{GoalOf}
-use Rattle.dd_boxes.specs.Counts.{goal_clauses, question_clauses, most_clauses}
+use Rattle.dd_formula.specs.{LocalRule.LocalRule, Counts.place_clauses, Counts.largest_region, Counts.largest_clauses}
+use Rattle.dd_boxes.specs.{Goals.GoalOf, Counts.goal_clauses, Counts.question_clauses, Counts.most_clauses}
 
 -- more positions take more clauses
 sum_up : (n m each rest : ℕ) → n ≤ m → n * each + rest ≤ m * each + rest

@@ -1,10 +1,10 @@
 -- Lists of gates: one more gate, the gate at a place, and more variables.
 use Rattle.std.proofs.Common.{◌≡◌, ℕ, zero, suc, ◌+◌, ◌<◌, ◌≤◌, List, [], ◌∷◌, ◌++◌, length, drop, arith, get_or}
-use Rattle.std.proofs.lemmas.List.Elements.{All-weaker}
-use Rattle.dd_circuit.specs.declared.gates.Signal.{Signal}
-use Rattle.dd_circuit.specs.declared.gates.Gate.{Gate}
+use Rattle.std.proofs.lemmas.List.Elements.{All-weaker, All-nil, All-cons}
+use Rattle.dd_circuit.specs.declared.gates.{Signal.Signal, Gate.Gate}
 use Rattle.dd_circuit.specs.declared.gates.Gate.TheVariants.{And, Or, Iff}
 use Rattle.dd_circuit.specs.Circuits.{IsSignal, IsGate, AreGates}
+use Rattle.std.specs.{List.All, Prelude.◌-◌}
 
 pub AreGates-append : (n : ℕ) (gs hs : List Gate) → AreGates n gs → AreGates (n + length gs) hs → AreGates n (gs ++ hs)
 AreGates-append n [] hs first rest = let e : n + 0 ≡ n = omega arith in rw e at rest
@@ -27,7 +27,7 @@ gate_at n (g ∷ gs) zero d ok within = let e : n + 0 ≡ n = omega arith in rw 
 gate_at n (g ∷ gs) (suc i) d ok within = let e : n + suc i ≡ suc n + i = omega arith in rw e (gate_at (suc n) gs i d ok.1 (omega arith))
 
 -- a signal of some variables is one of more variables
-IsSignal-more : (n m : ℕ) → n ≤ m → (s : Signal) → IsSignal n s → IsSignal m s
+pub IsSignal-more : (n m : ℕ) → n ≤ m → (s : Signal) → IsSignal n s → IsSignal m s
 IsSignal-more n m more s ok = (ok.0, omega (arith, more, ok.1))
 
 pub IsGate-more : (n m : ℕ) → n ≤ m → (g : Gate) → IsGate n g → IsGate m g
@@ -38,3 +38,6 @@ IsGate-more n m more (Iff a b) ok = (IsSignal-more n m more a ok.0, IsSignal-mor
 -- each gate is over all the variables
 pub gate_within : (n m : ℕ) (gs : List Gate) (i : ℕ) (g : Gate) → AreGates n gs → i < length gs → n + length gs ≤ m → g ≡ get_or gs i g → IsGate m g
 gate_within n m gs i g ok within few here = rw here (IsGate-more (n + i) m (omega arith) (get_or gs i g) (gate_at n gs i g ok within))
+
+pub two_in_range : (n : ℕ) (a b : Signal) → IsSignal n a → IsSignal n b → All (IsSignal n) (a ∷ b ∷ [])
+two_in_range n a b p q = All-cons (IsSignal n) a (b ∷ []) p (All-cons (IsSignal n) b [] q (All-nil (IsSignal n)))

@@ -1,19 +1,14 @@
 -- The values of a circuit are the one way to give each gate's variable its gate's value.
 use Rattle.std.proofs.Common.{◌≡◌, ℕ, suc, ◌+◌, ◌<◌, ◌≤◌, Bool, true, false, List, [], ◌∷◌, ◌++◌, length, refl, ap, sym, ◌∙◌, arith, get_or, take, length-append, append_assoc}
-use Rattle.std.specs.Prelude.{◌&&◌, ◌-◌}
-use Rattle.std.specs.List.{list_all, list_any, All}
-use Rattle.std.specs.Bool.{beq}
 use Rattle.std.proofs.lemmas.Bool.{and_parts}
 use Rattle.std.proofs.lemmas.List.{append-nil, take_more, take_at, take_all, length-take-le, get_or-take, get_or_append_left}
-use Rattle.std.proofs.lemmas.List.Elements.{All-tail}
-use Rattle.std.proofs.Math.Seq.{get_or-append_seam, take-suc}
-use Rattle.dd_circuit.specs.declared.gates.Signal.{Signal}
-use Rattle.dd_circuit.specs.declared.gates.Gate.{Gate}
+use Rattle.std.proofs.{lemmas.List.Elements.All-tail, Math.Seq.get_or-append_seam, Math.Seq.take-suc}
+use Rattle.std.specs.{Prelude.◌&&◌, Prelude.◌-◌, List.list_all, List.list_any, List.All, Bool.beq}
+use Rattle.dd_circuit.specs.declared.gates.{Signal.Signal, Gate.Gate}
 use Rattle.dd_circuit.specs.declared.gates.Gate.TheVariants.{And, Or, Iff}
 use Rattle.dd_circuit.specs.Circuits.{Network, IsSignal, IsGate, AreGates, signal_value, gate_value, agrees}
-use Rattle.dd_circuit.specs.Valuations.{values_from, AreValues}
-use Rattle.dd_values.specs.Variables.{true_variables}
-use Rattle.dd_circuit.specs.lemmas.GateLists.{gate_at}
+use Rattle.dd_circuit.specs.{Valuations.values_from, Valuations.AreValues, lemmas.GateLists.gate_at}
+use Rattle.dd_values.specs.{Variables.true_variables, lemmas.Booleans.same_from_beq, lemmas.Booleans.beq_same, lemmas.Booleans.and_assoc}
 
 -- two assignments agree on the variables 1..n
 abbrev pub Alike : ℕ → (ℕ → Bool) → (ℕ → Bool) → Type 0
@@ -32,15 +27,11 @@ any_alike n set other same [] ok = refl
 any_alike n set other same (l ∷ ls) ok =
     rw (signal_value-alike n set other same l (ok 0 l (omega arith)), any_alike n set other same ls (All-tail (IsSignal n) l ls ok)) refl
 
--- a gate looks at its own variables alone
+-- a gate's value depends on its own variables only
 pub gate_value-alike : (n : ℕ) (set other : ℕ → Bool) → Alike n set other → (g : Gate) → IsGate n g → gate_value set g ≡ gate_value other g
 gate_value-alike n set other same (And ls) ok = all_alike n set other same ls ok
 gate_value-alike n set other same (Or ls) ok = any_alike n set other same ls ok
 gate_value-alike n set other same (Iff a b) ok = rw (signal_value-alike n set other same a ok.0, signal_value-alike n set other same b ok.1) refl
-
-and_assoc : (a b c : Bool) → (a && (b && c)) ≡ ((a && b) && c)
-and_assoc true b c = refl
-and_assoc false b c = refl
 
 pub agrees-append : (set : ℕ → Bool) (n : ℕ) (gs hs : List Gate) → agrees set n (gs ++ hs) ≡ (agrees set n gs && agrees set (n + length gs) hs)
 agrees-append set n [] hs = let e : n + 0 ≡ n = omega arith in rw e refl
@@ -68,21 +59,11 @@ last_value vs b n e = let i : suc n - 1 ≡ length vs = omega (arith, e) in rw i
 one_more : (vs : List Bool) (b : Bool) (n : ℕ) → length vs ≡ n → length (vs ++ b ∷ []) ≡ suc n
 one_more vs b n e = let h = length-append vs (b ∷ []) in omega (arith, h, e)
 
--- the gates' values come after those that were there
+-- the variables that have values already keep them
 pub values_from-alike : (gs : List Gate) (vs : List Bool) (n : ℕ) → length vs ≡ n → Alike n (true_variables (values_from vs gs)) (true_variables vs)
 values_from-alike [] vs n e k p q = refl
 values_from-alike (g ∷ gs) vs n e k p q =
     values_from-alike gs (vs ++ gate_value (true_variables vs) g ∷ []) (suc n) (one_more vs _ n e) k p (omega arith) ∙ front vs _ k p (omega (arith, e))
-
-beq_same : (b : Bool) → beq b b ≡ true
-beq_same true = refl
-beq_same false = refl
-
-same_from_beq : (a b : Bool) → beq a b ≡ true → a ≡ b
-same_from_beq true true h = refl
-same_from_beq true false h = sym h
-same_from_beq false true h = h
-same_from_beq false false h = refl
 
 -- the values have each gate's value at its variable
 pub agrees-values_from : (gs : List Gate) (vs : List Bool) (n : ℕ) → length vs ≡ n → AreGates n gs → agrees (true_variables (values_from vs gs)) n gs ≡ true
@@ -111,13 +92,13 @@ are_values circuit inputs values e ok is = record {
   gates_follow = rw is (agrees-values_from circuit.gates inputs circuit.inputs e ok);
 }
 
--- the values when all gates were seen
+-- the values after all gates
 pub values_done : (circuit : Network) (inputs values : List Bool) (gs : List Gate) (i : ℕ) → length inputs ≡ circuit.inputs → AreGates circuit.inputs gs →
     gs ≡ circuit.gates → length gs ≤ i → values ≡ values_from inputs (take i gs) → AreValues circuit inputs values
 values_done circuit inputs values gs i e ok same all is =
     are_values circuit inputs values e (rw same at ok) (is ∙ ap (values_from inputs) (take_all i gs all ∙ same))
 
--- and no other list of values has
+-- no other list has each gate's value at its variable
 unique : (gs : List Gate) (vs ws : List Bool) (n : ℕ) → length ws ≡ n + length gs → AreGates n gs → take n ws ≡ vs →
     agrees (true_variables ws) n gs ≡ true → ws ≡ values_from vs gs
 unique [] vs ws n e ok begins said = sym (take_all n ws (omega (arith, e))) ∙ begins

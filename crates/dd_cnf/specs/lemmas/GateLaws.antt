@@ -1,25 +1,14 @@
--- The clauses of gates are satisfied exactly where the gates' variables have the gates' values.
-use Rattle.std.proofs.Common.{◌≡◌, ℕ, suc, Bool, true, false, List, [], ◌∷◌, map, refl, ◌∙◌}
-use Rattle.std.specs.Prelude.{not, if◌then◌else◌, ◌||◌, ◌&&◌}
-use Rattle.std.specs.List.{list_all, list_any}
-use Rattle.std.specs.Bool.{beq}
+-- The clauses of gates are satisfied exactly if the gates' variables have the gates' values.
+use Rattle.std.proofs.Common.{◌≡◌, ℕ, suc, Bool, true, false, List, [], ◌∷◌, map, refl, ◌∙◌, ◌++◌, arith, sym, ◌+◌, length, append_assoc}
 use Rattle.std.proofs.lemmas.List.Folds.{list_all-append}
-use Rattle.dd_clause.specs.declared.clause.Literal.{Literal}
-use Rattle.dd_clause.specs.Clauses.{negation, is_true_under, is_clause_true}
-use Rattle.dd_circuit.specs.declared.gates.Signal.{Signal}
-use Rattle.dd_circuit.specs.declared.gates.Gate.{Gate}
+use Rattle.std.specs.{Prelude.not, Prelude.if◌then◌else◌, Prelude.◌||◌, Prelude.◌&&◌, Prelude.◌-◌, List.list_all, List.list_any, Bool.beq}
+use Rattle.dd_clause.specs.{declared.clause.Literal.Literal, Clauses.negation, Clauses.is_true_under, Clauses.is_clause_true}
+use Rattle.dd_clause.specs.lemmas.LiteralLaws.{is_true_under-negation}
+use Rattle.dd_circuit.specs.declared.gates.{Signal.Signal, Gate.Gate}
 use Rattle.dd_circuit.specs.declared.gates.Gate.TheVariants.{And, Or, Iff}
 use Rattle.dd_circuit.specs.Circuits.{signal_value, gate_value, agrees}
 use Rattle.dd_cnf.specs.Encoding.{literal, literal_of, signed, joint_clauses, iff_clauses, gate_clauses, gates_clauses}
 use Rattle.dd_cnf.specs.Models.{is_satisfied}
-
--- a negation is true exactly where its literal is not
-is_true_under-negation : (set : ℕ → Bool) (l : Literal) → is_true_under set (negation l) ≡ not (is_true_under set l)
-is_true_under-negation set l = go l.positive (set l.variable) where
-  go : (p v : Bool) → (if not p then v else not v) ≡ not (if p then v else not v)
-  go true v = refl
-  go false true = refl
-  go false false = refl
 
 is_true_under-signed_not : (set : ℕ → Bool) (sign : Bool) (s : Signal) → is_true_under set (signed (not sign) s) ≡ not (is_true_under set (signed sign s))
 is_true_under-signed_not set true s = is_true_under-negation set (literal_of s)
@@ -62,7 +51,7 @@ beq-not true false = refl
 beq-not false true = refl
 beq-not false false = refl
 
--- where the gate's literal is true, so is each member
+-- if the gate's literal is true, so is each member
 pairs_law : (set : ℕ → Bool) (gate : Literal) (sign : Bool) (members : List Signal) →
     is_satisfied set (map (λ l. negation gate ∷ signed sign l ∷ []) members) ≡ (not (is_true_under set gate) || list_all (λ l. is_true_under set (signed sign l)) members)
 pairs_law set gate sign [] = go (is_true_under set gate) where
@@ -73,7 +62,7 @@ pairs_law set gate sign (l ∷ ls) =
     rw (is_true_under-negation set gate, pairs_law set gate sign ls)
     (pair_clause (is_true_under set gate) (is_true_under set (signed sign l)) (list_all (λ m. is_true_under set (signed sign m)) ls))
 
--- and where each member is true, so is the gate's literal
+-- and if each member is true, so is the gate's literal
 last_law : (set : ℕ → Bool) (sign : Bool) (members : List Signal) →
     list_any (is_true_under set) (map (signed (not sign)) members) ≡ not (list_all (λ l. is_true_under set (signed sign l)) members)
 last_law set sign [] = refl
@@ -90,7 +79,7 @@ joint_law set gate members =
 iff_law : (set : ℕ → Bool) (g a b : Literal) → is_satisfied set (iff_clauses g a b) ≡ beq (is_true_under set g) (beq (is_true_under set a) (is_true_under set b))
 iff_law set g a b = rw (is_true_under-negation set g, is_true_under-negation set a, is_true_under-negation set b) (iff_cases (is_true_under set g) (is_true_under set a) (is_true_under set b))
 
--- not all are false exactly where some is true
+-- not all are false exactly if some is true
 all_opposing : (set : ℕ → Bool) (members : List Signal) → list_all (λ l. is_true_under set (signed false l)) members ≡ not (list_any (signal_value set) members)
 all_opposing set [] = refl
 all_opposing set (l ∷ ls) =
@@ -112,3 +101,9 @@ gates_law set n [] = refl
 gates_law set n (g ∷ gs) =
     list_all-append (is_clause_true set) (gate_clauses (suc n) g) (gates_clauses (suc n) gs)
     ∙ rw (gate_law set (suc n) g, gates_law set (suc n) gs) refl
+
+pub gates_clauses-append : (n : ℕ) (gs hs : List Gate) → gates_clauses n (gs ++ hs) ≡ gates_clauses n gs ++ gates_clauses (n + length gs) hs
+gates_clauses-append n [] hs = let e : n + 0 ≡ n = omega arith in rw e refl
+gates_clauses-append n (g ∷ gs) hs =
+    let e : n + suc (length gs) ≡ suc n + length gs = omega arith in
+    rw (e, gates_clauses-append (suc n) gs hs) (sym (append_assoc (gate_clauses (suc n) g) (gates_clauses (suc n) gs) (gates_clauses (suc n + length gs) hs)))

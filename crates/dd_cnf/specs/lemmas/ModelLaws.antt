@@ -1,15 +1,10 @@
 -- The models of a circuit's clauses are its values.
 use Rattle.std.proofs.Common.{◌≡◌, ℕ, Bool, true, List, refl, sym, ◌∙◌, ◌+◌, ◌++◌, [], drop, add-zero}
 use Rattle.std.proofs.lemmas.List.Sums.{AllPass-from_list_all, list_all-from_AllPass}
-use Rattle.dd_clause.specs.declared.clause.Literal.{Literal}
-use Rattle.dd_clause.specs.Clauses.{is_clause_true, Satisfies, ClauseList}
+use Rattle.dd_clause.specs.{declared.clause.Literal.Literal, Clauses.is_clause_true, Clauses.Satisfies, Clauses.ClauseList}
 use Rattle.dd_values.specs.Variables.{true_variables}
-use Rattle.dd_circuit.specs.Circuits.{Network, AreGates, size}
-use Rattle.dd_circuit.specs.Valuations.{values_from}
-use Rattle.dd_circuit.specs.lemmas.ValueLaws.{are_values}
-use Rattle.dd_cnf.specs.Encoding.{gates_clauses, encoded}
-use Rattle.dd_cnf.specs.Models.{is_satisfied, HasValuesAsModels}
-use Rattle.dd_cnf.specs.lemmas.GateLaws.{gates_law}
+use Rattle.dd_circuit.specs.{Circuits.Network, Circuits.AreGates, Circuits.size, Valuations.values_from, lemmas.ValueLaws.are_values}
+use Rattle.dd_cnf.specs.{Encoding.gates_clauses, Encoding.encoded, Models.is_satisfied, Models.HasValuesAsModels, lemmas.GateLaws.gates_law}
 
 pub Satisfies-is_satisfied : (set : ℕ → Bool) (clauses : List (List Literal)) → is_satisfied set clauses ≡ true → Satisfies set clauses
 Satisfies-is_satisfied set clauses ok = AllPass-from_list_all (is_clause_true set) clauses ok
@@ -33,8 +28,8 @@ encoded_has_models circuit ok = record {
   all_inputs = λ inputs full. (values_from inputs circuit.gates, are_values circuit inputs (values_from inputs circuit.gates) full ok refl);
 }
 
--- a clause list is its two parts
-same_list : (cnf : ClauseList) (variables : ℕ) (clauses : List (List Literal)) → cnf.variables ≡ variables → cnf.clauses ≡ clauses →
+-- clause lists with the same parts are the same
+pub same_list : (cnf : ClauseList) (variables : ℕ) (clauses : List (List Literal)) → cnf.variables ≡ variables → cnf.clauses ≡ clauses →
     cnf ≡ record { variables = variables; clauses = clauses }
 same_list cnf variables clauses wide all = rw (← wide, ← all) refl
 

@@ -1,4 +1,4 @@
--- What is read of commands is written so, and what is written so is read.
+-- What is read as a command is its text, and the text of a command is read.
 use Rattle.std.proofs.Common.{◌≡◌, ℕ, ◌<◌, List, [], ◌∷◌, ◌++◌, map, length, Some, None, refl, sym, ap, subst, ◌∙◌, arith, codes, flat_map, append-nil, length-append}
 use Rattle.dd_commands.specs.Tree.{Word, Lexeme, Name, Head, Case, Command}
 use Rattle.dd_written.specs.{Formulas.text, Formulas.name_lexeme, lemmas.Many.few_items}
@@ -18,7 +18,7 @@ module _ (law : FormulasAreRead) where
   -- ---- cases
 
   module _ (bytes : List ℕ) where
-    -- a word that is wanted, and a name
+    -- the wanted word, followed by a name
     end_reads : (spelt : List ℕ) → Reads (wanted bytes spelt ▸ name)
     end_reads spelt = then_reads (wanted_reads bytes spelt) (λ y rest is. tt) name_reads
 
@@ -50,7 +50,7 @@ module _ (law : FormulasAreRead) where
 
     -- ---- bodies
 
-    -- a command of this head whose body the tokens are
+    -- a command with this head, whose body is these tokens
     abbrev Spelled : Head → List Lexeme → Command → Type 0
     Spelled h tokens c = (head_of c ≡ h) × IsBody bytes c tokens
 

@@ -1,4 +1,4 @@
--- What is read of a form is written so, and what is written so is read; and this holds of forms put together.
+-- What is read in a form is written in that form, and the reverse; combinations of forms keep this.
 use Rattle.std.proofs.Common.{◌≡◌, ℕ, ◌≤◌, ◌<◌, List, [], ◌∷◌, ◌++◌, length, Option, Some, None, refl, sym, ap, ◌∙◌, arith, Bool, true, if◌then◌else◌, is_some, nat_le, flat_map, eqb-true, eq-eqb, leb-true, le-leb, length-append}
 use Rattle.std.proofs.lemmas.{Option.cond_some, Option.some_pair_parts}
 use Rattle.dd_commands.specs.Tree.{Lexeme}
@@ -11,11 +11,11 @@ pub record Reads {X : Type 0} (f : Form X) : Type 0 where
   pub read : (x : X) (rest : List Lexeme) → f.is x → f.ends rest → f.item (f.onto x rest) ≡ Some (x, rest)
   pub last : f.ends []
 
--- where nothing follows
+-- if nothing follows
 pub read_last : {X : Type 0} {f : Form X} → Reads f → (x : X) (tokens : List Lexeme) → f.is x → tokens ≡ f.onto x [] → f.item tokens ≡ Some (x, [])
 read_last is x tokens right e = rw e (is.read x [] right is.last)
 
--- ---- readers put together
+-- ---- combined readers
 
 pub alone_is : {X : Type 0} (x : X) (rest : List Lexeme) (y : X) → alone x rest ≡ Some y → (x ≡ y) × (rest ≡ [])
 alone_is x [] y e = (some_is _ _ e, refl)
@@ -40,7 +40,7 @@ tested_is {X} test item tokens x rest e =
     let same = cond_some (test b.0.0) b.0 (x, rest) b.2 in
     (ap (λ (y : X × List Lexeme). test y.0) (sym same.1) ∙ same.0, b.1 ∙ ap (λ (y : X × List Lexeme). Some y) same.1)
 
--- ---- forms put together
+-- ---- combined forms
 
 pub then_reads : {X Y : Type 0} {f : Form X} {g : Form Y} → Reads f → ((y : Y) (rest : List Lexeme) → g.is y → f.ends (g.onto y rest)) → Reads g → Reads (f ▸ g)
 then_reads {X} {Y} {f} {g} is ended are = record {
@@ -53,7 +53,7 @@ then_reads {X} {Y} {f} {g} is ended are = record {
   last = are.last;
 }
 
--- what is made of others, and has a text
+-- what is made from other items, and has a text
 pub text_reads : {X Y : Type 0} {f : Form X} (make : X → Y) (parts : Y → X) (text : Y → List Lexeme) → ((x : X) (rest : List Lexeme) → f.onto x rest ≡ text (make x) ++ rest) → ((y : Y) → make (parts y) ≡ y)
     → ((y : Y) → f.is (parts y)) → ((rest : List Lexeme) → f.ends rest) → Reads f → Reads (by_text text (made make f.item))
 text_reads {X} {Y} {f} make parts text spelt same right free is = record {
@@ -85,7 +85,7 @@ module _ {X : Type 0} (writes : X → List Lexeme → List Lexeme → Type 0) (i
       let given = λ (o : Option (X × List Lexeme)). is_some o in
       many_again writes (λ ts. is_some (item ts)) item (λ x ts more w. let e = read x ts more w in (ap given e, e)) n xs tokens rest le (λ lt. ap given (ended lt)) all
 
--- of what has a text
+-- for items with a text
 module _ {X : Type 0} (text : X → List Lexeme) (texts : List X → List Lexeme) (item : Reader X) (same : (xs : List X) → flat_map text xs ≡ texts xs) (is : Reads (by_text text item)) where
   texts_written : (n : ℕ) (tokens : List Lexeme) (xs : List X) (rest : List Lexeme) → at_most item n tokens ≡ Some (xs, rest) → tokens ≡ texts xs ++ rest
   texts_written n tokens xs rest e = rw (← same xs) (texts_read text xs tokens rest (most_written (ByText text) item (λ ts x more f. (is.written ts x more f).1) (λ x ts more w. ap item w ∙ is.read x more tt tt) n tokens xs rest e))

@@ -1,4 +1,4 @@
--- Words by their text, and lists of names, numbers, edges and vectors, are read as they are written.
+-- Words, and lists of names, numbers, edges and vectors, are read as they are written.
 use Rattle.std.proofs.Common.{◌≡◌, ℕ, ◌≤◌, List, [], ◌∷◌, ◌++◌, map, length, Some, None, refl, sym, ap, subst, ◌∙◌, arith, bytes_eq, inl, inr, flat_map, append-nil, append_assoc}
 use Rattle.std.specs.Option.{option_or, option_map}
 use Rattle.std.proofs.lemmas.{Grind.common_steps, List.Concat.flat_map_single, Option.some_pair_parts, Slice.Eq.bytes_eq-Decides}
@@ -11,7 +11,7 @@ use Rattle.dd_commands.specs.reading.Commands.{one_of, keyword, heads, other_hea
 use Rattle.dd_commands.specs.lemmas.Forms.{bind_some, some_is, chosen, Reads, read_last, made_is, then_reads, such_reads, exactly_reads, some_reads}
 use Rattle.dd_commands.specs.lemmas.Items.{word_written, word_reads, number_reads, name_reads, vector_reads, plain_reads, edge_reads}
 
--- ---- words by their text
+-- ---- words and their texts
 
 module _ {X : Type 0} (text_of : X → List ℕ) where
   found : (written : List ℕ) (xs : List X) (x : X) → one_of text_of xs written ≡ Some x → written ≡ text_of x
@@ -32,7 +32,7 @@ pub wanted_reads : (bytes spelt : List ℕ) → Reads (wanted bytes spelt)
 wanted_reads bytes spelt =
     such_reads (λ w. word_text bytes w ≡ spelt) (λ w. bytes_eq (word_text bytes w) spelt) (λ w. (bytes_eq-Decides (word_text bytes w) spelt).0) (λ w. (bytes_eq-Decides (word_text bytes w) spelt).1) word_reads
 
--- a first word is that of a query, or of another command
+-- a first word belongs to a query or to another command
 either_of : (written : List ℕ) (hs : List Head) (ks : List QueryKind) → one_of head_text (hs ++ map Head.Query ks) written ≡ option_or (one_of head_text hs written) (option_map Head.Query (one_of kind_word ks written))
 either_of written [] [] = refl
 either_of written [] (k ∷ ks) = grind (arith, common_steps, either_of written [] ks)
@@ -74,7 +74,7 @@ edges_read = some_reads edge_text (flat_map edge_text) edge.item (λ es. refl) e
 vectors_read : Reads (some (flat_map vector_text) vector.item)
 vectors_read = some_reads vector_text (flat_map vector_text) vector.item (λ vs. refl) vector_reads (λ v. omega arith) refl
 
--- names are no vector
+-- a name is no vector
 pub no_shear : (ns : List Name) (rest : List Lexeme) → (1 ≤ length ns) × Unit {0} → plain.item (map name_lexeme ns ++ rest) ≡ None
 no_shear [] rest is = absurd (omega (arith, is.0))
 no_shear (Name.Word v ∷ ns) rest is = refl

@@ -8,16 +8,16 @@ use Rattle.dd_commands.specs.{Table.row, Table.query_kinds, Heads.head_text, Hea
 use Rattle.dd_commands.specs.reading.Forms.{◌>>=◌, Reader, Form, made, both, ◌▸◌, such, each_at, some_at, some, exactly, alone}
 use Rattle.dd_commands.specs.reading.Vectors.{word_at, word, number_at, number, name, vector, plain, shear, edge}
 
--- ---- words by their text
+-- ---- words and their texts
 
--- the one of these whose text this is
+-- the item of the list with this text
 abbrev pub one_of : {X : Type 0} → (X → List ℕ) → List X → List ℕ → Option X
 one_of text_of xs written = find (λ x. bytes_eq written (text_of x)) xs
 
 abbrev pub keyword : {X : Type 0} → (X → List ℕ) → List X → List ℕ → Reader X
 keyword text_of xs bytes tokens = word_at tokens >>= λ w. one_of text_of xs (word_text bytes w.0) >>= λ x. Some (x, w.1)
 
--- the first words of all commands but queries
+-- the heads of all commands except queries
 abbrev pub other_heads : List Head
 other_heads =
     Head.Dimension ∷ Head.Nodes ∷ Head.Alphabet ∷ Head.Topology ∷ Head.Only ∷ Head.Weights ∷ Head.Limits ∷ Head.Rule ∷ Head.Automaton
@@ -29,7 +29,7 @@ heads = other_heads ++ map Head.Query query_kinds
 abbrev pub kinds : List Kind
 kinds = Kind.Line ∷ Kind.Square ∷ Kind.King ∷ Kind.Triangle ∷ Kind.Hex ∷ Kind.Cube ∷ []
 
--- a word that is wanted
+-- the wanted word
 abbrev pub wanted : List ℕ → List ℕ → Form Word
 wanted bytes spelt = such (λ w. word_text bytes w ≡ spelt) (λ w. bytes_eq (word_text bytes w) spelt) word
 
@@ -64,7 +64,7 @@ lists_at Lists.Vectors tokens = some_at vector.item tokens
 abbrev pub listed : Lists → Form (List Vector)
 listed l = record { onto = λ vs rest. flat_map vector_text vs ++ rest; is = AreLists l; ends = λ rest. vector.item rest ≡ None; item = lists_at l }
 
--- ---- what stands behind the first word
+-- ---- what follows the first word
 
 abbrev pub body : List ℕ → Head → Reader Command
 body bytes Head.Dimension tokens = made (λ n. Command.Dimension n) number_at tokens

@@ -1,16 +1,16 @@
--- Forms: how one of a kind is written, and how it is read; and forms put together.
+-- Forms: how items of a kind are written and how they are read; and combinations of forms.
 use Rattle.std.specs.Prelude.{◌≡◌, ℕ, ◌≤◌, List, [], ◌∷◌, ◌++◌, length, ◌==◌, nat_le, Bool, Option, Some, None, is_some, if◌then◌else◌}
 use Rattle.dd_commands.specs.Tree.{Lexeme}
 pub use Rattle.dd_written.specs.reading.Readers.{◌>>=◌, Reader, many, ReadsAll}
 
--- How one is written before other tokens, which are meant, what may follow one, and its reader.
+-- How an item is written before other tokens, which items are meant, what may follow one, and its reader.
 pub record Form (X : Type 0) : Type 1 where
   pub onto : X → List Lexeme → List Lexeme
   pub is : X → Type 0
   pub ends : List Lexeme → Type 0
   pub item : Reader X
 
--- what has a text, whatever follows it
+-- an item with a text, whatever follows it
 abbrev pub by_text : {X : Type 0} → (X → List Lexeme) → Reader X → Form X
 by_text text item = record { onto = λ x rest. text x ++ rest; is = λ x. Unit {0}; ends = λ rest. Unit {0}; item = item }
 
@@ -18,11 +18,11 @@ by_text text item = record { onto = λ x rest. text x ++ rest; is = λ x. Unit {
 abbrev pub single : {X : Type 0} → (X → Lexeme) → Reader X → Form X
 single lexeme item = by_text (λ x. lexeme x ∷ []) item
 
--- what is made of one that is read
+-- reads an item and makes something of it
 abbrev pub made : {X Y : Type 0} → (X → Y) → Reader X → Reader Y
 made make item tokens = item tokens >>= λ x. Some (make x.0, x.1)
 
--- one behind the other
+-- one item after the other
 abbrev pub both : {X Y : Type 0} → Reader X → Reader Y → Reader (X × Y)
 both item next tokens = item tokens >>= λ x. next x.1 >>= λ y. Some ((x.0, y.0), y.1)
 
@@ -33,15 +33,15 @@ f ▸ g = record { onto = λ p rest. f.onto p.0 (g.onto p.1 rest); is = λ p. f.
 abbrev pub tested : {X : Type 0} → (X → Bool) → Reader X → Reader X
 tested test item tokens = item tokens >>= λ x. if test x.0 then Some x else None
 
--- one of which this holds, as the test tells
+-- an item with a property, which the test decides
 abbrev pub such : {X : Type 0} → (X → Type 0) → (X → Bool) → Form X → Form X
 such P test f = record { onto = f.onto; is = λ x. P x × f.is x; ends = f.ends; item = tested test f.item }
 
--- at most n, as many as can be read
+-- as many items as can be read, up to n
 abbrev pub at_most : {X : Type 0} → Reader X → ℕ → Reader (List X)
 at_most item n tokens = many (λ ts. is_some (item ts)) item n tokens
 
--- as many as stand there
+-- all items that stand there
 abbrev pub each_at : {X : Type 0} → Reader X → Reader (List X)
 each_at item tokens = at_most item (length tokens) tokens
 
@@ -55,7 +55,7 @@ some_at item = tested (λ xs. nat_le 1 (length xs)) (each_at item)
 abbrev pub some : {X : Type 0} → (List X → List Lexeme) → Reader X → Form (List X)
 some texts item = such (λ xs. 1 ≤ length xs) (λ xs. nat_le 1 (length xs)) (each texts item)
 
--- n of a kind
+-- exactly n items
 abbrev pub exactly_at : {X : Type 0} → ℕ → Reader X → Reader (List X)
 exactly_at n item = tested (λ xs. length xs == n) (at_most item n)
 

@@ -8,7 +8,7 @@ use Rattle.dd_commands.specs.{Heads.head_of, Heads.stage, Scripts.is_percent, Sc
 abbrev pub is_inside : Lexeme → Bool
 is_inside t = not (is_percent t)
 
--- the command that a part is, where it may stand at this place
+-- the command that a part is, if it may stand at this stage
 abbrev pub written_of : List ℕ → ℕ → List Lexeme → Option Written
 written_of bytes from part =
     command_of bytes part >>= λ c. if list_all is_whole part && nat_le from (stage (head_of c)) then Some (record { tokens = part; command = c }) else None

@@ -28,7 +28,7 @@ entry_at (Lexeme.Number n ∷ tokens) = Some (Entry.Number n, tokens)
 entry_at (Lexeme.Negative n ∷ tokens) = Some (Entry.Negative n, tokens)
 entry_at tokens = None
 
--- whether two marks are one
+-- whether two marks are the same
 unfoldable pub same_mark : Mark → Mark → Bool
 same_mark = sameb the_type
 
@@ -36,7 +36,7 @@ abbrev pub mark_at : Mark → Reader (Unit {0})
 mark_at wanted (Lexeme.Mark m ∷ tokens) = if same_mark m wanted then Some (tt, tokens) else None
 mark_at wanted tokens = None
 
--- a mark that is wanted
+-- the wanted mark
 abbrev pub sign : Mark → Form (Unit {0})
 sign wanted = single (λ x. Lexeme.Mark wanted) (mark_at wanted)
 
@@ -47,7 +47,7 @@ vector =
     by_text vector_text
     (made (λ x. record { entries = x.1.0 }) (sign Mark.OpenList ▸ each (map entry_lexeme) entry_at ▸ sign Mark.CloseList).item)
 
--- without negative numbers
+-- a vector without negative numbers
 abbrev pub plain : Form Vector
 plain = such (λ v. is_plain v ≡ true) is_plain vector
 
@@ -55,7 +55,7 @@ abbrev pub or_none : Option (Vector × List Lexeme) → Reader (Option Vector)
 or_none (Some v) tokens = Some (Some v.0, v.1)
 or_none None tokens = Some (None, tokens)
 
--- a second vector, where one stands there
+-- a second vector, if one comes next
 abbrev pub shear : Form (Option Vector)
 shear = record {
   onto = λ s rest. second_vector_text s ++ rest;

@@ -1,16 +1,13 @@
--- What the gates of a composition ask of its two automata, and what stands once the inner one's values are made.
+-- What the gates of a composition require of its two automata, and what holds once the inner values are made.
 use Rattle.std.specs.Prelude.{ℕ, ◌≡◌, ◌<◌, true, List, [], ◌∷◌, map}
 use Rattle.std.specs.List.{All, list_all}
-use Rattle.dd_lattice.specs.Cells.{shifted}
-use Rattle.dd_lattice.specs.declared.position.Cell.{Cell}
+use Rattle.dd_lattice.specs.{Cells.shifted, declared.position.Cell.Cell}
 use Rattle.dd_formula.specs.Automata.{CommonNumbers, IsAutomaton, counted, is_cell_of}
 use Rattle.dd_formula.specs.declared.automaton.Automaton.{Automaton}
-use Rattle.dd_circuit.specs.declared.gates.Signal.{Signal}
-use Rattle.dd_circuit.specs.Circuits.{Network, IsSignal, size}
-use Rattle.dd_compile.specs.Wiring.{Wiring}
-use Rattle.dd_compile.specs.ValueSignals.{SaysValue, are_wired_there}
+use Rattle.dd_circuit.specs.{declared.gates.Signal.Signal, Circuits.Network, Circuits.IsSignal, Circuits.size}
+use Rattle.dd_compile.specs.{Wiring.Wiring, ValueSignals.SaysValue, ValueSignals.are_wired_there}
 
--- over some numbers with an alphabet of k symbols both automata are well formed, and a is one of the nodes
+-- both automata are well formed over some numbers with an alphabet of k symbols, and a is one of the nodes
 pub record HaveSymbols (f g : Automaton) (k a : ℕ) : Type 0 where
   pub setting : CommonNumbers
   pub outer : IsAutomaton setting f
@@ -18,7 +15,7 @@ pub record HaveSymbols (f g : Automaton) (k a : ℕ) : Type 0 where
   pub below : a < setting.nodes
   pub all : setting.symbols ≡ k
 
--- over some numbers with an alphabet of k symbols the automaton is well formed, and these are cells that it may be asked at
+-- the automaton is well formed over some numbers with an alphabet of k symbols, and these are cells over those numbers
 pub record HasSymbolsAt (f : Automaton) (k : ℕ) (cs : List Cell) : Type 0 where
   pub setting : CommonNumbers
   pub formed : IsAutomaton setting f

@@ -1,18 +1,14 @@
--- How far the gates of a value by cases have come.
+-- The state while the gates of a value by cases are made.
 use Rattle.std.proofs.Common.{◌≡◌, ◌<◌, ◌≤◌, ℕ, zero, suc, ◌+◌, Bool, true, false, List, [], ◌∷◌, ◌++◌, map, length, take, drop, get_or, refl, ap, sym, ◌∙◌, subst, arith, append_assoc, drop-cons, add-one}
-use Rattle.std.specs.Prelude.{◌==◌, ◌-◌, if◌then◌else◌}
-use Rattle.std.specs.List.{range_with_len, All}
 use Rattle.std.proofs.lemmas.List.{map-append, take_more, drop_all}
 use Rattle.std.proofs.lemmas.List.Elements.{All-push, All-weaker}
+use Rattle.std.specs.{Prelude.◌==◌, Prelude.◌-◌, Prelude.if◌then◌else◌, List.range_with_len, List.All}
 use Rattle.dd_values.specs.Bounds.{most_variables}
-use Rattle.dd_circuit.specs.declared.gates.Signal.{Signal}
-use Rattle.dd_circuit.specs.declared.gates.Gate.{Gate}
+use Rattle.dd_circuit.specs.declared.gates.{Signal.Signal, Gate.Gate}
 use Rattle.dd_circuit.specs.declared.gates.Gate.TheVariants.{And, Or}
 use Rattle.dd_circuit.specs.Circuits.{Network, IsSignal, size, signal_of, opposite}
-use Rattle.dd_compile.specs.Compiling.{Extends}
-use Rattle.dd_compile.specs.ValueGates.{fresh, choices, giving, symbol_gates}
-use Rattle.dd_compile.specs.lemmas.Progress.{size-append, Extends-trans}
-use Rattle.dd_compile.specs.lemmas.ChoiceLaws.{choices_length}
+use Rattle.dd_compile.specs.{Compiling.Extends, ValueGates.fresh, ValueGates.choices, ValueGates.giving, ValueGates.symbol_gates}
+use Rattle.dd_compile.specs.lemmas.{Progress.size-append, Progress.Extends-trans, ChoiceLaws.choices_length}
 
 pub itself : (a : Network) → Extends a a
 itself a = record { inputs = refl; added = []; gates = sym (append-nil a.gates) }

@@ -1,23 +1,19 @@
 -- The rules of cases, one after the other, and the value that they decide.
 use Rattle.std.proofs.Common.{◌≡◌, ◌<◌, ◌≤◌, ℕ, zero, suc, ◌+◌, Bool, true, List, [], ◌∷◌, ◌++◌, Option, Some, None, Ok, Err, Result, map, length, take, drop, get_or, slice_get, refl, ap, sym, ◌∙◌, subst, arith, length-append, append_assoc}
-use Rattle.std.specs.Prelude.{◌==◌, IfOk, nat_le}
-use Rattle.std.specs.List.{list_all, list_any, All, Contains, range_with_len}
 use Rattle.std.proofs.lemmas.Bool.{and_parts, and_from, leb-true, le-leb}
 use Rattle.std.proofs.lemmas.List.{map-append, take_all, drop_all, length-map}
 use Rattle.std.proofs.lemmas.List.Elements.{All-push, All-weaker, Contains-append_left, Contains-append_right}
+use Rattle.std.specs.Prelude.{◌==◌, IfOk, nat_le}
+use Rattle.std.specs.List.{list_all, list_any, All, Contains, range_with_len}
 use Rattle.dd_values.specs.Bounds.{most_variables}
-use Rattle.dd_lattice.specs.Cells.{shifted}
-use Rattle.dd_lattice.specs.declared.position.Cell.{Cell}
+use Rattle.dd_lattice.specs.{Cells.shifted, declared.position.Cell.Cell}
 use Rattle.dd_pattern.specs.Reading.{HasSymbolsBelow}
 use Rattle.dd_expansion.specs.lemmas.ListTests.{list_all-weaker, list_all-flat_map}
-use Rattle.dd_formula.specs.LocalRule.{LocalRule, is_true, expansion_at, reads_at}
-use Rattle.dd_formula.specs.Automata.{cases_reads}
+use Rattle.dd_formula.specs.{LocalRule.LocalRule, LocalRule.is_true, LocalRule.expansion_at, LocalRule.reads_at, Automata.cases_reads}
 use Rattle.dd_formula.specs.declared.automaton.Cases.{Cases}
 use Rattle.dd_formula.specs.lemmas.AutomatonLaws.{case_has, passes_at, rule_nodes}
 use Rattle.dd_formula.specs.lemmas.ValueLaws.{rule_symbols}
-use Rattle.dd_circuit.specs.declared.gates.Signal.{Signal}
-use Rattle.dd_circuit.specs.declared.gates.Gate.{Gate}
-use Rattle.dd_circuit.specs.declared.gates.Gate.TheVariants.{Or}
+use Rattle.dd_circuit.specs.declared.gates.{Signal.Signal, Gate.Gate, Gate.TheVariants.Or}
 use Rattle.dd_circuit.specs.Circuits.{Network, IsSignal, size, signal_value, agrees}
 use Rattle.dd_circuit.specs.lemmas.ValueLaws.{agrees-append}
 use Rattle.dd_compile.specs.Wiring.{Wiring, signals_of}
@@ -25,12 +21,11 @@ use Rattle.dd_compile.specs.Compiling.{Extends, AllMade, Maker, all_made, certai
 use Rattle.dd_compile.specs.RuleSignals.{SaysTruth, TellsReads, is_signal, are_signals, are_reads_wired}
 use Rattle.dd_compile.specs.ValueGates.{fresh, choices, giving, symbol_gates, given_symbols, rules_made, given_made}
 use Rattle.dd_compile.specs.ValueSignals.{HasCasesSymbols, AreCasesWired, CasesSay, SaysCases, are_wired_there}
-use Rattle.dd_compile.specs.lemmas.Progress.{size-append, Extends-trans}
-use Rattle.dd_compile.specs.lemmas.MadeCount.{made_count}
+use Rattle.dd_compile.specs.lemmas.{Progress.size-append, Progress.Extends-trans, MadeCount.made_count}
 use Rattle.dd_compile.specs.lemmas.ChoiceLaws.{pick, picked, chosen_says, gates_say, fresh_length, fresh_in_range, choices_length}
 use Rattle.dd_compile.specs.lemmas.CaseGates.{itself, next_is, taken_is}
 
--- what holds of the values of a circuit holds of its first gates
+-- if the gates of a circuit have their values, so do its first gates
 pub agrees_before : (now new : Network) (set : ℕ → Bool) → Extends now new → agrees set new.inputs new.gates ≡ true → agrees set now.inputs now.gates ≡ true
 agrees_before now new set more ok =
     let whole : agrees set now.inputs (now.gates ++ more.added) ≡ true = sym (ap (λ n. agrees set n new.gates) more.inputs ∙ ap (agrees set now.inputs) more.gates) ∙ ok in
@@ -264,7 +259,7 @@ value_length k c w at n =
     let second = length-append (r.gates ++ chosen) symbols in
     omega (arith, l, first, second)
 
--- what the three steps ask
+-- what the three steps require
 pub record Asks (k n : ℕ) (rules chosen : List Signal) (xs : List ℕ) (one two : ℕ) : Type 0 where
   pub choose_few : one + length (choices [] rules) ≤ most_variables
   pub as_many : length chosen ≡ length xs

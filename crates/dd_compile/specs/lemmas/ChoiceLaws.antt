@@ -1,20 +1,16 @@
--- What the gates say that choose one of several symbols.
+-- What the gates that choose one of several symbols say.
 use Rattle.std.proofs.Common.{◌≡◌, ◌≤◌, ℕ, zero, suc, ◌+◌, Bool, true, false, List, [], ◌∷◌, ◌++◌, Some, map, length, slice_get, refl, ap, sym, ◌∙◌, arith}
+use Rattle.std.proofs.lemmas.{Bool.and_parts, List.map-append, List.Folds.list_all-append}
 use Rattle.std.specs.Prelude.{◌&&◌, ◌||◌, ◌==◌, not, if◌then◌else◌}
-use Rattle.std.specs.List.{list_all, list_any, range_with_len, All}
-use Rattle.std.specs.Bool.{beq}
-use Rattle.std.proofs.lemmas.Bool.{and_parts}
-use Rattle.std.proofs.lemmas.List.{map-append}
-use Rattle.std.proofs.lemmas.List.Folds.{list_all-append}
+use Rattle.std.specs.{List.list_all, List.list_any, List.range_with_len, List.All, Bool.beq}
 use Rattle.dd_lattice.specs.declared.position.Cell.{Cell}
 use Rattle.dd_pattern.specs.Reading.{Look}
-use Rattle.dd_formula.specs.LocalRule.{LocalRule, is_true}
-use Rattle.dd_formula.specs.Automata.{first_case}
-use Rattle.dd_circuit.specs.declared.gates.Signal.{Signal}
-use Rattle.dd_circuit.specs.declared.gates.Gate.TheVariants.{Or}
+use Rattle.dd_formula.specs.{LocalRule.LocalRule, LocalRule.is_true, Automata.first_case}
+use Rattle.dd_circuit.specs.declared.gates.{Signal.Signal, Gate.TheVariants.Or}
 use Rattle.dd_circuit.specs.Circuits.{IsSignal, signal_of, opposite, signal_value, agrees}
 use Rattle.dd_compile.specs.ValueGates.{fresh, choices, giving, given_symbols}
-use Rattle.dd_compile.specs.lemmas.MadeSays.{same_from_beq, opposite_value}
+use Rattle.dd_compile.specs.lemmas.MadeSays.{opposite_value}
+use Rattle.dd_values.specs.lemmas.Booleans.{same_from_beq}
 
 -- the first symbol whose truth value is true, else the last
 abbrev pub pick : List ℕ → List Bool → ℕ
@@ -65,7 +61,7 @@ none_more set before l =
     and_true true = refl
     and_true false = refl
 
--- Among the choices that stand for a symbol one is true exactly where no earlier signal is and the symbol is picked.
+-- Among the choices that stand for a symbol one is true exactly if no earlier signal is true and the symbol is picked.
 pub chosen_says : (set : ℕ → Bool) (n : ℕ) (before ls : List Signal) (xs : List ℕ) (s : ℕ) → length xs ≡ length ls + 1 → agrees set n (choices before ls) ≡ true →
     list_any (signal_value set) (giving s xs (fresh n (length (choices before ls)))) ≡ (none_of set before && (pick xs (map (signal_value set) ls) == s))
 chosen_says set n before [] [] s long ok = absurd (omega arith)

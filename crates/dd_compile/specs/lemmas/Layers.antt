@@ -1,18 +1,16 @@
--- What the definitions say of each form of formula.
+-- The definitions, for each form of formula.
 use Rattle.std.proofs.Common.{◌≡◌, ◌≤◌, ◌<◌, ◌+◌, ◌*◌, ℕ, zero, suc, get_or, Bool, true, List, [], ◌∷◌, ◌++◌, map, length, refl, ap, sym, ◌∙◌, arith}
+use Rattle.std.proofs.lemmas.{Bool.and_parts, Bool.leb-true, Bool.le-leb, List.Folds.list_all-map}
 use Rattle.std.specs.Prelude.{◌&&◌, Option, Some, None, nat_le}
-use Rattle.std.proofs.lemmas.Bool.{and_parts, leb-true, le-leb}
-use Rattle.std.proofs.lemmas.List.Folds.{list_all-map}
 use Rattle.dd_lattice.specs.declared.position.Cell.{Cell}
-use Rattle.dd_expansion.specs.declared.expanded.Expanded.{Expanded}
-use Rattle.dd_expansion.specs.declared.expanded.Expanded.TheVariants as v
-use Rattle.dd_expansion.specs.declared.expanded.Expanded.TheFolds.{fold-roll-Expanded}
+use Rattle.dd_expansion.specs.declared.expanded.Expanded.{Expanded, TheFolds.fold-roll-Expanded}
 use Rattle.dd_expansion.specs.declared.expanded.Expanded.TheOpen.{Expanded-F}
 use Rattle.dd_expansion.specs.Leaves.{leaves_pass_step, instances, instances_step, total}
 use Rattle.dd_expansion.specs.lemmas.LeafLaws.{leaves_weaken}
 use Rattle.dd_circuit.specs.declared.gates.Signal.{Signal}
 use Rattle.dd_circuit.specs.declared.gates.Gate.TheVariants.{And, Or, Iff}
 use Rattle.dd_compile.specs.Compiling.{Maker, all_made, then_gate, made_step, made, gate_count_step, gate_count, all_counts, Wires, are_wired, all_wired, is_wire}
+use Rattle.dd_expansion.specs.declared.expanded.Expanded.TheVariants as v
 
 pub made_and : (w : Cell → ℕ → Signal) (fs : List Expanded) (n : ℕ) → made w (v.And fs) n ≡ then_gate n (all_made (map (made w) fs) n).gates (And (all_made (map (made w) fs) n).signals)
 made_and w fs n = ap (λ e. made w e n) (sym (v.rolls-And fs)) ∙ ap (λ m. m n) (fold-roll-Expanded Maker (made_step w) (Expanded-F.And fs))
@@ -57,13 +55,13 @@ instances_or fs = ap instances (sym (v.rolls-Or fs)) ∙ fold-roll-Expanded ℕ 
 pub instances_iff : (f g : Expanded) → instances (v.Iff f g) ≡ 1 + (instances f + instances g)
 instances_iff f g = ap instances (sym (v.rolls-Iff f g)) ∙ fold-roll-Expanded ℕ instances_step (Expanded-F.Iff f g)
 
--- a part is no larger than all together
+-- a part is no larger than all parts together
 pub instances_at : (es : List Expanded) (i : ℕ) (e : Expanded) → i < length es → e ≡ get_or es i e → instances e ≤ all_instances es
 instances_at [] i e h is = absurd (omega arith)
 instances_at (x ∷ es) zero e h is = let same = ap instances is in omega (arith, same)
 instances_at (x ∷ es) (suc i) e h is = let rest = instances_at es i e (omega arith) is in omega (arith, rest)
 
--- a wire of n variables is one of more variables
+-- a wire of n variables is also one of more variables
 wire_more : (n m : ℕ) → n ≤ m → (o : Option Signal) → is_wire n o ≡ true → is_wire m o ≡ true
 wire_more n m more None h = h
 wire_more n m more (Some s) h =
@@ -80,7 +78,7 @@ all_wired-more n m w (e ∷ es) more h =
     let both = and_parts (are_wired n w e) (all_wired n w es) h in
     rw (wired_more n m w e more both.0) (all_wired-more n m w es more both.1)
 
--- what a formula of these parts asks of them
+-- what a formula with these parts requires of them
 pub record AsksOf (n : ℕ) (w : Wires) (e : Expanded) (parts : List Expanded) : Type 0 where
   pub smaller : 2 * all_instances parts + 1 < 2 * instances e
   pub few : all_counts parts ≤ gate_count e
@@ -98,7 +96,7 @@ or_asks n w e fs parts is same =
     let c = ap gate_count is ∙ count_or fs in
     rw same (record { smaller = omega (arith, i); few = omega (arith, c); wired = λ h. sym (ap (are_wired n w) is ∙ wired_or n w fs) ∙ h })
 
--- what the second side asks when the gates of the first are there
+-- what the second side requires when the gates of the first are there
 pub record AsksOfSecond (n m : ℕ) (w : Wires) (e side : Expanded) : Type 0 where
   pub smaller : 2 * instances side < 2 * instances e
   pub few : m + gate_count side ≤ n + gate_count e

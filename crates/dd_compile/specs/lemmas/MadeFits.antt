@@ -1,18 +1,15 @@
 -- The gates of an expansion are over earlier variables.
 use Rattle.std.proofs.Common.{◌≡◌, ℕ, ◌+◌, ◌≤◌, Bool, true, false, List, [], ◌∷◌, ◌++◌, map, length, arith, length-append}
+use Rattle.std.proofs.lemmas.{Bool.and_parts, List.Elements.All-cons, List.Elements.All-weaker}
 use Rattle.std.specs.List.{list_all, All}
-use Rattle.std.proofs.lemmas.Bool.{and_parts}
-use Rattle.std.proofs.lemmas.List.Elements.{All-cons, All-weaker}
 use Rattle.dd_lattice.specs.declared.position.Cell.{Cell}
 use Rattle.dd_expansion.specs.declared.expanded.Expanded.{Expanded}
 use Rattle.dd_expansion.specs.declared.expanded.Expanded.TheFolds.{fold-roll-Expanded, ind-Expanded, map-Expanded}
-use Rattle.dd_expansion.specs.declared.expanded.Expanded.TheOpen.{Expanded-F}
-use Rattle.dd_circuit.specs.declared.gates.Signal.{Signal}
-use Rattle.dd_circuit.specs.declared.gates.Gate.{Gate}
+use Rattle.dd_expansion.specs.{declared.expanded.Expanded.TheOpen.Expanded-F, Leaves.leaves_pass, Leaves.leaves_pass_step}
+use Rattle.dd_circuit.specs.declared.gates.{Signal.Signal, Gate.Gate}
 use Rattle.dd_circuit.specs.declared.gates.Gate.TheVariants.{And, Or, Iff}
 use Rattle.dd_circuit.specs.Circuits.{IsSignal, IsGate, AreGates}
-use Rattle.dd_circuit.specs.lemmas.GateLists.{AreGates-append, AreGates-snoc}
-use Rattle.dd_expansion.specs.Leaves.{leaves_pass, leaves_pass_step}
+use Rattle.dd_circuit.specs.lemmas.GateLists.{AreGates-append, AreGates-snoc, IsSignal-more}
 use Rattle.dd_compile.specs.Compiling.{Made, AllMade, Maker, all_made, then_gate, made_step, made}
 
 -- the wires of the leaves that pass p are among the first m variables
@@ -37,9 +34,6 @@ layer y = map-Expanded Known Expanded (λ e. e.0) y
 abbrev plain : List Known → List Expanded
 plain es = map (λ e. e.0) es
 
-signal_up : (n m : ℕ) → n ≤ m → (s : Signal) → IsSignal n s → IsSignal m s
-signal_up n m h s p = (p.0, (let q = p.1 in omega (arith, q, h)))
-
 all_fit : (es : List Known) (wires : Cell → ℕ → Signal) (p : Cell → ℕ → Bool) (m n : ℕ) → Wired m wires p → m ≤ n →
     list_all (λ b. b) (map (leaves_pass p) (plain es)) ≡ true → AreMade n (all_made (map (made wires) (plain es)) n)
 all_fit [] wires p m n w h ok = (tt, λ k d l. absurd (omega arith))
@@ -53,9 +47,9 @@ all_fit (e ∷ es) wires p m n w h ok =
     let e1 : n + length one.gates + length others.gates ≡ n + length (one.gates ++ others.gates) = omega (arith, l) in (
       AreGates-append n one.gates others.gates first.0 rest.0,
       All-cons (IsSignal (n + length (one.gates ++ others.gates))) one.signal others.signals
-          (signal_up (n + length one.gates) (n + length (one.gates ++ others.gates)) (omega (arith, l)) one.signal first.1)
+          (IsSignal-more (n + length one.gates) (n + length (one.gates ++ others.gates)) (omega (arith, l)) one.signal first.1)
           (All-weaker (IsSignal (n + length one.gates + length others.gates)) (IsSignal (n + length (one.gates ++ others.gates)))
-          (signal_up (n + length one.gates + length others.gates) (n + length (one.gates ++ others.gates)) (omega (arith, l))) others.signals rest.1),
+          (IsSignal-more (n + length one.gates + length others.gates) (n + length (one.gates ++ others.gates)) (omega (arith, l))) others.signals rest.1),
     )
 
 then_fits : (n : ℕ) (gs : List Gate) (g : Gate) → AreGates n gs → IsGate (n + length gs) g → IsMade n (then_gate n gs g)
@@ -83,8 +77,8 @@ step_fits (Expanded-F.Iff e f) wires p m n w h ok =
     let second = f.1 wires p m (n + length left.gates) w (omega arith) both.1 in
     let l = length-append left.gates right.gates in
     then_fits n (left.gates ++ right.gates) (Iff left.signal right.signal) (AreGates-append n left.gates right.gates first.0 second.0) (
-      signal_up (n + length left.gates) (n + length (left.gates ++ right.gates)) (omega (arith, l)) left.signal first.1,
-      signal_up (n + length left.gates + length right.gates) (n + length (left.gates ++ right.gates)) (omega (arith, l)) right.signal second.1,
+      IsSignal-more (n + length left.gates) (n + length (left.gates ++ right.gates)) (omega (arith, l)) left.signal first.1,
+      IsSignal-more (n + length left.gates + length right.gates) (n + length (left.gates ++ right.gates)) (omega (arith, l)) right.signal second.1,
     )
 
 pub made_fits : (e : Expanded) → Fits e

@@ -1,22 +1,18 @@
--- The signal of an expansion's gates says what the expansion says.
+-- The signal of an expansion's gates has the expansion's value.
 use Rattle.std.proofs.Common.{◌≡◌, ℕ, suc, ◌+◌, Bool, true, false, List, [], ◌∷◌, ◌++◌, map, length, refl, ap, sym, ◌∙◌, arith}
-use Rattle.std.specs.Prelude.{not, if◌then◌else◌}
-use Rattle.std.specs.List.{list_all, list_any}
-use Rattle.std.specs.Bool.{beq}
 use Rattle.std.proofs.lemmas.Bool.{and_parts}
+use Rattle.std.specs.{Prelude.not, Prelude.if◌then◌else◌, List.list_all, List.list_any, Bool.beq}
 use Rattle.dd_lattice.specs.declared.position.Cell.{Cell}
 use Rattle.dd_expansion.specs.declared.expanded.Expanded.{Expanded}
 use Rattle.dd_expansion.specs.declared.expanded.Expanded.TheFolds.{fold-roll-Expanded, ind-Expanded, map-Expanded}
-use Rattle.dd_expansion.specs.declared.expanded.Expanded.TheOpen.{Expanded-F}
-use Rattle.dd_pattern.specs.Reading.{Look}
-use Rattle.dd_expansion.specs.Truth.{is_symbol}
-use Rattle.dd_circuit.specs.declared.gates.Signal.{Signal}
-use Rattle.dd_circuit.specs.declared.gates.Gate.{Gate}
-use Rattle.dd_circuit.specs.declared.gates.Gate.TheVariants.{And, Or, Iff}
-use Rattle.dd_circuit.specs.Circuits.{signal_value, gate_value, agrees, opposite}
-use Rattle.dd_circuit.specs.lemmas.ValueLaws.{agrees-append}
+use Rattle.dd_expansion.specs.{declared.expanded.Expanded.TheOpen.Expanded-F, Truth.is_symbol}
 use Rattle.dd_expansion.specs.Leaves.{holds, holds_step, leaves_pass, leaves_pass_step}
+use Rattle.dd_pattern.specs.Reading.{Look}
+use Rattle.dd_circuit.specs.declared.gates.{Signal.Signal, Gate.Gate}
+use Rattle.dd_circuit.specs.declared.gates.Gate.TheVariants.{And, Or, Iff}
+use Rattle.dd_circuit.specs.{Circuits.signal_value, Circuits.gate_value, Circuits.agrees, Circuits.opposite, lemmas.ValueLaws.agrees-append}
 use Rattle.dd_compile.specs.Compiling.{Maker, all_made, then_gate, made_step, made}
+use Rattle.dd_values.specs.lemmas.Booleans.{same_from_beq}
 
 -- the wires of the cells that pass p say the symbols of look
 abbrev pub Tell : (ℕ → Bool) → (Cell → ℕ → Signal) → (Cell → ℕ → Bool) → Look → Type 0
@@ -47,12 +43,6 @@ all_say (e ∷ es) set wires p look n tell wired ok =
     let hs = (all_made (map (made wires) (plain es)) (n + length gs)).gates in
     let both = and_parts (agrees set n gs) (agrees set (n + length gs) hs) (sym (agrees-append set n gs hs) ∙ ok) in
     rw (e.1 set wires p look n tell w.0 both.0, all_say es set wires p look (n + length gs) tell w.1 both.1) refl
-
-pub same_from_beq : (a b : Bool) → beq a b ≡ true → a ≡ b
-same_from_beq true true h = refl
-same_from_beq true false h = sym h
-same_from_beq false true h = h
-same_from_beq false false h = refl
 
 -- the last gate has its value, and those before it agree
 pub last_gate : (set : ℕ → Bool) (n : ℕ) (gs : List Gate) (g : Gate) → agrees set n (then_gate n gs g).gates ≡ true →

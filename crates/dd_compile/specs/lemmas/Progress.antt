@@ -1,20 +1,15 @@
--- How far the gates of formulas have come, and the gate that ends them.
+-- The state while the gates of formulas are made, and the gate that ends them.
 use Rattle.std.proofs.Common.{◌≡◌, ℕ, ◌+◌, ◌<◌, ◌≤◌, true, List, [], ◌∷◌, ◌++◌, map, length, drop, get_or, refl, ap, sym, subst, ◌∙◌, arith, length-append, append-nil, append_assoc, drop-cons, add-one, Ok, Err, Result}
-use Rattle.std.specs.List.{All}
-use Rattle.std.specs.Result.{IfOk, OnErr}
-use Rattle.std.specs.declared.alloc.AllocError.{AllocError}
-use Rattle.std.proofs.lemmas.Bool.{and_parts}
-use Rattle.std.proofs.lemmas.List.{drop_all}
-use Rattle.std.proofs.lemmas.List.Elements.{All-push, All-weaker}
+use Rattle.std.proofs.lemmas.{Bool.and_parts, List.drop_all, List.Elements.All-push, List.Elements.All-weaker}
+use Rattle.std.specs.{List.All, Result.IfOk, Result.OnErr, declared.alloc.AllocError.AllocError}
 use Rattle.dd_lattice.specs.declared.position.Cell.{Cell}
 use Rattle.dd_expansion.specs.declared.expanded.Expanded.{Expanded}
-use Rattle.dd_expansion.specs.declared.expanded.Expanded.TheVariants as v
-use Rattle.dd_circuit.specs.declared.gates.Signal.{Signal}
-use Rattle.dd_circuit.specs.declared.gates.Gate.{Gate}
+use Rattle.dd_circuit.specs.declared.gates.{Signal.Signal, Gate.Gate}
 use Rattle.dd_circuit.specs.declared.gates.Gate.TheVariants.{And, Or, Iff}
 use Rattle.dd_circuit.specs.Circuits.{Network, IsSignal, size, signal_of}
 use Rattle.dd_compile.specs.Compiling.{Made, Wires, Extends, then_gate, all_made, made, certain, gate_count, all_counts, are_wired, all_wired}
 use Rattle.dd_compile.specs.lemmas.Layers.{made_and, made_or, made_iff, all_wired-more}
+use Rattle.dd_expansion.specs.declared.expanded.Expanded.TheVariants as v
 
 pub size-append : (old new : Network) (gates : List Gate) → new.inputs ≡ old.inputs → new.gates ≡ old.gates ++ gates → size new ≡ size old + length gates
 size-append old new gates inputs is =
@@ -32,13 +27,13 @@ Extends-trans a b c first rest = record {
 pub one_more : (old mid new : Network) (g : Gate) → Extends old mid → new.inputs ≡ mid.inputs → new.gates ≡ mid.gates ++ g ∷ [] → Extends old new
 one_more old mid new g so_far inputs gates = Extends-trans old mid new so_far (record { inputs = inputs; added = g ∷ []; gates = gates })
 
--- one more gate, or none for want of memory
+-- one more gate, or none if memory runs out
 pub at_most_one_more : (old mid new : Network) (g : Gate) (r : Result Signal AllocError) → Extends old mid → new.inputs ≡ mid.inputs → IfOk r (λ s. new.gates ≡ mid.gates ++ g ∷ []) →
     OnErr r (new ≡ mid) → Extends old new
 at_most_one_more old mid new g (Ok s) so_far inputs gates same = one_more old mid new g so_far inputs gates
 at_most_one_more old mid new g (Err x) so_far inputs gates same = subst (Extends old) (sym same) so_far
 
--- what all parts make is what is made so far and what the parts from i on make
+-- the gates of all parts are those made so far and those of the parts from i on
 pub record Progress (w : Wires) (parts : List Expanded) (i : ℕ) (start now : Network) (signals : List Signal) : Type 0 where
   pub extends : Extends start now
   pub signals_left : (all_made (map (made (certain w)) parts) (size start)).signals ≡ signals ++ (all_made (map (made (certain w)) (drop i parts)) (size now)).signals
@@ -47,7 +42,7 @@ pub record Progress (w : Wires) (parts : List Expanded) (i : ℕ) (start now : N
   pub wired : all_wired (size now) w (drop i parts) ≡ true
   pub in_range : All (IsSignal (size now)) signals
 
--- what the part at i asks
+-- what the part at i requires
 pub next_part : (w : Wires) (parts : List Expanded) (i : ℕ) (start now : Network) (signals : List Signal) (part : Expanded) → Progress w parts i start now signals → i < length parts →
     part ≡ get_or parts i part → (size now + gate_count part ≤ size start + all_counts parts) × (are_wired (size now) w part ≡ true)
 next_part w parts i start now signals part p within here =
@@ -78,7 +73,7 @@ progress_step w parts i start now new signals more part s p within here extends 
       in_range = rw pushed (All-push (IsSignal (size new)) signals s (All-weaker (IsSignal (size now)) (IsSignal (size new)) (λ x h. (h.0, (let g = h.1 in omega (arith, g, count)))) signals p.in_range) ok);
     }
 
--- where the parts end
+-- when all parts are made
 pub progress_end : (w : Wires) (parts : List Expanded) (i : ℕ) (start now : Network) (signals : List Signal) → Progress w parts i start now signals → length parts ≤ i →
     (size now ≡ size start + all_counts parts)
     × ((now.gates ≡ start.gates ++ (all_made (map (made (certain w)) parts) (size start)).gates) × (signals ≡ (all_made (map (made (certain w)) parts) (size start)).signals))

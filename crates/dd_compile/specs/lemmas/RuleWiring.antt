@@ -1,32 +1,16 @@
--- Where the reads of a rule have their signals, each leaf of its expansion has its wire.
-use Rattle.std.proofs.Common.{◌≡◌, ◌<◌, ◌≤◌, ◌+◌, ◌-◌, ℕ, zero, suc, Bool, true, false, List, [], ◌∷◌, length, refl, ap, ◌∙◌, arith, Some, None}
-use Rattle.std.specs.Prelude.{◌==◌, ◌&&◌, if◌then◌else◌, Option, nat_lt, slice_get}
-use Rattle.std.specs.List.{list_all}
-use Rattle.std.proofs.lemmas.Int.{ints}
+-- If the cells that a rule reads have their signals, each leaf of its expansion has its wire.
+use Rattle.std.proofs.Common.{◌≡◌, ◌<◌, ◌≤◌, ◌-◌, ℕ, zero, suc, Bool, true, false, List, [], ◌∷◌, length, refl, ap, ◌∙◌, arith, Some, None}
 use Rattle.std.proofs.lemmas.Bool.{and_parts, and_from, leb-true, ltb-true, eqb-true}
-use Rattle.dd_lattice.specs.Place.{Place, moved, IsCoordinateInRange, is_in_range, most_coordinate}
-use Rattle.dd_lattice.specs.Cells.{shifted}
-use Rattle.dd_lattice.specs.declared.position.Cell.{Cell}
-use Rattle.dd_lattice.specs.lemmas.RangeLaws.{test_from_in_range}
-use Rattle.dd_topology.specs.Topology.{extent}
-use Rattle.dd_expansion.specs.Leaves.{LeafTest, leaves_pass}
-use Rattle.dd_expansion.specs.lemmas.LeafLaws.{leaves_weaken, leaves_both}
+use Rattle.std.specs.{Prelude.◌==◌, Prelude.◌&&◌, Prelude.if◌then◌else◌, Prelude.Option, Prelude.nat_lt, Prelude.slice_get, List.list_all}
+use Rattle.dd_lattice.specs.{Place.Place, Place.moved, Place.is_in_range, Place.most_coordinate, Cells.shifted, declared.position.Cell.Cell}
+use Rattle.dd_topology.specs.{Topology.extent, lemmas.ExtentLaws.extent_moved}
+use Rattle.dd_expansion.specs.{Leaves.LeafTest, Leaves.leaves_pass, lemmas.LeafLaws.leaves_weaken, lemmas.LeafLaws.leaves_both}
 use Rattle.dd_formula.specs.LocalRule.{LocalRule, IsRule, is_near, most_reach, reads_at, cells_at, expansion_at}
-use Rattle.dd_formula.specs.lemmas.RuleLaws.{leaves_pass_reads, cells_pass_reads}
+use Rattle.dd_formula.specs.lemmas.{RuleLaws.leaves_pass_reads, RuleLaws.cells_pass_reads, Reached.in_range}
 use Rattle.dd_circuit.specs.declared.gates.Signal.{Signal}
 use Rattle.dd_compile.specs.Wiring.{Wiring, signal_for, signals_of}
 use Rattle.dd_compile.specs.Compiling.{is_wire, are_wired, wires_near}
 use Rattle.dd_compile.specs.RuleSignals.{is_signal, are_signals, are_reads_wired}
-
-pub extent_moved : (p by : Place) → extent (moved p by) ≤ extent p + extent by
-extent_moved p by = omega (arith, ints)
-
-in_range : (p : Place) → extent p ≤ most_coordinate → is_in_range p ≡ true
-in_range p h =
-    let x : IsCoordinateInRange p.x = (omega (arith, ints), omega (arith, ints)) in
-    let y : IsCoordinateInRange p.y = (omega (arith, ints), omega (arith, ints)) in
-    let z : IsCoordinateInRange p.z = (omega (arith, ints), omega (arith, ints)) in
-    test_from_in_range p (x, y, z)
 
 -- what a rule reads near a place of this extent is in the range of positions
 pub near_in_range : (v : Place) (d : Cell) → extent v ≤ most_coordinate - most_reach → is_near d ≡ true → is_in_range (moved d.position v) ≡ true
@@ -68,7 +52,7 @@ module _ (n : ℕ) (w : Wiring) (r : LocalRule) (rule : IsRule r) (c : Cell) (ex
       let three : leaves_pass (λ d s. signals d s && (near d s && known d s)) e ≡ true = leaves_both e signals (λ d s. near d s && known d s) ∙ and_from _ _ has_all two in
       leaves_weaken e (λ d s. signals d s && (near d s && known d s)) (λ d s. is_wire n (wires_near w c.position d s)) (λ d s. leaf_wired n r.symbols w c.position d s inner) three
 
--- a test behind the test of the range, of cells near the origin
+-- a test after the test of the range, for cells near the origin
 in_range_all : (v : Place) → extent v ≤ most_coordinate - most_reach → (test : Cell → Bool) (ds : List Cell) → list_all is_near ds ≡ true →
     list_all (λ d. if is_in_range (moved d.position v) then test d else false) ds ≡ list_all test ds
 in_range_all v inner test [] near = refl
@@ -77,7 +61,7 @@ in_range_all v inner test (d ∷ ds) near =
     let there = near_in_range v d inner both.0 in
     rw there (ap (λ b. test d && b) (in_range_all v inner test ds both.1))
 
--- the same of the cells that a rule reads
+-- the same for the cells that a rule reads
 pub tested_reads : (r : LocalRule) → IsRule r → (c : Cell) → c.node < r.nodes → extent c.position ≤ most_coordinate - most_reach → (test : Cell → Bool) (cs : List Cell) → cs ≡ cells_at r c.node →
     list_all (λ d. if is_in_range (moved d.position c.position) then test d else false) cs ≡ list_all test (reads_at r c.node)
 tested_reads r rule c exists inner test cs is =

@@ -1,11 +1,8 @@
--- What is wired among some variables is so among more.
+-- What is wired with some variables is still wired with more.
 use Rattle.std.proofs.Common.{◌≡◌, ℕ, ◌≤◌, true, List, [], ◌∷◌, refl}
 use Rattle.std.proofs.lemmas.Bool.{and_parts, and_from}
-use Rattle.dd_lattice.specs.Cells.{shifted}
-use Rattle.dd_lattice.specs.declared.position.Cell.{Cell}
-use Rattle.dd_compile.specs.Wiring.{Wiring, signals_of}
-use Rattle.dd_compile.specs.RuleSignals.{are_signals}
-use Rattle.dd_compile.specs.ValueSignals.{are_wired_there}
+use Rattle.dd_lattice.specs.{Cells.shifted, declared.position.Cell.Cell}
+use Rattle.dd_compile.specs.{Wiring.Wiring, Wiring.signals_of, RuleSignals.are_signals, ValueSignals.are_wired_there}
 use Rattle.dd_compile.specs.lemmas.CaseRules.{signals_more}
 
 pub still_wired : (n m k : ℕ) (w : Wiring) (c : Cell) → n ≤ m → (ds : List Cell) → are_wired_there n k w ds c ≡ true → are_wired_there m k w ds c ≡ true

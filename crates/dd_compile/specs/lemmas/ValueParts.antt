@@ -1,27 +1,23 @@
 -- The gates of an automaton's value, by its parts, and how many there are.
 use Rattle.std.proofs.Common.{◌≡◌, ◌≤◌, ℕ, ◌+◌, List, [], ◌∷◌, map, length, ap, sym, ◌∙◌, subst, arith, length-append}
-use Rattle.dd_lattice.specs.Cells.{shifted}
-use Rattle.dd_lattice.specs.InOrder.{in_order}
-use Rattle.dd_lattice.specs.Place.{Place}
-use Rattle.dd_lattice.specs.declared.position.Cell.{Cell}
+use Rattle.dd_lattice.specs.{Cells.shifted, InOrder.in_order, Place.Place, declared.position.Cell.Cell}
 use Rattle.dd_expansion.specs.Leaves.{total}
 use Rattle.dd_formula.specs.LocalRule.{LocalRule, expansion_at}
 use Rattle.dd_formula.specs.Automata.{Counted, counted, counted_step, cells_of}
 use Rattle.dd_formula.specs.ValueCounts.{Valued, valued_step, value_clauses, given_clauses, case_clauses}
 use Rattle.dd_formula.specs.declared.automaton.Automaton.{Automaton, roll-Automaton}
 use Rattle.dd_formula.specs.declared.automaton.Cases.{Cases}
-use Rattle.dd_formula.specs.declared.automaton.Automaton.TheVariants as v
 use Rattle.dd_formula.specs.declared.automaton.Automaton.TheFolds.{fold-Automaton, fold-roll-Automaton, ind-Automaton, map-Automaton}
 use Rattle.dd_formula.specs.declared.automaton.Automaton.TheOpen.{Automaton-F}
+use Rattle.dd_formula.specs.lemmas.AutomatonLaws.{counted_given, counted_composed}
 use Rattle.dd_compile.specs.Wiring.{Wiring, with_cell}
 use Rattle.dd_compile.specs.Compiling.{AllMade, certain, compiled, wires_near}
 use Rattle.dd_compile.specs.ValueGates.{ValueMaker, Gated, gated_step, rules_made, given_made, inner_made, composed_made, value_made}
-use Rattle.dd_compile.specs.lemmas.MadeCount.{made_count}
-use Rattle.dd_compile.specs.lemmas.FewGates.{gates_below}
-use Rattle.dd_compile.specs.lemmas.ChoiceLaws.{choices_length}
+use Rattle.dd_compile.specs.lemmas.{MadeCount.made_count, FewGates.gates_below, ChoiceLaws.choices_length}
 use Rattle.dd_compile.specs.lemmas.CaseRules.{value_length, rules_length}
+use Rattle.dd_formula.specs.declared.automaton.Automaton.TheVariants as v
 
--- a claim of all automata, by their two forms
+-- a claim about all automata, by their two forms
 abbrev Known : (Automaton → Type 0) → Type 0
 Known P = (f : Automaton) × P f
 
@@ -53,28 +49,22 @@ valued_given k c = ap (valued k) (sym (v.rolls-Given c)) ∙ fold-roll-Automaton
 valued_composed : (k : ℕ) (f g : Automaton) → valued k (v.Composed f g) ≡ valued_step k (Automaton-F.Composed (valued k f) (valued k g))
 valued_composed k f g = ap (valued k) (sym (v.rolls-Composed f g)) ∙ fold-roll-Automaton Valued (valued_step k) (Automaton-F.Composed f g)
 
-all_given : (c : Cases) → counted (v.Given c) ≡ counted_step (Automaton-F.Given c)
-all_given c = ap counted (sym (v.rolls-Given c)) ∙ fold-roll-Automaton Counted counted_step (Automaton-F.Given c)
-
-all_composed : (f g : Automaton) → counted (v.Composed f g) ≡ counted_step (Automaton-F.Composed (counted f) (counted g))
-all_composed f g = ap counted (sym (v.rolls-Composed f g)) ∙ fold-roll-Automaton Counted counted_step (Automaton-F.Composed f g)
-
--- what both folds count is what is counted of the automaton
+-- both folds count the same
 gated_counts : (k : ℕ) (f : Automaton) → (gated k f).counts ≡ counted f
 gated_counts k =
-    by_forms (λ f. (gated k f).counts ≡ counted f) (λ c. ap (λ (x : Gated). x.counts) (gated_given k c) ∙ sym (all_given c))
+    by_forms (λ f. (gated k f).counts ≡ counted f) (λ c. ap (λ (x : Gated). x.counts) (gated_given k c) ∙ sym (counted_given c))
     (λ f g first second.
     ap (λ (x : Gated). x.counts) (gated_composed k f g)
     ∙ (ap (λ (x : Counted). counted_step (Automaton-F.Composed x (gated k g).counts)) first
-    ∙ (ap (λ (x : Counted). counted_step (Automaton-F.Composed (counted f) x)) second ∙ sym (all_composed f g))))
+    ∙ (ap (λ (x : Counted). counted_step (Automaton-F.Composed (counted f) x)) second ∙ sym (counted_composed f g))))
 
 valued_counts : (k : ℕ) (f : Automaton) → (valued k f).counts ≡ counted f
 valued_counts k =
-    by_forms (λ f. (valued k f).counts ≡ counted f) (λ c. ap (λ (x : Valued). x.counts) (valued_given k c) ∙ sym (all_given c))
+    by_forms (λ f. (valued k f).counts ≡ counted f) (λ c. ap (λ (x : Valued). x.counts) (valued_given k c) ∙ sym (counted_given c))
     (λ f g first second.
     ap (λ (x : Valued). x.counts) (valued_composed k f g)
     ∙ (ap (λ (x : Counted). counted_step (Automaton-F.Composed x (valued k g).counts)) first
-    ∙ (ap (λ (x : Counted). counted_step (Automaton-F.Composed (counted f) x)) second ∙ sym (all_composed f g))))
+    ∙ (ap (λ (x : Counted). counted_step (Automaton-F.Composed (counted f) x)) second ∙ sym (counted_composed f g))))
 
 -- the gates at the two forms of an automaton
 pub made_given : (k : ℕ) (c : Cases) (w : Wiring) (at : Cell) (n : ℕ) → value_made k (v.Given c) w at n ≡ given_made k c w at n
@@ -85,7 +75,7 @@ made_composed k f g w at n =
     ap (λ (x : Gated). x.made w at n) (gated_composed k f g)
     ∙ ap (λ (x : Counted). composed_made (in_order (x.reads at.node)) (value_made k f) (value_made k g) w at n) (gated_counts k f)
 
--- No more gates than clauses.
+-- There are no more gates than clauses.
 abbrev AreFew : ℕ → Automaton → Type 0
 AreFew k f = (w : Wiring) (at : Cell) (n : ℕ) → length (value_made k f w at n).gates ≤ value_clauses k f at.node
 

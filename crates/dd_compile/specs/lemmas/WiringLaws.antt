@@ -1,26 +1,18 @@
 -- Wires are read by the places of their cells.
 use Rattle.std.proofs.Common.{◌≡◌, ◌<◌, ℕ, List, [], ◌∷◌, ◌++◌, length, get_or, slice_get, Some, None, Ok, Err, Option, ap, sym, refl, ◌∙◌, arith, map, option_map, length-append}
-use Rattle.std.specs.List.{All, Contains, position_or_len}
-use Rattle.std.specs.List.Sorted.{IsStrictlySortedBy, IsBinarySearchResult, IsSearchInRange}
-use Rattle.std.specs.Ordering.{is_eq}
-use Rattle.std.specs.Cmp.{tied_itself}
-use Rattle.std.specs.declared.cmp.Ordering.TheVariants.{Less}
 use Rattle.std.proofs.lemmas.Option.{slice_get_past, slice_get_read, slice_get-map}
-use Rattle.std.proofs.lemmas.List.{get_or_default, length-map}
-use Rattle.std.proofs.lemmas.List.Elements.{All-contains}
-use Rattle.dd_lattice.specs.declared.position.Cell.{Cell}
-use Rattle.dd_lattice.specs.Order.{cell_cmp}
-use Rattle.dd_lattice.specs.lemmas.ListLaws.{sorted_push}
+use Rattle.std.proofs.lemmas.List.{get_or_default, length-map, Elements.All-contains}
+use Rattle.std.specs.List.{All, Contains, position_or_len, Sorted.IsBinarySearchResult, Sorted.IsSearchInRange}
+use Rattle.std.specs.{Ordering.is_eq, declared.cmp.Ordering.TheVariants.Less}
+use Rattle.dd_lattice.specs.{declared.position.Cell.Cell, Order.cell_cmp}
+use Rattle.dd_values.specs.lemmas.Members.{sorted_push}
 use Rattle.dd_pattern.specs.Filling.{filled}
-use Rattle.dd_pattern.specs.lemmas.FillingLaws.{cell_total, search_places, missing_reads_none}
+use Rattle.dd_pattern.specs.lemmas.FillingLaws.{search_places, missing_reads_none, place_found}
 use Rattle.dd_circuit.specs.declared.gates.Signal.{Signal}
 use Rattle.dd_compile.specs.Wiring.{Wiring, IsWiring, IsWiredByPlace, signal_for, signals_of, wire_of}
 
 abbrev place_of : List Cell → Cell → ℕ
 place_of cs c = position_or_len (λ d. is_eq (cell_cmp d c)) cs
-
-place_found : (cs : List Cell) → IsStrictlySortedBy cell_cmp cs → (i : ℕ) (c : Cell) → i < length cs → get_or cs i c ≡ c → place_of cs c ≡ i
-place_found cs up i c h e = search_places cs c (Ok i) up h (λ d. ap (λ x. cell_cmp x c) (get_or_default cs i d c h ∙ e) ∙ tied_itself cell_total c)
 
 abbrev zero_for : List Signal → ℕ
 zero_for ss = 0
@@ -58,14 +50,14 @@ found_list w cs c i ss ok same within h here =
     let inside : i < length w.signals = omega (arith, ok.as_many, ap length same, within) in
     ap (slice_get w.signals) place ∙ slice_get_read w.signals (length w.signals) i ss refl inside here
 
--- and without it there is none
+-- a cell that is not found has no signals
 pub missing_list : (w : Wiring) (cs : List Cell) (c : Cell) (i : ℕ) → IsWiring w → cs ≡ w.cells → IsSearchInRange (Err i) (length cs) →
     IsBinarySearchResult (λ y. cell_cmp y c) cs (Err i) → signals_of w c ≡ None
 missing_list w cs c i ok same within h =
     let place : place_of w.cells c ≡ length w.cells = search_places w.cells c (Err i) ok.ascending (rw same at within) (rw same at h) in
     ap (slice_get w.signals) place ∙ slice_get_past w.signals (length w.cells) (omega (arith, ok.as_many))
 
--- and the wires are those of the list
+-- the wires of a found cell are those of its list
 pub found : (w : Wiring) (cs : List Cell) (c : Cell) (s i : ℕ) (ss : List Signal) (r : Option Signal) → IsWiring w → cs ≡ w.cells → IsSearchInRange (Ok i) (length cs) →
     IsBinarySearchResult (λ y. cell_cmp y c) cs (Ok i) → ss ≡ get_or w.signals i ss → r ≡ slice_get ss s → r ≡ wire_of w c s
 found w cs c s i ss r ok same within h here is = is ∙ ap (λ o. signal_for o s) (sym (found_list w cs c i ss ok same within h here))
@@ -74,7 +66,7 @@ pub missing : (w : Wiring) (cs : List Cell) (c : Cell) (s i : ℕ) → IsWiring 
     IsBinarySearchResult (λ y. cell_cmp y c) cs (Err i) → None ≡ wire_of w c s
 missing w cs c s i ok same within h = ap (λ o. signal_for o s) (sym (missing_list w cs c i ok same within h))
 
--- a cell after all others keeps the order
+-- a cell after all others keeps the cells in order
 pub one_more : (w : Wiring) (c : Cell) (ss : List Signal) (cs : List Cell) (sss : List (List Signal)) → IsWiring w → All (λ d. cell_cmp d c ≡ Less) w.cells →
     cs ≡ w.cells ++ c ∷ [] → sss ≡ w.signals ++ ss ∷ [] → IsWiring (record { cells = cs; signals = sss })
 one_more w c ss cs sss ok before cells signals = record {

@@ -1,13 +1,9 @@
 -- The gates of a rule at a node of the origin, over variables of their own for the cells that it reads.
 use Rattle.std.specs.Prelude.{ℕ, ◌+◌, ◌*◌, ◌<◌, ◌≡◌, pos, List, [], ◌∷◌, length}
-use Rattle.dd_lattice.specs.Place.{Place, place}
-use Rattle.dd_lattice.specs.declared.position.Cell.{Cell}
+use Rattle.dd_lattice.specs.{Place.Place, Place.place, declared.position.Cell.Cell}
 use Rattle.dd_formula.specs.LocalRule.{LocalRule, IsRule, cells_at, expansion_at}
-use Rattle.dd_circuit.specs.declared.gates.Signal.{Signal}
-use Rattle.dd_circuit.specs.Circuits.{Network}
-use Rattle.dd_compile.specs.Wiring.{Wiring}
-use Rattle.dd_compile.specs.Compiling.{Made, compiled}
-use Rattle.dd_compile.specs.ValueGates.{fresh}
+use Rattle.dd_circuit.specs.{declared.gates.Signal.Signal, Circuits.Network}
+use Rattle.dd_compile.specs.{Wiring.Wiring, Compiling.Made, Compiling.compiled, ValueGates.fresh}
 
 -- for each cell the signals of m variables, after n others and those of the cells before it
 abbrev pub signals_in_turn : ℕ → ℕ → List Cell → List (List Signal)
@@ -21,7 +17,7 @@ own_wiring m cs = record { cells = cs; signals = signals_in_turn m 0 cs }
 abbrev pub origin : Place
 origin = place (pos 0) (pos 0) (pos 0)
 
--- those of the cells that a rule reads at a node, and how many variables these are
+-- the wiring of the cells that a rule reads at a node, and the number of its variables
 abbrev pub own_inputs : LocalRule → ℕ → Wiring
 own_inputs r a = own_wiring r.symbols (cells_at r a)
 
@@ -31,7 +27,7 @@ own_count r a = length (cells_at r a) * r.symbols
 abbrev pub own_made : LocalRule → ℕ → Made
 own_made r a = compiled (own_inputs r a) origin (expansion_at r a) (own_count r a)
 
--- the circuit has these gates alone, and the signal is theirs
+-- the circuit has only these gates, and the signal is theirs
 pub record IsTemplate (r : LocalRule) (a : ℕ) (circuit : Network) (s : Signal) : Type 0 where
   pub exists : a < r.nodes
   pub kept : IsRule r

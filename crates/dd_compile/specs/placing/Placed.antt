@@ -1,11 +1,8 @@
--- Gates over variables of their own, as they are over the signals of a circuit.
+-- Gates over variables of their own, placed over the signals of a circuit.
 use Rattle.std.specs.Prelude.{ℕ, ◌+◌, ◌-◌, ◌&&◌, is_some, if◌then◌else◌, Bool, List, [], map, length, Option, Some, None, slice_get}
 use Rattle.std.specs.List.{flat_map}
-use Rattle.dd_lattice.specs.Place.{Place, moved, is_in_range}
-use Rattle.dd_lattice.specs.Cells.{shifted}
-use Rattle.dd_lattice.specs.declared.position.Cell.{Cell}
-use Rattle.dd_circuit.specs.declared.gates.Signal.{Signal}
-use Rattle.dd_circuit.specs.declared.gates.Gate.{Gate}
+use Rattle.dd_lattice.specs.{Place.Place, Place.moved, Place.is_in_range, Cells.shifted, declared.position.Cell.Cell}
+use Rattle.dd_circuit.specs.declared.gates.{Signal.Signal, Gate.Gate}
 use Rattle.dd_circuit.specs.declared.gates.Gate.TheVariants.{And, Or, Iff}
 use Rattle.dd_circuit.specs.Circuits.{opposite}
 use Rattle.dd_compile.specs.Wiring.{Wiring, signals_of}
@@ -22,7 +19,7 @@ is_there w v d = is_in_range (moved d.position v) && is_some (signals_of w (shif
 abbrev pub signals_there : Wiring → Place → List Cell → List Signal
 signals_there w v cs = flat_map (λ d. all_of (signals_of w (shifted v d))) cs
 
--- the signal, or what says the contrary
+-- the signal, or its opposite
 abbrev pub signed : Bool → Signal → Signal
 signed positive s = if positive then s else opposite s
 
@@ -30,7 +27,7 @@ abbrev pub placed_by : Option Signal → ℕ → Bool → Signal
 placed_by None variable positive = record { variable = variable; positive = positive }
 placed_by (Some input) variable positive = signed positive input
 
--- what stands for a signal: one of these for each of as many variables, and the variables after n for those that follow
+-- what stands for a signal: one of these for each of the first variables, and the variables after n for the later ones
 abbrev pub placed : List Signal → ℕ → Signal → Signal
 placed inputs n s = placed_by (slice_get inputs (s.variable - 1)) (n + (s.variable - length inputs)) s.positive
 

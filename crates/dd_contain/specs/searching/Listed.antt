@@ -1,14 +1,12 @@
--- How far the search has come in a list of periods, and what may be asked.
-use Rattle.std.specs.Prelude.{ℕ, ◌<◌, ◌≤◌, ◌≡◌, List, Some, slice_get}
-use Rattle.std.specs.List.{Contains}
-use Rattle.dd_pattern.specs.declared.periods.Periods.{Periods}
-use Rattle.dd_pattern.specs.Periods.{AreWithin}
+-- How far the search has come in a list of periods, and what it may ask.
+use Rattle.std.specs.{Prelude.ℕ, Prelude.◌<◌, Prelude.◌≤◌, Prelude.◌≡◌, Prelude.List, Prelude.Some, Prelude.slice_get, List.Contains}
+use Rattle.dd_pattern.specs.{declared.periods.Periods.Periods, Periods.AreWithin}
 
 -- none of the first n shows the goal
 abbrev pub NoneBefore : (Periods → Type 0) → List Periods → ℕ → Type 0
 NoneBefore T ps n = (k : ℕ) (q : Periods) → k < n → slice_get ps k ≡ Some q → T q → ⊥
 
--- p is the first in the list with T
+-- p is the first in the list that satisfies T
 pub record IsFirstOf (T : Periods → Type 0) (ps : List Periods) (p : Periods) : Type 0 where
   pub place : ℕ
   pub stands : slice_get ps place ≡ Some p

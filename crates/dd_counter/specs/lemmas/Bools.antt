@@ -1,28 +1,9 @@
 -- Facts on truth values and on ranges.
 use Rattle.std.proofs.Common.{◌≡◌, ℕ, zero, suc, ◌+◌, ◌<◌, ◌≤◌, Bool, true, false, refl, ap, sym, ◌∙◌, arith}
-use Rattle.std.specs.Prelude.{◌&&◌, ◌||◌, ◌-◌, ◌==◌, nat_lt}
-use Rattle.std.specs.List.{list_any, range_with_len}
-use Rattle.std.specs.Bool.{beq}
 use Rattle.std.proofs.lemmas.Bool.{lt-ltb, ltb-true, ltb-false, eqb-true, eqb-false, ne_eqb}
 use Rattle.std.proofs.lemmas.Bool.Decides.{nat_tests}
-
-pub same_from_beq : (a b : Bool) → beq a b ≡ true → a ≡ b
-same_from_beq true true h = refl
-same_from_beq true false h = sym h
-same_from_beq false true h = h
-same_from_beq false false h = refl
-
-pub or_false : (a : Bool) → (a || false) ≡ a
-or_false true = refl
-or_false false = refl
-
-pub and_true : (a : Bool) → (a && true) ≡ a
-and_true true = refl
-and_true false = refl
-
-pub and_false : (a : Bool) → (a && false) ≡ false
-and_false true = refl
-and_false false = refl
+use Rattle.std.specs.{Prelude.◌&&◌, Prelude.◌||◌, Prelude.◌-◌, Prelude.◌==◌, Prelude.nat_lt, List.list_any, List.range_with_len}
+use Rattle.dd_values.specs.lemmas.Booleans.{or_false}
 
 -- of the numbers of a range only c passes the first test
 none_of_range : (f : ℕ → Bool) (c k a : ℕ) → c < a → list_any (λ s. (c == s) && f s) (range_with_len a k) ≡ false
@@ -41,7 +22,7 @@ one_of_range f c (suc k) a low high = go (c == a) refl (λ above. one_of_range f
 lt_less : (t w total : ℕ) → w ≤ t → nat_lt (t - w) total ≡ nat_lt t (total + w)
 lt_less t w total h = grind (arith, nat_tests)
 
--- a number is below a sum where it is below the second part, or what is left of it is below the first
+-- a number is below a sum if it is below the second part, or if its excess over that part is below the first
 pub lt_sum : (t w total : ℕ) (b : Bool) → (w ≤ t → b ≡ nat_lt (t - w) total) → (nat_lt t w || b) ≡ nat_lt t (total + w)
 lt_sum t w total b rest = go (nat_lt t w) refl where
   go : (c : Bool) → nat_lt t w ≡ c → (c || b) ≡ nat_lt t (total + w)

@@ -1,18 +1,13 @@
 -- How many gates the counter has, and how much a configuration weighs at most.
-use Rattle.std.proofs.Common.{ℕ, zero, suc, ◌+◌, ◌*◌, ◌≤◌, Bool, true, false, List, [], ◌∷◌, map, length, get_or, arith, Some, None, length-append}
-use Rattle.std.specs.Prelude.{◌-◌, nat_lt, Option, slice_get, slice_index}
-use Rattle.std.specs.List.{range_with_len}
-use Rattle.std.proofs.lemmas.Nat.{mul-le}
-use Rattle.std.proofs.lemmas.List.Sums.{sum_by-cons}
-use Rattle.dd_circuit.specs.declared.gates.Signal.{Signal}
-use Rattle.dd_circuit.specs.declared.gates.Gate.TheVariants.{Or}
-use Rattle.dd_pattern.specs.declared.periods.Periods.{Periods}
-use Rattle.dd_pattern.specs.Periods.{periods_volume}
-use Rattle.dd_pattern.specs.Weight.{total_weight}
+use Rattle.std.proofs.Common.{ℕ, zero, suc, ◌+◌, ◌*◌, ◌≤◌, Bool, true, false, List, [], ◌∷◌, map, length, arith, Some, None, length-append}
+use Rattle.std.proofs.lemmas.{Nat.mul-le, List.Sums.sum_by-cons}
+use Rattle.std.specs.{Prelude.◌-◌, Prelude.nat_lt, Prelude.Option, Prelude.slice_get, Prelude.slice_index, List.range_with_len}
+use Rattle.dd_circuit.specs.declared.gates.{Signal.Signal, Gate.TheVariants.Or}
+use Rattle.dd_pattern.specs.{declared.periods.Periods.Periods, Periods.periods_volume, Weight.total_weight}
 use Rattle.dd_formula.specs.LocalRule.{LocalRule}
 use Rattle.dd_counter.specs.Counter.{Making, joined, member_by, of_symbol, members, count, row, rows}
-use Rattle.dd_counter.specs.Weights.{weight_count}
-use Rattle.dd_counter.specs.Least.{greatest}
+use Rattle.dd_counter.specs.{Weights.weight_count, Least.greatest}
+use Rattle.dd_expansion.specs.lemmas.Depths.{at_most_greatest}
 
 joined_count : (make : ℕ → Making) (m c a n : ℕ) → ((s k : ℕ) → length (make s k).gates ≤ m) → length (joined (map make (range_with_len a c)) n).gates ≤ c * m
 joined_count make m zero a n each = omega arith
@@ -46,16 +41,11 @@ rows_count ws below (suc c) k before n =
     let e = length-append first.gates rest.gates in
     omega (arith, one, more, e)
 
-at_most : (ws : List ℕ) (s : ℕ) → get_or ws s 0 ≤ greatest ws
-at_most [] s = omega arith
-at_most (w ∷ ws) zero = omega arith
-at_most (w ∷ ws) (suc s) = let h = at_most ws s in omega (arith, h)
-
 pub weight_most : (ws ss : List ℕ) → total_weight ws ss ≤ length ss * greatest ws
 weight_most ws [] = omega arith
 weight_most ws (s ∷ ss) =
     let e = sum_by-cons (slice_index ws) s ss in
-    let one = at_most ws s in
+    let one = at_most_greatest ws s in
     let more = weight_most ws ss in
     omega (arith, e, one, more)
 

@@ -1,18 +1,14 @@
--- How many clauses the counter has: no more than are counted.
+-- How many clauses the counter has: no more than `weight_count` says.
 use Rattle.std.proofs.Common.{ℕ, zero, suc, ◌+◌, ◌*◌, ◌≤◌, Bool, true, false, List, [], ◌∷◌, ◌++◌, map, length, ap, arith, Some, None, length-append}
-use Rattle.std.specs.Prelude.{◌-◌, nat_lt, Option, slice_get, slice_index}
-use Rattle.std.specs.List.{range_with_len}
 use Rattle.std.proofs.lemmas.List.{length-map}
-use Rattle.dd_clause.specs.declared.clause.Literal.{Literal}
-use Rattle.dd_clause.specs.Clauses.{ClauseList}
-use Rattle.dd_circuit.specs.declared.gates.Signal.{Signal}
-use Rattle.dd_circuit.specs.declared.gates.Gate.{Gate}
-use Rattle.dd_circuit.specs.declared.gates.Gate.TheVariants.{Or}
+use Rattle.std.specs.{Prelude.◌-◌, Prelude.nat_lt, Prelude.Option, Prelude.slice_get, Prelude.slice_index, List.range_with_len}
+use Rattle.dd_clause.specs.{declared.clause.Literal.Literal, Clauses.ClauseList}
+use Rattle.dd_circuit.specs.declared.gates.{Signal.Signal, Gate.Gate, Gate.TheVariants.Or}
 use Rattle.dd_cnf.specs.Encoding.{gates_clauses, literal, literal_of, opposing}
-use Rattle.dd_problem.specs.lemmas.Growing.{gates_clauses-append}
+use Rattle.dd_cnf.specs.lemmas.GateLaws.{gates_clauses-append}
 use Rattle.dd_counter.specs.Counter.{Making, joined, member_by, of_symbol, members, count, row, rows, refusal_of, weighed}
 
--- of gates after others
+-- the clauses of gates after others
 after : (n : ℕ) (gs hs : List Gate) (a b : ℕ) → length (gates_clauses n gs) ≤ a → length (gates_clauses (n + length gs) hs) ≤ b → length (gates_clauses n (gs ++ hs)) ≤ a + b
 after n gs hs a b first rest =
     let all = ap length (gates_clauses-append n gs hs) in

@@ -1,12 +1,9 @@
 -- Assignments that are extended by the values of gates.
 use Rattle.std.proofs.Common.{◌≡◌, ℕ, Bool, true, false, List, map, ◌∙◌, arith}
-use Rattle.std.specs.Prelude.{◌-◌}
-use Rattle.std.specs.List.{range_with_len}
 use Rattle.std.proofs.lemmas.List.FromFn.{get_or-map-range_with_len, length-map-range_with_len}
+use Rattle.std.specs.{Prelude.◌-◌, List.range_with_len}
 use Rattle.dd_values.specs.Variables.{true_variables}
-use Rattle.dd_circuit.specs.declared.gates.Gate.{Gate}
-use Rattle.dd_circuit.specs.Circuits.{AreGates, agrees}
-use Rattle.dd_circuit.specs.Valuations.{values_from}
+use Rattle.dd_circuit.specs.{declared.gates.Gate.Gate, Circuits.AreGates, Circuits.agrees, Valuations.values_from}
 use Rattle.dd_circuit.specs.lemmas.ValueLaws.{Alike, values_from-alike, agrees-values_from}
 
 -- the values of the first n variables, and then those of the gates

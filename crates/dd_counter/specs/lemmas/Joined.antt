@@ -1,20 +1,13 @@
 -- Makings that are joined: what their gates say.
-use Rattle.std.proofs.Common.{◌≡◌, ℕ, zero, suc, ◌+◌, ◌<◌, arith, Bool, true, false, List, [], ◌∷◌, ◌++◌, map, length, refl, sym, ◌∙◌}
-use Rattle.std.specs.Prelude.{◌||◌}
-use Rattle.std.specs.List.{list_any, range_with_len}
-use Rattle.std.proofs.lemmas.Bool.{and_parts}
-use Rattle.std.proofs.lemmas.List.{map-append}
-use Rattle.dd_circuit.specs.declared.gates.Gate.{Gate}
-use Rattle.dd_circuit.specs.Circuits.{signal_value, agrees}
-use Rattle.dd_circuit.specs.lemmas.ValueLaws.{agrees-append}
+use Rattle.std.proofs.Common.{◌≡◌, ℕ, zero, suc, ◌+◌, ◌<◌, arith, Bool, true, List, [], ◌∷◌, ◌++◌, map, length, refl, sym, ◌∙◌}
+use Rattle.std.proofs.lemmas.{Bool.and_parts, List.map-append}
+use Rattle.std.specs.{Prelude.◌||◌, List.list_any, List.range_with_len}
+use Rattle.dd_circuit.specs.{declared.gates.Gate.Gate, Circuits.signal_value, Circuits.agrees, lemmas.ValueLaws.agrees-append}
 use Rattle.dd_counter.specs.Counter.{Making, joined}
+use Rattle.dd_values.specs.lemmas.Booleans.{or_assoc}
 
 pub agrees_parts : (set : ℕ → Bool) (n : ℕ) (gs hs : List Gate) → agrees set n (gs ++ hs) ≡ true → (agrees set n gs ≡ true) × (agrees set (n + length gs) hs ≡ true)
 agrees_parts set n gs hs h = and_parts (agrees set n gs) (agrees set (n + length gs) hs) (sym (agrees-append set n gs hs) ∙ h)
-
-or_assoc : (a b c : Bool) → ((a || b) || c) ≡ (a || (b || c))
-or_assoc true b c = refl
-or_assoc false b c = refl
 
 pub any_append : {X : Type 0} (p : X → Bool) (xs ys : List X) → list_any p (xs ++ ys) ≡ (list_any p xs || list_any p ys)
 any_append p [] ys = refl

@@ -1,25 +1,14 @@
--- How far the loops that make the counter have come.
-use Rattle.std.proofs.Common.{◌≡◌, ℕ, suc, ◌+◌, ◌<◌, ◌≤◌, List, [], ◌∷◌, ◌++◌, map, length, refl, ap, sym, subst, ◌∙◌, arith, length-append, append_assoc}
-use Rattle.std.specs.Prelude.{◌-◌, false, Some, None, slice_get}
-use Rattle.std.proofs.lemmas.Bool.{le-ltb}
-use Rattle.dd_circuit.specs.declared.gates.Gate.TheVariants.{And, Or}
-use Rattle.dd_circuit.specs.Circuits.{signal_of}
-use Rattle.std.specs.List.{All, range_with_len}
-use Rattle.std.proofs.lemmas.List.{append-nil}
-use Rattle.std.proofs.lemmas.List.Elements.{All-push, All-weaker}
-use Rattle.dd_clause.specs.declared.clause.Literal.{Literal}
+-- The state of the loops that make the counter.
+use Rattle.std.proofs.Common.{◌≡◌, ℕ, suc, ◌+◌, ◌<◌, ◌≤◌, List, [], ◌∷◌, ◌++◌, map, length, ap, sym, subst, ◌∙◌, arith, length-append, append_assoc}
+use Rattle.std.proofs.lemmas.{Bool.le-ltb, List.append-nil, List.Elements.All-push, List.Elements.All-weaker}
+use Rattle.std.specs.{Prelude.◌-◌, Prelude.false, Prelude.Some, Prelude.None, Prelude.slice_get, List.All, List.range_with_len}
+use Rattle.dd_circuit.specs.{declared.gates.Gate.TheVariants.And, declared.gates.Gate.TheVariants.Or, Circuits.signal_of, Circuits.IsSignal}
+use Rattle.dd_circuit.specs.declared.gates.{Signal.Signal, Gate.Gate}
 use Rattle.dd_clause.specs.Clauses.{ClauseList}
-use Rattle.dd_circuit.specs.declared.gates.Signal.{Signal}
-use Rattle.dd_circuit.specs.declared.gates.Gate.{Gate}
-use Rattle.dd_circuit.specs.Circuits.{IsSignal}
-use Rattle.dd_cnf.specs.Encoding.{gates_clauses}
-use Rattle.dd_problem.specs.lemmas.Growing.{gates_clauses-append}
+use Rattle.dd_cnf.specs.{Encoding.gates_clauses, lemmas.ModelLaws.same_list, lemmas.GateLaws.gates_clauses-append}
 use Rattle.dd_problem.specs.lemmas.RangesLeft.{range_to, range_step, range_ends}
 use Rattle.dd_compile.specs.Compiling.{AllMade}
 use Rattle.dd_counter.specs.Counter.{Making, making, joined, member_by, member, row, rows, grown}
-
-same_list : (cnf : ClauseList) (variables : ℕ) (clauses : List (List Literal)) → cnf.variables ≡ variables → cnf.clauses ≡ clauses → cnf ≡ record { variables = variables; clauses = clauses }
-same_list cnf variables clauses wide all = rw (← wide, ← all) refl
 
 pub grown-append : (cnf : ClauseList) (gs hs : List Gate) → grown cnf (gs ++ hs) ≡ grown (grown cnf gs) hs
 grown-append cnf gs hs =
@@ -30,7 +19,7 @@ grown-append cnf gs hs =
 pub grown-nil : (cnf : ClauseList) → grown cnf [] ≡ cnf
 grown-nil cnf = same_list (grown cnf []) cnf.variables cnf.clauses (omega arith) (append-nil cnf.clauses)
 
--- what is there and what the rest of the range makes is all
+-- what is already there and what the rest of the range makes are the whole
 pub record Left (make : ℕ → Making) (w end : ℕ) (start now : ClauseList) (signals : List Signal) : Type 0 where
   pub clauses : grown now (joined (map make (range_to w end)) now.variables).gates ≡ grown start (joined (map make (range_with_len 0 end)) start.variables).gates
   pub made : signals ++ (joined (map make (range_to w end)) now.variables).signals ≡ (joined (map make (range_with_len 0 end)) start.variables).signals
@@ -53,7 +42,7 @@ left_step make w end start now new signals after left within pushed more ok =
       more = omega (arith, wide, left.more);
     }
 
--- a turn that adds one signal
+-- a pass that adds one signal
 pub left_one : (make : ℕ → Making) (w end : ℕ) (start now new : ClauseList) (signals after : List Signal) (s : Signal) → Left make w end start now signals → w < end →
     new ≡ grown now (make w now.variables).gates → s ∷ [] ≡ (make w now.variables).signals → IsSignal new.variables s → after ≡ signals ++ s ∷ [] →
     Left make (w + 1) end start new after

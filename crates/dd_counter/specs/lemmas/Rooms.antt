@@ -1,33 +1,22 @@
--- What is known of the cells of a torus and of a configuration that lives: its symbols have weights, and the clauses below its
--- weight are few enough.
+-- Facts about the cells of a torus and about a configuration that lives: its symbols have weights, and the clauses
+-- below its weight are few enough.
 use Rattle.std.proofs.Common.{◌≡◌, ℕ, ◌*◌, ◌<◌, ◌≤◌, List, length, ap, sym, subst, arith}
-use Rattle.std.specs.List.{All}
 use Rattle.std.proofs.lemmas.Nat.{mul-le}
+use Rattle.std.specs.List.{All}
 use Rattle.dd_values.specs.Bounds.{most_weight}
-use Rattle.dd_pattern.specs.declared.periods.Periods.{Periods}
-use Rattle.dd_pattern.specs.Periods.{periods_volume}
-use Rattle.dd_pattern.specs.Tile.{Tile, IsTile}
-use Rattle.dd_pattern.specs.Weight.{AreWeights, total_weight}
+use Rattle.dd_pattern.specs.{declared.periods.Periods.Periods, Periods.periods_volume, Tile.Tile, Weight.AreWeights, Weight.total_weight}
 use Rattle.dd_formula.specs.LocalRule.{LocalRule, IsRule}
-use Rattle.dd_formula.specs.Living.{Fits}
-use Rattle.dd_boxes.specs.Goals.{always}
-use Rattle.dd_boxes.specs.Witnesses.{HasPeriods, IsWitness}
-use Rattle.dd_problem.specs.TorusPeriods.{AreTorusPeriods}
-use Rattle.dd_counter.specs.Weights.{weight_count}
-use Rattle.dd_counter.specs.Least.{greatest, IsLiving}
-use Rattle.dd_counter.specs.lemmas.Counted.{weight_most, count_less}
+use Rattle.dd_boxes.specs.{Goals.always, Witnesses.IsWitness, TorusPeriods.AreTorusPeriods}
+use Rattle.dd_counter.specs.{Weights.weight_count, Least.greatest, Least.IsLiving, lemmas.Counted.weight_most, lemmas.Counted.count_less}
+use Rattle.dd_problem.specs.lemmas.SymbolLaws.{size_is}
 
 -- there is a cell
-pub cells_some : (x : LocalRule) (p : Periods) → IsRule x → AreTorusPeriods x p → 0 < periods_volume p * x.nodes
+pub cells_some : (x : LocalRule) (p : Periods) → IsRule x → AreTorusPeriods x.dimension x.nodes p → 0 < periods_volume p * x.nodes
 cells_some x p rule ok =
     let zy : 1 * 1 ≤ p.z * p.y = mul-le 1 1 p.z p.y ok.periods.z_some ok.periods.y_some in
     let zyx : 1 * 1 ≤ p.z * p.y * p.x = mul-le 1 1 (p.z * p.y) p.x (omega (arith, zy)) ok.periods.x_some in
     let all : 1 * 1 ≤ p.z * p.y * p.x * x.nodes = mul-le 1 1 (p.z * p.y * p.x) x.nodes (omega (arith, zyx)) rule.nodes.0 in
     omega (arith, all)
-
--- a configuration of the periods has as many symbols as the torus has cells
-pub size_is : (x : LocalRule) (p : Periods) (t : Tile) → IsTile t → HasPeriods p t → Fits x t → length t.symbols ≡ periods_volume p * x.nodes
-size_is x p t tile has fit = rw (sym has, sym fit.nodes) tile.full
 
 pub weights_known : (x : LocalRule) (ws : List ℕ) (t : Tile) → length ws ≡ x.symbols → All (λ w. w ≤ most_weight) ws → IsWitness x always t → AreWeights ws t.symbols
 weights_known x ws t same small is = record { known = subst (λ m. All (λ s. s < m) t.symbols) (sym same) is.fits.symbols; small = small }

@@ -1,24 +1,19 @@
--- What the gates of the counter say where each cell has one symbol.
+-- What the gates of the counter say if each cell has one symbol.
 use Rattle.std.proofs.Common.{◌≡◌, ℕ, zero, suc, ◌+◌, ◌<◌, Bool, true, false, List, [], ◌∷◌, map, length, take, get_or, refl, ap, sym, ◌∙◌, arith, Some, None}
+use Rattle.std.proofs.lemmas.{Bool.and_parts, Bool.le-ltb, List.FromFn.get_or-map-range_with_len}
+use Rattle.std.proofs.lemmas.{List.Sums.sum_by_more, List.take_all, Option.slice_get-get_or}
 use Rattle.std.specs.Prelude.{◌&&◌, ◌||◌, ◌-◌, ◌==◌, nat_lt, Option, slice_get, slice_index}
-use Rattle.std.specs.List.{All, list_any, range_with_len}
-use Rattle.std.specs.Bool.{beq}
-use Rattle.std.proofs.lemmas.Bool.{and_parts, le-ltb}
-use Rattle.std.proofs.lemmas.List.FromFn.{get_or-map-range_with_len}
-use Rattle.std.proofs.lemmas.List.Sums.{sum_by_more}
-use Rattle.std.proofs.lemmas.List.{take_all}
-use Rattle.std.proofs.lemmas.Option.{slice_get-get_or}
-use Rattle.dd_circuit.specs.declared.gates.Signal.{Signal}
-use Rattle.dd_circuit.specs.declared.gates.Gate.TheVariants.{And, Or}
+use Rattle.std.specs.{List.All, List.list_any, List.range_with_len, Bool.beq}
+use Rattle.dd_circuit.specs.declared.gates.{Signal.Signal, Gate.TheVariants.And, Gate.TheVariants.Or}
 use Rattle.dd_circuit.specs.Circuits.{signal_of, signal_value, gate_value, agrees}
 use Rattle.dd_pattern.specs.Weight.{total_weight}
-use Rattle.dd_problem.specs.Clauses.{input}
-use Rattle.dd_problem.specs.Symbols.{AreRead}
+use Rattle.dd_problem.specs.{Clauses.input, Symbols.AreRead}
 use Rattle.dd_counter.specs.Counter.{joined, member_by, member, of_symbol, members, count, row, rows}
-use Rattle.dd_counter.specs.lemmas.Bools.{same_from_beq, or_false, and_true, and_false, one_of_range, lt_sum}
+use Rattle.dd_counter.specs.lemmas.Bools.{one_of_range, lt_sum}
 use Rattle.dd_counter.specs.lemmas.Joined.{agrees_parts, any_joined, each_joined}
+use Rattle.dd_values.specs.lemmas.Booleans.{and_true, or_false, same_from_beq, and_false}
 
--- what the signals say at t; false behind the last
+-- what the signal at t says; false after the last one
 abbrev pub said : (ℕ → Bool) → List Signal → ℕ → Bool
 said set signals t = get_or (map (signal_value set) signals) t false
 
@@ -45,11 +40,11 @@ member_says set from w t before n h =
     member_by_says set from (nat_lt t w) (slice_get before (t - w)) n h
     ∙ ap (λ b. signal_value set from && (nat_lt t w || b)) (sym (said_at set before (t - w)))
 
--- the signals say at 0, 1, .. up to below - 1 that the weight is more than that
+-- the signals at 0, 1, .. up to below - 1 say whether the weight is more than that
 abbrev pub SaysWeight : (ℕ → Bool) → ℕ → List Signal → ℕ → Type 0
 SaysWeight set below signals weight = (t : ℕ) → t < below → said set signals t ≡ nat_lt t weight
 
--- the symbols of the cells, of which the inputs are true, each with a weight
+-- the symbols of the cells are those whose inputs are true, and each has a weight
 pub record Weighs (set : ℕ → Bool) (ws ss : List ℕ) : Type 0 where
   pub read : AreRead set (length ws) ss
   pub known : All (λ s. s < length ws) ss

@@ -1,40 +1,29 @@
 -- The clauses with the counter are satisfied exactly by the configurations of small weight.
 use Rattle.std.proofs.Common.{◌≡◌, ℕ, zero, suc, ◌+◌, ◌*◌, ◌<◌, ◌≤◌, Bool, true, false, List, [], ◌++◌, length, refl, ap, sym, subst, ◌∙◌, arith, Some, None}
+use Rattle.std.proofs.lemmas.Bool.{and_parts, and_from, ltb-false, le-ltb}
+use Rattle.std.proofs.lemmas.List.{Folds.list_all-append, Elements.All-nil}
 use Rattle.std.specs.Prelude.{◌&&◌, ◌||◌, ◌-◌, not, if◌then◌else◌, nat_lt, Option, slice_get}
 use Rattle.std.specs.List.{All}
-use Rattle.std.proofs.lemmas.Bool.{and_parts, and_from, ltb-false, le-ltb}
-use Rattle.std.proofs.lemmas.List.Folds.{list_all-append}
-use Rattle.std.proofs.lemmas.List.Elements.{All-nil}
-use Rattle.dd_clause.specs.declared.clause.Literal.{Literal}
-use Rattle.dd_clause.specs.Clauses.{ClauseList, is_clause_true, Satisfies}
-use Rattle.dd_circuit.specs.declared.gates.Signal.{Signal}
-use Rattle.dd_circuit.specs.Circuits.{agrees}
-use Rattle.dd_circuit.specs.lemmas.ValueLaws.{Alike}
-use Rattle.dd_cnf.specs.Encoding.{gates_clauses}
-use Rattle.dd_cnf.specs.Models.{is_satisfied}
-use Rattle.dd_cnf.specs.lemmas.GateLaws.{gates_law}
+use Rattle.dd_clause.specs.{declared.clause.Literal.Literal, Clauses.ClauseList, Clauses.is_clause_true, Clauses.Satisfies}
+use Rattle.dd_circuit.specs.{declared.gates.Signal.Signal, Circuits.agrees, lemmas.ValueLaws.Alike}
+use Rattle.dd_cnf.specs.{Encoding.gates_clauses, Models.is_satisfied, lemmas.GateLaws.gates_law}
 use Rattle.dd_cnf.specs.lemmas.ModelLaws.{Satisfies-is_satisfied, is_satisfied-Satisfies}
-use Rattle.dd_pattern.specs.declared.periods.Periods.{Periods}
-use Rattle.dd_pattern.specs.Periods.{periods_volume}
-use Rattle.dd_pattern.specs.Tile.{Tile}
-use Rattle.dd_pattern.specs.Weight.{total_weight}
+use Rattle.dd_pattern.specs.{declared.periods.Periods.Periods, Periods.periods_volume, Tile.Tile, Weight.total_weight}
 use Rattle.dd_formula.specs.LocalRule.{LocalRule}
-use Rattle.dd_boxes.specs.Goals.{always}
-use Rattle.dd_boxes.specs.Witnesses.{IsWitness, HasPeriods}
-use Rattle.dd_problem.specs.Symbols.{AreRead}
-use Rattle.dd_problem.specs.Shows.{ShowsTorus}
-use Rattle.dd_problem.specs.lemmas.OwnVariables.{read_alike}
+use Rattle.dd_boxes.specs.{Goals.always, Witnesses.IsWitness, Witnesses.HasPeriods}
+use Rattle.dd_problem.specs.{Symbols.AreRead, Shows.ShowsTorus, lemmas.OwnVariables.read_alike}
 use Rattle.dd_counter.specs.Counter.{rows, refusal_of, weighed}
 use Rattle.dd_counter.specs.Weights.{IsLight, IsLightWitness, ShowsWeights}
 use Rattle.dd_counter.specs.lemmas.Saying.{Weighs, SaysWeight, said_at, value_of, all_say}
 use Rattle.dd_counter.specs.lemmas.Fitting.{rows_fit}
 use Rattle.dd_counter.specs.lemmas.Extending.{extension, extension_alike, extension_agrees}
+use Rattle.dd_values.specs.lemmas.Booleans.{not_true}
 
 -- the three parts of the clauses
 parts : (set : ℕ → Bool) (base gates last : List (List Literal)) → is_satisfied set ((base ++ gates) ++ last) ≡ ((is_satisfied set base && is_satisfied set gates) && is_satisfied set last)
 parts set base gates last = list_all-append (is_clause_true set) (base ++ gates) last ∙ ap (λ b. b && is_satisfied set last) (list_all-append (is_clause_true set) base gates)
 
--- the last clause says that the signal, where there is one, is false
+-- the last clause says that the signal, if there is one, is false
 refusal_law : (set : ℕ → Bool) (r : Option Signal) → is_satisfied set (refusal_of r) ≡ not (value_of set r)
 refusal_law set None = refl
 refusal_law set (Some r) = go r.positive (set r.variable) where
@@ -43,10 +32,6 @@ refusal_law set (Some r) = go r.positive (set r.variable) where
   go true false = refl
   go false true = refl
   go false false = refl
-
-not_true : (b : Bool) → not b ≡ true → b ≡ false
-not_true true h = sym h
-not_true false h = refl
 
 light : (below : ℕ) (ws : List ℕ) (t : Tile) → (0 < below → nat_lt (below - 1) (total_weight ws t.symbols) ≡ false) → IsLight below ws t
 light zero ws t h = tt
@@ -68,7 +53,7 @@ silent_at set (suc b) ws signals t none say light =
     let below = suc b in
     sym (said_at set signals (below - 1)) ∙ (say (below - 1) (omega arith) ∙ le-ltb (below - 1) (total_weight ws t.symbols) (light_at below ws t light (omega arith)))
 
--- what the clauses stand on: those of the torus, over the inputs of c cells, which see no variables but their own
+-- what the clauses rest on: those of the torus, over the inputs of c cells, which use only their own variables
 pub record Stand (base : ClauseList) (x : LocalRule) (periods : Periods) (ws : List ℕ) (c : ℕ) : Type 0 where
   pub shows : ShowsTorus base.clauses x always periods
   pub own : (set other : ℕ → Bool) → Alike base.variables other set → Satisfies set base.clauses → Satisfies other base.clauses

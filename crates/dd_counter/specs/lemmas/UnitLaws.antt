@@ -1,10 +1,8 @@
--- Where the bound is at least 1, the unit clause is there.
+-- If the bound is at least 1, the unit clause is there.
 use Rattle.std.proofs.Common.{◌≡◌, ℕ, zero, suc, ◌+◌, ◌<◌, List, [], ◌∷◌, map, length, get_or, refl, ap, arith, length-append}
-use Rattle.std.specs.Prelude.{◌-◌}
-use Rattle.std.specs.List.{range_with_len}
 use Rattle.std.proofs.lemmas.Option.{slice_get-get_or}
-use Rattle.dd_circuit.specs.declared.gates.Signal.{Signal}
-use Rattle.dd_circuit.specs.Circuits.{signal_of}
+use Rattle.std.specs.{Prelude.◌-◌, List.range_with_len}
+use Rattle.dd_circuit.specs.{declared.gates.Signal.Signal, Circuits.signal_of}
 use Rattle.dd_cnf.specs.Encoding.{opposing}
 use Rattle.dd_counter.specs.Counter.{Making, joined, count, row, rows, refusal_of, last_refused}
 

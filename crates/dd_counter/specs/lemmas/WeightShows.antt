@@ -1,24 +1,19 @@
 -- The clauses of a weight say which configurations live and weigh less than the bound.
 use Rattle.std.proofs.Common.{◌≡◌, ℕ, ◌*◌, ◌≤◌, List, length, refl, ap, arith, subst, sym}
-use Rattle.dd_pattern.specs.declared.periods.Periods.{Periods}
-use Rattle.dd_pattern.specs.Periods.{periods_volume}
+use Rattle.dd_pattern.specs.{declared.periods.Periods.Periods, Periods.periods_volume}
 use Rattle.dd_formula.specs.LocalRule.{LocalRule, IsRule}
-use Rattle.dd_boxes.specs.Goals.{always}
-use Rattle.dd_problem.specs.TorusPeriods.{AreTorusPeriods}
-use Rattle.dd_problem.specs.Layouts.{torus_cells}
-use Rattle.dd_problem.specs.Problems.{torus_problem}
-use Rattle.dd_problem.specs.lemmas.TorusLayout.{length-torus_cells}
+use Rattle.dd_boxes.specs.{Goals.always, TorusPeriods.AreTorusPeriods}
+use Rattle.dd_problem.specs.{Layouts.torus_cells, Problems.torus_problem, lemmas.TorusLayout.length-torus_cells}
 use Rattle.dd_problem.specs.lemmas.TorusShows.{torus_shows, torus_alike}
-use Rattle.dd_counter.specs.Weights.{weight_problem, ShowsWeights}
-use Rattle.dd_counter.specs.lemmas.Shown.{weighed_shows}
+use Rattle.dd_counter.specs.{Weights.weight_problem, Weights.ShowsWeights, lemmas.Shown.weighed_shows}
 
 -- the inputs are variables of the torus's clauses
-pub inputs_within : (x : LocalRule) (p : Periods) (m : ℕ) → IsRule x → AreTorusPeriods x p → m ≡ x.symbols → periods_volume p * x.nodes * m ≤ (torus_problem x always p).variables
+pub inputs_within : (x : LocalRule) (p : Periods) (m : ℕ) → IsRule x → AreTorusPeriods x.dimension x.nodes p → m ≡ x.symbols → periods_volume p * x.nodes * m ≤ (torus_problem x always p).variables
 inputs_within x p m rule ok same =
     let cells : length (torus_cells x p) * x.symbols ≡ periods_volume p * x.nodes * x.symbols = ap (λ n. n * x.symbols) (length-torus_cells x p rule ok) in
     subst (λ k. periods_volume p * x.nodes * k ≤ (torus_problem x always p).variables) (sym same) (omega (arith, cells))
 
-pub weight_shows : (x : LocalRule) (p : Periods) (ws : List ℕ) (below : ℕ) → IsRule x → AreTorusPeriods x p → length ws ≡ x.symbols →
+pub weight_shows : (x : LocalRule) (p : Periods) (ws : List ℕ) (below : ℕ) → IsRule x → AreTorusPeriods x.dimension x.nodes p → length ws ≡ x.symbols →
     ShowsWeights (weight_problem x p ws below).clauses x p ws below
 weight_shows x p ws below rule ok same =
     weighed_shows (torus_problem x always p) x p ws below (periods_volume p * x.nodes)

@@ -1,11 +1,9 @@
 -- The answer to the question for a configuration below a weight.
 use Rattle.std.specs.Prelude.{ℕ, List}
-use Rattle.dd_pattern.specs.declared.periods.Periods.{Periods}
-use Rattle.dd_pattern.specs.Tile.{Tile}
+use Rattle.dd_pattern.specs.{declared.periods.Periods.Periods, Tile.Tile}
 use Rattle.dd_formula.specs.LocalRule.{LocalRule}
 use Rattle.dd_counter.specs.declared.least.Lighter.{Lighter}
-use Rattle.dd_counter.specs.declared.least.Lighter.TheVariants.{Found, Nothing}
-use Rattle.dd_counter.specs.Weights.{IsLightWitness}
+use Rattle.dd_counter.specs.{declared.least.Lighter.TheVariants.Found, declared.least.Lighter.TheVariants.Nothing, Weights.IsLightWitness}
 use Rattle.dd_counter.specs.Least.{IsRefutedBelow}
 
 abbrev pub IsLighter : LocalRule → Periods → List ℕ → ℕ → Lighter → Type 0

@@ -1,12 +1,11 @@
 -- The density of a least mean over the positions of a slice.
-use Rattle.std.specs.Prelude.{◌≡◌, ℕ, ◌*◌, ◌<◌, ◌≤◌, ◌^◌, List, ℤ}
-use Rattle.std.specs.List.{All}
+use Rattle.std.specs.{Prelude.◌≡◌, Prelude.ℕ, Prelude.◌*◌, Prelude.◌<◌, Prelude.◌≤◌, Prelude.◌^◌, Prelude.List, Prelude.ℤ, List.All}
 use Rattle.dd_values.specs.Bounds.{most_number}
 use Rattle.dd_transfer.specs.Certificates.{IsInLowestTerms}
 use Rattle.dd_meancycle.specs.declared.least.Mean.{Mean}
-use Rattle.dd_meancycle.specs.declared.least.Mean.TheVariants as mean
 use Rattle.dd_density.specs.declared.answer.Density.{Density}
 use Rattle.dd_density.specs.declared.answer.Density.TheVariants.{Least, Empty}
+use Rattle.dd_meancycle.specs.declared.least.Mean.TheVariants as mean
 
 -- a mean of numbers that an output holds, also over so many positions
 abbrev pub IsMeanOver : ℕ → Mean → Type 0

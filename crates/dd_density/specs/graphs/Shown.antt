@@ -1,7 +1,6 @@
 -- What shows the least density, or that there is none, over a transfer graph.
 use Rattle.std.specs.Prelude.{◌≡◌, ℕ, ◌*◌, ◌<◌, ℤ, pos, ◌-ℤ◌, ◌≤ℤ◌, List, length, slice_index, Some}
-use Rattle.dd_transfer.specs.Graphs.{Transfer, next_of, weight_at}
-use Rattle.dd_transfer.specs.Certificates.{IsInLowestTerms, potential_of}
+use Rattle.dd_transfer.specs.{Graphs.Transfer, Graphs.next_of, Graphs.weight_at, Certificates.IsInLowestTerms, Certificates.potential_of}
 use Rattle.dd_meancycle.specs.Means.{IsCycle, ArePotentials, AreRanks, weight_of}
 
 pub record IsShown (g : Transfer) (volume p q : ℕ) (walk : List ℕ) (ps : List ℤ) : Type 0 where

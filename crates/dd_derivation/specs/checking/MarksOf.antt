@@ -1,11 +1,8 @@
 -- What the marks of a check stand for.
 use Rattle.std.specs.Prelude.{◌≡◌, ℕ, ◌-◌, ◌≤◌, ◌<◌, ◌==◌, Bool, false, ◌&&◌, if◌then◌else◌, List, [], ◌∷◌, ◌++◌, Option, Some, None, unwrap_or, slice_index_or, slice_set, length, All}
-use Rattle.std.specs.Bool.{beq}
-use Rattle.std.specs.Option.{option_map_or}
-use Rattle.dd_clause.specs.declared.clause.Literal.{Literal}
-use Rattle.dd_clause.specs.Clauses.{negation}
-use Rattle.dd_derivation.specs.declared.propagation.VariableMark.{VariableMark}
-use Rattle.dd_derivation.specs.declared.step.Step.{Step}
+use Rattle.std.specs.{Bool.beq, Option.option_map_or}
+use Rattle.dd_clause.specs.{declared.clause.Literal.Literal, Clauses.negation}
+use Rattle.dd_derivation.specs.declared.{propagation.VariableMark.VariableMark, step.Step.Step}
 use Rattle.dd_derivation.specs.Derivations.{same_literal, is_among, is_literal_in_range, clause_of, clauses_before}
 
 -- the clauses by number that are alive

@@ -1,19 +1,19 @@
 -- The marks and the hinted clauses tell which literals are false.
 use Rattle.std.proofs.Common.{◌≡◌, ◌≢◌, ℕ, zero, suc, ◌+◌, ◌-◌, ◌<◌, ◌≤◌, Bool, true, false, not, ◌||◌, List, [], ◌∷◌, ◌++◌, Option, Some, None, unwrap_or, refl, ap, sym, ◌∙◌, subst, length, get_or, take, drop, arith, set, eqb, get_or-set_same, get_or-set_other, inl, inr, ◌⊎◌, drop-cons, add-one, take-append-drop}
-use Rattle.std.specs.Bool.{beq}
-use Rattle.std.specs.Option.{option_map_or}
 use Rattle.std.proofs.lemmas.List.{length-set, take_more, append_assoc, append-nil}
 use Rattle.std.proofs.lemmas.List.Elements.{All-set}
 use Rattle.std.proofs.lemmas.Bool.{cases_Bool, cases_eq, eq-eqb, eqb-true, ne_eqb, and_parts, and_from, and_left, leb-true, le-leb, or_cases, or_left, or_right, false≢true, false_from_ne_true}
-use Rattle.dd_clause.specs.declared.clause.Literal.{Literal}
-use Rattle.dd_clause.specs.Clauses.{negation, IsLiteralInRange}
+use Rattle.std.proofs.lemmas.List.Folds.{list_any-append}
+use Rattle.std.specs.{Bool.beq, Option.option_map_or}
+use Rattle.dd_clause.specs.{declared.clause.Literal.Literal, Clauses.negation, Clauses.IsLiteralInRange}
 use Rattle.dd_derivation.specs.declared.propagation.Finding.{Finding}
 use Rattle.dd_derivation.specs.declared.propagation.Finding.TheVariants.{Forced, Open}
 use Rattle.dd_derivation.specs.declared.propagation.VariableMark.{VariableMark}
 use Rattle.dd_derivation.specs.Derivations.{is_empty, same_literal, is_among, is_literal_in_range, finding, clause_of, hint_finding, follow, is_conflict}
 use Rattle.dd_derivation.specs.checking.MarksOf.{is_marked, with_mark, first_literal_of, literals_of, is_false_unmarked, is_false, FalsesAre, AreUpTo}
-use Rattle.dd_derivation.specs.lemmas.Soundness.{same_literal-eq, same_literal-refl, literal-eq, beq-eq}
+use Rattle.dd_derivation.specs.lemmas.Soundness.{same_literal-eq, same_literal-refl, literal-eq}
 use Rattle.dd_derivation.specs.lemmas.Findings.{In, Forces, forces_from, hint_finding-congr}
+use Rattle.dd_values.specs.lemmas.Booleans.{or_false, same_from_beq, or_comm}
 
 pub in_range-true : (n : ℕ) (l : Literal) → IsLiteralInRange n l → is_literal_in_range n l ≡ true
 in_range-true n l r = and_from _ _ (le-leb 1 l.variable r.0) (le-leb l.variable n r.1)
@@ -40,14 +40,10 @@ beq-sym true false = refl
 beq-sym false true = refl
 beq-sym false false = refl
 
-or_false : (a : Bool) → (a || false) ≡ a
-or_false true = refl
-or_false false = refl
-
 -- two literals of one variable are the same or each other's negation
 pub same_variable : (x l : Literal) → x.variable ≡ l.variable → (x ≡ l) ⊎ (x ≡ negation l)
 same_variable x l v = elim (cases_Bool (beq x.positive l.positive)) [
-  | inl t ↦ inl (literal-eq x l v (beq-eq x.positive l.positive t))
+  | inl t ↦ inl (literal-eq x l v (same_from_beq x.positive l.positive t))
   | inr n ↦ inr (literal-eq x (negation l) v (beq-false x.positive l.positive n))
 ]
 
@@ -64,7 +60,7 @@ marked_same marks step l x r v =
     let i : x.variable - 1 ≡ l.variable - 1 = omega arith in
     rw (i, get_or-set_same marks (l.variable - 1) (record { step = step; positive = l.positive }) (record { step = 0; positive = false }) lt, eq-eqb step step refl) refl
 
--- the mark of a literal says of those in range that it is false, and nothing else is new
+-- marking a literal makes it false, and changes nothing else among the literals in range
 set_more : (marks : List VariableMark) (step : ℕ) (falses : List Literal) (l x : Literal) → is_marked marks step x ≡ is_among falses x → IsLiteralInRange (length marks) x → IsLiteralInRange (length marks) l → is_among falses l ≡ false → is_among falses (negation l) ≡ false → is_marked (set marks (l.variable - 1) (record { step = step; positive = l.positive })) step x ≡ is_among (l ∷ falses) x
 set_more marks step falses l x m i r f g =
     elim (cases_eq x.variable l.variable) [
@@ -235,3 +231,6 @@ hint_seen known marks step seen falses h f a e = sym (e ∙ hint_finding-congr k
 -- the check so far, and one hint more
 pub conflict_now : (known : List (Option (List Literal))) (start falses : List Literal) (hints : List ℕ) (i : ℕ) (f : Finding) → i < length hints → hint_finding known (is_among falses) (get_or hints i 0) ≡ f → is_conflict known start hints ≡ is_conflict known falses (drop i hints) → is_conflict known start hints ≡ follow f (eqb (i + 1) (length hints)) (λ l. is_conflict known (negation l ∷ falses) (drop (i + 1) hints))
 conflict_now known start falses hints i f lt h e = e ∙ is_conflict-at known falses hints i 0 lt ∙ ap (λ (x : Finding). follow x (eqb (i + 1) (length hints)) (λ l. is_conflict known (negation l ∷ falses) (drop (i + 1) hints))) h
+
+pub among_snoc : (xs : List Literal) (y x : Literal) → is_among (xs ++ y ∷ []) x ≡ is_among (y ∷ xs) x
+among_snoc xs y x = list_any-append (same_literal x) xs (y ∷ []) ∙ ap (λ (b : Bool). is_among xs x || b) (or_false (same_literal x y)) ∙ or_comm (is_among xs x) (same_literal x y)

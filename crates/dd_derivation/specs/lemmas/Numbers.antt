@@ -1,13 +1,12 @@
 -- The clauses by number, and which of them are alive.
 use Rattle.std.proofs.Common.{◌≡◌, ℕ, zero, suc, ◌+◌, ◌-◌, ◌<◌, ◌≤◌, Bool, true, false, cond, List, [], ◌∷◌, ◌++◌, map, Option, Some, None, is_some, refl, ap, sym, ◌∙◌, length, get_or, drop, arith, set, drop-cons, add-one}
-use Rattle.std.specs.List.{slice_get}
-use Rattle.std.specs.Option.{option_and_then}
-use Rattle.std.proofs.lemmas.List.{length-append}
-use Rattle.std.proofs.lemmas.Option.{slice_get_within, slice_get_past}
+use Rattle.std.proofs.lemmas.{List.length-append, List.length-map, Option.slice_get_within, Option.slice_get_past}
+use Rattle.std.specs.{List.slice_get, Option.option_and_then}
 use Rattle.dd_clause.specs.declared.clause.Literal.{Literal}
 use Rattle.dd_derivation.specs.declared.step.Step.{Step}
 use Rattle.dd_derivation.specs.Derivations.{clause_of, without, are_deletable, known_after, clauses_before}
 use Rattle.dd_derivation.specs.checking.MarksOf.{known_of}
+use Rattle.dd_values.specs.lemmas.Lists.{some_within}
 
 cond_none : (b : Bool) → let n : Option (List Literal) = None in n ≡ cond b n n
 cond_none true = refl
@@ -38,10 +37,6 @@ slice_get-map f [] k x h = absurd (cc)
 slice_get-map {A = A} f (y ∷ xs) zero x h = let e : y ≡ x = cc in ap (λ z. Some (f z)) e
 slice_get-map f (y ∷ xs) (suc k) x h = slice_get-map f xs k x h
 
-pub length-map : {A B : Type 0} (f : A → B) (xs : List A) → length (map f xs) ≡ length xs
-length-map f [] = refl
-length-map f (x ∷ xs) = ap suc (length-map f xs)
-
 pub length-before : (clauses : List (List Literal)) (steps : List Step) → length (clauses_before clauses steps) ≡ length clauses + length steps
 length-before clauses steps = length-append clauses (map (λ s. s.clause) steps) ∙ ap (λ (n : ℕ). length clauses + n) (length-map (λ s. s.clause) steps)
 
@@ -71,14 +66,9 @@ past_all clauses steps alive number n h =
     let p : slice_get (clauses_before clauses steps) (number - 1) ≡ None = slice_get_past (clauses_before clauses steps) (number - 1) (rw (length-before clauses steps) (omega arith)) in
     clause_of-known_of (clauses_before clauses steps) alive number (λ z. omega arith) l ∙ rw p (sym (cond_none (get_or alive (number - 1) false)))
 
-is_some-get : {A : Type 0} (xs : List A) (k : ℕ) → k < length xs → is_some (slice_get xs k) ≡ true
-is_some-get [] k h = absurd (omega arith)
-is_some-get (x ∷ xs) zero h = refl
-is_some-get (x ∷ xs) (suc k) h = is_some-get xs k (omega arith)
-
 -- a number has a clause where it is one of the list's and alive
 pub alive_some : (cs : List (List Literal)) (alive : List Bool) (number : ℕ) → (number ≡ 0 → ⊥) → number - 1 < length cs → length cs ≤ length alive → get_or alive (number - 1) false ≡ true → is_some (clause_of (known_of cs alive) number) ≡ true
-alive_some cs alive number n p l a = rw (clause_of-known_of cs alive number n l, a) (is_some-get cs (number - 1) p)
+alive_some cs alive number n p l a = rw (clause_of-known_of cs alive number n l, a) (some_within cs (number - 1) p)
 
 pub dead_none : (cs : List (List Literal)) (alive : List Bool) (number : ℕ) → (number ≡ 0 → ⊥) → length cs ≤ length alive → get_or alive (number - 1) false ≡ false → is_some (clause_of (known_of cs alive) number) ≡ false
 dead_none cs alive number n l a = rw (clause_of-known_of cs alive number n l, a) refl

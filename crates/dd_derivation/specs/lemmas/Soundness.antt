@@ -1,6 +1,5 @@
 -- A derivation whose last clause is empty leaves no set of true variables that satisfies the clauses.
 use Rattle.std.proofs.Common.{◌≡◌, ℕ, zero, suc, Bool, true, false, cond, not, ◌&&◌, ◌||◌, List, [], ◌∷◌, ◌++◌, Option, Some, None, refl, ap, sym, ◌∙◌, subst, inl, inr, ◌⊎◌, get_or, map}
-use Rattle.std.specs.Bool.{beq}
 use Rattle.std.specs.List.{list_any, list_all, filter, All, slice_get, slice_set}
 use Rattle.std.specs.Option.{option_map_or, option_and_then}
 use Rattle.std.proofs.lemmas.Bool.{eqb-true, eq-eqb, and_from, and_parts, or_cases, cases_Bool, or_parts, or_from, or_left, or_right, false≢true}
@@ -12,17 +11,13 @@ use Rattle.dd_derivation.specs.declared.propagation.Finding.{Finding}
 use Rattle.dd_derivation.specs.declared.propagation.Finding.TheVariants.{Falsified, Forced, Open}
 use Rattle.dd_derivation.specs.declared.step.Step.{Step}
 use Rattle.dd_derivation.specs.Derivations.{is_empty, same_literal, is_among, finding_of, finding, clause_of, hint_finding, follow, is_conflict, is_proper, is_right, known_after, refutes_from, refutes}
-
-pub beq-eq : (a b : Bool) → beq a b ≡ true → a ≡ b
-beq-eq true true h = refl
-beq-eq true false h = cc
-beq-eq false true h = cc
-beq-eq false false h = refl
+use Rattle.dd_values.specs.lemmas.Booleans.{same_from_beq, beq_same}
+use Rattle.dd_clause.specs.lemmas.LiteralLaws.{is_true_under-negation}
 
 made : ℕ → Bool → Literal
 made v p = record { variable = v; positive = p }
 
-made-eq : (v w : ℕ) (p q : Bool) → v ≡ w → p ≡ q → made v p ≡ made w q
+pub made-eq : (v w : ℕ) (p q : Bool) → v ≡ w → p ≡ q → made v p ≡ made w q
 made-eq v w p q e f = cc
 
 pub literal-eq : (a b : Literal) → a.variable ≡ b.variable → a.positive ≡ b.positive → a ≡ b
@@ -34,24 +29,11 @@ unfolding made
 same_literal-eq a b h =
     let p = and_parts _ _ h in
     let v : a.variable ≡ b.variable = eqb-true _ _ p.0 in
-    let s : a.positive ≡ b.positive = beq-eq _ _ p.1 in
+    let s : a.positive ≡ b.positive = same_from_beq _ _ p.1 in
     made-eq a.variable b.variable a.positive b.positive v s
 
-pub beq-refl : (b : Bool) → beq b b ≡ true
-beq-refl true = refl
-beq-refl false = refl
-
 pub same_literal-refl : (l : Literal) → same_literal l l ≡ true
-same_literal-refl l = and_from _ _ (eq-eqb l.variable l.variable refl) (beq-refl l.positive)
-
-negated : (p v : Bool) → cond (not p) v (not v) ≡ not (cond p v (not v))
-negated true true = refl
-negated true false = refl
-negated false true = refl
-negated false false = refl
-
-pub is_true_under-negation : (set : ℕ → Bool) (l : Literal) → is_true_under set (negation l) ≡ not (is_true_under set l)
-is_true_under-negation set l = negated l.positive (set l.variable)
+same_literal-refl l = and_from _ _ (eq-eqb l.variable l.variable refl) (beq_same l.positive)
 
 -- a test that is only true of literals that are false under the set
 abbrev pub MarksFalse : (ℕ → Bool) → (Literal → Bool) → Type 0
@@ -164,7 +146,7 @@ empty_false : (set : ℕ → Bool) (clause : List Literal) → is_empty clause �
 empty_false set [] h t = false≢true t
 empty_false set (l ∷ clause) h t = false≢true h
 
--- a right step's clause is true where the clauses that it follows from are
+-- a right step's clause is true if the clauses that it follows from are
 step_true : (set : ℕ → Bool) (n : ℕ) (known : List (Option (List Literal))) (step : Step) → KnownTrue set known → is_right n known step ≡ true → is_clause_true set step.clause ≡ true
 step_true set n known step s h =
     let c = (and_parts (is_conflict known step.clause step.hints) _ (and_parts (is_proper n step.clause) _ h).1).0 in
@@ -189,6 +171,6 @@ refutes_false set n known (step ∷ steps) s h =
       | inr r ↦ refutes_false set n (known_after known step.deletes ++ Some step.clause ∷ []) steps (All-push (TrueIfKnown set) _ (Some step.clause) (after_true set known step.deletes s) (λ c e. let q : step.clause ≡ c = some_eq _ _ e in subst (λ (x : List Literal). is_clause_true set x ≡ true) q t)) r
     ]
 
--- a derivation is sound: where it is right, nothing satisfies the clauses
+-- a derivation is sound: if it is right, nothing satisfies the clauses
 pub refutes_sound : (n : ℕ) (clauses : List (List Literal)) (steps : List Step) → refutes n clauses steps ≡ true → (set : ℕ → Bool) → Satisfies set clauses → ⊥
 refutes_sound n clauses steps h set s = refutes_false set n (map (λ c. Some c) clauses) steps (All-map (TrueIfKnown set) (λ c. Some c) clauses (λ k d l c e. let q : get_or clauses k d ≡ c = some_eq _ _ e in subst (λ (x : List Literal). is_clause_true set x ≡ true) q (s k d l))) h

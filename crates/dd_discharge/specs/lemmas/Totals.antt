@@ -1,13 +1,11 @@
 -- Sums of whole numbers.
 use Rattle.std.proofs.Common.{◌≡◌, ℕ, zero, suc, ◌+◌, ◌*◌, ◌^◌, ◌<◌, ◌≤◌, refl, sym, ap, ◌∙◌, arith}
+use Rattle.std.proofs.lemmas.Int.{ints}
 use lib.IntN.{ℤ, pos, ◌+ℤ◌, ◌-ℤ◌, ◌*ℤ◌, *ℤ-zero}
 use lib.Signed.{◌≤ℤ◌}
 use mir.Val.{SFits}
-use Rattle.std.specs.Int.{w64, w128}
-use Rattle.std.specs.Int.RustNames.{unsigned_abs}
-use Rattle.std.proofs.lemmas.Int.{ints}
-use Rattle.dd_discharge.specs.Amounts.{total_below}
-use Rattle.dd_discharge.specs.lemmas.WholeNumbers.{times_sum}
+use Rattle.std.specs.Int.{w64, w128, RustNames.unsigned_abs}
+use Rattle.dd_discharge.specs.{Amounts.total_below, lemmas.WholeNumbers.times_sum}
 
 pub total_same : (f g : ℕ → ℤ) (n : ℕ) → ((j : ℕ) → j < n → f j ≡ g j) → total_below f n ≡ total_below g n
 total_same f g zero h = refl
@@ -43,7 +41,7 @@ pub total_swap : (f : ℕ → ℕ → ℤ) (m n : ℕ) → total_below (λ k. to
 total_swap f zero n = sym (total_none n)
 total_swap f (suc m) n = ap (λ (t : ℤ). t +ℤ total_below (f m) n) (total_swap f m n) ∙ sym (total_sum (λ j. total_below (λ k. f k j) m) (f m) n)
 
--- a sum is at least its first part where the others are at least 0
+-- a sum is at least its first part if the others are at least 0
 pub total_first : (f : ℕ → ℤ) (n : ℕ) (a : ℤ) → 0 < n → a ≤ℤ f 0 → ((j : ℕ) → 1 ≤ j → j < n → pos 0 ≤ℤ f j) → a ≤ℤ total_below f n
 total_first f zero a z p h = absurd (omega (arith, z))
 total_first f (suc zero) a z p h = omega (arith, ints, p)

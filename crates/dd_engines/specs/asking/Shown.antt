@@ -1,11 +1,10 @@
--- What the asking of one engine shows.
+-- What asking one engine shows.
 use Rattle.std.specs.Prelude.{◌≡◌, false}
 use Rattle.dd_values.specs.Counts.{Rose}
 use Rattle.dd_clause.specs.Clauses.{ClauseList}
 use Rattle.dd_engines.specs.declared.roster.Asked.{Asked}
 use Rattle.dd_engines.specs.declared.roster.Asked.TheVariants.{Right, Silent, Wrong}
-use Rattle.dd_engines.specs.Proposals.{IsRightOutcome}
-use Rattle.dd_engines.specs.Rounds.{Seen}
+use Rattle.dd_engines.specs.{Proposals.IsRightOutcome, Rounds.Seen}
 
 -- it gave a right proposal, gave nothing, or isn't sound
 abbrev pub Shows : ClauseList → Seen → Seen → Asked → Type 0

@@ -7,7 +7,7 @@ use Rattle.dd_derivation.specs.Derivations.{is_among}
 abbrev pub marks : List Bool → Literal → Bool
 marks marked l = slice_index_or marked (l.variable - 1) false
 
--- what was marked stays so
+-- what was marked stays marked
 abbrev pub Grows : List Bool → List Bool → Type 0
 Grows old new = (l : Literal) → marks old l ≡ true → marks new l ≡ true
 

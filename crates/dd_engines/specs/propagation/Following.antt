@@ -1,17 +1,14 @@
--- What follows by unit propagation from nothing, as values of the variables.
+-- What follows by unit propagation from no assumptions, as values of the variables.
 use Rattle.std.specs.Prelude.{◌≡◌, ℕ, ◌-◌, ◌<◌, Bool, true, false, not, if◌then◌else◌, List, [], Option, Some, None, length, map, take, All, slice_index_or}
-use Rattle.std.specs.Bool.{beq}
-use Rattle.std.specs.List.{sum_by}
-use Rattle.dd_clause.specs.declared.clause.Literal.{Literal}
-use Rattle.dd_clause.specs.Clauses.{negation}
+use Rattle.std.specs.{Bool.beq, List.sum_by}
+use Rattle.dd_clause.specs.{declared.clause.Literal.Literal, Clauses.negation}
 use Rattle.dd_derivation.specs.declared.propagation.Finding.{Finding}
 use Rattle.dd_derivation.specs.declared.propagation.Finding.TheVariants.{Falsified, Forced, Open}
 use Rattle.dd_derivation.specs.Derivations.{is_literal_in_range, is_among, is_conflict, finding}
-use Rattle.dd_engines.specs.declared.analysis.Entry.{Entry}
-use Rattle.dd_engines.specs.declared.propagation.Progress.{Progress}
+use Rattle.dd_engines.specs.declared.{analysis.Entry.Entry, propagation.Progress.Progress}
 use Rattle.dd_engines.specs.declared.propagation.Progress.TheVariants.{Conflict, More, Settled}
 
--- the value is there, and is not that of the sign
+-- there is a value, and it is not the sign
 abbrev pub is_other : Bool → Option Bool → Bool
 is_other positive None = false
 is_other positive (Some value) = not (beq value positive)
@@ -37,7 +34,7 @@ alive clauses = map (λ c. Some c) clauses
 abbrev pub falses : List Entry → List Literal
 falses entries = map (λ e. negation e.literal) entries
 
--- by the older entries, the entry's clause has its literal alone left
+-- by the older entries, only the entry's literal is left in its clause
 pub record IsForced (clauses : List (List Literal)) (older : List Entry) (e : Entry) : Type 0 where
   pub within : e.number < length clauses
   pub forced : finding (is_among (falses older)) (slice_index_or clauses e.number []) ≡ Forced e.literal
@@ -46,12 +43,12 @@ pub record IsForced (clauses : List (List Literal)) (older : List Entry) (e : En
 abbrev pub IsTrail : List (List Literal) → List Entry → Type 0
 IsTrail clauses entries = (k : ℕ) (d : Entry) → k < length entries → IsForced clauses (take k entries) (slice_index_or entries k d)
 
--- by the entries, the clause of a number has no literal left
+-- by the entries, no literal is left in the clause with this number
 pub record IsFalsified (clauses : List (List Literal)) (entries : List Entry) (number : ℕ) : Type 0 where
   pub within : number < length clauses
   pub falsified : finding (is_among (falses entries)) (slice_index_or clauses number []) ≡ Falsified
 
--- the entries follow, and make the literals true that the values say
+-- the entries follow, and they make true exactly the literals that the values make true
 pub record Follows (clauses : List (List Literal)) (entries : List Entry) (values : List (Option Bool)) : Type 0 where
   pub told : (l : Literal) → is_false_by values l ≡ is_among (falses entries) l
   pub trail : IsTrail clauses entries
@@ -64,7 +61,7 @@ Ends clauses hints = is_conflict (alive clauses) [] hints ≡ true
 abbrev pub Conflicts : List (List Literal) → List Entry → ℕ → Type 0
 Conflicts clauses entries number = IsTrail clauses entries × IsFalsified clauses entries number
 
--- by the values, the clause says nothing
+-- by the values, the clause is not falsified and makes nothing true
 abbrev pub IsSettled : List (Option Bool) → List Literal → Type 0
 IsSettled values clause = finding (is_false_by values) clause ≡ Open
 
@@ -73,7 +70,7 @@ pub record FollowsMore (clauses : List (List Literal)) (values : List (Option Bo
   pub follows : Follows clauses new_entries new_values
   pub fewer : unknowns new_values < unknowns values
 
--- what a look at the clause of a number leaves
+-- what a look at the clause with this number leaves
 abbrev pub Looked : List (List Literal) → ℕ → List Entry → List (Option Bool) → List Entry → List (Option Bool) → Finding → Type 0
 Looked clauses number entries values new_entries new_values Falsified = Conflicts clauses new_entries number
 Looked clauses number entries values new_entries new_values (Forced l) = FollowsMore clauses values new_entries new_values

@@ -2,12 +2,10 @@
 use Rattle.std.specs.Prelude.{◌≡◌, ℕ, zero, suc, ◌*◌, ◌≤◌, ◌<◌, List, [], ◌∷◌, Some, slice_get, slice_index_or, length, All}
 use Rattle.std.specs.Option.{option_map_or}
 use Rattle.dd_clause.specs.declared.clause.Literal.{Literal}
-use Rattle.dd_engines.specs.declared.chains.Link.{Link}
-use Rattle.dd_engines.specs.declared.chains.Chains.{Chains}
-use Rattle.dd_engines.specs.walking.Truths.{place_of, standing}
+use Rattle.dd_engines.specs.{declared.chains.Link.Link, declared.chains.Chains.Chains, walking.Truths.place_of, walking.Truths.standing}
 
--- The numbers along a chain, over so many links at most. A chain is named by the number, from 1, of its first link; 0 is the
--- empty one.
+-- The numbers along a chain, over at most this many links. A chain is named by the number, from 1, of its first link;
+-- 0 names the empty chain.
 abbrev pub along : ℕ → List Link → ℕ → List ℕ
 along zero links at = []
 along (suc most) links zero = []
@@ -32,11 +30,11 @@ HasChain chains l = (1 ≤ l.variable) × (place_of l < length chains.firsts.ite
 abbrev pub numbers_of : Chains → Literal → List ℕ
 numbers_of chains l = chain_of chains.links.items (slice_index_or chains.firsts.items (place_of l) 0)
 
--- each literal's chain has the clauses, numbered from first on, where it stands
+-- each literal's chain lists the clauses that have it, numbered from first on
 abbrev pub AreChained : Chains → ℕ → List (List Literal) → Type 0
 AreChained chains first clauses = (l : Literal) → HasChain chains l → numbers_of chains l ≡ standing l first clauses
 
--- so many variables have chains, which have the clauses
+-- the chains of this many variables list the clauses
 pub record IsListingOf (chains : Chains) (variables : ℕ) (clauses : List (List Literal)) : Type 0 where
   pub long : length chains.firsts.items ≡ 2 * variables
   pub linked : IsLinked chains

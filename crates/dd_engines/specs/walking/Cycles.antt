@@ -1,4 +1,4 @@
--- How it is found out that a walk goes round.
+-- How a walk is found to go round.
 use Rattle.std.specs.Prelude.{◌≡◌, ℕ, ◌+◌, ◌-◌, ◌%◌, ◌<◌, ◌⊎◌, if◌then◌else◌, Bool, List, [], ◌∷◌, Option, length, All, IsSomeAnd}
 use Rattle.std.specs.Bool.{beq}
 use Rattle.dd_clause.specs.declared.clause.Literal.{Literal}

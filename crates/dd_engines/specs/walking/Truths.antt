@@ -1,8 +1,7 @@
--- How many literals of each clause are true, where each literal stands, and how a flip changes the numbers.
+-- How many literals of each clause are true, which clauses have a literal, and how a flip changes the counts.
 use Rattle.std.specs.Prelude.{◌≡◌, ℕ, ◌+◌, ◌-◌, ◌*◌, ◌/◌, ◌^◌, ◌<◌, ◌≤◌, ◌==◌, min, if◌then◌else◌, Bool, true, false, List, [], ◌∷◌, ◌++◌, length, replicate, count_by, slice_get, slice_index_or, slice_set}
 use Rattle.std.specs.Option.{option_map_or}
-use Rattle.dd_clause.specs.declared.clause.Literal.{Literal}
-use Rattle.dd_clause.specs.Clauses.{is_true_under}
+use Rattle.dd_clause.specs.{declared.clause.Literal.Literal, Clauses.is_true_under}
 use Rattle.dd_values.specs.Variables.{true_variables}
 use Rattle.dd_derivation.specs.Derivations.{same_literal}
 
@@ -46,7 +45,7 @@ pub record IsListed (counts : List ℕ) (marks : List Bool) (start : ℕ) : Type
   pub after : (k : ℕ) → is_none_at counts k ≡ true → start ≤ k / 32
   pub marked : (k : ℕ) → is_none_at counts k ≡ true → slice_index_or marks (k / 32) false ≡ true
 
--- no place from one on and before another has a count of 0
+-- no place from the first one up to before the second has a count of 0
 abbrev pub NoneWithin : List ℕ → ℕ → ℕ → Type 0
 NoneWithin counts first end = (k : ℕ) → first ≤ k → k < end → is_none_at counts k ≡ false
 

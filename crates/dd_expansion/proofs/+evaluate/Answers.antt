@@ -1,15 +1,12 @@
 use Rattle.std.proofs.Common.{◌≡◌, ◌<◌, ℕ, length, Bool, true, false, Some, None, if◌then◌else◌, List, take, get_or, refl, ap, sym, ◌∙◌}
-use Rattle.std.specs.Prelude.{◌&&◌, ◌||◌}
-use Rattle.std.specs.List.{list_all, list_any}
-use Rattle.std.proofs.lemmas.Bool.{and_from}
-use Rattle.std.proofs.lemmas.List.Folds.{list_all_more, list_any_more}
+use Rattle.std.proofs.lemmas.{Bool.and_from, List.Folds.list_all_more, List.Folds.list_any_more}
 use Rattle.std.proofs.lemmas.List.Recursion.{and_fails_at}
+use Rattle.std.specs.{Prelude.◌&&◌, Prelude.◌||◌, List.list_all, List.list_any}
 use Rattle.dd_pattern.specs.Reading.{Look}
-use Rattle.dd_expansion.specs.declared.expanded.Expanded.{Expanded}
-use Rattle.dd_expansion.specs.Leaves.{given, holds, seen}
+use Rattle.dd_expansion.specs.{declared.expanded.Expanded.Expanded, Leaves.given, Leaves.holds, Leaves.seen}
 use Rattle.dd_expansion.specs.lemmas.Layers.{given_and, given_or, holds_and, holds_or}
-use Rattle.dd_expansion.proofs.+evaluate.Goals as goal
 use Rattle.dd_expansion.proofs.+evaluate.Goals.{evaluation::evaluate_and-then-value, evaluation::evaluate_and-else-value, evaluation::evaluate_or-then-value, evaluation::evaluate_or-else-value}
+use Rattle.dd_expansion.proofs.+evaluate.Goals as goal
 
 not_given : (b value : Bool) → None ≡ (if b then Some value else None) → b ≡ false
 not_given true value h = absurd (cc)

@@ -1,14 +1,12 @@
--- What is said of the symbols at the leaves, or at the cells that are read, does not depend on the other symbols.
+-- The truth depends only on the symbols at the leaves, or at the cells that are read.
 use Rattle.std.proofs.Common.{◌≡◌, ℕ, Bool, true, List, [], ◌∷◌, map, refl, ap}
-use Rattle.std.specs.Prelude.{not, is_some}
-use Rattle.std.specs.List.{list_all, list_any}
 use Rattle.std.proofs.lemmas.Bool.{and_parts}
+use Rattle.std.specs.{Prelude.not, Prelude.is_some, List.list_all, List.list_any}
 use Rattle.dd_lattice.specs.declared.position.Cell.{Cell}
 use Rattle.dd_pattern.specs.Reading.{Look}
 use Rattle.dd_expansion.specs.declared.expanded.Expanded.{Expanded}
 use Rattle.dd_expansion.specs.declared.expanded.Expanded.TheFolds.{fold-roll-Expanded, ind-Expanded, map-Expanded}
-use Rattle.dd_expansion.specs.declared.expanded.Expanded.TheOpen.{Expanded-F}
-use Rattle.dd_expansion.specs.Truth.{is_symbol}
+use Rattle.dd_expansion.specs.{declared.expanded.Expanded.TheOpen.Expanded-F, Truth.is_symbol}
 use Rattle.dd_expansion.specs.Leaves.{LeafTest, holds, holds_step, leaves_pass, leaves_pass_step, given}
 
 -- at the leaves that pass a test, each look gives the leaf's symbol or neither does

@@ -1,33 +1,22 @@
--- What a definition by a fold says of a list of parts, with the definition at each part.
+-- Definitions by a fold, on a list of parts, by the definition at each part.
 use Rattle.std.proofs.Common.{◌≡◌, ℕ, ◌+◌, length, Bool, List, [], ◌∷◌, ◌++◌, map, refl, ap, sym, ◌∙◌}
-use Rattle.std.specs.Prelude.{◌||◌, is_some}
-use Rattle.std.specs.List.{list_all, list_any, flat_map, sum, sum_by}
-use Rattle.std.proofs.lemmas.List.{length-map}
-use Rattle.std.proofs.lemmas.List.Folds.{list_all-map, flat_map-map}
-use Rattle.std.proofs.lemmas.List.Sums.{sum_by-cons, sum-map}
-use Rattle.std.proofs.lemmas.Simd.{map-map}
-use Rattle.dd_lattice.specs.declared.position.Cell.{Cell}
-use Rattle.dd_lattice.specs.InOrder.{in_order}
-use Rattle.dd_topology.specs.declared.edge.Edge.{Edge}
-use Rattle.dd_topology.specs.Grid.{Grid}
+use Rattle.std.proofs.lemmas.List.{length-map, Folds.list_all-map, Folds.flat_map-map}
+use Rattle.std.proofs.lemmas.{List.Sums.sum_by-cons, List.Sums.sum-map, Simd.map-map}
+use Rattle.std.specs.{Prelude.is_some, List.list_all, List.list_any, List.flat_map, List.sum, List.sum_by}
+use Rattle.dd_lattice.specs.{declared.position.Cell.Cell, InOrder.in_order}
+use Rattle.dd_topology.specs.{declared.edge.Edge.Edge, Grid.Grid}
 use Rattle.dd_pattern.specs.Reading.{Look}
-use Rattle.dd_expansion.specs.declared.expanded.Expanded.{Expanded}
-use Rattle.dd_expansion.specs.declared.expanded.Expanded.TheVariants as expanded
-use Rattle.dd_expansion.specs.declared.expanded.Expanded.TheFolds.{fold-roll-Expanded}
-use Rattle.dd_expansion.specs.declared.expanded.Expanded.TheOpen.{Expanded-F}
-use Rattle.dd_expansion.specs.declared.formulas.BallOf.{BallOf}
-use Rattle.dd_expansion.specs.declared.formulas.Formula.{Formula}
-use Rattle.dd_expansion.specs.declared.formulas.Formula.TheVariants as formula
-use Rattle.dd_expansion.specs.declared.formulas.Formula.TheFolds.{fold-roll-Formula}
+use Rattle.dd_expansion.specs.declared.expanded.Expanded.{Expanded, TheFolds.fold-roll-Expanded}
+use Rattle.dd_expansion.specs.declared.{expanded.Expanded.TheOpen.Expanded-F, formulas.BallOf.BallOf}
+use Rattle.dd_expansion.specs.declared.formulas.Formula.{Formula, TheFolds.fold-roll-Formula}
 use Rattle.dd_expansion.specs.declared.formulas.Formula.TheOpen.{Formula-F}
 use Rattle.dd_expansion.specs.Leaves.{holds, holds_step, LeafTest, leaves_pass, leaves_pass_step, given, leaf_cells, leaf_cells_step, total, instances, instances_step, clause_count, clause_count_step}
 use Rattle.dd_expansion.specs.Expansion.{Expansion, expansion, expansion_step}
 use Rattle.dd_expansion.specs.Limits.{formula_fits, formula_fits_step, list_depth, depth, depth_step}
 use Rattle.dd_expansion.specs.Terms.{balls_of}
-
-pub list_any-map : {X Y : Type 0} (p : X → Bool) (h : Y → X) (ys : List Y) → list_any p (map h ys) ≡ list_any (λ y. p (h y)) ys
-list_any-map p h [] = refl
-list_any-map p h (y ∷ ys) = ap (λ b. p (h y) || b) (list_any-map p h ys)
+use Rattle.dd_values.specs.lemmas.Lists.{list_any-map}
+use Rattle.dd_expansion.specs.declared.expanded.Expanded.TheVariants as expanded
+use Rattle.dd_expansion.specs.declared.formulas.Formula.TheVariants as formula
 
 -- expansions
 

@@ -1,15 +1,13 @@
 -- What follows from a test of each leaf.
 use Rattle.std.proofs.Common.{◌≡◌, ℕ, Bool, true, List, [], ◌∷◌, map, refl}
-use Rattle.std.specs.Prelude.{◌&&◌, is_some}
-use Rattle.std.specs.List.{list_all, flat_map}
-use Rattle.std.proofs.lemmas.Bool.{and_parts}
-use Rattle.std.proofs.lemmas.List.Folds.{list_all-append}
+use Rattle.std.proofs.lemmas.{Bool.and_parts, List.Folds.list_all-append}
+use Rattle.std.specs.{Prelude.◌&&◌, Prelude.is_some, List.list_all, List.flat_map}
 use Rattle.dd_lattice.specs.declared.position.Cell.{Cell}
 use Rattle.dd_expansion.specs.declared.expanded.Expanded.{Expanded}
 use Rattle.dd_expansion.specs.declared.expanded.Expanded.TheFolds.{fold-roll-Expanded, ind-Expanded, map-Expanded}
 use Rattle.dd_expansion.specs.declared.expanded.Expanded.TheOpen.{Expanded-F}
 use Rattle.dd_expansion.specs.Leaves.{LeafTest, leaves_pass, leaves_pass_step, leaf_cells, leaf_cells_step}
-use Rattle.dd_expansion.specs.lemmas.ListTests.{and_true, and_four}
+use Rattle.dd_values.specs.lemmas.Booleans.{and_true, and_four}
 
 -- the first test is passed only where the second is
 abbrev pub IsStronger : LeafTest → LeafTest → Type 0

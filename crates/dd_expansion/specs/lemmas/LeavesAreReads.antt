@@ -1,34 +1,27 @@
 -- The leaves of an expansion are at the cells that the formula reads, and have its symbols.
 use Rattle.std.proofs.Common.{◌≡◌, ◌<◌, ◌≤◌, ℕ, zero, suc, ◌+◌, Bool, true, false, List, [], ◌∷◌, ◌++◌, map, refl, ap, sym, ◌∙◌, Some, None, arith, Contains, subst}
-use Rattle.std.specs.Prelude.{◌==◌, ◌&&◌, not, Option, nat_lt}
-use Rattle.std.specs.List.{list_all, list_any, flat_map, range_with_len}
-use Rattle.std.specs.Option.{option_to_list}
-use Rattle.std.specs.Cmp.{tied_itself, Equal-is}
-use Rattle.std.specs.Ordering.{is_eq}
 use Rattle.std.proofs.lemmas.Bool.{and_parts, and_from, lt-ltb}
 use Rattle.std.proofs.lemmas.List.Folds.{list_all-append, list_all-map}
-use Rattle.dd_lattice.specs.declared.position.Cell.{Cell}
-use Rattle.dd_lattice.specs.Order.{cell_cmp}
-use Rattle.dd_lattice.specs.InOrder.{in_order}
+use Rattle.std.specs.Prelude.{◌==◌, ◌&&◌, not, Option, nat_lt}
+use Rattle.std.specs.{List.list_all, List.list_any, List.flat_map, List.range_with_len, Option.option_to_list}
+use Rattle.std.specs.{Cmp.tied_itself, Cmp.Equal-is, Ordering.is_eq}
+use Rattle.dd_lattice.specs.{declared.position.Cell.Cell, Order.cell_cmp, InOrder.in_order}
 use Rattle.dd_lattice.specs.lemmas.InOrderLaws.{list_all-in_order, in_order_members, cells_equal}
-use Rattle.dd_topology.specs.declared.edge.Edge.{Edge}
-use Rattle.dd_topology.specs.Grid.{Grid}
-use Rattle.dd_topology.specs.Balls.{is_adjacent}
+use Rattle.dd_topology.specs.{declared.edge.Edge.Edge, Grid.Grid, Balls.is_adjacent}
 use Rattle.dd_topology.specs.lemmas.ListLaws.{some_passes, passes_any}
 use Rattle.dd_topology.specs.lemmas.OrderLaws.{cell_total, sorted-in_order, is-in_order}
 use Rattle.dd_expansion.specs.declared.formulas.Formula.{Formula}
 use Rattle.dd_expansion.specs.declared.formulas.Formula.TheFolds.{fold-roll-Formula, ind-Formula, map-Formula}
-use Rattle.dd_expansion.specs.declared.formulas.Formula.TheOpen.{Formula-F}
-use Rattle.dd_expansion.specs.declared.expanded.Expanded.{Expanded}
-use Rattle.dd_expansion.specs.declared.expanded.Expanded.TheFolds.{fold-roll-Expanded}
-use Rattle.dd_expansion.specs.declared.expanded.Expanded.TheOpen.{Expanded-F}
+use Rattle.dd_expansion.specs.declared.{formulas.Formula.TheOpen.Formula-F, expanded.Expanded.Expanded}
+use Rattle.dd_expansion.specs.declared.expanded.Expanded.{TheFolds.fold-roll-Expanded, TheOpen.Expanded-F}
 use Rattle.dd_expansion.specs.Terms.{cell_of, same_cell, balls_of}
 use Rattle.dd_expansion.specs.Reads.{Reading, both_cells, reads, reads_step}
 use Rattle.dd_expansion.specs.Leaves.{LeafTest, leaves_pass, leaves_pass_step, leaf_cells}
 use Rattle.dd_expansion.specs.Limits.{formula_fits, formula_fits_step, term_fits, balls_fit}
 use Rattle.dd_expansion.specs.Expansion.{constant, leaf, negated, all_of, any_of, both_alike, at_cell, at_cells, both_have, equal_at, expansion, expansion_step, Expansion}
-use Rattle.dd_expansion.specs.lemmas.ListTests.{and_true, list_all-alike, list_all-flat_map, all_pass, any_by_all}
+use Rattle.dd_expansion.specs.lemmas.ListTests.{list_all-alike, list_all-flat_map, all_pass, any_by_all}
 use Rattle.dd_expansion.specs.lemmas.LeafLaws.{leaves_are_cells}
+use Rattle.dd_values.specs.lemmas.Booleans.{and_true, and_same}
 
 -- a test of each leaf, of each form of expansion
 module _ (test : LeafTest) where
@@ -66,10 +59,6 @@ module _ (test : LeafTest) where
 
 abbrev by_cell : (Cell → Bool) → LeafTest
 by_cell test c s = test c
-
-and_same : (b : Bool) → (b && b) ≡ b
-and_same true = refl
-and_same false = refl
 
 all_same : (b : Bool) (x : ℕ) (xs : List ℕ) → list_all (λ s. b) (x ∷ xs) ≡ b
 all_same b x [] = and_true b
@@ -164,7 +153,7 @@ pub leaves_are_reads : (es : List Edge) (n : ℕ) → 1 ≤ n → (f : Formula) 
 leaves_are_reads es n some = ind-Formula (ReadsThose es n) (λ x y is env test.
     rw (fold-roll-Formula Expansion (expansion_step es n) x, fold-roll-Formula Reading (reads_step es) x, ← is) (step_reads es n some env test y))
 
--- two lists of which each test says the same have the same cells
+-- two lists that pass the same tests have the same cells
 abbrev is_cell : Cell → Cell → Bool
 is_cell d c = is_eq (cell_cmp c d)
 
@@ -257,7 +246,7 @@ module _ (g : Grid) (n : ℕ) (es : List Edge) (env : List Cell) where
       let both = and_parts (balls_fit scope bs) (formula_fits g n f.0 (scope + 1)) h in
       leaves_of_any (by_symbol n) (map (λ c. expansion es n f.0 (env ++ c ∷ [])) (in_order (balls_of es env bs))) ∙ each_below f scope (balls_of es env bs) both.1
 
--- where the formula fits, the symbol of each leaf is one that there is
+-- if the formula fits, the symbol of each leaf exists
 pub leaves_are_symbols : (g : Grid) (n : ℕ) (f : Formula) → AreBelow g n f
 leaves_are_symbols g n = ind-Formula (AreBelow g n) (λ x y is es env scope.
     rw (fold-roll-Formula Expansion (expansion_step es n) x, fold-roll-Formula (ℕ → Bool) (formula_fits_step g n) x, ← is) (step_below g n es env y scope))

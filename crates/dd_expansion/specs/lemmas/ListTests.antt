@@ -1,26 +1,8 @@
 -- Tests of lists, by their elements.
 use Rattle.std.proofs.Common.{◌≡◌, List, [], ◌∷◌, map, Bool, true, false, refl, ap, sym, ◌∙◌}
-use Rattle.std.specs.Prelude.{◌&&◌, ◌||◌, not}
-use Rattle.std.specs.List.{list_all, list_any, flat_map}
-use Rattle.std.proofs.lemmas.Bool.{and_parts, and_from}
-use Rattle.std.proofs.lemmas.List.Folds.{list_all-append}
-use Rattle.dd_lattice.specs.InOrder.{in_order}
-use Rattle.dd_lattice.specs.declared.position.Cell.{Cell}
-use Rattle.dd_lattice.specs.lemmas.InOrderLaws.{list_all-in_order}
-
-pub or_false : (b : Bool) → (b || false) ≡ b
-or_false true = refl
-or_false false = refl
-
-pub and_true : (b : Bool) → (b && true) ≡ b
-and_true true = refl
-and_true false = refl
-
-pub and_four : (a b c d : Bool) → ((a && b) && (c && d)) ≡ ((a && c) && (b && d))
-and_four true true c d = refl
-and_four true false true d = refl
-and_four true false false d = refl
-and_four false b c d = refl
+use Rattle.std.proofs.lemmas.{Bool.and_parts, Bool.and_from, List.Folds.list_all-append}
+use Rattle.std.specs.{Prelude.◌&&◌, Prelude.◌||◌, Prelude.not, List.list_all, List.list_any, List.flat_map}
+use Rattle.dd_lattice.specs.{InOrder.in_order, declared.position.Cell.Cell, lemmas.InOrderLaws.list_all-in_order}
 
 or_by_and : (a b c : Bool) → b ≡ not c → (a || b) ≡ not (not a && c)
 or_by_and true b c h = refl

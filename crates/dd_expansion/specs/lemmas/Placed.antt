@@ -1,38 +1,31 @@
 -- A formula at cells of Z^d reads cells of Z^d.
 use Rattle.std.proofs.Common.{◌≡◌, ◌<◌, ◌≤◌, ℕ, zero, suc, Bool, true, false, List, [], ◌∷◌, ◌++◌, map, length, cond, refl, ◌∙◌, Some, None, arith, ℤ, pos, ◌+ℤ◌, ◌-ℤ◌, unsigned_abs}
-use Rattle.std.specs.Prelude.{◌==◌, ◌&&◌, ◌||◌, Option, nat_lt, nat_le, slice_get}
-use Rattle.std.specs.List.{list_all, find, flat_map}
-use Rattle.std.specs.Option.{option_map, option_and_then, option_to_list}
-use Rattle.std.specs.Ordering.{int_eq}
 use Rattle.std.proofs.lemmas.Int.{ints}
 use Rattle.std.proofs.lemmas.Bool.{and_parts, and_from, or_right, leb-true, lt-ltb}
-use Rattle.std.proofs.lemmas.Bool.Decides.{Decides-int_eq}
-use Rattle.std.proofs.lemmas.List.Folds.{list_all-append}
-use Rattle.dd_lattice.specs.Place.{Place, moved}
-use Rattle.dd_lattice.specs.declared.position.Cell.{Cell}
-use Rattle.dd_topology.specs.declared.edge.Edge.{Edge}
-use Rattle.dd_topology.specs.Grid.{Grid, IsGrid, is_edge, is_offset}
+use Rattle.std.proofs.lemmas.{Bool.Decides.Decides-int_eq, List.Folds.list_all-append}
+use Rattle.std.specs.Prelude.{◌==◌, ◌&&◌, ◌||◌, Option, nat_lt, nat_le, slice_get}
+use Rattle.std.specs.{List.list_all, List.find, List.flat_map, Option.option_map, Option.option_and_then, Option.option_to_list}
+use Rattle.std.specs.Ordering.{int_eq}
+use Rattle.dd_lattice.specs.{Place.Place, Place.moved, declared.position.Cell.Cell}
+use Rattle.dd_topology.specs.{declared.edge.Edge.Edge, Grid.Grid, Grid.IsGrid, Grid.is_edge, Grid.is_offset}
 use Rattle.dd_topology.specs.Topology.{end_of, start_of, reversed, leaves, step}
 use Rattle.dd_topology.specs.Balls.{edge_ends, edge_starts, beside, neighbours, ball}
-use Rattle.dd_expansion.specs.declared.formulas.Term.{Term}
-use Rattle.dd_expansion.specs.declared.formulas.BallOf.{BallOf}
-use Rattle.dd_expansion.specs.declared.formulas.Formula.{Formula}
+use Rattle.dd_expansion.specs.declared.formulas.{Term.Term, BallOf.BallOf, Formula.Formula}
 use Rattle.dd_expansion.specs.declared.formulas.Formula.TheFolds.{fold-roll-Formula, ind-Formula, map-Formula}
 use Rattle.dd_expansion.specs.declared.formulas.Formula.TheOpen.{Formula-F}
 use Rattle.dd_expansion.specs.Terms.{walk, cell_of, ball_round, balls_of, origin_at}
-use Rattle.dd_expansion.specs.Reads.{Reading, both_cells, reads, reads_step}
-use Rattle.dd_expansion.specs.Placed.{is_flat, is_placed}
+use Rattle.dd_expansion.specs.{Reads.Reading, Reads.both_cells, Reads.reads, Reads.reads_step, Placed.is_flat, Placed.is_placed}
 use Rattle.dd_expansion.specs.lemmas.ListTests.{all_pass, list_all-flat_map, list_all-weaker}
 
 -- along an axis past the dimension all coordinates are 0
-sum_is_zero : (x o : ℤ) → int_eq x (pos 0) ≡ true → int_eq o (pos 0) ≡ true → int_eq (x +ℤ o) (pos 0) ≡ true
+pub sum_is_zero : (x o : ℤ) → int_eq x (pos 0) ≡ true → int_eq o (pos 0) ≡ true → int_eq (x +ℤ o) (pos 0) ≡ true
 sum_is_zero x o h h' =
     let a : x ≡ pos 0 = (Decides-int_eq x (pos 0)).0 h in
     let b : o ≡ pos 0 = (Decides-int_eq o (pos 0)).0 h' in
     let sum : x +ℤ o ≡ pos 0 = omega (arith, ints) in
     (Decides-int_eq (x +ℤ o) (pos 0)).1 sum
 
-sum_on_axis : (used : Bool) (x o : ℤ) → (used || int_eq x (pos 0)) ≡ true → (used || int_eq o (pos 0)) ≡ true → (used || int_eq (x +ℤ o) (pos 0)) ≡ true
+pub sum_on_axis : (used : Bool) (x o : ℤ) → (used || int_eq x (pos 0)) ≡ true → (used || int_eq o (pos 0)) ≡ true → (used || int_eq (x +ℤ o) (pos 0)) ≡ true
 sum_on_axis true x o h h' = refl
 sum_on_axis false x o h h' = sum_is_zero x o h h'
 

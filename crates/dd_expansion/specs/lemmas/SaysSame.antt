@@ -1,29 +1,23 @@
 -- The expansion of a formula says what the formula says.
 use Rattle.std.proofs.Common.{◌≡◌, ℕ, ◌<◌, Bool, true, false, List, [], ◌∷◌, ◌++◌, map, length, get_or, refl, ap, sym, ◌∙◌, Some, None, arith, eq-eqb, inl, inr}
-use Rattle.std.specs.Prelude.{◌==◌, ◌&&◌, not, Option, IfSome}
-use Rattle.std.specs.Bool.{beq}
-use Rattle.std.specs.List.{list_all, list_any, range_with_len}
-use Rattle.std.proofs.lemmas.Bool.{and_from, and_right, cases_Bool}
-use Rattle.std.proofs.lemmas.Bool.Decides.{nat_tests}
+use Rattle.std.proofs.lemmas.Bool.{and_from, and_right, cases_Bool, Decides.nat_tests}
 use Rattle.std.proofs.lemmas.List.Folds.{list_all-map, list_any_at}
 use Rattle.std.proofs.lemmas.List.FromFn.{length-range_with_len, get_or-range_with_len}
-use Rattle.dd_lattice.specs.declared.position.Cell.{Cell}
-use Rattle.dd_lattice.specs.InOrder.{in_order}
-use Rattle.dd_lattice.specs.lemmas.InOrderLaws.{list_all-in_order}
-use Rattle.dd_topology.specs.declared.edge.Edge.{Edge}
-use Rattle.dd_topology.specs.Balls.{is_adjacent}
+use Rattle.std.specs.{Prelude.◌==◌, Prelude.◌&&◌, Prelude.not, Prelude.Option, Prelude.IfSome, Bool.beq}
+use Rattle.std.specs.List.{list_all, list_any, range_with_len}
+use Rattle.dd_lattice.specs.{declared.position.Cell.Cell, InOrder.in_order, lemmas.InOrderLaws.list_all-in_order}
+use Rattle.dd_topology.specs.{declared.edge.Edge.Edge, Balls.is_adjacent}
 use Rattle.dd_pattern.specs.Reading.{Look, HasSymbolsBelow}
 use Rattle.dd_expansion.specs.declared.formulas.Formula.{Formula}
 use Rattle.dd_expansion.specs.declared.formulas.Formula.TheFolds.{fold-roll-Formula, ind-Formula, map-Formula}
-use Rattle.dd_expansion.specs.declared.formulas.Formula.TheOpen.{Formula-F}
-use Rattle.dd_expansion.specs.declared.expanded.Expanded.{Expanded}
-use Rattle.dd_expansion.specs.declared.expanded.Expanded.TheFolds.{fold-roll-Expanded}
-use Rattle.dd_expansion.specs.declared.expanded.Expanded.TheOpen.{Expanded-F}
+use Rattle.dd_expansion.specs.declared.{formulas.Formula.TheOpen.Formula-F, expanded.Expanded.Expanded}
+use Rattle.dd_expansion.specs.declared.expanded.Expanded.{TheFolds.fold-roll-Expanded, TheOpen.Expanded-F}
 use Rattle.dd_expansion.specs.Terms.{cell_of, on_cell, on_cells, same_cell, balls_of}
 use Rattle.dd_expansion.specs.Truth.{Truth, is_symbol, are_equal, truth, truth_step}
 use Rattle.dd_expansion.specs.Leaves.{holds, holds_step}
 use Rattle.dd_expansion.specs.Expansion.{constant, leaf, negated, all_of, any_of, both_alike, at_cell, at_cells, both_have, equal_at, expansion, expansion_step, Expansion}
-use Rattle.dd_expansion.specs.lemmas.ListTests.{and_true, or_false, list_any-alike, list_all-alike, list_any-map, list_any-in_order, none_passes}
+use Rattle.dd_expansion.specs.lemmas.ListTests.{list_any-alike, list_all-alike, list_any-map, list_any-in_order, none_passes}
+use Rattle.dd_values.specs.lemmas.Booleans.{and_true, or_false}
 
 pub holds_constant : (b : Bool) (look : Look) → holds (constant b) look ≡ b
 holds_constant b look = ap (λ h. h look) (fold-roll-Expanded (Look → Bool) holds_step (Expanded-F.Constant b))
@@ -43,7 +37,7 @@ holds_any_of es look = ap (λ h. h look) (fold-roll-Expanded (Look → Bool) hol
 pub holds_both_alike : (e f : Expanded) (look : Look) → holds (both_alike e f) look ≡ beq (holds e look) (holds f look)
 holds_both_alike e f look = ap (λ h. h look) (fold-roll-Expanded (Look → Bool) holds_step (Expanded-F.Iff e f))
 
--- some symbol below n is that of both cells where the two have one symbol, and it is below n
+-- some symbol below n is that of both cells exactly if they have the same symbol and it is below n
 abbrev are_both : Option ℕ → Option ℕ → ℕ → Bool
 are_both a b s = is_symbol s a && is_symbol s b
 

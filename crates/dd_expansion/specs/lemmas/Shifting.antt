@@ -1,44 +1,24 @@
 -- A formula says of the cells moved by v what it says of the configuration moved by -v.
 use Rattle.std.proofs.Common.{◌≡◌, ℕ, zero, suc, Bool, true, false, List, [], ◌∷◌, ◌++◌, map, refl, ap, sym, ◌∙◌, Some, None, arith, ℤ, ◌+ℤ◌, cond}
-use Rattle.std.specs.Prelude.{◌==◌, ◌&&◌, ◌||◌, not, Option, slice_get}
-use Rattle.std.specs.Bool.{one_answer}
-use Rattle.std.specs.List.{list_all, list_any, find, flat_map}
-use Rattle.std.specs.Option.{option_map, option_and_then}
-use Rattle.std.specs.Ordering.{int_eq}
-use Rattle.std.proofs.lemmas.Int.{ints}
-use Rattle.std.proofs.lemmas.Bool.Decides.{Decides-int_eq}
-use Rattle.std.proofs.lemmas.List.{map-append}
-use Rattle.std.proofs.lemmas.List.Folds.{list_all-map, flat_map-map}
-use Rattle.std.proofs.lemmas.Option.{slice_get-map}
-use Rattle.dd_lattice.specs.Place.{Place, place, moved}
-use Rattle.dd_lattice.specs.Cells.{cell, shifted}
-use Rattle.dd_lattice.specs.declared.position.Cell.{Cell}
+use Rattle.std.proofs.lemmas.{Int.ints, Bool.Decides.Decides-int_eq, List.map-append}
+use Rattle.std.proofs.lemmas.{List.Folds.list_all-map, List.Folds.flat_map-map, Option.slice_get-map}
+use Rattle.std.specs.{Prelude.◌==◌, Prelude.◌&&◌, Prelude.◌||◌, Prelude.not, Prelude.Option, Prelude.slice_get, Bool.one_answer}
+use Rattle.std.specs.{List.list_all, List.list_any, List.find, List.flat_map, Option.option_map, Option.option_and_then, Ordering.int_eq}
+use Rattle.dd_lattice.specs.{Place.Place, Place.moved, Cells.cell, Cells.shifted, declared.position.Cell.Cell, lemmas.MoveLaws.place_same}
 use Rattle.dd_topology.specs.declared.edge.Edge.{Edge}
 use Rattle.dd_topology.specs.Topology.{end_of, start_of, reversed, leaves, step}
 use Rattle.dd_topology.specs.Balls.{same_place, leads, is_adjacent, edge_ends, edge_starts, beside, neighbours, ball}
 use Rattle.dd_pattern.specs.Reading.{Look}
-use Rattle.dd_expansion.specs.declared.formulas.Term.{Term}
-use Rattle.dd_expansion.specs.declared.formulas.BallOf.{BallOf}
-use Rattle.dd_expansion.specs.declared.formulas.Formula.{Formula}
+use Rattle.dd_expansion.specs.declared.formulas.{Term.Term, BallOf.BallOf, Formula.Formula}
 use Rattle.dd_expansion.specs.declared.formulas.Formula.TheFolds.{fold-roll-Formula, ind-Formula, map-Formula}
 use Rattle.dd_expansion.specs.declared.formulas.Formula.TheOpen.{Formula-F}
 use Rattle.dd_expansion.specs.Terms.{walk, cell_of, on_cell, on_cells, same_cell, ball_round, balls_of}
 use Rattle.dd_expansion.specs.Truth.{Truth, is_symbol, are_equal, truth, truth_step}
 use Rattle.dd_expansion.specs.lemmas.ListTests.{list_all-alike, list_any-alike, list_any-map}
-
-place_same : (a b c x y z : ℤ) → a ≡ x → b ≡ y → c ≡ z → place a b c ≡ place x y z
-place_same a b c x y z p q r = cc
+use Rattle.dd_values.specs.lemmas.Lists.{flat_map_agree, map_flat_map}
 
 moved_both : (p u v : Place) → moved (moved p u) v ≡ moved (moved p v) u
 moved_both p u v = place_same _ _ _ _ _ _ (omega (arith, ints)) (omega (arith, ints)) (omega (arith, ints))
-
-flat_map-alike : {X Y : Type 0} (f g : X → List Y) → ((x : X) → f x ≡ g x) → (xs : List X) → flat_map f xs ≡ flat_map g xs
-flat_map-alike f g same [] = refl
-flat_map-alike f g same (x ∷ xs) = rw (same x, flat_map-alike f g same xs)
-
-map-flat_map : {X Y Z : Type 0} (h : Y → Z) (f : X → List Y) (xs : List X) → map h (flat_map f xs) ≡ flat_map (λ x. map h (f x)) xs
-map-flat_map h f [] = refl
-map-flat_map h f (x ∷ xs) = map-append h (f x) (flat_map f xs) ∙ ap (λ ys. map h (f x) ++ ys) (map-flat_map h f xs)
 
 option_map_both : {A B C : Type 0} (f : B → C) (g : A → B) (h : A → C) (same : (a : A) → h a ≡ f (g a)) (o : Option A) → option_map h o ≡ option_map f (option_map g o)
 option_map_both f g h same None = refl
@@ -117,15 +97,15 @@ module _ (v : Place) where
 
   pub neighbours_shifted : (es : List Edge) (c : Cell) → neighbours es (shifted v c) ≡ map (shifted v) (neighbours es c)
   neighbours_shifted es c =
-      flat_map-alike (beside (shifted v c)) (λ e. map (shifted v) (beside c e)) (beside_shifted c) es ∙ sym (map-flat_map (shifted v) (beside c) es)
+      flat_map_agree (beside (shifted v c)) (λ e. map (shifted v) (beside c e)) (beside_shifted c) es ∙ sym (map_flat_map (shifted v) (beside c) es)
 
   round_shifted : (es : List Edge) (cs ds : List Cell) → ds ≡ map (shifted v) cs → ds ++ flat_map (neighbours es) ds ≡ map (shifted v) (cs ++ flat_map (neighbours es) cs)
   round_shifted es cs ds same =
       ap (λ x. x ++ flat_map (neighbours es) x) same
       ∙ (ap (λ x. map (shifted v) cs ++ x)
       (flat_map-map (neighbours es) (shifted v) cs
-      ∙ (flat_map-alike (λ c. neighbours es (shifted v c)) (λ c. map (shifted v) (neighbours es c)) (neighbours_shifted es) cs
-      ∙ sym (map-flat_map (shifted v) (neighbours es) cs)))
+      ∙ (flat_map_agree (λ c. neighbours es (shifted v c)) (λ c. map (shifted v) (neighbours es c)) (neighbours_shifted es) cs
+      ∙ sym (map_flat_map (shifted v) (neighbours es) cs)))
       ∙ sym (map-append (shifted v) cs (flat_map (neighbours es) cs)))
 
   pub ball_shifted : (es : List Edge) (c : Cell) (r : ℕ) → ball es (shifted v c) r ≡ map (shifted v) (ball es c r)
@@ -138,9 +118,9 @@ module _ (v : Place) where
 
   pub balls_of_shifted : (es : List Edge) (env : List Cell) (bs : List BallOf) → balls_of es (map (shifted v) env) bs ≡ map (shifted v) (balls_of es env bs)
   balls_of_shifted es env bs =
-      flat_map-alike (λ b. ball_round es b.radius (slice_get (map (shifted v) env) b.variable)) (λ b. map (shifted v) (ball_round es b.radius (slice_get env b.variable)))
+      flat_map_agree (λ b. ball_round es b.radius (slice_get (map (shifted v) env) b.variable)) (λ b. map (shifted v) (ball_round es b.radius (slice_get env b.variable)))
       (λ b. ap (ball_round es b.radius) (slice_get-map (shifted v) env b.variable) ∙ ball_round_shifted es b.radius (slice_get env b.variable)) bs
-      ∙ sym (map-flat_map (shifted v) (λ b. ball_round es b.radius (slice_get env b.variable)) bs)
+      ∙ sym (map_flat_map (shifted v) (λ b. ball_round es b.radius (slice_get env b.variable)) bs)
 
   on_cell_shifted : (p q : Cell → Bool) → ((c : Cell) → p (shifted v c) ≡ q c) → (o o' : Option Cell) → o' ≡ option_map (shifted v) o → on_cell p o' ≡ on_cell q o
   on_cell_shifted p q same None o' is = ap (on_cell p) is

@@ -1,27 +1,15 @@
 -- What the expansion at the origin says of the symbols near a cell is what the formula says there.
-use Rattle.std.proofs.Common.{◌≡◌, ◌≤◌, ℕ, Bool, true, false, List, [], ◌∷◌, refl, ap, sym, ◌∙◌, Some, None, arith, ℤ, pos, ◌+ℤ◌, cond}
-use Rattle.std.specs.Prelude.{is_some}
-use Rattle.std.specs.List.{list_all}
-use Rattle.std.proofs.lemmas.Int.{ints}
+use Rattle.std.proofs.Common.{◌≡◌, ◌≤◌, ℕ, Bool, true, false, List, [], ◌∷◌, refl, ap, sym, ◌∙◌, Some, None, cond}
 use Rattle.std.proofs.lemmas.Bool.{cond_both}
-use Rattle.dd_lattice.specs.Place.{Place, moved, is_in_range}
-use Rattle.dd_lattice.specs.Cells.{cell, shifted}
-use Rattle.dd_lattice.specs.declared.position.Cell.{Cell}
+use Rattle.std.specs.{Prelude.is_some, List.list_all}
+use Rattle.dd_lattice.specs.{Place.Place, Place.moved, Place.is_in_range, Cells.cell, Cells.shifted, declared.position.Cell.Cell}
 use Rattle.dd_topology.specs.declared.edge.Edge.{Edge}
 use Rattle.dd_pattern.specs.Reading.{Look, HasSymbolsBelow}
-use Rattle.dd_expansion.specs.declared.formulas.Formula.{Formula}
-use Rattle.dd_expansion.specs.Terms.{origin_at}
-use Rattle.dd_expansion.specs.Truth.{truth}
-use Rattle.dd_expansion.specs.Reads.{reads}
-use Rattle.dd_expansion.specs.Leaves.{holds, given, seen}
-use Rattle.dd_expansion.specs.Expansion.{expansion}
-use Rattle.dd_expansion.specs.lemmas.SaysSame.{says_same}
-use Rattle.dd_expansion.specs.lemmas.Shifting.{truth_shifted}
-use Rattle.dd_expansion.specs.lemmas.LeavesAreReads.{leaves_are_reads}
+use Rattle.dd_expansion.specs.{declared.formulas.Formula.Formula, Terms.origin_at, Truth.truth, Reads.reads}
+use Rattle.dd_expansion.specs.{Leaves.holds, Leaves.given, Leaves.seen, Expansion.expansion, lemmas.SaysSame.says_same}
+use Rattle.dd_expansion.specs.lemmas.{Shifting.truth_shifted, LeavesAreReads.leaves_are_reads}
 use Rattle.dd_expansion.specs.lemmas.HoldsKeeps.{Extends, holds_keeps}
-
-zero_plus : (x : ℤ) → (pos 0 +ℤ x) ≡ x
-zero_plus x = omega (arith, ints)
+use Rattle.dd_values.specs.lemmas.Numbers.{zero_plus}
 
 pub at_origin : (v : Place) (a : ℕ) → shifted v (origin_at a) ≡ cell v a
 at_origin v a = rw (zero_plus v.x, zero_plus v.y, zero_plus v.z)
@@ -48,7 +36,7 @@ same_where : {A : Type 0} (b : Bool) (x y : A) → (b ≡ true → x ≡ y) → 
 same_where true x y h = ap Some (h refl)
 same_where false x y h = refl
 
--- the same of an answer that comes only where all that is read is given
+-- the same for an answer that comes only if each cell read has a symbol
 pub truth_where_given : (es : List Edge) (n : ℕ) (f : Formula) (c : Cell) (look : Look) → 1 ≤ n → HasSymbolsBelow n look →
     cond (given (expansion es n f (origin_at c.node ∷ [])) (seen look c.position)) (Some (holds (expansion es n f (origin_at c.node ∷ [])) (seen look c.position))) None
     ≡ cond (list_all (λ d. is_some (seen look c.position d)) (reads es f (origin_at c.node ∷ []))) (Some (truth es f (c ∷ []) look)) None

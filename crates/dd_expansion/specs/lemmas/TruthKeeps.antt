@@ -1,22 +1,16 @@
--- What a formula says depends on the symbols at the cells that it reads alone.
+-- What a formula says depends only on the symbols at the cells that it reads.
 use Rattle.std.proofs.Common.{◌≡◌, ℕ, Bool, true, List, [], ◌∷◌, ◌++◌, map, refl, ap, sym, ◌∙◌, Some, None}
-use Rattle.std.specs.Prelude.{◌&&◌, not, is_some, Option}
-use Rattle.std.specs.List.{list_all, list_any, flat_map}
+use Rattle.std.proofs.lemmas.{Bool.and_parts, List.Folds.list_all-append}
+use Rattle.std.specs.{Prelude.◌&&◌, Prelude.not, Prelude.is_some, Prelude.Option, List.list_all, List.list_any, List.flat_map}
 use Rattle.std.specs.Option.{option_to_list}
-use Rattle.std.proofs.lemmas.Bool.{and_parts}
-use Rattle.std.proofs.lemmas.List.Folds.{list_all-append}
-use Rattle.dd_lattice.specs.Place.{Place}
-use Rattle.dd_lattice.specs.Cells.{shifted}
-use Rattle.dd_lattice.specs.declared.position.Cell.{Cell}
+use Rattle.dd_lattice.specs.{Place.Place, Cells.shifted, declared.position.Cell.Cell}
 use Rattle.dd_topology.specs.declared.edge.Edge.{Edge}
 use Rattle.dd_pattern.specs.Reading.{Look}
 use Rattle.dd_expansion.specs.declared.formulas.Formula.{Formula}
 use Rattle.dd_expansion.specs.declared.formulas.Formula.TheFolds.{fold-roll-Formula, ind-Formula, map-Formula}
-use Rattle.dd_expansion.specs.declared.formulas.Formula.TheOpen.{Formula-F}
-use Rattle.dd_expansion.specs.Terms.{cell_of, on_cell, on_cells, balls_of}
+use Rattle.dd_expansion.specs.{declared.formulas.Formula.TheOpen.Formula-F, Terms.cell_of, Terms.on_cell, Terms.on_cells, Terms.balls_of}
 use Rattle.dd_expansion.specs.Truth.{Truth, is_symbol, are_equal, truth, truth_step}
-use Rattle.dd_expansion.specs.Reads.{Reading, both_cells, reads, reads_step}
-use Rattle.dd_expansion.specs.lemmas.Shifting.{truth_shifted}
+use Rattle.dd_expansion.specs.{Reads.Reading, Reads.both_cells, Reads.reads, Reads.reads_step, lemmas.Shifting.truth_shifted}
 
 -- the two looks give the same at the cells that pass a test
 abbrev pub AgreeOn : (Cell → Bool) → Look → Look → Type 0
@@ -103,7 +97,8 @@ pub truth_depends : (es : List Edge) (f : Formula) → Depends es f
 truth_depends es = ind-Formula (Depends es) (λ x y is env p look other agree.
     rw (fold-roll-Formula Truth (truth_step es) x, fold-roll-Formula Reading (reads_step es) x, ← is) (step_depends es env p look other agree y))
 
--- the symbols at the cells read, counted from u in the one configuration and from v in the other, are the same: so is the truth
+-- if the cells read have the same symbols, counted from u in one configuration and from v in the other, the truth is the
+-- same
 pub truth_keeps : (es : List Edge) (f : Formula) (env : List Cell) (less more : Look) (u v : Place) →
     ((c : Cell) → is_some (less (shifted u c)) ≡ true → less (shifted u c) ≡ more (shifted v c)) →
     list_all (λ c. is_some (less (shifted u c))) (reads es f env) ≡ true → truth es f (map (shifted u) env) less ≡ truth es f (map (shifted v) env) more

@@ -1,4 +1,4 @@
--- Where there is no fault, there is none in a part.
+-- If there is no fault, no part has one.
 use Rattle.std.proofs.Common.{◌≡◌, ℕ, ◌<◌, Bool, true, false, List, [], ◌∷◌, ◌++◌, length, None, Some, refl, arith}
 use Rattle.std.specs.List.{All, flat_map}
 use Rattle.std.proofs.lemmas.{List.Elements.All-nil, List.Elements.All-cons, Grind.common_steps}
@@ -9,7 +9,7 @@ pub both_nil : {X : Type 0} (xs ys : List X) → xs ++ ys ≡ [] → (xs ≡ [])
 both_nil [] ys e = (refl, e)
 both_nil (x ∷ xs) ys e = absurd cc
 
--- what holds of the elements without faults holds of all, where there is no fault
+-- if there is no fault, what holds of each element without a fault holds of all
 pub all_where : {X Y : Type 0} (P : X → Type 0) (f : X → List Y) → ((x : X) → f x ≡ [] → P x) → (xs : List X) → flat_map f xs ≡ [] → All P xs
 all_where P f each [] h = All-nil P
 all_where P f each (x ∷ xs) h = (let parts = both_nil (f x) (flat_map f xs) h in All-cons P x xs (each x parts.0) (all_where P f each xs parts.1))
@@ -22,19 +22,19 @@ pub within : (b : Bool) (l : Limit) → over b l ≡ [] → b ≡ false
 within true l e = absurd cc
 within false l e = refl
 
--- what `grind` needs to take a list without faults apart
+-- what `grind` needs for taking apart a list without faults
 pub ruleset parts = (common_steps, both_nil, fits, within)
 
--- a name that is not missing has a number below that of the names
+-- a name that is not missing has an index below the number of names
 pub number_below : (bytes : List ℕ) (names : List (List ℕ)) (n : Name) → missing bytes names n ≡ [] → number_in bytes names n < length names
 number_below bytes names n none = grind (arith, parts)
 
--- a fault that is noted stays, or a better one takes its place
-some_stays : (g : Fault) (fs : List Fault) → noted (Some g) fs ≡ None → ⊥
+-- once a fault is noted, it stays or a better one takes its place
+pub some_stays : (g : Fault) (fs : List Fault) → noted (Some g) fs ≡ None → ⊥
 some_stays g [] e = absurd cc
 some_stays g (f ∷ fs) e = grind (arith, some_stays f fs, some_stays g fs)
 
--- where no fault is the first there is none
+-- if there is no first fault, there is none
 pub none_first : (fs : List Fault) → first_fault fs ≡ None → fs ≡ []
 none_first [] e = refl
 none_first (f ∷ fs) e = absurd (some_stays f fs e)

@@ -1,4 +1,4 @@
--- Where nothing is given twice, nothing has the key of one before it.
+-- If there is no repetition, no item has the key of an earlier one.
 use Rattle.std.proofs.Common.{◌≡◌, ℕ, zero, suc, ◌<◌, true, false, List, [], ◌∷◌, ◌++◌, length, map, take, slice_index_or, Contains, sym, ◌∙◌, arith, true≢false}
 use Rattle.std.specs.{Prelude.bytes_eq, List.list_any, Cmp.Lexicographic.nat_list_eq_equiv}
 use Rattle.std.proofs.lemmas.{Bool.false_from_ne_true, Grind.common_steps, Map.Views.list_any-from_Contains, Map.Views.Contains-from_any}

@@ -1,4 +1,4 @@
--- What the walk over a command needs of its shape.
+-- What reading commands one by one needs of their shape.
 use Rattle.std.specs.Prelude.{◌≤◌, length}
 use Rattle.dd_faults.specs.Tree.{Command}
 
@@ -7,7 +7,7 @@ abbrev pub HasSymbols : Command → Type 0
 HasSymbols (Command.Configuration called periods shear symbols) = 1 ≤ length symbols
 HasSymbols c = Unit {0}
 
--- neither a definition nor a question
+-- neither a definition nor a query
 abbrev pub IsHeader : Command → Type 0
 IsHeader (Command.Rule called f) = ⊥
 IsHeader (Command.Automaton called cases symbol) = ⊥

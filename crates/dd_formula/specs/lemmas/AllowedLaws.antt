@@ -1,16 +1,11 @@
 -- Allowed symbols are symbols of the alphabet.
-use Rattle.std.proofs.Common.{◌≡◌, ◌<◌, ◌≤◌, ℕ, Bool, true, false, List, [], length, get_or, ap, arith, Some, None, inl, inr}
+use Rattle.std.proofs.Common.{◌≡◌, ◌<◌, ◌≤◌, ℕ, Bool, true, false, List, [], length, get_or, arith, Some, None, inl, inr}
+use Rattle.std.proofs.{Math.ListN.get_or-eq_default, lemmas.Bool.cases_lt, lemmas.List.Elements.All-get_or}
 use Rattle.std.specs.Prelude.{Option, IfSome}
-use Rattle.std.proofs.Math.ListN.{get_or-eq_default}
-use Rattle.std.proofs.lemmas.Bool.{cases_lt}
-use Rattle.std.proofs.lemmas.List.Elements.{All-get_or}
 use Rattle.dd_pattern.specs.Reading.{Look, HasSymbolsBelow}
 use Rattle.dd_topology.specs.Sets.{SymbolSets, row_allows, IsRow, IsSets}
-use Rattle.dd_formula.specs.LocalRule.{LocalRule, rule_allows, IsRule}
-use Rattle.dd_formula.specs.Allowed.{AreAllowed}
-
-nothing_past : (row : List Bool) (t : ℕ) → get_or row t false ≡ true → t < length row
-nothing_past row t h = elim (cases_lt t (length row)) [ inl low ↦ low | inr high ↦ absurd (let past = get_or-eq_default row false high in cc) ]
+use Rattle.dd_formula.specs.{LocalRule.LocalRule, LocalRule.rule_allows, LocalRule.IsRule, Allowed.AreAllowed}
+use Rattle.dd_values.specs.lemmas.Lists.{nothing_past, empty_row}
 
 allowed_in_row : (n : ℕ) (s : SymbolSets) (a t : ℕ) → IsSets n s → a < length s.allowed → row_allows s.allowed a t ≡ true → t < s.symbols
 allowed_in_row n s a t ok below h =
@@ -19,10 +14,7 @@ allowed_in_row n s a t ok below h =
     let within = nothing_past row t h in
     omega (arith, within, is.as_many)
 
-empty_row : (row : List Bool) (t : ℕ) → row ≡ [] → get_or row t false ≡ false
-empty_row row t none = get_or-eq_default row false (let few : length row ≡ 0 = ap length none in let past : length row ≤ t = omega arith in past)
-
-no_row : (rows : List (List Bool)) (a t : ℕ) → length rows ≤ a → row_allows rows a t ≡ false
+pub no_row : (rows : List (List Bool)) (a t : ℕ) → length rows ≤ a → row_allows rows a t ≡ false
 no_row rows a t high = empty_row (get_or rows a []) t (get_or-eq_default rows [] high)
 
 pub allowed_below : (r : LocalRule) → IsRule r → (a s : ℕ) → rule_allows r a s ≡ true → s < r.symbols

@@ -1,26 +1,20 @@
 -- The counts of an automaton, by those of its parts.
 use Rattle.std.proofs.Common.{◌≡◌, ◌<◌, ◌≤◌, ℕ, zero, suc, ◌+◌, Bool, true, false, List, [], ◌∷◌, ◌++◌, Option, Some, None, MatchOption, length, get_or, map, max, refl, ap, sym, ◌∙◌, inl, inr, subst, arith}
-use Rattle.std.specs.Prelude.{◌&&◌, ◌||◌, ◌==◌, nat_lt}
-use Rattle.std.specs.List.{list_all, flat_map, range_with_len}
 use Rattle.std.proofs.Math.Nat.{eq-or-lt_of_le}
 use Rattle.std.proofs.lemmas.Bool.{and_parts, and_from, leb-true, lt-ltb, ltb-true, eqb-true}
 use Rattle.std.proofs.lemmas.List.Folds.{list_all-map, list_all-append}
-use Rattle.dd_lattice.specs.Cells.{shifted}
-use Rattle.dd_lattice.specs.InOrder.{in_order}
-use Rattle.dd_lattice.specs.declared.position.Cell.{Cell}
-use Rattle.dd_lattice.specs.lemmas.InOrderLaws.{list_all-in_order}
+use Rattle.std.specs.{Prelude.◌&&◌, Prelude.◌||◌, Prelude.◌==◌, Prelude.nat_lt, List.list_all, List.flat_map, List.range_with_len}
+use Rattle.dd_lattice.specs.{Cells.shifted, InOrder.in_order, declared.position.Cell.Cell, lemmas.InOrderLaws.list_all-in_order}
 use Rattle.dd_expansion.specs.Leaves.{total}
 use Rattle.dd_expansion.specs.lemmas.ListTests.{list_all-alike, list_all-flat_map, list_all-weaker}
-use Rattle.dd_expansion.specs.Placed.{is_flat, is_cell_in}
-use Rattle.dd_expansion.specs.lemmas.Placed.{flat_moved}
-use Rattle.dd_expansion.specs.lemmas.LeavesAreReads.{same_by_tests}
+use Rattle.dd_expansion.specs.{Placed.is_flat, Placed.is_cell_in, lemmas.Placed.flat_moved, lemmas.LeavesAreReads.same_by_tests}
 use Rattle.dd_formula.specs.LocalRule.{LocalRule, IsRule, reads_at, cells_at, is_near, is_of}
 use Rattle.dd_formula.specs.Automata.{CommonNumbers, has_rules, has_rules_step, IsNodesOf, rule_has, is_cell_of, Counted, Checked, counted, counted_step, case_instances, cases_reads, cells_of, automaton_fits, automaton_fits_step, cases_fit, is_few, is_short, is_shallow, limits_step, are_within, IsAutomaton, keeps_limits}
 use Rattle.dd_formula.specs.declared.automaton.Automaton.{Automaton}
-use Rattle.dd_formula.specs.declared.automaton.Automaton.TheVariants as v
 use Rattle.dd_formula.specs.declared.automaton.Automaton.TheFolds.{fold-Automaton, fold-roll-Automaton, ind-Automaton, map-Automaton}
-use Rattle.dd_formula.specs.declared.automaton.Automaton.TheOpen.{Automaton-F}
-use Rattle.dd_formula.specs.declared.automaton.Cases.{Cases}
+use Rattle.dd_formula.specs.declared.automaton.{Automaton.TheOpen.Automaton-F, Cases.Cases}
+use Rattle.dd_values.specs.lemmas.Booleans.{or_none}
+use Rattle.dd_formula.specs.declared.automaton.Automaton.TheVariants as v
 
 -- each definition at the two forms of an automaton
 pub counted_given : (c : Cases) → counted (v.Given c) ≡ counted_step (Automaton-F.Given c)
@@ -272,10 +266,6 @@ none_given : (cases : List (LocalRule × ℕ)) → nat_lt 0 (length cases) ≡ f
 none_given [] h = refl
 none_given (x ∷ xs) h = absurd (let some = lt-ltb 0 (length (x ∷ xs)) (omega arith) in cc)
 
-either_false : (a b : Bool) → (a || b) ≡ false → (a ≡ false) × (b ≡ false)
-either_false true b h = absurd (cc)
-either_false false b h = (refl, h)
-
 uniform_composed : (f g : Counted) → ((a : ℕ) → f.reads a ≡ []) → ((a : ℕ) → f.instances a ≡ f.instances 0) → ((a : ℕ) → g.instances a ≡ g.instances 0) →
     let h = counted_step (Automaton-F.Composed f g) in ((a : ℕ) → h.reads a ≡ []) × ((a : ℕ) → h.instances a ≡ h.instances 0)
 uniform_composed f g none ft gt =
@@ -290,7 +280,7 @@ step_uniform (Automaton-F.Given c) h =
     let none = none_given c.cases h in
     (λ a. ap (λ cases. cases_reads cases a) none, λ a. ap (λ cases. case_instances a cases + 1) none ∙ sym (ap (λ cases. case_instances 0 cases + 1) none))
 step_uniform (Automaton-F.Composed f g) h =
-    let none = either_false (has_rules f.0) (has_rules g.0) h in
+    let none = or_none (has_rules f.0) (has_rules g.0) h in
     let first = f.1 none.0 in
     uniform_composed (counted f.0) (counted g.0) first.0 first.1 (g.1 none.1).1
 

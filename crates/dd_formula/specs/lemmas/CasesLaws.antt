@@ -1,22 +1,16 @@
 -- Why no rule is made of a formula, and no automaton by cases.
 use Rattle.std.proofs.Common.{◌≡◌, ◌≤◌, ℕ, true, false, refl, arith}
-use Rattle.std.specs.Prelude.{nat_le}
-use Rattle.std.specs.List.{list_all}
 use Rattle.std.proofs.lemmas.Bool.{and_from, lt-leb, eq-eqb}
-use Rattle.dd_topology.specs.Grid.{Grid}
-use Rattle.dd_topology.specs.Sets.{SymbolSets}
-use Rattle.dd_expansion.specs.declared.formulas.Formula.{Formula}
-use Rattle.dd_expansion.specs.Leaves.{instances}
+use Rattle.std.specs.{Prelude.nat_le, List.list_all}
+use Rattle.dd_topology.specs.{Grid.Grid, Sets.SymbolSets}
+use Rattle.dd_expansion.specs.{declared.formulas.Formula.Formula, Leaves.instances}
 use Rattle.dd_formula.specs.LocalRule.{LocalRule, local_rule, expansion_at, reads_at, is_near, most_instances, IsSmall}
-use Rattle.dd_formula.specs.Automata.{Counted, is_few, rule_has}
-use Rattle.dd_formula.specs.Refusals.{IsRuleRefusal}
-use Rattle.dd_formula.specs.Compositions.{IsCompositionFault}
-use Rattle.dd_formula.specs.ByCases.{numbers_over, IsCasesRefusal}
-use Rattle.dd_formula.specs.declared.fault.RuleFault.{RuleFault}
+use Rattle.dd_formula.specs.{Automata.Counted, Automata.is_few, Automata.rule_has, Refusals.IsRuleRefusal, Compositions.IsCompositionFault}
+use Rattle.dd_formula.specs.{ByCases.numbers_over, ByCases.IsCasesRefusal, declared.fault.RuleFault.RuleFault}
 use Rattle.dd_formula.specs.declared.fault.RuleFault.TheVariants.{Reach, Instances, Depth, Memory}
 use Rattle.dd_formula.specs.lemmas.CompositionLaws.{range_fails}
 
--- what has at least a rule's instances and reads at least its cells is refused where the rule is
+-- an automaton with at least a rule's instances and reads is refused if the rule is
 module _ (r : LocalRule) (f : Counted) (large : (a : ℕ) → instances (expansion_at r a) ≤ f.instances a) (far : (a : ℕ) → list_all is_near (reads_at r a) ≡ false → list_all is_near (f.reads a) ≡ false) where
   pub refused : (e : RuleFault) → (IsSmall r → is_few r.nodes f ≡ true) → IsRuleRefusal r e → IsCasesRefusal r.nodes f e
   refused Instances few h = range_fails (λ a. nat_le (f.instances a) most_instances) r.nodes h.node h.exists (lt-leb _ _ (omega (arith, h.many, large h.node)))

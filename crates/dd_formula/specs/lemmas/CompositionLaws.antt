@@ -1,22 +1,16 @@
 -- Compositions within the limits, and the nodes that are looked at.
-use Rattle.std.proofs.Common.{◌≡◌, ◌<◌, ◌≤◌, ℕ, zero, suc, ◌+◌, Bool, true, false, Result, Ok, Err, refl, ap, sym, ◌∙◌, add-one, arith}
-use Rattle.std.specs.Prelude.{◌&&◌, ◌||◌, nat_le, OnOk}
-use Rattle.std.specs.List.{list_all, range_with_len}
+use Rattle.std.proofs.Common.{◌≡◌, ◌<◌, ◌≤◌, ℕ, zero, suc, ◌+◌, Bool, true, false, refl, ap, sym, ◌∙◌, add-one, arith}
 use Rattle.std.proofs.lemmas.Bool.{and_from}
-use Rattle.dd_expansion.specs.lemmas.ListTests.{and_true}
+use Rattle.std.specs.{Prelude.◌&&◌, Prelude.◌||◌, Prelude.nat_le, List.list_all, List.range_with_len}
 use Rattle.dd_formula.specs.LocalRule.{is_near, most_instances}
 use Rattle.dd_formula.specs.Automata.{CommonNumbers, Counted, has_rules, automaton_fits, is_few, is_short, is_shallow, are_within, keeps_limits, IsAutomaton}
 use Rattle.dd_formula.specs.Compositions.{StandFor, PassesDepth, composition}
 use Rattle.dd_formula.specs.declared.automaton.Automaton.{Automaton}
-use Rattle.dd_formula.specs.declared.automaton.Automaton.TheVariants as v
 use Rattle.dd_formula.specs.lemmas.AutomatonLaws.{fits_composed, within_composed, has_rules_composed, uniform, range_at}
+use Rattle.dd_values.specs.lemmas.Booleans.{and_true, and_assoc, and_same}
+use Rattle.dd_formula.specs.declared.automaton.Automaton.TheVariants as v
 
--- a test of the first numbers, of one more
-and_assoc : (a b c : Bool) → (a && (b && c)) ≡ ((a && b) && c)
-and_assoc true b c = refl
-and_assoc false b c = refl
-
-range_more : (p : ℕ → Bool) (k n : ℕ) → list_all p (range_with_len k (suc n)) ≡ (list_all p (range_with_len k n) && p (k + n))
+pub range_more : (p : ℕ → Bool) (k n : ℕ) → list_all p (range_with_len k (suc n)) ≡ (list_all p (range_with_len k n) && p (k + n))
 range_more p k zero = let same : k ≡ k + 0 = omega arith in ap (λ m. p m && true) same ∙ and_true (p (k + 0))
 range_more p k (suc n) =
     let same : (k + 1) + n ≡ k + suc n = omega arith in
@@ -36,14 +30,10 @@ range_fails p n i below here = by (list_all p (range_with_len 0 n)) refl
     by true e = absurd (let passes = range_at p 0 n i e (omega arith) (omega arith) in cc)
     by false e = e
 
-and_self : (a : Bool) → (a && a) ≡ a
-and_self true = refl
-and_self false = refl
-
--- a test that says the same of all numbers
+-- a test with the same answer for all numbers
 range_constant : (p : ℕ → Bool) → ((a : ℕ) → p a ≡ p 0) → (k n : ℕ) → list_all p (range_with_len k (suc n)) ≡ p 0
 range_constant p same k zero = and_true (p k) ∙ same k
-range_constant p same k (suc n) = ap (λ b. p k && b) (range_constant p same (k + 1) n) ∙ (ap (λ b. b && p 0) (same k) ∙ and_self (p 0))
+range_constant p same k (suc n) = ap (λ b. p k && b) (range_constant p same (k + 1) n) ∙ (ap (λ b. b && p 0) (same k) ∙ and_same (p 0))
 
 range_one : (p : ℕ → Bool) → ((a : ℕ) → p a ≡ p 0) → (n : ℕ) → 1 ≤ n → list_all p (range_with_len 0 n) ≡ list_all p (range_with_len 0 1)
 range_one p same zero h = absurd (omega arith)
@@ -74,7 +64,3 @@ composition_formed s f g outer inner h = record {
       (and_from (is_few s.nodes (composition f g) && is_short s.nodes (composition f g)) (is_shallow (composition f g))
       (and_from (is_few s.nodes (composition f g)) (is_short s.nodes (composition f g)) h.0.0 h.0.1) h.1);
 }
-
-pub on_ok : {T E : Type 0} (r : Result T E) (P : Type 0) → P → OnOk r P
-on_ok (Ok x) P p = p
-on_ok (Err e) P p = tt

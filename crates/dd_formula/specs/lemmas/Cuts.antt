@@ -1,13 +1,10 @@
 -- Sums, products and powers of counts that are cut off, and loops over lists.
 use Rattle.std.proofs.Common.{◌≡◌, ◌<◌, ◌≤◌, ℕ, zero, suc, ◌+◌, ◌*◌, ◌^◌, List, [], ◌∷◌, ◌++◌, map, take, length, get_or, refl, ap, sym, ◌∙◌, arith, inl, inr}
-use Rattle.std.specs.List.{flat_map}
-use Rattle.std.proofs.Math.Nat.{pow-zero, pow-suc, mul_comm}
-use Rattle.std.proofs.lemmas.Bool.{cases_lt}
-use Rattle.std.proofs.lemmas.List.{take_more, append-nil}
-use Rattle.std.proofs.lemmas.List.Concat.{flat_map-append}
+use Rattle.std.proofs.{Math.Nat.pow-zero, Math.Nat.pow-suc, Math.Nat.mul_comm, lemmas.Bool.cases_lt}
+use Rattle.std.proofs.lemmas.List.{take_more, append-nil, Concat.flat_map-append}
 use Rattle.std.proofs.lemmas.List.Sums.{sum_by_more, sum_by-take-le}
-use Rattle.dd_expansion.specs.Leaves.{total}
-use Rattle.dd_expansion.specs.lemmas.Layers.{total-map}
+use Rattle.std.specs.List.{flat_map}
+use Rattle.dd_expansion.specs.{Leaves.total, lemmas.Layers.total-map}
 use Rattle.dd_formula.specs.Counts.{cut}
 
 module _ {X : Type 0} where

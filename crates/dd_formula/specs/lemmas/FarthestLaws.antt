@@ -1,20 +1,14 @@
 -- How far the farthest of cells lies, list by list.
 use Rattle.std.proofs.Common.{◌≡◌, ◌<◌, ◌≤◌, ◌+◌, ℕ, zero, suc, max, true, false, refl, List, [], ◌∷◌, ◌++◌, length, take, get_or, ap, sym, ◌∙◌, arith, rules}
-use Rattle.std.specs.List.{list_all, flat_map, range_with_len}
-use Rattle.std.specs.Ordering.{nat_cmp, ord_max}
-use Rattle.std.proofs.lemmas.Bool.{and_parts, leb-true}
-use Rattle.std.proofs.lemmas.List.{take_more, append-nil}
+use Rattle.std.proofs.lemmas.{Bool.and_parts, Bool.leb-true, List.take_more, List.append-nil}
 use Rattle.std.proofs.lemmas.List.Concat.{flat_map-append, flat_map-cons}
-use Rattle.dd_lattice.specs.declared.position.Cell.{Cell}
-use Rattle.dd_lattice.specs.InOrder.{in_order}
-use Rattle.dd_lattice.specs.lemmas.InOrderLaws.{list_all-in_order}
+use Rattle.std.specs.{List.list_all, List.flat_map, List.range_with_len, Ordering.nat_cmp, Ordering.ord_max}
+use Rattle.dd_lattice.specs.{declared.position.Cell.Cell, InOrder.in_order, lemmas.InOrderLaws.list_all-in_order}
 use Rattle.dd_topology.specs.Topology.{extent}
 use Rattle.dd_formula.specs.LocalRule.{LocalRule, IsRule, is_near, reads_at, cells_at}
 use Rattle.dd_formula.specs.Automata.{CommonNumbers, IsAutomaton, cells_of, has_rules}
-use Rattle.dd_formula.specs.declared.automaton.Automaton.{Automaton}
-use Rattle.dd_formula.specs.lemmas.AutomatonLaws.{near_cells, uniform}
-use Rattle.dd_formula.specs.lemmas.Ranges.{range_push}
-use Rattle.dd_formula.specs.Reach.{farthest, automaton_reach}
+use Rattle.dd_formula.specs.{declared.automaton.Automaton.Automaton, lemmas.AutomatonLaws.near_cells, lemmas.AutomatonLaws.uniform}
+use Rattle.dd_formula.specs.{lemmas.Ranges.range_push, Reach.farthest, Reach.automaton_reach}
 
 pub greater_is : (a b : ℕ) → ord_max nat_cmp a b ≡ max a b
 greater_is a b = search rules

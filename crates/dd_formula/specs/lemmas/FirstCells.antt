@@ -1,22 +1,15 @@
 -- Cells of a fundamental box: they are cells of Z^d, and the first one at which a rule is false is one.
-use Rattle.std.proofs.Common.{◌≡◌, ℕ, ◌<◌, ◌||◌, ◌&&◌, Bool, true, false, ℤ, pos, refl, ap, sym, subst, ◌∙◌, arith}
-use Rattle.std.specs.Prelude.{nat_lt}
-use Rattle.std.specs.Ordering.{int_eq}
+use Rattle.std.proofs.Common.{◌≡◌, ℕ, ◌<◌, ◌||◌, Bool, true, false, ℤ, pos, refl, ap, sym, subst, ◌∙◌, arith}
 use Rattle.std.proofs.lemmas.Bool.{ltb-false, false≢true}
-use Rattle.std.specs.declared.cmp.Ordering.{Ordering}
+use Rattle.std.proofs.lemmas.Cmp.{nat_cmp_total, int_cmp_total, on_total, then_total}
+use Rattle.std.specs.{Prelude.nat_lt, Ordering.int_eq, declared.cmp.Ordering.Ordering}
 use Rattle.std.specs.declared.cmp.Ordering.TheVariants.{Less, Equal, Greater}
 use Rattle.std.specs.Cmp.{IsTotalOrder}
-use Rattle.std.proofs.lemmas.Cmp.{nat_cmp_total, int_cmp_total, on_total, then_total}
-use Rattle.dd_lattice.specs.declared.position.Cell.{Cell}
-use Rattle.dd_lattice.specs.Order.{cell_cmp}
-use Rattle.dd_lattice.specs.lemmas.InOrderLaws.{cells_equal}
-use Rattle.dd_lattice.specs.Place.{Place}
-use Rattle.dd_pattern.specs.Periods.{residue}
-use Rattle.dd_pattern.specs.Tile.{Tile, IsTile, IsInBox}
-use Rattle.dd_pattern.specs.lemmas.Residues.{residue_below}
+use Rattle.dd_lattice.specs.{declared.position.Cell.Cell, Order.cell_cmp, lemmas.InOrderLaws.cells_equal, Place.Place}
+use Rattle.dd_pattern.specs.{Periods.residue, Tile.Tile, Tile.IsTile, Tile.IsInBox, lemmas.Residues.residue_below}
 use Rattle.dd_expansion.specs.Placed.{is_flat}
-use Rattle.dd_formula.specs.LocalRule.{LocalRule}
-use Rattle.dd_formula.specs.Living.{Fits, Lives, IsFirstFalse}
+use Rattle.dd_formula.specs.{LocalRule.LocalRule, Living.Fits, Living.Lives, Living.IsFirstFalse}
+use Rattle.dd_values.specs.lemmas.Booleans.{and_both}
 
 axis_flat : (unused : Bool) (z : ℤ) → (unused ≡ false → z ≡ pos 0) → (unused || int_eq z (pos 0)) ≡ true
 axis_flat true z is = refl
@@ -28,19 +21,15 @@ base_flat z n one is =
     let none : residue z n ≡ 0 = omega (arith, below, one) in
     sym is ∙ ap pos none
 
-both : (a b : Bool) → a ≡ true → b ≡ true → (a && b) ≡ true
-both true b here there = there
-both false b here there = here
-
 flat_in_box : (t : Tile) (c : Cell) → IsTile t → IsInBox t c → is_flat t.dimension c.position ≡ true
 flat_in_box t c tile at =
-    both (nat_lt 1 t.dimension || int_eq c.position.y (pos 0)) (nat_lt 2 t.dimension || int_eq c.position.z (pos 0))
+    and_both (nat_lt 1 t.dimension || int_eq c.position.y (pos 0)) (nat_lt 2 t.dimension || int_eq c.position.z (pos 0))
     (axis_flat (nat_lt 1 t.dimension) c.position.y
     (λ unused. base_flat c.position.y t.periods.y (tile.periods.y_unused (let low = ltb-false 1 t.dimension unused in omega (arith, low))) (ap (λ (p : Place). p.y) at.base)))
     (axis_flat (nat_lt 2 t.dimension) c.position.z
     (λ unused. base_flat c.position.z t.periods.z (tile.periods.z_unused (let low = ltb-false 2 t.dimension unused in omega (arith, low))) (ap (λ (p : Place). p.z) at.base)))
 
--- a configuration does not live where the rule is false at a cell of its box
+-- a configuration isn't in the subshift if the rule is false at a cell of its box
 pub not_both : (x : LocalRule) (t : Tile) → IsTile t → Fits x t → (c : Cell) → IsFirstFalse x t c → Lives x t → ⊥
 not_both x t tile fits c first lives =
     let flat : is_flat x.dimension c.position ≡ true = subst (λ d. is_flat d c.position ≡ true) fits.dimension (flat_in_box t c tile first.within) in

@@ -1,25 +1,20 @@
 -- How far rules and automata read, and what they read within a distance.
-use Rattle.std.proofs.Common.{◌≡◌, ℕ, zero, suc, ◌+◌, ◌<◌, ◌≤◌, Bool, true, List, [], ◌∷◌, refl, ap, sym, ◌∙◌, arith, inl, inr}
-use Rattle.std.specs.Prelude.{◌&&◌, nat_le, max}
-use Rattle.std.specs.List.{list_all, flat_map, range_with_len}
-use Rattle.std.proofs.Math.Nat.{eq-or-lt_of_le}
-use Rattle.std.proofs.lemmas.Bool.{and_parts, and_from, leb-true, le-leb}
-use Rattle.std.proofs.lemmas.Bool.Decides.{nat_tests}
-use Rattle.std.proofs.lemmas.List.Concat.{flat_map-cons}
-use Rattle.std.proofs.lemmas.List.Folds.{list_all-append}
-use Rattle.dd_lattice.specs.declared.position.Cell.{Cell}
-use Rattle.dd_lattice.specs.lemmas.InOrderLaws.{list_all-in_order}
+use Rattle.std.proofs.Common.{◌≡◌, ℕ, zero, suc, ◌+◌, ◌<◌, ◌≤◌, Bool, true, List, [], ◌∷◌, refl, ap, sym, ◌∙◌, arith}
+use Rattle.std.proofs.lemmas.Bool.{and_from, leb-true, le-leb, Decides.nat_tests}
+use Rattle.std.proofs.lemmas.List.{Concat.flat_map-cons, Folds.list_all-append}
+use Rattle.std.specs.{Prelude.◌&&◌, Prelude.nat_le, Prelude.max, List.list_all, List.flat_map, List.range_with_len}
+use Rattle.dd_lattice.specs.{declared.position.Cell.Cell, lemmas.InOrderLaws.list_all-in_order}
 use Rattle.dd_topology.specs.Topology.{extent}
 use Rattle.dd_formula.specs.LocalRule.{LocalRule, IsRule, reads_at, cells_at}
 use Rattle.dd_formula.specs.Automata.{counted, cells_of}
 use Rattle.dd_formula.specs.Reach.{farthest, all_cells, reach, automaton_cells, automaton_reach}
-use Rattle.dd_formula.specs.declared.automaton.Automaton.{Automaton}
+use Rattle.dd_formula.specs.{declared.automaton.Automaton.Automaton, lemmas.AutomatonLaws.range_at}
 
 -- at most k away from the origin along each axis
 abbrev pub is_within : ℕ → Cell → Bool
 is_within k c = nat_le (extent c.position) k
 
-max_within : (a b k : ℕ) → nat_le (max a b) k ≡ (nat_le a k && nat_le b k)
+pub max_within : (a b k : ℕ) → nat_le (max a b) k ≡ (nat_le a k && nat_le b k)
 max_within a b k = grind (arith, nat_tests)
 
 none_far : (k : ℕ) → nat_le 0 k ≡ true
@@ -38,18 +33,9 @@ list_all-flat_map p f (x ∷ xs) =
     ∙ (list_all-append p (f x) (flat_map f xs) ∙ ap (λ b. list_all p (f x) && b) (list_all-flat_map p f xs))
 
 -- a test of the numbers from m on
-all_numbers : (p : ℕ → Bool) (m n : ℕ) → ((k : ℕ) → k < m + n → p k ≡ true) → list_all p (range_with_len m n) ≡ true
+pub all_numbers : (p : ℕ → Bool) (m n : ℕ) → ((k : ℕ) → k < m + n → p k ≡ true) → list_all p (range_with_len m n) ≡ true
 all_numbers p m zero h = refl
 all_numbers p m (suc n) h = and_from _ _ (h m (omega arith)) (all_numbers p (m + 1) n (λ k below. h k (omega arith)))
-
-number_of_all : (p : ℕ → Bool) (m n k : ℕ) → list_all p (range_with_len m n) ≡ true → m ≤ k → k < m + n → p k ≡ true
-number_of_all p m zero k h low high = absurd (omega arith)
-number_of_all p m (suc n) k h low high =
-    let both = and_parts (p m) (list_all p (range_with_len (m + 1) n)) h in
-    elim (eq-or-lt_of_le low) [
-      | inl same ↦ ap p (sym same) ∙ both.0
-      | inr later ↦ number_of_all p (m + 1) n k both.1 (omega arith) (omega arith)
-    ]
 
 -- the rule reads nothing farther away than k, node by node
 nodes_within : (r : LocalRule) (k : ℕ) → nat_le (reach r) k ≡ list_all (λ a. list_all (is_within k) (cells_at r a)) (range_with_len 0 r.nodes)
@@ -60,7 +46,7 @@ pub reads_within : (r : LocalRule) (k a : ℕ) → reach r ≤ k → a < r.nodes
 reads_within r k a far node =
     let all = sym (nodes_within r k) ∙ le-leb (reach r) k far in
     sym (list_all-in_order (is_within k) (reads_at r a))
-    ∙ number_of_all (λ n. list_all (is_within k) (cells_at r n)) 0 r.nodes a all (omega arith) (omega (arith, node))
+    ∙ range_at (λ n. list_all (is_within k) (cells_at r n)) 0 r.nodes a all (omega arith) (omega (arith, node))
 
 pub reach_within : (r : LocalRule) (k : ℕ) → ((a : ℕ) → a < r.nodes → list_all (is_within k) (reads_at r a) ≡ true) → reach r ≤ k
 reach_within r k all =
@@ -71,7 +57,7 @@ reach_within r k all =
 pub reach_near : (r : LocalRule) → IsRule r → reach r ≤ 16
 reach_near r ok = reach_within r 16 ok.short
 
--- the same of an automaton at the first n nodes
+-- the same for an automaton at the first n nodes
 automaton_nodes : (f : Automaton) (n k : ℕ) → nat_le (automaton_reach n f) k ≡ list_all (λ a. list_all (is_within k) (cells_of f a)) (range_with_len 0 n)
 automaton_nodes f n k = all_within k (automaton_cells n f) ∙ list_all-flat_map (is_within k) (cells_of f) (range_with_len 0 n)
 
@@ -79,7 +65,7 @@ pub automaton_reads_within : (f : Automaton) (n k a : ℕ) → automaton_reach n
 automaton_reads_within f n k a far node =
     let all = sym (automaton_nodes f n k) ∙ le-leb (automaton_reach n f) k far in
     sym (list_all-in_order (is_within k) ((counted f).reads a))
-    ∙ number_of_all (λ b. list_all (is_within k) (cells_of f b)) 0 n a all (omega arith) (omega (arith, node))
+    ∙ range_at (λ b. list_all (is_within k) (cells_of f b)) 0 n a all (omega arith) (omega (arith, node))
 
 pub automaton_reach_within : (f : Automaton) (n k : ℕ) → ((a : ℕ) → a < n → list_all (is_within k) ((counted f).reads a) ≡ true) → automaton_reach n f ≤ k
 automaton_reach_within f n k all =

@@ -1,29 +1,19 @@
--- What a rule reads at the cells of a fundamental box is there.
-use Rattle.std.proofs.Common.{◌≡◌, ℕ, zero, suc, ◌+◌, ◌<◌, ◌≤◌, true, List, [], ◌∷◌, length, pos, unsigned_abs, refl, ap, arith}
-use Rattle.std.specs.Prelude.{is_some, nat_lt, slice_get, IfSome, None}
-use Rattle.std.specs.List.{list_all, All, position_or_len}
-use Rattle.std.specs.Ordering.{is_eq}
+-- What a rule reads at the cells of a fundamental box has symbols.
+use Rattle.std.proofs.Common.{◌≡◌, ℕ, ◌<◌, ◌≤◌, true, List, [], ◌∷◌, pos, unsigned_abs, refl, ap, arith}
 use Rattle.std.proofs.lemmas.Int.{ints}
 use Rattle.std.proofs.lemmas.Bool.{and_parts, and_from, leb-true, ltb-true, lt-ltb, cond_both}
-use Rattle.dd_lattice.specs.Place.{Place, moved, IsCoordinateInRange, is_in_range, most_coordinate}
-use Rattle.dd_lattice.specs.Cells.{shifted}
-use Rattle.dd_lattice.specs.declared.position.Cell.{Cell}
-use Rattle.dd_lattice.specs.Order.{cell_cmp}
-use Rattle.dd_lattice.specs.lemmas.RangeLaws.{test_from_in_range}
-use Rattle.dd_topology.specs.Topology.{extent}
-use Rattle.dd_pattern.specs.Reading.{HasSymbolsBelow}
-use Rattle.dd_pattern.specs.Filling.{Filled, filling_look}
-use Rattle.dd_pattern.specs.Periods.{residue, unsheared}
+use Rattle.std.specs.Prelude.{is_some, nat_lt, slice_get, IfSome, None}
+use Rattle.std.specs.{List.list_all, List.All, List.position_or_len, Ordering.is_eq}
+use Rattle.dd_lattice.specs.{Place.Place, Place.moved, Place.IsCoordinateInRange, Place.is_in_range, Place.most_coordinate, Cells.shifted}
+use Rattle.dd_lattice.specs.{declared.position.Cell.Cell, Order.cell_cmp, lemmas.RangeLaws.test_from_in_range}
+use Rattle.dd_topology.specs.{Topology.extent, lemmas.ExtentLaws.extent_moved}
+use Rattle.dd_pattern.specs.{Reading.HasSymbolsBelow, Filling.Filled, Filling.filling_look, Periods.residue, Periods.unsheared}
 use Rattle.dd_pattern.specs.Tile.{Tile, IsTile, IsPeriodic, IsInBox, tile_index, tile_look}
-use Rattle.dd_pattern.specs.lemmas.Residues.{residue_below}
-use Rattle.dd_pattern.specs.lemmas.TileSizes.{sizes_of, index_below}
-use Rattle.dd_expansion.specs.Placed.{is_flat}
-use Rattle.dd_expansion.specs.Leaves.{seen}
+use Rattle.dd_pattern.specs.lemmas.{Residues.residue_below, TileSizes.sizes_of, TileSizes.index_below}
+use Rattle.dd_expansion.specs.{Placed.is_flat, Leaves.seen}
 use Rattle.dd_formula.specs.LocalRule.{LocalRule, IsRule, is_near, is_of, reads_at, is_given}
 use Rattle.dd_formula.specs.Living.{Fits}
-
-extent_moved : (p by : Place) → extent (moved p by) ≤ extent p + extent by
-extent_moved p by = omega (arith, ints)
+use Rattle.dd_values.specs.lemmas.Lists.{below_at, some_within}
 
 pub in_range : (p : Place) → extent p ≤ most_coordinate → is_in_range p ≡ true
 in_range p h =
@@ -31,11 +21,6 @@ in_range p h =
     let y : IsCoordinateInRange p.y = (omega (arith, ints), omega (arith, ints)) in
     let z : IsCoordinateInRange p.z = (omega (arith, ints), omega (arith, ints)) in
     test_from_in_range p (x, y, z)
-
-some_within : {X : Type 0} (xs : List X) (i : ℕ) → i < length xs → is_some (slice_get xs i) ≡ true
-some_within [] i h = absurd (omega arith)
-some_within (x ∷ xs) zero h = refl
-some_within (x ∷ xs) (suc i) h = some_within xs i (omega arith)
 
 box_extent : (t : Tile) → IsPeriodic t → (c : Cell) → IsInBox t c → extent c.position ≤ 65536
 box_extent t kept c h =
@@ -52,7 +37,7 @@ box_extent t kept c h =
     let z_small : unsigned_abs c.position.z ≤ 65536 = omega (arith, ints, sizes.z_small) in
     omega (arith, x_small, y_small, z_small)
 
-look_given : (t : Tile) → IsTile t → (d : Cell) → d.node < t.nodes → is_some (tile_look t d) ≡ true
+pub look_given : (t : Tile) → IsTile t → (d : Cell) → d.node < t.nodes → is_some (tile_look t d) ≡ true
 look_given t ok d h = let there : nat_lt d.node t.nodes ≡ true = lt-ltb _ _ h in rw there (some_within t.symbols (tile_index t d) (index_below t ok d h))
 
 pub read_given : (t : Tile) → IsPeriodic t → (c d : Cell) → IsInBox t c → extent d.position ≤ 16 → d.node < t.nodes → is_some (seen (tile_look t) c.position d) ≡ true
@@ -76,11 +61,6 @@ pub box_given : (r : LocalRule) (t : Tile) → IsRule r → Fits r t → IsPerio
 box_given r t rule fits ok c h =
     let node : c.node < r.nodes = omega (arith, h.node, fits.nodes) in
     all_given r t fits ok c h (reads_at r c.node) (rule.short c.node node) (rule.placed c.node node)
-
-pub below_at : (n : ℕ) (xs : List ℕ) → All (λ s. s < n) xs → (i : ℕ) → IfSome (slice_get xs i) (λ s. s < n)
-below_at n [] h i = tt
-below_at n (x ∷ xs) h zero = h zero x (omega arith)
-below_at n (x ∷ xs) h (suc i) = below_at n xs (λ k d within. h (suc k) d (omega arith)) i
 
 -- a configuration that fits a rule gives symbols of its alphabet
 pub tile_below : (r : LocalRule) (t : Tile) → Fits r t → HasSymbolsBelow r.symbols (tile_look t)

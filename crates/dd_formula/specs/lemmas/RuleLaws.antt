@@ -1,19 +1,11 @@
 -- What a rule says at a place, by its expansion at the origin and by the symbols that it reads there.
 use Rattle.std.proofs.Common.{◌≡◌, ◌≤◌, ℕ, Bool, true, [], ◌∷◌, ap, sym, ◌∙◌, Some, None}
-use Rattle.std.specs.Prelude.{Option, is_some}
-use Rattle.std.specs.List.{list_all}
 use Rattle.std.proofs.lemmas.Bool.{eqb-true}
-use Rattle.dd_lattice.specs.Place.{Place}
-use Rattle.dd_lattice.specs.Cells.{cell, shifted}
-use Rattle.dd_lattice.specs.declared.position.Cell.{Cell}
-use Rattle.dd_lattice.specs.lemmas.InOrderLaws.{list_all-in_order}
+use Rattle.std.specs.{Prelude.Option, Prelude.is_some, List.list_all}
+use Rattle.dd_lattice.specs.{Place.Place, Cells.cell, Cells.shifted, declared.position.Cell.Cell, lemmas.InOrderLaws.list_all-in_order}
 use Rattle.dd_pattern.specs.Reading.{Look, HasSymbolsBelow}
-use Rattle.dd_expansion.specs.Truth.{are_equal}
-use Rattle.dd_expansion.specs.Terms.{origin_at}
-use Rattle.dd_expansion.specs.Leaves.{holds, leaves_pass}
-use Rattle.dd_expansion.specs.lemmas.Shifting.{truth_shifted}
-use Rattle.dd_expansion.specs.lemmas.LeavesAreReads.{leaves_are_reads}
-use Rattle.dd_expansion.specs.lemmas.TruthKeeps.{truth_depends}
+use Rattle.dd_expansion.specs.{Truth.are_equal, Terms.origin_at, Leaves.holds, Leaves.leaves_pass, lemmas.Shifting.truth_shifted}
+use Rattle.dd_expansion.specs.lemmas.{LeavesAreReads.leaves_are_reads, TruthKeeps.truth_depends}
 use Rattle.dd_expansion.specs.lemmas.TruthAt.{at_origin, says_at}
 use Rattle.dd_formula.specs.LocalRule.{LocalRule, expansion_at, reads_at, cells_at, is_true}
 
@@ -30,7 +22,7 @@ equal_symbols None b h = absurd (cc)
 equal_symbols (Some x) None h = absurd (cc)
 equal_symbols (Some x) (Some y) h = ap Some (sym (eqb-true y x h))
 
--- The truth depends on the cells read alone: where these have the same symbols, counted from u under one look and from v
+-- The truth depends only on the cells read. If these have the same symbols, counted from u under one look and from v
 -- under the other, the rule says the same at u and at v.
 pub truth_by_reads : (r : LocalRule) (a : ℕ) (u v : Place) (one other : Look) → list_all (λ d. are_equal (one (shifted u d)) (other (shifted v d))) (reads_at r a) ≡ true →
     is_true r (cell u a) one ≡ is_true r (cell v a) other
@@ -40,7 +32,7 @@ truth_by_reads r a u v one other same =
     ∙ (truth_depends r.edges r.formula (origin_at a ∷ []) alike (λ d. one (shifted u d)) (λ d. other (shifted v d)) (λ d. equal_symbols (one (shifted u d)) (other (shifted v d))) same
     ∙ sym (truth_moved_back r v a other))
 
--- the same of looks of which the one gives each symbol that the other gives
+-- the same for two looks, one of which gives each symbol that the other gives
 pub truth_by_given : (r : LocalRule) (a : ℕ) (u v : Place) (less more : Look) → ((d : Cell) → is_some (less (shifted u d)) ≡ true → less (shifted u d) ≡ more (shifted v d)) →
     list_all (λ d. is_some (less (shifted u d))) (reads_at r a) ≡ true → is_true r (cell u a) less ≡ is_true r (cell v a) more
 truth_by_given r a u v less more same given =

@@ -1,30 +1,23 @@
 -- The value of an automaton, by its parts and by what it reads.
 use Rattle.std.proofs.Common.{◌≡◌, ◌<◌, ℕ, suc, ◌+◌, Option, Bool, true, List, [], ◌∷◌, length, get_or, drop, drop-cons, add-one, Some, None, cond, ap, sym, ◌∙◌, refl, subst, eq-eqb, ℤ, ◌+ℤ◌, pos, arith}
-use Rattle.std.specs.Prelude.{◌&&◌, ◌==◌, nat_lt, is_some, map}
-use Rattle.std.specs.List.{list_all}
-use Rattle.std.proofs.lemmas.Bool.{and_parts, ltb-true, eqb-true, cond_both}
-use Rattle.std.proofs.lemmas.Int.{ints}
+use Rattle.std.proofs.lemmas.{Bool.and_parts, Bool.ltb-true, Bool.eqb-true, Bool.cond_both, Int.ints}
 use Rattle.std.proofs.lemmas.List.Folds.{list_all-map, list_all-append}
-use Rattle.dd_lattice.specs.Place.{Place, moved, place, is_in_range}
-use Rattle.dd_lattice.specs.Cells.{cell, shifted}
-use Rattle.dd_lattice.specs.declared.position.Cell.{Cell}
-use Rattle.dd_lattice.specs.lemmas.InOrderLaws.{list_all-in_order}
+use Rattle.std.specs.{Prelude.◌&&◌, Prelude.◌==◌, Prelude.nat_lt, Prelude.is_some, Prelude.map, Prelude.Option, List.list_all}
+use Rattle.dd_lattice.specs.{Place.Place, Place.moved, Place.place, Place.is_in_range, Cells.cell, Cells.shifted}
+use Rattle.dd_lattice.specs.{declared.position.Cell.Cell, lemmas.InOrderLaws.list_all-in_order}
 use Rattle.dd_pattern.specs.Reading.{Look}
-use Rattle.dd_expansion.specs.Leaves.{seen}
-use Rattle.dd_expansion.specs.Truth.{are_equal}
-use Rattle.dd_expansion.specs.Placed.{is_flat}
-use Rattle.dd_expansion.specs.Terms.{origin_at}
+use Rattle.dd_expansion.specs.{Leaves.seen, Truth.are_equal, Placed.is_flat, Terms.origin_at}
 use Rattle.dd_expansion.specs.lemmas.ListTests.{list_all-alike, list_all-weaker, list_all-flat_map}
 use Rattle.dd_formula.specs.LocalRule.{LocalRule, is_true, is_given, reads_at}
 use Rattle.dd_formula.specs.Automata.{CommonNumbers, Counted, Valuation, value, value_step, first_case, counted, counted_step, cases_reads, cells_of, rule_has, cases_fit, automaton_fits, automaton_fits_step, is_cell_of}
 use Rattle.dd_formula.specs.Values.{are_given, is_read, CasesArePlaced, IsPlaced}
 use Rattle.dd_formula.specs.declared.automaton.Automaton.{Automaton}
-use Rattle.dd_formula.specs.declared.automaton.Automaton.TheVariants as v
 use Rattle.dd_formula.specs.declared.automaton.Automaton.TheFolds.{fold-roll-Automaton, ind-Automaton, map-Automaton}
-use Rattle.dd_formula.specs.declared.automaton.Automaton.TheOpen.{Automaton-F}
-use Rattle.dd_formula.specs.declared.automaton.Cases.{Cases}
+use Rattle.dd_formula.specs.declared.automaton.{Automaton.TheOpen.Automaton-F, Cases.Cases}
 use Rattle.dd_formula.specs.lemmas.RuleLaws.{truth_by_reads}
 use Rattle.dd_formula.specs.lemmas.AutomatonLaws.{counted_given, counted_composed, fits_given, outer_part, inner_part, moved_placed, passes_at}
+use Rattle.dd_values.specs.lemmas.Numbers.{plus_zero}
+use Rattle.dd_formula.specs.declared.automaton.Automaton.TheVariants as v
 
 -- the definition at the two forms of an automaton
 pub value_given : (c : Cases) (look : Look) (at : Cell) → value (v.Given c) look at ≡ first_case c.cases c.otherwise look at
@@ -42,9 +35,6 @@ plus_assoc x y z = omega (arith, ints)
 pub shifted_twice : (u p : Place) (e : Cell) → shifted u (shifted p e) ≡ shifted (moved p u) e
 shifted_twice u p e = rw (plus_assoc e.position.x p.x u.x, plus_assoc e.position.y p.y u.y, plus_assoc e.position.z p.z u.z) refl
 
-plus_zero : (x : ℤ) → (x +ℤ pos 0) ≡ x
-plus_zero x = omega (arith, ints)
-
 abbrev pub origin : Place
 origin = place (pos 0) (pos 0) (pos 0)
 
@@ -57,7 +47,7 @@ shifted_by_none d = ap (λ p. cell p d.node) (moved_by_none d.position)
 pub equal_values : (x y : ℕ) → x ≡ y → are_equal (Some x) (Some y) ≡ true
 equal_values x y e = eq-eqb y x (sym e)
 
--- The value depends on the cells read alone: where these have the same symbols, counted from u under one look and from w
+-- The value depends only on the cells read. If these have the same symbols, counted from u under one look and from w
 -- under the other, the values at u and at w are the same.
 abbrev alike : Place → Place → Look → Look → Cell → Bool
 alike u w one other d = are_equal (one (shifted u d)) (other (shifted w d))
@@ -178,7 +168,7 @@ case_step cases otherwise look at i case b below is here =
     ∙ (ap (λ t. cond t case.1 (first_case (drop (suc i) cases) otherwise look at)) here
     ∙ ap (λ n. cond b case.1 (first_case (drop n cases) otherwise look at)) (sym (add-one i))))
 
--- the rule of a case can be asked where all cases can
+-- the symbols that one case reads are given if those of all cases are
 pub case_given : (cases : List (LocalRule × ℕ)) (look : Look) (p : Place) (a i : ℕ) (case : LocalRule × ℕ) → are_given look p (cases_reads cases a) ≡ true → i < length cases → case ≡ get_or cases i case →
     are_given look p (reads_at case.0 a) ≡ true
 case_given cases look p a i case given below is =
@@ -205,3 +195,8 @@ placed_composed f g outer inner s formed a below =
     ∙ (list_all-flat_map (is_cell_of s) there reads
     ∙ list_all-weaker (is_cell_of s) (λ c. list_all (is_cell_of s) (there c))
     (λ c here. let node = ltb-true c.node s.nodes (and_parts (is_flat s.dimension c.position) (nat_lt c.node s.nodes) here).1 in moved_placed s c ((counted g).reads c.node) here (inner s second c.node node)) reads first)
+
+-- and the automaton gives the same
+pub equal_to_some : (a b : Option ℕ) → a ≡ b → is_some a ≡ true → are_equal a b ≡ true
+equal_to_some None b e h = absurd (cc)
+equal_to_some (Some x) b e h = subst (λ o. are_equal (Some x) o ≡ true) e (equal_values x x refl)

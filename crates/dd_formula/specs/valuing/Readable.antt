@@ -1,15 +1,9 @@
 -- What the recursion over compositions keeps: all that is read near the origin has symbols of the alphabet.
-use Rattle.std.specs.Prelude.{ℕ, ◌<◌, ◌≡◌, true, List}
-use Rattle.std.specs.List.{list_all}
-use Rattle.dd_lattice.specs.Place.{Place}
-use Rattle.dd_lattice.specs.declared.position.Cell.{Cell}
-use Rattle.dd_pattern.specs.Reading.{Look, HasSymbolsBelow}
-use Rattle.dd_pattern.specs.Filling.{Filled, filling_look}
-use Rattle.dd_expansion.specs.Leaves.{seen}
-use Rattle.dd_expansion.specs.Terms.{origin_at}
-use Rattle.dd_expansion.specs.Truth.{are_equal}
-use Rattle.dd_formula.specs.Automata.{CommonNumbers, IsAutomaton, is_cell_of}
-use Rattle.dd_formula.specs.Values.{HasLook, is_read}
+use Rattle.std.specs.{Prelude.ℕ, Prelude.◌<◌, Prelude.◌≡◌, Prelude.true, Prelude.List, List.list_all}
+use Rattle.dd_lattice.specs.{Place.Place, declared.position.Cell.Cell}
+use Rattle.dd_pattern.specs.{Reading.Look, Reading.HasSymbolsBelow, Filling.Filled, Filling.filling_look}
+use Rattle.dd_expansion.specs.{Leaves.seen, Terms.origin_at, Truth.are_equal}
+use Rattle.dd_formula.specs.{Automata.CommonNumbers, Automata.IsAutomaton, Automata.is_cell_of, Values.HasLook, Values.is_read}
 use Rattle.dd_formula.specs.declared.automaton.Automaton.{Automaton}
 use Rattle.dd_formula.specs.declared.automaton.Automaton.TheVariants as v
 

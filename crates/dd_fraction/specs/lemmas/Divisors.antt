@@ -1,14 +1,13 @@
 -- The greatest common divisor, and numbers without a common divisor.
 use Rattle.std.proofs.Common.{◌≡◌, ℕ, zero, suc, ◌+◌, ◌*◌, ◌/◌, ◌%◌, ◌<◌, ◌≤◌, refl, ap, subst, ◌∙◌, arith}
-use Rattle.std.specs.Int.{IsGcd}
-use Rattle.std.proofs.lemmas.Nat.{mod_below}
-use Rattle.std.proofs.lemmas.Nat.Gcd.{IsGcd-from_zero, IsGcd-from_mod, same_from_IsGcd}
+use Rattle.std.proofs.lemmas.Nat.{mod_below, mod-mul-add, div-add-mod'}
+use Rattle.std.proofs.lemmas.Nat.Gcd.{IsGcd-from_zero, IsGcd-from_mod, same_from_IsGcd, dvd-zero, dvd_antisymm, le_of_dvd}
 use Rattle.std.proofs.Math.Nat.{mul-le-mul_right, div-mul_cancel, eq_of_mul-eq-mul_right}
-use Rattle.std.proofs.lemmas.Nat.Gcd.{le_of_dvd}
-use Rattle.std.proofs.lemmas.Nat.{mod-mul-add, div-add-mod'}
+use Rattle.std.specs.Int.{IsGcd}
 use Rattle.dd_fraction.specs.Divisor.{common_within, greatest_common}
+use Rattle.dd_values.specs.lemmas.Numbers.{part_above}
 
-mod-scaled : (a b k : ℕ) → 0 < k → 0 < b → (a * k) % (b * k) ≡ a % b * k
+pub mod-scaled : (a b k : ℕ) → 0 < k → 0 < b → (a * k) % (b * k) ≡ a % b * k
 mod-scaled a b k z p =
     let r : a % b < b = mod_below a b p in
     let below : a % b * k < b * k = omega (arith, mul-le-mul_right k r) in
@@ -47,7 +46,7 @@ pub greatest_common-scaled : (a b k : ℕ) → 0 < k → IsGcd (a * k) (b * k) (
 unfolding greatest_common
 greatest_common-scaled a b k z = scaled (suc b) a b k z (omega arith)
 
-is_common : (n a b : ℕ) → b < n → IsGcd a b (common_within n a b)
+pub is_common : (n a b : ℕ) → b < n → IsGcd a b (common_within n a b)
 is_common zero a b p = absurd (omega arith)
 is_common (suc n) a zero p = IsGcd-from_zero a 0 refl
 is_common (suc n) a (suc b) p =
@@ -61,17 +60,13 @@ greatest_common-is a b = is_common (suc b) a b (omega arith)
 pub greatest_common_le : (a b : ℕ) → 0 < b → greatest_common a b ≤ b
 greatest_common_le a b p = le_of_dvd p (greatest_common-is a b).1
 
-above_of : (q g b : ℕ) → q * g ≡ b → 0 < b → 0 < g
-above_of q zero b e p = absurd (omega (arith, e))
-above_of q (suc g) b e p = omega arith
-
 front_of : (q g b : ℕ) → q * g ≡ b → 0 < b → 0 < q
 front_of zero g b e p = absurd (omega (arith, e))
 front_of (suc q) g b e p = omega arith
 
 pub greatest_common_above : (a b : ℕ) → 0 < b → 0 < greatest_common a b
 greatest_common_above a b p =
-    above_of (b / greatest_common a b) (greatest_common a b) b (div-mul_cancel _ (greatest_common-is a b).1) p
+    part_above (b / greatest_common a b) (greatest_common a b) b (div-mul_cancel _ (greatest_common-is a b).1) p
 
 pub quotient_above : (a b : ℕ) → 0 < b → 0 < b / greatest_common a b
 quotient_above a b p =
@@ -89,3 +84,7 @@ greatest_common_alone a b p =
     let t : IsGcd a b h = subst (λ (z : ℕ). IsGcd z b h) x (subst (λ (z : ℕ). IsGcd (a / g * g) z h) y s) in
     let e : h ≡ 1 * g = same_from_IsGcd _ _ _ _ t (greatest_common-is a b) ∙ omega arith in
     eq_of_mul-eq-mul_right g above _ _ e
+
+pub gcd_positive : (a b g : ℕ) → IsGcd a b g → 0 < b → 0 < g
+gcd_positive a b zero is some = absurd (let e : b ≡ 0 = dvd_antisymm (dvd-zero b) is.1 in omega arith)
+gcd_positive a b (suc g) is some = omega arith

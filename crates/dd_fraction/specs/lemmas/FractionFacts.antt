@@ -41,7 +41,7 @@ IsFraction-checked_sum a b c p q e =
     subst IsFraction made
     (IsFraction-lowest _ _ (product_above a.den b.den p q) (fits (pos (a.den * b.den)) t.1) (fits n t.0))
 
-size_minus : (n : ℤ) → unsigned_abs (neg_ℤ n) ≡ unsigned_abs n
+pub size_minus : (n : ℤ) → unsigned_abs (neg_ℤ n) ≡ unsigned_abs n
 size_minus (pos zero) = refl
 size_minus (pos (suc n)) = refl
 size_minus (negsuc n) = refl

@@ -1,14 +1,12 @@
 -- The laws of exact fractions: sum, opposite, product and inverse. Each side of a law is brought to `lowest` of one pair of
 -- numbers, and the two pairs have equal cross products.
-use Rattle.std.proofs.Common.{◌≡◌, ℕ, zero, suc, ◌*◌, ◌/◌, ◌<◌, refl, sym, ap, ◌∙◌, max, arith}
+use Rattle.std.proofs.Common.{◌≡◌, ℕ, zero, suc, ◌*◌, ◌/◌, ◌<◌, refl, sym, ap, ◌∙◌, max, arith, subst}
+use Rattle.std.proofs.{lemmas.Int.ints, Math.Nat.mul_comm, Math.Nat.zero-div}
 use lib.IntN.{ℤ, pos, negsuc, neg_ℤ, ◌+ℤ◌, ◌*ℤ◌, *ℤ_comm, +ℤ_comm, neg_ℤ-neg_ℤ}
-use Rattle.std.proofs.lemmas.Int.{ints}
-use Rattle.std.proofs.Math.Nat.{mul_comm, zero-div}
 use Rattle.dd_fraction.specs.Divisor.{greatest_common}
 use Rattle.dd_fraction.specs.Exact.{Exact, IsLowest, den_of, lowest, low, plus, times, minus, whole_of, inverse, one_over}
 use Rattle.dd_fraction.specs.lemmas.Lowest.{lowest_same, lowest_same_at, lowest_is, low_low, exact_same, zero_is, one_is, IsLowest-lowest}
 use Rattle.dd_fraction.specs.lemmas.Ring.{diff_self, diff_same, as_diff, product_above}
-use Rattle.std.proofs.Common.{subst}
 
 products : (a b : ℕ) → 0 < max 1 a * max 1 b
 products a b = product_above (max 1 a) (max 1 b) (omega arith) (omega arith)
@@ -51,7 +49,7 @@ pub times_comm : (a b : Exact) → times a b ≡ times b a
 unfolding times
 times_comm a b = λ i. lowest (*ℤ_comm a.num b.num i) (mul_comm (den_of a) (den_of b) i)
 
--- ---- a sum or a product takes any form of a fraction
+-- ---- sums and products don't depend on the form of a fraction
 sum_one : (x m : ℤ) (d e k : ℕ)
     → (x *ℤ pos e +ℤ m *ℤ pos k) *ℤ pos (d * e) ≡ (x *ℤ pos d) *ℤ pos (e * e) +ℤ m *ℤ pos (k * (d * e))
 sum_one x m d e k = rw (← diff_self x, ← diff_self m) (simp as_diff (diff_same _ _ _ _ (omega arith)))

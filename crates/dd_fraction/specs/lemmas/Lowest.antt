@@ -1,26 +1,23 @@
 -- Lowest terms: two pairs of numbers with equal cross products have the same lowest terms, so equations of fractions are
 -- equations of whole numbers.
 use Rattle.std.proofs.Common.{◌≡◌, ℕ, zero, suc, ◌*◌, ◌/◌, ◌<◌, refl, sym, ap, subst, ◌∙◌, max, arith}
+use Rattle.std.proofs.lemmas.{Int.ints, Int.unsigned_abs-mul, Nat.Gcd.same_from_IsGcd}
+use Rattle.std.proofs.Math.Nat.{eq_of_mul-eq-mul_right, div-mul_cancel, mul_comm, div-one}
 use Prim.Native.Nat.{◌∣◌}
 use lib.IntN.{ℤ, pos, negsuc, neg_ℤ, ◌*ℤ◌}
-use Rattle.std.specs.Int.{IsGcd}
-use Rattle.std.specs.Int.RustNames.{unsigned_abs, int_div}
-use Rattle.std.proofs.lemmas.Int.{ints, unsigned_abs-mul}
+use Rattle.std.specs.Int.{IsGcd, RustNames.unsigned_abs, RustNames.int_div}
 use borrow.Author.Differences.{same_in}
-use Rattle.std.proofs.lemmas.Nat.Gcd.{same_from_IsGcd}
-use Rattle.std.proofs.Math.Nat.{eq_of_mul-eq-mul_right, div-mul_cancel, mul_comm, div-one}
-use Rattle.dd_fraction.specs.Divisor.{greatest_common}
-use Rattle.dd_fraction.specs.Exact.{Exact, den_of, lowest, low, IsLowest, whole_of}
+use Rattle.dd_fraction.specs.{Divisor.greatest_common, Exact.Exact, Exact.den_of, Exact.lowest, Exact.low, Exact.IsLowest, Exact.whole_of}
 use Rattle.dd_fraction.specs.Checked.{IsFraction}
 use Rattle.dd_fraction.specs.lemmas.Divisors.{greatest_common-scaled, greatest_common-is, greatest_common_alone, quotient_above}
 use Rattle.dd_fraction.specs.lemmas.Ring.{times_times, product_above, cancel}
 
-neg_times : (q g : ℕ) → neg_ℤ (pos q) *ℤ pos g ≡ neg_ℤ (pos (q * g))
+pub neg_times : (q g : ℕ) → neg_ℤ (pos q) *ℤ pos g ≡ neg_ℤ (pos (q * g))
 neg_times zero g = same_in _ _ (omega (arith, ints))
 neg_times (suc q) g = refl
 
 -- a whole number that a number divides, over that number
-whole_over : (n : ℤ) (g : ℕ) → g ∣ unsigned_abs n → int_div n (pos g) *ℤ pos g ≡ n
+pub whole_over : (n : ℤ) (g : ℕ) → g ∣ unsigned_abs n → int_div n (pos g) *ℤ pos g ≡ n
 whole_over (pos n) g h = ap pos (div-mul_cancel g h)
 whole_over (negsuc n) g h =
     neg_times (suc n / g) g ∙ ap (λ (x : ℕ). neg_ℤ (pos x)) (div-mul_cancel g h)
@@ -68,8 +65,8 @@ numbers_same n m d e g h a b p q s t z =
     ∙ (ap (λ (x : ℤ). x *ℤ pos d) (sym q.num)
     ∙ (sym (times_times b.num (pos h) (pos d)) ∙ ap (λ (k : ℕ). b.num *ℤ pos k) (sym s))))))
 
--- n / d = m / e makes |n| · e = |m| · d, so |n| · e, d · e and |m| · d, e · d are one pair. It has one greatest common
--- divisor, which is e times that of n and d, and d times that of m and e.
+-- If n / d = m / e, then |n| · e = |m| · d, so (|n| · e, d · e) and (|m| · d, e · d) are the same pair. Its greatest
+-- common divisor is e times that of n and d, and d times that of m and e.
 pub lowest_same : (n m : ℤ) (d e : ℕ) → n *ℤ pos (max 1 e) ≡ m *ℤ pos (max 1 d) → lowest n d ≡ lowest m e
 lowest_same n m d0 e0 s =
     let d = max 1 d0 in
@@ -139,7 +136,7 @@ over_one : (n : ℤ) → int_div n (pos 1) ≡ n
 over_one (pos n) = ap pos (div-one n)
 over_one (negsuc n) = ap (λ (x : ℕ). neg_ℤ (pos x)) (div-one (suc n))
 
--- lowest terms have no lower ones
+-- a fraction in lowest terms stays as it is
 pub low_lowest : (a : Exact) → IsLowest a → low a ≡ a
 low_lowest a p =
     lowest_at a.num a.den p.positive

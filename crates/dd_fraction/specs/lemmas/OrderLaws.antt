@@ -1,21 +1,21 @@
--- The laws of the order of exact fractions. a is at most b exactly where b - a is at least 0, so the order's laws follow
+-- The laws of the order of exact fractions. a is at most b exactly if b - a is at least 0. So the order's laws follow
 -- from those of sums and products, and from the signs of both.
 use Rattle.std.proofs.Common.{◌≡◌, ℕ, ◌<◌, ◌⊎◌, inl, inr, sym, ap, subst, ◌∙◌, max, arith}
+use Rattle.std.proofs.lemmas.{Int.ints, Int.by_lt_z, Cmp.int_ranked}
 use lib.IntN.{ℤ, pos, negsuc, ◌*ℤ◌}
 use lib.Signed.{◌≤ℤ◌, ◌<ℤ◌}
 use Rattle.std.specs.declared.cmp.Ordering.{Ordering}
 use Rattle.std.specs.declared.cmp.Ordering.TheVariants.{Less, Equal, Greater}
 use Rattle.std.specs.Ordering.{MatchOrdering, int_cmp}
-use Rattle.std.proofs.lemmas.Int.{ints, by_lt_z}
-use Rattle.std.proofs.lemmas.Cmp.{int_ranked}
 use Rattle.dd_fraction.specs.Exact.{Exact, den_of, lowest, low, plus, times, minus, whole_of, inverse, one_over}
 use Rattle.dd_fraction.specs.Order.{exact_cmp, IsAtMost, IsBelow, IsNonneg, IsPositive}
 use Rattle.dd_fraction.specs.lemmas.Lowest.{lowest_same, lowest_is}
 use Rattle.dd_fraction.specs.lemmas.Laws.{plus_is, times_is, plus_comm, plus_assoc, plus_four, plus_undo, plus_zero, plus_low_left, plus_low_right, plus_times, minus_lowest, minus_minus, minus_plus, minus_times, neg_product, times_inverse}
 use Rattle.dd_fraction.specs.lemmas.Ring.{product_nonneg, product_positive, same_nonneg, same_positive}
+use Rattle.dd_values.specs.lemmas.Numbers.{cmp_less, cmp_equal}
 
 -- ---- signs
-den_above : (a : Exact) → 0 < den_of a
+pub den_above : (a : Exact) → 0 < den_of a
 den_above a = omega arith
 
 pub nonneg_lowest : (n : ℤ) (d : ℕ) → pos 0 ≤ℤ n → IsNonneg (lowest n d)
@@ -99,7 +99,7 @@ below_from_gap a b p =
     let s = positive_of_lowest _ _ (subst IsPositive (plus_is b (minus a)) p) in
     record { cross = omega (arith, ints, s, n) }
 
--- ---- a total order, but for the form of a fraction
+-- ---- a total order, up to the form of a fraction
 pub at_most_refl : (a : Exact) → IsAtMost a a
 at_most_refl a = record { cross = omega (arith, ints) }
 
@@ -158,7 +158,7 @@ pub at_most_from_nonneg : (a : Exact) → IsNonneg a → IsAtMost (whole_of (pos
 at_most_from_nonneg a p =
     at_most_from_gap (whole_of (pos 0)) a (subst IsNonneg (sym (zero_gap a)) (nonneg_lowest a.num a.den p.sign))
 
--- ---- sums, products and opposites keep or turn the order
+-- ---- sums, products and opposites keep or reverse the order
 sum_gap : (a b c d : Exact)
     → plus (plus b (minus a)) (plus d (minus c)) ≡ plus (plus b d) (minus (plus a c))
 sum_gap a b c d = plus_four b (minus a) d (minus c) ∙ ap (plus (plus b d)) (sym (minus_plus a c))
@@ -180,7 +180,7 @@ minus_gap a b = plus_comm b (minus a) ∙ ap (plus (minus a)) (sym (minus_minus 
 pub at_most_minus : (a b : Exact) → IsAtMost a b → IsAtMost (minus b) (minus a)
 at_most_minus a b p = at_most_from_gap _ _ (subst IsNonneg (minus_gap a b) (at_most_gap a b p))
 
--- ---- the order takes any form of a fraction
+-- ---- the order doesn't depend on the form of a fraction
 low_gap : (a b : Exact) → plus b (minus a) ≡ plus (low b) (minus (low a))
 low_gap a b =
     sym (plus_low_right b (minus a))
@@ -209,12 +209,6 @@ exact_cmp_ranked a b r e =
     ranked Less h = record { cross = h }
     ranked Equal h = lowest_same a.num b.num a.den b.den h
     ranked Greater h = record { cross = h }
-
-cmp_less : (u v : ℤ) → u <ℤ v → int_cmp u v ≡ Less
-cmp_less u v h = grind (arith, ints)
-
-cmp_equal : (u v : ℤ) → u ≡ v → int_cmp u v ≡ Equal
-cmp_equal u v h = grind (arith, ints)
 
 cmp_greater : (u v : ℤ) → v <ℤ u → int_cmp u v ≡ Greater
 cmp_greater u v h = grind (arith, ints)

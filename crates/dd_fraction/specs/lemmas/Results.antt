@@ -1,16 +1,11 @@
 -- What the calls give: results are in lowest terms and within the bounds, and a refusal comes where a number doesn't fit.
 use Rattle.std.proofs.Common.{◌≡◌, ℕ, zero, suc, ◌*◌, ◌/◌, ◌%◌, ◌^◌, ◌<◌, ◌≤◌, refl, sym, ap, subst, ◌∙◌, arith, max, Some, None, Bool, true, false, cond}
+use Rattle.std.proofs.lemmas.{Bool.ltb-true, Int.ints, Nat.mod_below}
+use Rattle.std.proofs.{lemmas.Nat.Gcd.same_from_IsGcd, lemmas.Nat.Gcd.IsGcd-swap, Math.Nat.div-le_self}
 use lib.IntN.{ℤ, pos, negsuc, ◌+ℤ◌, ◌*ℤ◌}
-use Rattle.std.specs.Int.{IsGcd, w64}
-use Rattle.std.specs.Int.RustNames.{unsigned_abs, int_div}
-use Rattle.std.proofs.lemmas.Bool.{ltb-true}
-use Rattle.std.proofs.lemmas.Int.{ints}
-use Rattle.std.proofs.lemmas.Nat.{mod_below}
-use Rattle.std.proofs.lemmas.Nat.Gcd.{same_from_IsGcd, IsGcd-swap}
-use Rattle.std.proofs.Math.Nat.{div-le_self}
+use Rattle.std.specs.Int.{IsGcd, w64, RustNames.unsigned_abs, RustNames.int_div}
 use mir.Val.{SFits}
-use Rattle.dd_fraction.specs.Divisor.{greatest_common}
-use Rattle.dd_fraction.specs.Exact.{Exact, lowest, times, plus}
+use Rattle.dd_fraction.specs.{Divisor.greatest_common, Exact.Exact, Exact.lowest, Exact.times, Exact.plus}
 use Rattle.dd_fraction.specs.Checked.{IsFraction, is_bounded, bounded, bounded_size, checked_product, checked_sum}
 use Rattle.dd_fraction.specs.lemmas.Divisors.{greatest_common-is, greatest_common-step, greatest_common-zero, greatest_common_alone, quotient_above}
 use Rattle.dd_fraction.specs.lemmas.Lowest.{size_over, lowest_at, low_lowest}
@@ -78,7 +73,7 @@ lowest_whole n = lowest_alone n 1 (omega arith) (greatest_common-one (unsigned_a
 pub whole_fraction : (n : ℤ) → SFits w64 n → IsFraction (record { num = n; den = 1 })
 whole_fraction n f = IsFraction-whole n (omega (arith, ints, f))
 
--- ---- what a number that fits, or doesn't, says of the test
+-- ---- what a result says of the test
 pub kept : {A : Type 0} (t : Bool) (x z : A) → Some x ≡ cond t (Some z) None → (t ≡ true) × (x ≡ z)
 kept true x z e = (refl, cc)
 kept false x z e = absurd cc
@@ -142,7 +137,7 @@ crossed a b l r e f =
     let y = bounded_some (b.num *ℤ pos a.den) r f in
     record { left = x.0; right = y.0; both = λ i. x.1 i +ℤ y.1 i }
 
--- where a cross product is refused
+-- a cross product doesn't fit
 pub sum_none_first : (a b : Exact) → None ≡ bounded (a.num *ℤ pos b.den) → None ≡ checked_sum a b
 sum_none_first a b e =
     let x = refused (is_bounded (a.num *ℤ pos b.den)) (a.num *ℤ pos b.den) e in
@@ -155,7 +150,7 @@ sum_none_second a b l e f =
     let y = refused (is_bounded (b.num *ℤ pos a.den)) (b.num *ℤ pos a.den) f in
     rw (x.0, y) refl
 
--- where the sum of both is refused
+-- the sum of the cross products doesn't fit
 pub sum_none_third : (a b : Exact) (l r : ℤ)
     → Some l ≡ bounded (a.num *ℤ pos b.den) → Some r ≡ bounded (b.num *ℤ pos a.den)
     → None ≡ bounded (l +ℤ r) → None ≡ checked_sum a b
@@ -165,7 +160,7 @@ sum_none_third a b l r e f g =
     subst (λ (n : ℤ). is_bounded n ≡ false) x.both (refused (is_bounded (l +ℤ r)) (l +ℤ r) g) in
     rw (x.left, x.right, z) refl
 
--- where the product of the denominators is refused
+-- the product of the denominators doesn't fit
 pub sum_none_fourth : (a b : Exact) (l r n : ℤ)
     → Some l ≡ bounded (a.num *ℤ pos b.den) → Some r ≡ bounded (b.num *ℤ pos a.den)
     → Some n ≡ bounded (l +ℤ r) → None ≡ bounded_size (a.den * b.den) → None ≡ checked_sum a b

@@ -1,9 +1,8 @@
--- Products of whole numbers. An expression becomes one difference of naturals, over which `omega` multiplies out.
+-- Products of whole numbers. An expression becomes one difference of naturals, which `omega` multiplies out.
 use Rattle.std.proofs.Common.{◌≡◌, ℕ, zero, suc, ◌+◌, ◌*◌, ◌<◌, ap, arith}
-use Rattle.std.proofs.Math.Nat.{eq_of_mul-eq-mul_right}
+use Rattle.std.proofs.{Math.Nat.eq_of_mul-eq-mul_right, lemmas.Int.ints, lemmas.Int.by_lt_z}
 use lib.IntN.{ℤ, pos, negsuc, neg_ℤ, ◌+ℤ◌, ◌-ℤ◌, ◌*ℤ◌}
 use lib.Signed.{◌<ℤ◌, ◌≤ℤ◌}
-use Rattle.std.proofs.lemmas.Int.{ints, by_lt_z}
 use borrow.Author.Differences.{up, down, same_in, sum_is_lem, neg_is, product_is}
 
 -- the whole number u - v
@@ -28,7 +27,7 @@ pub diff_neg : (u v : ℕ) → neg_ℤ (diff u v) ≡ diff v u
 diff_neg u v = same_in _ _ (omega (arith, diff_parts, neg_is))
 
 -- the two sides of a product, from the parts of its factors
-cross : (a b c d u v s t : ℕ) → a + v ≡ b + u → c + t ≡ d + s
+pub cross : (a b c d u v s t : ℕ) → a + v ≡ b + u → c + t ≡ d + s
     → (a * c + b * d) + (u * t + v * s) ≡ (a * d + b * c) + (u * s + v * t)
 cross a b c d u v s t e f =
     omega (arith, ap (λ (x : ℕ). x * c) e, ap (λ (x : ℕ). x * d) e, ap (λ (x : ℕ). x * u) f, ap (λ (x : ℕ). x * v) f)
@@ -84,7 +83,7 @@ product_nonpositive (pos zero) k p = omega (arith, ints)
 product_nonpositive (pos (suc x)) k p = absurd (omega (arith, ints, p))
 product_nonpositive (negsuc x) k p = omega (arith, ints)
 
--- numbers with equal products by naturals over 0 have one sign
+-- two numbers have the same sign if their products with positive naturals are equal
 pub same_nonneg : (x n : ℤ) (d k : ℕ) → 0 < k → x *ℤ pos d ≡ n *ℤ pos k → pos 0 ≤ℤ x → pos 0 ≤ℤ n
 same_nonneg x n d k q e p = by_lt_z n (pos 0) below (λ h. h)
   where

@@ -4,6 +4,7 @@ use Rattle.std.proofs.lemmas.Int.{ints}
 use Rattle.std.proofs.lemmas.Nat.{mul-add-lt, div-mul-add, mod-mul-add, mod_below, div_below, div-add-mod'}
 use Rattle.dd_lattice.specs.Place.{Place}
 use Rattle.dd_lattice.specs.Boxes.{Bounds, IsAtMostOnEachAxis, IsWithin, OnAxis, IsUpTo, IsCentred, is_active, spread, centred, gap, span, volume, index_in, place_in}
+use Rattle.dd_values.specs.lemmas.Numbers.{minus_below}
 
 pub gap_reaches : (a b : ℤ) → a ≤ℤ b → a +ℤ pos (gap a b) ≡ b
 gap_reaches a b h = omega (arith, ints)
@@ -85,3 +86,6 @@ centred_members d n p = (
     },
   ),
 )
+
+pub bounds_ordered : (d n : ℕ) → IsAtMostOnEachAxis (centred d n).low (centred d n).high
+bounds_ordered d n = record { on_x = minus_below _; on_y = minus_below _; on_z = minus_below _ }

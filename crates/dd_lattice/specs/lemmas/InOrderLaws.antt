@@ -1,25 +1,16 @@
--- A list in cell order says what the list says.
-use Rattle.std.proofs.Common.{◌≡◌, List, [], ◌∷◌, Bool, true, false, refl, ap, sym, ◌∙◌, rules, ◌↔◌, ◌⊎◌, inl, inr, subst}
-use Rattle.std.specs.Prelude.{◌&&◌}
-use Rattle.std.specs.Cmp.{IsTotalOrder}
-use Rattle.std.specs.Cmp.Rules.{comparing}
-use Rattle.std.specs.List.{fold, list_all, Contains}
-use Rattle.std.specs.BTreeSet.{insert_key}
-use Rattle.std.specs.Ordering.{ordering_then, match_ordering, int_cmp, nat_cmp}
+-- The ordered form of a list has the same cells.
+use Rattle.std.proofs.Common.{◌≡◌, List, [], ◌∷◌, Bool, true, false, refl, ap, sym, ◌∙◌, rules, ◌↔◌, ◌⊎◌, inl, inr, subst, arith, get_or, ◌<◌, take, length, ℕ}
+use Rattle.std.proofs.lemmas.Map.{Lookups.exact_signed, Lookups.exact_unsigned, Keys.Less-from_sorted}
+use Rattle.std.proofs.lemmas.List.{get_or_default, get_or-take, length-take}
+use Rattle.std.specs.{Prelude.◌&&◌, Cmp.IsTotalOrder, Cmp.Rules.comparing, List.fold, List.list_all, List.Contains, List.All}
+use Rattle.std.specs.{BTreeSet.insert_key, Ordering.ordering_then, Ordering.match_ordering, Ordering.int_cmp, Ordering.nat_cmp}
 use Rattle.std.specs.declared.cmp.Ordering.{Ordering}
 use Rattle.std.specs.declared.cmp.Ordering.TheVariants.{Less, Equal, Greater}
-use Rattle.std.proofs.lemmas.Map.Lookups.{exact_signed, exact_unsigned}
-use Rattle.dd_lattice.specs.Place.{Place, place}
-use Rattle.dd_lattice.specs.declared.position.Cell.{Cell}
-use Rattle.dd_lattice.specs.Cells.{cell}
-use Rattle.dd_lattice.specs.Order.{place_cmp, cell_cmp}
+use Rattle.std.specs.List.Sorted.{IsStrictlySortedBy}
+use Rattle.dd_lattice.specs.{Place.Place, Place.place, declared.position.Cell.Cell, Cells.cell, Order.place_cmp, Order.cell_cmp}
 use Rattle.dd_lattice.specs.InOrder.{in_order, HaveSameCells}
-use Rattle.dd_lattice.specs.lemmas.ListLaws.{Contains-first, Contains-later, Contains-cons_cases, Contains-nil}
-
-both_equal : (a b : Ordering) → ordering_then a b ≡ Equal → (a ≡ Equal) × (b ≡ Equal)
-both_equal Less b h = absurd (cc)
-both_equal Equal b h = (refl, h)
-both_equal Greater b h = absurd (cc)
+use Rattle.dd_values.specs.lemmas.Members.{Contains-first, Contains-later, Contains-cons_cases, Contains-nil}
+use Rattle.dd_values.specs.lemmas.Booleans.{and_true, both_equal}
 
 pub place_total : IsTotalOrder place_cmp
 place_total = search (comparing, rules)
@@ -53,10 +44,6 @@ and_move true true c = refl
 and_move true false c = refl
 and_move false true c = refl
 and_move false false c = refl
-
-and_true : (a : Bool) → (a && true) ≡ a
-and_true true = refl
-and_true false = refl
 
 insert_step : (p : Cell → Bool) (k x : Cell) (xs rest : List Cell) → list_all p rest ≡ (p k && list_all p xs) → (r : Ordering) → (r ≡ Equal → k ≡ x) →
     list_all p (match_ordering r (k ∷ x ∷ xs) (x ∷ xs) (x ∷ rest)) ≡ (p k && (p x && list_all p xs))
@@ -129,3 +116,10 @@ in_order_members cs q = (
   λ h. elim ((fold_members cs [] q).0 h) [ inl c ↦ c | inr none ↦ absurd (Contains-nil q none) ],
   λ c. (fold_members cs [] q).1 (inl c),
 )
+
+-- the next cell is greater than all before it
+pub turn_after : (cells : List Cell) (i : ℕ) (d : Cell) (before : List Cell) → IsStrictlySortedBy cell_cmp cells → i < length cells → d ≡ get_or cells i d →
+    before ≡ take i cells → All (λ c. cell_cmp c d ≡ Less) before
+turn_after cells i d before up h here is = rw is (λ k e below.
+    let within : k < i = omega (arith, below, length-take i cells) in
+    rw (get_or-take i cells k e within) (ap (cell_cmp (get_or cells k e)) (here ∙ get_or_default cells i d e h) ∙ Less-from_sorted cell_cmp cells k i e up within h))

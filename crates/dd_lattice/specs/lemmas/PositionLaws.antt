@@ -1,30 +1,18 @@
 -- The list of a box's positions by their numbers ascends, and has exactly the box's positions.
 use Rattle.std.proofs.Common.{◌≡◌, ℕ, zero, suc, ◌+◌, ◌*◌, ◌<◌, ◌≤◌, [], ◌∷◌, ◌++◌, ℤ, ◌≤ℤ◌, arith, ap, sym, subst, inl, inr}
-use Rattle.std.specs.Int.Signed.{◌<ℤ◌}
-use Rattle.std.specs.List.{Contains}
-use Rattle.std.specs.List.Sorted.{IsStrictlySortedBy}
-use Rattle.std.specs.Ordering.{int_cmp, ordering_then}
-use Rattle.std.specs.Cmp.{int_cmp_is}
-use Rattle.std.specs.declared.cmp.Ordering.TheVariants.{Less, Equal}
-use Rattle.std.proofs.lemmas.Int.{ints}
-use Rattle.std.proofs.lemmas.Nat.{mul-add-lt, same_from_place}
-use Rattle.std.proofs.lemmas.Bool.{cases_order, cases_lt}
+use Rattle.std.proofs.lemmas.{Int.ints, Nat.mul-add-lt, Nat.same_from_place, Bool.cases_order, Bool.cases_lt}
 use Rattle.std.proofs.lemmas.List.Elements.{Contains-append_left, Contains-push, Contains-push_cases}
-use Rattle.dd_lattice.specs.Place.{Place, IsInRange}
-use Rattle.dd_lattice.specs.Order.{place_cmp}
+use Rattle.std.specs.{Int.Signed.◌<ℤ◌, List.Contains, List.Sorted.IsStrictlySortedBy, Ordering.int_cmp, Ordering.ordering_then}
+use Rattle.std.specs.declared.cmp.Ordering.TheVariants.{Less, Equal}
+use Rattle.dd_lattice.specs.{Place.Place, Place.IsInRange, Order.place_cmp}
 use Rattle.dd_lattice.specs.Boxes.{Bounds, IsAtMostOnEachAxis, IsBox, IsWithin, gap, span, volume, index_in, place_in, first_positions, positions_of}
 use Rattle.dd_lattice.specs.Regions.{IsRegionOf}
 use Rattle.dd_lattice.specs.lemmas.BoxLaws.{gap_below, index_below, index_of_place, place_at_index, place_within}
-use Rattle.dd_lattice.specs.lemmas.ListLaws.{All-from_contains, Contains-nil, sorted_push}
+use Rattle.dd_values.specs.lemmas.Members.{All-from_contains, Contains-nil, sorted_push}
+use Rattle.dd_values.specs.lemmas.Numbers.{cmp_less, cmp_equal}
 
 abbrev IsBefore : Place → Place → Type 0
 IsBefore p q = place_cmp p q ≡ Less
-
-cmp_less : (x y : ℤ) → x <ℤ y → int_cmp x y ≡ Less
-cmp_less x y h = sym (int_cmp_is x y Less h)
-
-cmp_equal : (x y : ℤ) → x ≡ y → int_cmp x y ≡ Equal
-cmp_equal x y h = sym (int_cmp_is x y Equal h)
 
 -- a later row of a table begins past all of an earlier one
 table_order : (a b c d w : ℕ) → a < c → b < w → a * w + b < c * w + d
@@ -80,7 +68,7 @@ number_of b (suc n) p c = elim (Contains-push_cases (first_positions b n) (place
   | inr is ↦ (n, omega arith, sym is)
 ]
 
--- every number below n gives one of them
+-- the position of each number below n is one of them
 contains_number : (b : Bounds) (n i : ℕ) → i < n → Contains (first_positions b n) (place_in b i)
 contains_number b zero i h = absurd (omega arith)
 contains_number b (suc n) i h = elim (cases_lt i n) [

@@ -1,16 +1,11 @@
 -- What a binary search in a strictly ascending list finds.
 use Rattle.std.proofs.Common.{◌≡◌, ℕ, suc, List, length, get_or, ap, ◌∙◌, arith, Ok, Err, Result, add-one, inl, inr, ◌⊎◌}
-use Rattle.std.specs.Result.{MatchResult}
-use Rattle.std.specs.List.{Contains}
-use Rattle.std.specs.List.Sorted.{IsStrictlySortedBy, IsSortedBy, IsBinarySearchResult, IsSearchInRange}
-use Rattle.std.specs.Ordering.{is_lt, ordering_reverse}
-use Rattle.std.specs.Cmp.{IsTotalOrder, tied_itself}
-use Rattle.std.specs.declared.cmp.Ordering.{Ordering}
-use Rattle.std.specs.declared.cmp.Ordering.TheVariants.{Less, Greater}
-use Rattle.std.proofs.lemmas.List.Sorted.{searchable_from_sorted}
-use Rattle.std.proofs.lemmas.Map.Lookups.{CmpEqualImpliesEq}
-use Rattle.std.proofs.lemmas.Map.Keys.{Less-from_sorted}
+use Rattle.std.proofs.lemmas.{List.Sorted.searchable_from_sorted, Map.Lookups.CmpEqualImpliesEq, Map.Keys.Less-from_sorted}
 use Rattle.std.proofs.lemmas.Bool.{cases_lt}
+use Rattle.std.specs.{Result.MatchResult, List.Contains}
+use Rattle.std.specs.List.Sorted.{IsStrictlySortedBy, IsSortedBy, IsBinarySearchResult, IsSearchInRange}
+use Rattle.std.specs.{Ordering.is_lt, Ordering.ordering_reverse, Cmp.IsTotalOrder, Cmp.tied_itself, declared.cmp.Ordering.Ordering}
+use Rattle.std.specs.declared.cmp.Ordering.TheVariants.{Less, Greater}
 
 sorted_in_order : {K : Type 0} {R : K → K → Ordering} → IsTotalOrder R → (ks : List K) → IsStrictlySortedBy R ks → IsSortedBy (λ a b. is_lt (R a b)) ks
 sorted_in_order {K} {R} o ks up k d _ h =

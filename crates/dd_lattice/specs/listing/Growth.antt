@@ -1,9 +1,6 @@
 -- A region stretched along an axis: moved along it by each number of steps between two bounds.
-use Rattle.std.specs.Prelude.{◌≡◌, ℤ, pos, ◌≤ℤ◌, ◌<ℤ◌, ◌⊎◌, List}
-use Rattle.std.specs.List.{Contains}
-use Rattle.dd_lattice.specs.Place.{Place, place, moved}
-use Rattle.dd_lattice.specs.Regions.{PlaceSet, IsMoved}
-use Rattle.dd_lattice.specs.declared.growing.Axis.{Axis}
+use Rattle.std.specs.{Prelude.◌≡◌, Prelude.ℤ, Prelude.pos, Prelude.◌≤ℤ◌, Prelude.◌<ℤ◌, Prelude.◌⊎◌, Prelude.List, List.Contains}
+use Rattle.dd_lattice.specs.{Place.Place, Place.place, Place.moved, Regions.PlaceSet, Regions.IsMoved, declared.growing.Axis.Axis}
 use Rattle.dd_lattice.specs.declared.growing.Axis.TheVariants.{X, Y, Z}
 
 abbrev pub along : Axis → ℤ → Place

@@ -1,6 +1,5 @@
 -- One step of a walk through two ascending lists: the lesser of the next positions, or the one that both have.
-use Rattle.std.specs.Prelude.{ℕ}
-use Rattle.std.specs.declared.cmp.Ordering.{Ordering}
+use Rattle.std.specs.{Prelude.ℕ, declared.cmp.Ordering.Ordering}
 use Rattle.std.specs.declared.cmp.Ordering.TheVariants.{Less, Equal, Greater}
 use Rattle.dd_lattice.specs.Place.{Place}
 

@@ -1,18 +1,12 @@
 -- What is known of a rule and of a look from how they were made, and of an image from what it doesn't do.
 use Rattle.std.proofs.Common.{◌≡◌, ◌<◌, ℕ, Bool, true, false, Option, Some, None, refl, ap, sym, ◌∙◌, subst, eq-eqb, inl, inr}
-use Rattle.std.specs.Prelude.{◌==◌, ◌⊎◌, is_some, IfSome}
 use Rattle.std.proofs.lemmas.Bool.{cases_Bool, eqb-true}
-use Rattle.dd_lattice.specs.Place.{Place}
-use Rattle.dd_lattice.specs.Cells.{cell}
-use Rattle.dd_lattice.specs.declared.position.Cell.{Cell}
+use Rattle.std.specs.Prelude.{◌==◌, ◌⊎◌, is_some, IfSome}
+use Rattle.dd_lattice.specs.{Place.Place, Cells.cell, declared.position.Cell.Cell}
 use Rattle.dd_pattern.specs.Reading.{Look, HasSymbolsBelow}
-use Rattle.dd_topology.specs.Grid.{Grid}
-use Rattle.dd_topology.specs.Sets.{SymbolSets}
-use Rattle.dd_expansion.specs.declared.formulas.Formula.{Formula}
-use Rattle.dd_expansion.specs.Limits.{IsFormula}
-use Rattle.dd_formula.specs.LocalRule.{LocalRule, local_rule}
-use Rattle.dd_formula.specs.Automata.{value}
-use Rattle.dd_formula.specs.declared.automaton.Automaton.{Automaton}
+use Rattle.dd_topology.specs.{Grid.Grid, Sets.SymbolSets}
+use Rattle.dd_expansion.specs.{declared.formulas.Formula.Formula, Limits.IsFormula}
+use Rattle.dd_formula.specs.{LocalRule.LocalRule, LocalRule.local_rule, Automata.value, declared.automaton.Automaton.Automaton}
 use Rattle.dd_maps.specs.Pairs.{IsRuleOver}
 use Rattle.dd_maps.specs.Images.{image, KeepsAt, GivesBackAt, HasSymbolAt, AtEachNode, ImageBreaks, Changes, HasSymbols}
 

@@ -1,21 +1,18 @@
 -- What the guarded formula says.
 use Rattle.std.proofs.Common.{◌≡◌, ◌<◌, ℕ, Bool, true, false, List, [], ◌∷◌, map, Some, refl, ap, sym, ◌∙◌, arith}
-use Rattle.std.specs.Prelude.{◌==◌, ◌&&◌, ◌||◌, not}
-use Rattle.std.specs.List.{list_all, list_any, range_with_len}
 use Rattle.std.proofs.lemmas.List.Folds.{list_all-map}
+use Rattle.std.specs.{Prelude.◌==◌, Prelude.◌&&◌, Prelude.◌||◌, Prelude.not, List.list_all, List.list_any, List.range_with_len}
 use Rattle.dd_lattice.specs.declared.position.Cell.{Cell}
 use Rattle.dd_pattern.specs.Reading.{Look}
-use Rattle.dd_topology.specs.declared.edge.Edge.{Edge}
-use Rattle.dd_topology.specs.Sets.{SymbolSets, allows}
-use Rattle.dd_expansion.specs.declared.formulas.Formula.{Formula}
-use Rattle.dd_expansion.specs.declared.formulas.Formula.TheVariants as v
-use Rattle.dd_expansion.specs.declared.formulas.Formula.TheFolds.{fold-roll-Formula}
-use Rattle.dd_expansion.specs.declared.formulas.Formula.TheOpen.{Formula-F}
-use Rattle.dd_expansion.specs.Truth.{Truth, truth, truth_step, is_symbol}
-use Rattle.dd_expansion.specs.lemmas.ListTests.{list_all-alike, list_any-alike, list_any-map, and_true}
+use Rattle.dd_topology.specs.{declared.edge.Edge.Edge, Sets.SymbolSets, Sets.allows}
+use Rattle.dd_expansion.specs.declared.formulas.Formula.{Formula, TheFolds.fold-roll-Formula}
+use Rattle.dd_expansion.specs.{declared.formulas.Formula.TheOpen.Formula-F, Truth.Truth, Truth.truth, Truth.truth_step, Truth.is_symbol}
+use Rattle.dd_expansion.specs.lemmas.ListTests.{list_all-alike, list_any-alike, list_any-map}
 use Rattle.dd_formula.specs.lemmas.AutomatonLaws.{range_at}
 use Rattle.dd_maps.specs.Guarded.{here, symbol_is, allowed_symbols, guard, allows_all, guarded_nodes, with_guards, guarded}
 use Rattle.dd_maps.specs.lemmas.KeptTests.{all_kept, any_kept, all_but_one, some_one}
+use Rattle.dd_values.specs.lemmas.Booleans.{and_true}
+use Rattle.dd_expansion.specs.declared.formulas.Formula.TheVariants as v
 
 -- the truth of its parts
 
@@ -41,8 +38,8 @@ pub truth_symbol : (es : List Edge) (t : ℕ) (c : Cell) (look : Look) → truth
 truth_symbol es t c look =
     ap (λ f. truth es f (c ∷ []) look) (sym (v.rolls-Symbol here t)) ∙ ap (λ h. h (c ∷ []) look) (fold-roll-Formula Truth (truth_step es) (Formula-F.Symbol here t))
 
--- At a cell with the symbol t the guard of another node is true, and the cell's own guard is true exactly where its node allows
--- t: among the listed symbols is then the one that is t. A node without a guard allows all symbols, so t too.
+-- At a cell with the symbol t the guards of other nodes are true. The guard of the cell's own node is true exactly if the
+-- node allows t, since t is then among the listed symbols. A node without a guard allows all symbols.
 module _ (es : List Edge) (s : SymbolSets) (c : Cell) (t : ℕ) (look : Look) (gives : look c ≡ Some t) (below : t < s.symbols) where
   symbols_say : (a : ℕ) → list_any (λ f. truth es f (c ∷ []) look) (map symbol_is (allowed_symbols s a)) ≡ allows s a t
   symbols_say a =

@@ -1,22 +1,15 @@
 -- Where the automata of a pair differ.
 use Rattle.std.proofs.Common.{◌≡◌, ◌<◌, ℕ, zero, suc, ◌-◌, Bool, true, false, List, [], ◌∷◌, map, length, get_or, Option, Some, refl, ap, sym, ◌∙◌, subst, arith, eq-eqb, inl, inr}
-use Rattle.std.specs.Prelude.{◌==◌, ◌&&◌, ◌↔◌, ◌⊎◌, cond}
-use Rattle.std.specs.List.{list_any, range_with_len}
-use Rattle.std.proofs.lemmas.Bool.{eqb-true}
-use Rattle.std.proofs.lemmas.List.Folds.{list_any_at}
+use Rattle.std.proofs.lemmas.{Bool.eqb-true, List.Folds.list_any_at}
 use Rattle.std.proofs.lemmas.List.FromFn.{length-range_with_len, get_or-range_with_len}
-use Rattle.dd_lattice.specs.Place.{Place}
-use Rattle.dd_lattice.specs.Cells.{cell}
-use Rattle.dd_lattice.specs.declared.position.Cell.{Cell}
+use Rattle.std.specs.{Prelude.◌==◌, Prelude.◌&&◌, Prelude.◌↔◌, Prelude.◌⊎◌, Prelude.cond, List.list_any, List.range_with_len}
+use Rattle.dd_lattice.specs.{Place.Place, Cells.cell, declared.position.Cell.Cell}
 use Rattle.dd_pattern.specs.Reading.{Look}
-use Rattle.dd_topology.specs.Grid.{Grid}
-use Rattle.dd_topology.specs.Sets.{SymbolSets}
+use Rattle.dd_topology.specs.{Grid.Grid, Sets.SymbolSets}
 use Rattle.dd_expansion.specs.Truth.{truth}
 use Rattle.dd_formula.specs.LocalRule.{LocalRule, is_true, rule_allows}
-use Rattle.dd_formula.specs.Automata.{value, first_case, automaton_fits}
-use Rattle.dd_formula.specs.ByCases.{numbers_over, case_over}
-use Rattle.dd_formula.specs.declared.automaton.Automaton.{Automaton}
-use Rattle.dd_formula.specs.declared.automaton.Automaton.TheVariants.{Composed}
+use Rattle.dd_formula.specs.{Automata.value, Automata.first_case, Automata.automaton_fits, ByCases.numbers_over, ByCases.case_over}
+use Rattle.dd_formula.specs.declared.automaton.Automaton.{Automaton, TheVariants.Composed}
 use Rattle.dd_formula.specs.lemmas.ValueLaws.{value_given, value_composed, value_below}
 use Rattle.dd_maps.specs.Pairs.{IsRuleOver, guarded_of, marked, own_symbol, identity, always_zero}
 use Rattle.dd_maps.specs.Images.{image, DifferAt, BreaksAt, ChangesAt, HasSymbolAt, AtSomeNode, Differ, ImageBreaks, Changes, HasSymbols}

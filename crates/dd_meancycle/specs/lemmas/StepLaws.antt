@@ -1,9 +1,7 @@
 -- What a step of a transfer graph is, and what one step more adds to a path.
 use Rattle.std.proofs.Common.{◌≡◌, ℕ, zero, suc, ◌+◌, ◌*◌, ◌/◌, ◌%◌, ◌<◌, ◌≤◌, ◌^◌, Bool, true, false, cond, List, [], ◌∷◌, ◌++◌, length, get_or, Some, None, arith, refl, sym, ap, ◌∙◌}
+use Rattle.std.proofs.{lemmas.Bool.Decides.nat_tests, lemmas.Nat.mod-mul-add, lemmas.Nat.mod_below, Math.Nat.mul-le-mul_right}
 use Rattle.std.specs.Prelude.{◌&&◌, nat_lt, slice_index_or}
-use Rattle.std.proofs.lemmas.Bool.Decides.{nat_tests}
-use Rattle.std.proofs.lemmas.Nat.{mod-mul-add, mod_below}
-use Rattle.std.proofs.Math.Nat.{mul-le-mul_right}
 use Rattle.dd_transfer.specs.Graphs.{Transfer, IsTransfer, target, next_of, window_of, weight_at}
 use Rattle.dd_meancycle.specs.Means.{IsPath, weight_of}
 

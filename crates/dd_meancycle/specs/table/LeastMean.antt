@@ -1,10 +1,8 @@
 -- A cycle of least mean, or ranks.
 use Rattle.std.specs.Prelude.{◌≡◌, ℕ, ◌+◌, ◌*◌, ◌<◌, ◌≤◌, List, length}
-use Rattle.std.specs.List.{Contains, All}
-use Rattle.std.specs.Int.{IsGcd}
+use Rattle.std.specs.{List.Contains, List.All, Int.IsGcd}
 use Rattle.dd_values.specs.Bounds.{most_number}
-use Rattle.dd_meancycle.specs.declared.edges.Edge.{Edge}
-use Rattle.dd_meancycle.specs.declared.table.EdgeMean.{EdgeMean}
+use Rattle.dd_meancycle.specs.declared.{edges.Edge.Edge, table.EdgeMean.EdgeMean}
 use Rattle.dd_meancycle.specs.declared.table.EdgeMean.TheVariants.{Least, NoCycle}
 use Rattle.dd_meancycle.specs.table.Walks.{IsWalk, AreAmong, edges_weight, AreEdgePotentials, AreEdgeRanks, natural_potential}
 

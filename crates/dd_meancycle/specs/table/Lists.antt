@@ -1,14 +1,10 @@
 -- The edges of a transfer graph as a list.
 use Rattle.std.specs.Prelude.{◌≡◌, ℕ, ◌*◌, ◌/◌, ◌%◌, ◌<◌, List, map, slice_index, ℤ, pos, ◌-ℤ◌, ◌≤ℤ◌, Option, Some}
-use Rattle.std.specs.Option.{option_map}
-use Rattle.std.specs.List.{Contains, All}
-use Rattle.dd_transfer.specs.Graphs.{Transfer, next_of, weight_at}
-use Rattle.dd_transfer.specs.Certificates.{potential_of}
-use Rattle.dd_meancycle.specs.declared.edges.Edge.{Edge}
-use Rattle.dd_meancycle.specs.declared.table.EdgeMean.{EdgeMean}
-use Rattle.dd_meancycle.specs.declared.table.EdgeMean.TheVariants as edge_mean
-use Rattle.dd_meancycle.specs.declared.least.Mean.{Mean}
+use Rattle.std.specs.{Option.option_map, List.Contains, List.All}
+use Rattle.dd_transfer.specs.{Graphs.Transfer, Graphs.next_of, Graphs.weight_at, Certificates.potential_of}
+use Rattle.dd_meancycle.specs.declared.{edges.Edge.Edge, table.EdgeMean.EdgeMean, least.Mean.Mean}
 use Rattle.dd_meancycle.specs.declared.least.Mean.TheVariants.{Least, NoCycle}
+use Rattle.dd_meancycle.specs.declared.table.EdgeMean.TheVariants as edge_mean
 
 -- the edge of the window of a number, where it is one
 abbrev pub edge_at : Transfer → ℕ → Option Edge
@@ -30,7 +26,7 @@ IsRisen m l ps edges = All (λ e. (potential_of ps e.to -ℤ potential_of ps e.f
 abbrev pub IsFallen : List ℕ → List Edge → Type 0
 IsFallen ranks edges = All (λ e. slice_index ranks e.to < slice_index ranks e.from) edges
 
--- the same answer by the states to which the cycle's edges lead
+-- the same answer, with the cycle given by the states to which its edges lead
 abbrev pub IsInStates : EdgeMean → Mean → Type 0
 IsInStates (edge_mean.Least m l cycle ps) (Least a b states qs) = (a ≡ m) × (b ≡ l) × (states ≡ map (λ e. e.to) cycle.items) × (qs ≡ map pos ps.items)
 IsInStates (edge_mean.Least m l cycle ps) (NoCycle qs) = ⊥

@@ -1,10 +1,7 @@
 -- What the table of least weights says of means.
 use Rattle.std.specs.Prelude.{◌≡◌, ℕ, suc, ◌∷◌, ◌+◌, ◌-◌, ◌*◌, ◌<◌, ◌≤◌, List, [], length, Option, Some, None, slice_index_or, ◌⊎◌, Bool, true, false, ◌^◌, is_some, ◌&&◌, ◌==◌}
-use Rattle.std.specs.List.{Contains}
-use Rattle.std.specs.Int.{IsGcd}
-use Rattle.dd_meancycle.specs.declared.edges.Edge.{Edge}
-use Rattle.dd_meancycle.specs.declared.rises.Ratio.{Ratio}
-use Rattle.dd_meancycle.specs.declared.rises.Steep.{Steep}
+use Rattle.std.specs.{List.Contains, Int.IsGcd}
+use Rattle.dd_meancycle.specs.declared.{edges.Edge.Edge, rises.Ratio.Ratio, rises.Steep.Steep}
 use Rattle.dd_meancycle.specs.table.Levels.{at, level_weight_at, least}
 use Rattle.dd_meancycle.specs.table.Walks.{IsWalk, AreAmong, edges_weight}
 
@@ -14,7 +11,7 @@ pub record Reads (levels : List (List (Option ℕ))) (last v : ℕ) : Type 0 whe
   pub within : (k : ℕ) → k ≤ last → v < length (slice_index_or levels k [])
   pub start : level_weight_at levels 0 v ≡ Some 0
 
--- no walk's rise to the longest has a greater mean, and one has this
+-- no rise to the longest walk has a greater mean, and one has this mean
 pub record IsSteepest (levels : List (List (Option ℕ))) (last v weight run : ℕ) : Type 0 where
   pub end : ℕ
   pub ends : level_weight_at levels last v ≡ Some end

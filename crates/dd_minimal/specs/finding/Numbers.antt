@@ -1,5 +1,5 @@
--- The number of a filling among all lists of as many symbols, in lexicographic order, and the fillings that agree with a pattern
--- by their numbers.
+-- The number of a filling in the lexicographic order of all lists of its length, and the numbers of the fillings that
+-- agree with a pattern.
 use Rattle.std.specs.Prelude.{ℕ, zero, suc, ◌≡◌, ◌<◌, ◌+◌, ◌-◌, ◌*◌, ◌/◌, ◌%◌, ◌^◌, Option, Some, None, IfSome, List, [], ◌∷◌, length, map}
 use Rattle.std.specs.List.{All}
 
@@ -13,7 +13,7 @@ abbrev pub number : ℕ → List ℕ → ℕ
 number m [] = 0
 number m (s ∷ ss) = s * m ^ length ss + number m ss
 
--- by how much the number rises with the symbol of each of n cells
+-- how much the number rises with the symbol of each of n cells
 abbrev pub strides_of : ℕ → ℕ → List ℕ
 strides_of m zero = []
 strides_of m (suc n) = m ^ n ∷ strides_of m n
@@ -33,7 +33,7 @@ least_number m [] = 0
 least_number m (None ∷ ps) = least_number m ps
 least_number m (Some s ∷ ps) = s * m ^ length ps + least_number m ps
 
--- by how much the numbers rise at most along some strides
+-- how much the numbers rise at most along some strides
 abbrev pub reach : ℕ → List ℕ → ℕ
 reach m [] = 0
 reach m (d ∷ ds) = (m - 1) * d + reach m ds

@@ -1,15 +1,13 @@
--- How far the cells of a filling, and the fillings, have been gone through.
+-- The state of the loop over the cells of a filling, and of the loop over the fillings.
 use Rattle.std.specs.Prelude.{ℕ, ◌≡◌, ◌++◌, ◌^◌, Bool, true, false, Option, List, [], length, drop, slice_index_or}
 use Rattle.std.specs.List.{All, filter}
 use Rattle.dd_formula.specs.LocalRule.{LocalRule, cells_at}
-use Rattle.dd_minimal.specs.declared.outcome.Outcome.{Outcome}
-use Rattle.dd_minimal.specs.Patterns.{is_covered, whole}
+use Rattle.dd_minimal.specs.{declared.outcome.Outcome.Outcome, Patterns.is_covered, Patterns.whole}
 use Rattle.dd_minimal.specs.Minimal.{words, thinned, listed}
 use Rattle.dd_minimal.specs.finding.Numbers.{IsWord, number, open_strides, least_number, KeepsBelow}
-use Rattle.dd_minimal.specs.finding.Outcomes.{outcome, outcomes, does_break}
-use Rattle.dd_minimal.specs.finding.Walks.{is_enough}
+use Rattle.dd_minimal.specs.finding.{Outcomes.outcome, Outcomes.outcomes, Outcomes.does_break, Walks.is_enough}
 
--- the first cells are gone through and the rest is whole: the strides and the number of the pattern so far
+-- the first cells are done and the rest is whole: the strides and the number of the pattern so far
 pub record IsThinnedTo (m : ℕ) (table : List Outcome) (ss : List ℕ) (k : ℕ) (p : List (Option ℕ)) (ds : List ℕ) (from : ℕ) : Type 0 where
   pub as_many : length p ≡ k
   pub below : KeepsBelow m p
@@ -18,7 +16,7 @@ pub record IsThinnedTo (m : ℕ) (table : List Outcome) (ss : List ℕ) (k : ℕ
   pub least : from ≡ least_number m (p ++ whole (drop k ss))
   pub enough : is_enough m table (p ++ whole (drop k ss)) ≡ true
 
--- all are
+-- all cells are done
 pub record IsThinned (m : ℕ) (table : List Outcome) (ss : List ℕ) (p : List (Option ℕ)) (ds : List ℕ) (from : ℕ) : Type 0 where
   pub pattern : p ≡ thinned (is_enough m table) ss
   pub as_many : length p ≡ length ss
@@ -30,11 +28,11 @@ pub record IsThinned (m : ℕ) (table : List Outcome) (ss : List ℕ) (p : List 
 abbrev pub breaking_from : LocalRule → ℕ → ℕ → List (List ℕ)
 breaking_from r a k = filter (λ ss. does_break (outcome r a ss)) (drop k (words r.symbols (length (cells_at r a))))
 
--- the marks of the words are on those that agree with some of the patterns
+-- exactly the words that agree with some of the patterns are marked
 abbrev pub AreMarks : ℕ → ℕ → List Bool → List (List (Option ℕ)) → Type 0
 AreMarks m n marks ps = (ss : List ℕ) → IsWord m n ss → slice_index_or marks (number m ss) false ≡ is_covered ps ss
 
--- the fillings of the first numbers are gone through: those found, with what the rest comes to behind them, are the whole list
+-- the fillings of the first numbers are done: the patterns found, followed by those of the rest, are the whole list
 pub record IsListedTo (r : LocalRule) (a : ℕ) (k : ℕ) (found : List (List (Option ℕ))) (ms : List Bool) : Type 0 where
   pub whole : found ++ listed (thinned (is_enough r.symbols (outcomes r a))) found (breaking_from r a k) ≡
       listed (thinned (is_enough r.symbols (outcomes r a))) [] (breaking_from r a 0)

@@ -1,10 +1,8 @@
 -- Walks over the fillings that agree with a pattern, along the strides of the cells that it leaves out.
 use Rattle.std.specs.Prelude.{ℕ, ◌+◌, ◌*◌, not, Bool, true, Option, List, [], ◌∷◌, slice_index_or, slice_set}
 use Rattle.std.specs.List.{range_with_len, list_all, fold}
-use Rattle.dd_minimal.specs.declared.outcome.Outcome.{Outcome}
-use Rattle.dd_minimal.specs.declared.outcome.Outcome.TheVariants.{Barred}
-use Rattle.dd_minimal.specs.finding.Numbers.{open_strides, least_number}
-use Rattle.dd_minimal.specs.finding.Outcomes.{does_hold}
+use Rattle.dd_minimal.specs.declared.outcome.Outcome.{Outcome, TheVariants.Barred}
+use Rattle.dd_minimal.specs.finding.{Numbers.open_strides, Numbers.least_number, Outcomes.does_hold}
 
 -- the rule is true under none of the fillings from a number on
 abbrev pub none_holds : ℕ → List ℕ → List Outcome → ℕ → Bool

@@ -1,7 +1,6 @@
 use Rattle.std.proofs.Common.{List, subst}
 use Rattle.std.specs.Prelude.{IfSome}
-use Rattle.dd_numbered.specs.declared.numbered.Numbered.{Numbered}
-use Rattle.dd_numbered.specs.settling.Parts.{AreAllSettled, IsAnySettled}
+use Rattle.dd_numbered.specs.{declared.numbered.Numbered.Numbered, settling.Parts.AreAllSettled, settling.Parts.IsAnySettled}
 use Rattle.dd_numbered.proofs.SettledLaws.{settled_and, settled_or}
 use Rattle.dd_numbered.proofs.+settled.Goals as goal
 

@@ -1,4 +1,4 @@
--- Forms of text: each is read by one reader, and has a least text, which completes an output where nothing of it was read.
+-- Forms of text. Each has a reader and a least text, which completes an output in which nothing of the form was read.
 use Rattle.std.specs.Prelude.{ℕ, ◌+◌, List, [], ◌∷◌, ◌++◌, cond, ◌==◌}
 use Rattle.dd_output.specs.reading.Stops.{Read, before, word_at, number_at, then_at, after_at, map_at, many_at, copies, Entry, item, last, choice_at}
 
@@ -29,21 +29,21 @@ after w f = record { read = after_at w f.least f.read; least = w ++ f.least }
 abbrev pub mapped : {A B : Type 0} → (A → B) → Form A → Form B
 mapped h f = record { read = map_at h f.read; least = f.least }
 
--- the first where the text begins with this byte, and else the second
+-- the first form if the text begins with this byte, else the second
 abbrev pub either : {A : Type 0} → ℕ → Form A → Form A → Form A
 either c f g = record { read = choice_at c f.read g.read; least = g.least }
 
 abbrev pub counted_of : {A : Type 0} → (ℕ × ℕ) × List A → List A
 counted_of x = x.1
 
--- a count, a line feed, and so many of them
+-- a count, a line feed, and that many of them
 abbrev pub counted : {A : Type 0} → ℕ → ℕ → Form A → Form (List A)
 counted low bound f = record {
   read = map_at counted_of (then_at (number_at low bound 10 10 (λ n. copies n f.least)) (λ n. many_at f.read f.least n.0));
   least = (48 + low) ∷ 10 ∷ copies low f.least;
 }
 
--- so many of them
+-- a given number of them
 abbrev pub times : {A : Type 0} → ℕ → Form A → Form (List A)
 times n f = record { read = many_at f.read f.least n; least = copies n f.least }
 

@@ -2,20 +2,16 @@
 use Rattle.std.specs.Prelude.{ℕ, ℤ, List, [], ◌∷◌, Option, Some, None, codes}
 use Rattle.dd_clause.specs.declared.clause.Literal.{Literal}
 use Rattle.dd_derivation.specs.declared.step.Step.{Step}
-use Rattle.dd_certificate.specs.declared.answer.Side.{Side}
-use Rattle.dd_certificate.specs.declared.answer.Side.TheVariants as side
-use Rattle.dd_certificate.specs.declared.answer.Reason.{Reason}
-use Rattle.dd_certificate.specs.declared.answer.Reason.TheVariants as reason
-use Rattle.dd_certificate.specs.declared.answer.Listed.{Listed}
-use Rattle.dd_certificate.specs.declared.answer.Starred.{Starred}
-use Rattle.dd_certificate.specs.declared.answer.Answer.{Answer}
-use Rattle.dd_certificate.specs.declared.answer.Answer.TheVariants as answer
-use Rattle.dd_certificate.specs.Bounds.{most_number, most_count}
+use Rattle.dd_certificate.specs.declared.answer.{Side.Side, Reason.Reason, Listed.Listed}
+use Rattle.dd_certificate.specs.{declared.answer.Starred.Starred, declared.answer.Answer.Answer, Bounds.most_number, Bounds.most_count}
 use Rattle.dd_output.specs.reading.Stops.{number_at, then_at, map_at, Entry, item, last}
 use Rattle.dd_output.specs.reading.Forms.{Form, word, number, both, after, mapped, either, counted, times, forked, table}
 use Rattle.dd_output.specs.reading.Periods.{periods}
 use Rattle.dd_output.specs.reading.Lists.{literals, numbers_until, numbers, integers, zeros}
 use Rattle.dd_output.specs.reading.Stars.{kept}
+use Rattle.dd_certificate.specs.declared.answer.Side.TheVariants as side
+use Rattle.dd_certificate.specs.declared.answer.Reason.TheVariants as reason
+use Rattle.dd_certificate.specs.declared.answer.Answer.TheVariants as answer
 
 -- ---- refutations
 
@@ -75,7 +71,7 @@ fraction = both (number 0 most_number 47) (number 1 most_number 10)
 abbrev pub cycle_of : (ℕ × ℕ) × List ℕ → List ℕ
 cycle_of x = x.1
 
--- the number of states, and so many of them
+-- the number of states, and then the states
 unfoldable pub cycle : Form (List ℕ)
 cycle = record {
   read = map_at cycle_of (then_at (number_at 1 most_number 32 32 zeros) (λ n. (numbers n.0 (Some n.0)).read));

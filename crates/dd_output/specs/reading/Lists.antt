@@ -20,7 +20,7 @@ entry_of n = item n.0
 abbrev pub ended : {A : Type 0} → Unit {0} → Entry A (Unit {0})
 ended u = last u
 
--- a variable, and the list's end at least
+-- a variable; at least the end of the list follows
 abbrev pub variable_at : List ℕ → Read (ℕ × ℕ)
 variable_at bytes = before (48 ∷ 32 ∷ []) (number_at 1 most_variables 32 32 nothing bytes)
 
@@ -41,7 +41,7 @@ literals = record { read = map_at items_of (entries_at (λ _. literal_entry) 0);
 abbrev pub numbers_until : ℕ → Form (List ℕ)
 numbers_until end = record { read = map_at items_of (entries_at (λ _. number_entry end) 0); least = 48 ∷ end ∷ [] }
 
--- ---- numbers that a line ends with: at least so many, and at most so many where there is a most
+-- ---- numbers that a line ends with: at least `least`, and at most `most` if there is such a bound
 
 abbrev pub is_last : Option ℕ → ℕ → Bool
 is_last None k = false
@@ -58,7 +58,7 @@ end_at least k = cond (nat_lt (suc k) least) 32 10
 abbrev pub other_at : Option ℕ → ℕ → ℕ
 other_at most k = cond (is_last most k) 10 32
 
--- so many numbers, and the line feed
+-- this many zeros, and the line feed after the last
 abbrev pub zeros : ℕ → List ℕ
 zeros zero = []
 zeros (suc zero) = 48 ∷ 10 ∷ []

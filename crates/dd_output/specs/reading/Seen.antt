@@ -2,10 +2,9 @@
 use Rattle.std.specs.Prelude.{ℕ, ℤ, Option, Some, None, Bool, cond}
 use Rattle.dd_clause.specs.declared.clause.Literal.{Literal}
 use Rattle.dd_certificate.specs.declared.answer.Answer.{Answer}
-use Rattle.dd_output.specs.declared.sides.PeriodEntry.{PeriodEntry}
-use Rattle.dd_output.specs.declared.sides.PeriodEntry.TheVariants as entry
-use Rattle.dd_output.specs.reading.Stops.{Entry, item, last}
+use Rattle.dd_output.specs.{declared.sides.PeriodEntry.PeriodEntry, reading.Stops.Entry, reading.Stops.item, reading.Stops.last}
 use Rattle.dd_output.specs.reading.Periods.{PeriodsEnd, ends, shears}
+use Rattle.dd_output.specs.declared.sides.PeriodEntry.TheVariants as entry
 
 -- an item of a list, or its end
 abbrev pub seen : {A : Type 0} → Option A → Entry A (Unit {0})

@@ -1,4 +1,4 @@
--- Readers: from the bytes to a value and the bytes after it, or to where reading stops.
+-- Readers. A reader takes bytes to a value and the bytes after it, or to the place where reading stops.
 use Rattle.std.specs.Prelude.{◌≡◌, ℕ, zero, suc, ◌+◌, ◌*◌, ◌-◌, List, [], ◌∷◌, ◌++◌, length, take, drop, Result, Ok, Err, Bool, false, cond, ◌&&◌, ◌||◌, nat_lt, nat_le, ◌==◌, replicate}
 use Rattle.dd_output.specs.declared.fault.ReadFault.{ReadFault}
 use Rattle.dd_output.specs.declared.fault.ReadFault.TheVariants as faults
@@ -19,12 +19,12 @@ abbrev pub ◌>>=◌ : {A B : Type 0} → Result A Stop → (A → Result B Stop
 (Ok x) >>= f = f x
 (Err s) >>= f = Err s
 
--- at least this text comes after it
+-- at least this text follows
 abbrev pub before : {A : Type 0} → List ℕ → Result A Stop → Result A Stop
 before text (Ok x) = Ok x
 before text (Err s) = Err (stop s.left (s.missing ++ text))
 
--- What a function returned is what reading gives, unless memory ran out.
+-- What a function returns is what reading gives, unless memory runs out.
 abbrev pub StoppedAt : {A : Type 0} → ℕ → Result A Stop → Type 0
 StoppedAt count (Ok x) = ⊥
 StoppedAt count (Err s) = length s.left ≡ count
@@ -50,7 +50,7 @@ is_digit b = nat_le 48 b && nat_le b 57
 abbrev pub goes_on : ℕ → ℕ → ℕ → Bool
 goes_on bound n b = is_digit b && (nat_lt 0 n && nat_le (n * 10 + (b - 48)) bound)
 
--- n is read so far; `after` is what has to come after a number at least
+-- n is read so far; `after` is the least text that follows a number
 abbrev pub digits_at : ℕ → ℕ → ℕ → (ℕ → List ℕ) → ℕ → List ℕ → Read (ℕ × ℕ)
 digits_at bound end other after n [] = Err (stop [] (end ∷ after n))
 digits_at bound end other after n (b ∷ bytes) =
@@ -68,7 +68,7 @@ number_at low bound end other after (b ∷ bytes) =
     cond (starts low bound b) (digits_at bound end other after (b - 48) bytes)
     (Err (stop (b ∷ bytes) ((48 + low) ∷ end ∷ after low)))
 
--- so many bytes
+-- a given number of bytes
 abbrev pub bytes_at : ℕ → List ℕ → Read (List ℕ)
 bytes_at count bytes =
     cond (nat_le count (length bytes)) (Ok (take count bytes, drop count bytes))
@@ -78,7 +78,7 @@ bytes_at count bytes =
 abbrev pub then_at : {A B : Type 0} → (List ℕ → Read A) → (A → List ℕ → Read B) → List ℕ → Read (A × B)
 then_at first second bytes = first bytes >>= λ a. second a.0 a.1 >>= λ b. Ok ((a.0, b.0), b.1)
 
--- a word and what follows it, which is `least` at least
+-- a word and what follows it; `least` is its least text
 abbrev pub after_at : {A : Type 0} → List ℕ → List ℕ → (List ℕ → Read A) → List ℕ → Read A
 after_at word least read bytes = before least (word_at word bytes) >>= λ x. read x.1
 
@@ -86,7 +86,7 @@ after_at word least read bytes = before least (word_at word bytes) >>= λ x. rea
 abbrev pub map_at : {A B : Type 0} → (A → B) → (List ℕ → Read A) → List ℕ → Read B
 map_at f read bytes = read bytes >>= λ x. Ok (f x.0, x.1)
 
--- so many of them; `least` is the text of one
+-- a given number of them; `least` is the text of one
 abbrev pub copies : ℕ → List ℕ → List ℕ
 copies zero text = []
 copies (suc n) text = text ++ copies n text

@@ -3,11 +3,9 @@ use Rattle.std.specs.Prelude.{ℕ, suc, List, [], ◌∷◌, ◌++◌, length, c
 use Rattle.std.specs.Fmt.{decimal}
 use Rattle.dd_values.specs.Bounds.{most_script, most_commands}
 use Rattle.dd_certificate.specs.declared.answer.Answer.{Answer}
-use Rattle.dd_output.specs.declared.output.Output.{Output}
-use Rattle.dd_output.specs.Outputs.{end_line}
+use Rattle.dd_output.specs.{declared.output.Output.Output, Outputs.end_line}
 use Rattle.dd_output.specs.reading.Stops.{Read, ◌>>=◌, Stop, stop, before, word_at, number_at, bytes_at, then_at, after_at, map_at, Entry, item, entries_at, choice_at}
-use Rattle.dd_output.specs.reading.Lists.{items_of, ended}
-use Rattle.dd_output.specs.reading.Grammar.{answer_form}
+use Rattle.dd_output.specs.reading.{Lists.items_of, Lists.ended, Grammar.answer_form}
 
 abbrev pub answer_entry_of : Answer → Entry Answer (Unit {0})
 answer_entry_of a = item a

@@ -1,10 +1,8 @@
--- Lemmas on what is told of bytes.
+-- Lemmas on what calls do to bytes.
 use Rattle.std.proofs.Common.{◌≡◌, ℕ, ◌+◌, ◌-◌, ◌≤◌, List, ◌++◌, sym, ◌∙◌, ap, subst, length, take, drop, arith, append_assoc, length-append, length-take, take-append-drop}
-use Rattle.std.proofs.Math.Seq.{take-add}
-use Rattle.std.proofs.lemmas.List.{take_rest, take_at, drop-drop}
+use Rattle.std.proofs.{Math.Seq.take-add, lemmas.List.take_rest, lemmas.List.take_at, lemmas.List.drop-drop}
 use Rattle.std.proofs.KnownBytes.{Appends-trans, Appends-kept, Consumes-trans}
-use Rattle.std.specs.declared.option.Option.{Option}
-use Rattle.std.specs.Io.KnownBytes.{Appends, Consumes, Keeps}
+use Rattle.std.specs.{declared.option.Option.Option, Io.KnownBytes.Appends, Io.KnownBytes.Consumes, Io.KnownBytes.Keeps}
 use Rattle.dd_outside.specs.Bytes.{GainsFront, GivesAtMost, ReadsOn}
 
 -- the next part of a piece was written
@@ -31,7 +29,7 @@ front_after a b c before text so_far more = record {
   whole = ap (λ (l : List ℕ). before ++ l) more.whole ∙ sym (append_assoc before more.gained more.missing);
 }
 
--- few more bytes were given
+-- after some bytes, at most `room` more were given
 pub gave_few_more : (a b c : Option (List ℕ)) (bytes : List ℕ) (room limit : ℕ) → Consumes a b bytes → GivesAtMost b c room → length bytes + room ≤ limit → GivesAtMost a c limit
 gave_few_more a b c bytes room limit so_far more fits = record {
   given = bytes ++ more.given;

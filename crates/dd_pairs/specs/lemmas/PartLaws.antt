@@ -1,20 +1,16 @@
--- Parts of a script's rules and automata: what dd_maps asks of these holds, and the goal of each is one for its premise.
+-- Parts made of a script's rules and automata: they are as dd_maps needs them, and the goal of each fits its premise.
 use Rattle.std.proofs.Common.{◌≡◌, ℕ, List, Bool, refl, sym, subst, ◌∙◌}
 use Rattle.dd_topology.specs.declared.edge.Edge.{Edge}
 use Rattle.dd_boxes.specs.{Goals.IsGoalFor, Views.numbers_of}
-use Rattle.dd_known.specs.Sound.{IsSetting}
-use Rattle.dd_known.specs.declared.known.Setting.{Setting}
-use Rattle.dd_formula.specs.LocalRule.{LocalRule}
-use Rattle.dd_formula.specs.Automata.{IsAutomaton}
-use Rattle.dd_formula.specs.ByCases.{numbers_over}
-use Rattle.dd_formula.specs.declared.automaton.Automaton.{Automaton}
+use Rattle.dd_known.specs.{Sound.IsSetting, declared.known.Setting.Setting}
+use Rattle.dd_formula.specs.{LocalRule.LocalRule, Automata.IsAutomaton, ByCases.numbers_over, declared.automaton.Automaton.Automaton}
 use Rattle.dd_maps.specs.Pairs.{IsRuleOver}
 use Rattle.dd_meanings.specs.Made.{IsRuleOf, IsAutomatonOf}
 use Rattle.dd_question.specs.Questions.{box, IsFormed}
 use Rattle.dd_pairs.specs.declared.pair.Pair.{Pair}
 use Rattle.dd_pairs.specs.Parts.{PartOf, image, change, premise, pair_of, goal_of, IsPartOf, IsPair, difference}
 
--- a rule with these parts
+-- a rule is given by its fields
 with_parts : (r : LocalRule) (d n k : ℕ) (allowed : List (List Bool)) (es : List Edge) → r.dimension ≡ d → r.nodes ≡ n → r.symbols ≡ k → r.allowed ≡ allowed → r.edges ≡ es
     → r ≡ record { dimension = d; nodes = n; symbols = k; allowed = allowed; edges = es; formula = r.formula }
 with_parts r d n k allowed es hd hn hk ha he = rw (← hd, ← hn, ← hk, ← ha, ← he) refl
@@ -37,7 +33,7 @@ module _ (s : Setting) (sound : IsSetting s) where
   is_rule (image x f y) of = of.0
   is_rule (change x f g) of = of.0
 
-  -- two automata over the script's numbers are a goal for the premise
+  -- two automata over the script's numbers are a goal that fits the premise
   pub is_goal : (p : PartOf) (q : Pair) → IsPartOf s p → IsPair s q → IsGoalFor (premise p) (difference (premise p) q)
   is_goal p q of pair =
       let same = same_numbers (premise p) (is_rule p of) in
@@ -49,6 +45,6 @@ module _ (s : Setting) (sound : IsSetting s) where
         right = subst (λ n. IsAutomaton n q.right) same pair.right;
       }
 
-  -- its question goes together
+  -- the question of the part is well formed
   pub part_fits : (p : PartOf) → IsPartOf s p → IsPair s (pair_of s p) → IsFormed (box (premise p) (goal_of s p))
   part_fits p of pair = ((is_rule p of).rule, is_goal p (pair_of s p) of pair, tt)

@@ -1,17 +1,15 @@
--- The parts of a script's queries are of the script's rules and automata.
+-- The parts of a script's queries are made of the script's rules and automata.
 use Rattle.std.proofs.Common.{ℕ, List, [], ◌∷◌, map, Option, Some, None, IfSome, arith}
-use Rattle.std.specs.{List.All, List.slice_get, Prelude.unwrap_or}
 use Rattle.std.proofs.lemmas.{Grind.common_steps, Option.gets, List.Elements.All-nil, List.Elements.All-cons}
-use Rattle.dd_known.specs.declared.known.Setting.{Setting}
-use Rattle.dd_known.specs.declared.known.Known.{Known}
-use Rattle.dd_formula.specs.LocalRule.{LocalRule}
-use Rattle.dd_formula.specs.declared.automaton.Automaton.{Automaton}
+use Rattle.std.specs.{List.All, List.slice_get, Prelude.unwrap_or}
+use Rattle.dd_known.specs.declared.known.{Setting.Setting, Known.Known}
+use Rattle.dd_formula.specs.{LocalRule.LocalRule, declared.automaton.Automaton.Automaton}
 use Rattle.dd_meanings.specs.Made.{AreNamed, IsRuleOf, IsAutomatonOf}
 use Rattle.dd_query.specs.declared.queries.Query.{Query}
 use Rattle.dd_pairs.specs.Parts.{image, change, IsPartOf}
 use Rattle.dd_pairs.specs.Queries.{of_three, of_four, map_parts, conjugate_parts, parts_asked}
 
--- an item of a list of such items
+-- what holds of each named item holds of the item with this index
 pub item_at : {X : Type 0} {P : X → Type 0} {names : List (List ℕ)} {xs : List X} → AreNamed P names xs → (n : ℕ) → IfSome (slice_get xs n) P
 item_at are n = grind (arith, common_steps, gets, are.each n)
 

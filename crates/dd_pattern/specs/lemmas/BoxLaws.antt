@@ -1,21 +1,15 @@
 -- The fundamental box of a periodic configuration: its cells by their numbers, and cell order.
 use Rattle.std.proofs.Common.{◌≡◌, ℕ, ◌+◌, ◌*◌, ◌/◌, ◌%◌, ◌<◌, length, ℤ, pos, arith, refl, ap, sym, ◌∙◌}
-use Rattle.std.specs.Prelude.{◌-ℤ◌, ◌*ℤ◌}
 use Rattle.std.proofs.lemmas.Nat.{mul-add-lt, mod-mul-add, div-mul-add, div-add-mod', mod_below, div_below}
-use Rattle.std.specs.Cmp.{int_ranks, ranked}
-use Rattle.std.specs.Ordering.{int_cmp, nat_cmp, ordering_then, MatchOrdering}
-use Rattle.std.specs.Int.Signed.{◌<ℤ◌}
+use Rattle.std.proofs.lemmas.Int.{ints}
+use Rattle.std.specs.{Prelude.◌-ℤ◌, Prelude.◌*ℤ◌, Cmp.int_ranks, Cmp.ranked}
+use Rattle.std.specs.{Ordering.int_cmp, Ordering.nat_cmp, Ordering.ordering_then, Ordering.MatchOrdering, Int.Signed.◌<ℤ◌}
 use Rattle.std.specs.declared.cmp.Ordering.{Ordering}
 use Rattle.std.specs.declared.cmp.Ordering.TheVariants.{Less, Equal, Greater}
-use Rattle.std.proofs.lemmas.Int.{ints}
-use Rattle.dd_lattice.specs.Place.{Place}
-use Rattle.dd_lattice.specs.Cells.{cell}
-use Rattle.dd_lattice.specs.Order.{cell_cmp}
-use Rattle.dd_lattice.specs.declared.position.Cell.{Cell}
+use Rattle.dd_lattice.specs.{Place.Place, Cells.cell, Order.cell_cmp, declared.position.Cell.Cell, lemmas.MoveLaws.place_same}
 use Rattle.dd_pattern.specs.Periods.{periods_volume, residue, unsheared, base_of}
 use Rattle.dd_pattern.specs.Tile.{Tile, IsTile, IsInBox, tile_index, cell_in}
 use Rattle.dd_pattern.specs.lemmas.Residues.{residue_below, residue_small, quotient_small}
-use Rattle.dd_pattern.specs.lemmas.TileLaws.{place_same}
 
 pub cell_at_index : (t : Tile) → IsTile t → (v : Place) (a : ℕ) → a < t.nodes → cell_in t (tile_index t (cell v a)) ≡ cell (base_of t.periods v) a
 cell_at_index t ok v a h =
@@ -52,7 +46,7 @@ parts_of t ok i h =
       node = mod_below i t.nodes ok.nodes_some;
     }
 
--- in the fundamental box nothing is taken away
+-- in the fundamental box nothing is subtracted
 own_x : (t : Tile) (i : ℕ) → Parts t i → unsheared t.periods (cell_in t i).position ≡ pos (i / t.nodes % t.periods.x)
 own_x t i p = ap (λ k. pos (i / t.nodes % t.periods.x) -ℤ k *ℤ pos t.periods.shear) (quotient_small _ _ p.y) ∙ omega (arith, ints)
 

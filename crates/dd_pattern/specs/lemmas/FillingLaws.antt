@@ -1,21 +1,13 @@
 -- A filling is read by the places of its cells.
 use Rattle.std.proofs.Common.{◌≡◌, ◌<◌, ℕ, zero, suc, Bool, true, false, List, [], ◌∷◌, length, get_or, slice_get, Some, None, Ok, Err, Result, ap, sym, subst, refl, ◌∙◌, arith, rules}
-use Rattle.std.specs.Prelude.{IfSome}
-use Rattle.std.specs.Result.{MatchResult}
-use Rattle.std.specs.List.{All, Contains, position_or_len}
-use Rattle.std.specs.List.Sorted.{IsStrictlySortedBy, IsBinarySearchResult, IsSearchInRange}
-use Rattle.std.specs.Ordering.{is_eq}
-use Rattle.std.specs.Cmp.{IsTotalOrder, tied_itself}
-use Rattle.std.specs.Cmp.Rules.{comparing}
-use Rattle.std.specs.declared.cmp.Ordering.{Ordering}
+use Rattle.std.proofs.lemmas.{Option.slice_get_past, Option.slice_get-get_or, List.get_or_default}
+use Rattle.std.specs.{Result.MatchResult, List.Contains, List.position_or_len}
+use Rattle.std.specs.{List.Sorted.IsStrictlySortedBy, List.Sorted.IsBinarySearchResult, List.Sorted.IsSearchInRange, Ordering.is_eq}
+use Rattle.std.specs.{Cmp.IsTotalOrder, Cmp.tied_itself, Cmp.Rules.comparing, declared.cmp.Ordering.Ordering}
 use Rattle.std.specs.declared.cmp.Ordering.TheVariants.{Less, Equal, Greater}
-use Rattle.std.proofs.lemmas.Option.{slice_get_past, slice_get-get_or}
-use Rattle.std.proofs.lemmas.List.{get_or_default}
-use Rattle.dd_lattice.specs.declared.position.Cell.{Cell}
-use Rattle.dd_lattice.specs.Order.{cell_cmp}
-use Rattle.dd_lattice.specs.lemmas.InOrderLaws.{cells_equal}
-use Rattle.dd_lattice.specs.lemmas.ListLaws.{Contains-first, Contains-later, sorted_first, sorted_rest}
-use Rattle.dd_lattice.specs.lemmas.SearchLaws.{search_tells}
+use Rattle.dd_lattice.specs.{declared.position.Cell.Cell, Order.cell_cmp, lemmas.InOrderLaws.cells_equal, lemmas.SearchLaws.search_tells}
+use Rattle.dd_values.specs.lemmas.Members.{Contains-first, Contains-later, sorted_first, sorted_rest}
+use Rattle.dd_values.specs.lemmas.Lists.{below_at}
 use Rattle.dd_pattern.specs.Filling.{Filled, IsFilling, IsReadByPlace, IsReadBelow, filling_look}
 
 pub cell_total : IsTotalOrder cell_cmp
@@ -36,8 +28,8 @@ place_later x c cs h = rw h (omega arith)
 itself : (x c : Cell) → x ≡ c → is_cell c x ≡ true
 itself x c e = ap is_eq (ap (λ z. cell_cmp z c) e ∙ tied_itself cell_total c)
 
--- the place of a cell that stands in an ascending list
-place_found : (cs : List Cell) → IsStrictlySortedBy cell_cmp cs → (i : ℕ) (c : Cell) → i < length cs → get_or cs i c ≡ c → place_of cs c ≡ i
+-- the place of a cell in an ascending list
+pub place_found : (cs : List Cell) → IsStrictlySortedBy cell_cmp cs → (i : ℕ) (c : Cell) → i < length cs → get_or cs i c ≡ c → place_of cs c ≡ i
 place_found [] up i c h e = absurd (omega arith)
 place_found (x ∷ cs) up zero c h e = place_here x c cs (itself x c e)
 place_found (x ∷ cs) up (suc i) c h e =
@@ -72,11 +64,6 @@ reads_at_place f ok k d h =
 
 pub read_by_place : (f : Filled) → IsFilling f → IsReadByPlace f
 read_by_place f ok = record { at = reads_at_place f ok; elsewhere = missing_reads_none f ok }
-
-below_at : (n : ℕ) (ss : List ℕ) → All (λ s. s < n) ss → (i : ℕ) → IfSome (slice_get ss i) (λ s. s < n)
-below_at n [] h i = tt
-below_at n (s ∷ ss) h zero = h zero s (omega arith)
-below_at n (s ∷ ss) h (suc i) = below_at n ss (λ k d within. h (suc k) d (omega arith)) i
 
 pub read_below : (f : Filled) → IsReadBelow f
 read_below f n h c = below_at n f.symbols h (place_of f.cells c)

@@ -1,9 +1,8 @@
 -- Whole numbers modulo a number, and divided by it.
 use Rattle.std.proofs.Common.{◌≡◌, ℕ, suc, ◌+◌, ◌*◌, ◌-◌, ◌%◌, ◌/◌, ◌<◌, ◌≤◌, ℤ, pos, negsuc, ◌+ℤ◌, unsigned_abs, arith, ap, sym, ◌∙◌, refl}
-use Rattle.std.specs.Prelude.{◌*ℤ◌}
 use Rattle.std.proofs.Math.Nat.{mul-le-mul_left, mod-lt, mod-eq_of_lt, div-eq_of_lt, add-mul, add-mul-mod_self_right, add-mul-div_right}
-use Rattle.std.proofs.lemmas.Int.{ints, int_rem_euclid_is}
-use Rattle.std.proofs.lemmas.Nat.{div-add-mod', div-mul-add, div_below}
+use Rattle.std.proofs.lemmas.{Int.ints, Int.int_rem_euclid_is, Nat.div-add-mod', Nat.div-mul-add, Nat.div_below}
+use Rattle.std.specs.Prelude.{◌*ℤ◌}
 use Rattle.dd_pattern.specs.Periods.{residue, quotient}
 
 pub le-self_mul : (a n : ℕ) → 0 < n → a ≤ a * n

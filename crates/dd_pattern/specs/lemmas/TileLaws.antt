@@ -1,21 +1,15 @@
 -- A periodic configuration is read modulo its periods.
 use Rattle.std.proofs.Common.{◌≡◌, ℕ, ◌+◌, ◌*◌, ◌-◌, ◌<◌, ℤ, pos, negsuc, ◌+ℤ◌, ◌≤ℤ◌, unsigned_abs, slice_get, None, ap, sym, ◌∙◌, arith}
+use Rattle.std.proofs.lemmas.{Int.ints, Bool.lt-ltb}
 use Rattle.std.specs.Prelude.{◌*ℤ◌, cond, nat_lt}
-use Rattle.std.proofs.lemmas.Int.{ints}
-use Rattle.std.proofs.lemmas.Bool.{lt-ltb}
-use Rattle.dd_lattice.specs.Place.{Place, place, moved}
-use Rattle.dd_lattice.specs.Cells.{cell}
-use Rattle.dd_lattice.specs.Boxes.{IsWithin, gap, span, index_in}
-use Rattle.dd_lattice.specs.declared.position.Cell.{Cell}
+use Rattle.dd_lattice.specs.{Place.Place, Place.moved, Cells.cell, Boxes.IsWithin, Boxes.gap, Boxes.span, Boxes.index_in}
+use Rattle.dd_lattice.specs.{declared.position.Cell.Cell, lemmas.MoveLaws.place_same}
 use Rattle.dd_pattern.specs.declared.periods.Periods.{Periods}
 use Rattle.dd_pattern.specs.Periods.{ArePeriodsIn, residue, quotient, unsheared, base_of}
 use Rattle.dd_pattern.specs.Tile.{Tile, IsTile, IsPeriodic, Times, with_vectors, IsCongruent, IsReadModulo, tile_index, tile_look, fundamental}
 use Rattle.dd_pattern.specs.lemmas.Residues.{residue_below, residue_small, residue_added, quotient_added, quotient_small, scaled, scaled_added, meets}
 
-pub place_same : (a b c x y z : ℤ) → a ≡ x → b ≡ y → c ≡ z → place a b c ≡ place x y z
-place_same a b c x y z p q r = cc
-
--- v goes to its base by taking away the second vector until y lies in the box, and then the others
+-- v goes to its base by subtracting the second vector until y lies in the box, and then the others
 congruent_base : (d : ℕ) (p : Periods) → ArePeriodsIn d p → (v : Place) → IsCongruent p v (base_of p v)
 congruent_base d p ok v =
     let x = meets (unsheared p v) p.x ok.x_some in
@@ -30,7 +24,7 @@ congruent_base d p ok v =
       is = place_same _ _ _ _ _ _ on_x y.is z.is;
     }
 
--- the base stays where period vectors are added
+-- adding period vectors keeps the base
 base_added : (d : ℕ) (p : Periods) → ArePeriodsIn d p → (n : Times) (v : Place) → base_of p (with_vectors p n v) ≡ base_of p v
 base_added d p ok n v =
     let turns = quotient_added v.y p.y n.second ok.y_some in
@@ -39,7 +33,7 @@ base_added d p ok n v =
     place_same _ _ _ _ _ _ (ap pos (ap (λ x. residue x p.x) on_x ∙ residue_added (unsheared p v) p.x n.first ok.x_some))
     (ap pos (residue_added v.y p.y n.second ok.y_some)) (ap pos (residue_added v.z p.z n.third ok.z_some))
 
--- congruent positions have one base
+-- congruent positions have the same base
 pub base_congruent : (d : ℕ) (p : Periods) → ArePeriodsIn d p → (v w : Place) → IsCongruent p v w → base_of p v ≡ base_of p w
 base_congruent d p ok v w h = sym (base_added d p ok h.times v) ∙ (ap (base_of p) h.is ∙ base_added d p ok h.times' w)
 
@@ -57,7 +51,7 @@ moved_congruent p c v w h = record {
       place_same _ _ _ _ _ _ (omega (arith, ints, on_x)) (omega (arith, ints, on_y)) (omega (arith, ints, on_z));
 }
 
--- what stands by c from a position stands by c from its base
+-- a move from c by a position, or by its base, leads to the same base
 pub base_moved : (d : ℕ) (p : Periods) → ArePeriodsIn d p → (c v : Place) → base_of p (moved c v) ≡ base_of p (moved c (base_of p v))
 base_moved d p ok c v = base_congruent d p ok (moved c v) (moved c (base_of p v)) (moved_congruent p c v (base_of p v) (congruent_base d p ok v))
 
@@ -70,7 +64,7 @@ base_in_box d p ok v =
       record { on_x = omega (arith, ints); on_y = omega (arith, ints); on_z = omega (arith, ints) },
     )
 
--- cells with one base have one number
+-- cells with the same base have the same number
 pub index_same : (t : Tile) (v w : Place) (a : ℕ) → base_of t.periods v ≡ base_of t.periods w → tile_index t (cell v a) ≡ tile_index t (cell w a)
 index_same t v w a h = ap (λ b. ((unsigned_abs b.z * t.periods.y + unsigned_abs b.y) * t.periods.x + unsigned_abs b.x) * t.nodes + a) h
 
@@ -89,10 +83,10 @@ no_turns : (c : ℤ) (n : ℕ) → pos 0 ≤ℤ c → c ≤ℤ pos (n - 1) → 0
 no_turns (pos k) n low high some = quotient_small k n (omega (arith, ints))
 no_turns (negsuc k) n low high some = absurd (omega (arith, ints))
 
-span_is : (n : ℕ) → 0 < n → span (pos 0) (pos (n - 1)) ≡ n
+pub span_is : (n : ℕ) → 0 < n → span (pos 0) (pos (n - 1)) ≡ n
 span_is n h = omega (arith, ints)
 
--- in the fundamental box nothing is taken away
+-- in the fundamental box nothing is subtracted
 unsheared_in_box : (d : ℕ) (p : Periods) → ArePeriodsIn d p → (v : Place) → IsWithin (fundamental p) v → unsheared p v ≡ v.x
 unsheared_in_box d p ok v h = rw (no_turns v.y p.y h.0.on_y h.1.on_y ok.y_some) (omega (arith, ints))
 

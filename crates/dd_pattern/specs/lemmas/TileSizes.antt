@@ -1,6 +1,5 @@
 -- How large the parts of a tile are, and where a cell's symbol stands in its list.
-use Rattle.std.proofs.Common.{ℕ, ◌+◌, ◌*◌, ◌<◌, ◌≤◌, length, arith}
-use Rattle.std.proofs.lemmas.Nat.{mul-add-lt}
+use Rattle.std.proofs.{Common.ℕ, Common.◌+◌, Common.◌*◌, Common.◌<◌, Common.◌≤◌, Common.length, Common.arith, lemmas.Nat.mul-add-lt}
 use Rattle.dd_lattice.specs.declared.position.Cell.{Cell}
 use Rattle.dd_pattern.specs.declared.periods.Periods.{Periods}
 use Rattle.dd_pattern.specs.Periods.{ArePeriodsIn, periods_volume, residue, unsheared}

@@ -1,6 +1,5 @@
 -- Lists of periods as loops add to them.
-use Rattle.std.specs.Prelude.{ℕ, ◌<◌, ◌≤◌, ◌≡◌, ◌↔◌, ◌⊎◌, List, cond}
-use Rattle.std.specs.List.{Contains}
+use Rattle.std.specs.{Prelude.ℕ, Prelude.◌<◌, Prelude.◌≤◌, Prelude.◌≡◌, Prelude.◌↔◌, Prelude.◌⊎◌, Prelude.List, Prelude.cond, List.Contains}
 use Rattle.dd_lattice.specs.Boxes.{is_active}
 use Rattle.dd_pattern.specs.declared.periods.Periods.{Periods}
 
@@ -19,7 +18,7 @@ pub record HasShear (n x y z : ℕ) (q : Periods) : Type 0 where
   pub at_z : q.z ≡ z
   pub shear : q.shear < n
 
--- as F says of the period f, which is 1 to n
+-- F holds of the period f, which is from 1 to n
 pub record IsPeriodUpTo (F : ℕ → Periods → Type 0) (f : Periods → ℕ) (n : ℕ) (q : Periods) : Type 0 where
   pub rest : F (f q) q
   pub some : 1 ≤ f q

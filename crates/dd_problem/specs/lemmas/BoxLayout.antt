@@ -1,34 +1,23 @@
 -- The numbers of a box's cells are their places in the list.
-use Rattle.std.proofs.Common.{◌≡◌, ℕ, zero, suc, ◌*◌, ◌/◌, ◌%◌, ◌<◌, true, length, refl, ap, sym, ◌∙◌, arith, Some, pos, ◌≤ℤ◌, ◌-ℤ◌}
-use Rattle.std.specs.Prelude.{nat_lt, slice_get}
-use Rattle.std.proofs.lemmas.Int.{ints}
+use Rattle.std.proofs.Common.{◌≡◌, ℕ, zero, suc, ◌*◌, ◌/◌, ◌%◌, ◌<◌, true, length, refl, ap, sym, ◌∙◌, arith, Some}
 use Rattle.std.proofs.lemmas.Bool.{and_parts, and_from, ltb-true, lt-ltb}
 use Rattle.std.proofs.lemmas.Nat.{mul-add-lt, div-mul-add, mod-mul-add, mod_below, div_below, div-add-mod'}
 use Rattle.std.proofs.lemmas.Option.{slice_get_within}
-use Rattle.dd_lattice.specs.Place.{Place}
-use Rattle.dd_lattice.specs.Boxes.{IsAtMostOnEachAxis, IsWithin, centred, volume, index_in, place_in}
+use Rattle.std.specs.Prelude.{nat_lt, slice_get}
+use Rattle.dd_lattice.specs.{Place.Place, Boxes.IsWithin, Boxes.centred, Boxes.volume, Boxes.index_in, Boxes.place_in}
 use Rattle.dd_lattice.specs.declared.position.Cell.{Cell}
-use Rattle.dd_lattice.specs.lemmas.BoxLaws.{index_below, place_at_index, index_of_place, place_within, centred_members}
+use Rattle.dd_lattice.specs.lemmas.BoxLaws.{index_below, place_at_index, index_of_place, place_within, centred_members, bounds_ordered}
 use Rattle.dd_formula.specs.LocalRule.{LocalRule}
-use Rattle.dd_boxes.specs.Fillings.{in_box, is_box_cell}
-use Rattle.dd_boxes.specs.lemmas.OneBoxLaws.{box_is_centred}
-use Rattle.dd_boxes.specs.Cells.{box_cells}
-use Rattle.dd_problem.specs.Layouts.{nth_cell, box_index, box_layout}
-use Rattle.dd_problem.specs.lemmas.Reading.{IsLayout}
-use Rattle.dd_problem.specs.lemmas.CellOrder.{length-cells_in, cell_at_number}
-use Rattle.dd_problem.specs.lemmas.Filtered.{some_same}
+use Rattle.dd_boxes.specs.{Fillings.in_box, Fillings.is_box_cell, lemmas.OneBoxLaws.box_is_centred, Cells.box_cells}
+use Rattle.dd_problem.specs.{Layouts.nth_cell, Layouts.box_index, Layouts.box_layout, lemmas.Reading.IsLayout}
+use Rattle.dd_problem.specs.lemmas.{CellOrder.length-cells_in, CellOrder.cell_at_number, Filtered.some_same}
+use Rattle.dd_values.specs.lemmas.Numbers.{minus_below}
 
 pub box_within : (d n : ℕ) (p : Place) → in_box d n p ≡ true → IsWithin (centred d n) p
 box_within d n p h = (centred_members d n p).1 ((box_is_centred d n p).0 h)
 
 within_box : (d n : ℕ) (p : Place) → IsWithin (centred d n) p → in_box d n p ≡ true
 within_box d n p h = (box_is_centred d n p).1 ((centred_members d n p).0 h)
-
-zero_between : (n : ℕ) → (pos 0 -ℤ pos n) ≤ℤ pos n
-zero_between n = omega (arith, ints)
-
-pub bounds_ordered : (d n : ℕ) → IsAtMostOnEachAxis (centred d n).low (centred d n).high
-bounds_ordered d n = record { on_x = zero_between _; on_y = zero_between _; on_z = zero_between _ }
 
 abbrev box_cell : LocalRule → ℕ → ℕ → Cell
 box_cell x n k = nth_cell (centred x.dimension n) x.nodes k
@@ -72,7 +61,7 @@ in_the_box x n k h =
 index_back : (x : LocalRule) (n k : ℕ) → box_index x n (box_cell x n k) ≡ k
 index_back x n k = rw (index_of_place (centred x.dimension n) (k / x.nodes)) (div-add-mod' k x.nodes)
 
--- the cell with a cell's number is the cell
+-- at a cell's number stands that cell
 pub box_cell_there : (x : LocalRule) (n : ℕ) (c : Cell) → is_box_cell x n c ≡ true → slice_get (box_cells x n) (box_index x n c) ≡ Some c
 box_cell_there x n c h = cell_at_number (centred x.dimension n) x.nodes (box_index x n c) (index_within x n c h) ∙ ap (λ d. Some d) (cell_at x n c h)
 

@@ -1,30 +1,20 @@
--- The clauses of a box say what the question asks of it.
+-- The clauses of a box say what the question asks about it.
 use Rattle.std.proofs.Common.{◌≡◌, ℕ, ◌<◌, Bool, true, false, List, map, length, get_or, refl, ap, sym, subst, ◌∙◌, arith, Some, None}
-use Rattle.std.specs.Prelude.{cond, Option, IfSome, is_some, nat_lt, slice_get, unwrap_or}
-use Rattle.std.specs.List.{list_all}
-use Rattle.std.specs.Option.{option_map}
-use Rattle.std.proofs.lemmas.Bool.{and_parts, and_from, ltb-true}
-use Rattle.std.proofs.lemmas.List.{length-map}
+use Rattle.std.proofs.lemmas.{Bool.and_parts, Bool.and_from, Bool.ltb-true, List.length-map}
 use Rattle.std.proofs.lemmas.Option.{slice_get-map, slice_get-get_or, get_or_from_slice_get}
-use Rattle.dd_lattice.specs.Cells.{cell, shifted}
-use Rattle.dd_lattice.specs.declared.position.Cell.{Cell}
+use Rattle.std.specs.Prelude.{cond, Option, IfSome, is_some, nat_lt, slice_get, unwrap_or}
+use Rattle.std.specs.{List.list_all, Option.option_map}
+use Rattle.dd_lattice.specs.{Cells.cell, Cells.shifted, declared.position.Cell.Cell, lemmas.MoveLaws.shifted_by_origin}
 use Rattle.dd_pattern.specs.Reading.{Look}
 use Rattle.dd_formula.specs.LocalRule.{LocalRule, rule_allows, IsRule, is_true, reads_at}
 use Rattle.dd_formula.specs.lemmas.AllowedLaws.{look_below as look_below_alphabet}
 use Rattle.dd_clause.specs.declared.clause.Literal.{Literal}
 use Rattle.dd_cnf.specs.lemmas.ModelLaws.{Satisfies-is_satisfied, is_satisfied-Satisfies}
 use Rattle.dd_boxes.specs.Goals.{GoalOf, breaks, differ, always}
-use Rattle.dd_boxes.specs.Fillings.{Admissible, in_box, is_box_cell, IsBoxFilling}
-use Rattle.dd_boxes.specs.Boxes.{origin, Reaches}
-use Rattle.dd_boxes.specs.lemmas.RuleLaws.{shifted_by_origin, list_all_weaker}
-use Rattle.dd_boxes.specs.lemmas.CutLaws.{flat_box}
-use Rattle.dd_boxes.specs.lemmas.FromBox.{box_alike}
-use Rattle.dd_problem.specs.pushing.Told.{IsToldGoal}
-use Rattle.dd_boxes.specs.Cells.{box_cells}
-use Rattle.dd_problem.specs.Layouts.{box_index, box_layout, fits_in}
-use Rattle.dd_problem.specs.Problems.{problem_clauses}
-use Rattle.dd_problem.specs.Symbols.{AreSymbols, AreRead, layout_look}
-use Rattle.dd_problem.specs.Shows.{IsReadFrom, Shows, DecidesBox}
+use Rattle.dd_boxes.specs.{Fillings.Admissible, Fillings.in_box, Fillings.is_box_cell, Fillings.IsBoxFilling, Boxes.origin, Boxes.Reaches}
+use Rattle.dd_boxes.specs.{lemmas.RuleLaws.list_all_weaker, lemmas.CutLaws.flat_box, lemmas.FromBox.box_alike, Cells.box_cells}
+use Rattle.dd_problem.specs.{pushing.Told.IsToldGoal, Layouts.box_index, Layouts.box_layout, Layouts.fits_in, Problems.problem_clauses}
+use Rattle.dd_problem.specs.{Symbols.AreSymbols, Symbols.AreRead, Symbols.layout_look, Shows.IsReadFrom, Shows.Shows, Shows.DecidesBox}
 use Rattle.dd_problem.specs.lemmas.Parted.{premise_holds, goal_holds}
 use Rattle.dd_problem.specs.lemmas.Reading.{Stands, IsWired, look_allowed, read_symbols, problem_read}
 use Rattle.dd_problem.specs.lemmas.Writing.{assignment, problem_written}
@@ -32,6 +22,7 @@ use Rattle.dd_problem.specs.lemmas.Filtered.{filter_all, filter_at}
 use Rattle.dd_problem.specs.lemmas.Wiring.{goal_from_test, test_from_goal, HasReads, wired_layout}
 use Rattle.dd_problem.specs.lemmas.BoxValues.{box_values}
 use Rattle.dd_problem.specs.lemmas.BoxLayout.{box_is_layout, box_cell_there, box_cell_at}
+use Rattle.dd_values.specs.lemmas.Booleans.{cond_domain}
 
 pub goal_reads_box : (x : LocalRule) (g : GoalOf) (n : ℕ) → IsToldGoal x g → Reaches g n → HasReads (box_layout x n) g
 goal_reads_box x (breaks y) n ok reach = λ a node.
@@ -46,7 +37,7 @@ box_is_wired x g n rule ok reach =
     (λ k d is. ltb-true d.node x.nodes (and_parts (in_box x.dimension n d.position) (nat_lt d.node x.nodes) (box_cell_at x n k d is).0).1)
     (goal_reads_box x g n ok reach) (box_values x n rule g ok reach)
 
--- a look whose domain is the box is admissible exactly where the premise holds at all places of the layout where it fits
+-- a look whose domain is the box is admissible exactly if the premise holds at all places of the layout where it fits
 holds_from_admissible : (x : LocalRule) (n : ℕ) (look : Look) → IsBoxFilling x n look → Admissible x look → premise_holds (box_layout x n) x look ≡ true
 holds_from_admissible x n look filling ok =
     filter_all (λ d. is_true x d look) (fits_in (box_layout x n) x) (box_cells x n) (λ k d is fit.
@@ -69,14 +60,10 @@ admissible_from_holds x n look filling holds v a flat node fit =
 some_within : (symbols : List ℕ) (i : ℕ) → i < length symbols → is_some (slice_get symbols i) ≡ true
 some_within symbols i h = ap is_some (slice_get-get_or symbols i 0 h)
 
-cond_some : (b : Bool) (o : Option ℕ) → (b ≡ true → is_some o ≡ true) → is_some (cond b o None) ≡ b
-cond_some true o h = h refl
-cond_some false o h = refl
-
 pub look_is_filling : (x : LocalRule) (n : ℕ) (symbols : List ℕ) → AreSymbols x (box_cells x n) symbols → IsBoxFilling x n (layout_look (box_layout x n) symbols)
 look_is_filling x n symbols ok = record {
   domain = λ c.
-      cond_some (is_box_cell x n c) (slice_get symbols (box_index x n c))
+      cond_domain (is_box_cell x n c) (slice_get symbols (box_index x n c))
       (λ h. some_within symbols (box_index x n c) (let low = (box_is_layout x n).within c h in omega (arith, ok.as_many)));
   allowed = look_allowed (box_layout x n) x symbols (box_is_layout x n) ok;
 }
@@ -171,7 +158,7 @@ box_shows x g n rule ok reach =
           ));
     }
 
--- clauses that show a box are refuted exactly where it suffices
+-- clauses that show a box are refuted exactly if it suffices
 pub shown_decides : (clauses : List (List Literal)) (x : LocalRule) (g : GoalOf) (n : ℕ) → Shows clauses x g n → DecidesBox clauses x g n
 shown_decides clauses x g n shows = record {
   suffices = λ refuted look filling admissible goal.

@@ -1,27 +1,21 @@
--- A box that reaches holds, with their inputs, the cells that automata read at the origin.
+-- A box that reaches has the cells that automata read at the origin, with their inputs.
 use Rattle.std.proofs.Common.{◌≡◌, ℕ, true, List, length, ap, sym, ◌∙◌, Some}
-use Rattle.std.specs.List.{Contains, list_all, range_with_len}
 use Rattle.std.proofs.lemmas.List.FromFn.{length-range_with_len}
-use Rattle.dd_lattice.specs.Cells.{shifted}
-use Rattle.dd_lattice.specs.Boxes.{centred}
-use Rattle.dd_lattice.specs.declared.position.Cell.{Cell}
-use Rattle.dd_formula.specs.LocalRule.{LocalRule, IsRule}
-use Rattle.dd_formula.specs.Automata.{CommonNumbers, counted}
+use Rattle.std.specs.List.{Contains, list_all, range_with_len}
+use Rattle.dd_lattice.specs.{Cells.shifted, Boxes.centred, declared.position.Cell.Cell, lemmas.MoveLaws.shifted_by_origin}
+use Rattle.dd_lattice.specs.lemmas.BoxLaws.{bounds_ordered}
+use Rattle.dd_formula.specs.{LocalRule.LocalRule, LocalRule.IsRule, Automata.CommonNumbers, Automata.counted}
 use Rattle.dd_formula.specs.declared.automaton.Automaton.{Automaton}
 use Rattle.dd_compile.specs.Wiring.{signals_of}
 use Rattle.dd_boxes.specs.Goals.{GoalOf, breaks, differ, always, AreOver}
-use Rattle.dd_boxes.specs.Fillings.{is_box_cell, is_cell_within}
-use Rattle.dd_boxes.specs.Boxes.{origin, Reaches}
-use Rattle.dd_boxes.specs.lemmas.RuleLaws.{shifted_by_origin}
-use Rattle.dd_boxes.specs.lemmas.FromBox.{box_over}
-use Rattle.dd_problem.specs.pushing.Told.{IsToldGoal}
+use Rattle.dd_boxes.specs.{Fillings.is_box_cell, Fillings.is_cell_within, Boxes.origin, Boxes.Reaches, lemmas.FromBox.box_over}
 use Rattle.dd_boxes.specs.Cells.{box_cells}
-use Rattle.dd_problem.specs.Layouts.{box_index, box_layout}
+use Rattle.dd_problem.specs.{pushing.Told.IsToldGoal, Layouts.box_index, Layouts.box_layout}
 use Rattle.dd_problem.specs.pushing.Numbered.{symbol_signals, in_turn}
-use Rattle.dd_problem.specs.lemmas.BoxLayout.{bounds_ordered, box_is_layout, box_cell_there}
-use Rattle.dd_problem.specs.lemmas.CellOrder.{cells_ascending}
-use Rattle.dd_problem.specs.lemmas.NumberedWires.{turn_at, signals_there}
+use Rattle.dd_problem.specs.lemmas.{BoxLayout.box_is_layout, BoxLayout.box_cell_there, CellOrder.cells_ascending}
+use Rattle.dd_problem.specs.lemmas.NumberedWires.{signals_there}
 use Rattle.dd_problem.specs.lemmas.ValueWires.{HasInputs, GoalWired, passes_member}
+use Rattle.dd_problem.specs.lemmas.Filtered.{range_get}
 
 module _ (x : LocalRule) (n : ℕ) (rule : IsRule x) where
   box_signals : (c : Cell) → is_box_cell x n c ≡ true → signals_of (in_turn x.symbols (box_cells x n)) c ≡ Some (symbol_signals x.symbols (box_index x n c))
@@ -29,7 +23,7 @@ module _ (x : LocalRule) (n : ℕ) (rule : IsRule x) where
       let cells = box_cells x n in
       let k = box_index x n c in
       signals_there x.symbols cells (range_with_len 0 (length cells)) (cells_ascending (centred x.dimension n) x.nodes (bounds_ordered x.dimension n) rule.nodes.0)
-      (length-range_with_len 0 (length cells)) c k k (box_cell_there x n c here) (turn_at (length cells) k ((box_is_layout x n).within c here))
+      (length-range_with_len 0 (length cells)) c k k (box_cell_there x n c here) (range_get (length cells) k ((box_is_layout x n).within c here))
 
   box_has : (s : CommonNumbers) (f g : Automaton) (ds : List Cell) → AreOver x s f g → list_all (is_cell_within s n) ds ≡ true → (d : Cell) → Contains ds d → HasInputs (box_layout x n) s.symbols (shifted origin d)
   box_has s f g ds over reach d there =

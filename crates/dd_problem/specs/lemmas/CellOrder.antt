@@ -1,34 +1,22 @@
--- The cells of a box of positions: where a cell stands in their list, and that they ascend.
+-- The cells of a box of positions: their places in the list, and that the list ascends.
 use Rattle.std.proofs.Common.{◌≡◌, ℕ, zero, suc, ◌+◌, ◌*◌, ◌/◌, ◌%◌, ◌<◌, ◌≤◌, [], ◌∷◌, ◌++◌, map, length, get_or, refl, ap, sym, subst, ◌∙◌, arith, Some, inl, inr, length-append}
-use Rattle.std.specs.Prelude.{slice_get}
-use Rattle.std.specs.List.{All, range_with_len}
-use Rattle.std.specs.List.Sorted.{IsStrictlySortedBy}
-use Rattle.std.specs.Ordering.{nat_cmp, ordering_then}
-use Rattle.std.specs.Cmp.{int_cmp_is, nat_cmp_is}
-use Rattle.std.specs.declared.cmp.Ordering.{Ordering}
-use Rattle.std.specs.declared.cmp.Ordering.TheVariants.{Less, Equal}
-use Rattle.std.proofs.lemmas.Bool.{cases_order}
+use Rattle.std.proofs.lemmas.Bool.{cases_order, cases_lt}
 use Rattle.std.proofs.lemmas.Nat.{mul-add-lt, div-mul-add, mod-mul-add, mod_below, div_below, div-add-mod'}
-use Rattle.std.proofs.lemmas.List.{append-nil, map-append}
-use Rattle.std.proofs.lemmas.List.Concat.{flat_map-append}
+use Rattle.std.proofs.lemmas.List.{append-nil, map-append, Concat.flat_map-append}
 use Rattle.std.proofs.lemmas.List.Elements.{All-cons, All-nil, All-map, recursion_from_All}
-use Rattle.std.proofs.lemmas.List.FromFn.{length-map-range_with_len}
-use Rattle.std.proofs.lemmas.Map.Keys.{Less-from_sorted}
-use Rattle.std.proofs.Math.ListN.{get_or-append}
+use Rattle.std.proofs.{lemmas.List.FromFn.length-map-range_with_len, lemmas.Map.Keys.Less-from_sorted, Math.ListN.get_or-append}
 use Rattle.std.proofs.Math.Seq.{get_or-append_seam}
-use Rattle.std.proofs.lemmas.Bool.{cases_lt}
-use Rattle.dd_lattice.specs.Place.{Place}
-use Rattle.dd_lattice.specs.Cells.{cell}
-use Rattle.dd_lattice.specs.Order.{place_cmp, cell_cmp}
+use Rattle.std.specs.{Prelude.slice_get, List.All, List.range_with_len, List.Sorted.IsStrictlySortedBy}
+use Rattle.std.specs.{Ordering.nat_cmp, Ordering.ordering_then, Cmp.int_cmp_is, Cmp.nat_cmp_is, declared.cmp.Ordering.Ordering}
+use Rattle.std.specs.declared.cmp.Ordering.TheVariants.{Less, Equal}
+use Rattle.dd_lattice.specs.{Place.Place, Cells.cell, Order.place_cmp, Order.cell_cmp}
 use Rattle.dd_lattice.specs.Boxes.{Bounds, IsAtMostOnEachAxis, IsWithin, volume, index_in, place_in, first_positions}
-use Rattle.dd_lattice.specs.declared.position.Cell.{Cell}
-use Rattle.dd_lattice.specs.lemmas.BoxLaws.{index_below, place_at_index}
+use Rattle.dd_lattice.specs.{declared.position.Cell.Cell, lemmas.BoxLaws.index_below, lemmas.BoxLaws.place_at_index}
 use Rattle.dd_lattice.specs.lemmas.PositionLaws.{first_ascending}
 use Rattle.dd_boxes.specs.Cells.{cells_on}
-use Rattle.dd_problem.specs.Layouts.{nth_cell, cells_in}
-use Rattle.dd_problem.specs.lemmas.Filtered.{slice_of_range}
+use Rattle.dd_problem.specs.{Layouts.nth_cell, Layouts.cells_in, lemmas.Filtered.slice_of_range}
 
--- a fact of each number of a range
+-- a fact about each number of a range
 pub All-range : (P : ℕ → Type 0) (n a : ℕ) → ((k : ℕ) → a ≤ k → k < a + n → P k) → All P (range_with_len a n)
 All-range P zero a h = All-nil P
 All-range P (suc n) a h = All-cons P a (range_with_len (a + 1) n) (h a (omega arith) (omega arith)) (All-range P n (a + 1) (λ k low high. h k (omega arith) (omega arith)))

@@ -1,20 +1,12 @@
 -- Sums over the cells of a box.
-use Rattle.std.proofs.Common.{◌≡◌, ℕ, zero, suc, ◌+◌, ◌*◌, ◌%◌, ◌<◌, List, [], ◌∷◌, ◌++◌, map, refl, ap, ◌∙◌, arith}
+use Rattle.std.proofs.Common.{◌≡◌, ℕ, zero, suc, ◌+◌, ◌*◌, ◌%◌, ◌<◌, map, refl, ap, ◌∙◌, arith}
+use Rattle.std.proofs.lemmas.{List.map-append, Nat.mod-mul-add}
 use Rattle.std.specs.List.{range_with_len}
-use Rattle.std.proofs.lemmas.List.{map-append}
-use Rattle.std.proofs.lemmas.Nat.{mod-mul-add}
 use Rattle.dd_lattice.specs.Boxes.{Bounds, volume}
 use Rattle.dd_expansion.specs.Leaves.{total, clause_count}
-use Rattle.dd_formula.specs.LocalRule.{LocalRule, expansion_at}
-use Rattle.dd_formula.specs.Counts.{over_nodes}
-use Rattle.dd_problem.specs.Layouts.{nth_cell, cells_in}
-use Rattle.dd_problem.specs.lemmas.CellOrder.{range_append, cells_by_number}
+use Rattle.dd_formula.specs.{LocalRule.LocalRule, LocalRule.expansion_at, Counts.over_nodes, lemmas.Ranges.total-append}
+use Rattle.dd_problem.specs.{Layouts.nth_cell, Layouts.cells_in, lemmas.CellOrder.range_append, lemmas.CellOrder.cells_by_number}
 use Rattle.dd_problem.specs.lemmas.GateCounts.{at_cell}
-
--- the sum over the cells of a box is that over the nodes, for each position
-total-append : (ns ms : List ℕ) → total (ns ++ ms) ≡ total ns + total ms
-total-append [] ms = omega arith
-total-append (n ∷ ns) ms = omega (arith, total-append ns ms)
 
 row_total : (f g : ℕ → ℕ) (b n a : ℕ) → ((k : ℕ) → k < a + n → g (b + k) ≡ f k) → total (map g (range_with_len (b + a) n)) ≡ total (map f (range_with_len a n))
 row_total f g b zero a h = refl

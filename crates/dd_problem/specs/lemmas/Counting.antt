@@ -1,20 +1,14 @@
 -- The count of a question's clauses bounds its variables.
 use Rattle.std.proofs.Common.{◌≡◌, ℕ, zero, suc, ◌+◌, ◌*◌, ◌/◌, ◌%◌, ◌<◌, ◌≤◌, [], ◌∷◌, map, length, ap, ◌∙◌, arith, length-append}
-use Rattle.std.specs.Prelude.{◌-◌}
-use Rattle.std.specs.List.{filter}
-use Rattle.std.proofs.Math.Nat.{mul-add, mul_assoc}
-use Rattle.std.proofs.lemmas.Nat.{mul-le, mod_below, div-add-mod'}
+use Rattle.std.proofs.{Math.Nat.mul-add, Math.Nat.mul_assoc, lemmas.Nat.mul-le, lemmas.Nat.mod_below, lemmas.Nat.div-add-mod'}
+use Rattle.std.specs.{Prelude.◌-◌, List.filter}
 use Rattle.dd_lattice.specs.Boxes.{Bounds, volume}
 use Rattle.dd_expansion.specs.Leaves.{total}
-use Rattle.dd_formula.specs.LocalRule.{LocalRule}
-use Rattle.dd_boxes.specs.Goals.{GoalOf}
-use Rattle.dd_formula.specs.Counts.{rule_clauses, cell_clause_count, disallowed_pairs}
-use Rattle.dd_boxes.specs.Counts.{question_clauses}
-use Rattle.dd_problem.specs.Layouts.{Layout, cells_in, fits_in}
-use Rattle.dd_problem.specs.Clauses.{part_gates}
+use Rattle.dd_formula.specs.{LocalRule.LocalRule, Counts.rule_clauses, Counts.cell_clause_count, Counts.disallowed_pairs}
+use Rattle.dd_boxes.specs.{Goals.GoalOf, Counts.question_clauses}
+use Rattle.dd_problem.specs.{Layouts.Layout, Layouts.cells_in, Layouts.fits_in, Clauses.part_gates}
 use Rattle.dd_problem.specs.Problems.{premise_part, goal_part, input_count, problem}
-use Rattle.dd_problem.specs.lemmas.Growing.{part_gates-append}
-use Rattle.dd_problem.specs.lemmas.CellOrder.{length-cells_in}
+use Rattle.dd_problem.specs.lemmas.{Growing.part_gates-append, CellOrder.length-cells_in}
 use Rattle.dd_problem.specs.lemmas.GateCounts.{at_cell, premise_gates, goal_gates}
 use Rattle.dd_problem.specs.lemmas.CellTotals.{cells_total}
 
@@ -51,7 +45,7 @@ variables_below l x g b places =
     let more = mul-add v (x.nodes * cell_clause_count x.symbols) (disallowed_pairs x) in
     omega (arith, split, premise, cells, goal, inputs, fewer, turned, spread, more)
 
--- and the positions too
+-- and so are the positions
 pub positions_below : (x : LocalRule) (g : GoalOf) (v : ℕ) → 1 ≤ x.nodes → v ≤ question_clauses x g v
 positions_below x g v some =
     let spread = mul-add v (x.nodes * cell_clause_count x.symbols + disallowed_pairs x) (rule_clauses x) in

@@ -1,29 +1,18 @@
--- What the gates say that tell two values apart.
+-- What the gates that tell two values apart say.
 use Rattle.std.proofs.Common.{◌≡◌, ℕ, zero, suc, ◌+◌, ◌<◌, ◌≤◌, Bool, true, false, List, [], ◌∷◌, ◌++◌, map, length, refl, ap, sym, subst, ◌∙◌, arith, inl, inr, Some, length-append, eq-eqb}
-use Rattle.std.specs.Prelude.{not, ◌&&◌, ◌||◌, ◌==◌, slice_get}
-use Rattle.std.specs.Bool.{beq}
+use Rattle.std.proofs.{Math.Nat.eq-or-lt_of_le, lemmas.Bool.and_parts, lemmas.Bool.Decides.nat_tests, lemmas.List.Elements.All-weaker}
+use Rattle.std.specs.{Prelude.not, Prelude.◌&&◌, Prelude.◌||◌, Prelude.◌==◌, Prelude.slice_get, Bool.beq}
 use Rattle.std.specs.List.{All, list_any, range_with_len}
-use Rattle.std.proofs.Math.Nat.{eq-or-lt_of_le}
-use Rattle.std.proofs.lemmas.Bool.{and_parts}
-use Rattle.std.proofs.lemmas.Bool.Decides.{nat_tests}
-use Rattle.std.proofs.lemmas.List.Elements.{All-weaker}
 use Rattle.dd_lattice.specs.declared.position.Cell.{Cell}
 use Rattle.dd_pattern.specs.Reading.{Look, HasSymbolsBelow}
-use Rattle.dd_formula.specs.Automata.{counted, value}
-use Rattle.dd_formula.specs.declared.automaton.Automaton.{Automaton}
-use Rattle.dd_circuit.specs.declared.gates.Signal.{Signal}
-use Rattle.dd_circuit.specs.declared.gates.Gate.{Gate}
-use Rattle.dd_circuit.specs.declared.gates.Gate.TheVariants.{Or}
+use Rattle.dd_formula.specs.{Automata.counted, Automata.value, declared.automaton.Automaton.Automaton}
+use Rattle.dd_circuit.specs.declared.gates.{Signal.Signal, Gate.Gate, Gate.TheVariants.Or}
 use Rattle.dd_circuit.specs.Circuits.{IsSignal, AreGates, signal_value, agrees, opposite}
-use Rattle.dd_circuit.specs.lemmas.ValueLaws.{agrees-append}
-use Rattle.dd_circuit.specs.lemmas.GateLists.{AreGates-append, AreGates-snoc}
-use Rattle.dd_compile.specs.Wiring.{Wiring}
-use Rattle.dd_compile.specs.ValueGates.{fresh, value_made}
-use Rattle.dd_compile.specs.ValueSignals.{TellsCells}
-use Rattle.dd_compile.specs.Valued.{IsMadeValue}
-use Rattle.dd_compile.specs.lemmas.MadeSays.{same_from_beq, last_gate, opposite_value}
-use Rattle.dd_compile.specs.lemmas.ChoiceLaws.{fresh_in_range}
+use Rattle.dd_circuit.specs.lemmas.{ValueLaws.agrees-append, GateLists.AreGates-append, GateLists.AreGates-snoc}
+use Rattle.dd_compile.specs.{Wiring.Wiring, ValueGates.fresh, ValueGates.value_made, ValueSignals.TellsCells, Valued.IsMadeValue}
+use Rattle.dd_compile.specs.lemmas.{MadeSays.last_gate, MadeSays.opposite_value, ChoiceLaws.fresh_in_range}
 use Rattle.dd_problem.specs.Differing.{apart, differ_made}
+use Rattle.dd_values.specs.lemmas.Booleans.{same_from_beq}
 
 -- first and not second, one after the other
 abbrev each_apart : List Bool → List Bool → List Bool
@@ -70,7 +59,7 @@ signals_say set (s ∷ ss) v j (suc k) long says =
     one_on : (a t : ℕ) → a + suc t ≡ a + 1 + t
     one_on a t = omega arith
 
--- two values are apart at some symbol exactly where they are different
+-- two values are apart at some symbol exactly if they are different
 none_later : (u v j k : ℕ) → u < j → list_any (λ b. b) (each_apart (is_value u j k) (is_value v j k)) ≡ false
 none_later u v j zero h = refl
 none_later u v j (suc k) h =

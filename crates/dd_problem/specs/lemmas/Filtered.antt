@@ -1,13 +1,11 @@
--- A test of a filtered list, and variables of which none is true.
+-- A test of a filtered list, and variables none of which is true.
 use Rattle.std.proofs.Common.{◌≡◌, ℕ, zero, suc, ◌+◌, ◌<◌, Bool, true, false, List, [], ◌∷◌, map, refl, ap, sym, ◌∙◌, arith, Some}
+use Rattle.std.proofs.lemmas.{Bool.and_parts, Option.slice_get_read, Option.slice_get_within}
+use Rattle.std.proofs.lemmas.List.FromFn.{get_or-range_with_len, length-range_with_len, get_or-map-range_with_len, length-map-range_with_len}
 use Rattle.std.specs.Prelude.{not, cond, ◌&&◌, ◌||◌, slice_get}
 use Rattle.std.specs.List.{list_all, filter, range_with_len}
-use Rattle.std.proofs.lemmas.Bool.{and_parts}
-use Rattle.std.proofs.lemmas.Option.{slice_get_read, slice_get_within}
-use Rattle.std.proofs.lemmas.List.FromFn.{get_or-range_with_len, length-range_with_len, get_or-map-range_with_len, length-map-range_with_len}
 use Rattle.dd_clause.specs.Clauses.{is_clause_true}
-use Rattle.dd_cnf.specs.Encoding.{literal}
-use Rattle.dd_cnf.specs.Models.{is_satisfied}
+use Rattle.dd_cnf.specs.{Encoding.literal, Models.is_satisfied}
 
 -- the places of a range
 pub slice_of_range : {X : Type 0} (f : ℕ → X) (n k : ℕ) → k < n → slice_get (map f (range_with_len 0 n)) k ≡ Some (f k)
@@ -42,7 +40,7 @@ module _ {X : Type 0} where
   all-map p f [] = refl
   all-map p f (x ∷ xs) = ap (λ b. p (f x) && b) (all-map p f xs)
 
-range_get : (m k : ℕ) → k < m → slice_get (range_with_len 0 m) k ≡ Some k
+pub range_get : (m k : ℕ) → k < m → slice_get (range_with_len 0 m) k ≡ Some k
 range_get m k h = slice_get_read (range_with_len 0 m) m k k (sym (length-range_with_len 0 m)) h (sym (get_or-range_with_len 0 m k k h ∙ (let e : 0 + k ≡ k = omega arith in e)))
 
 only_false : (b : Bool) → (not b || false) ≡ true → b ≡ false

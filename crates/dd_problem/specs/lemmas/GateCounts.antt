@@ -1,27 +1,15 @@
 -- How many gates the premise and the goal have at most.
 use Rattle.std.proofs.Common.{◌≡◌, ℕ, ◌+◌, ◌≤◌, Bool, true, false, List, [], ◌∷◌, ◌++◌, map, length, ap, ◌∙◌, arith, length-append}
-use Rattle.std.specs.Prelude.{cond}
-use Rattle.std.specs.List.{filter, range_with_len}
-use Rattle.dd_lattice.specs.Cells.{cell}
-use Rattle.dd_lattice.specs.declared.position.Cell.{Cell}
+use Rattle.std.specs.{Prelude.cond, List.filter, List.range_with_len}
+use Rattle.dd_lattice.specs.{Cells.cell, declared.position.Cell.Cell}
 use Rattle.dd_expansion.specs.Leaves.{total, clause_count}
-use Rattle.dd_compile.specs.Compiling.{AllMade, all_made}
-use Rattle.dd_compile.specs.lemmas.FewGates.{gates_below}
-use Rattle.dd_compile.specs.lemmas.MadeCount.{made_count}
-use Rattle.dd_formula.specs.LocalRule.{LocalRule, expansion_at}
-use Rattle.dd_formula.specs.ValueCounts.{differ_at}
-use Rattle.dd_formula.specs.declared.automaton.Automaton.{Automaton}
-use Rattle.dd_circuit.specs.declared.gates.Signal.{Signal}
-use Rattle.dd_circuit.specs.declared.gates.Gate.TheVariants.{Or}
-use Rattle.dd_compile.specs.Wiring.{Wiring}
-use Rattle.dd_compile.specs.ValueGates.{fresh, value_made}
-use Rattle.dd_compile.specs.lemmas.ChoiceLaws.{fresh_length}
+use Rattle.dd_compile.specs.{Compiling.AllMade, Compiling.all_made, lemmas.FewGates.gates_below, lemmas.MadeCount.made_count, Wiring.Wiring}
+use Rattle.dd_compile.specs.{ValueGates.fresh, ValueGates.value_made, lemmas.ChoiceLaws.fresh_length}
 use Rattle.dd_compile.specs.lemmas.ValueParts.{by_forms, made_given, made_composed, few_gates}
-use Rattle.dd_boxes.specs.Goals.{GoalOf, breaks, differ, always}
-use Rattle.dd_boxes.specs.Boxes.{origin}
-use Rattle.dd_boxes.specs.Counts.{goal_clauses}
-use Rattle.dd_problem.specs.Layouts.{Layout}
-use Rattle.dd_problem.specs.Clauses.{part_gates}
+use Rattle.dd_formula.specs.{LocalRule.LocalRule, LocalRule.expansion_at, ValueCounts.differ_at, declared.automaton.Automaton.Automaton}
+use Rattle.dd_circuit.specs.declared.gates.{Signal.Signal, Gate.TheVariants.Or}
+use Rattle.dd_boxes.specs.{Goals.GoalOf, Goals.breaks, Goals.differ, Goals.always, Boxes.origin, Counts.goal_clauses}
+use Rattle.dd_problem.specs.{Layouts.Layout, Clauses.part_gates}
 use Rattle.dd_problem.specs.Problems.{wire, place_maker, premise_part, goal_part}
 use Rattle.dd_problem.specs.Differing.{apart, differ_made}
 
@@ -56,7 +44,7 @@ node_gates l m y (a ∷ nodes) n =
     let all = length-append gs (all_made (map (λ b. place_maker l m y (cell origin b)) nodes) (n + length gs)).gates in
     omega (arith, here, below, rest, all)
 
--- and of two values
+-- the gates of two values
 value_signals : (k : ℕ) (f : Automaton) (w : Wiring) (at : Cell) (n : ℕ) → length (value_made k f w at n).signals ≡ k
 value_signals k =
     by_forms (λ f. (w : Wiring) (at : Cell) (n : ℕ) → length (value_made k f w at n).signals ≡ k)

@@ -1,18 +1,11 @@
--- A circuit and its clauses, grown step by step: gates and parts that come one after the other are those of the lists together.
-use Rattle.std.proofs.Common.{◌≡◌, ℕ, suc, ◌+◌, List, [], ◌∷◌, ◌++◌, length, refl, ap, sym, ◌∙◌, arith, length-append, append_assoc}
+-- A circuit and its clauses, grown step by step: lists of gates or parts added one after the other are added as one list.
+use Rattle.std.proofs.Common.{◌≡◌, ℕ, ◌+◌, List, [], ◌∷◌, ◌++◌, length, refl, ap, sym, ◌∙◌, arith, length-append, append_assoc}
 use Rattle.std.proofs.lemmas.List.{append-nil}
 use Rattle.dd_clause.specs.declared.clause.Literal.{Literal}
-use Rattle.dd_circuit.specs.declared.gates.Gate.{Gate}
-use Rattle.dd_circuit.specs.Circuits.{size}
-use Rattle.dd_cnf.specs.Encoding.{gate_clauses, gates_clauses}
+use Rattle.dd_circuit.specs.{declared.gates.Gate.Gate, Circuits.size}
+use Rattle.dd_cnf.specs.{Encoding.gates_clauses, lemmas.GateLaws.gates_clauses-append}
 use Rattle.dd_problem.specs.Clauses.{Part, made_by, part_gates, part_clauses}
 use Rattle.dd_problem.specs.Encodings.{Encoding, extended, with_gates, with_parts}
-
-pub gates_clauses-append : (n : ℕ) (gs hs : List Gate) → gates_clauses n (gs ++ hs) ≡ gates_clauses n gs ++ gates_clauses (n + length gs) hs
-gates_clauses-append n [] hs = let e : n + 0 ≡ n = omega arith in rw e refl
-gates_clauses-append n (g ∷ gs) hs =
-    let e : n + suc (length gs) ≡ suc n + length gs = omega arith in
-    rw (e, gates_clauses-append (suc n) gs hs) (sym (append_assoc (gate_clauses (suc n) g) (gates_clauses (suc n) gs) (gates_clauses (suc n + length gs) hs)))
 
 pub part_gates-append : (n : ℕ) (ps qs : List Part) → part_gates n (ps ++ qs) ≡ part_gates n ps ++ part_gates (n + length (part_gates n ps)) qs
 part_gates-append n [] qs = let e : n + 0 ≡ n = omega arith in rw e refl

@@ -1,30 +1,16 @@
 -- The wires of cells that have numbers.
-use Rattle.std.proofs.Common.{◌≡◌, ℕ, ◌+◌, ◌*◌, ◌<◌, List, length, get_or, refl, ap, sym, ◌∙◌, arith, Some, None, option_map}
-use Rattle.std.specs.Prelude.{Option, slice_get}
-use Rattle.std.specs.List.{All, Contains, range_with_len, position_or_len}
-use Rattle.std.specs.List.Sorted.{IsStrictlySortedBy}
-use Rattle.std.specs.Ordering.{is_eq}
-use Rattle.std.proofs.lemmas.List.{length-map}
-use Rattle.std.proofs.lemmas.List.FromFn.{length-map-range_with_len, get_or-range_with_len, length-range_with_len}
-use Rattle.std.proofs.lemmas.Option.{slice_get-map, slice_get-get_or, slice_get_within, get_or_from_slice_get}
-use Rattle.dd_lattice.specs.Order.{cell_cmp}
-use Rattle.dd_lattice.specs.declared.position.Cell.{Cell}
-use Rattle.dd_circuit.specs.declared.gates.Signal.{Signal}
-use Rattle.dd_circuit.specs.Circuits.{IsSignal, signal_of}
+use Rattle.std.proofs.Common.{◌≡◌, ℕ, ◌*◌, ◌<◌, List, length, get_or, refl, ap, sym, ◌∙◌, arith, Some, None, option_map}
+use Rattle.std.proofs.lemmas.List.{length-map, FromFn.length-map-range_with_len}
+use Rattle.std.proofs.lemmas.Option.{slice_get-map, slice_get_within, get_or_from_slice_get}
+use Rattle.std.specs.{Prelude.Option, Prelude.slice_get, List.All, List.Contains, List.range_with_len, List.position_or_len}
+use Rattle.std.specs.{List.Sorted.IsStrictlySortedBy, Ordering.is_eq}
+use Rattle.dd_lattice.specs.{Order.cell_cmp, declared.position.Cell.Cell}
+use Rattle.dd_circuit.specs.{declared.gates.Signal.Signal, Circuits.IsSignal, Circuits.signal_of}
 use Rattle.dd_compile.specs.Wiring.{IsWiring, signal_for, signals_of, wire_of}
 use Rattle.dd_compile.specs.lemmas.WiringLaws.{read_by_place, signals_at_place}
-use Rattle.dd_problem.specs.Clauses.{input}
-use Rattle.dd_problem.specs.pushing.Pushed.{AreInputs}
-use Rattle.dd_problem.specs.pushing.Numbered.{symbol_signals, numbered_wiring}
-use Rattle.dd_problem.specs.lemmas.RangesLeft.{row_within}
-use Rattle.dd_problem.specs.lemmas.Filtered.{some_same, slice_of_range}
+use Rattle.dd_problem.specs.{Clauses.input, pushing.Pushed.AreInputs, pushing.Numbered.symbol_signals, pushing.Numbered.numbered_wiring}
+use Rattle.dd_problem.specs.lemmas.{RangesLeft.row_within, Filtered.some_same, Filtered.slice_of_range}
 use Rattle.dd_problem.specs.lemmas.CellOrder.{All-range}
-
--- a range holds its numbers in turn
-pub turn_at : (n k : ℕ) → k < n → slice_get (range_with_len 0 n) k ≡ Some k
-turn_at n k h =
-    let whole : 0 + k ≡ k = omega arith in
-    slice_get-get_or (range_with_len 0 n) k 0 (omega (arith, length-range_with_len 0 n)) ∙ ap (λ j. Some j) (get_or-range_with_len 0 n k 0 h ∙ whole)
 
 pub turns_below : (n : ℕ) → All (λ k. k < n) (range_with_len 0 n)
 turns_below n = All-range (λ k. k < n) n 0 (λ k low high. omega arith)

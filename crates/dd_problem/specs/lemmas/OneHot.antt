@@ -1,21 +1,16 @@
 -- Exactly one of these variables is true.
 use Rattle.std.proofs.Common.{◌≡◌, ℕ, zero, suc, ◌+◌, ◌<◌, ◌≤◌, Bool, true, false, List, [], ◌∷◌, map, length, refl, sym, ◌∙◌, arith, get_or, inl, inr}
+use Rattle.std.proofs.lemmas.{Bool.and_parts, Bool.cases_lt, List.Folds.list_all-append}
 use Rattle.std.specs.Prelude.{not, cond, ◌&&◌, ◌||◌, ◌==◌, ◌⊎◌}
 use Rattle.std.specs.List.{list_all, list_any, range_with_len, position_or_len}
-use Rattle.std.proofs.lemmas.Bool.{and_parts, cases_lt}
-use Rattle.std.proofs.lemmas.List.Folds.{list_all-append}
 use Rattle.dd_clause.specs.Clauses.{is_true_under, is_clause_true}
-use Rattle.dd_cnf.specs.Encoding.{literal}
-use Rattle.dd_cnf.specs.Models.{is_satisfied}
+use Rattle.dd_cnf.specs.{Encoding.literal, Models.is_satisfied}
 use Rattle.dd_problem.specs.Clauses.{pairs, one_hot}
+use Rattle.dd_values.specs.lemmas.Booleans.{not_true, or_none}
 
 abbrev pub at_most_one : (ℕ → Bool) → List ℕ → Bool
 at_most_one set [] = true
 at_most_one set (v ∷ vs) = (not (set v) || not (list_any set vs)) && at_most_one set vs
-
-not_true : (b : Bool) → not b ≡ true → b ≡ false
-not_true true h = sym h
-not_true false h = refl
 
 equal : (a b : ℕ) → a ≡ b → (a == b) ≡ true
 equal a b h = grind arith
@@ -54,10 +49,6 @@ pairs_law set (v ∷ vs) =
 pub one_hot_law : (set : ℕ → Bool) (vs : List ℕ) → is_satisfied set (one_hot vs) ≡ (list_any set vs && at_most_one set vs)
 one_hot_law set vs = rw (any_positive set vs, pairs_law set vs) refl
 
-or_none : (a b : Bool) → (a || b) ≡ false → (a ≡ false) × (b ≡ false)
-or_none true b h = absurd (cc)
-or_none false b h = (refl, h)
-
 none_at : (set : ℕ → Bool) (vs : List ℕ) (s d : ℕ) → list_any set vs ≡ false → s < length vs → set (get_or vs s d) ≡ false
 none_at set [] s d none h = absurd (omega arith)
 none_at set (v ∷ vs) zero d none h = (or_none (set v) (list_any set vs) none).0
@@ -81,7 +72,7 @@ hot_step true set vs s d any most h same =
     none_at set vs s d (not_true (list_any set vs) both.0) h ∙ sym (not_equal 0 (suc s) (λ e. omega (arith, e)))
 hot_step false set vs s d any most h same = same any most ∙ later_place (position_or_len set vs) s
 
--- the place of the one true variable says of each whether it is true
+-- the place of the one true variable tells which of them are true
 pub hot_at : (set : ℕ → Bool) (vs : List ℕ) (s d : ℕ) → list_any set vs ≡ true → at_most_one set vs ≡ true → s < length vs → set (get_or vs s d) ≡ (position_or_len set vs == s)
 hot_at set [] s d any most h = absurd (omega arith)
 hot_at set (v ∷ vs) zero d any most h = first_place (set v) (position_or_len set vs)

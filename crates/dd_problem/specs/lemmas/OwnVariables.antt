@@ -1,23 +1,19 @@
--- The clauses of a question see no variables but their own: more of them change nothing.
+-- The clauses of a question use only their own variables: further variables change nothing.
 use Rattle.std.proofs.Common.{◌≡◌, ℕ, suc, ◌+◌, ◌*◌, ◌≤◌, Bool, true, List, [], ◌∷◌, length, refl, sym, ◌∙◌, arith}
-use Rattle.std.proofs.lemmas.Bool.{and_parts}
-use Rattle.std.proofs.lemmas.List.Folds.{list_all-append}
+use Rattle.std.proofs.lemmas.{Bool.and_parts, List.Folds.list_all-append}
 use Rattle.dd_clause.specs.Clauses.{is_clause_true}
-use Rattle.dd_circuit.specs.declared.gates.Gate.{Gate}
-use Rattle.dd_circuit.specs.Circuits.{AreGates, agrees}
+use Rattle.dd_circuit.specs.{declared.gates.Gate.Gate, Circuits.AreGates, Circuits.agrees}
 use Rattle.dd_circuit.specs.lemmas.ValueLaws.{Alike, gate_value-alike}
 use Rattle.dd_cnf.specs.Models.{is_satisfied}
 use Rattle.dd_formula.specs.LocalRule.{LocalRule}
 use Rattle.dd_boxes.specs.Goals.{GoalOf}
-use Rattle.dd_problem.specs.Layouts.{Layout}
-use Rattle.dd_problem.specs.Clauses.{input, cell_clauses, part_gates, part_clauses}
-use Rattle.dd_problem.specs.Problems.{problem_parts, problem_clauses, problem, input_count}
-use Rattle.dd_problem.specs.Symbols.{AreRead}
+use Rattle.dd_problem.specs.{Layouts.Layout, Clauses.input, Clauses.cell_clauses, Clauses.part_gates, Clauses.part_clauses}
+use Rattle.dd_problem.specs.{Problems.problem_parts, Problems.problem_clauses, Problems.problem, Problems.input_count, Symbols.AreRead}
 use Rattle.dd_problem.specs.lemmas.Parts.{tests, parts_law}
 use Rattle.dd_problem.specs.lemmas.Reading.{IsWired, read_symbols, problem_read}
 use Rattle.dd_problem.specs.lemmas.Writing.{problem_gates, gates_fit, satisfied_by, input_in_range}
 
--- gates agree with an assignment as with another that has the same values of their variables
+-- gates that agree with an assignment agree with each one that gives their variables the same values
 pub agrees_alike : (set other : ℕ → Bool) (gs : List Gate) (n : ℕ) → Alike (n + length gs) other set → AreGates n gs → agrees other n gs ≡ agrees set n gs
 agrees_alike set other [] n same ok = refl
 agrees_alike set other (g ∷ gs) n same ok =

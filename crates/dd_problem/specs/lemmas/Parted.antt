@@ -1,38 +1,25 @@
--- What the parts of a problem say, where the inputs tell the symbols of a look.
+-- What the parts of a problem say, if the inputs tell the symbols of a look.
 use Rattle.std.proofs.Common.{◌≡◌, ℕ, zero, suc, ◌+◌, ◌*◌, ◌<◌, ◌≤◌, arith, Bool, true, false, List, [], ◌∷◌, ◌++◌, map, length, refl, ap, sym, ◌∙◌, Some, None}
+use Rattle.std.proofs.lemmas.{Bool.and_parts, Bool.ltb-true, List.map-append}
+use Rattle.std.proofs.lemmas.List.Folds.{list_all-append, list_all-map}
 use Rattle.std.specs.Prelude.{not, if◌then◌else◌, ◌&&◌, ◌||◌, ◌==◌, Option, nat_lt}
 use Rattle.std.specs.List.{list_all, list_any, filter, range_with_len}
-use Rattle.std.proofs.lemmas.Bool.{and_parts, ltb-true}
-use Rattle.std.proofs.lemmas.List.{map-append}
-use Rattle.std.proofs.lemmas.List.Folds.{list_all-append, list_all-map}
-use Rattle.dd_lattice.specs.Place.{Place}
-use Rattle.dd_lattice.specs.Cells.{cell, shifted}
-use Rattle.dd_lattice.specs.declared.position.Cell.{Cell}
+use Rattle.dd_lattice.specs.{Place.Place, Cells.cell, Cells.shifted, declared.position.Cell.Cell}
 use Rattle.dd_pattern.specs.Reading.{Look, HasSymbolsBelow}
-use Rattle.dd_expansion.specs.Truth.{is_symbol}
-use Rattle.dd_expansion.specs.Leaves.{leaves_pass}
-use Rattle.dd_expansion.specs.lemmas.ListTests.{and_true, or_false, list_any-map}
-use Rattle.dd_expansion.specs.lemmas.TruthAt.{says_at}
-use Rattle.dd_formula.specs.LocalRule.{LocalRule, is_true, expansion_at}
-use Rattle.dd_clause.specs.Clauses.{is_true_under as is_literal_true}
-use Rattle.dd_circuit.specs.declared.gates.Signal.{Signal}
-use Rattle.dd_circuit.specs.Circuits.{signal_value, agrees}
-use Rattle.dd_circuit.specs.lemmas.ValueLaws.{agrees-append}
-use Rattle.dd_cnf.specs.Encoding.{literal_of, opposing}
-use Rattle.dd_cnf.specs.Models.{is_satisfied}
-use Rattle.dd_compile.specs.Compiling.{all_made}
-use Rattle.dd_formula.specs.Automata.{CommonNumbers, value}
+use Rattle.dd_expansion.specs.{Truth.is_symbol, Leaves.leaves_pass, lemmas.ListTests.list_any-map, lemmas.TruthAt.says_at}
+use Rattle.dd_formula.specs.{LocalRule.LocalRule, LocalRule.is_true, LocalRule.expansion_at, Automata.CommonNumbers, Automata.value}
 use Rattle.dd_formula.specs.declared.automaton.Automaton.{Automaton}
-use Rattle.dd_boxes.specs.Goals.{GoalOf, breaks, differ, always}
-use Rattle.dd_boxes.specs.Boxes.{origin}
+use Rattle.dd_clause.specs.Clauses.{is_true_under as is_literal_true}
+use Rattle.dd_circuit.specs.{declared.gates.Signal.Signal, Circuits.signal_value, Circuits.agrees, lemmas.ValueLaws.agrees-append}
+use Rattle.dd_cnf.specs.{Encoding.literal_of, Encoding.opposing, Models.is_satisfied}
+use Rattle.dd_compile.specs.{Compiling.all_made, Compiling.Maker, lemmas.MadeSays.Tell, lemmas.MadeSays.made_says}
+use Rattle.dd_boxes.specs.{Goals.GoalOf, Goals.breaks, Goals.differ, Goals.always, Boxes.origin}
 use Rattle.dd_problem.specs.Layouts.{Layout, fits_in}
 use Rattle.dd_problem.specs.Clauses.{input, Part, part_gates, some_true, some_false}
 use Rattle.dd_problem.specs.Problems.{wire, place_maker, premise_part, goal_part, problem_parts, input_count}
-use Rattle.dd_compile.specs.lemmas.MadeSays.{Tell, made_says}
-use Rattle.dd_problem.specs.Differing.{differ_made}
-use Rattle.dd_problem.specs.lemmas.Parts.{tests, PartSays, tests_law}
+use Rattle.dd_problem.specs.{Differing.differ_made, lemmas.Parts.tests, lemmas.Parts.PartSays, lemmas.Parts.tests_law}
 use Rattle.dd_problem.specs.lemmas.ValueWires.{AreValuesWired, GoalWired, differ_gates_say}
-use Rattle.dd_compile.specs.Compiling.{Maker}
+use Rattle.dd_values.specs.lemmas.Booleans.{and_true, or_false}
 
 -- the inputs of the layout's cells say the symbols of the look
 abbrev pub InputsTell : (ℕ → Bool) → Layout → ℕ → Look → Type 0

@@ -1,16 +1,10 @@
 -- The clauses of parts, one after the other.
 use Rattle.std.proofs.Common.{◌≡◌, ℕ, ◌+◌, ◌≤◌, Bool, true, false, List, [], ◌∷◌, ◌++◌, map, length, refl, sym, ◌∙◌, arith}
-use Rattle.std.specs.Prelude.{◌&&◌}
-use Rattle.std.specs.List.{list_all}
-use Rattle.std.proofs.lemmas.Bool.{and_parts}
-use Rattle.std.proofs.lemmas.List.Folds.{list_all-append}
+use Rattle.std.proofs.lemmas.{Bool.and_parts, List.Folds.list_all-append}
+use Rattle.std.specs.{Prelude.◌&&◌, List.list_all}
 use Rattle.dd_clause.specs.Clauses.{is_clause_true}
-use Rattle.dd_circuit.specs.Circuits.{agrees, AreGates}
-use Rattle.dd_cnf.specs.Encoding.{gates_clauses}
-use Rattle.dd_cnf.specs.Models.{is_satisfied}
-use Rattle.dd_cnf.specs.lemmas.GateLaws.{gates_law}
-use Rattle.dd_circuit.specs.lemmas.ValueLaws.{agrees-append}
-use Rattle.dd_circuit.specs.lemmas.GateLists.{AreGates-append}
+use Rattle.dd_circuit.specs.{Circuits.agrees, Circuits.AreGates, lemmas.ValueLaws.agrees-append, lemmas.GateLists.AreGates-append}
+use Rattle.dd_cnf.specs.{Encoding.gates_clauses, Models.is_satisfied, lemmas.GateLaws.gates_law}
 use Rattle.dd_problem.specs.Clauses.{Part, made_by, part_gates, part_clauses}
 
 -- the clauses over the signals of each part are satisfied
@@ -34,7 +28,7 @@ parts_law set n (p ∷ ps) =
     ∙ (rw (gates_law set n gs, list_all-append (is_clause_true set) ts (part_clauses m ps), parts_law set m ps, agrees-append set n gs (part_gates m ps))
     (four (agrees set n gs) (is_satisfied set ts) (agrees set m (part_gates m ps)) (tests set m ps)))
 
--- where the part's gates agree, after at least m variables, its clauses say b
+-- if the part's gates agree, after at least m variables, its clauses say b
 abbrev pub PartSays : (ℕ → Bool) → ℕ → Part → Bool → Type 0
 PartSays set m p b = (n : ℕ) → m ≤ n → agrees set n (made_by p n).gates ≡ true → is_satisfied set (p.tail (made_by p n).signals) ≡ b
 

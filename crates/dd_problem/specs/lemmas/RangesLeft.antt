@@ -1,17 +1,12 @@
--- How far a loop over a range of variables has come.
+-- The state of a loop over a range of variables.
 use Rattle.std.proofs.Common.{◌≡◌, ℕ, zero, suc, ◌+◌, ◌*◌, ◌<◌, ◌≤◌, Bool, List, [], ◌∷◌, ◌++◌, map, length, take, get_or, refl, ap, sym, ◌∙◌, arith, append_assoc, true, false}
-use Rattle.std.specs.Prelude.{◌-◌, cond}
-use Rattle.std.specs.List.{All, filter, range_with_len}
 use Rattle.std.proofs.lemmas.List.{append-nil, map-append, take_more, length-take-le}
-use Rattle.std.proofs.lemmas.List.Elements.{All-cons, filter-append}
-use Rattle.std.proofs.lemmas.Nat.{mul-le}
-use Rattle.dd_clause.specs.declared.clause.Literal.{Literal}
-use Rattle.dd_clause.specs.Clauses.{IsLiteralInRange}
+use Rattle.std.proofs.lemmas.{List.Elements.All-cons, Nat.mul-le}
+use Rattle.std.specs.{Prelude.◌-◌, List.All, List.filter, List.range_with_len}
+use Rattle.dd_clause.specs.{declared.clause.Literal.Literal, Clauses.IsLiteralInRange}
 use Rattle.dd_cnf.specs.Encoding.{literal}
 use Rattle.dd_lattice.specs.declared.position.Cell.{Cell}
-use Rattle.dd_formula.specs.LocalRule.{LocalRule}
-use Rattle.dd_formula.specs.Counts.{disallowed}
-use Rattle.dd_formula.specs.lemmas.Ranges.{range_push}
+use Rattle.dd_formula.specs.{LocalRule.LocalRule, Counts.disallowed, lemmas.Ranges.filter_push}
 use Rattle.dd_problem.specs.Clauses.{input, pairs, inputs_of, one_hot, none_of, symbol_clauses, clauses_from, cell_clauses}
 
 abbrev pub range_to : ℕ → ℕ → List ℕ
@@ -23,7 +18,7 @@ range_step w end h = let n : end - w ≡ suc (end - (w + 1)) = omega arith in rw
 pub range_ends : (w end : ℕ) → end ≤ w → range_to w end ≡ []
 range_ends w end h = let n : end - w ≡ 0 = omega arith in rw n refl
 
--- One turn of such a loop: what all of the range gives is what is there and what the rest of it gives.
+-- One pass of such a loop: the whole range gives what is already there and what the rest of the range gives.
 pub left_step : {X : Type 0} (f : ℕ → X) (all now new : List X) (w end : ℕ) → w < end → all ≡ now ++ map f (range_to w end) → new ≡ now ++ f w ∷ [] →
     all ≡ new ++ map f (range_to (w + 1) end)
 left_step f all now new w end h so_far pushed =
@@ -81,10 +76,6 @@ cell_parts x k node from end all now some both new is ends begin first second th
     second ∙ (ap (λ r. some ++ pairs r) range
     ∙ (ap (λ cs. cs ++ pairs vs) (first ∙ (ap (λ r. now ++ map (λ v. literal v true) r ∷ []) range ∙ ap (λ cs. cs ++ clause ∷ []) begin)) ∙ append_assoc all (clause ∷ []) (pairs vs))) in
     third ∙ (ap (λ cs. cs ++ none) made ∙ append_assoc all (one_hot vs) none)
-
--- one more symbol that may be allowed
-filter_push : (q : ℕ → Bool) (n : ℕ) (b : Bool) → q n ≡ b → filter q (range_with_len 0 (n + 1)) ≡ filter q (range_with_len 0 n) ++ cond b (n ∷ []) []
-filter_push q n b is = ap (filter q) (range_push n) ∙ (filter-append q (range_with_len 0 n) (n ∷ []) ∙ rw is refl)
 
 pub none_kept : (m k n : ℕ) (q : ℕ → Bool) (all now new : List (List Literal)) (l : Literal) → q n ≡ true → now ≡ all ++ none_of m k (filter q (range_with_len 0 n)) → l ≡ literal (input m k n) false →
     new ≡ now ++ (l ∷ []) ∷ [] → new ≡ all ++ none_of m k (filter q (range_with_len 0 (n + 1)))

@@ -1,19 +1,15 @@
 -- The symbols for which a satisfying assignment stands.
 use Rattle.std.proofs.Common.{◌≡◌, ℕ, zero, suc, ◌+◌, ◌<◌, Bool, true, false, List, [], ◌∷◌, map, length, get_or, eq-eqb, refl, ap, sym, subst, ◌∙◌, arith, Some, None}
-use Rattle.std.specs.Prelude.{cond, not, ◌==◌, Option, IfSome, slice_get}
-use Rattle.std.specs.List.{All, list_all, list_any, range_with_len, position_or_len}
-use Rattle.std.proofs.lemmas.Bool.{and_parts}
-use Rattle.std.proofs.lemmas.Option.{slice_get_within, get_or_from_slice_get}
+use Rattle.std.proofs.lemmas.{Bool.and_parts, Option.slice_get_within, Option.get_or_from_slice_get}
 use Rattle.std.proofs.lemmas.List.Folds.{list_all-append}
 use Rattle.std.proofs.lemmas.List.FromFn.{get_or-map-range_with_len, length-map-range_with_len}
+use Rattle.std.specs.Prelude.{cond, not, ◌==◌, Option, IfSome, slice_get}
+use Rattle.std.specs.List.{All, list_all, list_any, range_with_len, position_or_len}
 use Rattle.dd_lattice.specs.declared.position.Cell.{Cell}
 use Rattle.dd_pattern.specs.Reading.{Look, HasSymbolsBelow}
 use Rattle.dd_expansion.specs.Truth.{is_symbol}
-use Rattle.dd_formula.specs.LocalRule.{LocalRule, rule_allows}
-use Rattle.dd_formula.specs.Allowed.{AreAllowed}
-use Rattle.dd_formula.specs.Counts.{disallowed}
-use Rattle.dd_clause.specs.declared.clause.Literal.{Literal}
-use Rattle.dd_clause.specs.Clauses.{is_clause_true}
+use Rattle.dd_formula.specs.{LocalRule.LocalRule, LocalRule.rule_allows, Allowed.AreAllowed, Counts.disallowed}
+use Rattle.dd_clause.specs.{declared.clause.Literal.Literal, Clauses.is_clause_true}
 use Rattle.dd_circuit.specs.Circuits.{agrees}
 use Rattle.dd_cnf.specs.Models.{is_satisfied}
 use Rattle.dd_boxes.specs.Goals.{GoalOf}
@@ -23,8 +19,7 @@ use Rattle.dd_problem.specs.Problems.{problem_parts, problem_clauses, input_coun
 use Rattle.dd_problem.specs.Symbols.{AreSymbols, AreRead, layout_look}
 use Rattle.dd_problem.specs.lemmas.Filtered.{some_same, slice_of_range, none_at}
 use Rattle.dd_problem.specs.lemmas.OneHot.{one_hot_law, at_most_one, hot_at, hot_below}
-use Rattle.dd_problem.specs.lemmas.Parts.{tests, parts_law}
-use Rattle.dd_problem.specs.lemmas.ValueWires.{GoalWired}
+use Rattle.dd_problem.specs.lemmas.{Parts.tests, Parts.parts_law, ValueWires.GoalWired}
 use Rattle.dd_problem.specs.lemmas.Parted.{InputsTell, goal_holds, HasItsSymbols, jobs, job_reads, premise_holds, parts_say}
 
 -- the symbol of each cell: the place of its first true input
@@ -70,7 +65,7 @@ cell_there [] k h = absurd (omega arith)
 cell_there (c ∷ cells) zero h = (c, refl)
 cell_there (c ∷ cells) (suc k) h = cell_there cells k (omega arith)
 
--- the one true input says of each input whether it is true
+-- the one true input tells which of the inputs are true
 hot_input : (set : ℕ → Bool) (m k s : ℕ) → is_satisfied set (one_hot (inputs_of m k)) ≡ true → s < m → set (input m k s) ≡ (read_symbol set m k == s)
 hot_input set m k s hot below =
     let vs = inputs_of m k in

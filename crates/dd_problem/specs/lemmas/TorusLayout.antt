@@ -1,33 +1,20 @@
 -- The cells of a torus, and that a periodic configuration is read by their numbers.
-use Rattle.std.proofs.Common.{◌≡◌, ℕ, suc, ◌*◌, ◌<◌, ◌≤◌, Bool, true, false, List, map, length, refl, ap, sym, subst, ◌∙◌, arith, mul_comm, ◌-◌, ◌%◌, ◌+ℤ◌, [], ◌∷◌, Some, ℤ, pos}
-use Rattle.std.specs.Prelude.{◌||◌, nat_lt, slice_get}
-use Rattle.std.specs.Ordering.{int_eq}
-use Rattle.std.proofs.lemmas.Int.{ints}
-use Rattle.std.specs.List.{range_with_len}
-use Rattle.std.proofs.lemmas.Bool.{and_from, ltb-true, ltb-false}
-use Rattle.std.proofs.lemmas.Bool.Decides.{Decides-int_eq}
-use Rattle.std.proofs.lemmas.Option.{slice_get_within}
-use Rattle.std.proofs.lemmas.List.FromFn.{length-map-range_with_len}
-use Rattle.dd_lattice.specs.Place.{Place, place, moved}
-use Rattle.dd_lattice.specs.Cells.{cell, shifted}
-use Rattle.dd_lattice.specs.Boxes.{span}
-use Rattle.dd_lattice.specs.declared.position.Cell.{Cell}
-use Rattle.dd_pattern.specs.declared.periods.Periods.{Periods}
-use Rattle.dd_pattern.specs.Periods.{periods_volume, residue, base_of}
+use Rattle.std.proofs.Common.{◌≡◌, ℕ, suc, ◌*◌, ◌<◌, ◌≤◌, Bool, true, false, List, map, length, refl, ap, sym, subst, ◌∙◌, arith, mul_comm, ◌-◌, ◌%◌, ◌+ℤ◌, Some, ℤ, pos}
+use Rattle.std.proofs.lemmas.{Int.ints, Bool.and_from, Bool.ltb-true, Bool.ltb-false}
+use Rattle.std.proofs.lemmas.{Bool.Decides.Decides-int_eq, Option.slice_get_within, List.FromFn.length-map-range_with_len}
+use Rattle.std.specs.{Prelude.◌||◌, Prelude.nat_lt, Prelude.slice_get, Ordering.int_eq, List.range_with_len}
+use Rattle.dd_lattice.specs.{Place.Place, Place.place, Place.moved, Cells.cell, Cells.shifted, declared.position.Cell.Cell}
+use Rattle.dd_pattern.specs.{declared.periods.Periods.Periods, Periods.periods_volume, Periods.residue, Periods.base_of}
 use Rattle.dd_pattern.specs.Tile.{Tile, IsTile, IsPeriodic, tile, tile_index, tile_look, cell_in, fundamental, IsInBox}
-use Rattle.dd_pattern.specs.lemmas.Residues.{residue_below}
-use Rattle.dd_pattern.specs.lemmas.TileLaws.{base_moved, look_same}
+use Rattle.dd_pattern.specs.lemmas.{Residues.residue_below, TileLaws.base_moved, TileLaws.look_same, TileLaws.span_is}
 use Rattle.dd_pattern.specs.lemmas.TileSizes.{index_below}
 use Rattle.dd_pattern.specs.lemmas.BoxLaws.{cell_at_index, in_box, index_of_cell}
 use Rattle.dd_expansion.specs.Placed.{is_flat}
 use Rattle.dd_formula.specs.LocalRule.{LocalRule, IsRule}
-use Rattle.dd_boxes.specs.Goals.{GoalOf}
-use Rattle.dd_problem.specs.TorusPeriods.{AreTorusPeriods}
-use Rattle.dd_problem.specs.Layouts.{nth_cell, torus, torus_cells}
-use Rattle.dd_problem.specs.lemmas.CellOrder.{cells_by_number}
-use Rattle.dd_problem.specs.pushing.Near.{torus_layout}
-use Rattle.dd_problem.specs.lemmas.Reading.{IsLayout}
-use Rattle.dd_problem.specs.lemmas.Filtered.{some_same, slice_of_range}
+use Rattle.dd_boxes.specs.{Goals.GoalOf, TorusPeriods.AreTorusPeriods}
+use Rattle.dd_problem.specs.{Layouts.nth_cell, Layouts.torus, Layouts.torus_cells, lemmas.CellOrder.cells_by_number}
+use Rattle.dd_problem.specs.{pushing.Near.torus_layout, lemmas.Reading.IsLayout, lemmas.Filtered.some_same, lemmas.Filtered.slice_of_range}
+use Rattle.dd_values.specs.lemmas.Lists.{map_alike}
 
 -- the configuration of these symbols
 abbrev pub torus_of : LocalRule → Periods → List ℕ → Tile
@@ -36,32 +23,24 @@ torus_of x periods symbols = tile x.dimension periods x.nodes symbols
 abbrev pub torus_size : LocalRule → Periods → ℕ
 torus_size x periods = periods_volume periods * x.nodes
 
-pub torus_is_tile : (x : LocalRule) (periods : Periods) (symbols : List ℕ) → IsRule x → AreTorusPeriods x periods → length symbols ≡ torus_size x periods →
+pub torus_is_tile : (x : LocalRule) (periods : Periods) (symbols : List ℕ) → IsRule x → AreTorusPeriods x.dimension x.nodes periods → length symbols ≡ torus_size x periods →
     IsTile (torus_of x periods symbols)
 torus_is_tile x periods symbols rule ok full =
     record { some_dimension = rule.dimension.0; most_dimension = rule.dimension.1; periods = ok.periods; nodes_some = rule.nodes.0; full = full }
 
 -- one that lists few symbols
-pub torus_is_periodic : (x : LocalRule) (periods : Periods) (symbols : List ℕ) → IsRule x → AreTorusPeriods x periods → length symbols ≡ torus_size x periods →
+pub torus_is_periodic : (x : LocalRule) (periods : Periods) (symbols : List ℕ) → IsRule x → AreTorusPeriods x.dimension x.nodes periods → length symbols ≡ torus_size x periods →
     IsPeriodic (torus_of x periods symbols)
 torus_is_periodic x periods symbols rule ok full = record {
   tile = torus_is_tile x periods symbols rule ok full;
   small = rw full ok.few;
 }
 
--- the cells of the fundamental box are those whose symbols stand in the list of a configuration
-pub span_is : (n : ℕ) → 0 < n → span (pos 0) (pos (n - 1)) ≡ n
-span_is n h = omega (arith, ints)
-
 from_zero : (n : ℕ) → (pos 0 +ℤ pos n) ≡ pos n
 from_zero n = omega (arith, ints)
 
 cell_from_zero : (a b c node : ℕ) → cell (place (pos 0 +ℤ pos a) (pos 0 +ℤ pos b) (pos 0 +ℤ pos c)) node ≡ cell (place (pos a) (pos b) (pos c)) node
 cell_from_zero a b c node = rw (from_zero a, from_zero b, from_zero c) refl
-
-map_alike : {X Y : Type 0} (f g : X → Y) → ((x : X) → f x ≡ g x) → (xs : List X) → map f xs ≡ map g xs
-map_alike f g same [] = refl
-map_alike f g same (x ∷ xs) = rw (same x, map_alike f g same xs) refl
 
 pub product_turned : (x y z : ℕ) → x * (y * z) ≡ z * y * x
 product_turned x y z = ap (λ k. x * k) (mul_comm y z) ∙ mul_comm x (z * y)
@@ -86,7 +65,7 @@ zeros x periods = map (λ _. 0) (range_with_len 0 (torus_size x periods))
 length-zeros : (x : LocalRule) (periods : Periods) → length (zeros x periods) ≡ torus_size x periods
 length-zeros x periods = length-map-range_with_len (λ _. 0) 0 (torus_size x periods)
 
-module _ (x : LocalRule) (periods : Periods) (rule : IsRule x) (ok : AreTorusPeriods x periods) where
+module _ (x : LocalRule) (periods : Periods) (rule : IsRule x) (ok : AreTorusPeriods x.dimension x.nodes periods) where
   blank : IsTile (torus_of x periods (zeros x periods))
   blank = torus_is_tile x periods (zeros x periods) rule ok (length-zeros x periods)
 
@@ -149,7 +128,7 @@ module _ (x : LocalRule) (periods : Periods) (rule : IsRule x) (ok : AreTorusPer
       few : (axis : ℕ) → nat_lt axis x.dimension ≡ false → x.dimension < suc axis
       few axis f = let most : x.dimension ≤ axis = ltb-false _ _ f in omega arith
 
-  -- what is read round a position is what is read round it modulo the periods
+  -- around a position the same is read as around that position modulo the periods
   pub look_periodic : (symbols : List ℕ) (v : Place) (c : Cell) →
       tile_look (torus_of x periods symbols) (shifted (base_of periods v) c) ≡ tile_look (torus_of x periods symbols) (shifted v c)
   look_periodic symbols v c =

@@ -1,14 +1,10 @@
--- The clauses of a torus say what the question asks of the configurations of its periods.
+-- The clauses of a torus say what the question asks about the configurations of its periods.
 use Rattle.std.proofs.Common.{◌≡◌, ℕ, ◌<◌, Bool, true, List, length, get_or, refl, ap, sym, subst, ◌∙◌, arith, Some}
-use Rattle.std.specs.Prelude.{is_some, IfSome, nat_lt, slice_get}
-use Rattle.std.specs.List.{list_all}
 use Rattle.std.proofs.lemmas.Bool.{and_parts, ltb-true, lt-ltb}
 use Rattle.std.proofs.lemmas.Option.{slice_get-get_or, slice_get_within}
-use Rattle.dd_lattice.specs.Cells.{cell, shifted}
-use Rattle.dd_lattice.specs.declared.position.Cell.{Cell}
-use Rattle.dd_pattern.specs.declared.periods.Periods.{Periods}
-use Rattle.dd_pattern.specs.Periods.{base_of}
-use Rattle.dd_pattern.specs.Tile.{Tile, tile_index, tile_look}
+use Rattle.std.specs.{Prelude.is_some, Prelude.IfSome, Prelude.nat_lt, Prelude.slice_get, List.list_all}
+use Rattle.dd_lattice.specs.{Cells.cell, Cells.shifted, declared.position.Cell.Cell}
+use Rattle.dd_pattern.specs.{declared.periods.Periods.Periods, Periods.base_of, Tile.Tile, Tile.tile_index, Tile.tile_look}
 use Rattle.dd_pattern.specs.lemmas.TileSizes.{index_below}
 use Rattle.dd_expansion.specs.Placed.{is_flat}
 use Rattle.dd_formula.specs.LocalRule.{LocalRule, rule_allows, IsRule, is_true, reads_at, is_of}
@@ -16,20 +12,13 @@ use Rattle.dd_formula.specs.Living.{Fits, Lives}
 use Rattle.dd_clause.specs.Clauses.{Satisfies}
 use Rattle.dd_circuit.specs.lemmas.ValueLaws.{Alike}
 use Rattle.dd_cnf.specs.lemmas.ModelLaws.{Satisfies-is_satisfied, is_satisfied-Satisfies}
-use Rattle.dd_boxes.specs.Goals.{GoalOf, breaks, differ, always}
-use Rattle.dd_boxes.specs.Witnesses.{HasPeriods, IsWitness}
-use Rattle.dd_boxes.specs.lemmas.RuleLaws.{keeps_at, list_all_weaker}
-use Rattle.dd_problem.specs.TorusPeriods.{AreTorusPeriods}
-use Rattle.dd_problem.specs.pushing.Told.{IsToldGoal}
-use Rattle.dd_problem.specs.Layouts.{torus, torus_cells, fits_in}
-use Rattle.dd_problem.specs.pushing.Near.{torus_layout}
-use Rattle.dd_problem.specs.Problems.{problem_clauses, torus_problem}
-use Rattle.dd_problem.specs.Shows.{ShowsTorus}
-use Rattle.dd_problem.specs.lemmas.ValueWires.{GoalWired}
+use Rattle.dd_boxes.specs.{Goals.GoalOf, Goals.breaks, Goals.differ, Goals.always, Witnesses.HasPeriods, Witnesses.IsWitness}
+use Rattle.dd_boxes.specs.{lemmas.RuleLaws.keeps_at, lemmas.RuleLaws.list_all_weaker, TorusPeriods.AreTorusPeriods}
+use Rattle.dd_problem.specs.{pushing.Told.IsToldGoal, Layouts.torus, Layouts.torus_cells, Layouts.fits_in, pushing.Near.torus_layout}
+use Rattle.dd_problem.specs.{Problems.problem_clauses, Problems.torus_problem, Shows.ShowsTorus, lemmas.ValueWires.GoalWired}
 use Rattle.dd_problem.specs.lemmas.Parted.{premise_holds}
 use Rattle.dd_problem.specs.lemmas.Reading.{Stands, IsWired, look_allowed, read_symbols, problem_read}
-use Rattle.dd_problem.specs.lemmas.Writing.{assignment, problem_written}
-use Rattle.dd_problem.specs.lemmas.OwnVariables.{satisfied_alike}
+use Rattle.dd_problem.specs.lemmas.{Writing.assignment, Writing.problem_written, OwnVariables.satisfied_alike}
 use Rattle.dd_problem.specs.lemmas.Filtered.{filter_all, filter_at}
 use Rattle.dd_problem.specs.lemmas.Wiring.{goal_from_test, test_from_goal, HasReads, wired_layout}
 use Rattle.dd_problem.specs.lemmas.TorusLayout.{torus_of, torus_size, length-torus_cells, torus_is_tile, torus_is_layout, torus_cell_there, torus_cell_at, torus_index_at, flat_place, look_periodic}
@@ -46,13 +35,13 @@ goal_reads_torus x (breaks y) periods ok = λ a node. ap (λ n. list_all (λ c. 
 goal_reads_torus x (differ s f g) periods ok = tt
 goal_reads_torus x always periods ok = tt
 
-module _ (x : LocalRule) (g : GoalOf) (periods : Periods) (rule : IsRule x) (goal : IsToldGoal x g) (ok : AreTorusPeriods x periods) (values : GoalWired (torus_layout x g periods) x.symbols g) where
+module _ (x : LocalRule) (g : GoalOf) (periods : Periods) (rule : IsRule x) (goal : IsToldGoal x g) (ok : AreTorusPeriods x.dimension x.nodes periods) (values : GoalWired (torus_layout x g periods) x.symbols g) where
   torus_is_wired : IsWired (torus_layout x g periods) x g
   torus_is_wired =
       wired_layout (torus_layout x g periods) x g rule goal (torus_is_layout x periods rule ok g) (λ k d is. (torus_cell_at x periods rule ok k d is).node)
       (goal_reads_torus x g periods goal) values
 
-  -- the rule is true everywhere exactly where it is at all places of the layout
+  -- the rule is true everywhere exactly if it is true at all places of the layout
   holds_from_lives : (symbols : List ℕ) → Lives x (torus_of x periods symbols) → premise_holds (torus_layout x g periods) x (tile_look (torus_of x periods symbols)) ≡ true
   holds_from_lives symbols lives =
       filter_all (λ d. is_true x d (tile_look (torus_of x periods symbols))) (fits_in (torus_layout x g periods) x) (torus_cells x periods)
@@ -121,7 +110,7 @@ module _ (x : LocalRule) (g : GoalOf) (periods : Periods) (rule : IsRule x) (goa
             (assignment l x g t.symbols, Satisfies-is_satisfied (assignment l x g t.symbols) (problem_clauses l x g) done.0, done.1));
       }
 
-  -- the clauses see no variables but their own
+  -- the clauses use only their own variables
   pub torus_alike : (set other : ℕ → Bool) → Alike (torus_problem x g periods).variables other set → Satisfies set (torus_problem x g periods).clauses →
       Satisfies other (torus_problem x g periods).clauses
   torus_alike set other same ok =

@@ -1,10 +1,8 @@
 -- Each period of a torus, and each product of periods, is at most the number of its cells.
-use Rattle.std.proofs.Common.{ℕ, ◌*◌, ◌≤◌, arith}
-use Rattle.std.proofs.lemmas.Nat.{mul-le}
+use Rattle.std.proofs.{Common.ℕ, Common.◌*◌, Common.◌≤◌, Common.arith, lemmas.Nat.mul-le}
 use Rattle.dd_pattern.specs.declared.periods.Periods.{Periods}
 use Rattle.dd_formula.specs.LocalRule.{LocalRule, IsRule}
-use Rattle.dd_boxes.specs.Witnesses.{ArePeriods}
-use Rattle.dd_problem.specs.TorusPeriods.{AreTorusPeriods}
+use Rattle.dd_boxes.specs.{Witnesses.ArePeriods, TorusPeriods.AreTorusPeriods}
 
 product_small : (a b c n : ℕ) → a ≤ 8 → b ≤ 8 → c ≤ 8 → n ≤ 4 → a * b * c * n ≤ 65536
 product_small a b c n ha hb hc hn =
@@ -14,7 +12,7 @@ product_small a b c n ha hb hc hn =
     omega arith
 
 -- periods of at most 8 are some of them
-pub small_periods : (x : LocalRule) (p : Periods) → IsRule x → ArePeriods x.dimension p → AreTorusPeriods x p
+pub small_periods : (x : LocalRule) (p : Periods) → IsRule x → ArePeriods x.dimension p → AreTorusPeriods x.dimension x.nodes p
 small_periods x p rule ok = record { periods = ok.periods; few = product_small p.z p.y p.x x.nodes ok.z_most ok.y_most ok.x_most rule.nodes.1 }
 
 pub record AreSizes (x : LocalRule) (p : Periods) : Type 0 where
@@ -25,7 +23,7 @@ pub record AreSizes (x : LocalRule) (p : Periods) : Type 0 where
   pub zyx_most : p.z * p.y * p.x ≤ 65536
   pub all_most : p.z * p.y * p.x * x.nodes ≤ 65536
 
-pub torus_sizes : (x : LocalRule) (p : Periods) → IsRule x → AreTorusPeriods x p → AreSizes x p
+pub torus_sizes : (x : LocalRule) (p : Periods) → IsRule x → AreTorusPeriods x.dimension x.nodes p → AreSizes x p
 torus_sizes x p rule ok =
     let few : p.z * p.y * p.x * x.nodes ≤ 65536 = ok.few in
     let zyx : p.z * p.y * p.x * 1 ≤ p.z * p.y * p.x * x.nodes = mul-le (p.z * p.y * p.x) 1 (p.z * p.y * p.x) x.nodes (omega arith) rule.nodes.0 in

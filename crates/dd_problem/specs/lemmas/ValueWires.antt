@@ -1,35 +1,20 @@
--- Where the layout has inputs for what automata read at the origin, the gates of their values are and say what they should.
+-- If the layout has inputs for what automata read at the origin, the gates of their values are right and say the values.
 use Rattle.std.proofs.Common.{◌≡◌, ℕ, zero, suc, ◌+◌, ◌*◌, ◌<◌, ◌≤◌, Bool, true, List, [], ◌∷◌, length, refl, ap, sym, subst, ◌∙◌, arith, inl, inr, Some, eq-eqb}
-use Rattle.std.specs.Prelude.{◌==◌, not, nat_le, slice_get}
-use Rattle.std.specs.List.{Contains, list_all, range_with_len}
-use Rattle.std.proofs.lemmas.Int.{ints}
-use Rattle.std.proofs.lemmas.Bool.{and_parts, and_from, le-leb}
-use Rattle.std.proofs.lemmas.Option.{slice_get_within}
-use Rattle.std.proofs.lemmas.List.Folds.{list_all-map}
-use Rattle.std.proofs.lemmas.List.FromFn.{length-map-range_with_len}
-use Rattle.dd_lattice.specs.Cells.{cell, shifted}
-use Rattle.dd_lattice.specs.declared.position.Cell.{Cell}
-use Rattle.dd_lattice.specs.lemmas.ListLaws.{Contains-first, Contains-later, Contains-nil, Contains-cons_cases}
+use Rattle.std.proofs.lemmas.{Int.ints, Bool.and_parts, Bool.and_from, Bool.le-leb, Option.slice_get_within}
+use Rattle.std.proofs.lemmas.List.{Folds.list_all-map, FromFn.length-map-range_with_len}
+use Rattle.std.specs.{Prelude.◌==◌, Prelude.not, Prelude.nat_le, Prelude.slice_get, List.Contains, List.list_all, List.range_with_len}
+use Rattle.dd_lattice.specs.{Cells.cell, Cells.shifted, declared.position.Cell.Cell}
+use Rattle.dd_values.specs.lemmas.{Members.Contains-nil, Members.Contains-cons_cases, Lists.members_pass}
 use Rattle.dd_pattern.specs.Reading.{Look, HasSymbolsBelow}
 use Rattle.dd_expansion.specs.Truth.{is_symbol}
 use Rattle.dd_formula.specs.Automata.{CommonNumbers, IsAutomaton, counted, value}
-use Rattle.dd_formula.specs.declared.automaton.Automaton.{Automaton}
-use Rattle.dd_formula.specs.lemmas.ValueLaws.{value_below}
-use Rattle.dd_circuit.specs.declared.gates.Signal.{Signal}
-use Rattle.dd_circuit.specs.Circuits.{AreGates, signal_of, signal_value, agrees}
-use Rattle.dd_compile.specs.Wiring.{signals_of, signal_for}
-use Rattle.dd_compile.specs.RuleSignals.{is_signal, are_signals}
-use Rattle.dd_compile.specs.ValueGates.{value_made}
-use Rattle.dd_compile.specs.ValueSignals.{TellsCells, are_wired_there}
-use Rattle.dd_compile.specs.Valued.{IsMadeValue, SaysItsValue}
-use Rattle.dd_boxes.specs.Goals.{GoalOf, breaks, differ, always}
-use Rattle.dd_boxes.specs.Boxes.{origin}
-use Rattle.dd_problem.specs.Layouts.{Layout}
-use Rattle.dd_problem.specs.Clauses.{input}
-use Rattle.dd_problem.specs.pushing.Numbered.{symbol_signals}
-use Rattle.dd_problem.specs.Differing.{differ_made}
-use Rattle.dd_problem.specs.lemmas.Filtered.{some_same, slice_of_range}
-use Rattle.dd_problem.specs.lemmas.RangesLeft.{row_within}
+use Rattle.dd_formula.specs.{declared.automaton.Automaton.Automaton, lemmas.ValueLaws.value_below}
+use Rattle.dd_circuit.specs.{declared.gates.Signal.Signal, Circuits.AreGates, Circuits.signal_of, Circuits.signal_value, Circuits.agrees}
+use Rattle.dd_compile.specs.{Wiring.signals_of, Wiring.signal_for, RuleSignals.is_signal, RuleSignals.are_signals, ValueGates.value_made}
+use Rattle.dd_compile.specs.{ValueSignals.TellsCells, ValueSignals.are_wired_there, Valued.IsMadeValue, Valued.SaysItsValue}
+use Rattle.dd_boxes.specs.{Goals.GoalOf, Goals.breaks, Goals.differ, Goals.always, Boxes.origin}
+use Rattle.dd_problem.specs.{Layouts.Layout, Clauses.input, pushing.Numbered.symbol_signals, Differing.differ_made}
+use Rattle.dd_problem.specs.lemmas.{Filtered.some_same, Filtered.slice_of_range, RangesLeft.row_within}
 use Rattle.dd_problem.specs.lemmas.DifferLaws.{differ_says, differ_fits}
 
 -- the layout has the cell, with the inputs of its number
@@ -51,10 +36,6 @@ abbrev pub GoalWired : Layout → ℕ → GoalOf → Type 0
 GoalWired l m (breaks y) = Unit {0}
 GoalWired l m (differ s f g) = AreValuesWired l m s f g
 GoalWired l m always = Unit {0}
-
-pub all_members : (test : Cell → Bool) (ds : List Cell) → ((d : Cell) → Contains ds d → test d ≡ true) → list_all test ds ≡ true
-all_members test [] h = refl
-all_members test (d ∷ ds) h = and_from _ _ (h d (Contains-first d ds)) (all_members test ds (λ e there. h e (Contains-later d ds e there)))
 
 pub passes_member : (test : Cell → Bool) (ds : List Cell) (d : Cell) → list_all test ds ≡ true → Contains ds d → test d ≡ true
 passes_member test [] d h there = absurd (Contains-nil d there)
@@ -82,7 +63,7 @@ inputs_are_signals m k count n h le =
 module _ (l : Layout) (within : (c : Cell) → l.has c ≡ true → l.index c < length l.places) (s : CommonNumbers) (f : Automaton) (wired : IsValueWired l s f) (a : ℕ) (node : a < s.nodes) where
   pub value_is_wired : (n : ℕ) → length l.places * s.symbols ≤ n → are_wired_there n s.symbols l.inputs ((counted f).reads a) (cell origin a) ≡ true
   value_is_wired n le =
-      all_members (λ d. are_signals n s.symbols (signals_of l.inputs (shifted origin d))) ((counted f).reads a) (λ d there.
+      members_pass (λ d. are_signals n s.symbols (signals_of l.inputs (shifted origin d))) ((counted f).reads a) (λ d there.
       let here = wired.inputs a node d there in
       ap (are_signals n s.symbols) here.1
       ∙ inputs_are_signals s.symbols (l.index (shifted origin d)) (length l.places) n (within (shifted origin d) here.0) le)

@@ -1,27 +1,21 @@
--- Where all that is read has inputs.
+-- When all that is read has inputs.
 use Rattle.std.proofs.Common.{◌≡◌, ℕ, zero, suc, ◌+◌, ◌<◌, ◌≤◌, Bool, true, false, List, [], ◌∷◌, map, refl, ap, sym, subst, ◌∙◌, arith, Some, None, inl, inr, eq-eqb}
-use Rattle.std.specs.Prelude.{not, ◌&&◌, ◌||◌, ◌==◌, ◌⊎◌, Option, nat_lt, slice_get}
 use Rattle.std.proofs.Math.Nat.{eq-or-lt_of_le}
-use Rattle.std.specs.List.{list_all, list_any, filter, range_with_len}
 use Rattle.std.proofs.lemmas.Bool.{and_parts, and_from, or_cases, both_ways, eqb-true}
 use Rattle.std.proofs.lemmas.List.Folds.{list_all-append}
-use Rattle.dd_lattice.specs.Cells.{cell, shifted}
-use Rattle.dd_lattice.specs.declared.position.Cell.{Cell}
+use Rattle.std.specs.Prelude.{not, ◌&&◌, ◌||◌, ◌==◌, ◌⊎◌, Option, nat_lt, slice_get}
+use Rattle.std.specs.List.{list_all, list_any, filter, range_with_len}
+use Rattle.dd_lattice.specs.{Cells.cell, Cells.shifted, declared.position.Cell.Cell}
 use Rattle.dd_pattern.specs.Reading.{Look, HasSymbolsBelow}
-use Rattle.dd_expansion.specs.Terms.{origin_at}
-use Rattle.dd_expansion.specs.Leaves.{leaves_pass}
-use Rattle.dd_expansion.specs.lemmas.LeafLaws.{leaves_both}
-use Rattle.dd_expansion.specs.lemmas.LeavesAreReads.{leaves_are_reads}
+use Rattle.dd_expansion.specs.{Terms.origin_at, Leaves.leaves_pass, lemmas.LeafLaws.leaves_both, lemmas.LeavesAreReads.leaves_are_reads}
 use Rattle.dd_formula.specs.LocalRule.{LocalRule, IsRule, is_true, reads_at, expansion_at}
-use Rattle.dd_boxes.specs.Goals.{GoalOf, breaks, differ, always, HasGoal}
-use Rattle.dd_boxes.specs.Boxes.{origin}
-use Rattle.dd_problem.specs.pushing.Told.{IsToldGoal}
-use Rattle.dd_problem.specs.Layouts.{Layout, fits_in}
-use Rattle.dd_problem.specs.lemmas.Filtered.{filter_all}
 use Rattle.dd_formula.specs.Automata.{value}
+use Rattle.dd_boxes.specs.{Goals.GoalOf, Goals.breaks, Goals.differ, Goals.always, Goals.HasGoal, Boxes.origin}
+use Rattle.dd_problem.specs.{pushing.Told.IsToldGoal, Layouts.Layout, Layouts.fits_in, lemmas.Filtered.filter_all}
 use Rattle.dd_problem.specs.lemmas.ValueWires.{GoalWired}
 use Rattle.dd_problem.specs.lemmas.Parted.{reads_inputs, goal_holds, goal_reads, HasItsSymbols, job_reads}
 use Rattle.dd_problem.specs.lemmas.Reading.{IsLayout, IsWired}
+use Rattle.dd_values.specs.lemmas.Booleans.{not_true}
 
 -- a test of a range
 pub all_of_range : (p : ℕ → Bool) (n a : ℕ) → ((k : ℕ) → k < a + n → p k ≡ true) → list_all p (range_with_len a n) ≡ true
@@ -57,10 +51,6 @@ none_of_range p (suc n) a k low high h = elim (cases_first a k low) [
     or_later : (x y : Bool) → y ≡ true → (x || y) ≡ true
     or_later true y h = refl
     or_later false y h = h
-
-not_true : (b : Bool) → not b ≡ true → b ≡ false
-not_true true h = sym h
-not_true false h = refl
 
 -- the goal at the origin, and its test
 pub goal_from_test : (g : GoalOf) (look : Look) → goal_holds g look ≡ true → HasGoal g look origin

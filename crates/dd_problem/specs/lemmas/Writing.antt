@@ -1,37 +1,26 @@
 -- The assignment of symbols, and the clauses that it satisfies.
 use Rattle.std.proofs.Common.{◌≡◌, ℕ, zero, suc, ◌+◌, ◌*◌, ◌<◌, ◌≤◌, Bool, true, false, List, [], ◌∷◌, map, length, get_or, refl, ap, sym, subst, ◌∙◌, arith, Some, None}
-use Rattle.std.specs.Prelude.{◌-◌, ◌/◌, ◌%◌, ◌==◌, not, Option, nat_lt, slice_get}
-use Rattle.std.specs.List.{list_all, range_with_len}
 use Rattle.std.proofs.lemmas.Bool.{and_parts, and_from, eqb-true, ltb-true}
-use Rattle.std.proofs.lemmas.List.Folds.{list_all-append}
-use Rattle.std.proofs.lemmas.Nat.{mod-mul-add, div-mul-add, mul-add-lt}
+use Rattle.std.proofs.lemmas.{List.Folds.list_all-append, Nat.mod-mul-add, Nat.div-mul-add, Nat.mul-add-lt}
 use Rattle.std.proofs.lemmas.Option.{slice_get-get_or, slice_get_within}
 use Rattle.std.proofs.lemmas.List.FromFn.{get_or-map-range_with_len, length-map-range_with_len}
-use Rattle.dd_lattice.specs.Place.{Place}
-use Rattle.dd_lattice.specs.Cells.{cell, shifted}
-use Rattle.dd_lattice.specs.declared.position.Cell.{Cell}
+use Rattle.std.specs.Prelude.{◌-◌, ◌/◌, ◌%◌, ◌==◌, not, Option, nat_lt, slice_get}
+use Rattle.std.specs.List.{list_all, range_with_len}
+use Rattle.dd_lattice.specs.{Place.Place, Cells.cell, Cells.shifted, declared.position.Cell.Cell}
 use Rattle.dd_expansion.specs.Truth.{is_symbol}
-use Rattle.dd_formula.specs.LocalRule.{LocalRule, rule_allows, expansion_at}
-use Rattle.dd_formula.specs.Counts.{disallowed}
-use Rattle.dd_clause.specs.Clauses.{is_clause_true}
-use Rattle.dd_circuit.specs.declared.gates.Gate.{Gate}
-use Rattle.dd_circuit.specs.Circuits.{AreGates, agrees}
-use Rattle.dd_circuit.specs.Valuations.{values_from}
-use Rattle.dd_values.specs.Variables.{true_variables}
-use Rattle.dd_circuit.specs.lemmas.ValueLaws.{values_from-alike, agrees-values_from}
-use Rattle.dd_circuit.specs.lemmas.GateLists.{AreGates-append}
-use Rattle.dd_cnf.specs.Models.{is_satisfied}
-use Rattle.dd_compile.specs.Compiling.{all_made}
-use Rattle.dd_formula.specs.Automata.{CommonNumbers}
+use Rattle.dd_formula.specs.{LocalRule.LocalRule, LocalRule.rule_allows, LocalRule.expansion_at, Counts.disallowed, Automata.CommonNumbers}
 use Rattle.dd_formula.specs.declared.automaton.Automaton.{Automaton}
-use Rattle.dd_boxes.specs.Goals.{GoalOf, breaks, differ, always}
-use Rattle.dd_boxes.specs.Boxes.{origin}
+use Rattle.dd_clause.specs.Clauses.{is_clause_true}
+use Rattle.dd_circuit.specs.{declared.gates.Gate.Gate, Circuits.AreGates, Circuits.agrees, Valuations.values_from}
+use Rattle.dd_circuit.specs.lemmas.{ValueLaws.values_from-alike, ValueLaws.agrees-values_from, GateLists.AreGates-append}
+use Rattle.dd_values.specs.Variables.{true_variables}
+use Rattle.dd_cnf.specs.Models.{is_satisfied}
+use Rattle.dd_compile.specs.{Compiling.all_made, lemmas.MadeFits.made_fits}
+use Rattle.dd_boxes.specs.{Goals.GoalOf, Goals.breaks, Goals.differ, Goals.always, Boxes.origin}
 use Rattle.dd_problem.specs.Layouts.{Layout}
 use Rattle.dd_problem.specs.Clauses.{input, inputs_of, one_hot, none_of, symbol_clauses, clauses_from, cell_clauses, part_gates, part_clauses}
 use Rattle.dd_problem.specs.Problems.{wire, place_maker, goal_part, problem_parts, problem_clauses, input_count}
-use Rattle.dd_problem.specs.Symbols.{AreSymbols, AreRead, layout_look}
-use Rattle.dd_compile.specs.lemmas.MadeFits.{made_fits}
-use Rattle.dd_problem.specs.lemmas.Filtered.{none_all}
+use Rattle.dd_problem.specs.{Symbols.AreSymbols, Symbols.AreRead, Symbols.layout_look, lemmas.Filtered.none_all}
 use Rattle.dd_problem.specs.lemmas.OneHot.{one_hot_law, hot_made}
 use Rattle.dd_problem.specs.lemmas.Parts.{parts_law, PartFits, parts_fit}
 use Rattle.dd_problem.specs.lemmas.ValueWires.{AreValuesWired, GoalWired, differ_gates_fit}

@@ -1,19 +1,12 @@
 -- The cells that are read from a fundamental box, and its layout.
 use Rattle.std.specs.Prelude.{ℕ, nat_lt, ◌*◌, List, map, ◌++◌, slice_index}
 use Rattle.std.specs.List.{flat_map, range_with_len}
-use Rattle.dd_lattice.specs.Cells.{shifted}
-use Rattle.dd_lattice.specs.InOrder.{in_order}
-use Rattle.dd_lattice.specs.declared.position.Cell.{Cell}
-use Rattle.dd_pattern.specs.declared.periods.Periods.{Periods}
-use Rattle.dd_pattern.specs.Periods.{periods_volume}
-use Rattle.dd_pattern.specs.Tile.{Tile, tile, tile_index}
+use Rattle.dd_lattice.specs.{Cells.shifted, InOrder.in_order, declared.position.Cell.Cell}
+use Rattle.dd_pattern.specs.{declared.periods.Periods.Periods, Periods.periods_volume, Tile.Tile, Tile.tile, Tile.tile_index}
 use Rattle.dd_compile.specs.Wiring.{Wiring}
 use Rattle.dd_formula.specs.LocalRule.{LocalRule, cells_at}
-use Rattle.dd_boxes.specs.Cells.{box_cells}
-use Rattle.dd_boxes.specs.Goals.{GoalOf}
-use Rattle.dd_boxes.specs.Boxes.{goal_reach}
-use Rattle.dd_problem.specs.Layouts.{Layout, torus, torus_cells}
-use Rattle.dd_problem.specs.pushing.Numbered.{numbered_wiring}
+use Rattle.dd_boxes.specs.{Cells.box_cells, Goals.GoalOf, Boxes.goal_reach}
+use Rattle.dd_problem.specs.{Layouts.Layout, Layouts.torus, Layouts.torus_cells, pushing.Numbered.numbered_wiring}
 
 -- what a rule reads at a cell
 abbrev pub read_cells : LocalRule → Cell → List Cell
@@ -23,11 +16,11 @@ read_cells x d = map (shifted d.position) (cells_at x d.node)
 abbrev pub near_cells : LocalRule → GoalOf → List Cell → List Cell
 near_cells x g cells = in_order (box_cells x (goal_reach g) ++ flat_map (read_cells x) cells)
 
--- the number that stands at a cell in a periodic configuration
+-- the number at a cell of a periodic configuration
 abbrev pub number_at : Tile → Cell → ℕ
 number_at t c = slice_index t.symbols (tile_index t c)
 
--- each cell with the inputs of the number that stands there
+-- each cell with the inputs of the number there
 abbrev pub numbered_by : ℕ → Tile → List Cell → Wiring
 numbered_by m t cells = numbered_wiring m cells (map (number_at t) cells)
 

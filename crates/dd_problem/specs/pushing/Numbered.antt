@@ -1,9 +1,7 @@
 -- Inputs for cells that have numbers.
-use Rattle.std.specs.Prelude.{ℕ, List, map, length}
-use Rattle.std.specs.List.{range_with_len}
+use Rattle.std.specs.{Prelude.ℕ, Prelude.List, Prelude.map, Prelude.length, List.range_with_len}
 use Rattle.dd_lattice.specs.declared.position.Cell.{Cell}
-use Rattle.dd_circuit.specs.declared.gates.Signal.{Signal}
-use Rattle.dd_circuit.specs.Circuits.{signal_of}
+use Rattle.dd_circuit.specs.{declared.gates.Signal.Signal, Circuits.signal_of}
 use Rattle.dd_compile.specs.Wiring.{Wiring}
 use Rattle.dd_problem.specs.Clauses.{input}
 

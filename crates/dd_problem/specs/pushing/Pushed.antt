@@ -1,21 +1,15 @@
 -- The clauses of a problem over the signals of any inputs.
 use Rattle.std.specs.Prelude.{ℕ, ◌+◌, ◌*◌, ◌≡◌, ◌&&◌, Bool, true, List, [], ◌∷◌, ◌++◌, map, length, Some}
 use Rattle.std.specs.List.{list_all, filter, range_with_len}
-use Rattle.dd_lattice.specs.Place.{Place}
-use Rattle.dd_lattice.specs.Cells.{cell}
-use Rattle.dd_lattice.specs.declared.position.Cell.{Cell}
+use Rattle.dd_lattice.specs.{Place.Place, Cells.cell, declared.position.Cell.Cell}
 use Rattle.dd_clause.specs.Clauses.{ClauseList}
-use Rattle.dd_circuit.specs.declared.gates.Signal.{Signal}
-use Rattle.dd_circuit.specs.Circuits.{IsSignal}
+use Rattle.dd_circuit.specs.{declared.gates.Signal.Signal, Circuits.IsSignal}
 use Rattle.dd_compile.specs.Wiring.{Wiring, signals_of, wire_of}
-use Rattle.dd_compile.specs.Compiling.{wires_near, are_wired, compiled}
-use Rattle.dd_formula.specs.LocalRule.{LocalRule, expansion_at}
-use Rattle.dd_formula.specs.Automata.{CommonNumbers, counted}
+use Rattle.dd_compile.specs.{Compiling.wires_near, Compiling.are_wired, Compiling.compiled, ValueSignals.are_wired_there}
+use Rattle.dd_formula.specs.{LocalRule.LocalRule, LocalRule.expansion_at, Automata.CommonNumbers, Automata.counted}
 use Rattle.dd_formula.specs.declared.automaton.Automaton.{Automaton}
-use Rattle.dd_compile.specs.ValueSignals.{are_wired_there}
-use Rattle.dd_boxes.specs.Goals.{GoalOf, breaks, differ, always}
+use Rattle.dd_boxes.specs.{Goals.GoalOf, Goals.breaks, Goals.differ, Goals.always, Boxes.origin}
 use Rattle.dd_problem.specs.Differing.{differ_made}
-use Rattle.dd_boxes.specs.Boxes.{origin}
 use Rattle.dd_problem.specs.Clauses.{cell_clauses, Part, part_gates, part_clauses, units, some_true, some_false}
 
 -- each signal is one of the first n variables

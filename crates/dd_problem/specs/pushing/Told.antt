@@ -1,7 +1,5 @@
 -- Goals for questions about a rule, with what the gates of their automata keep.
-use Rattle.dd_formula.specs.LocalRule.{LocalRule, IsRule}
-use Rattle.dd_formula.specs.Automata.{CommonNumbers}
-use Rattle.dd_formula.specs.Values.{IsPlaced}
+use Rattle.dd_formula.specs.{LocalRule.LocalRule, LocalRule.IsRule, Automata.CommonNumbers, Values.IsPlaced}
 use Rattle.dd_formula.specs.declared.automaton.Automaton.{Automaton}
 use Rattle.dd_compile.specs.Valued.{SaysItsValue}
 use Rattle.dd_boxes.specs.Goals.{GoalOf, breaks, differ, always, AreAlike, AreOver}

@@ -1,14 +1,13 @@
--- Offsets that lead no further than 4 along an axis.
+-- Offsets of at most 4 along each axis.
 use Rattle.std.proofs.Common.{◌≡◌, ◌≤◌, ℕ, true, false, List, Option, Some, None, length, refl, subst, arith}
-use Rattle.std.specs.Prelude.{nat_lt, nat_le, pos, unsigned_abs, slice_get}
-use Rattle.std.specs.{List.list_any, Option.option_map_or}
 use Rattle.std.proofs.lemmas.Bool.{eqb-true, ltb-false, lt-ltb, le-leb, and_from}
 use Rattle.std.proofs.lemmas.{Int.ints, Option.slice_get_within, Map.Keys.any_passes_from_place}
+use Rattle.std.specs.{Prelude.nat_lt, Prelude.nat_le, Prelude.pos, Prelude.unsigned_abs, Prelude.slice_get, List.list_any}
+use Rattle.std.specs.Option.{option_map_or}
 use Rattle.dd_topology.specs.Grid.{edge_reach, is_offset}
 use Rattle.dd_written.specs.Values.{written_value}
-use Rattle.dd_query.specs.Tree.{Entry, Vector}
+use Rattle.dd_query.specs.{Tree.Entry, Tree.Vector, Vectors.coordinate, Vectors.place_of}
 use Rattle.dd_faults.specs.Commands.{entry_value, signed_value, has_entries, is_far}
-use Rattle.dd_query.specs.Vectors.{coordinate, place_of}
 
 close_entry : (bytes : List ℕ) (e : Entry) → nat_lt 4 (entry_value bytes e) ≡ false → unsigned_abs (signed_value bytes e) ≤ 4
 close_entry bytes (Entry.Number n) h = ltb-false 4 (written_value bytes n) h
@@ -24,7 +23,7 @@ on_axis bytes v axis close = le-leb _ _ (by (slice_get v.entries axis) refl)
     by None is = omega (arith, ints)
     by (Some e) is = rw (lt-ltb axis (length v.entries) (slice_get_within v.entries axis e is)) (close_entry bytes e (near_at bytes v.entries axis e close is))
 
--- a vector of the dimension without far entries is an offset
+-- a vector with an entry for each axis, none of them far, is an offset
 pub offset_is : (bytes : List ℕ) (d : ℕ) (v : Vector) → is_far bytes v ≡ false → has_entries d v ≡ true → is_offset d (place_of bytes v) ≡ true
 offset_is bytes d v close all =
     subst (λ (n : ℕ). is_offset n (place_of bytes v) ≡ true) (eqb-true (length v.entries) d all)

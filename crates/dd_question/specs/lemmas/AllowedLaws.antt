@@ -1,26 +1,24 @@
--- The symbols of a configuration are allowed at all cells where those of the fundamental box are.
+-- The symbols of a configuration are allowed at all cells if those of the fundamental box are.
 use Rattle.std.proofs.Common.{◌≡◌, ℕ, ◌<◌, Bool, true, length, get_or, ap, sym, subst, ◌∙◌, Some, None, inl, inr}
+use Rattle.std.proofs.lemmas.{Bool.cases_lt, Bool.lt-ltb, Bool.le-ltb, Option.slice_get-get_or}
 use Rattle.std.specs.Prelude.{Option, IfSome, cond, slice_get}
-use Rattle.std.proofs.lemmas.Bool.{cases_lt, lt-ltb, le-ltb}
-use Rattle.std.proofs.lemmas.Option.{slice_get-get_or}
 use Rattle.dd_lattice.specs.declared.position.Cell.{Cell}
 use Rattle.dd_pattern.specs.Tile.{Tile, IsTile, tile_index, tile_look, cell_in}
 use Rattle.dd_pattern.specs.lemmas.BoxLaws.{cell_at_index, index_of_cell, in_box}
 use Rattle.dd_pattern.specs.lemmas.TileSizes.{index_below}
-use Rattle.dd_formula.specs.LocalRule.{LocalRule, rule_allows}
-use Rattle.dd_formula.specs.Allowed.{HasAllowed}
+use Rattle.dd_formula.specs.{LocalRule.LocalRule, LocalRule.rule_allows, Allowed.HasAllowed}
 
 -- the symbol with the number k is one that its node allows
 abbrev pub IsAllowedAt : LocalRule → Tile → ℕ → Type 0
 IsAllowedAt r t k = rule_allows r (cell_in t k).node (get_or t.symbols k 0) ≡ true
 
--- what the test of a cell tells of its number
+-- what the test of a cell tells about its number
 pub allowed_is : (r : LocalRule) (t : Tile) (k : ℕ) (c : Cell) (symbol : ℕ) (b : Bool) → c ≡ cell_in t k → symbol ≡ get_or t.symbols k 0 →
     b ≡ rule_allows r c.node symbol → rule_allows r (cell_in t k).node (get_or t.symbols k 0) ≡ b
 allowed_is r t k c symbol b is_cell is_symbol told =
     sym (told ∙ (ap (λ (d : Cell). rule_allows r d.node symbol) is_cell ∙ ap (rule_allows r (cell_in t k).node) is_symbol))
 
-allowed_at_cell : (r : LocalRule) (t : Tile) (c : Cell) → IsTile t → ((k : ℕ) → k < length t.symbols → IsAllowedAt r t k) → c.node < t.nodes →
+pub allowed_at_cell : (r : LocalRule) (t : Tile) (c : Cell) → IsTile t → ((k : ℕ) → k < length t.symbols → IsAllowedAt r t k) → c.node < t.nodes →
     IfSome (tile_look t c) (λ s. rule_allows r c.node s ≡ true)
 allowed_at_cell r t c tile all node =
     let k = tile_index t c in

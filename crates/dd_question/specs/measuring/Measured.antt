@@ -1,10 +1,7 @@
 -- Goals as they are measured: each count cut off past its limit.
 use Rattle.std.specs.Prelude.{◌≡◌, ◌≤◌}
-use Rattle.dd_formula.specs.LocalRule.{most_reach}
-use Rattle.dd_formula.specs.Counts.{cut}
-use Rattle.dd_boxes.specs.Goals.{GoalOf}
-use Rattle.dd_boxes.specs.Counts.{goal_clauses, most_clauses}
-use Rattle.dd_boxes.specs.Boxes.{goal_reach}
+use Rattle.dd_formula.specs.{LocalRule.most_reach, Counts.cut}
+use Rattle.dd_boxes.specs.{Goals.GoalOf, Counts.goal_clauses, Counts.most_clauses, Boxes.goal_reach}
 use Rattle.dd_question.specs.declared.aims.Aim.{Aim}
 
 -- how far a goal reads, and how many clauses it has

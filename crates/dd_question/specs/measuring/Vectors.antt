@@ -1,9 +1,7 @@
--- What is tested of vectors.
+-- The tests of vectors.
 use Rattle.std.specs.Prelude.{◌≤◌, ◌&&◌, Bool, true, not, List, [], ◌∷◌, unsigned_abs}
-use Rattle.std.specs.List.{list_any}
-use Rattle.std.specs.Ordering.{is_eq}
-use Rattle.dd_lattice.specs.Place.{Place}
-use Rattle.dd_lattice.specs.Order.{place_cmp}
+use Rattle.std.specs.{List.list_any, Ordering.is_eq}
+use Rattle.dd_lattice.specs.{Place.Place, Order.place_cmp}
 
 -- along each axis at most 4
 pub record IsNear (v : Place) : Type 0 where
@@ -14,7 +12,7 @@ pub record IsNear (v : Place) : Type 0 where
 abbrev pub is_among : Place → List Place → Bool
 is_among p vs = list_any (λ q. is_eq (place_cmp p q)) vs
 
--- no vector is one of those behind it
+-- no vector comes again later in the list
 abbrev pub are_apart : List Place → Bool
 are_apart [] = true
 are_apart (v ∷ vs) = not (is_among v vs) && are_apart vs

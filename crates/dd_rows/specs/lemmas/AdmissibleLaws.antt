@@ -1,42 +1,28 @@
 -- The listed fillings are the admissible ones.
 use Rattle.std.proofs.Common.{◌≡◌, ◌<◌, ℕ, Bool, true, false, cond, List, [], ◌∷◌, length, get_or, refl, sym, ◌∙◌, ap, subst, inl, inr, arith}
-use Rattle.std.specs.Prelude.{◌||◌, not, is_some, filter}
-use Rattle.std.specs.List.{All, Contains, list_all}
-use Rattle.std.specs.Ordering.{is_eq}
 use Rattle.std.proofs.lemmas.Bool.{and_parts, cases_Bool, ltb-true, false≢true}
 use Rattle.std.proofs.lemmas.List.Elements.{filter_passes}
-use Rattle.dd_lattice.specs.Cells.{cell, shifted}
-use Rattle.dd_lattice.specs.Order.{cell_cmp}
-use Rattle.dd_lattice.specs.declared.position.Cell.{Cell}
-use Rattle.dd_lattice.specs.lemmas.InOrderLaws.{cells_equal}
-use Rattle.dd_lattice.specs.lemmas.ListLaws.{Contains-nil, Contains-cons_cases, Contains-first, Contains-later}
+use Rattle.std.specs.{Prelude.◌||◌, Prelude.not, Prelude.is_some, List.All, List.Contains, List.list_all, Ordering.is_eq}
+use Rattle.dd_lattice.specs.{Cells.cell, Cells.shifted, Order.cell_cmp, declared.position.Cell.Cell, lemmas.InOrderLaws.cells_equal}
+use Rattle.dd_values.specs.lemmas.{Members.Contains-first, Members.Contains-later, Booleans.equal_from}
+use Rattle.dd_values.specs.lemmas.Lists.{in_filter}
 use Rattle.dd_formula.specs.LocalRule.{LocalRule, is_true, reads_at}
 use Rattle.dd_boxes.specs.Fillings.{place_fits, Admissible}
 use Rattle.dd_rows.specs.Fillings.{look_of, is_true_if_it_fits, is_admissible, words, fillings}
-use Rattle.dd_rows.specs.Laws.{AreCellsOf, AreTheAdmissible}
-use Rattle.dd_rows.specs.listing.Levels.{IsWord}
+use Rattle.dd_rows.specs.{Laws.AreCellsOf, Laws.AreTheAdmissible, listing.Levels.IsWord}
+use Rattle.dd_rows.specs.lemmas.{Lists.list_all_true, Lists.is_some_get, Ready.number_later, Growing.fillings_are}
 use Rattle.dd_numbered.specs.Numbering.{rank}
-use Rattle.dd_rows.specs.lemmas.Lists.{list_all_true, is_some_get}
-use Rattle.dd_rows.specs.lemmas.Ready.{number_later, equal_from}
-use Rattle.dd_rows.specs.lemmas.Growing.{fillings_are}
 
 all_at : {X : Type 0} (P : X → Type 0) (xs : List X) (x : X) → All P xs → Contains xs x → P x
 all_at P xs x all c = subst P c.2 (all c.0 x c.1)
 
-kept_first_if : {X : Type 0} (b : Bool) (y x : X) (xs ys : List X) → b ≡ true → y ≡ x → Contains (cond b (y ∷ ys) xs) x
+pub kept_first_if : {X : Type 0} (b : Bool) (y x : X) (xs ys : List X) → b ≡ true → y ≡ x → Contains (cond b (y ∷ ys) xs) x
 kept_first_if true y x xs ys h same = subst (Contains (y ∷ ys)) same (Contains-first y ys)
 kept_first_if false y x xs ys h same = absurd (false≢true h)
 
-kept_later_if : {X : Type 0} (b : Bool) (y x : X) (ys : List X) → Contains ys x → Contains (cond b (y ∷ ys) ys) x
+pub kept_later_if : {X : Type 0} (b : Bool) (y x : X) (ys : List X) → Contains ys x → Contains (cond b (y ∷ ys) ys) x
 kept_later_if true y x ys c = Contains-later y ys x c
 kept_later_if false y x ys c = c
-
-filter_has : {X : Type 0} (p : X → Bool) (xs : List X) (x : X) → Contains xs x → p x ≡ true → Contains (filter p xs) x
-filter_has p [] x c h = absurd (Contains-nil x c)
-filter_has p (y ∷ xs) x c h = elim (Contains-cons_cases y xs x c) [
-  | inl same ↦ kept_first_if (p y) y x (filter p xs) (filter p xs) (ap p same ∙ h) same
-  | inr there ↦ kept_later_if (p y) y x (filter p xs) (filter_has p xs x there h)
-]
 
 kept_at : (p : Cell → Bool) (cs : List Cell) (c : Cell) → list_all p cs ≡ true → rank cs c < length cs → p c ≡ true
 kept_at p [] c h low = absurd (omega arith)
@@ -72,5 +58,5 @@ pub the_admissible : (x : LocalRule) (cs : List Cell) → AreCellsOf x cs → Ar
 the_admissible x cs of = record {
   only = λ ss c. admissible_holds x cs ss (all_at (IsWord x (length cs)) (fillings x cs) ss (fillings_are x cs) c).size
       (all_at (λ ts. is_admissible x cs ts ≡ true) (fillings x cs) ss (filter_passes (is_admissible x cs) (words x cs)) c);
-  each = λ ss c h. filter_has (is_admissible x cs) (words x cs) ss c (admissible_shown x cs ss of h);
+  each = λ ss c h. in_filter (is_admissible x cs) (words x cs) ss c (admissible_shown x cs ss of h);
 }

@@ -1,37 +1,23 @@
--- The formulas at places say what the rule says there; at the places that one symbol more lets fit all that it reads is given.
-use Rattle.std.proofs.Common.{◌≡◌, ◌<◌, ◌+◌, ℕ, zero, suc, Bool, true, false, cond, List, [], ◌∷◌, ◌++◌, length, get_or, take, Some, None, Result, Ok, Err, IfOk, refl, sym, ◌∙◌, ap, subst, arith}
-use Rattle.std.specs.Prelude.{◌&&◌, ◌||◌, not, slice_get, IfSome, All}
-use Rattle.std.specs.Bool.{nat_eq}
-use Rattle.std.specs.List.{list_all, position_or_len}
-use Rattle.std.specs.Ordering.{is_eq}
-use Rattle.std.proofs.Math.Path.{fun_ext}
-use Rattle.std.proofs.lemmas.Bool.{eqb-true, lt-ltb}
-use Rattle.std.proofs.lemmas.List.{take_more, length-take-le}
-use Rattle.std.proofs.lemmas.List.Folds.{list_all-append}
-use Rattle.std.proofs.lemmas.Option.{slice_get_past}
-use Rattle.dd_lattice.specs.Place.{Place, moved, is_in_range}
-use Rattle.dd_lattice.specs.Cells.{cell, shifted}
-use Rattle.dd_lattice.specs.Order.{cell_cmp}
+-- The formulas at places say what the rule says there. At the places that fit with one more symbol, all that the rule reads is given.
+use Rattle.std.proofs.Common.{◌≡◌, ◌<◌, ◌+◌, ℕ, Bool, true, false, cond, List, [], ◌∷◌, ◌++◌, length, get_or, take, Some, None, Result, Ok, Err, IfOk, refl, sym, ◌∙◌, ap, subst, arith}
+use Rattle.std.proofs.{Math.Path.fun_ext, lemmas.Bool.eqb-true, lemmas.Bool.lt-ltb, lemmas.List.take_more, lemmas.List.length-take-le}
+use Rattle.std.proofs.lemmas.{List.Folds.list_all-append, Option.slice_get_past}
+use Rattle.std.specs.{Prelude.◌&&◌, Prelude.◌||◌, Prelude.not, Prelude.slice_get, Prelude.All, Bool.nat_eq}
+use Rattle.std.specs.{List.list_all, List.position_or_len, Ordering.is_eq}
+use Rattle.dd_lattice.specs.{Place.Place, Place.moved, Place.is_in_range, Cells.cell, Cells.shifted, Order.cell_cmp}
 use Rattle.dd_lattice.specs.declared.position.Cell.{Cell}
 use Rattle.dd_pattern.specs.Reading.{Look, HasSymbolsBelow}
-use Rattle.dd_expansion.specs.declared.expanded.Expanded.{Expanded}
-use Rattle.dd_expansion.specs.Leaves.{holds}
-use Rattle.dd_numbered.specs.declared.numbered.Numbered.{Numbered}
-use Rattle.dd_numbered.specs.Numbered.{holds_in}
+use Rattle.dd_expansion.specs.{declared.expanded.Expanded.Expanded, Leaves.holds}
+use Rattle.dd_numbered.specs.{declared.numbered.Numbered.Numbered, Numbered.holds_in}
 use Rattle.dd_numbered.specs.Numbering.{rank, read_by, symbol_with}
 use Rattle.dd_formula.specs.LocalRule.{LocalRule, is_given, is_true}
 use Rattle.dd_rows.specs.Fillings.{look_of}
 use Rattle.dd_rows.specs.listing.Levels.{AreInRange, are_true, is_true_if_given, last_number, settled}
 use Rattle.dd_rows.specs.listing.Formulas.{ranks_near, are_all_true, SaysTrue, SayTrue}
-use Rattle.dd_rows.specs.lemmas.Lists.{list_all_where}
-use Rattle.dd_rows.specs.lemmas.Ready.{fits_when, given_where, number_past_range}
+use Rattle.dd_rows.specs.lemmas.{Lists.list_all_where, Ready.fits_when, Ready.given_where, Ready.number_past_range}
+use Rattle.dd_values.specs.lemmas.Lists.{below_at}
 
 -- ---- one place
-
-below_at : (n : ℕ) (ss : List ℕ) → All (λ s. s < n) ss → (i : ℕ) → IfSome (slice_get ss i) (λ s. s < n)
-below_at n [] h i = tt
-below_at n (s ∷ ss) h zero = h zero s (omega arith)
-below_at n (s ∷ ss) h (suc i) = below_at n ss (λ k d within. h (suc k) d (omega (arith, within))) i
 
 look_below : (n : ℕ) (cs : List Cell) (ss : List ℕ) → All (λ s. s < n) ss → HasSymbolsBelow n (look_of cs ss)
 look_below n cs ss below c = below_at n ss below (position_or_len (λ d. is_eq (cell_cmp d c)) cs)

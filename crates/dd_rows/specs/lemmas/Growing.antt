@@ -1,25 +1,20 @@
 -- The fillings of one cell more.
-use Rattle.std.proofs.Common.{◌≡◌, ◌<◌, ◌≤◌, ◌+◌, ℕ, zero, suc, Bool, List, [], ◌∷◌, ◌++◌, length, get_or, map, take, refl, sym, ◌∙◌, ap, subst, inl, inr, arith}
+use Rattle.std.proofs.Common.{◌≡◌, ◌<◌, ◌≤◌, ◌+◌, ℕ, Bool, List, [], ◌∷◌, ◌++◌, length, get_or, map, take, refl, sym, ◌∙◌, ap, subst, inl, inr, arith}
 use Rattle.std.proofs.lemmas.Bool.{cases_lt}
-use Rattle.std.specs.Prelude.{filter}
-use Rattle.std.specs.List.{All, flat_map, range_with_len}
-use Rattle.std.specs.List.Sorted.{IsStrictlySortedBy}
 use Rattle.std.proofs.lemmas.List.{append-nil, take_more, length-append, length-take-le}
-use Rattle.std.proofs.lemmas.List.Elements.{All-filter, All-nil, All-append, All-push}
-use Rattle.std.proofs.lemmas.List.FromFn.{length-range_with_len, get_or-range_with_len}
-use Rattle.std.proofs.lemmas.List.Folds.{flat_map-map}
-use Rattle.std.proofs.lemmas.List.Concat.{flat_map_single}
-use Rattle.std.proofs.lemmas.Simd.{map-map}
-use Rattle.dd_lattice.specs.Order.{cell_cmp}
-use Rattle.dd_lattice.specs.declared.position.Cell.{Cell}
+use Rattle.std.proofs.lemmas.List.Elements.{All-filter, All-nil, All-push}
+use Rattle.std.proofs.lemmas.List.{FromFn.length-range_with_len, FromFn.get_or-range_with_len, Folds.flat_map-map}
+use Rattle.std.proofs.lemmas.{List.Concat.flat_map_single, Simd.map-map}
+use Rattle.std.specs.{Prelude.filter, List.All, List.flat_map, List.range_with_len, List.Sorted.IsStrictlySortedBy}
+use Rattle.dd_lattice.specs.{Order.cell_cmp, declared.position.Cell.Cell}
 use Rattle.dd_numbered.specs.declared.numbered.Numbered.{Numbered}
 use Rattle.dd_formula.specs.LocalRule.{LocalRule, rule_allows}
 use Rattle.dd_rows.specs.Fillings.{allowed_symbols, words, is_admissible, fillings, most_fillings}
 use Rattle.dd_rows.specs.listing.Levels.{AreInRange, IsWord, AreWords, are_true, extended, settled}
 use Rattle.dd_rows.specs.listing.Formulas.{SayTrue, are_all_true}
-use Rattle.dd_rows.specs.lemmas.Lists.{filter_agree, flat_map_same, flat_map_agree, map_flat_map, flat_map_flat_map, filter_flat_map, flat_map_filter, filter_if, all_first, all_rest}
-use Rattle.dd_rows.specs.lemmas.Ready.{admissible_parts}
-use Rattle.dd_rows.specs.lemmas.FormulaLaws.{settled_truth}
+use Rattle.dd_rows.specs.lemmas.Lists.{filter_agree, flat_map_same, flat_map_flat_map, filter_flat_map, flat_map_filter, filter_if}
+use Rattle.dd_rows.specs.lemmas.{Ready.admissible_parts, FormulaLaws.settled_truth}
+use Rattle.dd_values.specs.lemmas.Lists.{flat_map_agree, map_flat_map, all_cons, all_map, all_flat_map}
 
 -- one symbol more at the end
 abbrev longer : LocalRule → ℕ → List ℕ → List (List ℕ)
@@ -39,19 +34,7 @@ words_more x (d ∷ cs) c =
     (allowed_symbols x d.node)
     ∙ sym (flat_map_flat_map g begun (allowed_symbols x d.node))
 
--- lists whose members are all so
-
-pub all_cons : {X : Type 0} (P : X → Type 0) (x : X) (xs : List X) → P x → All P xs → (k : ℕ) (d : X) → k < length (x ∷ xs) → P (get_or (x ∷ xs) k d)
-all_cons P x xs p h zero d within = p
-all_cons P x xs p h (suc k) d within = h k d (omega (arith, within))
-
-pub all_map : {X Y : Type 0} (P : Y → Type 0) (Q : X → Type 0) (f : X → Y) → ((x : X) → Q x → P (f x)) → (xs : List X) → All Q xs → All P (map f xs)
-all_map P Q f h [] all = All-nil P
-all_map P Q f h (x ∷ xs) all = all_cons P (f x) (map f xs) (h x (all_first Q x xs all)) (all_map P Q f h xs (all_rest Q x xs all))
-
-pub all_flat_map : {X Y : Type 0} (P : Y → Type 0) (Q : X → Type 0) (f : X → List Y) → ((x : X) → Q x → All P (f x)) → (xs : List X) → All Q xs → All P (flat_map f xs)
-all_flat_map P Q f h [] all = All-nil P
-all_flat_map P Q f h (x ∷ xs) all = All-append P (f x) (flat_map f xs) (h x (all_first Q x xs all)) (all_flat_map P Q f h xs (all_rest Q x xs all))
+-- lists whose members all have a property
 
 pub range_below : (n : ℕ) → All (λ s. s < n) (range_with_len 0 n)
 range_below n = λ k d within.

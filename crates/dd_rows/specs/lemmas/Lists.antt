@@ -1,23 +1,13 @@
 -- Lists that are joined, mapped and filtered.
 use Rattle.std.proofs.Common.{◌≡◌, ◌+◌, ℕ, zero, suc, Bool, true, false, cond, List, [], ◌∷◌, ◌++◌, length, map, take, min, max, refl, sym, ◌∙◌, ap, inl, inr, arith}
-use Rattle.std.specs.Prelude.{◌&&◌, ◌||◌, not, filter, nat_lt, is_some, slice_get}
-use Rattle.std.specs.List.{All, flat_map, list_all, prefix_len, range_with_len}
 use Rattle.std.proofs.lemmas.Bool.{and_from, false≢true, cases_lt, lt-ltb, le-ltb}
-use Rattle.std.proofs.lemmas.List.{map-append}
 use Rattle.std.proofs.lemmas.List.Elements.{filter-append, All-take, All-from_recursion, recursion_from_All}
-use Rattle.std.specs.List.Sorted.{IsStrictlySortedBy}
-use Rattle.std.specs.declared.cmp.Ordering.{Ordering}
-use Rattle.std.specs.declared.cmp.Ordering.TheVariants.{Less}
-use Rattle.dd_expansion.specs.Limits.{greatest}
 use Rattle.std.proofs.lemmas.List.Concat.{flat_map-append}
-
-pub flat_map_agree : {X Y : Type 0} (f g : X → List Y) → ((x : X) → f x ≡ g x) → (xs : List X) → flat_map f xs ≡ flat_map g xs
-flat_map_agree f g same [] = refl
-flat_map_agree f g same (x ∷ xs) = ap (λ ys. ys ++ flat_map f xs) (same x) ∙ ap (λ ys. g x ++ ys) (flat_map_agree f g same xs)
-
-pub map_flat_map : {X Y Z : Type 0} (h : Y → Z) (f : X → List Y) (xs : List X) → map h (flat_map f xs) ≡ flat_map (λ x. map h (f x)) xs
-map_flat_map h f [] = refl
-map_flat_map h f (x ∷ xs) = map-append h (f x) (flat_map f xs) ∙ ap (λ ys. map h (f x) ++ ys) (map_flat_map h f xs)
+use Rattle.std.specs.Prelude.{◌&&◌, ◌||◌, not, filter, nat_lt, is_some, slice_get}
+use Rattle.std.specs.List.{All, flat_map, list_all, prefix_len, Sorted.IsStrictlySortedBy}
+use Rattle.std.specs.declared.cmp.Ordering.{Ordering, TheVariants.Less}
+use Rattle.dd_expansion.specs.Limits.{greatest}
+use Rattle.dd_values.specs.lemmas.{Booleans.and_four, Lists.all_first, Lists.all_rest}
 
 pub flat_map_flat_map : {X Y Z : Type 0} (g : Y → List Z) (f : X → List Y) (xs : List X) → flat_map g (flat_map f xs) ≡ flat_map (λ x. flat_map g (f x)) xs
 flat_map_flat_map g f [] = refl
@@ -26,12 +16,6 @@ flat_map_flat_map g f (x ∷ xs) = flat_map-append g (f x) (flat_map f xs) ∙ a
 pub filter_flat_map : {X Y : Type 0} (p : Y → Bool) (f : X → List Y) (xs : List X) → filter p (flat_map f xs) ≡ flat_map (λ x. filter p (f x)) xs
 filter_flat_map p f [] = refl
 filter_flat_map p f (x ∷ xs) = filter-append p (f x) (flat_map f xs) ∙ ap (λ ys. filter p (f x) ++ ys) (filter_flat_map p f xs)
-
-pub all_first : {X : Type 0} (P : X → Type 0) (x : X) (xs : List X) → All P (x ∷ xs) → P x
-all_first P x xs h = h 0 x (omega arith)
-
-pub all_rest : {X : Type 0} (P : X → Type 0) (x : X) (xs : List X) → All P (x ∷ xs) → All P xs
-all_rest P x xs h = λ k d within. h (suc k) d (omega (arith, within))
 
 -- functions and tests that agree on the items of a list
 pub flat_map_same : {X Y : Type 0} (P : X → Type 0) (f g : X → List Y) → ((x : X) → P x → f x ≡ g x) → (xs : List X) → All P xs → flat_map f xs ≡ flat_map g xs
@@ -79,20 +63,6 @@ pub filter_if : {X Y : Type 0} (p q : Y → Bool) (b : Bool) (h : X → Y) → (
 filter_if p q true h same [] = refl
 filter_if p q false h same [] = refl
 filter_if p q b h same (x ∷ xs) = cons_if (p (h x)) b (q (h x)) (h x) (filter p (map h xs)) (filter q (map h xs)) (same x) (filter_if p q b h same xs)
-
-pub list_all_agree : {X : Type 0} (p q : X → Bool) → ((x : X) → p x ≡ q x) → (xs : List X) → list_all p xs ≡ list_all q xs
-list_all_agree p q same [] = refl
-list_all_agree p q same (x ∷ xs) = ap (λ b. b && list_all p xs) (same x) ∙ ap (λ b. q x && b) (list_all_agree p q same xs)
-
-four : (a b c d : Bool) → ((a && b) && (c && d)) ≡ ((a && c) && (b && d))
-four true b true d = refl
-four true true false d = refl
-four true false false d = refl
-four false b c d = refl
-
-pub list_all_both : {X : Type 0} (p q : X → Bool) (xs : List X) → list_all (λ x. p x && q x) xs ≡ (list_all p xs && list_all q xs)
-list_all_both p q [] = refl
-list_all_both p q (x ∷ xs) = ap (λ b. (p x && q x) && b) (list_all_both p q xs) ∙ four (p x) (q x) (list_all p xs) (list_all q xs)
 
 all_of_step : (q a b : Bool) → ((not q || a) && b) ≡ cond q (a && b) b
 all_of_step true a b = refl
@@ -146,11 +116,6 @@ sorted_take R (suc n) [] up = tt
 sorted_take {K} R (suc n) (x ∷ xs) up =
     let P : K → Type 0 = λ y. R x y ≡ Less in
     (recursion_from_All P (take n xs) (All-take P n xs (All-from_recursion P xs up.0)), sorted_take R n xs up.1)
-
-pub range_last : (k n : ℕ) → range_with_len k (suc n) ≡ range_with_len k n ++ (k + n) ∷ []
-range_last k zero = ap (λ i. i ∷ []) (let same : k ≡ k + 0 = omega arith in same)
-range_last k (suc n) =
-    ap (λ is. k ∷ is) (range_last (k + 1) n ∙ ap (λ i. range_with_len (k + 1) n ++ i ∷ []) (let same : (k + 1) + n ≡ k + suc n = omega arith in same))
 
 pub greatest_push : (ns : List ℕ) (n : ℕ) → greatest (ns ++ n ∷ []) ≡ max (greatest ns) n
 greatest_push [] n = omega arith

@@ -1,36 +1,23 @@
--- Which places fit once the first cells have symbols, and that the rule says the same there of more symbols.
-use Rattle.std.proofs.Common.{◌≡◌, ◌<◌, ◌≤◌, ◌+◌, ℕ, zero, suc, Bool, true, false, cond, List, [], ◌∷◌, ◌++◌, length, get_or, map, take, drop, min, max, refl, sym, ◌∙◌, ap, subst, inl, inr, arith, get_or-drop, length-drop}
-use Rattle.std.specs.Prelude.{◌&&◌, ◌||◌, not, nat_lt, is_some, slice_get, Option, None}
-use Rattle.std.specs.Bool.{nat_eq}
-use Rattle.std.specs.List.{list_all}
-use Rattle.std.specs.List.Sorted.{IsStrictlySortedBy}
-use Rattle.std.specs.Ordering.{is_eq}
-use Rattle.std.specs.Cmp.{IsTotalOrder, tied_itself}
-use Rattle.std.specs.Cmp.Rules.{comparing}
-use Rattle.std.specs.declared.cmp.Ordering.{Ordering}
-use Rattle.std.specs.declared.cmp.Ordering.TheVariants.{Less, Equal, Greater}
-use Rattle.std.proofs.Common.{rules}
+-- Which places fit once the first cells have symbols. The rule says the same there when there are more symbols.
+use Rattle.std.proofs.Common.{◌≡◌, ◌<◌, ◌≤◌, ◌+◌, ℕ, zero, suc, Bool, true, false, cond, List, [], ◌∷◌, ◌++◌, length, get_or, map, take, drop, min, max, refl, sym, ◌∙◌, ap, subst, inl, inr, arith, get_or-drop, length-drop, rules}
 use Rattle.std.proofs.lemmas.Bool.{and_parts, and_from, and_left, and_right, cases_lt, cases_order, cases_Bool, lt-ltb, le-ltb, ltb-true, ne_eqb, eq-eqb, false≢true}
 use Rattle.std.proofs.lemmas.List.{take-append-drop, get_or_default, length-append}
-use Rattle.std.proofs.lemmas.List.Sums.{prefix_len-le-length}
-use Rattle.std.proofs.lemmas.List.Folds.{list_all-append}
-use Rattle.dd_lattice.specs.Place.{moved, IsInRange, is_in_range}
-use Rattle.dd_lattice.specs.Cells.{shifted}
-use Rattle.dd_lattice.specs.Order.{cell_cmp}
-use Rattle.dd_lattice.specs.declared.position.Cell.{Cell}
-use Rattle.dd_lattice.specs.lemmas.InOrderLaws.{cells_equal, list_all-in_order}
-use Rattle.dd_lattice.specs.lemmas.ListLaws.{sorted_first, sorted_rest}
-use Rattle.dd_lattice.specs.lemmas.RangeLaws.{test_from_in_range}
+use Rattle.std.proofs.lemmas.List.{Sums.prefix_len-le-length, Folds.list_all-append}
+use Rattle.std.specs.Prelude.{◌&&◌, ◌||◌, not, nat_lt, is_some, slice_get, Option, None}
+use Rattle.std.specs.{Bool.nat_eq, List.list_all, List.Sorted.IsStrictlySortedBy, Ordering.is_eq, Cmp.IsTotalOrder, Cmp.tied_itself}
+use Rattle.std.specs.Cmp.Rules.{comparing}
+use Rattle.dd_lattice.specs.{Place.moved, Place.IsInRange, Place.is_in_range, Cells.shifted, Order.cell_cmp, declared.position.Cell.Cell}
+use Rattle.dd_lattice.specs.lemmas.{InOrderLaws.cells_equal, InOrderLaws.list_all-in_order, RangeLaws.test_from_in_range}
+use Rattle.dd_values.specs.lemmas.{Members.sorted_first, Members.sorted_rest, Booleans.equal_from}
+use Rattle.dd_values.specs.lemmas.Lists.{list_all_agree, list_all_both}
 use Rattle.dd_pattern.specs.Reading.{Look}
-use Rattle.dd_expansion.specs.Leaves.{seen}
-use Rattle.dd_expansion.specs.Limits.{greatest}
+use Rattle.dd_expansion.specs.{Leaves.seen, Limits.greatest}
 use Rattle.dd_formula.specs.LocalRule.{LocalRule, is_true, is_given, reads_at, cells_at}
-use Rattle.dd_boxes.specs.Fillings.{place_fits}
-use Rattle.dd_boxes.specs.lemmas.RuleLaws.{keeps_at, list_all_weaker}
+use Rattle.dd_boxes.specs.{Fillings.place_fits, lemmas.RuleLaws.keeps_at, lemmas.RuleLaws.list_all_weaker}
 use Rattle.dd_rows.specs.Fillings.{look_of, is_true_if_it_fits, is_admissible}
 use Rattle.dd_rows.specs.listing.Levels.{AreInRange, last_number, settled, is_true_if_given, are_true}
+use Rattle.dd_rows.specs.lemmas.Lists.{list_all_filter, list_all_true, prefix_of_take, is_some_get, get_longer}
 use Rattle.dd_numbered.specs.Numbering.{rank}
-use Rattle.dd_rows.specs.lemmas.Lists.{list_all_agree, list_all_both, list_all_filter, list_all_true, prefix_of_take, is_some_get, get_longer}
 
 -- numbers of cells
 
@@ -66,10 +53,10 @@ cell_total = search (comparing, rules) depth 9
 pub number_later : (x c : Cell) (cs : List Cell) → is_eq (cell_cmp x c) ≡ false → rank (x ∷ cs) c ≡ suc (rank cs c)
 number_later x c cs h = rw h (omega arith)
 
-number_here : (x c : Cell) (cs : List Cell) → is_eq (cell_cmp x c) ≡ true → rank (x ∷ cs) c ≡ 0
+pub number_here : (x c : Cell) (cs : List Cell) → is_eq (cell_cmp x c) ≡ true → rank (x ∷ cs) c ≡ 0
 number_here x c cs h = rw h refl
 
-same_cell : (x c : Cell) → x ≡ c → is_eq (cell_cmp x c) ≡ true
+pub same_cell : (x c : Cell) → x ≡ c → is_eq (cell_cmp x c) ≡ true
 same_cell x c e = ap is_eq (ap (λ z. cell_cmp z c) e ∙ tied_itself cell_total c)
 
 -- the number of a cell in a list in cell order is its place
@@ -80,11 +67,6 @@ number_is (x ∷ cs) up (suc i) c h e =
     let below : i < length cs = omega arith in
     let less = sorted_first cell_cmp x cs up c (i, below, e) in
     number_later x c cs (ap is_eq less) ∙ ap suc (number_is cs (sorted_rest cell_cmp x cs up) i c below e)
-
-pub equal_from : (o : Ordering) → is_eq o ≡ true → o ≡ Equal
-equal_from Less h = absurd (false≢true h)
-equal_from Equal h = refl
-equal_from Greater h = absurd (false≢true h)
 
 -- a cell that has a number stands in the list
 number_in_range : (cs : List Cell) → AreInRange cs → (c : Cell) → rank cs c < length cs → IsInRange c.position
@@ -126,7 +108,7 @@ same_symbol all j ss s c size h =
     let same : rank (take j all) c ≡ rank (take (j + 1) all) c = omega (arith, low, here, there) in
     get_longer ss s (rank (take j all) c) h ∙ ap (slice_get (ss ++ s ∷ [])) same
 
--- where a place fits, the rule says the same of one symbol more
+-- where a place fits, one more symbol doesn't change what the rule says
 same_truth : (x : LocalRule) (all : List Cell) (j : ℕ) (ss : List ℕ) (s : ℕ) (d : Cell) → length ss ≡ j → place_fits x (look_of (take j all) ss) d ≡ true →
     is_true x d (look_of (take j all) ss) ≡ is_true x d (look_of (take (j + 1) all) (ss ++ s ∷ []))
 same_truth x all j ss s d size fits =

@@ -1,12 +1,8 @@
 -- The rule at places of a list of cells, as formulas over the cells' symbols.
-use Rattle.std.specs.Prelude.{ℕ, ◌<◌, ◌≡◌, Bool, List, length, All}
-use Rattle.std.specs.List.{list_all}
-use Rattle.dd_lattice.specs.Place.{Place}
-use Rattle.dd_lattice.specs.declared.position.Cell.{Cell}
+use Rattle.std.specs.{Prelude.ℕ, Prelude.◌<◌, Prelude.◌≡◌, Prelude.Bool, Prelude.List, Prelude.length, Prelude.All, List.list_all}
+use Rattle.dd_lattice.specs.{Place.Place, declared.position.Cell.Cell}
 use Rattle.dd_expansion.specs.Leaves.{seen}
-use Rattle.dd_numbered.specs.declared.numbered.Numbered.{Numbered}
-use Rattle.dd_numbered.specs.Numbered.{holds_in}
-use Rattle.dd_numbered.specs.Numbering.{Numbering, by_rank}
+use Rattle.dd_numbered.specs.{declared.numbered.Numbered.Numbered, Numbered.holds_in, Numbering.Numbering, Numbering.by_rank}
 use Rattle.dd_formula.specs.LocalRule.{LocalRule, is_true}
 use Rattle.dd_rows.specs.Fillings.{look_of}
 
@@ -18,7 +14,7 @@ ranks_near cs v = seen (by_rank cs) v
 abbrev pub are_all_true : List Numbered → List ℕ → Bool
 are_all_true es ss = list_all (λ e. holds_in e ss) es
 
--- the formula says of symbols for all the cells what the rule says at the cell
+-- on symbols for all the cells, the formula says what the rule says at the cell
 abbrev pub SaysTrue : LocalRule → List Cell → Cell → Numbered → Type 0
 SaysTrue x cs c e = (ss : List ℕ) → length ss ≡ length cs → All (λ s. s < x.symbols) ss → holds_in e ss ≡ is_true x c (look_of cs ss)
 

@@ -1,10 +1,7 @@
 -- The fillings of the first cells, one cell after another.
 use Rattle.std.specs.Prelude.{ℕ, ◌<◌, ◌≡◌, Bool, not, cond, ◌||◌, List, [], ◌∷◌, ◌++◌, map, filter, length, All}
-use Rattle.std.specs.Bool.{nat_eq}
-use Rattle.std.specs.List.{range_with_len, list_all}
-use Rattle.dd_lattice.specs.Cells.{shifted}
-use Rattle.dd_lattice.specs.Place.{IsInRange}
-use Rattle.dd_lattice.specs.declared.position.Cell.{Cell}
+use Rattle.std.specs.{Bool.nat_eq, List.range_with_len, List.list_all}
+use Rattle.dd_lattice.specs.{Cells.shifted, Place.IsInRange, declared.position.Cell.Cell}
 use Rattle.dd_expansion.specs.Limits.{greatest}
 use Rattle.dd_pattern.specs.Reading.{Look}
 use Rattle.dd_formula.specs.LocalRule.{LocalRule, is_true, is_given, cells_at, rule_allows}
@@ -26,7 +23,7 @@ last_number x cs c = greatest (rank cs c ∷ map (λ d. rank cs (shifted c.posit
 abbrev pub settled : LocalRule → List Cell → ℕ → List Cell
 settled x cs k = filter (λ c. nat_eq (last_number x cs c) k) cs
 
--- the cells with the number, where each has the number at its place
+-- the cells with this number, if each has the number at its place
 abbrev pub chosen : List ℕ → List Cell → ℕ → List Cell
 chosen [] cs k = []
 chosen (n ∷ ns) [] k = []
@@ -39,7 +36,7 @@ is_true_if_given x look c = not (is_given x c look) || is_true x c look
 abbrev pub are_true : LocalRule → List Cell → List Cell → List ℕ → Bool
 are_true x cs places ss = list_all (is_true_if_given x (look_of cs ss)) places
 
--- with one more symbol below n that the node allows, where the list passes the test
+-- the list with one more symbol below n that the node allows, if it then passes the test
 abbrev pub extended_below : LocalRule → (List ℕ → Bool) → ℕ → List ℕ → ℕ → List (List ℕ)
 extended_below x test a ss n = filter test (map (λ s. ss ++ s ∷ []) (filter (rule_allows x a) (range_with_len 0 n)))
 

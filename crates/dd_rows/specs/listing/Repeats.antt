@@ -1,9 +1,6 @@
--- Fillings of which the views show the same.
+-- Fillings whose views show the same.
 use Rattle.std.specs.Prelude.{ℕ, ◌<◌, ◌≡◌, List, [], ◌∷◌, ◌++◌, map, All}
-use Rattle.dd_rows.specs.declared.views.Views.{Views}
-use Rattle.dd_rows.specs.listing.Views.{symbols_at}
-use Rattle.dd_rows.specs.listing.Shown.{patterns_shown}
-use Rattle.dd_rows.specs.Programs.{first_seen}
+use Rattle.dd_rows.specs.{declared.views.Views.Views, listing.Views.symbols_at, listing.Shown.patterns_shown, Programs.first_seen}
 use Rattle.dd_rows.specs.listing.Sparse.{asked_rows}
 
 -- all views, and the origin's own cells

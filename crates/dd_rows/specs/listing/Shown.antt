@@ -1,22 +1,17 @@
 -- The program of fillings, by what their views show.
-use Rattle.std.specs.Prelude.{ℕ, ◌<◌, ◌≤◌, ◌≡◌, ◌⊎◌, List, length}
-use Rattle.std.specs.List.{flat_map}
-use Rattle.dd_rows.specs.declared.rows.Row.{Row}
-use Rattle.dd_rows.specs.declared.rows.Rows.{Rows}
-use Rattle.dd_rows.specs.declared.views.Views.{Views}
-use Rattle.dd_rows.specs.Patterns.{in_lexicographic_order}
+use Rattle.std.specs.{Prelude.ℕ, Prelude.◌<◌, Prelude.◌≤◌, Prelude.◌≡◌, Prelude.◌⊎◌, Prelude.List, Prelude.length, List.flat_map}
+use Rattle.dd_rows.specs.{declared.rows.Row.Row, declared.rows.Rows.Rows, declared.views.Views.Views, Patterns.in_lexicographic_order}
 use Rattle.dd_rows.specs.Programs.{first_seen, column_count, most_columns, most_rows}
-use Rattle.dd_rows.specs.listing.Views.{patterns_seen}
-use Rattle.dd_rows.specs.listing.Sparse.{asked_rows}
+use Rattle.dd_rows.specs.listing.{Views.patterns_seen, Sparse.asked_rows}
 
 abbrev pub patterns_shown : Views → List (List ℕ) → List (List ℕ)
 patterns_shown v fillings = in_lexicographic_order (flat_map (patterns_seen v) fillings)
 
--- the rows that the fillings ask, behind the one that no position holds more than the heaviest
+-- the rows that the fillings require, after the one that no position holds more than a heaviest one
 abbrev pub rows_shown : Views → List ℕ → ℕ → List (List ℕ) → List Row
 rows_shown v ws most fillings = first_seen (asked_rows (patterns_shown v fillings) v ws most fillings)
 
--- the program, which is within its limits
+-- the program, within its limits
 pub record IsProgramShown (v : Views) (ws : List ℕ) (most : ℕ) (fillings : List (List ℕ)) (p : Rows) : Type 0 where
   pub patterns_are : p.patterns ≡ patterns_shown v fillings
   pub rows_are : p.rows ≡ rows_shown v ws most fillings

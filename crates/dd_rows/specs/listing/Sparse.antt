@@ -1,17 +1,12 @@
 -- Rows by what goes out and comes in along each vector: along each, at most two of a row's coefficients are not 0.
 use Rattle.std.specs.Prelude.{ℕ, ◌*◌, ◌≤◌, ◌≡◌, cond, pos, ◌-ℤ◌, ℤ, List, ◌∷◌, map, length, replicate, Option, Some, None}
-use Rattle.std.specs.Bool.{nat_eq}
-use Rattle.std.specs.List.{All, flat_map, range_with_len}
+use Rattle.std.specs.{Bool.nat_eq, List.All, List.flat_map, List.range_with_len}
 use Rattle.dd_pattern.specs.Weight.{total_weight}
-use Rattle.dd_rows.specs.declared.rows.Row.{Row}
-use Rattle.dd_rows.specs.declared.sparse.Exchange.{Exchange}
-use Rattle.dd_rows.specs.declared.sparse.SparseRow.{SparseRow}
-use Rattle.dd_rows.specs.declared.views.Views.{Views}
-use Rattle.dd_rows.specs.Patterns.{pattern_number}
-use Rattle.dd_rows.specs.Programs.{one_at, coefficients, add_row}
+use Rattle.dd_rows.specs.declared.{rows.Row.Row, sparse.Exchange.Exchange, sparse.SparseRow.SparseRow}
+use Rattle.dd_rows.specs.{declared.views.Views.Views, Patterns.pattern_number, Programs.one_at, Programs.coefficients, Programs.add_row}
 use Rattle.dd_rows.specs.listing.Views.{symbols_at}
 
--- by the numbers of two patterns; none where they are one, since the amounts cancel
+-- by the numbers of two patterns; none if they are the same, since the amounts cancel
 abbrev pub exchange_of : ℕ → ℕ → Option Exchange
 exchange_of gives receives = cond (nat_eq gives receives) None (Some (record { gives = gives; receives = receives }))
 
@@ -48,7 +43,7 @@ pub record IsWithRow (vectors patterns : ℕ) (old : List SparseRow) (r : Sparse
 abbrev pub exchanges_of : List (List ℕ) → Views → List ℕ → List (Option Exchange)
 exchanges_of ps v ss = map (λ numbers. exchange_of (pattern_number ps (symbols_at ss v.origin)) (pattern_number ps (symbols_at ss numbers))) v.givers
 
--- the row that it asks
+-- the row that a filling requires
 abbrev pub asked_row : List (List ℕ) → Views → List ℕ → List ℕ → Row
 asked_row ps v ws ss = record { coefficients = coefficients ps (symbols_at ss v.origin) (map (symbols_at ss) v.givers); bound = total_weight ws (symbols_at ss v.centre) }
 

@@ -1,17 +1,11 @@
--- Where the cells of a box around a position stand among cells, and the symbols there.
+-- The places, among some cells, of the cells of a box around a position, and the symbols there.
 use Rattle.std.specs.Prelude.{ℕ, ◌≡◌, List, ◌∷◌, map, unwrap_or, slice_get}
-use Rattle.std.specs.List.{fold, range_with_len}
-use Rattle.std.specs.Ordering.{nat_cmp}
-use Rattle.std.specs.Cmp.Lexicographic.{slice_cmp}
-use Rattle.std.specs.BTreeSet.{insert_key}
-use Rattle.dd_lattice.specs.Place.{Place}
-use Rattle.dd_lattice.specs.Cells.{cell, shifted}
-use Rattle.dd_lattice.specs.declared.position.Cell.{Cell}
+use Rattle.std.specs.{List.fold, List.range_with_len, Ordering.nat_cmp, Cmp.Lexicographic.slice_cmp, BTreeSet.insert_key}
+use Rattle.dd_lattice.specs.{Place.Place, Cells.cell, Cells.shifted, declared.position.Cell.Cell}
 use Rattle.dd_topology.specs.Topology.{reversed}
 use Rattle.dd_formula.specs.LocalRule.{LocalRule}
 use Rattle.dd_rows.specs.declared.views.Views.{Views}
-use Rattle.dd_boxes.specs.Cells.{box_cells}
-use Rattle.dd_boxes.specs.Boxes.{origin}
+use Rattle.dd_boxes.specs.{Cells.box_cells, Boxes.origin}
 use Rattle.dd_numbered.specs.Numbering.{rank}
 
 abbrev pub view_of : List Cell → List Cell → Place → List ℕ

@@ -1,13 +1,10 @@
 -- What is written of the answers of a script that are checked in order.
 use Rattle.std.specs.Prelude.{◌≡◌, ℕ, ◌+◌, max, List, [], ◌++◌, length, Bool, true, false}
-use Rattle.std.specs.declared.option.Option.{Option}
-use Rattle.std.specs.Io.KnownBytes.{Appends}
+use Rattle.std.specs.{declared.option.Option.Option, Io.KnownBytes.Appends}
 use Rattle.dd_outside.specs.Bytes.{GainsFront}
 use Rattle.dd_certificate.specs.declared.answer.Answer.{Answer}
 use Rattle.dd_script.specs.Parts.{Parts}
-use Rattle.dd_session.specs.declared.status.Status.{Status}
-use Rattle.dd_session.specs.declared.status.Status.TheVariants.{Rejected}
-use Rattle.dd_session.specs.Sides.{status_of}
+use Rattle.dd_session.specs.{declared.status.Status.Status, declared.status.Status.TheVariants.Rejected, Sides.status_of}
 use Rattle.dd_session.specs.Checks.{accepted_line, rejected_line, accepted_lines, checked_line, IsAcceptedAt, AcceptedTo, AllAccepted, FirstRejected}
 
 -- Whether the answer with a number is accepted.

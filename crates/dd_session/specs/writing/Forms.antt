@@ -1,7 +1,6 @@
 -- How much is written of an answer.
 use Rattle.std.specs.Prelude.{ℕ, List}
-use Rattle.dd_certificate.specs.declared.answer.Answer.{Answer}
-use Rattle.dd_certificate.specs.Text.{answer_text, answer_line}
+use Rattle.dd_certificate.specs.{declared.answer.Answer.Answer, Text.answer_text, Text.answer_line}
 use Rattle.dd_session.specs.declared.stream.Form.{Form}
 use Rattle.dd_session.specs.declared.stream.Form.TheVariants as form
 

@@ -1,8 +1,7 @@
 -- Laws of sums along an axis.
 use Rattle.std.proofs.Common.{◌≡◌, ℕ, zero, suc, ◌+◌, ◌-◌, ◌*◌, ◌<◌, ◌≤◌, refl, ap, subst, inl, inr, arith}
+use Rattle.std.proofs.lemmas.{Int.ints, Bool.cases_lt}
 use Rattle.std.specs.Prelude.{ℤ, pos, negsuc, ◌+ℤ◌, ◌-ℤ◌, unsigned_abs}
-use Rattle.std.proofs.lemmas.Int.{ints}
-use Rattle.std.proofs.lemmas.Bool.{cases_lt}
 use Rattle.dd_sides.specs.Sums.{axis_sum}
 
 pub axis_split : (m k : ℕ) (a : ℤ) (f : ℤ → ℕ) → axis_sum (m + k) a f ≡ axis_sum m a f + axis_sum k (a +ℤ pos m) f
@@ -12,7 +11,7 @@ axis_split m (suc k) a f =
     let p : a +ℤ pos (m + k) ≡ (a +ℤ pos m) +ℤ pos k = omega (arith, ints) in
     rw (e, p) (omega (arith, axis_split m k a f))
 
--- what is received along s over a run is what is given over the run moved by -s
+-- what a run receives along s is what the run moved by -s gives
 pub axis_moved : (n : ℕ) (a s : ℤ) (f : ℤ → ℕ) → axis_sum n a (λ c. f (c -ℤ s)) ≡ axis_sum n (a -ℤ s) f
 axis_moved zero a s f = refl
 axis_moved (suc n) a s f =
@@ -43,7 +42,7 @@ pub axis_most : (n : ℕ) (a : ℤ) (g : ℤ → ℕ) (e : ℕ) → ((c : ℤ) �
 axis_most zero a g e up = omega arith
 axis_most (suc n) a g e up = omega (arith, axis_most n a g e up, up (a +ℤ pos n))
 
--- g over one run and h over the same
+-- g and h over the same run
 together : (n : ℕ) (a : ℤ) (g h : ℤ → ℕ) (k e : ℕ) → ((c : ℤ) → g c + k ≤ h c + e) → axis_sum n a g + n * k ≤ axis_sum n a h + n * e
 together zero a g h k e le = omega arith
 together (suc n) a g h k e le = omega (arith, together n a g h k e le, le (a +ℤ pos n))
@@ -68,7 +67,7 @@ shifted_down d r a b g h k e is le up =
 far : (n m : ℕ) (b a : ℤ) (g h : ℤ → ℕ) (k e : ℕ) → n ≤ m → ((c : ℤ) → g c ≤ e) → axis_sum n b g + (n - m) * k ≤ axis_sum n a h + n * e
 far n m b a g h k e le up = let z : n - m ≡ 0 = omega arith in rw z (omega (arith, axis_most n b g e up))
 
--- the step from one axis to the next: g over the run moved by -s, against h over the run
+-- the step from one axis to the next: g over the run moved by -s, compared with h over the run
 pub axis_shifted : (n : ℕ) (a s : ℤ) (g h : ℤ → ℕ) (k e : ℕ) → ((c : ℤ) → g c + k ≤ h c + e) → ((c : ℤ) → g c ≤ e) →
     axis_sum n (a -ℤ s) g + (n - unsigned_abs s) * k ≤ axis_sum n a h + n * e
 axis_shifted n a (pos d) g h k e le up = elim (cases_lt d n) [

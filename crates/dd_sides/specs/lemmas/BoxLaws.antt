@@ -1,13 +1,12 @@
 -- Laws of sums over boxes.
 use Rattle.std.proofs.Common.{◌≡◌, ℕ, ◌+◌, ◌-◌, ◌*◌, ◌<◌, ◌≤◌, refl, ◌∙◌, arith}
-use Rattle.std.specs.Prelude.{ℤ, pos, ◌+ℤ◌, ◌-ℤ◌, unsigned_abs}
 use Rattle.std.proofs.Math.Nat.{mul-le-mul}
-use Rattle.dd_lattice.specs.Place.{Place, place}
-use Rattle.dd_lattice.specs.Regions.{seen_from}
+use Rattle.std.specs.Prelude.{ℤ, pos, ◌+ℤ◌, ◌-ℤ◌, unsigned_abs}
+use Rattle.dd_lattice.specs.{Place.Place, Place.place, Regions.seen_from}
 use Rattle.dd_sides.specs.Sums.{Size, axis_sum, box_sum, size_volume}
 use Rattle.dd_sides.specs.lemmas.AxisLaws.{axis_moved, axis_same, axis_at_most, axis_add, axis_const, axis_times, axis_most, axis_shifted}
 
--- the position with these numbers in the box
+-- p is the position with these offsets from u, within the box
 pub record IsAt (s : Size) (u p : Place) : Type 0 where
   pub i : ℕ
   pub j : ℕ
@@ -17,7 +16,7 @@ pub record IsAt (s : Size) (u p : Place) : Type 0 where
   pub k_below : k < s.z
   pub is : p ≡ place (u.x +ℤ pos i) (u.y +ℤ pos j) (u.z +ℤ pos k)
 
--- how many positions receive from the box
+-- how many positions of the box receive along v from inside it
 abbrev pub kept : Size → Place → ℕ
 kept s v = (s.z - unsigned_abs v.z) * ((s.y - unsigned_abs v.y) * (s.x - unsigned_abs v.x))
 
@@ -62,7 +61,7 @@ regroup a b c m = omega arith
 regroup_volume : (a b c m : ℕ) → a * (b * (c * m)) ≡ m * (c * (b * a))
 regroup_volume a b c m = omega arith
 
--- what is given over the box moved by the opposite of v, against what is given over the box
+-- the sum of f over the box moved by -v, compared with the sum over the box
 pub box_shifted : (s : Size) (u v : Place) (f : Place → ℕ) (m : ℕ) → ((p : Place) → f p ≤ m) →
     box_sum s (seen_from v u) f + m * kept s v ≤ box_sum s u f + m * size_volume s
 box_shifted s u v f m up =

@@ -1,31 +1,21 @@
--- The cells that a row looks at: they lie within its reach, and they hold the boxes round the origin and round its givers.
+-- The cells that a row looks at. They lie within its reach, and include the boxes around the origin and around its givers.
 use Rattle.std.proofs.Common.{◌≡◌, ◌<◌, ◌+◌, ◌≤◌, ℕ, zero, suc, Bool, true, false, List, [], ◌∷◌, map, refl, sym, ap, subst, inl, inr, arith}
-use Rattle.std.specs.Prelude.{ℤ, pos, ◌+ℤ◌, ◌-ℤ◌, ◌≤ℤ◌, ◌||◌, nat_lt, unsigned_abs}
-use Rattle.std.specs.List.{Contains, range_with_len}
-use Rattle.std.specs.Ordering.{int_eq}
-use Rattle.std.proofs.lemmas.Bool.{and_parts, and_from, lt-ltb}
-use Rattle.std.proofs.lemmas.Bool.Decides.{Decides-int_eq}
-use Rattle.std.proofs.lemmas.Int.{ints}
+use Rattle.std.proofs.lemmas.{Bool.and_parts, Bool.and_from, Bool.lt-ltb, Bool.Decides.Decides-int_eq, Int.ints}
 use Rattle.std.proofs.lemmas.List.Elements.{All-contains, Contains-append_cases}
-use Rattle.dd_lattice.specs.Place.{Place, moved, IsInRange}
-use Rattle.dd_lattice.specs.Cells.{cell}
-use Rattle.dd_lattice.specs.Boxes.{IsAtMostOnEachAxis, IsBox, IsWithin, is_active, OnAxis, IsUpTo, IsCentred, spread, centred, positions_of}
-use Rattle.dd_lattice.specs.Regions.{seen_from}
-use Rattle.dd_lattice.specs.declared.position.Cell.{Cell}
-use Rattle.dd_lattice.specs.lemmas.ListLaws.{Contains-nil, Contains-cons_cases, Contains-first, Contains-later, Contains-map, Contains-from_map, All-from_contains}
-use Rattle.dd_lattice.specs.lemmas.BoxLaws.{centred_members}
+use Rattle.std.specs.Prelude.{ℤ, pos, ◌+ℤ◌, ◌-ℤ◌, ◌≤ℤ◌, ◌||◌, nat_lt, unsigned_abs}
+use Rattle.std.specs.{List.Contains, List.range_with_len, Ordering.int_eq}
+use Rattle.dd_lattice.specs.{Place.Place, Place.moved, Place.IsInRange, Cells.cell}
+use Rattle.dd_lattice.specs.Boxes.{IsAtMostOnEachAxis, IsBox, IsWithin, is_active, OnAxis, IsUpTo, IsCentred, centred, positions_of}
+use Rattle.dd_lattice.specs.{Regions.seen_from, declared.position.Cell.Cell, lemmas.BoxLaws.centred_members, lemmas.BoxLaws.bounds_ordered}
 use Rattle.dd_lattice.specs.lemmas.PositionLaws.{positions_region}
-use Rattle.dd_topology.specs.Topology.{extent, reversed}
-use Rattle.dd_expansion.specs.Limits.{greatest}
-use Rattle.dd_expansion.specs.Placed.{is_flat}
+use Rattle.dd_values.specs.lemmas.Members.{Contains-nil, Contains-cons_cases, Contains-first, Contains-later, Contains-map, Contains-from_map, All-from_contains}
+use Rattle.dd_values.specs.lemmas.{Numbers.taken_back, Numbers.minus_below, Lists.range_has}
+use Rattle.dd_topology.specs.{Topology.extent, Topology.reversed, lemmas.ListLaws.into_flat_map, lemmas.ExtentLaws.back_and_forth}
+use Rattle.dd_expansion.specs.{Limits.greatest, Placed.is_flat}
 use Rattle.dd_formula.specs.LocalRule.{LocalRule}
-use Rattle.dd_boxes.specs.lemmas.RuleLaws.{place_same}
-use Rattle.dd_boxes.specs.Cells.{cells_on, box_cells}
-use Rattle.dd_rows.specs.Domains.{IsInGround, IsGround}
-use Rattle.dd_boxes.specs.Boxes.{origin}
-use Rattle.dd_rows.specs.Laws.{AreCellsOf}
+use Rattle.dd_boxes.specs.{Cells.cells_on, Cells.box_cells, Boxes.origin}
+use Rattle.dd_rows.specs.{Domains.IsInGround, Domains.IsGround, Laws.AreCellsOf}
 use Rattle.dd_sides.specs.Lifted.{reach_of}
-use Rattle.dd_sides.specs.lemmas.WordLaws.{flat_map_has, range_has}
 
 -- ---- the cells of a list of positions
 
@@ -59,7 +49,7 @@ cell_on n (p ∷ ps) c h = elim (Contains-append_cases (map (cell p) (range_with
 ]
 
 pub on_cells : (n : ℕ) (ps : List Place) (p : Place) (a : ℕ) → Contains ps p → a < n → Contains (cells_on n ps) (cell p a)
-on_cells n ps p a c low = flat_map_has (λ q. map (cell q) (range_with_len 0 n)) ps p (cell p a) c (Contains-map (cell p) (range_with_len 0 n) a (range_has n a low))
+on_cells n ps p a c low = into_flat_map (λ q. map (cell q) (range_with_len 0 n)) ps p (cell p a) c (Contains-map (cell p) (range_with_len 0 n) a (range_has n a low))
 
 -- ---- how far from the origin they are
 
@@ -134,7 +124,7 @@ pub centred_flat : (d n : ℕ) (p : Place) → IsCentred d n p → is_flat d p �
 centred_flat d n p h =
     and_from (nat_lt 1 d || int_eq p.y (pos 0)) (nat_lt 2 d || int_eq p.z (pos 0)) (flat_axis (is_active d 1) n p.y h.on_y) (flat_axis (is_active d 2) n p.z h.on_z)
 
--- ---- the boxes that they hold
+-- ---- the boxes that they include
 
 at_none : (active : Bool) (n : ℕ) (c : ℤ) → c ≡ pos 0 → OnAxis active (IsUpTo n) c
 at_none true n c e = record { low = omega (arith, ints, e); high = omega (arith, ints, e) }
@@ -150,23 +140,17 @@ not_moved d n p = record {
   on_z = at_none (is_active d 2) n (p.z -ℤ p.z) (no_step p.z);
 }
 
-moved_back : (a b : ℤ) → ((a +ℤ (pos 0 -ℤ b)) +ℤ b) ≡ a
-moved_back a b = omega (arith, ints)
-
-back_at : (p v : Place) → moved (moved p (reversed v)) v ≡ p
-back_at p v = place_same _ _ _ p.x p.y p.z (moved_back p.x v.x) (moved_back p.y v.y) (moved_back p.z v.z)
-
 pub at_origin : (d radius margin : ℕ) (vs : List Place) (p : Place) → IsCentred d radius p → IsInGround d radius margin vs p
 at_origin d radius margin vs p h = (p, inl h, not_moved d margin p)
 
 pub at_giver : (d radius margin : ℕ) (vs : List Place) (v p : Place) → Contains vs v → IsCentred d radius p → IsInGround d radius margin vs (moved p (reversed v))
 at_giver d radius margin vs v p among h =
-    (moved p (reversed v), inr (v, among, subst (IsCentred d radius) (sym (back_at p v)) h), not_moved d margin (moved p (reversed v)))
+    (moved p (reversed v), inr (v, among, subst (IsCentred d radius) (sym (back_and_forth p v)) h), not_moved d margin (moved p (reversed v)))
 
 pub origin_centred : (d n : ℕ) → IsCentred d n origin
 origin_centred d n = record { on_x = at_none (is_active d 0) n (pos 0) refl; on_y = at_none (is_active d 1) n (pos 0) refl; on_z = at_none (is_active d 2) n (pos 0) refl }
 
--- ---- a ground's cells
+-- ---- the cells of a ground
 
 pub ground_reach : (x : LocalRule) (radius margin : ℕ) (vs : List Place) (cs : List Cell) → IsGround x radius margin vs cs → 1 ≤ x.dimension →
     ((v : Place) → Contains vs v → is_flat x.dimension v ≡ true) → (c : Cell) → Contains cs c → IsCentred x.dimension (reach_of radius margin vs) c.position × (c.node < x.nodes)
@@ -189,23 +173,17 @@ ground_cells x radius margin vs cs sites some flat = record {
 
 -- ---- the cells of the box of the radius
 
-under : (n : ℕ) → (pos 0 -ℤ pos n) ≤ℤ pos n
-under n = omega (arith, ints)
-
 itself : (c : ℤ) → c ≤ℤ c
 itself c = omega (arith, ints)
 
 same_below : (p : Place) → IsAtMostOnEachAxis p p
 same_below p = record { on_x = itself p.x; on_y = itself p.y; on_z = itself p.z }
 
-corners_ordered : (d n : ℕ) → IsAtMostOnEachAxis (centred d n).low (centred d n).high
-corners_ordered d n = record { on_x = under (spread (is_active d 0) n); on_y = under (spread (is_active d 1) n); on_z = under (spread (is_active d 2) n) }
-
--- the ground's positions are in range, and so are the corners of the box
+-- the positions of the ground are in range, and so are the corners of the box
 box_in_range : (x : LocalRule) (radius margin : ℕ) (vs : List Place) (cs : List Cell) → IsGround x radius margin vs cs → IsBox (centred x.dimension radius)
 box_in_range x radius margin vs cs sites =
     let b = centred x.dimension radius in
-    let ordered = corners_ordered x.dimension radius in
+    let ordered = bounds_ordered x.dimension radius in
     let near : (p : Place) → IsWithin b p → IsInRange p = λ p w.
     All-contains IsInRange sites.positions p sites.region.region.in_range
     ((sites.region.members p).1 (at_origin x.dimension radius margin vs p ((centred_members x.dimension radius p).0 w))) in

@@ -1,15 +1,10 @@
 -- The choice of a place by an order.
 use Rattle.std.specs.Prelude.{◌≡◌, ℕ, ◌<◌, ◌≤◌, List, length, Bool, true, false, ◌&&◌, ◌||◌, Option, Some, None}
-use Rattle.std.specs.Bool.{nat_lt}
-use Rattle.std.specs.Ordering.{is_lt, is_eq}
-use Rattle.dd_fraction.specs.Exact.{Exact, times, inverse}
-use Rattle.dd_fraction.specs.Order.{IsAtMost, exact_cmp}
-use Rattle.dd_fraction.specs.Checked.{does_product_fit}
-use Rattle.dd_simplex.specs.Programs.{fraction_at}
-use Rattle.dd_simplex.specs.Runs.{is_over}
-use Rattle.dd_simplex.specs.table.Lines.{Line, line_at, other_at}
+use Rattle.std.specs.{Bool.nat_lt, Ordering.is_lt, Ordering.is_eq}
+use Rattle.dd_fraction.specs.{Exact.Exact, Exact.times, Exact.inverse, Order.IsAtMost, Order.exact_cmp, Checked.does_product_fit}
+use Rattle.dd_simplex.specs.{Programs.fraction_at, Runs.is_over, table.Lines.Line, table.Lines.line_at, table.Lines.other_at}
 
--- of the first n places, one that fits and stands before each other that fits; none where none fits
+-- of the first n places, one that fits and precedes each other that fits; none if none fits
 abbrev pub IsChosen : (ℕ → Bool) → (ℕ → ℕ → Type 0) → ℕ → Option ℕ → Type 0
 IsChosen fit Before n None = (i : ℕ) → i < n → fit i ≡ false
 IsChosen fit Before n (Some e) = (e < n) × (fit e ≡ true) × ((i : ℕ) → i < n → fit i ≡ true → Before e i)
@@ -38,7 +33,7 @@ abbrev pub LeavesBefore : List Line → ℕ → ℕ → ℕ → Type 0
 LeavesBefore lines e i j =
     Precedes (line_ratio lines e i) (line_at lines i).basic (line_ratio lines e j) (line_at lines j).basic
 
--- the least ratio is that of the line chosen
+-- the least ratio is that of the chosen line
 abbrev pub IsRatioOf : List Line → ℕ → Exact → Option ℕ → Type 0
 IsRatioOf lines e a None = a ≡ a
 IsRatioOf lines e a (Some r) = a ≡ line_ratio lines e r

@@ -61,7 +61,7 @@ does_changed_fit e pivot l =
     (does_product_fit q pivot.bound && does_sum_fit l.bound (minus (times q pivot.bound)))
     && do_all_less_fit q (slice_set l.cells e zero_of) pivot.cells
 
--- all lines: that at r leaves, the place e is that of the entering variable
+-- all lines: the one at r leaves, and the variable at the place e enters
 abbrev pub changed_lines : ℕ → ℕ → ℕ → List Line → List Line
 changed_lines e r entering lines =
     let pivot = solved_line entering e (line_at lines r) in
@@ -73,7 +73,7 @@ do_lines_fit e r entering lines =
     does_solved_fit e (line_at lines r)
     && (list_all (does_changed_fit e pivot) (take r lines) && list_all (does_changed_fit e pivot) (drop (r + 1) lines))
 
--- the objective
+-- whether the numbers of the objective fit
 abbrev pub does_objective_line_fit : ℕ → Line → Exact → List Exact → Bool
 does_objective_line_fit e pivot value costs =
     let c = fraction_at costs e in
@@ -102,7 +102,7 @@ pub record HasFractions (l : Line) : Type 0 where
   pub bound : IsFraction l.bound
   pub cells : All IsFraction l.cells
 
--- taking q · b from a changes nothing, and no number of it is too large
+-- subtracting q · b from a changes nothing, and no number of it is too large
 pub record IsIdle (a q b : Exact) : Type 0 where
   pub fit : (does_product_fit q b && does_sum_fit a (minus (times q b))) ≡ true
   pub value : plus a (minus (times q b)) ≡ a

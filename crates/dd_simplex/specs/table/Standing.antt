@@ -1,11 +1,9 @@
 -- A table stands for a dictionary.
 use Rattle.std.specs.Prelude.{◌≡◌, ℕ, ◌<◌, length, true, false}
 use Rattle.dd_fraction.specs.Checked.{IsFraction}
-use Rattle.dd_simplex.specs.Programs.{fraction_at}
-use Rattle.dd_simplex.specs.Dictionaries.{Dictionary}
-use Rattle.dd_simplex.specs.table.Lines.{Table, line_at, other_at}
+use Rattle.dd_simplex.specs.{Programs.fraction_at, Dictionaries.Dictionary, table.Lines.Table, table.Lines.line_at, table.Lines.other_at}
 
--- lines and costs are as long as there are other variables, and hold fractions
+-- each line, and the list of costs, has one fraction for each other variable
 pub record IsTable (t : Table) : Type 0 where
   pub costs : length t.costs ≡ length t.others
   pub cells : (i : ℕ) → i < length t.lines → length (line_at t.lines i).cells ≡ length t.others

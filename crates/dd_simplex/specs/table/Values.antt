@@ -1,10 +1,8 @@
--- The columns and the duals, as far as a loop over lines, or over the other variables, has come.
+-- The columns and the duals so far, in a loop over lines, or over the other variables.
 use Rattle.std.specs.Prelude.{◌≡◌, ℕ, ◌+◌, ◌<◌, ◌≤◌, List, length, not, ◌&&◌, cond}
 use Rattle.std.specs.Bool.{nat_lt}
 use Rattle.dd_fraction.specs.Exact.{Exact, minus}
-use Rattle.dd_simplex.specs.Programs.{fraction_at, zero_of}
-use Rattle.dd_simplex.specs.Dictionaries.{Dictionary}
-use Rattle.dd_simplex.specs.table.Lines.{Line, Table}
+use Rattle.dd_simplex.specs.{Programs.fraction_at, Programs.zero_of, Dictionaries.Dictionary, table.Lines.Line, table.Lines.Table}
 use Rattle.dd_simplex.specs.table.Standing.{StandsFor}
 
 abbrev pub column_so_far : (ℕ → ℕ) → Dictionary → ℕ → ℕ → Exact

@@ -1,47 +1,43 @@
--- The clause that is learned from a conflict, and where it turns the search.
+-- The clause learned from a conflict, and where the search goes on.
 use Rattle.std.specs.Prelude.{◌≡◌, ℕ, ◌<◌, ◌≤◌, ◌-◌, ◌&&◌, Bool, true, false, List, Option, Some, None, length, take, slice_index_or, MatchOption, ⊤}
-use Rattle.dd_clause.specs.declared.clause.Literal.{Literal}
-use Rattle.dd_clause.specs.Clauses.{negation}
+use Rattle.dd_clause.specs.{declared.clause.Literal.Literal, Clauses.negation}
 use Rattle.dd_derivation.specs.declared.propagation.Finding.TheVariants.{Forced}
 use Rattle.dd_derivation.specs.Derivations.{is_among, finding, clause_of, is_proper, is_conflict}
-use Rattle.dd_trail.specs.declared.trail.Entry.{Entry}
-use Rattle.dd_solver.specs.declared.analysis.Turn.{Turn}
-use Rattle.dd_solver.specs.declared.analysis.Choice.{Choice}
+use Rattle.dd_trail.specs.{declared.trail.Entry.Entry, Trails.falses}
+use Rattle.dd_solver.specs.declared.analysis.{Turn.Turn, Choice.Choice}
 use Rattle.dd_solver.specs.declared.analysis.Choice.TheVariants.{Resolve, Keep}
-use Rattle.dd_trail.specs.Trails.{falses}
 
 -- the literal's variable is marked
 abbrev pub marks : List Bool → Literal → Bool
 marks marked l = slice_index_or marked (l.variable - 1) false
 
--- what was marked stays so
+-- what was marked stays marked
 abbrev pub Grows : List Bool → List Bool → Type 0
 Grows old new = (l : Literal) → marks old l ≡ true → marks new l ≡ true
 
 abbrev pub AreMarked : List Bool → List Literal → Type 0
 AreMarked marked c = (l : Literal) → is_among c l ≡ true → marks marked l ≡ true
 
--- the variables of the clause of this number are marked
+-- the variables of the clause with this number are marked
 abbrev pub IsMarkedClause : List (Option (List Literal)) → List Bool → ℕ → Type 0
 IsMarkedClause known marked r = MatchOption (clause_of known r) ⊤ (AreMarked marked)
 
--- the hints show that the learned clause follows, whose variables are distinct
+-- the hints show that the learned clause follows, and its variables are distinct
 abbrev pub is_rightly_learned : ℕ → List (Option (List Literal)) → List Literal → List ℕ → Bool
 is_rightly_learned n known learned hints = is_proper n learned && is_conflict known learned hints
 
--- a decision, with nothing marked from it up to a higher place
+-- the place of a decision, with nothing marked from there up to a higher place
 pub record IsPlace (trail : List Entry) (marked : List Bool) (top p : ℕ) : Type 0 where
   pub from : p ≤ top
   pub decided : (d : Entry) → (slice_index_or trail p d).reason ≡ None
   pub between : (k : ℕ) (d : Entry) → p ≤ k → k < top → marks marked (slice_index_or trail k d).literal ≡ false
 
--- the turn is before a decision at or below the place, with nothing marked between, and makes the place's literal false
+-- the turn is before a decision at or below the place, with nothing marked between; it makes the literal at the place false
 pub record IsTurn (trail : List Entry) (marked : List Bool) (place : ℕ) (turn : Turn) : Type 0 where
   pub at : IsPlace trail marked place turn.place
   pub literal : (d : Entry) → turn.literal ≡ negation (slice_index_or trail place d).literal
 
--- the entry at the place was forced by the clause that it is resolved with, or its literal is kept: the first of them
--- makes the turn
+-- the entry at the place was forced by the clause that it is resolved with, or its literal is kept; the first literal kept makes the turn
 abbrev pub ChoiceSays : List Entry → List Bool → Option Turn → ℕ → Choice → Type 0
 ChoiceSays trail marked turn place (Resolve r) = (d : Entry) → (slice_index_or trail place d).reason ≡ Some r
 ChoiceSays trail marked None place (Keep t) = IsTurn trail marked place t

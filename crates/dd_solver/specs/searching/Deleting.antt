@@ -9,7 +9,7 @@ abbrev pub AreChosen : List Entry → List Bool → Type 0
 AreChosen trail chosen =
     (k r : ℕ) (d : Entry) → k < length trail → (slice_index_or trail k d).reason ≡ Some r → slice_index_or chosen r false ≡ false
 
--- Each number has a clause when it is deleted. The first clauses stay, and those that forced an entry.
+-- Each number has a clause when it is deleted. The first clauses are kept, and so are those that forced an entry.
 pub record MayDelete (known : List (Option (List Literal))) (first : ℕ) (trail : List Entry) (deletes : List ℕ) : Type 0 where
   pub deletable : are_deletable known deletes ≡ true
   pub first_stay : (h : ℕ) → h ≤ first → clause_of (known_after known deletes) h ≡ clause_of known h

@@ -1,9 +1,9 @@
--- The steps that a walk from the last to the first marks, and what is made of them.
+-- The steps marked by a walk from the last to the first, and the refutation that they make.
 use Rattle.std.specs.Prelude.{◌≡◌, ℕ, suc, ◌+◌, ◌-◌, ◌<◌, ◌≤◌, nat_le, Bool, true, false, if◌then◌else◌, List, [], ◌∷◌, map, length, slice_index_or}
 use Rattle.dd_derivation.specs.declared.step.Step.{Step}
 use Rattle.dd_solver.specs.Trimming.{is_hint}
 
--- a step from the place on, later than the one at j, is marked, and a hint of it is this number
+-- a marked step at the place or later, and later than the one at j, has this number as a hint
 pub record IsNeeded (place j number : ℕ) (steps : List Step) (marked : List Bool) : Type 0 where
   pub at : ℕ
   pub from : place ≤ at
@@ -12,8 +12,8 @@ pub record IsNeeded (place j number : ℕ) (steps : List Step) (marked : List Bo
   pub is_marked : slice_index_or marked at false ≡ true
   pub hinted : (d : Step) → is_hint number (slice_index_or steps at d).hints ≡ true
 
--- The last step is marked, and those that the hints of a marked step from the place on name; each other marked step is
--- named so. The steps' numbers begin after that of the clauses.
+-- The last step is marked. So is each step that a hint of a marked step from the place on names. Each other marked
+-- step is named so. The steps' numbers begin after those of the clauses.
 pub record IsMarking (clauses place : ℕ) (steps : List Step) (marked : List Bool) : Type 0 where
   pub as_many : length marked ≡ length steps
   pub last : (j : ℕ) → suc j ≡ length steps → slice_index_or marked j false ≡ true

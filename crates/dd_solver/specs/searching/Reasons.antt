@@ -1,11 +1,9 @@
 -- Why each literal of a trail is true: it was decided, or a clause that is known forces it.
 use Rattle.std.specs.Prelude.{◌≡◌, ℕ, ◌<◌, false, List, map, Option, Some, None, length, take, slice_index_or, ⊤}
-use Rattle.dd_clause.specs.declared.clause.Literal.{Literal}
-use Rattle.dd_clause.specs.Clauses.{IsLiteralInRange, IsClauseInRange}
+use Rattle.dd_clause.specs.{declared.clause.Literal.Literal, Clauses.IsLiteralInRange, Clauses.IsClauseInRange}
 use Rattle.dd_derivation.specs.declared.propagation.Finding.TheVariants.{Forced}
 use Rattle.dd_derivation.specs.Derivations.{is_among, has_variable, clause_of, hint_finding}
-use Rattle.dd_trail.specs.declared.trail.Entry.{Entry}
-use Rattle.dd_trail.specs.Trails.{falses}
+use Rattle.dd_trail.specs.{declared.trail.Entry.Entry, Trails.falses}
 
 -- the clauses by number, none of them deleted
 abbrev pub all_known : List (List Literal) → List (Option (List Literal))
@@ -15,12 +13,12 @@ all_known clauses = map (λ c. Some c) clauses
 abbrev pub AreInRange : ℕ → List (Option (List Literal)) → Type 0
 AreInRange n known = (r : ℕ) (c : List Literal) → clause_of known r ≡ Some c → IsClauseInRange n c
 
--- the literal was decided, or the clause of this number forces it where the older entries hold
+-- the literal was decided, or the clause with this number forces it once the older entries are true
 abbrev pub Follows : List (Option (List Literal)) → List Entry → Literal → Option ℕ → Type 0
 Follows known older l None = ⊤
 Follows known older l (Some r) = hint_finding known (is_among (falses older)) r ≡ Forced l
 
--- an entry's variable is in range and no older entry's, and its literal was decided or follows
+-- the entry's variable is in range, no older entry has it, and its literal was decided or follows
 pub record EntryOk (n : ℕ) (known : List (Option (List Literal))) (older : List Entry) (e : Entry) : Type 0 where
   pub in_range : IsLiteralInRange n e.literal
   pub fresh : has_variable e.literal.variable (falses older) ≡ false

@@ -5,9 +5,8 @@ use Rattle.dd_derivation.specs.declared.propagation.Finding.TheVariants.{Falsifi
 use Rattle.dd_derivation.specs.declared.step.Step.{Step}
 use Rattle.dd_derivation.specs.Derivations.{clause_of, hint_finding, is_among, known_after, is_right, refutes}
 use Rattle.dd_derivation.specs.checking.MarksOf.{known_to}
-use Rattle.dd_trail.specs.declared.trail.Entry.{Entry}
+use Rattle.dd_trail.specs.{declared.trail.Entry.Entry, Trails.falses}
 use Rattle.dd_solver.specs.declared.analysis.Turn.{Turn}
-use Rattle.dd_trail.specs.Trails.{falses}
 use Rattle.dd_solver.specs.searching.Reasons.{all_known, AreInRange, IsTrail}
 
 -- the number of variables, the clauses, the steps learned so far, and the trail
@@ -25,7 +24,7 @@ abbrev pub known_through : List (Option (List Literal)) → List Step → List (
 known_through before [] = before
 known_through before (s ∷ steps) = known_through (after_step before s) steps
 
--- the clauses and those learned, by number, but for those that were deleted
+-- the clauses and the learned ones, by number, without those that were deleted
 abbrev pub known : State → List (Option (List Literal))
 known s = known_through (all_known s.clauses) s.steps
 
@@ -34,15 +33,15 @@ abbrev pub is_derived : ℕ → List (Option (List Literal)) → List Step → B
 is_derived n before [] = true
 is_derived n before (s ∷ steps) = is_right n before s && is_derived n (after_step before s) steps
 
--- What the search keeps: the clauses that are known are in range, those of the list are known, the trail stands on what
--- is known, and the steps are right.
+-- What the search keeps. The known clauses are in range. Those of the list are known. The trail's entries were
+-- decided, or known clauses force them. The steps are right.
 pub record IsSearch (s : State) : Type 0 where
   pub in_range : AreInRange s.variables (known s)
   pub given : (h : ℕ) (c : List Literal) → clause_of (all_known s.clauses) h ≡ Some c → clause_of (known s) h ≡ Some c
   pub trail : IsTrail s.variables (known s) s.entries
   pub derived : is_derived s.variables (all_known s.clauses) s.steps ≡ true
 
--- the list tells which of the clauses and those learned are known
+-- the list tells which clauses are known, of those given and those learned
 pub record AreAlive (clauses : List (List Literal)) (steps : List Step) (alive : List Bool) : Type 0 where
   pub as_many : length alive ≡ length clauses + length steps
   pub same : known_to clauses steps alive ≡ known_through (all_known clauses) steps
@@ -51,7 +50,7 @@ pub record AreAlive (clauses : List (List Literal)) (steps : List Step) (alive :
 abbrev pub AreOpen : State → Type 0
 AreOpen s = (r : ℕ) → hint_finding (known s) (is_among (falses s.entries)) r ≡ Open
 
--- all literals of the clause of this number are false
+-- all literals of the clause with this number are false
 abbrev pub IsFalsified : State → ℕ → Type 0
 IsFalsified s r = hint_finding (known s) (is_among (falses s.entries)) r ≡ Falsified
 

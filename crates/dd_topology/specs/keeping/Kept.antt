@@ -1,7 +1,6 @@
 -- What a topology keeps beside its edges, and how sets are kept.
 use Rattle.std.specs.Prelude.{ℕ, zero, suc, List, [], ◌∷◌, take, drop}
-use Rattle.dd_topology.specs.declared.edge.Edge.{Edge}
-use Rattle.dd_topology.specs.declared.topology.Move.{Move}
+use Rattle.dd_topology.specs.declared.{edge.Edge.Edge, topology.Move.Move}
 
 -- the move by an edge
 abbrev pub move_of : Edge → Move

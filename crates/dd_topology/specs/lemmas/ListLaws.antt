@@ -1,14 +1,11 @@
 -- Searches in lists whose elements are seen through a function.
 use Rattle.std.proofs.Common.{◌≡◌, ◌+◌, List, [], ◌∷◌, ◌++◌, Bool, true, false, cond, not, ◌||◌, if◌then◌else◌, map, length, nat_lt, Some, None, Contains, refl, ap, sym, ◌∙◌, subst, inl, inr, arith}
-use Rattle.std.specs.Prelude.{position, slice_get, find}
-use Rattle.std.specs.List.{list_any, position_or_len, flat_map}
-use Rattle.std.specs.Option.{option_and_then}
-use Rattle.std.proofs.lemmas.Bool.Decides.{nat_tests}
-use Rattle.std.proofs.lemmas.List.{length-map}
-use Rattle.std.proofs.lemmas.List.Folds.{find_at, list_any_at}
+use Rattle.std.proofs.lemmas.{Bool.Decides.nat_tests, List.length-map, List.Folds.find_at, List.Folds.list_any_at}
 use Rattle.std.proofs.lemmas.List.Elements.{Contains-append_left, Contains-append_right, Contains-append_cases}
 use Rattle.std.proofs.lemmas.Option.{slice_get_past}
-use Rattle.dd_lattice.specs.lemmas.ListLaws.{Contains-first, Contains-later, Contains-nil, Contains-cons_cases}
+use Rattle.std.specs.{Prelude.position, Prelude.slice_get, Prelude.find, List.list_any, List.position_or_len, List.flat_map}
+use Rattle.std.specs.Option.{option_and_then}
+use Rattle.dd_values.specs.lemmas.Members.{Contains-first, Contains-later, Contains-nil, Contains-cons_cases}
 use Rattle.indexmap.specs.IndexSet.{insert_key}
 
 -- a new key goes last
@@ -34,7 +31,7 @@ module _ {X K : Type 0} (f : X → K) where
       let at = position_or_len (λ x. p (f x)) xs in
       ap (λ n. cond (nat_lt n (length (map f xs))) (Some n) None) (place-map p xs) ∙ ap (λ n. cond (nat_lt at n) (Some at) None) (length-map xs f)
 
--- what a test finds is what stands at the first place where it passes
+-- what a test finds is the item at the first place where it passes
 pub find-position : {X : Type 0} (p : X → Bool) (xs : List X) → find p xs ≡ option_and_then (slice_get xs) (position p xs)
 find-position {X} p xs = find_at p xs ∙ by (nat_lt (position_or_len p xs) (length xs)) refl
   where
@@ -46,7 +43,7 @@ found_from : {X : Type 0} (p : X → Bool) (x : X) (xs : List X) (y : X) → (fi
 found_from {X} p x xs y rest true e is = let same : x ≡ y = cc in (subst (Contains (x ∷ xs)) same (Contains-first x xs), ap p (sym same) ∙ e)
 found_from p x xs y rest false e is = let other = rest is in (Contains-later x xs y other.0, other.1)
 
--- what a test finds stands in the list and passes
+-- what a test finds is in the list and passes
 pub found : {X : Type 0} (p : X → Bool) (xs : List X) (y : X) → find p xs ≡ Some y → Contains xs y × (p y ≡ true)
 found p [] y h = absurd (cc)
 found p (x ∷ xs) y h = found_from p x xs y (found p xs y) (p x) refl h
@@ -60,7 +57,7 @@ pub missed : {X : Type 0} (p : X → Bool) (xs : List X) (y : X) → find p xs �
 missed p [] y h there = absurd (Contains-nil y there)
 missed p (x ∷ xs) y h there = missed_from p x xs y (missed p xs y) (p x) refl h there
 
--- some element of the list passes where the test of the list does
+-- if the test of a list passes, some element passes
 pub some_passes : {X : Type 0} (p : X → Bool) (xs : List X) → list_any p xs ≡ true → (x : X) × Contains xs x × (p x ≡ true)
 some_passes p [] h = absurd (cc)
 some_passes {X} p (x ∷ xs) h = by_head (p x) refl h (some_passes p xs)

@@ -1,14 +1,10 @@
--- Names that are kept under another form, as the bytes of texts: what the kept list finds, the list of names has.
+-- Names kept in another form, as the bytes of texts. A search in the kept list agrees with the list of names.
 use Rattle.std.proofs.Common.{◌≡◌, ℕ, List, [], ◌∷◌, true, false, map, length, Some, Contains, refl, ap, sym, ◌∙◌, true≢false, ◌++◌}
-use Rattle.std.specs.Prelude.{position, bytes_eq, slice_get}
-use Rattle.std.specs.List.{list_any, IsDistinct, AllByRecursion}
-use Rattle.std.specs.Cmp.Lexicographic.{nat_list_eq_equiv}
-use Rattle.std.proofs.lemmas.List.{map-append}
-use Rattle.std.proofs.lemmas.List.Quantifiers.{position-Some}
-use Rattle.std.proofs.lemmas.Map.Made.{AllPairs-from_IsDistinct}
-use Rattle.std.proofs.lemmas.Map.Views.{list_any-from_Contains, Contains-from_any}
-use Rattle.std.proofs.lemmas.Option.{slice_get_read}
+use Rattle.std.proofs.lemmas.{List.map-append, List.Quantifiers.position-Some, Map.Made.AllPairs-from_IsDistinct}
+use Rattle.std.proofs.lemmas.{Map.Views.list_any-from_Contains, Map.Views.Contains-from_any, Option.slice_get_read}
 use Rattle.std.proofs.lemmas.Slice.Eq.{bytes_eq-Decides}
+use Rattle.std.specs.{Prelude.position, Prelude.bytes_eq, Prelude.slice_get, List.list_any, List.IsDistinct, List.AllByRecursion}
+use Rattle.std.specs.Cmp.Lexicographic.{nat_list_eq_equiv}
 use Rattle.indexmap.specs.IndexSet.{insert_key}
 use Rattle.dd_topology.specs.Naming.{AreDistinct, number_of}
 use Rattle.dd_topology.specs.lemmas.ListLaws.{list_any-map, position-map, insert_key-new}

@@ -1,20 +1,12 @@
--- Lists in a strict order: the members of a list in order, and that they make the list.
+-- Lists in a strict order: the members of a list in order, which determine the list.
 use Rattle.std.proofs.Common.{◌≡◌, List, [], ◌∷◌, refl, ap, sym, ◌∙◌, subst, inl, inr, ◌⊎◌, rules, arith, Contains}
-use Rattle.std.specs.List.{fold, All}
-use Rattle.std.specs.List.Sorted.{IsStrictlySortedBy}
-use Rattle.std.specs.BTreeSet.{insert_key}
-use Rattle.std.specs.Cmp.{IsTotalOrder}
-use Rattle.std.specs.Cmp.Rules.{comparing}
-use Rattle.std.specs.Ordering.{match_ordering, ordering_reverse}
-use Rattle.std.specs.declared.cmp.Ordering.{Ordering}
-use Rattle.std.specs.declared.cmp.Ordering.TheVariants.{Less, Equal, Greater}
 use Rattle.std.proofs.lemmas.List.Elements.{All-from_recursion, recursion_from_All, All-cons, All-weaker}
 use Rattle.std.proofs.lemmas.Map.Views.{All-insert_key}
-use Rattle.dd_lattice.specs.declared.position.Cell.{Cell}
-use Rattle.dd_lattice.specs.Order.{cell_cmp}
-use Rattle.dd_lattice.specs.InOrder.{in_order}
-use Rattle.dd_lattice.specs.lemmas.InOrderLaws.{in_order_members}
-use Rattle.dd_lattice.specs.lemmas.ListLaws.{Contains-first, Contains-later, Contains-nil, Contains-cons_cases, sorted_first, sorted_rest}
+use Rattle.std.specs.{List.fold, List.All, List.Sorted.IsStrictlySortedBy, BTreeSet.insert_key, Cmp.IsTotalOrder, Cmp.Rules.comparing}
+use Rattle.std.specs.{Ordering.match_ordering, Ordering.ordering_reverse, declared.cmp.Ordering.Ordering}
+use Rattle.std.specs.declared.cmp.Ordering.TheVariants.{Less, Equal, Greater}
+use Rattle.dd_lattice.specs.{declared.position.Cell.Cell, Order.cell_cmp, InOrder.in_order, lemmas.InOrderLaws.in_order_members}
+use Rattle.dd_values.specs.lemmas.Members.{Contains-first, Contains-later, Contains-nil, Contains-cons_cases, sorted_first, sorted_rest}
 
 module _ {K : Type 0} (R : K → K → Ordering) where
   sorted_cons : (x : K) (xs : List K) → All (λ y. R x y ≡ Less) xs → IsStrictlySortedBy R xs → IsStrictlySortedBy R (x ∷ xs)
@@ -62,7 +54,7 @@ module _ {K : Type 0} (R : K → K → Ordering) (o : IsTotalOrder R) where
         ]
       ]
 
-  -- what a sorted list has after its head, a list with the same head and the same members has after it
+  -- two sorted lists with the same head and the same members have the same members after the head
   only_later : (x : K) (xs ys : List K) → IsStrictlySortedBy R (x ∷ xs) → (d : K) → Contains xs d → Contains (x ∷ ys) d → Contains ys d
   only_later x xs ys up d there there' =
       elim (Contains-cons_cases x ys d there') [
@@ -124,7 +116,7 @@ cell_total = search (comparing, rules) depth 9
 pub sorted-in_order : (cs : List Cell) → IsStrictlySortedBy cell_cmp (in_order cs)
 sorted-in_order cs = sorted-fold cell_cmp cell_total cs [] (sorted_nil cell_cmp)
 
--- a list in cell order is the list in order of each list with its members
+-- a list in cell order is the ordered form of each list with the same members
 pub is-in_order : (xs cs : List Cell) → IsStrictlySortedBy cell_cmp xs → ((d : Cell) → Contains xs d → Contains cs d) → ((d : Cell) → Contains cs d → Contains xs d) → xs ≡ in_order cs
 is-in_order xs cs up to from =
     same_sorted cell_cmp cell_total xs (in_order cs) up (sorted-in_order cs) (λ d there. (in_order_members cs d).1 (to d there)) (λ d there. from d ((in_order_members cs d).0 there))

@@ -1,10 +1,8 @@
 -- Which literals are false by a trail.
 use Rattle.std.specs.Prelude.{◌≡◌, ℕ, ◌+◌, ◌*◌, ◌<◌, Bool, false, if◌then◌else◌, List, length, take, slice_index_or}
-use Rattle.dd_clause.specs.declared.clause.Literal.{Literal}
-use Rattle.dd_clause.specs.Clauses.{IsLiteralInRange}
+use Rattle.dd_clause.specs.{declared.clause.Literal.Literal, Clauses.IsLiteralInRange}
 use Rattle.dd_derivation.specs.Derivations.{is_among, has_variable}
-use Rattle.dd_trail.specs.declared.trail.Entry.{Entry}
-use Rattle.dd_trail.specs.Trails.{falses}
+use Rattle.dd_trail.specs.{declared.trail.Entry.Entry, Trails.falses}
 
 -- the place of a literal in a list of all of them
 abbrev pub code : Literal → ℕ

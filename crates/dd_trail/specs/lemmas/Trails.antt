@@ -1,15 +1,11 @@
 -- Entries of a trail by place, and the literals that they make false.
-use Rattle.std.proofs.Common.{◌≡◌, ℕ, zero, suc, ◌+◌, ◌<◌, ◌≤◌, Bool, true, false, ◌||◌, List, [], ◌∷◌, ◌++◌, refl, ap, sym, ◌∙◌, subst, length, get_or, take, eqb, inl, inr, arith}
+use Rattle.std.proofs.Common.{◌≡◌, ℕ, zero, suc, ◌+◌, ◌<◌, ◌≤◌, true, false, List, [], ◌∷◌, ◌++◌, refl, ap, sym, ◌∙◌, subst, length, get_or, take, eqb, inl, inr, arith}
 use Rattle.std.proofs.lemmas.Bool.{eq-eqb, eqb-true, or_cases, or_left, or_right, false≢true, false_from_ne_true}
 use Rattle.std.proofs.lemmas.List.{take_more, length-take, get_or-take}
-use Rattle.std.proofs.lemmas.List.Folds.{list_any-append}
-use Rattle.dd_clause.specs.declared.clause.Literal.{Literal}
-use Rattle.dd_clause.specs.Clauses.{negation}
-use Rattle.dd_derivation.specs.Derivations.{same_literal, is_among, has_variable}
-use Rattle.dd_derivation.specs.lemmas.Soundness.{same_literal-eq}
+use Rattle.dd_clause.specs.{declared.clause.Literal.Literal, Clauses.negation}
+use Rattle.dd_derivation.specs.{Derivations.same_literal, Derivations.is_among, Derivations.has_variable, lemmas.Soundness.same_literal-eq}
 use Rattle.dd_derivation.specs.lemmas.Findings.{In, in_here}
-use Rattle.dd_trail.specs.declared.trail.Entry.{Entry}
-use Rattle.dd_trail.specs.Trails.{falses}
+use Rattle.dd_trail.specs.{declared.trail.Entry.Entry, Trails.falses}
 
 pub falses-append : (xs ys : List Entry) → falses (xs ++ ys) ≡ falses xs ++ falses ys
 falses-append [] ys = refl
@@ -70,16 +66,3 @@ take_shorter [] (suc k) zero h = refl
 take_shorter [] (suc k) (suc j) h = refl
 take_shorter (e ∷ trail) (suc k) zero h = absurd (omega arith)
 take_shorter (e ∷ trail) (suc k) (suc j) h = ap (λ (xs : List Entry). e ∷ xs) (take_shorter trail k j (omega arith))
-
-or_comm : (a b : Bool) → (a || b) ≡ (b || a)
-or_comm true true = refl
-or_comm true false = refl
-or_comm false true = refl
-or_comm false false = refl
-
-or_false : (a : Bool) → (a || false) ≡ a
-or_false true = refl
-or_false false = refl
-
-pub among_snoc : (xs : List Literal) (y x : Literal) → is_among (xs ++ y ∷ []) x ≡ is_among (y ∷ xs) x
-among_snoc xs y x = list_any-append (same_literal x) xs (y ∷ []) ∙ ap (λ (b : Bool). is_among xs x || b) (or_false (same_literal x y)) ∙ or_comm (is_among xs x) (same_literal x y)

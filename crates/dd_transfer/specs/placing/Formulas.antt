@@ -1,15 +1,10 @@
 -- The rule at the places of a window, as formulas over the window's symbols.
 use Rattle.std.specs.Prelude.{ℕ, ◌≡◌, ◌<◌, ◌&&◌, cond, nat_lt, int_le, true, pos, List, Some, None, length, get_or}
-use Rattle.dd_lattice.specs.Place.{Place}
-use Rattle.dd_lattice.specs.Cells.{cell, shifted}
-use Rattle.dd_lattice.specs.declared.position.Cell.{Cell}
+use Rattle.dd_lattice.specs.{Place.Place, Cells.cell, Cells.shifted, declared.position.Cell.Cell}
 use Rattle.dd_pattern.specs.Reading.{HasSymbolsBelow}
-use Rattle.dd_numbered.specs.declared.numbered.Numbered.{Numbered}
-use Rattle.dd_numbered.specs.Numbered.{holds_in}
-use Rattle.dd_numbered.specs.Numbering.{Numbering}
+use Rattle.dd_numbered.specs.{declared.numbered.Numbered.Numbered, Numbered.holds_in, Numbering.Numbering}
 use Rattle.dd_formula.specs.LocalRule.{LocalRule, is_true, rule_allows}
-use Rattle.dd_strip.specs.declared.strip.Strip.{Strip}
-use Rattle.dd_strip.specs.Strips.{cells}
+use Rattle.dd_strip.specs.{declared.strip.Strip.Strip, Strips.cells}
 use Rattle.dd_transfer.specs.Windows.{cell_at, stand, window_index, window_look}
 
 -- the place of a cell among a window's symbols
@@ -24,7 +19,7 @@ pub record Standpoint : Type 0 where
 abbrev pub standpoint : Strip → Place → Standpoint
 standpoint s v = record { strip = s; at = v }
 
--- the same of cells that are counted from there
+-- the same for cells that are counted from there
 abbrev pub numbers_near : Standpoint → Numbering
 numbers_near p c = window_numbers p.strip (shifted p.at c)
 

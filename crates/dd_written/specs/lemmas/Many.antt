@@ -1,8 +1,7 @@
--- One of a kind after the other: what is read of them, and that it is read again.
+-- Items one after the other: they are read from their text, and only from it.
 use Rattle.std.proofs.Common.{◌≡◌, ℕ, zero, suc, ◌≤◌, ◌<◌, Bool, true, false, List, [], ◌∷◌, ◌++◌, length, Some, refl, sym, ap, subst, ◌∙◌, append_assoc, arith, inl, inr}
 use Rattle.std.specs.List.{flat_map}
-use Rattle.dd_written.specs.Tree.{Lexeme}
-use Rattle.dd_written.specs.reading.Readers.{◌>>=◌, Reader, many, ReadsAll}
+use Rattle.dd_written.specs.{Tree.Lexeme, reading.Readers.◌>>=◌, reading.Readers.Reader, reading.Readers.many, reading.Readers.ReadsAll}
 use Rattle.dd_written.specs.lemmas.Options.{bind_some, some_is, chosen}
 
 pub many_sound : {X : Type 0} (reads : X → List Lexeme → List Lexeme → Type 0) (begins : List Lexeme → Bool) (item : Reader X)
@@ -18,7 +17,7 @@ many_sound {X} reads begins item sound (suc n) tokens xs rest e =
       | inr ended ↦ subst (λ (x : List X × List Lexeme). ReadsAll reads x.0 tokens x.1) (some_is _ _ ended.1) refl
     ]
 
--- Each is read again where its beginning stands, and where fewer stand there than may be read, none begins behind them.
+-- Items are read again if each stands where one begins. If there are fewer than allowed, none may begin after them.
 pub many_again : {X : Type 0} (reads : X → List Lexeme → List Lexeme → Type 0) (begins : List Lexeme → Bool) (item : Reader X)
     → ((x : X) (tokens rest : List Lexeme) → reads x tokens rest → (begins tokens ≡ true) × (item tokens ≡ Some (x, rest)))
     → (n : ℕ) (xs : List X) (tokens rest : List Lexeme) → length xs ≤ n → (length xs < n → begins rest ≡ false) → ReadsAll reads xs tokens rest → many begins item n tokens ≡ Some (xs, rest)
@@ -30,13 +29,13 @@ many_again reads begins item again (suc n) (x ∷ xs) tokens rest le ended all =
     let others : many begins item n all.0 ≡ Some (xs, rest) = many_again reads begins item again n xs all.0 rest (omega (arith, le)) (λ lt. ended (omega (arith, lt))) all.2 in
     rw (one.0, one.1, others) refl
 
--- where each takes a token, there are as many tokens as items
+-- if each item takes at least one token, there are at most as many items as tokens
 pub few_items : {X : Type 0} (reads : X → List Lexeme → List Lexeme → Type 0) → ((x : X) (tokens rest : List Lexeme) → reads x tokens rest → length rest < length tokens)
     → (xs : List X) (tokens rest : List Lexeme) → ReadsAll reads xs tokens rest → length xs ≤ length tokens
 few_items reads takes [] tokens rest all = omega arith
 few_items reads takes (x ∷ xs) tokens rest all = omega (arith, takes x tokens all.0 all.1, few_items reads takes xs all.0 rest all.2)
 
--- what is read by its text
+-- x is read as its text
 abbrev pub ByText : {X : Type 0} → (X → List Lexeme) → X → List Lexeme → List Lexeme → Type 0
 ByText text x tokens rest = tokens ≡ text x ++ rest
 

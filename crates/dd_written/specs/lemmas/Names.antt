@@ -1,8 +1,6 @@
 -- Names are read as they are written.
 use Rattle.std.proofs.Common.{◌≡◌, List, ◌∷◌, Some, refl, subst}
-use Rattle.dd_written.specs.{Tree.Lexeme, Tree.Name, Formulas.name_lexeme}
-use Rattle.dd_written.specs.reading.Atoms.{name_at}
-use Rattle.dd_written.specs.lemmas.Options.{some_is}
+use Rattle.dd_written.specs.{Tree.Lexeme, Tree.Name, Formulas.name_lexeme, reading.Atoms.name_at, lemmas.Options.some_is}
 
 pub name_sound : (tokens : List Lexeme) (n : Name) (rest : List Lexeme) → name_at tokens ≡ Some (n, rest) → tokens ≡ name_lexeme n ∷ rest
 name_sound (Lexeme.Word w ∷ tokens) n rest e = subst (λ (x : Name × List Lexeme). Lexeme.Word w ∷ tokens ≡ name_lexeme x.0 ∷ x.1) (some_is _ _ e) refl

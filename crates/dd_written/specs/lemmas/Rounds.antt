@@ -1,8 +1,7 @@
--- Reading one of a kind after the other, as a loop does.
+-- Reading items one after the other, as a loop does.
 use Rattle.std.proofs.Common.{◌≡◌, ℕ, zero, suc, true, false, Bool, ◌-◌, ◌+◌, ◌<◌, List, [], ◌∷◌, ◌++◌, Option, Some, None, refl, sym, ap, ◌∙◌, append_assoc, arith}
 use Rattle.std.proofs.lemmas.List.{append-nil}
-use Rattle.dd_written.specs.Tree.{Lexeme}
-use Rattle.dd_written.specs.reading.Readers.{◌>>=◌, Reader, many, with_front}
+use Rattle.dd_written.specs.{Tree.Lexeme, reading.Readers.◌>>=◌, reading.Readers.Reader, reading.Readers.many, reading.Readers.with_front}
 
 pub regroup : {X : Type 0} (front : List X) (f : X) (read : Option (List X × List Lexeme)) → with_front front (read >>= λ x. Some (f ∷ x.0, x.1)) ≡ with_front (front ++ f ∷ []) read
 regroup {X} front f (Some x) = ap (λ (fs : List X). Some (fs, x.1)) (simp append_assoc)
@@ -19,7 +18,7 @@ pub none_more : {X : Type 0} (begins : List Lexeme → Bool) (item : Reader X) (
 none_more begins item zero tokens e = refl
 none_more begins item (suc n) tokens e = rw e refl
 
--- where none begins, what was read is all
+-- if none begins, all was read
 pub stops : {X : Type 0} (begins : List Lexeme → Bool) (item : Reader X) (front : List X) (n : ℕ) (tokens : List Lexeme) (total : Option (List X × List Lexeme)) → begins tokens ≡ false
     → with_front front (many begins item n tokens) ≡ total → total ≡ Some (front, tokens)
 stops {X} begins item front n tokens total e so_far =

@@ -1,4 +1,4 @@
--- Reading atoms, and what stands before the body of a quantifier.
+-- Reading atoms, and what precedes the body of a quantifier.
 use Rattle.std.specs.Prelude.{List, [], ◌∷◌, Some, None}
 use Rattle.dd_written.specs.Tree.{Word, Mark, Lexeme, Name, Term, Comparand, Relation, Ball, Formula, roll-Formula, Formula-F}
 use Rattle.dd_written.specs.reading.Readers.{◌>>=◌, Reader}
@@ -8,7 +8,7 @@ name_at (Lexeme.Word w ∷ tokens) = Some (Name.Word w, tokens)
 name_at (Lexeme.Number n ∷ tokens) = Some (Name.Number n, tokens)
 name_at tokens = None
 
--- as many moves as stand there
+-- all moves that stand there
 abbrev pub moves_at : List Lexeme → List Word × List Lexeme
 moves_at (Lexeme.Mark Mark.Dot ∷ Lexeme.Word label ∷ tokens) = (label ∷ (moves_at tokens).0, (moves_at tokens).1)
 moves_at tokens = ([], tokens)
@@ -57,7 +57,7 @@ quantifier_end variable [] tokens = None
 quantifier_end variable (b ∷ bs) (Lexeme.Mark Mark.CloseList ∷ tokens) = Some ((variable, b ∷ bs), tokens)
 quantifier_end variable (b ∷ bs) tokens = None
 
--- the variable and the balls of a quantifier, behind its capital
+-- the variable and the balls of a quantifier, after its capital
 abbrev pub quantifier_at : Reader (Word × List Ball)
 quantifier_at (Lexeme.Word variable ∷ Lexeme.Mark Mark.OpenList ∷ tokens) = quantifier_end variable (balls_at tokens).0 (balls_at tokens).1
 quantifier_at tokens = None

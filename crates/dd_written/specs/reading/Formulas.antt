@@ -5,7 +5,7 @@ use Rattle.dd_written.specs.Formulas.{join_rank, tree_depth}
 use Rattle.dd_written.specs.reading.Readers.{◌>>=◌, Reader, many, with_front}
 use Rattle.dd_written.specs.reading.Atoms.{leaf_at, quantifier_at}
 
--- whether the sign of a chain stands at the front
+-- whether the sign of a chain comes next
 abbrev pub begins : Join → List Lexeme → Bool
 begins Join.And (Lexeme.Mark Mark.And ∷ tokens) = true
 begins Join.Or (Lexeme.Mark Mark.Or ∷ tokens) = true
@@ -13,7 +13,7 @@ begins Join.Implies (Lexeme.Mark Mark.Arrow ∷ tokens) = true
 begins Join.Iff (Lexeme.Mark Mark.BothWays ∷ tokens) = true
 begins j tokens = false
 
--- at most n parts more, each behind the sign
+-- at most n more parts, each after the sign
 abbrev pub more_at : Join → Reader Formula → ℕ → Reader (List Formula)
 more_at j part n tokens = many (begins j) (λ ts. part (drop 1 ts)) n tokens
 
@@ -23,14 +23,14 @@ chain_at j part tokens = do
   f ← part tokens
   if begins j f.1 then (with_front (f.0 ∷ []) (more_at j part (length f.1) f.1) >>= λ m. Some (roll-Formula (Formula-F.Chain j m.0), m.1)) else Some f
 
--- the sign of the loosest chains that may stand at a place
+-- the sign of the loosest chains that may stand at a precedence
 abbrev pub join_at : ℕ → Join
 join_at (suc zero) = Join.And
 join_at (suc (suc zero)) = Join.Or
 join_at (suc (suc (suc zero))) = Join.Implies
 join_at place = Join.Iff
 
--- a formula that may stand at a place, where unary reads those of the tightest
+-- a formula that may stand at a precedence, if `unary` reads those that bind tightest
 abbrev pub level_at : Reader Formula → ℕ → Reader Formula
 level_at unary zero = unary
 level_at unary (suc place) = chain_at (join_at (suc place)) (level_at unary place)
@@ -59,18 +59,18 @@ nested_at unary (Lexeme.Mark Mark.Open ∷ tokens) = do
   group_end f.0 f.1
 nested_at unary tokens = leaf_at tokens
 
--- a formula of the tightest place, with at most so many of `!`, quantifiers and parentheses in one another
+-- a formula that binds tightest, with `!`, quantifiers and parentheses nested at most so deep
 abbrev pub unary_at : ℕ → Reader Formula
 unary_at zero tokens = leaf_at tokens
 unary_at (suc n) tokens = nested_at (unary_at n) tokens
 
--- a formula of a depth of at most 64
+-- a formula of depth at most 64
 abbrev pub formula_at : Reader Formula
 formula_at tokens = do
   f ← level_at (unary_at 64) 4 tokens
   if nat_le (tree_depth f.0) 64 then Some f else None
 
--- what follows a formula that stands at a place, and cannot belong to it
+-- tokens that can't belong to a formula before them, at this precedence
 abbrev pub ends : ℕ → List Lexeme → Bool
 ends place (Lexeme.Mark Mark.Dot ∷ tokens) = false
 ends place (Lexeme.Mark Mark.And ∷ tokens) = nat_lt place 1

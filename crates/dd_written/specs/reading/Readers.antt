@@ -1,8 +1,8 @@
--- Reading from left to right, one token ahead.
+-- Reading from left to right, with one token of lookahead.
 use Rattle.std.specs.Prelude.{◌≡◌, ℕ, zero, suc, List, [], ◌∷◌, ◌++◌, Bool, Option, Some, None, Result, Ok, Err, if◌then◌else◌}
 use Rattle.dd_written.specs.Tree.{ReadFault, Lexeme}
 
--- What was read from the front, and what is left; or nothing, where nothing of this kind stands there.
+-- What was read from the front, and the rest; `None` if nothing of this kind stands there.
 abbrev pub Reader : Type 0 → Type 0
 Reader X = List Lexeme → Option (X × List Lexeme)
 
@@ -11,7 +11,7 @@ abbrev pub ◌>>=◌ : {A B : Type 0} → Option A → (A → Option B) → Opti
 (Some x) >>= f = f x
 None >>= f = None
 
--- What a function returned, seen by view, is what reading gives, unless memory ran out.
+-- What a function returned, seen through `view`, is what the reader gives, unless memory ran out.
 abbrev pub Fails : {Y : Type 0} → ReadFault → Option Y → Type 0
 Fails ReadFault.Memory read = Unit {0}
 Fails ReadFault.Syntax read = read ≡ None
@@ -20,16 +20,16 @@ abbrev pub Gives : {X Y : Type 0} → (X → Y) → Result X ReadFault → Optio
 Gives view (Ok x) read = read ≡ Some (view x)
 Gives view (Err e) read = Fails e read
 
--- at most n of a kind, each where its beginning stands
+-- at most n items, each where `begins` holds
 abbrev pub many : {X : Type 0} → (List Lexeme → Bool) → Reader X → ℕ → Reader (List X)
 many begins item zero tokens = Some ([], tokens)
 many begins item (suc n) tokens = if begins tokens then (item tokens >>= λ x. many begins item n x.1 >>= λ m. Some (x.0 ∷ m.0, m.1)) else Some ([], tokens)
 
--- what was read before, and what is read
+-- what was read before, followed by what is read
 abbrev pub with_front : {X : Type 0} → List X → Option (List X × List Lexeme) → Option (List X × List Lexeme)
 with_front front read = read >>= λ x. Some (front ++ x.0, x.1)
 
--- one behind the other, each from some tokens to what stands behind it
+-- the items are read one after the other, each from some tokens to the tokens after it
 abbrev pub ReadsAll : {X : Type 0} → (X → List Lexeme → List Lexeme → Type 0) → List X → List Lexeme → List Lexeme → Type 0
 ReadsAll reads [] tokens rest = tokens ≡ rest
 ReadsAll reads (x ∷ xs) tokens rest = (between : List Lexeme) × reads x tokens between × ReadsAll reads xs between rest

@@ -1,13 +1,9 @@
-use Rattle.std.proofs.Common.{ap, sym, ◌∙◌, subst, arith}
-use Rattle.std.proofs.lemmas.Result.{IfOk-weaker}
+use Rattle.std.proofs.{Common.ap, Common.sym, Common.◌∙◌, Common.subst, Common.arith, lemmas.Result.IfOk-weaker}
 use Rattle.dd_pattern.specs.Tile.{Tile}
-use Rattle.dd_formula.specs.Automata.{counted}
-use Rattle.dd_formula.specs.Values.{IsPlaced}
-use Rattle.dd_formula.specs.declared.automaton.Automaton.{Automaton}
-use Rattle.dd_formula.specs.declared.automaton.Automaton.TheVariants as v
-use Rattle.dd_formula.specs.lemmas.AutomatonLaws.{depth_composed}
+use Rattle.dd_formula.specs.{Automata.counted, Values.IsPlaced, declared.automaton.Automaton.Automaton, lemmas.AutomatonLaws.depth_composed}
 use Rattle.dd_automaton.specs.Images.{IsDefinedOn, IsImage}
 use Rattle.dd_automaton.proofs.ImageLaws.{defined_inner, defined_outer, image_composed}
+use Rattle.dd_formula.specs.declared.automaton.Automaton.TheVariants as v
 use Rattle.dd_automaton.proofs.image.+apply.Goals as goal
 
 pub apply-requires : goal.apply-requires

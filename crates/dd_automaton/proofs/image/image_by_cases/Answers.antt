@@ -1,12 +1,11 @@
 use Rattle.std.proofs.Common.{◌≡◌, ℕ, List, length, ◌+◌, Some, ap, sym, ◌∙◌, subst, arith, length-append}
 use Rattle.std.proofs.lemmas.Grind.{common_steps}
 use Rattle.dd_pattern.specs.Tile.{Tile, tile_look, cell_in}
-use Rattle.dd_formula.specs.Automata.{first_case}
-use Rattle.dd_formula.specs.declared.automaton.Automaton.TheVariants as v
-use Rattle.dd_formula.specs.declared.automaton.Cases.{Cases}
+use Rattle.dd_formula.specs.{Automata.first_case, declared.automaton.Cases.Cases}
 use Rattle.dd_formula.specs.lemmas.ValueLaws.{value_given, placed_given}
 use Rattle.dd_automaton.specs.Images.{IsImage}
 use Rattle.dd_automaton.proofs.ImageLaws.{cases_look, image_from_box, tile_again, value_more}
+use Rattle.dd_formula.specs.declared.automaton.Automaton.TheVariants as v
 use Rattle.dd_automaton.proofs.image.image_by_cases.Goals as goal
 
 pub value-requires : goal.value-requires

@@ -1,6 +1,5 @@
 use Rattle.std.proofs.Common.{sym, subst}
-use Rattle.dd_boxes.specs.Goals.{KeepsRule}
-use Rattle.dd_boxes.specs.Views.{goal_of}
+use Rattle.dd_boxes.specs.{Goals.KeepsRule, Views.goal_of}
 use Rattle.dd_boxes.proofs.goals.keeps_rule.Goals as goal
 
 pub returns-in-Breaks : goal.returns-in-Breaks

@@ -1,10 +1,7 @@
 use Rattle.std.proofs.Common.{◌≡◌, max, sym, subst, arith}
-use Rattle.dd_boxes.specs.Boxes.{IsLeastRadius}
-use Rattle.dd_formula.specs.Reach.{automaton_reach}
-use Rattle.dd_formula.specs.declared.automaton.Automaton.{Automaton}
-use Rattle.dd_boxes.specs.Goals.{breaks, differ, AreOver, IsGoalFor}
-use Rattle.dd_boxes.specs.Views.{goal_of, numbers_of}
+use Rattle.dd_boxes.specs.{Boxes.IsLeastRadius, Goals.breaks, Goals.differ, Goals.AreOver, Goals.IsGoalFor, Views.goal_of, Views.numbers_of}
 use Rattle.dd_boxes.specs.lemmas.ReachLaws.{reach_is_least, farthest_is_least}
+use Rattle.dd_formula.specs.{Reach.automaton_reach, declared.automaton.Automaton.Automaton}
 use Rattle.dd_boxes.proofs.goals.least_radius.Goals as goal
 
 pub returns-in-Breaks : goal.returns-in-Breaks

@@ -1,5 +1,4 @@
-use Rattle.dd_boxes.specs.Views.{goal_of}
-use Rattle.dd_boxes.specs.lemmas.OneBoxLaws.{one_box_law}
+use Rattle.dd_boxes.specs.{Views.goal_of, lemmas.OneBoxLaws.one_box_law}
 use Rattle.dd_boxes.proofs.laws.one_box.Goals as goal
 
 pub returns : goal.returns

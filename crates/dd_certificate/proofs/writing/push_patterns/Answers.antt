@@ -1,5 +1,4 @@
-use Rattle.std.proofs.Common.{arith}
-use Rattle.std.proofs.lemmas.Grind.{common_steps}
+use Rattle.std.proofs.{Common.arith, lemmas.Grind.common_steps}
 use Rattle.dd_certificate.proofs.writing.push_patterns.Goals as goal
 
 pub loop-pattern-preserved : goal.loop-pattern-preserved

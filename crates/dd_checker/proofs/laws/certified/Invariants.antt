@@ -1,6 +1,6 @@
 use Rattle.dd_checker.proofs.Certifying.{AreTruthful}
 use Rattle.dd_checker.proofs.laws.certified.Given as goal
 
--- the queries that were passed keep it
+-- this holds of the queries seen so far
 abbrev pub invariant-loop-at : goal.invariant-loop-at
 invariant-loop-at l = AreTruthful l.script l.at

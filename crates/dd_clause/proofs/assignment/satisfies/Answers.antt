@@ -1,8 +1,6 @@
-use Rattle.std.proofs.Common.{◌≡◌, List, true, get_or, arith}
-use Rattle.std.proofs.lemmas.List.Elements.{All-more}
+use Rattle.std.proofs.{Common.◌≡◌, Common.List, Common.true, Common.get_or, Common.arith, lemmas.List.Elements.All-more}
 use Rattle.std.proofs.lemmas.Grind.{elements}
-use Rattle.dd_clause.specs.declared.clause.Literal.{Literal}
-use Rattle.dd_clause.specs.Clauses.{is_clause_true}
+use Rattle.dd_clause.specs.{declared.clause.Literal.Literal, Clauses.is_clause_true}
 use Rattle.dd_values.specs.Variables.{true_variables}
 use Rattle.dd_clause.proofs.assignment.satisfies.Goals as goal
 

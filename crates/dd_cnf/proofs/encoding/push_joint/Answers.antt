@@ -1,5 +1,4 @@
-use Rattle.std.proofs.Common.{◌∙◌, arith}
-use Rattle.std.proofs.lemmas.Grind.{common_steps}
+use Rattle.std.proofs.{Common.◌∙◌, Common.arith, lemmas.Grind.common_steps}
 use Rattle.std.specs.Prelude.{not}
 use Rattle.dd_cnf.proofs.GateClauses.{last_in_range}
 use Rattle.dd_cnf.proofs.encoding.push_joint.Goals as goal

@@ -1,5 +1,4 @@
-use Rattle.std.proofs.Common.{sym, ap, ◌∙◌, arith}
-use Rattle.std.proofs.lemmas.Grind.{common_steps}
+use Rattle.std.proofs.{Common.sym, Common.ap, Common.◌∙◌, Common.arith, lemmas.Grind.common_steps}
 use Rattle.dd_written.specs.lemmas.Options.{nothing_some}
 use Rattle.dd_commands.specs.{Heads.next_stage, lemmas.Whole.written_again}
 use Rattle.dd_commands.proofs.Parts.{goes_on, all_read}

@@ -1,16 +1,10 @@
-use Rattle.std.proofs.Common.{◌≡◌, List, ap, sym, ◌∙◌, subst, arith}
-use Rattle.std.specs.List.{list_all}
-use Rattle.std.specs.List.Sorted.{IsStrictlySortedBy}
-use Rattle.std.proofs.lemmas.Result.{IfOk-weaker}
-use Rattle.dd_lattice.specs.Order.{cell_cmp}
-use Rattle.dd_lattice.specs.declared.position.Cell.{Cell}
-use Rattle.dd_formula.specs.LocalRule.{is_near}
-use Rattle.dd_formula.specs.Automata.{is_cell_of}
-use Rattle.dd_formula.specs.declared.automaton.Automaton.{Automaton}
+use Rattle.std.proofs.{Common.◌≡◌, Common.List, Common.ap, Common.sym, Common.◌∙◌, Common.subst, Common.arith, lemmas.Result.IfOk-weaker}
+use Rattle.std.specs.List.{list_all, Sorted.IsStrictlySortedBy}
+use Rattle.dd_lattice.specs.{Order.cell_cmp, declared.position.Cell.Cell}
+use Rattle.dd_formula.specs.{LocalRule.is_near, Automata.is_cell_of, declared.automaton.Automaton.Automaton}
 use Rattle.dd_formula.specs.lemmas.AutomatonLaws.{near_cells, node_at}
 use Rattle.dd_circuit.specs.Circuits.{Network, size}
-use Rattle.dd_compile.specs.Wiring.{Wiring}
-use Rattle.dd_compile.specs.lemmas.Progress.{Extends-trans}
+use Rattle.dd_compile.specs.{Wiring.Wiring, lemmas.Progress.Extends-trans}
 use Rattle.dd_compile.proofs.Composing.{value_few, value_wired, value_inside, composing_step}
 use Rattle.dd_compile.proofs.Composed.{cases_say, comes_after, inner_wired, outer_wired, whole_length, outer_few, composed_gates, composed_signals, composed_says}
 use Rattle.dd_compile.proofs.automata.+compile_near.Goals as goal

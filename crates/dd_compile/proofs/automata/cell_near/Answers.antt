@@ -1,6 +1,5 @@
 use Rattle.std.proofs.Common.{ap}
-use Rattle.dd_lattice.specs.Place.{moved}
-use Rattle.dd_lattice.specs.Cells.{cell}
+use Rattle.dd_lattice.specs.{Place.moved, Cells.cell}
 use Rattle.dd_lattice.specs.lemmas.RangeLaws.{in_range_from_test, in_range_if_given, outside_if_not_given}
 use Rattle.dd_compile.specs.lemmas.RuleWiring.{near_in_range}
 use Rattle.dd_compile.proofs.automata.cell_near.Goals as goal

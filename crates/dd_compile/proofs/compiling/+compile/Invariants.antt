@@ -1,8 +1,6 @@
 use Rattle.std.proofs.Common.{◌+◌, ◌*◌}
 use Rattle.dd_expansion.specs.Leaves.{instances}
-use Rattle.dd_compile.specs.Compiling.{wires_near}
-use Rattle.dd_compile.specs.lemmas.Layers.{all_instances}
-use Rattle.dd_compile.specs.lemmas.Progress.{Progress}
+use Rattle.dd_compile.specs.{Compiling.wires_near, lemmas.Layers.all_instances, lemmas.Progress.Progress}
 use Rattle.dd_compile.proofs.compiling.+compile.Given as goal
 
 abbrev pub decreases-compile_expanded : goal.decreases-compile_expanded

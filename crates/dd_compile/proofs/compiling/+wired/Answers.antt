@@ -1,5 +1,4 @@
-use Rattle.std.proofs.Common.{◌∙◌, ap, sym, arith}
-use Rattle.std.proofs.lemmas.Grind.{common_steps}
+use Rattle.std.proofs.{Common.◌∙◌, Common.ap, Common.sym, Common.arith, lemmas.Grind.common_steps}
 use Rattle.dd_circuit.specs.Circuits.{size}
 use Rattle.dd_compile.specs.Compiling.{wires_near, are_wired, all_wired}
 use Rattle.dd_compile.specs.lemmas.Layers.{wired_and, wired_or}

@@ -1,10 +1,8 @@
 use Rattle.std.proofs.Common.{◌≡◌, ℕ, Bool, true, false, Some, None, Option, ap, sym, ◌∙◌}
 use Rattle.std.specs.Prelude.{if◌then◌else◌}
-use Rattle.dd_lattice.specs.Place.{Place, moved, is_in_range}
-use Rattle.dd_lattice.specs.declared.position.Cell.{Cell}
+use Rattle.dd_lattice.specs.{Place.Place, Place.moved, Place.is_in_range, declared.position.Cell.Cell}
 use Rattle.dd_circuit.specs.declared.gates.Signal.{Signal}
-use Rattle.dd_compile.specs.Compiling.{wires_near}
-use Rattle.dd_compile.specs.Wiring.{Wiring, wire_of}
+use Rattle.dd_compile.specs.{Compiling.wires_near, Wiring.Wiring, Wiring.wire_of}
 use Rattle.dd_compile.proofs.compiling.wire_near.Goals as goal
 
 -- a place in range is the one that is moved there

@@ -1,8 +1,7 @@
 use Rattle.std.proofs.Common.{sym, subst}
 use Rattle.dd_formula.specs.Values.{IsPlaced}
 use Rattle.dd_compile.specs.Valued.{SaysNear}
-use Rattle.dd_compile.proofs.SaidRules.{given_says}
-use Rattle.dd_compile.proofs.SaidComposed.{composed_made_says}
+use Rattle.dd_compile.proofs.{SaidRules.given_says, SaidComposed.composed_made_says}
 use Rattle.dd_compile.proofs.laws.+says_near.Goals as goal
 
 pub returns-in-Given : goal.returns-in-Given

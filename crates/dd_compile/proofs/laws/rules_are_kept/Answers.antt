@@ -1,7 +1,6 @@
 use Rattle.std.proofs.Common.{◌≡◌, ◌<◌, ◌≤◌, ℕ, List, length, take, get_or, ap, sym, ◌∙◌, subst}
+use Rattle.std.proofs.lemmas.List.{take_all, Elements.All-push}
 use Rattle.std.specs.List.{All}
-use Rattle.std.proofs.lemmas.List.{take_all}
-use Rattle.std.proofs.lemmas.List.Elements.{All-push}
 use Rattle.dd_formula.specs.LocalRule.{LocalRule, IsRule}
 use Rattle.dd_compile.specs.lemmas.CaseGates.{taken_is}
 use Rattle.dd_compile.proofs.laws.rules_are_kept.Goals as goal

@@ -1,7 +1,6 @@
-use Rattle.std.proofs.Common.{take}
+use Rattle.std.proofs.Common.{take, ℕ}
 use Rattle.std.specs.List.{All}
 use Rattle.dd_formula.specs.LocalRule.{LocalRule, IsRule}
-use Rattle.std.proofs.Common.{ℕ}
 use Rattle.dd_compile.proofs.laws.rules_are_kept.Given as goal
 
 abbrev pub invariant-loop-rule : goal.invariant-loop-rule

@@ -1,7 +1,6 @@
 use Rattle.std.proofs.Common.{ap, ◌∙◌}
 use Rattle.dd_circuit.specs.Circuits.{size}
-use Rattle.dd_compile.specs.Compiling.{are_wired, wires_near}
-use Rattle.dd_compile.specs.lemmas.RuleWiring.{leaves_wired}
+use Rattle.dd_compile.specs.{Compiling.are_wired, Compiling.wires_near, lemmas.RuleWiring.leaves_wired}
 use Rattle.dd_compile.proofs.RuleSays.{answer_says}
 use Rattle.dd_compile.proofs.rules.compile_rule.Goals as goal
 

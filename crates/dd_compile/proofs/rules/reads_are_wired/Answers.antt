@@ -2,11 +2,9 @@ use Rattle.std.proofs.Common.{◌∙◌, ap, arith}
 use Rattle.std.specs.List.{list_all}
 use Rattle.dd_lattice.specs.Cells.{shifted}
 use Rattle.dd_circuit.specs.Circuits.{size}
-use Rattle.dd_compile.specs.Wiring.{signals_of}
-use Rattle.dd_compile.specs.RuleSignals.{are_signals, is_cell_wired}
-use Rattle.dd_formula.specs.LocalRule.{expansion_at}
-use Rattle.dd_compile.specs.lemmas.FewGates.{few_gates}
+use Rattle.dd_compile.specs.{Wiring.signals_of, RuleSignals.are_signals, RuleSignals.is_cell_wired, lemmas.FewGates.few_gates}
 use Rattle.dd_compile.specs.lemmas.RuleWiring.{tested_reads}
+use Rattle.dd_formula.specs.LocalRule.{expansion_at}
 use Rattle.dd_compile.proofs.rules.reads_are_wired.Goals as goal
 
 pub returns-clause-value : goal.returns-clause-value

@@ -1,6 +1,7 @@
-use Rattle.dd_compile.proofs.OwnInputs.{turn_after, turn_cells, turn_end, turn_step}
+use Rattle.dd_compile.proofs.OwnInputs.{turn_cells, turn_end, turn_step}
 use Rattle.std.proofs.Common.{arith, refl}
 use Rattle.dd_compile.proofs.templates.own_inputs.Goals as goal
+use Rattle.dd_lattice.specs.lemmas.InOrderLaws.{turn_after}
 
 pub add-requires : goal.add-requires
 add-requires c = turn_after c.args.cells.now c.loop-cell.cell-index c.cell-item.result c.loop-cell.inputs.cells c.requires.ascending c.loop-cell-test.true c.cell-item.is c.loop-cell.invariant.cells

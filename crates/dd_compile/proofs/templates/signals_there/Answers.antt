@@ -1,11 +1,7 @@
-use Rattle.std.proofs.Common.{ap, ◌∙◌, arith}
-use Rattle.std.proofs.lemmas.Grind.{common_steps}
+use Rattle.std.proofs.{Common.ap, Common.◌∙◌, Common.arith, lemmas.Grind.common_steps, lemmas.Bool.and_parts}
 use Rattle.std.specs.Prelude.{is_some}
-use Rattle.std.proofs.lemmas.Bool.{and_parts}
-use Rattle.dd_lattice.specs.Place.{is_in_range, moved}
-use Rattle.dd_lattice.specs.Cells.{shifted}
-use Rattle.dd_compile.specs.Wiring.{signals_of}
-use Rattle.dd_compile.specs.placing.Placed.{is_there}
+use Rattle.dd_lattice.specs.{Place.is_in_range, Place.moved, Cells.shifted}
+use Rattle.dd_compile.specs.{Wiring.signals_of, placing.Placed.is_there}
 use Rattle.dd_compile.proofs.TemplateLaws.{test_at}
 use Rattle.dd_compile.proofs.templates.signals_there.Goals as goal
 

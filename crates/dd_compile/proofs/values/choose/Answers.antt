@@ -1,8 +1,6 @@
 use Rattle.std.proofs.Common.{◌≡◌, ◌≤◌, length, ◌++◌, ◌∷◌, [], List, get_or, false, ap, ◌∙◌, arith}
-use Rattle.std.proofs.lemmas.Grind.{common_steps}
-use Rattle.std.proofs.lemmas.List.{get_or_default}
-use Rattle.dd_circuit.specs.declared.gates.Signal.{Signal}
-use Rattle.dd_circuit.specs.Circuits.{opposite}
+use Rattle.std.proofs.lemmas.{Grind.common_steps, List.get_or_default}
+use Rattle.dd_circuit.specs.{declared.gates.Signal.Signal, Circuits.opposite}
 use Rattle.dd_compile.specs.lemmas.CaseGates.{choosing_end, choosing_few, choosing_step}
 use Rattle.dd_compile.specs.lemmas.Progress.{one_more}
 use Rattle.dd_compile.proofs.values.choose.Goals as goal

@@ -1,9 +1,7 @@
 use Rattle.std.proofs.Common.{[], List, length, ap, sym, ◌∙◌, subst, arith}
 use Rattle.std.specs.List.{All}
-use Rattle.dd_circuit.specs.declared.gates.Signal.{Signal}
-use Rattle.dd_circuit.specs.Circuits.{IsSignal, size}
-use Rattle.dd_compile.specs.ValueGates.{choices, rules_made}
-use Rattle.dd_compile.specs.ValueSignals.{CasesSay}
+use Rattle.dd_circuit.specs.{declared.gates.Signal.Signal, Circuits.IsSignal, Circuits.size}
+use Rattle.dd_compile.specs.{ValueGates.choices, ValueGates.rules_made, ValueSignals.CasesSay}
 use Rattle.dd_compile.specs.lemmas.Progress.{size-append, Extends-trans}
 use Rattle.dd_compile.specs.lemmas.CaseRules.{rules_wired, value_length, asks, value_answer}
 use Rattle.dd_compile.proofs.values.compile_cases.Goals as goal

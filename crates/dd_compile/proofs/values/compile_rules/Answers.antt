@@ -1,10 +1,8 @@
 use Rattle.std.proofs.Common.{◌≡◌, ◌<◌, ◌≤◌, ℕ, length, get_or, ap, ◌∙◌, subst}
 use Rattle.dd_lattice.specs.declared.position.Cell.{Cell}
-use Rattle.dd_formula.specs.LocalRule.{LocalRule}
-use Rattle.dd_formula.specs.declared.automaton.Cases.{Cases}
+use Rattle.dd_formula.specs.{LocalRule.LocalRule, declared.automaton.Cases.Cases}
 use Rattle.dd_circuit.specs.Circuits.{Network, size}
-use Rattle.dd_compile.specs.Wiring.{Wiring}
-use Rattle.dd_compile.specs.lemmas.Progress.{Extends-trans}
+use Rattle.dd_compile.specs.{Wiring.Wiring, lemmas.Progress.Extends-trans}
 use Rattle.dd_compile.specs.lemmas.CaseRules.{ruling_start, ruling_step, ruling_end, case_node, case_wired, case_few, size_more}
 use Rattle.dd_compile.proofs.values.compile_rules.Goals as goal
 

@@ -1,11 +1,9 @@
 use Rattle.std.proofs.Common.{◌≡◌, ◌<◌, ℕ, List, length, get_or, true, false, ap, ◌∙◌, arith, eq-eqb}
-use Rattle.std.proofs.lemmas.Grind.{common_steps}
-use Rattle.std.proofs.lemmas.Bool.{ne_eqb}
-use Rattle.std.proofs.lemmas.List.{get_or_default}
+use Rattle.std.proofs.lemmas.{Grind.common_steps, Bool.ne_eqb, List.get_or_default}
 use Rattle.dd_circuit.specs.declared.gates.Signal.{Signal}
 use Rattle.dd_compile.specs.lemmas.CaseGates.{giving_step}
-use Rattle.dd_compile.proofs.values.giving.Goals as goal
 use Rattle.dd_compile.proofs.values.giving.Goals.{then-other-symbol+in_ok-push, else-other-symbol}
+use Rattle.dd_compile.proofs.values.giving.Goals as goal
 
 none : Signal
 none = record { variable = 0; positive = false }

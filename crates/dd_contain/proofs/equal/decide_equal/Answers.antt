@@ -1,11 +1,9 @@
-use Rattle.std.proofs.Common.{rules, arith}
-use Rattle.std.proofs.lemmas.Grind.{common_steps}
+use Rattle.std.proofs.{Common.rules, Common.arith, lemmas.Grind.common_steps}
 use Rattle.dd_contain.specs.declared.decision.Decision.{Decision}
 use Rattle.dd_contain.specs.declared.decision.Decision.TheVariants.{Yes, No, Unknown}
+use Rattle.dd_contain.specs.{Questions.HasNumbers, Equal.UnlessNo, Equal.joined, Equal.HasBothNumbers}
 use Rattle.dd_formula.specs.LocalRule.{LocalRule}
 use Rattle.dd_boxes.specs.Goals.{breaks}
-use Rattle.dd_contain.specs.Questions.{HasNumbers}
-use Rattle.dd_contain.specs.Equal.{UnlessNo, joined, HasBothNumbers}
 use Rattle.dd_contain.proofs.equal.decide_equal.Goals as goal
 
 unless_no : (d : Decision) (P : Type 0) → P → UnlessNo d P

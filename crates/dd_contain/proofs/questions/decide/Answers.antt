@@ -1,11 +1,7 @@
-use Rattle.std.proofs.Common.{◌≡◌, arith, rules, subst, sym}
+use Rattle.std.proofs.{Common.◌≡◌, Common.arith, Common.rules, Common.subst, Common.sym, lemmas.Result.IfOk-weaker}
 use Rattle.std.specs.Prelude.{max, IfOk}
-use Rattle.std.proofs.lemmas.Result.{IfOk-weaker}
-use Rattle.dd_boxes.specs.Boxes.{Suffices}
-use Rattle.dd_boxes.specs.Views.{goal_of}
-use Rattle.dd_boxes.specs.lemmas.ReachLaws.{least_near}
-use Rattle.dd_contain.specs.Decided.{IsDecidedBy}
-use Rattle.dd_contain.specs.searching.Listed.{AsksWithin}
+use Rattle.dd_boxes.specs.{Boxes.Suffices, Views.goal_of, lemmas.ReachLaws.least_near}
+use Rattle.dd_contain.specs.{Decided.IsDecidedBy, searching.Listed.AsksWithin}
 use Rattle.dd_contain.specs.Questions.{AsksPeriods, RefutesByNumbers, ShowsAt, Displays, IsDecided, HasNumbers}
 use Rattle.dd_contain.proofs.LimitLaws.{radii_asked, periods_asked, decided, numbered}
 use Rattle.dd_contain.proofs.questions.decide.Goals as goal

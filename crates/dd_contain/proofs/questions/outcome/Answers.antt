@@ -1,5 +1,6 @@
-use Rattle.dd_contain.proofs.AskingLaws.{any_ok, right_answer, right_found, right_refuted}
+use Rattle.dd_contain.proofs.AskingLaws.{right_answer, right_found, right_refuted}
 use Rattle.dd_contain.proofs.questions.outcome.Goals as goal
+use Rattle.dd_values.specs.lemmas.Results.{any_ok}
 
 pub returns-in-Some-clause-answer : goal.returns-in-Some-clause-answer
 returns-in-Some-clause-answer g c = right_answer c.args.cnf.now c.in-Some.proposed (rw c.in-Some.is at c.in_ok-proposed.ensures.right)

@@ -1,7 +1,5 @@
-use Rattle.dd_engines.specs.Rosters.{roster_seen}
-use Rattle.dd_engines.specs.Rounds.{Kept}
-use Rattle.dd_contain.specs.searching.Asking.{AskedOrSame}
-use Rattle.dd_contain.specs.searching.Listed.{NoneBefore}
+use Rattle.dd_engines.specs.{Rosters.roster_seen, Rounds.Kept}
+use Rattle.dd_contain.specs.searching.{Asking.AskedOrSame, Listed.NoneBefore}
 use Rattle.dd_contain.proofs.search.first_listed.Given as goal
 
 abbrev pub invariant-loop-at : goal.invariant-loop-at

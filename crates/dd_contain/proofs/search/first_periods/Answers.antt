@@ -1,12 +1,7 @@
-use Rattle.std.proofs.Common.{ℕ, List, length, subst, Contains}
-use Rattle.std.specs.Prelude.{Option, Some, None, MatchOption}
-use Rattle.std.specs.List.Sorted.{IsStrictlySortedBy}
-use Rattle.std.proofs.lemmas.Result.{IfOk-weaker}
-use Rattle.dd_pattern.specs.declared.periods.Periods.{Periods}
-use Rattle.dd_pattern.specs.Periods.{periods_cmp, AreAllWithin}
-use Rattle.dd_pattern.specs.Tile.{Tile}
-use Rattle.dd_contain.specs.declared.search.Shown.{Shown}
-use Rattle.dd_contain.specs.Decided.{NoneWithin, IsFirst}
+use Rattle.std.proofs.{Common.ℕ, Common.List, Common.length, Common.subst, Common.Contains, lemmas.Result.IfOk-weaker}
+use Rattle.std.specs.{Prelude.Option, Prelude.Some, Prelude.None, Prelude.MatchOption, List.Sorted.IsStrictlySortedBy}
+use Rattle.dd_pattern.specs.{declared.periods.Periods.Periods, Periods.periods_cmp, Periods.AreAllWithin, Tile.Tile}
+use Rattle.dd_contain.specs.{declared.search.Shown.Shown, Decided.NoneWithin, Decided.IsFirst}
 use Rattle.dd_contain.specs.searching.Listed.{NoneBefore, IsFirstOf}
 use Rattle.dd_contain.proofs.OrderLaws.{first_from, none_from}
 use Rattle.dd_contain.proofs.search.first_periods.Goals as goal

@@ -1,6 +1,5 @@
 use Rattle.std.proofs.Common.{ℕ, ◌≤◌, ◌<◌}
-use Rattle.dd_engines.specs.Rosters.{roster_seen}
-use Rattle.dd_engines.specs.Rounds.{Kept, FirstAsked}
+use Rattle.dd_engines.specs.{Rosters.roster_seen, Rounds.Kept, Rounds.FirstAsked}
 use Rattle.dd_contain.proofs.search.first_radius.Given as goal
 
 abbrev pub invariant-loop-radius : goal.invariant-loop-radius

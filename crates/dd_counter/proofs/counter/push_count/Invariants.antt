@@ -1,6 +1,5 @@
 use Rattle.std.proofs.Common.{length}
-use Rattle.dd_counter.specs.Counter.{of_symbol}
-use Rattle.dd_counter.specs.lemmas.Left.{Left}
+use Rattle.dd_counter.specs.{Counter.of_symbol, lemmas.Left.Left}
 use Rattle.dd_counter.proofs.counter.push_count.Given as goal
 
 abbrev pub invariant-loop-symbol : goal.invariant-loop-symbol

@@ -1,7 +1,6 @@
 use Rattle.std.proofs.Common.{◌∷◌, [], suc}
 use Rattle.std.specs.Prelude.{◌^◌}
-use Rattle.dd_circuit.specs.Circuits.{signal_of}
-use Rattle.dd_circuit.specs.declared.gates.Gate.TheVariants.{And}
+use Rattle.dd_circuit.specs.{Circuits.signal_of, declared.gates.Gate.TheVariants.And}
 use Rattle.dd_counter.specs.Counter.{member}
 use Rattle.dd_counter.proofs.Members.{none_made, some_made, none_clauses, none_members, some_few, some_clauses, some_members}
 use Rattle.dd_counter.proofs.counter.push_member.Goals as goal

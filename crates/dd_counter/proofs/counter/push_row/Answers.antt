@@ -1,6 +1,5 @@
 use Rattle.std.specs.Prelude.{◌^◌}
-use Rattle.dd_counter.specs.Counter.{count}
-use Rattle.dd_counter.specs.lemmas.Left.{left_few, left_one}
+use Rattle.dd_counter.specs.{Counter.count, lemmas.Left.left_few, lemmas.Left.left_one}
 use Rattle.dd_counter.proofs.counter.push_row.Goals as goal
 
 pub push_count-requires-clause-few : goal.push_count-requires-clause-few

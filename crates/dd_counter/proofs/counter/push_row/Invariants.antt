@@ -1,5 +1,4 @@
-use Rattle.dd_counter.specs.Counter.{count}
-use Rattle.dd_counter.specs.lemmas.Left.{Left}
+use Rattle.dd_counter.specs.{Counter.count, lemmas.Left.Left}
 use Rattle.dd_counter.proofs.counter.push_row.Given as goal
 
 abbrev pub invariant-loop-most : goal.invariant-loop-most

@@ -1,7 +1,6 @@
 use Rattle.std.proofs.Common.{◌≤◌, ap, subst, sym, ◌∙◌}
 use Rattle.std.specs.Prelude.{◌^◌}
-use Rattle.dd_counter.specs.Counter.{grown, row}
-use Rattle.dd_counter.specs.lemmas.Left.{rows_few, rows_step}
+use Rattle.dd_counter.specs.{Counter.grown, Counter.row, lemmas.Left.rows_few, lemmas.Left.rows_step}
 use Rattle.dd_counter.proofs.counter.push_rows.Goals as goal
 
 pub push_row-requires-clause-few : goal.push_row-requires-clause-few

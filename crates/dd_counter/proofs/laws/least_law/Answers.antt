@@ -4,8 +4,7 @@ use Rattle.dd_boxes.specs.Goals.{always}
 use Rattle.dd_problem.specs.Problems.{torus_problem}
 use Rattle.dd_counter.specs.lemmas.CountedClauses.{weighed_clauses}
 use Rattle.dd_counter.specs.lemmas.Light.{least_claimed, none_claimed, least_unique, none_or_least}
-use Rattle.dd_counter.specs.lemmas.Rooms.{cells_some}
-use Rattle.dd_counter.specs.lemmas.UnitLaws.{unit_there}
+use Rattle.dd_counter.specs.lemmas.{Rooms.cells_some, UnitLaws.unit_there}
 use Rattle.dd_counter.proofs.laws.least_law.Goals as goal
 
 pub returns : goal.returns

@@ -1,7 +1,6 @@
 use Rattle.std.proofs.Common.{sym}
 use Rattle.dd_pattern.specs.Periods.{periods_of}
-use Rattle.dd_counter.specs.lemmas.Light.{least_shown}
-use Rattle.dd_counter.specs.lemmas.Rooms.{room_at, weights_known}
+use Rattle.dd_counter.specs.lemmas.{Light.least_shown, Rooms.room_at, Rooms.weights_known}
 use Rattle.dd_counter.proofs.least.least_weight.Goals as goal
 
 pub search_below-requires-in-loop-weight-clause-count : goal.search_below-requires-in-loop-weight-clause-count

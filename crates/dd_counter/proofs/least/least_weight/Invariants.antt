@@ -1,6 +1,5 @@
 use Rattle.std.proofs.Common.{◌≡◌}
-use Rattle.dd_pattern.specs.Periods.{periods_of}
-use Rattle.dd_pattern.specs.Weight.{total_weight}
+use Rattle.dd_pattern.specs.{Periods.periods_of, Weight.total_weight}
 use Rattle.dd_counter.specs.Least.{IsLiving}
 use Rattle.dd_counter.proofs.least.least_weight.Given as goal
 

@@ -2,8 +2,7 @@ use Rattle.std.proofs.Common.{arith, ap, ◌∙◌, ◌++◌, ◌*◌}
 use Rattle.std.specs.Prelude.{◌^◌}
 use Rattle.dd_boxes.specs.Goals.{always}
 use Rattle.dd_pattern.specs.Periods.{periods_of, periods_volume}
-use Rattle.dd_problem.specs.Problems.{torus_problem}
-use Rattle.dd_problem.specs.lemmas.TorusSizes.{torus_sizes}
+use Rattle.dd_problem.specs.{Problems.torus_problem, lemmas.TorusSizes.torus_sizes}
 use Rattle.dd_counter.specs.Counter.{last_refused}
 use Rattle.dd_counter.proofs.Whole.{inputs_there, few_there, enough, exactly, shown}
 use Rattle.dd_counter.proofs.weights.weight_clauses.Goals as goal

@@ -1,11 +1,9 @@
 use Rattle.std.proofs.Common.{◌≡◌, ◌+◌, ℕ, Bool, refl, true, false, [], ◌∷◌, length, ap, sym, ◌∙◌, arith, length-append}
-use Rattle.std.specs.Prelude.{not, cond}
-use Rattle.std.specs.List.{filter, range_with_len}
 use Rattle.std.proofs.lemmas.List.Elements.{filter-append}
-use Rattle.dd_formula.specs.LocalRule.{rule_allows}
-use Rattle.dd_formula.specs.lemmas.Ranges.{range_push}
-use Rattle.dd_counts.proofs.clauses.disallowed_at.Goals as goal
+use Rattle.std.specs.{Prelude.not, Prelude.cond, List.filter, List.range_with_len}
+use Rattle.dd_formula.specs.{LocalRule.rule_allows, lemmas.Ranges.range_push}
 use Rattle.dd_counts.proofs.clauses.disallowed_at.Goals.{then-not-allows, else-not-allows}
+use Rattle.dd_counts.proofs.clauses.disallowed_at.Goals as goal
 
 one_kept : (p : ℕ → Bool) (n : ℕ) (b : Bool) → p n ≡ b → length (filter p (n ∷ [])) ≡ cond b 1 0
 one_kept p n true h = rw h refl

@@ -1,6 +1,5 @@
 use Rattle.std.proofs.Common.{◌≡◌, ◌≤◌, length}
-use Rattle.std.specs.Prelude.{not}
-use Rattle.std.specs.List.{filter, range_with_len}
+use Rattle.std.specs.{Prelude.not, List.filter, List.range_with_len}
 use Rattle.dd_formula.specs.LocalRule.{rule_allows}
 use Rattle.dd_counts.proofs.clauses.disallowed_at.Given as goal
 

@@ -1,9 +1,6 @@
 use Rattle.std.proofs.Common.{◌+◌, ℕ, ap, ◌∙◌}
 use Rattle.dd_expansion.specs.Leaves.{clause_count}
-use Rattle.dd_formula.specs.LocalRule.{expansion_at}
-use Rattle.dd_formula.specs.Counts.{cut, over_nodes}
-use Rattle.dd_formula.specs.lemmas.Cuts.{next_cut}
-use Rattle.dd_formula.specs.lemmas.Ranges.{total_push}
+use Rattle.dd_formula.specs.{LocalRule.expansion_at, Counts.cut, Counts.over_nodes, lemmas.Cuts.next_cut, lemmas.Ranges.total_push}
 use Rattle.dd_counts.proofs.clauses.rule_clauses.Goals as goal
 
 pub loop-node-preserved : goal.loop-node-preserved

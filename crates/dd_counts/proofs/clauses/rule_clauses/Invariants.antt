@@ -1,7 +1,6 @@
 use Rattle.std.proofs.Common.{◌≡◌}
 use Rattle.dd_expansion.specs.Leaves.{clause_count}
-use Rattle.dd_formula.specs.LocalRule.{expansion_at}
-use Rattle.dd_formula.specs.Counts.{cut, over_nodes}
+use Rattle.dd_formula.specs.{LocalRule.expansion_at, Counts.cut, Counts.over_nodes}
 use Rattle.dd_counts.proofs.clauses.rule_clauses.Given as goal
 
 abbrev pub invariant-loop-node : goal.invariant-loop-node

@@ -1,5 +1,4 @@
-use Rattle.std.proofs.Common.{arith}
-use Rattle.std.proofs.lemmas.Grind.{common_steps}
+use Rattle.std.proofs.{Common.arith, lemmas.Grind.common_steps}
 use Rattle.dd_counts.proofs.rules.least_x.Goals as goal
 
 pub loop-cell-preserved : goal.loop-cell-preserved

@@ -1,13 +1,9 @@
 use Rattle.std.proofs.Common.{◌≡◌, ◌≤◌, ◌+◌, ℕ, ℤ, pos, ◌-ℤ◌, to_z, of_z, w32, w64, Fits, ap, sym, ◌∙◌, arith, rules}
-use Rattle.std.specs.Prelude.{unsigned_abs}
-use Rattle.std.specs.List.{flat_map, range_with_len}
-use Rattle.std.specs.Int.{int_min, int_max}
 use Rattle.std.proofs.lemmas.Int.{ints}
+use Rattle.std.specs.{Prelude.unsigned_abs, List.flat_map, List.range_with_len, Int.int_min, Int.int_max}
 use Rattle.dd_lattice.specs.declared.position.Cell.{Cell}
-use Rattle.dd_formula.specs.LocalRule.{cells_at}
-use Rattle.dd_formula.specs.Reach.{all_cells}
+use Rattle.dd_formula.specs.{LocalRule.cells_at, Reach.all_cells, lemmas.Ranges.fold_push}
 use Rattle.dd_counts.specs.Rules.{least_x, greatest_x}
-use Rattle.dd_formula.specs.lemmas.Ranges.{fold_push}
 use Rattle.dd_counts.proofs.rules.span.Goals as goal
 
 gap : (m n : ℕ) → Fits w32 m → Fits w32 n → unsigned_abs (to_z w64 (of_z w64 (to_z w64 (of_z w64 (to_z w32 m)) -ℤ to_z w64 (of_z w64 (to_z w32 n))))) ≡ unsigned_abs (to_z w32 m -ℤ to_z w32 n)

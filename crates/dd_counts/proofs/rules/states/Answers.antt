@@ -1,7 +1,6 @@
 use Rattle.std.proofs.Common.{◌^◌, ◌∙◌, ap}
-use Rattle.dd_formula.specs.Counts.{cut}
+use Rattle.dd_formula.specs.{Counts.cut, lemmas.Cuts.cut_power}
 use Rattle.dd_counts.specs.Rules.{slices, window}
-use Rattle.dd_formula.specs.lemmas.Cuts.{cut_power}
 use Rattle.dd_counts.proofs.rules.states.Goals as goal
 
 pub returns : goal.returns

@@ -3,15 +3,13 @@ use Rattle.std.proofs.lemmas.Grind.{common_steps}
 use Rattle.std.specs.List.{list_all}
 use Rattle.dd_lattice.specs.declared.position.Cell.{Cell}
 use Rattle.dd_expansion.specs.Leaves.{total}
-use Rattle.dd_formula.specs.LocalRule.{is_near}
-use Rattle.dd_formula.specs.declared.automaton.Automaton.{Automaton}
-use Rattle.dd_formula.specs.declared.automaton.Automaton.TheVariants as v
+use Rattle.dd_formula.specs.{LocalRule.is_near, declared.automaton.Automaton.Automaton}
 use Rattle.dd_formula.specs.Automata.{CommonNumbers, IsAutomaton, counted, cells_of, is_cell_of}
-use Rattle.dd_formula.specs.Counts.{cut}
-use Rattle.dd_formula.specs.lemmas.Cuts.{total_more, next_cut}
+use Rattle.dd_formula.specs.{Counts.cut, lemmas.Cuts.total_more, lemmas.Cuts.next_cut}
 use Rattle.dd_formula.specs.lemmas.AutomatonLaws.{depth_composed, outer_part, inner_part, near_cells}
 use Rattle.dd_formula.specs.ValueCounts.{value_clauses}
 use Rattle.dd_counts.proofs.ValueLaws.{value_composed}
+use Rattle.dd_formula.specs.declared.automaton.Automaton.TheVariants as v
 use Rattle.dd_counts.proofs.values.+value_clauses.Goals as goal
 
 pub value_clauses-value_clauses_from-requires : goal.value_clauses-value_clauses_from-requires

@@ -1,8 +1,6 @@
 use Rattle.std.proofs.Common.{◌≡◌, ◌+◌, ◌*◌, map, take}
 use Rattle.dd_expansion.specs.Leaves.{total}
-use Rattle.dd_formula.specs.Automata.{counted}
-use Rattle.dd_formula.specs.Counts.{cut}
-use Rattle.dd_formula.specs.ValueCounts.{value_clauses}
+use Rattle.dd_formula.specs.{Automata.counted, Counts.cut, ValueCounts.value_clauses}
 use Rattle.dd_counts.proofs.values.+value_clauses.Given as goal
 
 abbrev pub decreases-value_clauses : goal.decreases-value_clauses

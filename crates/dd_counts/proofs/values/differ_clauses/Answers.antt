@@ -1,10 +1,7 @@
-use Rattle.std.proofs.Common.{◌+◌, ℕ, map, arith}
-use Rattle.std.proofs.lemmas.Grind.{common_steps}
+use Rattle.std.proofs.{Common.◌+◌, Common.ℕ, Common.map, Common.arith, lemmas.Grind.common_steps}
 use Rattle.std.specs.List.{range_with_len}
 use Rattle.dd_expansion.specs.Leaves.{total}
-use Rattle.dd_formula.specs.ValueCounts.{differ_at}
-use Rattle.dd_formula.specs.lemmas.Cuts.{next_cut}
-use Rattle.dd_formula.specs.lemmas.Ranges.{total_push}
+use Rattle.dd_formula.specs.{ValueCounts.differ_at, lemmas.Cuts.next_cut, lemmas.Ranges.total_push}
 use Rattle.dd_counts.proofs.values.differ_clauses.Goals as goal
 
 pub loop-node-preserved : goal.loop-node-preserved

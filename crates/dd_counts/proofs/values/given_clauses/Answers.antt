@@ -1,12 +1,8 @@
 use Rattle.std.proofs.Common.{◌≡◌, ◌<◌, ◌≤◌, ◌+◌, List, ℕ, map, length, take, get_or, ap, ◌∙◌, subst, arith}
-use Rattle.std.proofs.lemmas.Grind.{common_steps}
+use Rattle.std.proofs.lemmas.{Grind.common_steps, List.take_all}
 use Rattle.std.specs.List.{range_with_len}
-use Rattle.std.proofs.lemmas.List.{take_all}
 use Rattle.dd_expansion.specs.Leaves.{clause_count, total}
-use Rattle.dd_formula.specs.LocalRule.{LocalRule, expansion_at}
-use Rattle.dd_formula.specs.Counts.{cut}
-use Rattle.dd_formula.specs.lemmas.Cuts.{total_more}
-use Rattle.dd_formula.specs.ValueCounts.{case_clauses}
+use Rattle.dd_formula.specs.{LocalRule.LocalRule, LocalRule.expansion_at, Counts.cut, lemmas.Cuts.total_more, ValueCounts.case_clauses}
 use Rattle.dd_formula.specs.lemmas.Ranges.{total_push}
 use Rattle.dd_counts.proofs.ValueLaws.{round, by_case}
 use Rattle.dd_counts.proofs.values.given_clauses.Goals as goal

@@ -1,8 +1,7 @@
 use Rattle.std.proofs.Common.{◌≡◌, ◌+◌, map, take}
 use Rattle.std.specs.List.{range_with_len}
 use Rattle.dd_expansion.specs.Leaves.{total}
-use Rattle.dd_formula.specs.Counts.{cut}
-use Rattle.dd_formula.specs.ValueCounts.{case_clauses}
+use Rattle.dd_formula.specs.{Counts.cut, ValueCounts.case_clauses}
 use Rattle.dd_counts.proofs.values.given_clauses.Given as goal
 
 abbrev pub invariant-loop-rule : goal.invariant-loop-rule

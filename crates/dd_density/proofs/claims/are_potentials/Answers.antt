@@ -1,5 +1,4 @@
-use Rattle.std.proofs.Common.{arith}
-use Rattle.std.proofs.lemmas.Grind.{common_steps}
+use Rattle.std.proofs.{Common.arith, lemmas.Grind.common_steps}
 use Rattle.dd_density.proofs.claims.are_potentials.Goals as goal
 
 pub returns-then-not-are_rises_from : goal.returns-then-not-are_rises_from

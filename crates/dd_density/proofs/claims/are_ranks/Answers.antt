@@ -1,5 +1,4 @@
-use Rattle.std.proofs.Common.{arith}
-use Rattle.std.proofs.lemmas.Grind.{common_steps, elements}
+use Rattle.std.proofs.{Common.arith, lemmas.Grind.common_steps, lemmas.Grind.elements}
 use Rattle.dd_density.proofs.claims.are_ranks.Goals as goal
 
 pub returns : goal.returns

@@ -2,8 +2,7 @@ use Rattle.std.proofs.Common.{◌≡◌, ◌≤◌, ◌<◌, ◌+◌, ◌-◌, �
 use Rattle.std.proofs.lemmas.List.{take_more, take_all, at_drop_more}
 use Rattle.dd_transfer.specs.Graphs.{next_of}
 use Rattle.dd_meancycle.specs.Means.{IsPath, weight_of}
-use Rattle.dd_meancycle.specs.lemmas.StepLaws.{path_push, weight_push}
-use Rattle.dd_density.proofs.Walks.{path_end}
+use Rattle.dd_meancycle.specs.lemmas.StepLaws.{path_push, weight_push, path_end}
 use Rattle.dd_density.proofs.claims.closed_weight.Goals as goal
 
 pub returns-then-not-leads : goal.returns-then-not-leads

@@ -1,7 +1,5 @@
-use Rattle.std.proofs.Common.{ℕ, arith, refl, ◌*◌, ◌<◌, ◌^◌, ◌≤◌}
-use Rattle.std.proofs.lemmas.Grind.{common_steps}
-use Rattle.std.proofs.lemmas.Int.{ints}
-use Rattle.std.proofs.Math.Nat.{mul-le-mul}
+use Rattle.std.proofs.{Common.ℕ, Common.arith, Common.refl, Common.◌*◌, Common.◌<◌, Common.◌^◌, Common.◌≤◌, lemmas.Grind.common_steps}
+use Rattle.std.proofs.{lemmas.Int.ints, Math.Nat.mul-le-mul}
 use Rattle.dd_density.proofs.claims.is_rise.Goals as goal
 
 bound : (l w : ℕ) → l < 2 ^ 64 → w ≤ 2 ^ 25 → l * w < 2 ^ 96

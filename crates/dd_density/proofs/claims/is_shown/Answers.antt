@@ -1,10 +1,9 @@
-use Rattle.std.proofs.Common.{ℕ, ◌<◌, ◌^◌, length, arith, subst}
-use Rattle.std.proofs.lemmas.Grind.{common_steps}
+use Rattle.std.proofs.{Common.ℕ, Common.◌<◌, Common.◌^◌, Common.length, Common.arith, Common.subst, lemmas.Grind.common_steps}
 use Rattle.dd_transfer.specs.Certificates.{IsInLowestTerms}
 use Rattle.dd_density.proofs.Fractions.{lowest_small}
 use Rattle.dd_density.proofs.Shown.{AreFound, found_same, shown_found, small_product, some_product}
-use Rattle.dd_density.proofs.claims.is_shown.Goals as goal
 use Rattle.dd_density.proofs.claims.is_shown.Goals.{then-density-numerator-via-then-density-numerator, then-density-numerator-via-else-density-numerator+then-density-denominator}
+use Rattle.dd_density.proofs.claims.is_shown.Goals as goal
 
 pub overflow_mul-mean : goal.overflow_mul-mean
 overflow_mul-mean c =

@@ -1,7 +1,6 @@
-use Rattle.std.proofs.Common.{arith}
+use Rattle.std.proofs.{Common.arith, lemmas.Nat.Gcd.IsGcd-from_mod, lemmas.Nat.Gcd.IsGcd-from_zero}
 use Rattle.std.specs.Int.{IsGcd}
-use Rattle.std.proofs.lemmas.Nat.Gcd.{IsGcd-from_mod, IsGcd-from_zero}
-use Rattle.dd_density.proofs.Fractions.{gcd_positive}
+use Rattle.dd_fraction.specs.lemmas.Divisors.{gcd_positive}
 use Rattle.dd_density.proofs.lowest.gcd.Goals as goal
 
 pub loop-y-preserved : goal.loop-y-preserved

@@ -1,8 +1,7 @@
 use Rattle.std.proofs.Common.{arith, ◌∙◌}
-use Rattle.dd_derivation.specs.lemmas.Numbers.{after_one, after_past, after_zero}
-use Rattle.dd_derivation.specs.checking.MarksOf.{known_of}
-use Rattle.dd_derivation.proofs.known.delete_named.Goals as goal
+use Rattle.dd_derivation.specs.{lemmas.Numbers.after_one, lemmas.Numbers.after_past, lemmas.Numbers.after_zero, checking.MarksOf.known_of}
 use Rattle.dd_derivation.proofs.known.delete_named.Goals.{then-number-ge1+then-place-alive, then-number-ge1+else-place-alive, else-number-ge1}
+use Rattle.dd_derivation.proofs.known.delete_named.Goals as goal
 
 pub loop-number-preserved : goal.loop-number-preserved
 loop-number-preserved c cs =

@@ -1,7 +1,6 @@
 use Rattle.std.proofs.Common.{◌≡◌, List, drop}
 use Rattle.dd_clause.specs.declared.clause.Literal.{Literal}
-use Rattle.dd_derivation.specs.Derivations.{known_after}
-use Rattle.dd_derivation.specs.checking.MarksOf.{known_of}
+use Rattle.dd_derivation.specs.{Derivations.known_after, checking.MarksOf.known_of}
 use Rattle.dd_derivation.proofs.known.delete_named.Given as goal
 
 abbrev pub invariant-loop-number : goal.invariant-loop-number

@@ -1,7 +1,6 @@
 use Rattle.std.proofs.Common.{◌≡◌, List, take, drop}
 use Rattle.dd_clause.specs.declared.clause.Literal.{Literal}
-use Rattle.dd_derivation.specs.Derivations.{is_conflict}
-use Rattle.dd_derivation.specs.checking.MarksOf.{FalsesAre, AreUpTo, literals_of}
+use Rattle.dd_derivation.specs.{Derivations.is_conflict, checking.MarksOf.FalsesAre, checking.MarksOf.AreUpTo, checking.MarksOf.literals_of}
 use Rattle.dd_derivation.proofs.propagation.follow_hints.Given as goal
 
 abbrev pub invariant-loop-place : goal.invariant-loop-place

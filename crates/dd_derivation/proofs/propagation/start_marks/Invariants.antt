@@ -1,6 +1,5 @@
 use Rattle.std.proofs.Common.{◌≡◌, true, length, take, []}
-use Rattle.dd_derivation.specs.Derivations.{is_proper}
-use Rattle.dd_derivation.specs.checking.MarksOf.{FalsesAre, AreUpTo}
+use Rattle.dd_derivation.specs.{Derivations.is_proper, checking.MarksOf.FalsesAre, checking.MarksOf.AreUpTo}
 use Rattle.dd_derivation.proofs.propagation.start_marks.Given as goal
 
 abbrev pub invariant-loop-literal : goal.invariant-loop-literal

@@ -1,9 +1,7 @@
 use Rattle.std.proofs.Common.{◌≡◌, ◌+◌, List, [], ◌∷◌, ◌++◌, Option, Some, true, false, eqb, length, get_or, take, arith, sym, refl, ◌∙◌, ap}
 use Rattle.std.proofs.lemmas.List.{length-take}
 use Rattle.dd_clause.specs.declared.clause.Literal.{Literal}
-use Rattle.dd_derivation.specs.declared.step.Step.{Step}
-use Rattle.dd_derivation.specs.Derivations.{clauses_before, known_after}
-use Rattle.dd_derivation.specs.checking.MarksOf.{known_of}
+use Rattle.dd_derivation.specs.{declared.step.Step.Step, Derivations.clauses_before, Derivations.known_after, checking.MarksOf.known_of}
 use Rattle.dd_derivation.specs.lemmas.Numbers.{length-before}
 use Rattle.dd_derivation.proofs.Whole.{all_alive, known_of-snoc, before_more, before_none, last_step, more_step}
 use Rattle.dd_derivation.proofs.refutation.check_all.Goals as goal

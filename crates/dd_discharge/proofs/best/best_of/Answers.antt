@@ -1,12 +1,8 @@
 use Rattle.std.proofs.Common.{◌≡◌, ap, subst, sym, ◌∙◌, IfOk, ℕ, List, length, arith}
-use Rattle.std.proofs.lemmas.Grind.{common_steps}
-use Rattle.std.proofs.lemmas.List.{length-map}
-use Rattle.std.proofs.lemmas.Result.{IfOk-weaker}
+use Rattle.std.proofs.lemmas.{Grind.common_steps, List.length-map, Result.IfOk-weaker}
 use Rattle.dd_fraction.specs.Exact.{Exact, IsLowest}
 use Rattle.dd_simplex.specs.Programs.{LinearProgram, IsBest}
-use Rattle.dd_discharge.specs.declared.bound.Bound.{Bound}
-use Rattle.dd_discharge.specs.Amounts.{IsCertifiedBound}
-use Rattle.dd_discharge.specs.Denominators.{IsPrintedAs}
+use Rattle.dd_discharge.specs.{declared.bound.Bound.Bound, Amounts.IsCertifiedBound, Denominators.IsPrintedAs}
 use Rattle.dd_discharge.specs.Bounds.{in_fractions, row_of_fractions}
 use Rattle.dd_discharge.proofs.Certified.{certified}
 use Rattle.dd_discharge.proofs.best.best_of.Goals as goal

@@ -1,16 +1,12 @@
 use Rattle.std.proofs.Common.{◌≡◌, ◌<◌, ◌≤◌, ap, subst, sym, ◌∙◌, ◌++◌, ◌∷◌, [], List, arith, rules, ℕ, ℤ, pos, get_or, map, length, to_z}
-use Rattle.std.proofs.lemmas.Grind.{common_steps, elements}
+use Rattle.std.proofs.lemmas.{Grind.common_steps, Grind.elements, Int.ints, Int.to_z_pos, List.length-map}
 use Rattle.std.specs.Int.{w64}
-use Rattle.dd_simplex.specs.Programs.{cap_row}
-use Rattle.dd_simplex.specs.Programs as simplex
-use Rattle.dd_fraction.specs.Exact.{Exact}
-use Rattle.std.proofs.lemmas.Int.{ints, to_z_pos}
-use Rattle.std.proofs.lemmas.List.{length-map}
-use Rattle.dd_fraction.specs.Exact.{whole_of}
-use Rattle.dd_simplex.specs.Programs.{LinearProgram}
+use Rattle.dd_simplex.specs.Programs.{cap_row, LinearProgram}
+use Rattle.dd_fraction.specs.Exact.{Exact, whole_of}
 use Rattle.dd_discharge.specs.Amounts.{row_in}
 use Rattle.dd_rows.specs.declared.rows.Row.{Row}
 use Rattle.dd_discharge.proofs.Tabulated.{row_is, first_program, next_program}
+use Rattle.dd_simplex.specs.Programs as simplex
 use Rattle.dd_discharge.proofs.best.linear_program.Goals as goal
 
 abbrev of_rows : ℕ → List simplex.ProgramRow → LinearProgram

@@ -1,5 +1,4 @@
-use Rattle.std.proofs.Common.{arith}
-use Rattle.std.proofs.lemmas.Grind.{common_steps, elements}
+use Rattle.std.proofs.{Common.arith, lemmas.Grind.common_steps, lemmas.Grind.elements}
 use Rattle.dd_discharge.proofs.check.is_certified.Goals as goal
 
 pub returns-then-common-denominator-ne0-clause-yes : goal.returns-then-common-denominator-ne0-clause-yes

@@ -1,11 +1,8 @@
 use Rattle.std.proofs.Common.{◌≡◌, ◌<◌, ◌^◌, ℕ, ℤ, pos, to_z, of_z, Some, sym, ap, subst, ◌∙◌, arith, rules}
-use Rattle.std.specs.Int.{w128}
+use Rattle.std.proofs.lemmas.{Int.to_z-of_z, Int.to_z_pos, Bool.eqb-true, Bool.eqb-false}
+use Rattle.std.specs.Int.{w128, RustNames.unsigned_abs}
 use mir.Val.{SFits}
-use Rattle.std.specs.Int.RustNames.{unsigned_abs}
-use Rattle.std.proofs.lemmas.Int.{to_z-of_z, to_z_pos}
-use Rattle.std.proofs.lemmas.Bool.{eqb-true, eqb-false}
-use Rattle.dd_fraction.specs.Exact.{Exact}
-use Rattle.dd_fraction.specs.Checked.{fraction_of}
+use Rattle.dd_fraction.specs.{Exact.Exact, Checked.fraction_of}
 use Rattle.dd_discharge.proofs.Multiples.{own_reduction, no_reduction}
 use Rattle.dd_discharge.proofs.check.is_in_lowest_terms.Goals as goal
 

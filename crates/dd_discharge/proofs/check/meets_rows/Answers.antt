@@ -1,13 +1,11 @@
 use Rattle.std.proofs.Common.{◌≡◌, ◌+◌, ◌*◌, ◌<◌, ◌≤◌, ◌^◌, ℕ, ℤ, pos, ◌+ℤ◌, ◌*ℤ◌, ◌≤ℤ◌, ◌<ℤ◌, List, length, slice_index_or, to_z, of_z, sym, ap, subst, ◌∙◌, below_more, arith, rules}
-use Rattle.std.proofs.lemmas.Grind.{common_steps, elements}
+use Rattle.std.proofs.{lemmas.Grind.common_steps, lemmas.Grind.elements, Math.Nat.mul-le-mul_right}
+use Rattle.std.proofs.lemmas.Int.{ints, to_z-of_z, to_z_pos}
 use Rattle.std.specs.Int.{w128}
 use mir.Val.{SFits}
-use Rattle.std.proofs.Math.Nat.{mul-le-mul_right}
-use Rattle.std.proofs.lemmas.Int.{ints, to_z-of_z, to_z_pos}
 use Rattle.dd_rows.specs.declared.rows.Row.{Row}
 use Rattle.dd_discharge.specs.Amounts.{total_below, row_in, coefficient_in, column_value, MeetRows}
-use Rattle.dd_discharge.proofs.Tabulated.{row_is}
-use Rattle.dd_discharge.proofs.Sides.{side_is, limit_small, limit_fits, lt_true, lt_false}
+use Rattle.dd_discharge.proofs.{Tabulated.row_is, Sides.side_is, Sides.limit_small, Sides.limit_fits, Sides.lt_true, Sides.lt_false}
 use Rattle.dd_discharge.proofs.check.meets_rows.Goals as goal
 
 pub overflow_cast-limit-in-loop-k-2 : goal.overflow_cast-limit-in-loop-k-2

@@ -1,13 +1,8 @@
 use Rattle.std.proofs.Common.{◌≡◌, ◌+◌, ◌*◌, ℕ, List, length, ap, sym, subst, ◌∙◌, arith}
 use Rattle.std.proofs.lemmas.Grind.{common_steps}
-use Rattle.dd_rows.specs.declared.rows.Row.{Row}
-use Rattle.dd_rows.specs.declared.rows.Rows.{Rows}
-use Rattle.dd_discharge.specs.declared.bound.Bound.{Bound}
-use Rattle.dd_rows.specs.Programs.{column_count, IsRowsFault}
-use Rattle.dd_discharge.specs.Amounts.{IsCertifiedBound, bound_claimed}
-use Rattle.dd_discharge.specs.listing.Tables.{AreRowsOf}
-use Rattle.dd_discharge.proofs.Shapes.{program_rows}
-use Rattle.dd_discharge.proofs.OneProgram.{one_program, never_large}
+use Rattle.dd_rows.specs.{declared.rows.Row.Row, declared.rows.Rows.Rows, Programs.column_count, Programs.IsRowsFault}
+use Rattle.dd_discharge.specs.{declared.bound.Bound.Bound, Amounts.IsCertifiedBound, Amounts.bound_claimed, listing.Tables.AreRowsOf}
+use Rattle.dd_discharge.proofs.{Shapes.program_rows, OneProgram.one_program, OneProgram.never_large}
 use Rattle.dd_discharge.proofs.checking.check_bound.Goals as goal
 
 pub returns-in-Err-Large-clause-no : goal.returns-in-Err-Large-clause-no

@@ -1,11 +1,7 @@
 use Rattle.std.proofs.Common.{◌≡◌, ◌≤◌, ◌<◌, ◌^◌, ◌++◌, ap, subst, sym, ◌∙◌, arith, rules, ℕ, List, ℤ, pos, map, drop, Some}
-use Rattle.std.proofs.lemmas.Grind.{common_steps}
-use Rattle.std.specs.Int.{w128}
+use Rattle.std.proofs.lemmas.{Grind.common_steps, Int.to_z-of_z, Result.err_from_is_err_and}
+use Rattle.std.specs.{Int.w128, Int.RustNames.unsigned_abs, List.All, List.Any}
 use mir.Val.{SFits}
-use Rattle.std.specs.Int.RustNames.{unsigned_abs}
-use Rattle.std.specs.List.{All, Any}
-use Rattle.std.proofs.lemmas.Int.{to_z-of_z}
-use Rattle.std.proofs.lemmas.Result.{err_from_is_err_and}
 use Rattle.dd_values.specs.Bounds.{most_number}
 use Rattle.dd_fraction.specs.Exact.{Exact}
 use Rattle.dd_discharge.specs.Denominators.{numerator_over, printed, common_denominator, HasUnprinted}

@@ -1,9 +1,9 @@
 use Rattle.std.proofs.Common.{◌≡◌, ◌<◌, ◌≤◌, ◌+◌, ap, subst, sym, ◌∙◌, length, drop, refl, ℕ, arith}
 use Rattle.std.specs.List.{fold}
 use Rattle.dd_values.specs.Bounds.{most_number}
-use Rattle.dd_fraction.specs.Exact.{Exact, den_of}
+use Rattle.dd_fraction.specs.{Exact.Exact, Exact.den_of, lemmas.OrderLaws.den_above}
 use Rattle.dd_discharge.specs.Denominators.{joined_denominator, printed}
-use Rattle.dd_discharge.proofs.Multiples.{printed_is, joined_more, joined_past, joined_whole, least_common_above, den_above}
+use Rattle.dd_discharge.proofs.Multiples.{printed_is, joined_more, joined_past, joined_whole, least_common_above}
 use Rattle.dd_discharge.proofs.denominators.joined_all.Goals as goal
 
 pub returns-in_err-common : goal.returns-in_err-common

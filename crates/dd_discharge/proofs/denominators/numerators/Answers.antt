@@ -2,8 +2,7 @@ use Rattle.std.proofs.Common.{◌≡◌, ◌≤◌, ap, subst, sym, ◌∙◌, �
 use Rattle.dd_values.specs.Bounds.{most_number}
 use Rattle.dd_fraction.specs.Exact.{Exact}
 use Rattle.dd_discharge.specs.Denominators.{numerator_over}
-use Rattle.dd_discharge.proofs.Multiples.{printed_is}
-use Rattle.dd_discharge.proofs.Printing.{all_more, map_more}
+use Rattle.dd_discharge.proofs.{Multiples.printed_is, Printing.all_more, Printing.map_more}
 use Rattle.dd_discharge.proofs.denominators.numerators.Goals as goal
 
 pub loop-fraction-preserved : goal.loop-fraction-preserved

@@ -1,5 +1,4 @@
-use Rattle.std.proofs.Common.{arith}
-use Rattle.std.proofs.lemmas.Grind.{common_steps}
+use Rattle.std.proofs.{Common.arith, lemmas.Grind.common_steps}
 use Rattle.dd_engines.proofs.analysis.mark.Goals as goal
 
 pub loop-literal-preserved : goal.loop-literal-preserved

@@ -1,5 +1,4 @@
-use Rattle.std.proofs.Common.{◌≡◌, ℕ, ◌%◌, ◌<◌, length, subst, arith}
-use Rattle.std.proofs.lemmas.Grind.{common_steps}
+use Rattle.std.proofs.{Common.◌≡◌, Common.ℕ, Common.◌%◌, Common.◌<◌, Common.length, Common.subst, Common.arith, lemmas.Grind.common_steps}
 use Rattle.std.proofs.lemmas.List.{take_all}
 use Rattle.dd_engines.proofs.Cycling.{turn_next}
 use Rattle.dd_engines.proofs.cycle.turn_of.Goals as goal

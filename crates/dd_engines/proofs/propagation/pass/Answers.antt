@@ -1,9 +1,7 @@
-use Rattle.std.proofs.Common.{sym, ◌∙◌, arith}
-use Rattle.std.proofs.lemmas.Bool.{false≢true}
-use Rattle.std.proofs.lemmas.List.{take_all}
+use Rattle.std.proofs.{Common.sym, Common.◌∙◌, Common.arith, lemmas.Bool.false≢true, lemmas.List.take_all}
 use Rattle.dd_engines.proofs.Passing.{passed_more, passed_settled}
-use Rattle.dd_engines.proofs.propagation.pass.Goals as goal
 use Rattle.dd_engines.proofs.propagation.pass.Goals.{in-More, in-Settled}
+use Rattle.dd_engines.proofs.propagation.pass.Goals as goal
 
 pub loop-number-preserved : goal.loop-number-preserved
 loop-number-preserved c = elim c.match-branch-2.branch [

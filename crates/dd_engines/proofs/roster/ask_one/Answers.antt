@@ -1,5 +1,4 @@
-use Rattle.std.proofs.Common.{arith}
-use Rattle.std.proofs.lemmas.Grind.{common_steps}
+use Rattle.std.proofs.{Common.arith, lemmas.Grind.common_steps}
 use Rattle.dd_engines.proofs.roster.ask_one.Goals as goal
 
 pub returns-then-check_refutation-clause-once : goal.returns-then-check_refutation-clause-once

@@ -1,7 +1,5 @@
 use Rattle.std.proofs.Common.{◌≡◌, ◌+◌, ◌-◌, ◌%◌, ℕ, Bool, false, List, Some, length, get_or, ap, refl, sym, subst, ◌∙◌, arith}
-use Rattle.std.proofs.lemmas.Grind.{common_steps}
-use Rattle.std.proofs.lemmas.List.{length-set}
-use Rattle.std.proofs.lemmas.Option.{slice_get-get_or}
+use Rattle.std.proofs.lemmas.{Grind.common_steps, List.length-set, Option.slice_get-get_or}
 use Rattle.dd_clause.specs.declared.clause.Literal.{Literal}
 use Rattle.dd_engines.specs.Walks.{NoneBefore, values_after, made_true}
 use Rattle.dd_engines.proofs.Walking.{FoundClause, found_clause, at_place, rem_within, none_more, none_at_end, reached_more, first_at}

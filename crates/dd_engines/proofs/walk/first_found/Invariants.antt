@@ -1,7 +1,5 @@
 use Rattle.std.proofs.Common.{◌≡◌, Some, length}
-use Rattle.dd_engines.specs.Walks.{values_after, NoneBefore}
-use Rattle.dd_engines.specs.walking.Walking.{Walks}
-use Rattle.dd_engines.specs.walking.Cycles.{IsCounted}
+use Rattle.dd_engines.specs.{Walks.values_after, Walks.NoneBefore, walking.Walking.Walks, walking.Cycles.IsCounted}
 use Rattle.dd_engines.proofs.walk.first_found.Given as goal
 
 abbrev pub invariant-loop-k : goal.invariant-loop-k

@@ -1,6 +1,5 @@
 use Rattle.dd_minimal.specs.Minimal.{IsMinimalList}
-use Rattle.dd_evidence.specs.NodeLists.{IsListTo}
-use Rattle.dd_evidence.specs.Lists.{starred}
+use Rattle.dd_evidence.specs.{NodeLists.IsListTo, Lists.starred}
 use Rattle.dd_evidence.proofs.starring.minimal_patterns.Given as goal
 
 abbrev pub invariant-loop-node : goal.invariant-loop-node

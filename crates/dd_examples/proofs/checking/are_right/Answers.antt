@@ -1,9 +1,8 @@
 use Rattle.std.proofs.Common.{rules, ◌≡◌, ◌+◌, Bool, ◌&&◌, ap, subst, sym, ◌∙◌}
 use Rattle.std.specs.Prelude.{IsTrue, ◌↔◌}
 use Rattle.dd_examples.specs.Checked.{AreRightTo}
-use Rattle.dd_examples.proofs.Checked.{right_next}
+use Rattle.dd_examples.proofs.{Checked.right_next, checking.are_right.Goals.then-all, checking.are_right.Goals.else-all}
 use Rattle.dd_examples.proofs.checking.are_right.Goals as goal
-use Rattle.dd_examples.proofs.checking.are_right.Goals.{then-all, else-all}
 
 pub loop-done-preserved : goal.loop-done-preserved
 loop-done-preserved c =

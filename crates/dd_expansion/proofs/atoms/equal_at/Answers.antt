@@ -1,10 +1,9 @@
 use Rattle.std.proofs.Common.{◌≡◌, refl, ap, sym, ◌∙◌, arith, map}
+use Rattle.std.proofs.lemmas.{List.FromFn.map-range_with_len_more, Result.err_from_is_err_and}
 use Rattle.std.specs.List.{range_with_len}
-use Rattle.std.proofs.lemmas.List.FromFn.{map-range_with_len_more}
-use Rattle.std.proofs.lemmas.Result.{err_from_is_err_and}
-use Rattle.dd_expansion.specs.declared.expanded.Expanded.TheVariants as expanded
 use Rattle.dd_expansion.specs.Expansion.{both_have}
 use Rattle.dd_expansion.proofs.EqualNodes.{equal_nodes}
+use Rattle.dd_expansion.specs.declared.expanded.Expanded.TheVariants as expanded
 use Rattle.dd_expansion.proofs.atoms.equal_at.Goals as goal
 
 pub returns-in_err-spend-2 : goal.returns-in_err-spend-2

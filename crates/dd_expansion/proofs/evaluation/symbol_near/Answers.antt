@@ -1,7 +1,5 @@
 use Rattle.std.proofs.Common.{sym, ◌∙◌}
-use Rattle.dd_lattice.specs.Place.{moved, is_in_range}
-use Rattle.dd_lattice.specs.Cells.{cell, shifted}
-use Rattle.dd_lattice.specs.lemmas.RangeLaws.{of_sum, of_no_sum}
+use Rattle.dd_lattice.specs.{Place.moved, Place.is_in_range, Cells.cell, Cells.shifted, lemmas.RangeLaws.of_sum, lemmas.RangeLaws.of_no_sum}
 use Rattle.dd_pattern.specs.Reading.{Look}
 use Rattle.dd_expansion.proofs.evaluation.symbol_near.Goals as goal
 

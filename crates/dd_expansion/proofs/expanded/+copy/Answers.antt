@@ -1,5 +1,4 @@
-use Rattle.std.proofs.Common.{arith}
-use Rattle.std.proofs.lemmas.Grind.{common_steps}
+use Rattle.std.proofs.{Common.arith, lemmas.Grind.common_steps}
 use Rattle.dd_expansion.proofs.expanded.+copy.Goals as goal
 
 pub Expanded::copy-returns-in_ok-copy_boxed-in-Iff-2 : goal.Expanded::copy-returns-in_ok-copy_boxed-in-Iff-2

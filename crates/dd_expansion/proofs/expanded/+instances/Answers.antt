@@ -1,11 +1,8 @@
-use Rattle.std.proofs.Common.{◌<◌, length, arith, ap}
-use Rattle.std.proofs.lemmas.Grind.{common_steps}
+use Rattle.std.proofs.{Common.◌<◌, Common.length, Common.arith, Common.ap, lemmas.Grind.common_steps}
 use Rattle.std.proofs.lemmas.List.Sums.{get_or-le-sum_by, sum_by_more_le}
 use denote.Param.Weighed.{at_most}
-use Rattle.dd_expansion.specs.Leaves.{instances}
-use Rattle.dd_expansion.proofs.expanded.Expanded.TheLaws.{the_size}
-use Rattle.dd_expansion.specs.lemmas.Layers.{instances_and}
-use Rattle.dd_expansion.proofs.Sizes.{joined}
+use Rattle.dd_expansion.specs.{Leaves.instances, lemmas.Layers.instances_and}
+use Rattle.dd_expansion.proofs.{expanded.Expanded.TheLaws.the_size, Sizes.joined}
 use Rattle.dd_expansion.proofs.expanded.+instances.Goals as goal
 
 pub joined_instances-instances-nodes-requires : goal.joined_instances-instances-nodes-requires

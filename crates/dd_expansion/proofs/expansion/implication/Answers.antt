@@ -1,5 +1,4 @@
-use Rattle.std.proofs.Common.{arith}
-use Rattle.std.proofs.lemmas.Grind.{common_steps}
+use Rattle.std.proofs.{Common.arith, lemmas.Grind.common_steps}
 use Rattle.dd_expansion.proofs.expansion.implication.Goals as goal
 
 pub returns-in_ok-implied-in-Ok : goal.returns-in_ok-implied-in-Ok

@@ -1,5 +1,4 @@
-use Rattle.std.proofs.Common.{arith}
-use Rattle.std.proofs.lemmas.Grind.{common_steps}
+use Rattle.std.proofs.{Common.arith, lemmas.Grind.common_steps}
 use Rattle.dd_expansion.proofs.formulas.+copy.Goals as goal
 
 pub Formula::copy-returns-in_ok-left-in-Adjacent : goal.Formula::copy-returns-in_ok-left-in-Adjacent

@@ -1,6 +1,5 @@
 use Rattle.std.proofs.Common.{◌≡◌, take}
-use Rattle.std.specs.List.{fold, flat_map}
-use Rattle.std.specs.BTreeSet.{insert_key}
+use Rattle.std.specs.{List.fold, List.flat_map, BTreeSet.insert_key}
 use Rattle.dd_lattice.specs.Order.{cell_cmp}
 use Rattle.dd_expansion.specs.Leaves.{leaf_cells}
 use Rattle.dd_expansion.proofs.leaves.+add_cells.Given as goal

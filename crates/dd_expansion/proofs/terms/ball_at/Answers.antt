@@ -1,6 +1,5 @@
 use Rattle.std.proofs.Common.{◌≡◌, true}
-use Rattle.dd_topology.specs.Topology.{are_short}
-use Rattle.dd_topology.specs.Balls.{IsInBall, CellsLeaveRange}
+use Rattle.dd_topology.specs.{Topology.are_short, Balls.IsInBall, Balls.CellsLeaveRange}
 use Rattle.dd_expansion.proofs.Extents.{ball_near, ball_stays}
 use Rattle.dd_expansion.proofs.terms.ball_at.Goals as goal
 

@@ -1,5 +1,4 @@
-use Rattle.std.proofs.Common.{arith}
-use Rattle.std.proofs.lemmas.Grind.{elements}
+use Rattle.std.proofs.{Common.arith, lemmas.Grind.elements}
 use Rattle.dd_expansion.proofs.terms.cell_of.Goals as goal
 
 pub returns-in-Some : goal.returns-in-Some

@@ -1,5 +1,4 @@
-use Rattle.std.proofs.Common.{◌+◌, ◌*◌, ◌++◌, length, ap, ◌∙◌, arith}
-use Rattle.std.proofs.lemmas.Grind.{common_steps}
+use Rattle.std.proofs.{Common.◌+◌, Common.◌*◌, Common.◌++◌, Common.length, Common.ap, Common.◌∙◌, Common.arith, lemmas.Grind.common_steps}
 use Rattle.dd_expansion.proofs.Unions.{union_more, near_more, union_ordered, near_ordered}
 use Rattle.dd_expansion.proofs.terms.cells_of.Goals as goal
 

@@ -1,7 +1,6 @@
 use Rattle.std.proofs.Common.{◌+◌, ◌*◌, length, take}
 use Rattle.dd_lattice.specs.InOrder.{HaveSameCells}
-use Rattle.dd_expansion.specs.Terms.{balls_of}
-use Rattle.dd_expansion.specs.expanding.Near.{AreNear}
+use Rattle.dd_expansion.specs.{Terms.balls_of, expanding.Near.AreNear}
 use Rattle.dd_expansion.proofs.terms.cells_of.Given as goal
 
 abbrev pub invariant-loop-ball : goal.invariant-loop-ball

@@ -1,5 +1,4 @@
-use Rattle.std.proofs.Common.{arith}
-use Rattle.std.proofs.lemmas.Grind.{common_steps}
+use Rattle.std.proofs.{Common.arith, lemmas.Grind.common_steps}
 use Rattle.dd_faults.specs.lemmas.Layers.{faults_chain, faults_quantified}
 use Rattle.dd_faults.proofs.Noting.{noted_both}
 use Rattle.dd_faults.proofs.formulas.+formula.Goals as goal

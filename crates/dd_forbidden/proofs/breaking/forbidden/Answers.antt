@@ -1,13 +1,11 @@
 use Rattle.std.proofs.Common.{◌≡◌, ◌++◌, List, [], ℕ, ap, sym, subst, ◌∙◌, map}
 use Rattle.std.specs.List.Sorted.{IsStrictlySortedBy}
-use Rattle.dd_lattice.specs.Order.{cell_cmp}
-use Rattle.dd_lattice.specs.declared.position.Cell.{Cell}
+use Rattle.dd_lattice.specs.{Order.cell_cmp, declared.position.Cell.Cell}
 use Rattle.dd_pattern.specs.Filling.{Filled, filled}
 use Rattle.dd_topology.specs.lemmas.OrderLaws.{sorted-in_order}
 use Rattle.dd_formula.specs.LocalRule.{cells_at, reads_at}
-use Rattle.dd_forbidden.specs.listing.Extensions.{extensions, AreOf}
+use Rattle.dd_forbidden.specs.{listing.Extensions.extensions, listing.Extensions.AreOf, lemmas.Kept.says_kept, lemmas.Kept.reads_of_nodes}
 use Rattle.dd_forbidden.proofs.ExtensionLaws.{breaking_fillings}
-use Rattle.dd_forbidden.proofs.Steps.{reads_of_nodes, says_kept}
 use Rattle.dd_forbidden.proofs.breaking.forbidden.Goals as goal
 
 pub new-ranks-requires : goal.new-ranks-requires

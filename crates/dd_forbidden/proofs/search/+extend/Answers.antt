@@ -1,12 +1,12 @@
 use Rattle.std.proofs.Common.{◌≡◌, ◌<◌, ◌++◌, ◌∷◌, [], ℕ, List, true, false, cond, map, length, OnOk, ap, sym, subst, ◌∙◌, arith}
-use Rattle.std.proofs.lemmas.List.{append-nil, length-append}
-use Rattle.std.proofs.lemmas.List.Elements.{All-push}
+use Rattle.std.proofs.lemmas.List.{append-nil, length-append, Elements.All-push}
 use Rattle.dd_pattern.specs.Filling.{filled}
 use Rattle.dd_formula.specs.LocalRule.{rule_allows, cells_at}
 use Rattle.dd_forbidden.specs.listing.Extensions.{completions, extensions, AreSymbols, AreOf}
-use Rattle.dd_forbidden.proofs.SettledLaws.{all_broken, none_broken, settled_so}
-use Rattle.dd_forbidden.proofs.Steps.{rest_of, one_more, taken_off}
+use Rattle.dd_forbidden.specs.lemmas.Kept.{rest_of}
+use Rattle.dd_forbidden.proofs.{SettledLaws.all_broken, SettledLaws.none_broken, SettledLaws.settled_so, Steps.one_more}
 use Rattle.dd_forbidden.proofs.search.+extend.Goals.{then-allows+in_ok-push+in_ok-extend, else-allows}
+use Rattle.dd_values.specs.lemmas.Lists.{taken_off}
 use Rattle.dd_forbidden.proofs.search.+extend.Goals as goal
 
 pub extend-requires : goal.extend-requires

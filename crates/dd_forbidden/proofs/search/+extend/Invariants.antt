@@ -1,6 +1,5 @@
 use Rattle.std.proofs.Common.{◌≡◌, ◌++◌, map, length}
-use Rattle.std.specs.List.{flat_map, range_with_len}
-use Rattle.std.specs.Prelude.{cond, [], ◌∷◌}
+use Rattle.std.specs.{List.flat_map, List.range_with_len, Prelude.cond, Prelude.[], Prelude.◌∷◌}
 use Rattle.dd_pattern.specs.Filling.{filled}
 use Rattle.dd_formula.specs.LocalRule.{rule_allows, cells_at}
 use Rattle.dd_forbidden.specs.listing.Extensions.{extensions}

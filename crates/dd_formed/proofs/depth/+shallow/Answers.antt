@@ -1,8 +1,9 @@
 use Rattle.std.proofs.Common.{◌-◌, sym, ◌∙◌, arith}
 use Rattle.std.specs.Prelude.{nat_le}
 use Rattle.dd_expansion.specs.Limits.{depth}
-use Rattle.dd_formed.proofs.Layers.{shallow_many, some_fails, one_more, all_pass}
+use Rattle.dd_formed.proofs.Layers.{shallow_many, one_more, all_pass}
 use Rattle.dd_formed.proofs.depth.+shallow.Goals as goal
+use Rattle.dd_values.specs.lemmas.Lists.{some_fails}
 
 pub are_shallow-returns-then-not-is_shallow : goal.are_shallow-returns-then-not-is_shallow
 are_shallow-returns-then-not-is_shallow t c =

@@ -1,6 +1,5 @@
 use Rattle.std.proofs.Common.{◌≡◌, true, take}
-use Rattle.std.specs.Prelude.{nat_le}
-use Rattle.std.specs.List.{list_all}
+use Rattle.std.specs.{Prelude.nat_le, List.list_all}
 use Rattle.dd_expansion.specs.Limits.{depth}
 use Rattle.dd_formed.proofs.depth.+shallow.Given as goal
 

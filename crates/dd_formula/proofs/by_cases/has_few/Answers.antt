@@ -1,8 +1,6 @@
-use Rattle.std.proofs.Common.{◌<◌, ◌≤◌, sym, arith}
+use Rattle.std.proofs.{Common.◌<◌, Common.◌≤◌, Common.sym, Common.arith, lemmas.Bool.le-leb, lemmas.Bool.lt-leb}
 use Rattle.std.specs.Prelude.{nat_le}
-use Rattle.std.proofs.lemmas.Bool.{le-leb, lt-leb}
-use Rattle.dd_formula.specs.LocalRule.{most_instances}
-use Rattle.dd_formula.specs.ByCases.{counts_over}
+use Rattle.dd_formula.specs.{LocalRule.most_instances, ByCases.counts_over}
 use Rattle.dd_formula.specs.lemmas.CompositionLaws.{passes_more, range_fails}
 use Rattle.dd_formula.proofs.by_cases.has_few.Goals as goal
 

@@ -1,9 +1,8 @@
-use Rattle.std.proofs.Common.{ap, arith}
+use Rattle.std.proofs.{Common.ap, Common.arith, lemmas.List.take_all}
 use Rattle.std.specs.List.{sum_by}
-use Rattle.std.proofs.lemmas.List.{take_all}
 use Rattle.dd_formula.proofs.CaseCounts.{size, by_size, size_more}
-use Rattle.dd_formula.proofs.by_cases.instances_at.Goals as goal
 use Rattle.dd_formula.proofs.by_cases.instances_at.Goals.{then-sum-le-MOST_INSTANCES+in_ok-size, else-sum-le-MOST_INSTANCES}
+use Rattle.dd_formula.proofs.by_cases.instances_at.Goals as goal
 
 pub loop-formula-preserved : goal.loop-formula-preserved
 loop-formula-preserved c =

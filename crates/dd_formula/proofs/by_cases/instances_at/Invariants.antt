@@ -1,7 +1,6 @@
 use Rattle.std.proofs.Common.{◌≡◌, ◌+◌, take}
 use Rattle.std.specs.List.{sum_by}
-use Rattle.dd_formula.specs.LocalRule.{most_instances}
-use Rattle.dd_formula.specs.Counts.{cut}
+use Rattle.dd_formula.specs.{LocalRule.most_instances, Counts.cut}
 use Rattle.dd_formula.proofs.CaseCounts.{size}
 use Rattle.dd_formula.proofs.by_cases.instances_at.Given as goal
 

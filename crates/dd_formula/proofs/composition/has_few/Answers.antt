@@ -1,10 +1,7 @@
 use Rattle.std.proofs.Common.{◌≡◌, ◌<◌, ◌≤◌, ℕ, true, false, sym, arith}
+use Rattle.std.proofs.lemmas.Bool.{le-leb, Decides.nat_tests}
 use Rattle.std.specs.Prelude.{nat_le}
-use Rattle.std.proofs.lemmas.Bool.{le-leb}
-use Rattle.std.proofs.lemmas.Bool.Decides.{nat_tests}
-use Rattle.dd_formula.specs.Counts.{cut}
-use Rattle.dd_formula.specs.Compositions.{composition}
-use Rattle.dd_formula.specs.lemmas.CompositionLaws.{passes_more, range_fails}
+use Rattle.dd_formula.specs.{Counts.cut, Compositions.composition, lemmas.CompositionLaws.passes_more, lemmas.CompositionLaws.range_fails}
 use Rattle.dd_formula.proofs.composition.has_few.Goals as goal
 
 many : (n m : ℕ) → n ≡ cut 20000 m → 20000 < n → nat_le m 20000 ≡ false

@@ -1,8 +1,7 @@
 use Rattle.std.proofs.Common.{◌∙◌, ap, sym}
 use Rattle.std.specs.List.{list_all}
 use Rattle.dd_lattice.specs.lemmas.InOrderLaws.{list_all-in_order}
-use Rattle.dd_formula.specs.LocalRule.{is_near}
-use Rattle.dd_formula.specs.Compositions.{composition}
+use Rattle.dd_formula.specs.{LocalRule.is_near, Compositions.composition}
 use Rattle.dd_formula.specs.lemmas.CompositionLaws.{passes_more, range_fails}
 use Rattle.dd_formula.proofs.composition.has_short.Goals as goal
 

@@ -1,6 +1,5 @@
 use Rattle.std.proofs.Common.{◌≡◌, true}
-use Rattle.dd_formula.specs.Automata.{is_short}
-use Rattle.dd_formula.specs.Compositions.{composition}
+use Rattle.dd_formula.specs.{Automata.is_short, Compositions.composition}
 use Rattle.dd_formula.proofs.composition.has_short.Given as goal
 
 abbrev pub invariant-loop-node : goal.invariant-loop-node

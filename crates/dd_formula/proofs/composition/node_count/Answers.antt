@@ -1,5 +1,4 @@
-use Rattle.dd_formula.specs.Compositions.{composition}
-use Rattle.dd_formula.specs.lemmas.CompositionLaws.{stands_all, stands_one}
+use Rattle.dd_formula.specs.{Compositions.composition, lemmas.CompositionLaws.stands_all, lemmas.CompositionLaws.stands_one}
 use Rattle.dd_formula.proofs.composition.node_count.Goals as goal
 
 pub returns-in-Some : goal.returns-in-Some

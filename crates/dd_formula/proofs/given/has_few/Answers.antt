@@ -1,13 +1,9 @@
-use Rattle.std.proofs.Common.{◌<◌, ◌≤◌, sym, ap, ◌∙◌, arith}
-use Rattle.std.proofs.lemmas.Grind.{common_steps}
-use Rattle.std.specs.Prelude.{nat_le}
-use Rattle.std.specs.List.{list_all}
+use Rattle.std.proofs.{Common.◌<◌, Common.◌≤◌, Common.sym, Common.ap, Common.◌∙◌, Common.arith, lemmas.Grind.common_steps}
 use Rattle.std.proofs.lemmas.Bool.{le-leb, lt-leb}
-use Rattle.dd_formula.specs.LocalRule.{is_near}
-use Rattle.dd_formula.specs.Automata.{counted}
-use Rattle.dd_formula.specs.declared.automaton.Automaton.TheVariants as v
-use Rattle.dd_formula.specs.lemmas.AutomatonLaws.{instances_given, counted_given}
+use Rattle.std.specs.{Prelude.nat_le, List.list_all}
+use Rattle.dd_formula.specs.{LocalRule.is_near, Automata.counted, lemmas.AutomatonLaws.instances_given, lemmas.AutomatonLaws.counted_given}
 use Rattle.dd_formula.specs.lemmas.CompositionLaws.{passes_more, range_fails}
+use Rattle.dd_formula.specs.declared.automaton.Automaton.TheVariants as v
 use Rattle.dd_formula.proofs.given.has_few.Goals as goal
 
 pub loop-node-preserved : goal.loop-node-preserved

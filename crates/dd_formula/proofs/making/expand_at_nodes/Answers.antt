@@ -1,10 +1,7 @@
 use Rattle.std.proofs.Common.{◌≡◌, ◌<◌, ◌≤◌, ℕ, [], ◌∷◌, add-one, refl, ap, sym, ◌∙◌, subst, arith}
 use Rattle.std.proofs.lemmas.Grind.{common_steps}
 use borrow.Author.Count.{below_more}
-use Rattle.dd_expansion.specs.Terms.{origin_at}
-use Rattle.dd_expansion.specs.Expansion.{expansion}
-use Rattle.dd_expansion.specs.Leaves.{instances}
-use Rattle.dd_expansion.specs.Limits.{IsFormula}
+use Rattle.dd_expansion.specs.{Terms.origin_at, Expansion.expansion, Leaves.instances, Limits.IsFormula}
 use Rattle.dd_formula.specs.LocalRule.{local_rule, expansion_at}
 use Rattle.dd_formula.proofs.making.expand_at_nodes.Goals as goal
 

@@ -3,8 +3,7 @@ use Rattle.std.proofs.lemmas.Grind.{common_steps}
 use Rattle.std.specs.List.{list_all}
 use Rattle.dd_lattice.specs.InOrder.{in_order}
 use Rattle.dd_topology.specs.Sets.{IsSets}
-use Rattle.dd_expansion.specs.declared.expanded.Expanded.{Expanded}
-use Rattle.dd_expansion.specs.Leaves.{leaf_cells}
+use Rattle.dd_expansion.specs.{declared.expanded.Expanded.Expanded, Leaves.leaf_cells}
 use Rattle.dd_formula.specs.declared.fault.RuleFault.TheVariants.{Reach, Memory}
 use Rattle.dd_formula.specs.LocalRule.{local_rule, at_nodes, expansion_at, is_near}
 use Rattle.dd_formula.proofs.PartLaws.{reads_made, short_from, refused_from, rule_from}

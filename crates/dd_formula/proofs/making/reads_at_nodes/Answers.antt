@@ -1,5 +1,4 @@
-use Rattle.std.proofs.Common.{arith}
-use Rattle.std.proofs.lemmas.Grind.{common_steps}
+use Rattle.std.proofs.{Common.arith, lemmas.Grind.common_steps}
 use Rattle.dd_formula.proofs.making.reads_at_nodes.Goals as goal
 
 pub loop-expansion-preserved : goal.loop-expansion-preserved

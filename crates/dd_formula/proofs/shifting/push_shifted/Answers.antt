@@ -1,10 +1,7 @@
 use Rattle.std.proofs.Common.{◌++◌, ◌∷◌, [], List, map, take, ap, sym, ◌∙◌, arith}
-use Rattle.std.proofs.lemmas.Grind.{common_steps}
-use Rattle.std.proofs.lemmas.List.{append_assoc}
-use Rattle.dd_lattice.specs.Cells.{shifted}
-use Rattle.dd_lattice.specs.declared.position.Cell.{Cell}
-use Rattle.dd_formula.specs.LocalRule.{is_near}
-use Rattle.dd_formula.specs.lemmas.AutomatonLaws.{passes_at}
+use Rattle.std.proofs.lemmas.{Grind.common_steps, List.append_assoc}
+use Rattle.dd_lattice.specs.{Cells.shifted, declared.position.Cell.Cell}
+use Rattle.dd_formula.specs.{LocalRule.is_near, lemmas.AutomatonLaws.passes_at}
 use Rattle.dd_formula.proofs.SeenLaws.{values_more}
 use Rattle.dd_formula.proofs.shifting.push_shifted.Goals as goal
 

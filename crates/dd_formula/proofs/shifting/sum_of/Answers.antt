@@ -1,5 +1,4 @@
-use Rattle.dd_lattice.specs.Place.{moved}
-use Rattle.dd_lattice.specs.lemmas.RangeLaws.{in_range_if_given, outside_if_not_given}
+use Rattle.dd_lattice.specs.{Place.moved, lemmas.RangeLaws.in_range_if_given, lemmas.RangeLaws.outside_if_not_given}
 use Rattle.dd_formula.proofs.Reaching.{near_sum}
 use Rattle.dd_formula.proofs.shifting.sum_of.Goals as goal
 

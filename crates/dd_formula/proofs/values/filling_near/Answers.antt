@@ -1,12 +1,12 @@
 use Rattle.std.proofs.Common.{◌≡◌, List, ◌++◌, ◌∷◌, [], length, Some, None, map, take, ap, sym, ◌∙◌, subst}
-use Rattle.std.specs.Prelude.{is_some}
 use Rattle.std.proofs.lemmas.List.{take_all, map-append}
+use Rattle.std.specs.Prelude.{is_some}
 use Rattle.dd_lattice.specs.declared.position.Cell.{Cell}
 use Rattle.dd_pattern.specs.Reading.{Look}
 use Rattle.dd_expansion.specs.Leaves.{seen}
-use Rattle.dd_formula.specs.Values.{are_given}
-use Rattle.dd_formula.specs.valuing.Readable.{IsSeen}
-use Rattle.dd_formula.proofs.SeenLaws.{values_more, fails_at, as_many, all_given, seen_filling}
+use Rattle.dd_formula.specs.{Values.are_given, valuing.Readable.IsSeen}
+use Rattle.dd_formula.proofs.SeenLaws.{values_more, as_many, all_given, seen_filling}
+use Rattle.dd_values.specs.lemmas.Lists.{some_fails}
 use Rattle.dd_formula.proofs.values.filling_near.Goals as goal
 
 pub loop-cell-init : goal.loop-cell-init
@@ -36,7 +36,7 @@ returns-in_default g c =
     let look : Look = seen (g.R.Reads.symbols c.args.read.now) c.args.at.now in
     let none : look c.cell-item.result ≡ None = sym c.symbol_near.ensures ∙ c.in_default.is in
     ap (are_given (g.R.Reads.symbols c.args.read.now) c.args.at.now) (sym c.deref-cell-items.ensures.value)
-    ∙ fails_at (λ d. is_some (look d)) cells c.loop-cell.cell-index c.cell-item.result c.loop-cell-test.true c.cell-item.is (ap is_some none)
+    ∙ some_fails (λ d. is_some (look d)) cells c.loop-cell.cell-index c.cell-item.result c.loop-cell-test.true c.cell-item.is (ap is_some none)
 
 pub returns : goal.returns
 returns g c =

@@ -1,6 +1,5 @@
 use Rattle.std.proofs.Common.{◌≡◌, sym, ◌∙◌, arith, ap}
-use Rattle.dd_fraction.specs.Divisor.{greatest_common}
-use Rattle.dd_fraction.specs.lemmas.Divisors.{greatest_common-zero, greatest_common-step}
+use Rattle.dd_fraction.specs.{Divisor.greatest_common, lemmas.Divisors.greatest_common-zero, lemmas.Divisors.greatest_common-step}
 use Rattle.dd_fraction.proofs.divisor.greatest_common_divisor.Goals as goal
 
 pub loop-y-preserved : goal.loop-y-preserved

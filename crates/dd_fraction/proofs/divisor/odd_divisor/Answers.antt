@@ -1,6 +1,5 @@
 use Rattle.std.proofs.Common.{◌≡◌, sym, ap, ◌∙◌, arith}
-use Rattle.dd_fraction.specs.Divisor.{greatest_common}
-use Rattle.dd_fraction.specs.lemmas.Divisors.{greatest_common-zero}
+use Rattle.dd_fraction.specs.{Divisor.greatest_common, lemmas.Divisors.greatest_common-zero}
 use Rattle.dd_fraction.proofs.OddDivisors.{greatest_common-less, greatest_common-swap}
 use Rattle.dd_fraction.proofs.divisor.odd_divisor.Goals as goal
 

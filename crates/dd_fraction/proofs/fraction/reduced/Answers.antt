@@ -1,7 +1,6 @@
-use Rattle.std.proofs.Common.{ap, ◌∙◌, sym, rules}
+use Rattle.std.proofs.{Common.ap, Common.◌∙◌, Common.sym, Common.rules, lemmas.Int.to_z-of_z}
 use Rattle.std.specs.Int.{w128}
 use mir.Val.{SFits}
-use Rattle.std.proofs.lemmas.Int.{to_z-of_z}
 use Rattle.dd_fraction.specs.Exact.{lowest}
 use Rattle.dd_fraction.specs.lemmas.Results.{IsFraction-whole, lowest_alone, lowest_whole, lowest_made, lowest_result}
 use Rattle.dd_fraction.proofs.fraction.reduced.Goals as goal

@@ -1,9 +1,8 @@
-use Rattle.std.proofs.Common.{◌≡◌, sym, ap, ◌∙◌, arith}
+use Rattle.std.proofs.{Common.◌≡◌, Common.sym, Common.ap, Common.◌∙◌, Common.arith, lemmas.Int.ints}
 use Rattle.std.specs.Int.{w64}
 use mir.Val.{SFits}
 use lib.IntN.{pos}
 use borrow.Author.Differences.{same_in}
-use Rattle.std.proofs.lemmas.Int.{ints}
 use Rattle.dd_fraction.specs.Exact.{whole_of}
 use Rattle.dd_fraction.proofs.LessProduct.{lowest_zero}
 use Rattle.dd_fraction.proofs.fraction.reduced_words.Goals as goal

@@ -1,5 +1,4 @@
-use Rattle.std.proofs.Common.{◌∙◌, sym, arith}
-use Rattle.std.proofs.lemmas.Cmp.{ranked}
+use Rattle.std.proofs.{Common.◌∙◌, Common.sym, Common.arith, lemmas.Cmp.ranked}
 use Rattle.std.specs.declared.cmp.Ordering.TheVariants.{Equal}
 use Rattle.dd_fraction.proofs.Comparing.{whole_decides, rests_equal, rests_less, rests_greater, rest_cmp}
 use Rattle.dd_fraction.proofs.ratio.+compare_ratios.Goals as goal

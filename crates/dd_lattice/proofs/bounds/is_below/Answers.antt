@@ -1,7 +1,6 @@
 use Rattle.std.proofs.Common.{◌≡◌, true, false, ℤ, ◌≤ℤ◌, refl, ap, arith}
+use Rattle.std.proofs.lemmas.{Bool.false≢true, Int.ints}
 use Rattle.std.specs.Prelude.{int_lt}
-use Rattle.std.proofs.lemmas.Bool.{false≢true}
-use Rattle.std.proofs.lemmas.Int.{ints}
 use mir.Syntax.{w32}
 use mir.Val.{to_z, of_z}
 use Rattle.dd_lattice.specs.Place.{Place, IsCoordinateInRange}

@@ -1,12 +1,10 @@
-use Rattle.std.proofs.Common.{◌≡◌, ◌≤◌, ℤ, ◌-ℤ◌, ◌≤ℤ◌, ap, subst, arith}
+use Rattle.std.proofs.{Common.◌≡◌, Common.◌≤◌, Common.ℤ, Common.◌-ℤ◌, Common.◌≤ℤ◌, Common.ap, Common.subst, Common.arith, lemmas.Int.ints}
 use Rattle.std.specs.Prelude.{unsigned_abs}
-use Rattle.std.proofs.lemmas.Int.{ints}
 use lib.Dec.{T}
 use lib.Signed.{non_neg}
 use mir.Syntax.{w32, w64}
 use mir.Val.{to_z, of_z, Fits, SFits}
-use Rattle.dd_lattice.specs.Place.{Place, IsCoordinateInRange, IsInRange}
-use Rattle.dd_lattice.specs.Boxes.{gap}
+use Rattle.dd_lattice.specs.{Place.Place, Place.IsCoordinateInRange, Place.IsInRange, Boxes.gap}
 use Rattle.dd_lattice.proofs.bounds.steps_between.Goals as goal
 
 module _ (a b a' b' : ℤ) (a_near : IsCoordinateInRange a) (b_near : IsCoordinateInRange b) (a_is : a ≡ a') (b_is : b ≡ b') (up : a' ≤ℤ b') where

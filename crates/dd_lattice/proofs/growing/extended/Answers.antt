@@ -1,7 +1,5 @@
-use Rattle.std.proofs.Common.{◌≡◌, pos, inr, ap, ◌∙◌}
-use Rattle.std.proofs.lemmas.Result.{err_from_is_err_and}
-use Rattle.dd_lattice.specs.Regions.{IsMoved, IsInEither}
-use Rattle.dd_lattice.specs.listing.Growth.{along, IsExtended}
+use Rattle.std.proofs.{Common.◌≡◌, Common.pos, Common.inr, Common.ap, Common.◌∙◌, lemmas.Result.err_from_is_err_and}
+use Rattle.dd_lattice.specs.{Regions.IsMoved, Regions.IsInEither, listing.Growth.along, listing.Growth.IsExtended}
 use Rattle.dd_lattice.proofs.Sums.{steps_forward}
 use Rattle.dd_lattice.proofs.GrowthLaws.{fault_weaker, region_same, extended_from_either, either_from_extended}
 use Rattle.dd_lattice.proofs.growing.extended.Goals as goal

@@ -1,5 +1,4 @@
-use Rattle.std.proofs.Common.{◌≡◌, ◌≤◌, arith}
-use Rattle.std.proofs.lemmas.Result.{err_from_is_err_and}
+use Rattle.std.proofs.{Common.◌≡◌, Common.◌≤◌, Common.arith, lemmas.Result.err_from_is_err_and}
 use Rattle.dd_lattice.proofs.GrowthLaws.{grown_x, grown_y, grown_z, fault_x, fault_y, fault_z}
 use Rattle.dd_lattice.proofs.growing.grown.Goals as goal
 

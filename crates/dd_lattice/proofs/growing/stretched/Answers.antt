@@ -1,10 +1,7 @@
 use Rattle.std.proofs.Common.{◌≡◌, ◌≤◌, ◌+◌, ◌*◌, pos, ◌-ℤ◌, ◌+ℤ◌, ap, ◌∙◌, arith}
-use Rattle.std.proofs.lemmas.Grind.{common_steps}
+use Rattle.std.proofs.lemmas.{Grind.common_steps, Int.ints, Result.err_from_is_err_and}
 use Rattle.std.specs.Prelude.{◌≤ℤ◌}
-use Rattle.std.proofs.lemmas.Int.{ints}
-use Rattle.std.proofs.lemmas.Result.{err_from_is_err_and}
-use Rattle.dd_lattice.specs.Regions.{IsMoved}
-use Rattle.dd_lattice.specs.listing.Growth.{along, IsStretched, IsExtended}
+use Rattle.dd_lattice.specs.{Regions.IsMoved, listing.Growth.along, listing.Growth.IsStretched, listing.Growth.IsExtended}
 use Rattle.dd_lattice.proofs.Sums.{steps_back}
 use Rattle.dd_lattice.proofs.GrowthLaws.{fault_weaker, region_same, run_from_moved, moved_from_run, run_weaker, longer_run, run_extended}
 use Rattle.dd_lattice.proofs.growing.stretched.Goals as goal

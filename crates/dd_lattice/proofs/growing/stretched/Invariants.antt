@@ -1,6 +1,5 @@
 use Rattle.std.proofs.Common.{◌+◌, ◌*◌, ◌-◌, ◌≤◌, pos, ◌-ℤ◌}
-use Rattle.dd_lattice.specs.Regions.{IsRegionOf}
-use Rattle.dd_lattice.specs.listing.Growth.{IsStretched}
+use Rattle.dd_lattice.specs.{Regions.IsRegionOf, listing.Growth.IsStretched}
 use Rattle.dd_lattice.proofs.growing.stretched.Given as goal
 
 abbrev pub invariant-loop-copies : goal.invariant-loop-copies

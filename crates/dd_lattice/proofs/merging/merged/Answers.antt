@@ -1,10 +1,8 @@
-use Rattle.std.proofs.Common.{arith}
-use Rattle.std.proofs.lemmas.Grind.{common_steps}
-use Rattle.std.proofs.lemmas.List.{take_rest}
+use Rattle.std.proofs.{Common.arith, lemmas.Grind.common_steps, lemmas.List.take_rest}
 use Rattle.dd_lattice.specs.Order.{place_cmp}
 use Rattle.dd_lattice.proofs.MergeLaws.{nothing_merged, merged_step, from_left_most, from_right_most, right_follows, nothing_follows}
-use Rattle.dd_lattice.proofs.merging.merged.Goals as goal
 use Rattle.dd_lattice.proofs.merging.merged.Goals.{then-loop-i-test+else-j-right, else-loop-i-test}
+use Rattle.dd_lattice.proofs.merging.merged.Goals as goal
 
 pub loop-i-init : goal.loop-i-init
 loop-i-init c = rw c.new-members.ensures.items (nothing_merged c.args.left.now c.args.right.now c.requires.left.ascending c.requires.right.ascending, omega arith, omega arith)

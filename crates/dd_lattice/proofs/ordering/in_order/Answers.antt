@@ -1,9 +1,5 @@
-use Rattle.std.proofs.Common.{◌≡◌, take, arith}
-use Rattle.std.proofs.lemmas.Grind.{common_steps}
-use Rattle.std.proofs.lemmas.List.{take_all}
-use Rattle.std.proofs.lemmas.Result.{IfOk-weaker}
-use Rattle.dd_lattice.specs.InOrder.{in_order, HaveSameCells}
-use Rattle.dd_lattice.specs.lemmas.InOrderLaws.{in_order_members}
+use Rattle.std.proofs.{Common.◌≡◌, Common.take, Common.arith, lemmas.Grind.common_steps, lemmas.List.take_all, lemmas.Result.IfOk-weaker}
+use Rattle.dd_lattice.specs.{InOrder.in_order, InOrder.HaveSameCells, lemmas.InOrderLaws.in_order_members}
 use Rattle.dd_lattice.proofs.ordering.in_order.Goals as goal
 
 pub returns-clause-members : goal.returns-clause-members

@@ -1,5 +1,4 @@
-use Rattle.dd_lattice.specs.Place.{IsCoordinateInRange}
-use Rattle.dd_lattice.proofs.Sums.{sum_of_near}
+use Rattle.dd_lattice.specs.{Place.IsCoordinateInRange, lemmas.MoveLaws.sum_of_near}
 use Rattle.dd_lattice.proofs.position.shift.Goals as goal
 
 pub returns : goal.returns

@@ -1,10 +1,7 @@
-use Rattle.std.proofs.Common.{◌≡◌, map, take, sym, refl, ◌∙◌, arith}
-use Rattle.std.proofs.lemmas.Grind.{common_steps}
+use Rattle.std.proofs.{Common.◌≡◌, Common.map, Common.take, Common.sym, Common.refl, Common.◌∙◌, Common.arith, lemmas.Grind.common_steps}
 use Rattle.std.proofs.lemmas.List.{take_all}
-use Rattle.dd_lattice.specs.Place.{moved}
+use Rattle.dd_lattice.specs.{Place.moved, lemmas.RangeLaws.outside_if_not_given, lemmas.MoveLaws.moved_region, lemmas.MoveLaws.moved_more}
 use Rattle.std.specs.List.{Contains}
-use Rattle.dd_lattice.specs.lemmas.RangeLaws.{outside_if_not_given}
-use Rattle.dd_lattice.specs.lemmas.MoveLaws.{moved_region, moved_more}
 use Rattle.dd_lattice.proofs.region.all_moved.Goals as goal
 
 pub returns-in_default-clause-members : goal.returns-in_default-clause-members

@@ -1,6 +1,5 @@
 use Rattle.std.proofs.Common.{◌≡◌, arith}
-use Rattle.dd_lattice.specs.Boxes.{volume}
-use Rattle.dd_lattice.specs.lemmas.PositionLaws.{positions_region}
+use Rattle.dd_lattice.specs.{Boxes.volume, lemmas.PositionLaws.positions_region}
 use Rattle.dd_lattice.proofs.region.positions.Goals as goal
 
 pub invariant_of-result : goal.invariant_of-result

@@ -1,8 +1,6 @@
 use Rattle.dd_formula.specs.Automata.{counted}
 use Rattle.dd_maps.specs.Pairs.{always_zero}
-use Rattle.dd_maps.proofs.Faults.{err_says, only_memory}
-use Rattle.dd_maps.proofs.Near.{zero_short}
-use Rattle.dd_maps.proofs.Sizes.{zero_few}
+use Rattle.dd_maps.proofs.{Faults.err_says, Faults.only_memory, Near.zero_short, Sizes.zero_few}
 use Rattle.dd_maps.proofs.pairs.always_zero.Goals as goal
 
 pub returns-clause-fault : goal.returns-clause-fault

@@ -1,6 +1,5 @@
 use Rattle.std.proofs.Common.{subst}
-use Rattle.dd_formula.specs.Automata.{IsAutomaton}
-use Rattle.dd_formula.specs.Compositions.{OverBoth, IsCompositionFault, composition}
+use Rattle.dd_formula.specs.{Automata.IsAutomaton, Compositions.OverBoth, Compositions.IsCompositionFault, Compositions.composition}
 use Rattle.dd_formula.specs.declared.automaton.Automaton.TheVariants.{Composed}
 use Rattle.dd_maps.proofs.pairs.composed_with.Goals as goal
 

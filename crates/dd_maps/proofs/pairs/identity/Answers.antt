@@ -1,12 +1,8 @@
 use Rattle.std.proofs.Common.{◌≡◌, ◌-◌, map, ap, sym, ◌∙◌, subst}
 use Rattle.std.specs.List.{All, range_with_len}
-use Rattle.dd_formula.specs.Automata.{counted}
-use Rattle.dd_formula.specs.ByCases.{IsCaseOver}
+use Rattle.dd_formula.specs.{Automata.counted, ByCases.IsCaseOver}
 use Rattle.dd_maps.specs.Pairs.{own_symbol, identity}
-use Rattle.dd_maps.proofs.Cases.{own_cases}
-use Rattle.dd_maps.proofs.Faults.{err_says, only_memory}
-use Rattle.dd_maps.proofs.Near.{identity_short}
-use Rattle.dd_maps.proofs.Sizes.{identity_few}
+use Rattle.dd_maps.proofs.{Cases.own_cases, Faults.err_says, Faults.only_memory, Near.identity_short, Sizes.identity_few}
 use Rattle.dd_maps.proofs.pairs.identity.Goals as goal
 
 pub by_cases-requires-clause-cases : goal.by_cases-requires-clause-cases

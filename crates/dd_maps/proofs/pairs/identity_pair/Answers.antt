@@ -1,11 +1,7 @@
-use Rattle.std.proofs.Common.{ap, sym, ◌∙◌, subst}
+use Rattle.std.proofs.{Common.ap, Common.sym, Common.◌∙◌, Common.subst, lemmas.Result.err_from_is_err_and}
 use Rattle.std.specs.Prelude.{◌↔◌}
-use Rattle.std.proofs.lemmas.Result.{err_from_is_err_and}
-use Rattle.dd_formula.specs.Automata.{IsAutomaton}
-use Rattle.dd_formula.specs.ByCases.{numbers_over}
-use Rattle.dd_formula.specs.declared.automaton.Automaton.TheVariants.{Composed}
-use Rattle.dd_maps.specs.Pairs.{identity}
-use Rattle.dd_maps.specs.Images.{DifferAt, ChangesAt, Differ, Changes}
+use Rattle.dd_formula.specs.{Automata.IsAutomaton, ByCases.numbers_over, declared.automaton.Automaton.TheVariants.Composed}
+use Rattle.dd_maps.specs.{Pairs.identity, Images.DifferAt, Images.ChangesAt, Images.Differ, Images.Changes}
 use Rattle.dd_maps.specs.lemmas.PairLaws.{identity_differs_at, identity_differs}
 use Rattle.dd_maps.proofs.Cases.{of_pair}
 use Rattle.dd_maps.proofs.pairs.identity_pair.Goals as goal

@@ -1,14 +1,9 @@
-use Rattle.std.proofs.Common.{ap, sym, ◌∙◌, subst}
+use Rattle.std.proofs.{Common.ap, Common.sym, Common.◌∙◌, Common.subst, lemmas.Result.err_from_is_err_and}
 use Rattle.std.specs.Prelude.{◌↔◌}
-use Rattle.std.proofs.lemmas.Result.{err_from_is_err_and}
-use Rattle.dd_formula.specs.Automata.{IsAutomaton}
-use Rattle.dd_formula.specs.ByCases.{numbers_over}
-use Rattle.dd_formula.specs.declared.automaton.Automaton.TheVariants.{Composed}
-use Rattle.dd_maps.specs.Pairs.{marked, always_zero}
-use Rattle.dd_maps.specs.Images.{DifferAt, BreaksAt, Differ, ImageBreaks}
+use Rattle.dd_formula.specs.{Automata.IsAutomaton, ByCases.numbers_over, declared.automaton.Automaton.TheVariants.Composed}
+use Rattle.dd_maps.specs.{Pairs.marked, Pairs.always_zero, Images.DifferAt, Images.BreaksAt, Images.Differ, Images.ImageBreaks}
 use Rattle.dd_maps.specs.lemmas.PairLaws.{image_differs_at, image_differs}
-use Rattle.dd_maps.proofs.Cases.{of_pair}
-use Rattle.dd_maps.proofs.Faults.{marked_to_image, composed_to_image}
+use Rattle.dd_maps.proofs.{Cases.of_pair, Faults.marked_to_image, Faults.composed_to_image}
 use Rattle.dd_maps.proofs.pairs.image_pair.Goals as goal
 
 pub returns-in_err-marked-clause-fault : goal.returns-in_err-marked-clause-fault

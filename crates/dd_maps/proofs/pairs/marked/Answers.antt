@@ -2,18 +2,9 @@ use Rattle.std.proofs.Common.{◌≡◌, ap, sym, subst, arith}
 use Rattle.std.specs.Prelude.{true}
 use Rattle.dd_expansion.specs.Limits.{depth, formula_fits}
 use Rattle.dd_formula.specs.ByCases.{IsCaseOver}
-use Rattle.dd_maps.specs.Guarded.{guarded}
-use Rattle.dd_maps.specs.Pairs.{guarded_of}
-use Rattle.dd_maps.specs.Refusals.{PassesGuard, IsMarkedFault}
-use Rattle.dd_maps.proofs.Formed.{guarded_fits, guarded_shallow}
-use Rattle.dd_maps.proofs.Cases.{single}
-use Rattle.dd_maps.proofs.Faults.{err_says, marked_refused}
+use Rattle.dd_maps.specs.{Guarded.guarded, Pairs.guarded_of, Refusals.PassesGuard, Refusals.IsMarkedFault}
+use Rattle.dd_maps.proofs.{Formed.guarded_fits, Cases.single, Faults.err_says, Faults.marked_refused}
 use Rattle.dd_maps.proofs.pairs.marked.Goals as goal
-
-pub depth-requires : goal.depth-requires
-depth-requires c =
-    let y = c.args.rule.now in
-    omega (arith, ap depth c.in_ok-formula.ensures.value, guarded_shallow c.args.sets.now y.nodes y.formula c.requires.rule.formula.depth)
 
 pub by_cases-requires-clause-cases : goal.by_cases-requires-clause-cases
 by_cases-requires-clause-cases c =
@@ -23,7 +14,7 @@ by_cases-requires-clause-cases c =
     let fits : formula_fits g s.symbols (guarded_of s y) 1 ≡ true =
     subst (λ n. formula_fits g s.symbols (guarded s n y.formula) 1 ≡ true) (sym (ap (λ r. r.nodes) c.requires.rule.same)) (guarded_fits g s y.formula c.requires.rule.formula.numbers) in
     single (IsCaseOver g s) (c.in_ok-formula.formula, 0) (record {
-      formula = record { numbers = rw c.in_ok-formula.ensures.value fits; depth = omega (arith, c.depth.ensures, c.if-depth-gt-MOST_NESTED.false) };
+      formula = record { numbers = rw c.in_ok-formula.ensures.value fits; depth = c.keeps_depth.ensures.0 c.if-not-keeps_depth.false };
       symbol = omega (arith, c.requires.symbols.0);
     })
 
@@ -33,5 +24,5 @@ returns-clause-fault c =
     let s = c.args.sets.now in
     let y = c.args.rule.now in
     let is = c.in_ok-formula.ensures.value in
-    let shallow : PassesGuard s y = omega (arith, ap depth is, c.depth.ensures, c.if-depth-gt-MOST_NESTED.false) in
+    let shallow : PassesGuard s y = omega (arith, ap depth is, c.keeps_depth.ensures.0 c.if-not-keeps_depth.false) in
     err_says c.by_cases.result _ (IsMarkedFault g s y) (marked_refused g s y c.requires.rule c.in_ok-formula.ensures.kept shallow) (rw is at c.by_cases.ensures.fault)

@@ -1,9 +1,8 @@
 use Rattle.std.proofs.Common.{◌≡◌, ℕ, ◌≤◌, ◌+◌, ◌-◌, List, [], ◌∷◌, ◌++◌, map, ap, sym, ◌∙◌, arith}
-use Rattle.std.specs.List.{range_with_len}
 use Rattle.std.proofs.lemmas.List.FromFn.{map-range_with_len_more}
+use Rattle.std.specs.List.{range_with_len}
 use Rattle.dd_expansion.specs.declared.formulas.Formula.{Formula}
-use Rattle.dd_maps.specs.Guarded.{symbol_is}
-use Rattle.dd_maps.specs.Pairs.{own_symbol}
+use Rattle.dd_maps.specs.{Guarded.symbol_is, Pairs.own_symbol}
 use Rattle.dd_maps.proofs.pairs.own_symbols.Goals as goal
 
 own_more : (n : ℕ) (old new : List (Formula × ℕ)) (f : Formula) → 1 ≤ n → old ≡ map own_symbol (range_with_len 1 (n - 1)) → f ≡ symbol_is n → new ≡ old ++ (f, n) ∷ [] →

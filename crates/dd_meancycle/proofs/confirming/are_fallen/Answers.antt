@@ -1,5 +1,4 @@
-use Rattle.std.proofs.Common.{◌<◌, get_or}
-use Rattle.std.proofs.lemmas.List.Elements.{All-more}
+use Rattle.std.proofs.{Common.◌<◌, Common.get_or, lemmas.List.Elements.All-more}
 use Rattle.dd_meancycle.specs.declared.edges.Edge.{Edge}
 use Rattle.dd_meancycle.proofs.Confirmed.{all_taken}
 use Rattle.dd_meancycle.proofs.confirming.are_fallen.Goals as goal

@@ -1,8 +1,7 @@
 use Rattle.std.proofs.Common.{◌≡◌, ℕ, length, arith, subst}
 use Rattle.std.specs.List.{All}
 use Rattle.dd_meancycle.specs.table.Levels.{IsEdgeOf}
-use Rattle.dd_meancycle.proofs.EdgeLaws.{all_fit}
-use Rattle.dd_meancycle.proofs.Confirmed.{ranks_are}
+use Rattle.dd_meancycle.proofs.{EdgeLaws.all_fit, Confirmed.ranks_are}
 use Rattle.dd_meancycle.proofs.confirming.are_ranks.Goals as goal
 
 pub are_fallen-requires : goal.are_fallen-requires

@@ -1,5 +1,4 @@
-use Rattle.std.proofs.Common.{◌*◌, pos, ◌-ℤ◌, ◌≤ℤ◌}
-use Rattle.std.proofs.lemmas.List.Elements.{All-more}
+use Rattle.std.proofs.{Common.◌*◌, Common.pos, Common.◌-ℤ◌, Common.◌≤ℤ◌, lemmas.List.Elements.All-more}
 use Rattle.dd_meancycle.specs.declared.edges.Edge.{Edge}
 use Rattle.dd_transfer.specs.Certificates.{potential_of}
 use Rattle.dd_meancycle.proofs.Confirmed.{all_taken}

@@ -1,8 +1,7 @@
 use Rattle.std.proofs.Common.{◌≡◌, ◌≤◌, ◌<◌, ℕ, length, arith, refl, ap, sym, ◌∙◌, subst}
 use Rattle.std.specs.List.{All}
 use Rattle.dd_meancycle.specs.table.Levels.{IsEdgeOf}
-use Rattle.dd_meancycle.proofs.EdgeLaws.{all_fit}
-use Rattle.dd_meancycle.proofs.Confirmed.{all_bounded, confirmed_is}
+use Rattle.dd_meancycle.proofs.{EdgeLaws.all_fit, Confirmed.all_bounded, Confirmed.confirmed_is}
 use Rattle.dd_meancycle.proofs.confirming.confirmed.Goals as goal
 
 pub are_risen-requires : goal.are_risen-requires

@@ -1,7 +1,6 @@
-use Rattle.std.proofs.Common.{◌≡◌, ℕ, arith, refl, ◌*◌, ◌<◌, ◌^◌, ◌≤◌}
-use Rattle.std.specs.Prelude.{pos, ◌-ℤ◌, ◌≤ℤ◌}
-use Rattle.std.proofs.lemmas.Int.{ints}
+use Rattle.std.proofs.{Common.◌≡◌, Common.ℕ, Common.arith, Common.refl, Common.◌*◌, Common.◌<◌, Common.◌^◌, Common.◌≤◌, lemmas.Int.ints}
 use Rattle.std.proofs.Math.Nat.{mul-le-mul}
+use Rattle.std.specs.Prelude.{pos, ◌-ℤ◌, ◌≤ℤ◌}
 use Rattle.dd_meancycle.proofs.confirming.is_rise.Goals as goal
 
 bound : (l w : ℕ) → l < 2 ^ 64 → w < 2 ^ 32 → l * w < 2 ^ 96

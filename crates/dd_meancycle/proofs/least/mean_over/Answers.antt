@@ -1,8 +1,6 @@
-use Rattle.std.proofs.Common.{◌≡◌, ℕ, ◌<◌, ◌≤◌, arith, sym, subst}
+use Rattle.std.proofs.{Common.◌≡◌, Common.ℕ, Common.◌<◌, Common.◌≤◌, Common.arith, Common.sym, Common.subst, lemmas.Result.IfOk-weaker}
 use Rattle.std.specs.List.{All}
-use Rattle.std.proofs.lemmas.Result.{IfOk-weaker}
-use Rattle.dd_meancycle.specs.table.Levels.{IsEdgeOf}
-use Rattle.dd_meancycle.specs.table.LeastMean.{IsMean}
+use Rattle.dd_meancycle.specs.table.{Levels.IsEdgeOf, LeastMean.IsMean}
 use Rattle.dd_meancycle.proofs.EdgeLaws.{all_fit, small_mean, mean_of_states}
 use Rattle.dd_meancycle.proofs.least.mean_over.Goals as goal
 

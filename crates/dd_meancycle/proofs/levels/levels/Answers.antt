@@ -3,8 +3,7 @@ use Rattle.std.proofs.lemmas.List.{length-append}
 use Rattle.std.specs.List.{All}
 use Rattle.dd_meancycle.specs.declared.edges.Edge.{Edge}
 use Rattle.dd_meancycle.specs.table.Levels.{at, row, level, AreRows, IsRowUpTo, IsUpToIn, IsEdgeOf}
-use Rattle.dd_meancycle.proofs.LevelLaws.{row_length}
-use Rattle.dd_meancycle.proofs.Steps.{rows_push, read_row, row_up}
+use Rattle.dd_meancycle.proofs.{LevelLaws.row_length, Steps.rows_push, Steps.read_row, Steps.row_up}
 use Rattle.dd_meancycle.proofs.levels.levels.Goals as goal
 
 pub next-requires-clause-edges : goal.next-requires-clause-edges

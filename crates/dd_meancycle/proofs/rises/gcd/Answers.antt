@@ -1,5 +1,4 @@
-use Rattle.std.proofs.Common.{ℕ, ◌≡◌, arith}
-use Rattle.std.proofs.lemmas.Nat.Gcd.{IsGcd-from_mod, IsGcd-from_zero}
+use Rattle.std.proofs.{Common.ℕ, Common.◌≡◌, Common.arith, lemmas.Nat.Gcd.IsGcd-from_mod, lemmas.Nat.Gcd.IsGcd-from_zero}
 use Rattle.dd_meancycle.proofs.rises.gcd.Goals as goal
 
 pub loop-y-preserved : goal.loop-y-preserved

@@ -1,7 +1,7 @@
-use Rattle.std.proofs.Common.{ℕ, ◌≡◌, ◌<◌, arith, subst}
+use Rattle.std.proofs.{Common.ℕ, Common.◌≡◌, Common.◌<◌, Common.arith, Common.subst, lemmas.Nat.Gcd.mod-eq-zero_of_dvd}
 use Rattle.std.specs.Int.{IsGcd}
-use Rattle.std.proofs.lemmas.Nat.Gcd.{mod-eq-zero_of_dvd}
-use Rattle.dd_meancycle.proofs.Gentle.{is_reduced, gcd_positive}
+use Rattle.dd_meancycle.proofs.Gentle.{is_reduced}
+use Rattle.dd_fraction.specs.lemmas.Divisors.{gcd_positive}
 use Rattle.dd_meancycle.proofs.rises.reduced.Goals as goal
 
 pub returns-then-common-eq0 : goal.returns-then-common-eq0

@@ -1,6 +1,5 @@
 use Rattle.std.proofs.Common.{◌≡◌, ℕ, ◌+◌, arith, sym, ◌∙◌, ap, add-one, length, ◌<◌, get_or}
-use Rattle.dd_meancycle.specs.declared.edges.Edge.{Edge}
-use Rattle.dd_meancycle.specs.table.Rises.{is_back}
+use Rattle.dd_meancycle.specs.{declared.edges.Edge.Edge, table.Rises.is_back}
 use Rattle.dd_meancycle.proofs.Steps.{find_here, find_more}
 use Rattle.dd_meancycle.proofs.turning.back_edge.Goals as goal
 

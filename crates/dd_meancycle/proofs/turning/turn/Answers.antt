@@ -1,17 +1,14 @@
-use Rattle.std.proofs.Common.{◌≡◌, ℕ, suc, ◌+◌, ◌-◌, ◌*◌, ◌<◌, ◌≤◌, List, [], ◌∷◌, ◌++◌, length, reverse, drop, Option, Some, None, arith, refl, sym, ◌∙◌, ap, subst, add-one, get_or, set, Result, Ok, Err}
-use Rattle.std.specs.Result.{IfOk}
+use Rattle.std.proofs.Common.{◌≡◌, ℕ, suc, ◌+◌, ◌-◌, ◌*◌, ◌<◌, ◌≤◌, List, [], ◌∷◌, ◌++◌, length, reverse, drop, Option, Some, None, arith, refl, sym, ◌∙◌, ap, subst, add-one, get_or, set}
+use Rattle.std.proofs.lemmas.List.{length-append, length-set, get_or_default, Elements.All-contains}
 use Rattle.std.specs.List.{All, find}
-use Rattle.std.proofs.lemmas.List.{length-append, length-set, get_or_default}
-use Rattle.std.proofs.lemmas.List.Elements.{All-contains}
 use Rattle.dd_meancycle.specs.declared.edges.Edge.{Edge}
-use Rattle.dd_meancycle.specs.table.Levels.{at, row, least, level_weight_at, AreRows, IsEdgeOf}
+use Rattle.dd_meancycle.specs.table.Levels.{at, row, least, AreRows, IsEdgeOf}
 use Rattle.dd_meancycle.specs.table.Rises.{is_back, IsTurn}
 use Rattle.dd_meancycle.proofs.LevelLaws.{row_length}
 use Rattle.dd_meancycle.proofs.TurnLaws.{Trail, IsBack, trail_start, trail_end, trail_push, trail_turn, marks_at, back_found, back_some}
+use Rattle.dd_meancycle.proofs.Assembly.{weight_row}
+use Rattle.dd_values.specs.lemmas.Results.{if_ok}
 use Rattle.dd_meancycle.proofs.turning.turn.Goals as goal
-
-weight_row : (edges : List Edge) (n : ℕ) (levels : List (List (Option ℕ))) (k v : ℕ) → AreRows edges n levels → k < length levels → level_weight_at levels k v ≡ least edges n k v
-weight_row edges n levels k v rows lt = ap (λ (x : List (Option ℕ)). at x v) (rows k lt)
 
 pub weight_at-requires-clause-state : goal.weight_at-requires-clause-state
 weight_at-requires-clause-state c =
@@ -31,10 +28,6 @@ back_of : (edges : List Edge) (n step : ℕ) (levels : List (List (Option ℕ)))
     Some e ≡ find (is_back before here weight) edges → IsBack edges (row edges n (n - 1 - step)) here weight e
 back_of edges n step levels before here weight e rows len lt is found =
     back_found edges (row edges n (n - 1 - step)) here weight e (subst (λ (x : List (Option ℕ)). Some e ≡ find (is_back x here weight) edges) (before_is edges n step levels before rows len lt is) found)
-
-ok_weaker : {T E : Type 0} (r : Result T E) (P Q : T → Type 0) → ((v : T) → P v → Q v) → IfOk r P → IfOk r Q
-ok_weaker (Ok x) P Q f h = f x h
-ok_weaker (Err e) P Q f h = h
 
 read_mark : (marks : List (Option ℕ)) (i : ℕ) (x o : Option ℕ) → i < length marks → x ≡ get_or marks i x → x ≡ o → at marks i ≡ o
 read_mark marks i x o lt e f = sym (get_or_default marks i x None lt) ∙ (sym e ∙ f)
@@ -88,7 +81,7 @@ returns-in-Some-index c =
     let t = trail_turn c.args.edges.now c.args.last c.args.state c.in-Some.end c.loop-step.step c.loop-step.at c.loop-step.weight c.loop-step.path.items c.loop-step.seen.items _ c.in-Some-back_edge.edge c.in-Some-index.start c.requires.edges c.loop-step.invariant c.loop-step-test.true m b again in
     let path : c.as_slice.result.now ≡ c.loop-step.path.items ++ c.in-Some-back_edge.edge ∷ [] = c.as_slice.ensures.value ∙ items in
     let turn = subst (λ (x : List Edge). IsTurn c.args.edges.now c.args.last c.args.state c.in-Some.end (reverse (drop c.in-Some-index.start x))) (sym path) t in
-    ok_weaker c.cycle_from.result _ _
+    if_ok c.cycle_from.result _ _
     (λ v is end h.
     let e : c.in-Some.end ≡ end = (let f = c.in-Some.ensures ∙ h in cc) in
     subst (λ (z : ℕ). IsTurn c.args.edges.now c.args.last c.args.state z v.items) e

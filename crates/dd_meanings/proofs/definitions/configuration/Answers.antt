@@ -1,5 +1,4 @@
-use Rattle.std.proofs.Common.{arith}
-use Rattle.std.proofs.lemmas.Grind.{common_steps}
+use Rattle.std.proofs.{Common.arith, lemmas.Grind.common_steps}
 use Rattle.dd_meanings.proofs.ConfigurationLaws.{is_periodic, is_configuration}
 use Rattle.dd_meanings.proofs.definitions.configuration.Goals as goal
 

@@ -1,9 +1,7 @@
-use Rattle.std.proofs.Common.{◌≡◌, ◌∷◌, [], map, length, arith, rules}
-use Rattle.std.proofs.lemmas.{Grind.common_steps, List.length-append}
-use Rattle.dd_written.specs.Formulas.{tree_depth}
-use Rattle.dd_written.specs.declared.tree.Formula.{the_lemmas}
-use Rattle.dd_faults.specs.Formulas.{formula_faults}
-use Rattle.dd_faults.specs.lemmas.{Layers.faults_chain, Layers.faults_quantified, Nothing.both_nil}
+use Rattle.std.proofs.{Common.◌≡◌, Common.◌∷◌, Common.[], Common.map, Common.length, Common.arith, Common.rules, lemmas.Grind.common_steps}
+use Rattle.std.proofs.lemmas.List.{length-append}
+use Rattle.dd_written.specs.{Formulas.tree_depth, declared.tree.Formula.the_lemmas}
+use Rattle.dd_faults.specs.{Formulas.formula_faults, lemmas.Layers.faults_chain, lemmas.Layers.faults_quantified, lemmas.Nothing.both_nil}
 use Rattle.dd_meanings.specs.Formulas.{formula_of}
 use Rattle.dd_meanings.proofs.{Nothing.none_from, Making.made_item}
 use Rattle.dd_meanings.proofs.Layers.{formula_chain, depth_chain, depth_quantified, depth_from}

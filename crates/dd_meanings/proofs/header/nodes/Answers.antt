@@ -1,5 +1,4 @@
-use Rattle.std.proofs.Common.{length, refl, arith}
-use Rattle.std.proofs.lemmas.List.{length-map}
+use Rattle.std.proofs.{Common.length, Common.refl, Common.arith, lemmas.List.length-map}
 use Rattle.dd_written.specs.Values.{name_text}
 use Rattle.dd_known.specs.Known.{dimension_of}
 use Rattle.dd_meanings.proofs.{Nothing.parts, HeaderLaws.names_are, HeaderLaws.default_sound}

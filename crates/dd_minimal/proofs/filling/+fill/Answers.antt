@@ -1,15 +1,13 @@
 use Rattle.std.proofs.Common.{◌≡◌, ◌<◌, ◌++◌, ◌∷◌, [], ℕ, List, true, false, map, length, OnOk, refl, ap, sym, subst, ◌∙◌, arith}
-use Rattle.std.specs.List.{flat_map, range_with_len}
 use Rattle.std.proofs.lemmas.List.Elements.{All-push}
+use Rattle.std.specs.List.{flat_map, range_with_len}
 use Rattle.dd_formula.specs.LocalRule.{rule_allows}
-use Rattle.dd_forbidden.specs.listing.Extensions.{AreSymbols, AreOf}
-use Rattle.dd_minimal.specs.declared.outcome.Outcome.{Outcome}
-use Rattle.dd_minimal.specs.declared.outcome.Outcome.TheVariants.{Barred}
-use Rattle.dd_minimal.specs.Minimal.{words}
+use Rattle.dd_forbidden.specs.{listing.Extensions.AreSymbols, listing.Extensions.AreOf, lemmas.Kept.rest_of}
+use Rattle.dd_minimal.specs.{declared.outcome.Outcome.Outcome, declared.outcome.Outcome.TheVariants.Barred, Minimal.words}
 use Rattle.dd_minimal.specs.finding.Outcomes.{outcome_behind, known_outcome}
-use Rattle.dd_minimal.proofs.FillSteps.{leaf, all_settled, one_more, all_parts, part, part_allowed, part_barred, taken_off}
-use Rattle.dd_minimal.proofs.Kept.{rest_of}
+use Rattle.dd_minimal.proofs.FillSteps.{leaf, all_settled, one_more, all_parts, part, part_allowed, part_barred}
 use Rattle.dd_minimal.proofs.filling.+fill.Goals.{then-allows+in_ok-push+in_ok-fill, else-allows+in_ok-fill_known}
+use Rattle.dd_values.specs.lemmas.Lists.{taken_off}
 use Rattle.dd_minimal.proofs.filling.+fill.Goals as goal
 
 pub returns-in_default-clause-table : goal.returns-in_default-clause-table

@@ -1,7 +1,6 @@
 use Rattle.std.proofs.Common.{◌≡◌, ◌++◌, ◌∷◌, map, length}
 use Rattle.std.specs.List.{flat_map, range_with_len}
-use Rattle.dd_minimal.specs.Minimal.{words}
-use Rattle.dd_minimal.specs.finding.Outcomes.{outcome_behind}
+use Rattle.dd_minimal.specs.{Minimal.words, finding.Outcomes.outcome_behind}
 use Rattle.dd_minimal.proofs.filling.+fill.Given as goal
 
 abbrev pub decreases-fill : goal.decreases-fill

@@ -1,7 +1,6 @@
 use Rattle.std.proofs.Common.{◌≡◌, ◌++◌, ◌∷◌, map, length}
 use Rattle.std.specs.List.{flat_map, range_with_len}
-use Rattle.dd_minimal.specs.Minimal.{words}
-use Rattle.dd_minimal.specs.finding.Outcomes.{known_outcome}
+use Rattle.dd_minimal.specs.{Minimal.words, finding.Outcomes.known_outcome}
 use Rattle.dd_minimal.proofs.filling.+fill_known.Given as goal
 
 abbrev pub decreases-fill_known : goal.decreases-fill_known

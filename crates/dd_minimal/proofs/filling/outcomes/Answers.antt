@@ -1,14 +1,10 @@
 use Rattle.std.proofs.Common.{◌≡◌, ◌++◌, List, [], ℕ, ap, sym, subst, ◌∙◌, map, length}
 use Rattle.std.specs.List.Sorted.{IsStrictlySortedBy}
-use Rattle.dd_lattice.specs.Order.{cell_cmp}
-use Rattle.dd_lattice.specs.declared.position.Cell.{Cell}
+use Rattle.dd_lattice.specs.{Order.cell_cmp, declared.position.Cell.Cell}
 use Rattle.dd_topology.specs.lemmas.OrderLaws.{sorted-in_order}
 use Rattle.dd_formula.specs.LocalRule.{cells_at, reads_at}
-use Rattle.dd_forbidden.specs.listing.Extensions.{AreOf}
-use Rattle.dd_minimal.specs.declared.outcome.Outcome.{Outcome}
-use Rattle.dd_minimal.specs.Minimal.{words}
-use Rattle.dd_minimal.specs.finding.Outcomes.{outcome_behind}
-use Rattle.dd_minimal.proofs.Kept.{reads_of_nodes, says_kept}
+use Rattle.dd_forbidden.specs.{listing.Extensions.AreOf, lemmas.Kept.says_kept, lemmas.Kept.reads_of_nodes}
+use Rattle.dd_minimal.specs.{declared.outcome.Outcome.Outcome, Minimal.words, finding.Outcomes.outcome_behind}
 use Rattle.dd_minimal.proofs.filling.outcomes.Goals as goal
 
 pub new-ranks-requires : goal.new-ranks-requires

@@ -1,15 +1,11 @@
 use Rattle.std.proofs.Common.{◌≡◌, ◌<◌, ◌+◌, ◌^◌, ◌++◌, ◌∷◌, [], true, false, List, map, length, slice_index_or, refl, ap, sym, subst, ◌∙◌, arith}
-use Rattle.std.specs.List.{All}
 use Rattle.std.proofs.lemmas.List.{map-append, get_or_default, with_items_is}
 use Rattle.std.proofs.lemmas.List.Elements.{All-nil, All-push}
+use Rattle.std.specs.List.{All}
 use Rattle.dd_formula.specs.LocalRule.{cells_at}
-use Rattle.dd_minimal.specs.Patterns.{pattern_of}
-use Rattle.dd_minimal.specs.declared.partial.Partial.{Partial}
-use Rattle.dd_minimal.specs.finding.Numbers.{reach}
-use Rattle.dd_minimal.specs.finding.Outcomes.{outcomes, does_break}
-use Rattle.dd_minimal.specs.declared.outcome.Outcome.TheVariants.{Barred}
-use Rattle.dd_minimal.specs.finding.States.{IsListedTo}
-use Rattle.dd_minimal.specs.finding.Walks.{marked}
+use Rattle.dd_minimal.specs.{Patterns.pattern_of, declared.partial.Partial.Partial, finding.Numbers.reach}
+use Rattle.dd_minimal.specs.{finding.Outcomes.outcomes, finding.Outcomes.does_break, declared.outcome.Outcome.TheVariants.Barred}
+use Rattle.dd_minimal.specs.finding.{States.IsListedTo, Walks.marked}
 use Rattle.dd_minimal.proofs.MarkLaws.{marked_length}
 use Rattle.dd_minimal.proofs.ListSteps.{start, end, over_unbroken, over_marked, markable, put, thinned_here, own_strides, own_length, outcomes_length, minimal_list, all_fit}
 use Rattle.dd_minimal.proofs.listing.list.Goals.{then-does_break+then-not-index+in_ok-pattern+in_ok-push, else-does_break, else-does_break-via-then-does_break+else-not-index, else-does_break-via-else-does_break}

@@ -1,7 +1,6 @@
 use Rattle.std.proofs.Common.{◌≡◌, map}
 use Rattle.std.specs.List.{All}
-use Rattle.dd_minimal.specs.Patterns.{pattern_of}
-use Rattle.dd_minimal.specs.finding.States.{IsListedTo}
+use Rattle.dd_minimal.specs.{Patterns.pattern_of, finding.States.IsListedTo}
 use Rattle.dd_minimal.proofs.listing.list.Given as goal
 
 abbrev pub invariant-loop-at : goal.invariant-loop-at

@@ -1,8 +1,6 @@
 use Rattle.std.proofs.Common.{◌≡◌, ◌<◌, ◌+◌, ◌-◌, ◌*◌, ◌^◌, ◌++◌, ◌∷◌, [], Some, None, length, slice_index_or, ap, sym, subst, ◌∙◌, arith}
-use Rattle.dd_minimal.specs.finding.Numbers.{digits, reach}
-use Rattle.dd_minimal.specs.finding.States.{IsThinnedTo}
-use Rattle.dd_minimal.specs.finding.Walks.{none_holds}
-use Rattle.dd_minimal.proofs.NumberLaws.{map_length}
+use Rattle.std.proofs.lemmas.List.{length-map}
+use Rattle.dd_minimal.specs.finding.{Numbers.digits, Numbers.reach, States.IsThinnedTo, Walks.none_holds}
 use Rattle.dd_minimal.proofs.ThinSteps.{start_in, step_in, stride_in, end}
 use Rattle.dd_minimal.proofs.thinning.thin.Goals.{then-can_spare+in_ok-push+in_ok-push-2, else-can_spare+in_ok-push-3}
 use Rattle.dd_minimal.proofs.thinning.thin.Goals as goal
@@ -32,7 +30,7 @@ can_spare-requires-clause-reach c =
     let step = step_in m c.args.table.now c.args.strides.now c.args.at c.loop-stride.stride-index c.digit-symbol.result c.loop-stride.pattern c.loop-stride.left_out.items c.loop-stride.from
     c.requires.symbols c.requires.strides c.loop-stride-test.true c.digit-symbol.ensures c.loop-stride.invariant in
     let long : m ^ length (digits m c.args.strides.now c.args.at) ≡ length c.args.table.now =
-    ap (λ k. m ^ k) (map_length _ c.args.strides.now) ∙ sym c.requires.table in
+    ap (λ k. m ^ k) (length-map _ c.args.strides.now) ∙ sym c.requires.table in
     subst (λ k. without + reach m (c.as_slice.result.now ++ stride ∷ []) < k) long
     (subst (λ ds. without + reach m (ds ++ stride ∷ []) < m ^ length (digits m c.args.strides.now c.args.at)) (sym c.as_slice.ensures.value) step.within)
 
@@ -81,4 +79,4 @@ returns c =
     let m = c.args.symbols in
     let all : c.loop-stride.stride-index ≡ length c.args.strides.now = (let past = c.loop-stride-test.false in let most = c.loop-stride.auto.stride-index-end in omega (arith, past, most)) in
     end m c.args.table.now (digits m c.args.strides.now c.args.at) c.loop-stride.stride-index c.loop-stride.pattern c.loop-stride.left_out.items c.loop-stride.from
-    (all ∙ sym (map_length _ c.args.strides.now)) c.loop-stride.invariant
+    (all ∙ sym (length-map _ c.args.strides.now)) c.loop-stride.invariant

@@ -1,5 +1,4 @@
-use Rattle.dd_minimal.specs.finding.Numbers.{digits}
-use Rattle.dd_minimal.specs.finding.States.{IsThinnedTo}
+use Rattle.dd_minimal.specs.finding.{Numbers.digits, States.IsThinnedTo}
 use Rattle.dd_minimal.proofs.thinning.thin.Given as goal
 
 abbrev pub invariant-loop-stride : goal.invariant-loop-stride

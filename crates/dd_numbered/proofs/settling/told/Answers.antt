@@ -1,5 +1,4 @@
-use Rattle.std.proofs.Common.{get_or}
-use Rattle.std.proofs.lemmas.Option.{slice_get-get_or}
+use Rattle.std.proofs.{Common.get_or, lemmas.Option.slice_get-get_or}
 use Rattle.dd_numbered.proofs.SettledLaws.{still_told}
 use Rattle.dd_numbered.proofs.settling.told.Goals as goal
 

@@ -1,5 +1,4 @@
-use Rattle.std.proofs.Common.{ap, sym}
-use Rattle.std.proofs.lemmas.Option.{slice_get-get_or, slice_get_past}
+use Rattle.std.proofs.{Common.ap, Common.sym, lemmas.Option.slice_get-get_or, lemmas.Option.slice_get_past}
 use Rattle.dd_expansion.specs.Truth.{is_symbol}
 use Rattle.dd_numbered.proofs.truth.is_there.Goals as goal
 

@@ -1,6 +1,5 @@
 use Rattle.std.proofs.Common.{◌≡◌, ◌++◌, ◌∷◌, []}
-use Rattle.dd_output.specs.reading.Stops.{many_at}
-use Rattle.dd_output.specs.reading.Grammar.{pattern}
+use Rattle.dd_output.specs.reading.{Stops.many_at, Grammar.pattern}
 use Rattle.dd_output.proofs.Counts.{many_on}
 use Rattle.dd_output.proofs.bodies.patterns_of.Goals as goal
 

@@ -1,5 +1,4 @@
-use Rattle.std.proofs.Common.{arith}
-use Rattle.std.proofs.lemmas.Grind.{common_steps}
+use Rattle.std.proofs.{Common.arith, lemmas.Grind.common_steps}
 use Rattle.dd_output.specs.reading.Grammar.{yes_row}
 use Rattle.dd_output.proofs.bodies.yes_of.Goals as goal
 

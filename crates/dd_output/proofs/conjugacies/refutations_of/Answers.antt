@@ -1,6 +1,5 @@
 use Rattle.std.proofs.Common.{◌≡◌, ◌++◌, ◌∷◌, []}
-use Rattle.dd_output.specs.reading.Stops.{many_at}
-use Rattle.dd_output.specs.reading.Grammar.{refutation}
+use Rattle.dd_output.specs.reading.{Stops.many_at, Grammar.refutation}
 use Rattle.dd_output.proofs.Counts.{many_on}
 use Rattle.dd_output.proofs.conjugacies.refutations_of.Goals as goal
 

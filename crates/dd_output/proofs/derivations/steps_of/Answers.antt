@@ -1,7 +1,5 @@
-use Rattle.std.proofs.Common.{◌≡◌, ◌++◌, ◌∷◌, []}
-use Rattle.std.proofs.lemmas.Result.{err_from_is_err_and}
-use Rattle.dd_output.specs.reading.Stops.{many_at}
-use Rattle.dd_output.specs.reading.Grammar.{step}
+use Rattle.std.proofs.{Common.◌≡◌, Common.◌++◌, Common.◌∷◌, Common.[], lemmas.Result.err_from_is_err_and}
+use Rattle.dd_output.specs.reading.{Stops.many_at, Grammar.step}
 use Rattle.dd_output.proofs.Counts.{many_on, many_fails}
 use Rattle.dd_output.proofs.derivations.steps_of.Goals as goal
 

@@ -1,6 +1,5 @@
 use Rattle.std.proofs.Common.{◌≡◌, length}
-use Rattle.dd_output.specs.reading.Stops.{entries_at}
-use Rattle.dd_output.specs.reading.Lists.{literal_entry}
+use Rattle.dd_output.specs.reading.{Stops.entries_at, Lists.literal_entry}
 use Rattle.dd_output.proofs.Loops.{with_front}
 use Rattle.dd_output.proofs.lists.clause_of.Given as goal
 

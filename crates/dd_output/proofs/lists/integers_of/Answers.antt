@@ -1,9 +1,7 @@
 use Rattle.std.proofs.Common.{◌≡◌, ◌++◌, ◌∷◌, [], Ok, length, rules, w64, FitsSigned as SFits}
 use Rattle.std.proofs.lemmas.Int.{to_z-of_z}
-use Rattle.dd_output.specs.reading.Stops.{item, entries_at}
-use Rattle.dd_output.specs.reading.Lists.{signed_entry}
-use Rattle.dd_output.proofs.Loops.{goes_on}
-use Rattle.dd_output.proofs.Lines.{integers_unroll}
+use Rattle.dd_output.specs.reading.{Stops.item, Stops.entries_at, Lists.signed_entry}
+use Rattle.dd_output.proofs.{Loops.goes_on, Lines.integers_unroll}
 use Rattle.dd_output.proofs.lists.integers_of.Goals as goal
 
 pub loop-numbers-smaller : goal.loop-numbers-smaller

@@ -1,8 +1,6 @@
 use Rattle.std.proofs.Common.{◌≡◌, ◌++◌, ◌∷◌, [], Ok, length}
-use Rattle.dd_output.specs.reading.Stops.{item, entries_at}
-use Rattle.dd_output.specs.reading.Lists.{line_entry}
-use Rattle.dd_output.proofs.Loops.{goes_on}
-use Rattle.dd_output.proofs.Lines.{numbers_unroll}
+use Rattle.dd_output.specs.reading.{Stops.item, Stops.entries_at, Lists.line_entry}
+use Rattle.dd_output.proofs.{Loops.goes_on, Lines.numbers_unroll}
 use Rattle.dd_output.proofs.lists.numbers_of.Goals as goal
 
 pub loop-numbers-smaller : goal.loop-numbers-smaller

@@ -1,8 +1,6 @@
 use Rattle.std.proofs.Common.{◌≡◌, ◌++◌, ◌∷◌, [], Ok}
-use Rattle.dd_output.specs.reading.Stops.{item, entries_at}
-use Rattle.dd_output.specs.reading.Lists.{number_entry}
-use Rattle.dd_output.proofs.Loops.{goes_on}
-use Rattle.dd_output.proofs.EndedLists.{hint_unrolls}
+use Rattle.dd_output.specs.reading.{Stops.item, Stops.entries_at, Lists.number_entry}
+use Rattle.dd_output.proofs.{Loops.goes_on, EndedLists.hint_unrolls}
 use Rattle.dd_output.proofs.lists.numbers_until.Goals as goal
 
 pub loop-entry-smaller : goal.loop-entry-smaller

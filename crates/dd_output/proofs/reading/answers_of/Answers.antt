@@ -1,8 +1,6 @@
 use Rattle.std.proofs.Common.{◌≡◌, ◌++◌, ◌∷◌, [], Ok, length}
-use Rattle.dd_output.specs.reading.Stops.{item, entries_at}
-use Rattle.dd_output.specs.reading.Whole.{answer_entry}
-use Rattle.dd_output.proofs.Loops.{goes_on}
-use Rattle.dd_output.proofs.Outputs.{answer_unrolls}
+use Rattle.dd_output.specs.reading.{Stops.item, Stops.entries_at, Whole.answer_entry}
+use Rattle.dd_output.proofs.{Loops.goes_on, Outputs.answer_unrolls}
 use Rattle.dd_output.proofs.reading.answers_of.Goals as goal
 
 pub loop-answers-smaller : goal.loop-answers-smaller

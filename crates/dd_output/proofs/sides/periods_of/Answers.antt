@@ -1,8 +1,6 @@
 use Rattle.std.proofs.Common.{◌≡◌, ◌++◌, ◌∷◌, [], Ok, length}
-use Rattle.dd_output.specs.reading.Stops.{item, entries_at}
-use Rattle.dd_output.specs.reading.Periods.{period_entry}
-use Rattle.dd_output.proofs.Loops.{goes_on}
-use Rattle.dd_output.proofs.Periods.{periods_unroll}
+use Rattle.dd_output.specs.reading.{Stops.item, Stops.entries_at, Periods.period_entry}
+use Rattle.dd_output.proofs.{Loops.goes_on, Periods.periods_unroll}
 use Rattle.dd_output.proofs.sides.periods_of.Goals as goal
 
 pub loop-periods-smaller : goal.loop-periods-smaller

@@ -1,6 +1,5 @@
 use Rattle.std.proofs.Common.{◌≡◌, length}
-use Rattle.dd_output.specs.reading.Stops.{entries_at}
-use Rattle.dd_output.specs.reading.Periods.{period_entry}
+use Rattle.dd_output.specs.reading.{Stops.entries_at, Periods.period_entry}
 use Rattle.dd_output.proofs.Loops.{with_front}
 use Rattle.dd_output.proofs.sides.periods_of.Given as goal
 

@@ -1,8 +1,6 @@
 use Rattle.std.proofs.Common.{◌≡◌, ◌++◌, ◌∷◌, [], Ok, length}
-use Rattle.dd_output.specs.reading.Stops.{item, entries_at}
-use Rattle.dd_output.specs.reading.Stars.{kept_entry}
-use Rattle.dd_output.proofs.Loops.{goes_on}
-use Rattle.dd_output.proofs.Starred.{kept_unrolls}
+use Rattle.dd_output.specs.reading.{Stops.item, Stops.entries_at, Stars.kept_entry}
+use Rattle.dd_output.proofs.{Loops.goes_on, Starred.kept_unrolls}
 use Rattle.dd_output.proofs.stars.kept_of.Goals as goal
 
 pub loop-symbols-smaller : goal.loop-symbols-smaller

@@ -1,6 +1,5 @@
 use Rattle.std.proofs.Common.{◌≡◌, length}
-use Rattle.dd_output.specs.reading.Stops.{entries_at}
-use Rattle.dd_output.specs.reading.Stars.{kept_entry}
+use Rattle.dd_output.specs.reading.{Stops.entries_at, Stars.kept_entry}
 use Rattle.dd_output.proofs.Loops.{with_front}
 use Rattle.dd_output.proofs.stars.kept_of.Given as goal
 

@@ -1,10 +1,8 @@
-use Rattle.std.proofs.Common.{length, subst, sym, arith}
-use Rattle.std.proofs.lemmas.Grind.{common_steps}
+use Rattle.std.proofs.{Common.length, Common.subst, Common.sym, Common.arith, lemmas.Grind.common_steps}
 use Rattle.std.specs.List.{range_with_len}
-use Rattle.dd_boxes.specs.Cells.{box_cells}
+use Rattle.dd_boxes.specs.{Cells.box_cells, Views.goal_of}
 use Rattle.dd_problem.specs.pushing.Pushed.{HasAllSymbols}
 use Rattle.dd_problem.proofs.Templating.{box_near, numbered_full}
-use Rattle.dd_boxes.specs.Views.{goal_of}
 use Rattle.dd_problem.proofs.BoxCalls.{box_there, cells_are, inputs_are, ascends, inputs_few, nodes_there, signals_there, goal_wired, variables_few, exactly, showing, deciding}
 use Rattle.dd_problem.proofs.boxes.box_clauses.Goals as goal
 

@@ -1,26 +1,14 @@
 use Rattle.std.proofs.Common.{◌≡◌, ◌≤◌, ◌+◌, ◌∷◌, ◌++◌, [], length, ap, sym, subst, ◌∙◌, arith}
-use Rattle.std.proofs.lemmas.Grind.{common_steps}
-use Rattle.std.specs.Prelude.{Result, Ok, Err, IfOk, OnErr}
-use Rattle.std.specs.List.{All}
-use Rattle.std.proofs.lemmas.Bool.{and_parts}
-use Rattle.std.proofs.lemmas.Result.{IfOk-weaker}
-use Rattle.dd_lattice.specs.Cells.{cell}
-use Rattle.dd_lattice.specs.declared.position.Cell.{Cell}
-use Rattle.dd_formula.specs.Automata.{counted}
-use Rattle.dd_formula.specs.declared.automaton.Automaton.{Automaton}
-use Rattle.dd_circuit.specs.declared.gates.Signal.{Signal}
-use Rattle.dd_circuit.specs.declared.gates.Gate.{Gate}
-use Rattle.dd_circuit.specs.declared.gates.Gate.TheVariants.{Or}
+use Rattle.std.proofs.lemmas.{Grind.common_steps, Bool.and_parts, Result.IfOk-weaker}
+use Rattle.std.specs.{Prelude.Result, Prelude.Ok, Prelude.Err, Prelude.IfOk, Prelude.OnErr, List.All}
+use Rattle.dd_lattice.specs.{Cells.cell, declared.position.Cell.Cell}
+use Rattle.dd_formula.specs.{Automata.counted, declared.automaton.Automaton.Automaton}
+use Rattle.dd_circuit.specs.declared.gates.{Signal.Signal, Gate.Gate, Gate.TheVariants.Or}
 use Rattle.dd_circuit.specs.Circuits.{Network, IsSignal, size}
-use Rattle.dd_compile.specs.Compiling.{Extends}
-use Rattle.dd_compile.specs.Wiring.{Wiring}
-use Rattle.dd_compile.specs.ValueSignals.{are_wired_there}
-use Rattle.dd_compile.specs.lemmas.CaseGates.{itself}
-use Rattle.dd_compile.specs.lemmas.ChoiceLaws.{fresh_in_range}
-use Rattle.dd_compile.specs.lemmas.Progress.{Extends-trans}
+use Rattle.dd_compile.specs.{Compiling.Extends, Wiring.Wiring, ValueSignals.are_wired_there, lemmas.CaseGates.itself}
+use Rattle.dd_compile.specs.lemmas.{ChoiceLaws.fresh_in_range, Progress.Extends-trans, StillWired.still_wired}
 use Rattle.dd_boxes.specs.Boxes.{origin}
 use Rattle.dd_problem.specs.Differing.{apart, differ_made}
-use Rattle.dd_compile.specs.lemmas.StillWired.{still_wired}
 use Rattle.dd_problem.proofs.DifferSteps.{is_one, second_few, apart_few, last_few, parts_below, differ_gates, differ_signal}
 use Rattle.dd_problem.proofs.differing.compile_differ.Goals as goal
 

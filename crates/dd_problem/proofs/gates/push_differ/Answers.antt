@@ -1,13 +1,10 @@
-use Rattle.std.proofs.Common.{◌<◌, ◌^◌, ℕ, refl, arith}
-use Rattle.std.proofs.lemmas.Bool.{and_parts, and_from}
+use Rattle.std.proofs.{Common.◌<◌, Common.◌^◌, Common.ℕ, Common.refl, Common.arith, lemmas.Bool.and_parts, lemmas.Bool.and_from}
 use Rattle.std.proofs.lemmas.Result.{on_ok_weaker}
 use Rattle.dd_lattice.specs.Cells.{cell}
 use Rattle.dd_formula.specs.Automata.{counted}
 use Rattle.dd_circuit.specs.Circuits.{size}
 use Rattle.dd_cnf.specs.Encoding.{literal_of}
-use Rattle.dd_compile.specs.Compiling.{Maker}
-use Rattle.dd_compile.specs.ValueSignals.{are_wired_there}
-use Rattle.dd_compile.specs.lemmas.StillWired.{still_wired}
+use Rattle.dd_compile.specs.{Compiling.Maker, ValueSignals.are_wired_there, lemmas.StillWired.still_wired}
 use Rattle.dd_boxes.specs.Boxes.{origin}
 use Rattle.dd_problem.specs.Differing.{differ_made}
 use Rattle.dd_problem.proofs.NodesLeft.{node_few, node_step, nodes_done, true_in_range}

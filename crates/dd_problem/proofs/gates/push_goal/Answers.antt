@@ -1,12 +1,8 @@
 use Rattle.std.proofs.Common.{arith, subst}
 use Rattle.dd_circuit.specs.Circuits.{size}
 use Rattle.dd_lattice.specs.Cells.{cell}
-use Rattle.dd_boxes.specs.Boxes.{origin}
-use Rattle.dd_problem.specs.pushing.Pushed.{is_wired_at}
-use Rattle.dd_problem.specs.lemmas.Wiring.{range_at}
-use Rattle.dd_boxes.specs.Goals.{IsGoalFor}
-use Rattle.dd_boxes.specs.Views.{goal_of, numbers_of}
-use Rattle.dd_problem.specs.pushing.Pushed.{are_both_wired}
+use Rattle.dd_boxes.specs.{Boxes.origin, Goals.IsGoalFor, Views.goal_of, Views.numbers_of}
+use Rattle.dd_problem.specs.{pushing.Pushed.is_wired_at, pushing.Pushed.are_both_wired, lemmas.Wiring.range_at}
 use Rattle.dd_problem.proofs.gates.push_goal.Goals as goal
 
 pub push_differ-requires-clause-over : goal.push_differ-requires-clause-over

@@ -1,20 +1,14 @@
 use Rattle.std.proofs.Common.{◌≡◌, ◌∷◌, [], Bool, List, ap, sym, subst, ◌∙◌, arith, true, false, OnOk}
 use Rattle.dd_lattice.specs.declared.position.Cell.{Cell}
 use Rattle.dd_circuit.specs.Circuits.{Network, size}
-use Rattle.dd_compile.specs.Compiling.{gate_count}
-use Rattle.dd_compile.specs.RuleSignals.{are_reads_wired}
-use Rattle.dd_compile.specs.Templates.{RuleAt}
-use Rattle.dd_compile.specs.Wiring.{Wiring}
+use Rattle.dd_compile.specs.{Compiling.gate_count, RuleSignals.are_reads_wired, Templates.RuleAt, Wiring.Wiring}
 use Rattle.dd_formula.specs.LocalRule.{LocalRule, expansion_at}
-use Rattle.dd_problem.specs.Clauses.{Part, part_gates, part_clauses}
-use Rattle.dd_problem.specs.Encodings.{with_parts}
-use Rattle.dd_problem.specs.pushing.Pushed.{wired_part, wired_parts}
-use Rattle.dd_problem.specs.lemmas.Growing.{extended_size}
-use Rattle.dd_problem.proofs.PlacesLeft.{taken, place_count, nothing_added}
-use Rattle.dd_problem.proofs.Templating.{reads_tell}
+use Rattle.dd_problem.specs.{Clauses.Part, Clauses.part_gates, Clauses.part_clauses, Encodings.with_parts}
+use Rattle.dd_problem.specs.{pushing.Pushed.wired_part, pushing.Pushed.wired_parts, lemmas.Growing.extended_size}
+use Rattle.dd_problem.proofs.{PlacesLeft.taken, PlacesLeft.place_count, PlacesLeft.nothing_added, Templating.reads_tell}
 use Rattle.dd_problem.proofs.gates.push_if_wired.Goals as goal
 
--- what is tested of the encoder's circuit
+-- the test of the encoder's circuit
 read_of : (k circuit : Network) (w : Wiring) (x : LocalRule) (d : Cell) (r : Bool) → k ≡ circuit → r ≡ are_reads_wired (size k) w x d → r ≡ are_reads_wired (size circuit) w x d
 read_of k circuit w x d r same read = read ∙ ap (λ (j : Network). are_reads_wired (size j) w x d) same
 

@@ -1,5 +1,4 @@
-use Rattle.std.proofs.Common.{◌^◌, ap, arith}
-use Rattle.std.proofs.lemmas.Result.{on_ok_weaker}
+use Rattle.std.proofs.{Common.◌^◌, Common.ap, Common.arith, lemmas.Result.on_ok_weaker}
 use Rattle.dd_circuit.specs.Circuits.{size}
 use Rattle.dd_cnf.specs.Encoding.{opposing}
 use Rattle.dd_compile.specs.Compiling.{compiled}

@@ -1,6 +1,5 @@
 use Rattle.std.proofs.Common.{sym, subst}
-use Rattle.dd_boxes.specs.Goals.{AreAlike, IsGoalFor}
-use Rattle.dd_boxes.specs.Views.{goal_of}
+use Rattle.dd_boxes.specs.{Goals.AreAlike, Goals.IsGoalFor, Views.goal_of}
 use Rattle.dd_problem.specs.pushing.Told.{IsToldGoal}
 use Rattle.dd_problem.proofs.goals.told_goal.Goals as goal
 

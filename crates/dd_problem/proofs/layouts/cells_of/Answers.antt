@@ -1,9 +1,7 @@
 use Rattle.std.proofs.Common.{◌≡◌, ◌*◌, ◌++◌, ◌∷◌, [], map, ap, sym, ◌∙◌, arith}
-use Rattle.std.specs.Prelude.{◌-◌}
-use Rattle.std.specs.List.{range_with_len}
+use Rattle.std.specs.{Prelude.◌-◌, List.range_with_len}
 use Rattle.dd_lattice.specs.Boxes.{volume}
-use Rattle.dd_problem.specs.Layouts.{nth_cell}
-use Rattle.dd_problem.specs.lemmas.CellOrder.{cells_by_number}
+use Rattle.dd_problem.specs.{Layouts.nth_cell, lemmas.CellOrder.cells_by_number}
 use Rattle.dd_problem.specs.lemmas.RangesLeft.{range_to, left_step, left_ends}
 use Rattle.dd_problem.proofs.layouts.cells_of.Goals as goal
 

@@ -1,6 +1,5 @@
 use Rattle.std.proofs.Common.{◌≡◌, ◌++◌, map}
-use Rattle.dd_problem.specs.Layouts.{nth_cell}
-use Rattle.dd_problem.specs.lemmas.RangesLeft.{range_to}
+use Rattle.dd_problem.specs.{Layouts.nth_cell, lemmas.RangesLeft.range_to}
 use Rattle.dd_problem.proofs.layouts.cells_of.Given as goal
 
 abbrev pub invariant-loop-number : goal.invariant-loop-number

@@ -1,6 +1,5 @@
-use Rattle.std.proofs.Common.{length, arith}
+use Rattle.std.proofs.{Common.length, Common.arith, lemmas.List.FromFn.length-range_with_len}
 use Rattle.std.specs.List.{range_with_len}
-use Rattle.std.proofs.lemmas.List.FromFn.{length-range_with_len}
 use Rattle.dd_problem.proofs.Inputting.{before_next, numbered_step, numbered_whole, turn_read}
 use Rattle.dd_problem.proofs.layouts.inputs_in_turn.Goals as goal
 

@@ -1,5 +1,4 @@
-use Rattle.std.proofs.Common.{◌*◌, ◌<◌, ℕ, zero, suc, arith}
-use Rattle.std.proofs.lemmas.Grind.{common_steps}
+use Rattle.std.proofs.{Common.◌*◌, Common.◌<◌, Common.ℕ, Common.zero, Common.suc, Common.arith, lemmas.Grind.common_steps}
 use Rattle.dd_lattice.specs.Boxes.{volume}
 use Rattle.dd_problem.proofs.layouts.nth_cell.Goals as goal
 

@@ -1,7 +1,6 @@
 use Rattle.std.proofs.Common.{◌≡◌, ◌+◌, ◌*◌, ◌++◌, ◌∷◌, [], suc, map, ap, ◌∙◌, arith}
 use Rattle.dd_circuit.specs.Circuits.{signal_of}
-use Rattle.dd_problem.specs.Clauses.{input}
-use Rattle.dd_problem.specs.lemmas.RangesLeft.{range_to, left_step}
+use Rattle.dd_problem.specs.{Clauses.input, lemmas.RangesLeft.range_to, lemmas.RangesLeft.left_step}
 use Rattle.dd_problem.proofs.layouts.symbol_signals.Goals as goal
 
 pub loop-symbol-preserved : goal.loop-symbol-preserved

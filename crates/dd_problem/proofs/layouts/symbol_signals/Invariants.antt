@@ -1,7 +1,6 @@
 use Rattle.std.proofs.Common.{◌≡◌, ◌++◌, map}
 use Rattle.dd_circuit.specs.Circuits.{signal_of}
-use Rattle.dd_problem.specs.Clauses.{input}
-use Rattle.dd_problem.specs.lemmas.RangesLeft.{range_to}
+use Rattle.dd_problem.specs.{Clauses.input, lemmas.RangesLeft.range_to}
 use Rattle.dd_problem.proofs.layouts.symbol_signals.Given as goal
 
 abbrev pub invariant-loop-symbol : goal.invariant-loop-symbol

@@ -1,6 +1,5 @@
 use Rattle.std.proofs.Common.{◌++◌, ap, ◌∙◌, arith}
-use Rattle.dd_problem.specs.Clauses.{symbol_clauses}
-use Rattle.dd_problem.specs.lemmas.RangesLeft.{cells_step}
+use Rattle.dd_problem.specs.{Clauses.symbol_clauses, lemmas.RangesLeft.cells_step}
 use Rattle.dd_problem.proofs.one_hot.push_cells.Goals as goal
 
 pub loop-cell-preserved : goal.loop-cell-preserved

@@ -1,6 +1,5 @@
 use Rattle.std.proofs.Common.{◌≡◌, ◌++◌}
-use Rattle.std.specs.Prelude.{not}
-use Rattle.std.specs.List.{filter, range_with_len}
+use Rattle.std.specs.{Prelude.not, List.filter, List.range_with_len}
 use Rattle.dd_formula.specs.LocalRule.{rule_allows}
 use Rattle.dd_problem.specs.Clauses.{none_of}
 use Rattle.dd_problem.proofs.one_hot.push_disallowed.Given as goal

@@ -1,6 +1,5 @@
 use Rattle.std.proofs.Common.{◌∙◌, ◌++◌}
-use Rattle.dd_problem.specs.Clauses.{pairs}
-use Rattle.dd_problem.specs.lemmas.RangesLeft.{range_to, pairs_step}
+use Rattle.dd_problem.specs.{Clauses.pairs, lemmas.RangesLeft.range_to, lemmas.RangesLeft.pairs_step}
 use Rattle.dd_problem.proofs.one_hot.push_pairs.Goals as goal
 
 pub loop-first-preserved : goal.loop-first-preserved

@@ -1,6 +1,5 @@
 use Rattle.std.proofs.Common.{◌≡◌, ◌++◌}
-use Rattle.dd_problem.specs.Clauses.{pairs}
-use Rattle.dd_problem.specs.lemmas.RangesLeft.{range_to}
+use Rattle.dd_problem.specs.{Clauses.pairs, lemmas.RangesLeft.range_to}
 use Rattle.dd_problem.proofs.one_hot.push_pairs.Given as goal
 
 abbrev pub invariant-loop-first : goal.invariant-loop-first

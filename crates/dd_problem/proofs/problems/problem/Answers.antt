@@ -1,7 +1,6 @@
 use Rattle.std.proofs.Common.{◌*◌, ◌^◌, ◌∙◌, length, ap, sym, subst}
 use Rattle.dd_boxes.specs.Views.{goal_of}
-use Rattle.dd_problem.specs.Encodings.{Encoding}
-use Rattle.dd_problem.specs.pushing.Pushed.{AreInputs}
+use Rattle.dd_problem.specs.{Encodings.Encoding, pushing.Pushed.AreInputs}
 use Rattle.dd_problem.proofs.Whole.{begins, places_room, goal_room, goal_there, whole}
 use Rattle.dd_problem.proofs.problems.problem.Goals as goal
 

@@ -2,8 +2,7 @@ use Rattle.std.proofs.Common.{◌≡◌, List, subst}
 use Rattle.std.specs.Prelude.{IfOk}
 use Rattle.dd_lattice.specs.declared.position.Cell.{Cell}
 use Rattle.dd_boxes.specs.Views.{goal_of}
-use Rattle.dd_problem.proofs.NearCalls.{box_there, box_is_few, box_is}
-use Rattle.dd_problem.proofs.TorusReach.{told_is_goal}
+use Rattle.dd_problem.proofs.{NearCalls.box_there, NearCalls.box_is_few, NearCalls.box_is, TorusReach.told_is_goal}
 use Rattle.dd_problem.proofs.tori.goal_cells.Goals as goal
 
 pub least_radius-requires : goal.least_radius-requires

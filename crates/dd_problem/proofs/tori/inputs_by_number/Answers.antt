@@ -1,5 +1,4 @@
-use Rattle.std.proofs.Common.{◌^◌, map}
-use Rattle.std.proofs.lemmas.List.{length-map}
+use Rattle.std.proofs.{Common.◌^◌, Common.map, lemmas.List.length-map}
 use Rattle.dd_problem.specs.pushing.Near.{number_at}
 use Rattle.dd_problem.proofs.Inputting.{before_next, numbered_step, number_few, number_read}
 use Rattle.dd_problem.proofs.tori.inputs_by_number.Goals as goal

@@ -1,9 +1,7 @@
 use Rattle.std.proofs.Common.{◌<◌, ◌≤◌, ◌∙◌}
 use Rattle.dd_lattice.specs.declared.position.Cell.{Cell}
 use Rattle.dd_topology.specs.Topology.{extent}
-use Rattle.dd_boxes.specs.Boxes.{goal_reach}
-use Rattle.dd_boxes.specs.Cells.{box_cells}
-use Rattle.dd_boxes.specs.Views.{goal_of}
+use Rattle.dd_boxes.specs.{Boxes.goal_reach, Cells.box_cells, Views.goal_of}
 use Rattle.dd_problem.proofs.NearCalls.{reads_near, near_more, near_all, item_of}
 use Rattle.dd_problem.proofs.tori.near_cells.Goals as goal
 

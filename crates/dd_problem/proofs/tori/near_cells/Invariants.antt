@@ -1,8 +1,6 @@
 use Rattle.std.proofs.Common.{◌≡◌, ◌++◌, take}
 use Rattle.std.specs.List.{flat_map}
-use Rattle.dd_boxes.specs.Boxes.{goal_reach}
-use Rattle.dd_boxes.specs.Cells.{box_cells}
-use Rattle.dd_boxes.specs.Views.{goal_of}
+use Rattle.dd_boxes.specs.{Boxes.goal_reach, Cells.box_cells, Views.goal_of}
 use Rattle.dd_problem.specs.pushing.Near.{read_cells}
 use Rattle.dd_problem.proofs.tori.near_cells.Given as goal
 

@@ -1,6 +1,5 @@
-use Rattle.std.proofs.Common.{rules}
+use Rattle.std.proofs.{Common.rules, lemmas.List.Filters.dedup_is}
 use Rattle.std.specs.Cmp.Rules.{comparing}
-use Rattle.std.proofs.lemmas.List.Filters.{dedup_is}
 use Rattle.dd_problem.proofs.OnceEach.{once_is}
 use Rattle.dd_problem.proofs.tori.once_each.Goals as goal
 

@@ -1,5 +1,4 @@
-use Rattle.dd_formula.specs.LocalRule.{is_near}
-use Rattle.dd_formula.specs.lemmas.AutomatonLaws.{passes_at}
+use Rattle.dd_formula.specs.{LocalRule.is_near, lemmas.AutomatonLaws.passes_at}
 use Rattle.dd_problem.proofs.NearCalls.{moved_more, moved_all}
 use Rattle.dd_problem.proofs.tori.push_shifted.Goals as goal
 

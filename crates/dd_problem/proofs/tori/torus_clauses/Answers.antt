@@ -1,12 +1,10 @@
 use Rattle.std.proofs.Common.{map, subst, sym, arith}
-use Rattle.dd_problem.specs.pushing.Near.{near_cells, number_at, numbered_tile}
-use Rattle.dd_problem.specs.Layouts.{torus_cells}
-use Rattle.dd_problem.specs.pushing.Pushed.{HasAllSymbols}
-use Rattle.dd_problem.specs.lemmas.TorusSizes.{torus_sizes}
+use Rattle.dd_problem.specs.{pushing.Near.near_cells, pushing.Near.number_at, pushing.Near.numbered_tile, Layouts.torus_cells}
+use Rattle.dd_problem.specs.{pushing.Pushed.HasAllSymbols, lemmas.TorusSizes.torus_sizes}
 use Rattle.dd_problem.proofs.Templating.{numbered_full, torus_near}
+use Rattle.dd_problem.proofs.TorusCalls.{cells_few, cells_are, nodes_there, signals_there, goal_wired, variables_few, exactly, showing}
 use Rattle.dd_pattern.specs.Periods.{periods_of}
 use Rattle.dd_boxes.specs.Views.{goal_of}
-use Rattle.dd_problem.proofs.TorusCalls.{cells_few, cells_are, nodes_there, signals_there, goal_wired, variables_few, exactly, showing}
 use Rattle.dd_problem.proofs.tori.torus_clauses.Goals as goal
 
 pub fundamental-requires-clause-x : goal.fundamental-requires-clause-x

@@ -1,9 +1,7 @@
 use Rattle.std.proofs.Common.{◌≡◌, ◌*◌, ap, ◌∙◌, arith, sym, subst}
 use Rattle.dd_values.specs.Variables.{true_variables}
-use Rattle.dd_pattern.specs.Periods.{periods_of, periods_volume}
-use Rattle.dd_pattern.specs.Tile.{Tile, tile}
-use Rattle.dd_problem.specs.Symbols.{AreRead}
-use Rattle.dd_problem.specs.lemmas.TorusSizes.{torus_sizes}
+use Rattle.dd_pattern.specs.{Periods.periods_of, Periods.periods_volume, Tile.Tile, Tile.tile}
+use Rattle.dd_problem.specs.{Symbols.AreRead, lemmas.TorusSizes.torus_sizes}
 use Rattle.dd_problem.proofs.TorusCalls.{count_fits}
 use Rattle.dd_problem.proofs.SymbolsRead.{one_each_there, made_is, read_made, read_only, read_there}
 use Rattle.dd_problem.proofs.witnesses.read_torus.Goals as goal

@@ -1,7 +1,6 @@
 use Rattle.std.proofs.Common.{subst, arith}
 use Rattle.dd_formula.specs.declared.automaton.Automaton.{Automaton}
-use Rattle.dd_boxes.specs.Goals.{AreOver, IsGoalFor}
-use Rattle.dd_boxes.specs.Views.{goal_of, numbers_of}
+use Rattle.dd_boxes.specs.{Goals.AreOver, Goals.IsGoalFor, Views.goal_of, Views.numbers_of}
 use Rattle.dd_question.proofs.aims.aim_of.Goals as goal
 
 pub differing-requires : goal.differing-requires

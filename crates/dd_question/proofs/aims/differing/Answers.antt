@@ -1,8 +1,5 @@
 use Rattle.std.proofs.Common.{◌≡◌, ap, ◌∙◌, arith}
-use Rattle.dd_formula.specs.declared.automaton.Automaton.{Automaton}
-use Rattle.dd_formula.specs.Counts.{cut}
-use Rattle.dd_formula.specs.Reach.{automaton_reach}
-use Rattle.dd_formula.specs.ValueCounts.{differ_clauses}
+use Rattle.dd_formula.specs.{declared.automaton.Automaton.Automaton, Counts.cut, Reach.automaton_reach, ValueCounts.differ_clauses}
 use Rattle.dd_boxes.specs.Counts.{most_clauses}
 use Rattle.dd_question.proofs.aims.differing.Goals as goal
 

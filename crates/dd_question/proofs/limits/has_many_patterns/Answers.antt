@@ -1,9 +1,8 @@
 use Rattle.std.proofs.Common.{◌≡◌, ℕ, Bool, true, false, sym, ◌∙◌, arith}
-use Rattle.std.specs.Prelude.{nat_lt}
 use Rattle.std.proofs.lemmas.Bool.{lt-ltb, le-ltb}
+use Rattle.std.specs.Prelude.{nat_lt}
 use Rattle.dd_counts.specs.Rules.{pattern_count, most_patterns}
-use Rattle.dd_question.proofs.CutLaws.{passes}
-use Rattle.dd_question.proofs.LimitLaws.{none_more, some_at}
+use Rattle.dd_question.proofs.{CutLaws.passes, LimitLaws.none_more, LimitLaws.some_at}
 use Rattle.dd_question.proofs.limits.has_many_patterns.Goals as goal
 
 pub returns-then-patterns-gt-MOST_PATTERNS : goal.returns-then-patterns-gt-MOST_PATTERNS

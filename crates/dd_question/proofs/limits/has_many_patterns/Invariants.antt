@@ -1,6 +1,5 @@
 use Rattle.std.proofs.Common.{◌≡◌, false}
-use Rattle.std.specs.Prelude.{nat_lt}
-use Rattle.std.specs.List.{list_any, range_with_len}
+use Rattle.std.specs.{Prelude.nat_lt, List.list_any, List.range_with_len}
 use Rattle.dd_counts.specs.Rules.{pattern_count, most_patterns}
 use Rattle.dd_question.proofs.limits.has_many_patterns.Given as goal
 

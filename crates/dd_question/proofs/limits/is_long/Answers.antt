@@ -1,5 +1,4 @@
-use Rattle.dd_boxes.specs.Views.{goal_of}
-use Rattle.dd_boxes.specs.Counts.{goal_clauses}
+use Rattle.dd_boxes.specs.{Views.goal_of, Counts.goal_clauses}
 use Rattle.dd_question.proofs.CutLaws.{long_is}
 use Rattle.dd_question.proofs.limits.is_long.Goals as goal
 

@@ -1,7 +1,6 @@
 use Rattle.std.proofs.Common.{◌≤◌, length, take, get_or, refl, sym, subst, arith}
+use Rattle.std.proofs.lemmas.List.{take_more, take_all, Elements.All-push}
 use Rattle.std.specs.List.{All}
-use Rattle.std.proofs.lemmas.List.{take_more, take_all}
-use Rattle.std.proofs.lemmas.List.Elements.{All-push}
 use Rattle.dd_boxes.specs.Discharges.{IsVector}
 use Rattle.dd_question.proofs.parts.are_short.Goals as goal
 

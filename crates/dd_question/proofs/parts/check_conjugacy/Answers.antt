@@ -1,7 +1,5 @@
-use Rattle.std.proofs.Common.{refl, arith}
-use Rattle.std.proofs.lemmas.Result.{err_from_is_err_and, IfErr-weaker}
-use Rattle.dd_question.specs.Conjugacies.{conjugacy_of}
-use Rattle.dd_question.specs.Questions.{conjugacy_fault}
+use Rattle.std.proofs.{Common.refl, Common.arith, lemmas.Result.err_from_is_err_and, lemmas.Result.IfErr-weaker}
+use Rattle.dd_question.specs.{Conjugacies.conjugacy_of, Questions.conjugacy_fault}
 use Rattle.dd_question.proofs.parts.check_conjugacy.Goals as goal
 
 pub returns-in_err-check_box-clause-fault : goal.returns-in_err-check_box-clause-fault

@@ -1,8 +1,7 @@
-use Rattle.std.proofs.Common.{◌≡◌}
-use Rattle.std.proofs.lemmas.Result.{IfOk-weaker}
+use Rattle.std.proofs.{Common.◌≡◌, lemmas.Result.IfOk-weaker}
 use Rattle.dd_respond.specs.Right.{written_equality, IsRightEqual}
-use Rattle.dd_respond.proofs.AskingLaws.{any_ok}
 use Rattle.dd_respond.proofs.WritableLaws.{equality_fits}
+use Rattle.dd_values.specs.lemmas.Results.{any_ok}
 use Rattle.dd_respond.proofs.boxes.compared.Goals as goal
 
 pub returns-clause-right : goal.returns-clause-right

@@ -1,9 +1,8 @@
-use Rattle.std.proofs.Common.{◌≡◌}
-use Rattle.std.proofs.lemmas.Result.{IfOk-weaker}
+use Rattle.std.proofs.{Common.◌≡◌, lemmas.Result.IfOk-weaker}
 use Rattle.dd_boxes.specs.Views.{goal_of}
 use Rattle.dd_respond.specs.Right.{written_decision, IsRightBox}
-use Rattle.dd_respond.proofs.AskingLaws.{any_ok}
 use Rattle.dd_respond.proofs.WritableLaws.{decision_fits}
+use Rattle.dd_values.specs.lemmas.Results.{any_ok}
 use Rattle.dd_respond.proofs.boxes.decided.Goals as goal
 
 pub returns-clause-right : goal.returns-clause-right

@@ -1,9 +1,7 @@
-use Rattle.std.proofs.Common.{◌≡◌, subst, sym}
-use Rattle.std.proofs.lemmas.Result.{IfOk-weaker}
+use Rattle.std.proofs.{Common.◌≡◌, Common.subst, Common.sym, lemmas.Result.IfOk-weaker}
 use Rattle.dd_certificate.specs.Bounds.{IsWritable}
 use Rattle.dd_question.specs.Conjugacies.{conjugacy_of}
-use Rattle.dd_respond.specs.Conjugacies.{written_broken, IsRightConjugacy}
-use Rattle.dd_respond.specs.joining.Findings.{AreFound, IsFailed}
+use Rattle.dd_respond.specs.{Conjugacies.written_broken, Conjugacies.IsRightConjugacy, joining.Findings.AreFound, joining.Findings.IsFailed}
 use Rattle.dd_respond.proofs.Joining.{nothing_found, found_right, found_fits, failed_right}
 use Rattle.dd_respond.proofs.conjugacies.conjugate.Goals as goal
 

@@ -1,11 +1,9 @@
 use Rattle.std.proofs.Common.{rules, ◌≡◌, arith, ◌+◌, subst, sym, refl}
 use Rattle.dd_question.specs.Conjugacies.{conjugacy_of}
-use Rattle.dd_respond.specs.Writable.{IsWritableDecision}
-use Rattle.dd_respond.specs.Conjugacies.{ComesTo}
-use Rattle.dd_respond.specs.joining.Findings.{AreFound}
+use Rattle.dd_respond.specs.{Writable.IsWritableDecision, Conjugacies.ComesTo, joining.Findings.AreFound}
 use Rattle.dd_respond.proofs.Joining.{yes_found, unknown_found}
-use Rattle.dd_respond.proofs.conjugacies.first_failed.Goals as goal
 use Rattle.dd_respond.proofs.conjugacies.first_failed.Goals.{in-Yes+in_ok-push-in-Yes, in-Unknown}
+use Rattle.dd_respond.proofs.conjugacies.first_failed.Goals as goal
 
 pub loop-number-preserved : goal.loop-number-preserved
 loop-number-preserved g c =

@@ -1,6 +1,5 @@
 use Rattle.std.proofs.Common.{◌<◌}
-use Rattle.dd_engines.specs.Rosters.{roster_seen}
-use Rattle.dd_engines.specs.Rounds.{Kept, FirstAsked}
+use Rattle.dd_engines.specs.{Rosters.roster_seen, Rounds.Kept, Rounds.FirstAsked}
 use Rattle.dd_question.specs.Conjugacies.{conjugacy_of}
 use Rattle.dd_respond.specs.joining.Findings.{AreFound}
 use Rattle.dd_respond.proofs.conjugacies.first_failed.Given as goal

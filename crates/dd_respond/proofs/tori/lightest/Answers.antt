@@ -1,5 +1,4 @@
-use Rattle.std.proofs.Common.{◌≡◌, sym, subst}
-use Rattle.std.proofs.lemmas.Result.{IfOk-weaker}
+use Rattle.std.proofs.{Common.◌≡◌, Common.sym, Common.subst, lemmas.Result.IfOk-weaker}
 use Rattle.dd_certificate.specs.Bounds.{IsWritable}
 use Rattle.dd_respond.specs.Tori.{written_weight, IsRightLeast}
 use Rattle.dd_respond.proofs.Weighing.{least_right, found_fits}

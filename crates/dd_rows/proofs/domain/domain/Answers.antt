@@ -1,10 +1,7 @@
-use Rattle.std.proofs.Common.{sym, subst, arith}
-use Rattle.std.proofs.lemmas.Grind.{common_steps}
-use Rattle.dd_lattice.specs.Place.{Place}
-use Rattle.dd_lattice.specs.Regions.{IsMoved, LeavesRange}
+use Rattle.std.proofs.{Common.sym, Common.subst, Common.arith, lemmas.Grind.common_steps}
+use Rattle.dd_lattice.specs.{Place.Place, Regions.IsMoved, Regions.LeavesRange}
 use Rattle.dd_boxes.specs.Discharges.{IsVector}
-use Rattle.dd_rows.proofs.DomainLaws.{domain_next}
-use Rattle.dd_rows.proofs.Reach.{moved_stays}
+use Rattle.dd_rows.proofs.{DomainLaws.domain_next, Reach.moved_stays}
 use Rattle.dd_rows.proofs.domain.domain.Goals as goal
 
 pub unreachable-requires : goal.unreachable-requires

@@ -2,8 +2,7 @@ use Rattle.std.proofs.Common.{sym, subst}
 use Rattle.std.specs.List.{All}
 use Rattle.dd_lattice.specs.Regions.{IsNearby, LeavesRange}
 use Rattle.dd_boxes.specs.Discharges.{IsVector}
-use Rattle.dd_rows.proofs.GroundLaws.{grounded}
-use Rattle.dd_rows.proofs.Reach.{grown_stays}
+use Rattle.dd_rows.proofs.{GroundLaws.grounded, Reach.grown_stays}
 use Rattle.dd_rows.proofs.domain.ground.Goals as goal
 
 pub unreachable-requires : goal.unreachable-requires

@@ -1,6 +1,5 @@
 use Rattle.std.proofs.Common.{ap}
-use Rattle.dd_rows.specs.listing.Formulas.{are_all_true}
-use Rattle.dd_rows.specs.lemmas.FormulaLaws.{say_next}
+use Rattle.dd_rows.specs.{listing.Formulas.are_all_true, lemmas.FormulaLaws.say_next}
 use Rattle.dd_rows.proofs.places.formulas.Goals as goal
 
 pub loop-place-init : goal.loop-place-init

@@ -1,5 +1,4 @@
-use Rattle.std.proofs.Common.{length, ap, arith}
-use Rattle.std.proofs.lemmas.List.{length-map}
+use Rattle.std.proofs.{Common.length, Common.ap, Common.arith, lemmas.List.length-map}
 use Rattle.dd_rows.specs.listing.Sparse.{dense}
 use Rattle.dd_rows.proofs.SparseLaws.{same_sparse, sparse_tells, with_row}
 use Rattle.dd_rows.proofs.program.add_row.Goals as goal

@@ -1,8 +1,7 @@
 use Rattle.std.proofs.Common.{◌≡◌, ◌+◌, ◌*◌, min, ◌∙◌, ap, length, arith}
 use Rattle.std.proofs.lemmas.Grind.{common_steps}
 use Rattle.std.specs.List.{flat_map}
-use Rattle.dd_rows.specs.Patterns.{in_lexicographic_order}
-use Rattle.dd_rows.specs.listing.Views.{patterns_seen, with_patterns}
+use Rattle.dd_rows.specs.{Patterns.in_lexicographic_order, listing.Views.patterns_seen, listing.Views.with_patterns}
 use Rattle.dd_rows.proofs.RowLaws.{patterns_next, patterns_grow, columns_large}
 use Rattle.dd_rows.proofs.program.all_patterns.Goals as goal
 

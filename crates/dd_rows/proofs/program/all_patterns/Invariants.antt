@@ -1,8 +1,6 @@
 use Rattle.std.proofs.Common.{◌≡◌, ◌≤◌, take, length}
 use Rattle.std.specs.List.{flat_map}
-use Rattle.dd_rows.specs.Patterns.{in_lexicographic_order}
-use Rattle.dd_rows.specs.Programs.{column_count, most_columns}
-use Rattle.dd_rows.specs.listing.Views.{patterns_seen}
+use Rattle.dd_rows.specs.{Patterns.in_lexicographic_order, Programs.column_count, Programs.most_columns, listing.Views.patterns_seen}
 use Rattle.dd_rows.proofs.program.all_patterns.Given as goal
 
 abbrev pub invariant-loop-symbols : goal.invariant-loop-symbols

@@ -1,12 +1,8 @@
-use Rattle.std.proofs.Common.{◌≡◌, ℕ, sym, ◌∙◌, ap, get_or, take, max, rules}
-use Rattle.std.specs.Ordering.{nat_cmp, ord_max}
-use Rattle.std.proofs.lemmas.List.{take_more}
+use Rattle.std.proofs.{Common.sym, Common.◌∙◌, Common.ap, Common.get_or, Common.take, Common.max, lemmas.List.take_more}
 use Rattle.dd_expansion.specs.Limits.{greatest}
 use Rattle.dd_rows.specs.lemmas.Lists.{greatest_push}
+use Rattle.dd_formula.specs.lemmas.FarthestLaws.{greater_is}
 use Rattle.dd_rows.proofs.program.greatest_weight.Goals as goal
-
-greater_is : (a b : ℕ) → ord_max nat_cmp a b ≡ max a b
-greater_is a b = search rules
 
 pub loop-weight-preserved : goal.loop-weight-preserved
 loop-weight-preserved c =

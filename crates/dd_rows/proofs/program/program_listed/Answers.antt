@@ -1,9 +1,7 @@
 use Rattle.std.proofs.Common.{◌≡◌, ◌<◌, ◌≤◌, ◌∙◌, length, map, sym, ap, subst, inl, inr, arith}
-use Rattle.std.proofs.lemmas.Result.{err_from_is_err_and}
-use Rattle.std.proofs.lemmas.List.{length-map}
+use Rattle.std.proofs.lemmas.{Result.err_from_is_err_and, List.length-map}
 use Rattle.dd_rows.specs.Programs.{first_seen, column_count, most_columns, most_rows}
-use Rattle.dd_rows.specs.listing.Sparse.{dense, asked_rows}
-use Rattle.dd_rows.specs.listing.Shown.{patterns_shown, IsLargeShown}
+use Rattle.dd_rows.specs.listing.{Sparse.dense, Sparse.asked_rows, Shown.patterns_shown, Shown.IsLargeShown}
 use Rattle.dd_rows.proofs.Steps.{on_large_weaker}
 use Rattle.dd_rows.proofs.program.program_listed.Goals as goal
 

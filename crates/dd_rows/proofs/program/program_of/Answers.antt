@@ -1,10 +1,8 @@
 use Rattle.std.proofs.Common.{◌≡◌, ◌*◌, ◌∙◌, length, ap, subst, arith}
 use Rattle.std.proofs.lemmas.Result.{IfOk-weaker, IfErr-weaker, err_from_is_err_and}
 use Rattle.dd_expansion.specs.Limits.{greatest}
-use Rattle.dd_rows.specs.Faults.{OnLarge}
-use Rattle.dd_rows.specs.Fillings.{fillings, HasFewFillings}
-use Rattle.dd_rows.specs.Programs.{IsProgramOf, IsLargeProgram, IsRowsFault}
-use Rattle.dd_rows.specs.listing.Views.{AreViews}
+use Rattle.dd_rows.specs.{Faults.OnLarge, Fillings.fillings, Fillings.HasFewFillings}
+use Rattle.dd_rows.specs.{Programs.IsProgramOf, Programs.IsLargeProgram, Programs.IsRowsFault, listing.Views.AreViews}
 use Rattle.dd_rows.specs.listing.Shown.{IsProgramShown, IsLargeShown}
 use Rattle.dd_rows.proofs.Steps.{on_large_weaker}
 use Rattle.dd_rows.proofs.ProgramLaws.{memory_fault, fillings_known, centre_size, program_from, large_from}

@@ -1,10 +1,7 @@
-use Rattle.std.proofs.Common.{length, subst, sym}
-use Rattle.std.proofs.lemmas.Result.{IfOk-weaker, IfErr-weaker}
-use Rattle.dd_rows.specs.Faults.{OnLarge}
-use Rattle.dd_rows.specs.listing.Shown.{IsProgramShown, IsLargeShown}
+use Rattle.std.proofs.{Common.length, Common.subst, Common.sym, lemmas.Result.IfOk-weaker, lemmas.Result.IfErr-weaker}
+use Rattle.dd_rows.specs.{Faults.OnLarge, listing.Shown.IsProgramShown, listing.Shown.IsLargeShown}
 use Rattle.dd_rows.specs.listing.Repeats.{ShowsSame, HasKnown}
-use Rattle.dd_rows.proofs.Steps.{on_large_weaker}
-use Rattle.dd_rows.proofs.RepeatLaws.{program_same, large_same}
+use Rattle.dd_rows.proofs.{Steps.on_large_weaker, RepeatLaws.program_same, RepeatLaws.large_same}
 use Rattle.dd_rows.proofs.program.program_shown.Goals as goal
 
 pub program_listed-requires-clause-known : goal.program_listed-requires-clause-known

@@ -1,6 +1,5 @@
-use Rattle.std.proofs.Common.{ap, sym}
+use Rattle.std.proofs.{Common.ap, Common.sym, lemmas.Option.unwrap_or-slice_get, lemmas.Option.slice_get_past}
 use Rattle.std.specs.Prelude.{unwrap_or}
-use Rattle.std.proofs.lemmas.Option.{unwrap_or-slice_get, slice_get_past}
 use Rattle.dd_rows.proofs.repeats.symbol_at.Goals as goal
 
 pub returns-then-number-symbols : goal.returns-then-number-symbols

@@ -1,11 +1,8 @@
 use Rattle.std.proofs.Common.{◌≡◌, ◌+◌, ◌-◌, suc, ◌++◌, ◌∷◌, [], ℕ, List, Bool, true, false, length, take, refl, ap, sym, ◌∙◌, arith}
+use Rattle.std.proofs.{lemmas.List.append_assoc, lemmas.List.length-append, Math.Seq.take-append_seam}
 use Rattle.std.specs.Prelude.{vec_len}
-use Rattle.std.proofs.lemmas.List.{append_assoc, length-append}
-use Rattle.std.proofs.Math.Seq.{take-append_seam}
 use Rattle.dd_formula.specs.LocalRule.{rule_allows}
-use Rattle.dd_rows.specs.Fillings.{most_fillings}
-use Rattle.dd_rows.specs.listing.Levels.{extended_below}
-use Rattle.dd_rows.specs.listing.Formulas.{are_all_true}
+use Rattle.dd_rows.specs.{Fillings.most_fillings, listing.Levels.extended_below, listing.Formulas.are_all_true}
 use Rattle.dd_rows.proofs.Steps.{extended_kept, extended_cut, extended_barred, extended_large}
 use Rattle.dd_rows.proofs.search.extend.Goals.{then-allows+in_ok-write_symbol, then-all_true+else-len-eq-MOST_FILLINGS+in_ok-filling+in_ok-push, else-all_true, else-allows}
 use Rattle.dd_rows.proofs.search.extend.Goals as goal

@@ -1,7 +1,5 @@
 use Rattle.std.proofs.Common.{◌≡◌, ◌≤◌, ◌++◌, length}
-use Rattle.dd_rows.specs.Fillings.{most_fillings}
-use Rattle.dd_rows.specs.listing.Levels.{extended_below}
-use Rattle.dd_rows.specs.listing.Formulas.{are_all_true}
+use Rattle.dd_rows.specs.{Fillings.most_fillings, listing.Levels.extended_below, listing.Formulas.are_all_true}
 use Rattle.dd_rows.proofs.search.extend.Given as goal
 
 abbrev pub invariant-loop-symbol : goal.invariant-loop-symbol

@@ -1,22 +1,15 @@
 use Rattle.std.proofs.Common.{◌≡◌, ◌<◌, ◌+◌, ℕ, List, length, sym, ◌∙◌, ap, subst, take, map, get_or, arith}
-use Rattle.std.proofs.lemmas.Grind.{common_steps}
-use Rattle.std.proofs.lemmas.List.{get_or_default}
-use Rattle.std.specs.Bool.{nat_eq}
+use Rattle.std.proofs.lemmas.{Grind.common_steps, List.get_or_default}
 use Rattle.std.proofs.lemmas.List.FromFn.{get_or-map-range_with_len, length-map-range_with_len}
-use Rattle.std.specs.List.{range_with_len, flat_map}
-use Rattle.std.proofs.lemmas.Result.{err_from_is_err_and}
-use Rattle.std.proofs.lemmas.List.Elements.{All-filter, All-take}
-use Rattle.dd_lattice.specs.Order.{cell_cmp}
-use Rattle.dd_lattice.specs.Place.{IsInRange}
-use Rattle.dd_lattice.specs.declared.position.Cell.{Cell}
+use Rattle.std.proofs.lemmas.{Result.err_from_is_err_and, List.Elements.All-filter, List.Elements.All-take}
+use Rattle.std.specs.{Bool.nat_eq, List.range_with_len, List.flat_map}
+use Rattle.dd_lattice.specs.{Order.cell_cmp, Place.IsInRange, declared.position.Cell.Cell}
 use Rattle.dd_formula.specs.LocalRule.{LocalRule}
 use Rattle.dd_rows.specs.Fillings.{most_fillings, HasManyFillings}
 use Rattle.dd_rows.specs.listing.Levels.{AreOf, chosen, settled, last_number, extended}
-use Rattle.dd_rows.specs.listing.Formulas.{SayTrue, are_all_true}
-use Rattle.dd_rows.specs.lemmas.Lists.{sorted_take}
-use Rattle.dd_rows.proofs.Chosen.{chosen_by}
+use Rattle.dd_rows.specs.{listing.Formulas.SayTrue, listing.Formulas.are_all_true, lemmas.Lists.sorted_take}
 use Rattle.dd_rows.specs.lemmas.Growing.{level_next, few_next}
-use Rattle.dd_rows.proofs.Steps.{on_large_weaker}
+use Rattle.dd_rows.proofs.{Chosen.chosen_by, Steps.on_large_weaker}
 use Rattle.dd_rows.proofs.search.fillings.Goals as goal
 
 pub formulas-requires-clause-ascending : goal.formulas-requires-clause-ascending

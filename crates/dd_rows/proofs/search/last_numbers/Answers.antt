@@ -1,5 +1,4 @@
-use Rattle.std.proofs.Common.{arith}
-use Rattle.std.proofs.lemmas.Grind.{common_steps}
+use Rattle.std.proofs.{Common.arith, lemmas.Grind.common_steps}
 use Rattle.dd_rows.specs.listing.Levels.{last_number}
 use Rattle.dd_rows.proofs.Steps.{map_next}
 use Rattle.dd_rows.proofs.search.last_numbers.Goals as goal

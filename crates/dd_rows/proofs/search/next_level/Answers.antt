@@ -1,10 +1,7 @@
 use Rattle.std.proofs.Common.{◌<◌, ◌++◌, length, sym, ◌∙◌, ap, get_or, arith}
-use Rattle.std.proofs.lemmas.Grind.{common_steps}
+use Rattle.std.proofs.lemmas.{Grind.common_steps, Result.err_from_is_err_and}
 use Rattle.std.specs.List.{flat_map}
-use Rattle.std.proofs.lemmas.Result.{err_from_is_err_and}
-use Rattle.dd_rows.specs.Fillings.{most_fillings}
-use Rattle.dd_rows.specs.listing.Levels.{extended}
-use Rattle.dd_rows.specs.listing.Formulas.{are_all_true}
+use Rattle.dd_rows.specs.{Fillings.most_fillings, listing.Levels.extended, listing.Formulas.are_all_true}
 use Rattle.dd_rows.proofs.Steps.{on_large_weaker, flat_map_large}
 use Rattle.dd_rows.proofs.search.next_level.Goals as goal
 

@@ -1,8 +1,6 @@
 use Rattle.std.proofs.Common.{◌≡◌, ◌≤◌, take, length}
 use Rattle.std.specs.List.{flat_map}
-use Rattle.dd_rows.specs.Fillings.{most_fillings}
-use Rattle.dd_rows.specs.listing.Levels.{extended}
-use Rattle.dd_rows.specs.listing.Formulas.{are_all_true}
+use Rattle.dd_rows.specs.{Fillings.most_fillings, listing.Levels.extended, listing.Formulas.are_all_true}
 use Rattle.dd_rows.proofs.search.next_level.Given as goal
 
 abbrev pub invariant-loop-symbols : goal.invariant-loop-symbols

@@ -1,7 +1,5 @@
 use Rattle.std.proofs.Common.{sym, ◌∙◌}
-use Rattle.dd_lattice.specs.Place.{moved}
-use Rattle.dd_lattice.specs.Cells.{shifted}
-use Rattle.dd_lattice.specs.lemmas.RangeLaws.{outside_if_not_given}
+use Rattle.dd_lattice.specs.{Place.moved, Cells.shifted, lemmas.RangeLaws.outside_if_not_given}
 use Rattle.dd_rows.specs.lemmas.Ready.{number_outside}
 use Rattle.dd_rows.proofs.search.number_of_read.Goals as goal
 

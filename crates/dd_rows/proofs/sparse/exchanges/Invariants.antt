@@ -1,7 +1,5 @@
 use Rattle.std.proofs.Common.{◌≡◌, take, map}
-use Rattle.dd_rows.specs.Patterns.{pattern_number}
-use Rattle.dd_rows.specs.listing.Views.{symbols_at}
-use Rattle.dd_rows.specs.listing.Sparse.{exchange_of}
+use Rattle.dd_rows.specs.{Patterns.pattern_number, listing.Views.symbols_at, listing.Sparse.exchange_of}
 use Rattle.dd_rows.proofs.sparse.exchanges.Given as goal
 
 abbrev pub invariant-loop-numbers : goal.invariant-loop-numbers

@@ -1,5 +1,4 @@
-use Rattle.std.proofs.Common.{◌∙◌, to_z, of_z, w64, FitsSigned, rules}
-use Rattle.std.proofs.lemmas.Int.{to_z-of_z}
+use Rattle.std.proofs.{Common.◌∙◌, Common.to_z, Common.of_z, Common.w64, Common.FitsSigned, Common.rules, lemmas.Int.to_z-of_z}
 use Rattle.dd_rows.specs.listing.Sparse.{entry}
 use Rattle.dd_rows.proofs.Collected.{range_after}
 use Rattle.dd_rows.proofs.sparse.push_entries.Goals as goal

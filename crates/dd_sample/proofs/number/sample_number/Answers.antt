@@ -1,5 +1,4 @@
-use Rattle.std.proofs.Common.{◌≡◌, Ok, Err, refl, arith}
-use Rattle.std.proofs.lemmas.Bool.{false≢true}
+use Rattle.std.proofs.{Common.◌≡◌, Common.Ok, Common.Err, Common.refl, Common.arith, lemmas.Bool.false≢true}
 use Rattle.dd_sample.proofs.Words.{not_led, read_again, written}
 use Rattle.dd_sample.proofs.number.sample_number.Goals as goal
 

@@ -1,5 +1,4 @@
-use Rattle.std.proofs.Common.{refl, arith}
-use Rattle.std.proofs.lemmas.Iterator.{YieldsList-from_range, items_from_collect}
+use Rattle.std.proofs.{Common.refl, Common.arith, lemmas.Iterator.YieldsList-from_range, lemmas.Iterator.items_from_collect}
 use Rattle.dd_script.proofs.known.numbers_below.Goals as goal
 
 pub returns : goal.returns

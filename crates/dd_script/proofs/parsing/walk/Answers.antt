@@ -1,5 +1,4 @@
-use Rattle.std.proofs.lemmas.Result.{err_from_is_err_and}
-use Rattle.std.proofs.Common.{refl}
+use Rattle.std.proofs.{lemmas.Result.err_from_is_err_and, Common.refl}
 use Rattle.dd_script.proofs.Walking.{begins, written_here, goes_on, stops, spelled}
 use Rattle.dd_script.proofs.parsing.walk.Goals as goal
 

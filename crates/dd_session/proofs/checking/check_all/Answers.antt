@@ -1,6 +1,5 @@
 use Rattle.std.proofs.Common.{rules}
-use Rattle.dd_session.specs.Checked.{CheckFront}
-use Rattle.dd_session.specs.checking.Judged.{AcceptedEach}
+use Rattle.dd_session.specs.{Checked.CheckFront, checking.Judged.AcceptedEach}
 use Rattle.dd_session.proofs.Judging.{each_accepted, each_rejected, finished_all, finished_front, unfinished_front}
 use Rattle.dd_session.proofs.checking.check_all.Goals as goal
 

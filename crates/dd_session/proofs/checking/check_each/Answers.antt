@@ -1,6 +1,5 @@
 use Rattle.std.proofs.Common.{◌≡◌, ◌+◌, ◌<◌, true, false, arith, rules}
-use Rattle.dd_session.specs.Checked.{CheckFront}
-use Rattle.dd_session.specs.checking.Judged.{Judged, most_of}
+use Rattle.dd_session.specs.{Checked.CheckFront, checking.Judged.Judged, checking.Judged.most_of}
 use Rattle.dd_session.proofs.Judging.{accepted_next, lines_next, rejected_next, front_next, judged_as, below_most}
 use Rattle.dd_session.proofs.checking.check_each.Goals as goal
 

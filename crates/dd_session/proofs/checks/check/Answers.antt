@@ -1,7 +1,6 @@
 use Rattle.std.proofs.Common.{rules}
 use Rattle.dd_outside.specs.Bytes.{GivesMore}
-use Rattle.dd_session.specs.Sides.{told}
-use Rattle.dd_session.specs.Checks.{most_checked}
+use Rattle.dd_session.specs.{Sides.told, Checks.most_checked}
 use Rattle.dd_session.proofs.CheckEnds.{ended_check, check_long, took_output}
 use Rattle.dd_session.proofs.checks.check.Goals as goal
 

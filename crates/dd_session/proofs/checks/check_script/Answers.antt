@@ -1,5 +1,4 @@
-use Rattle.dd_session.proofs.Numbered.{few_queries}
-use Rattle.dd_session.proofs.CheckedOver.{judged_over, few_answers}
+use Rattle.dd_session.proofs.{Numbered.few_queries, CheckedOver.judged_over, CheckedOver.few_answers}
 use Rattle.dd_session.proofs.checks.check_script.Goals as goal
 
 pub check_all-requires-clause-few_queries : goal.check_all-requires-clause-few_queries

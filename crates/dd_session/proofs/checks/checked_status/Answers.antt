@@ -1,7 +1,5 @@
 use Rattle.std.proofs.Common.{◌≡◌, Bool, sym, ◌∙◌, ap, subst}
-use Rattle.dd_session.specs.Answers.{has_unknown}
-use Rattle.dd_session.specs.Sides.{status_of}
-use Rattle.dd_session.specs.checking.Judged.{checked_status}
+use Rattle.dd_session.specs.{Answers.has_unknown, Sides.status_of, checking.Judged.checked_status}
 use Rattle.dd_session.proofs.Judging.{unknown_any}
 use Rattle.dd_session.proofs.checks.checked_status.Goals as goal
 

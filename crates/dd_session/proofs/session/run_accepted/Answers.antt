@@ -1,5 +1,4 @@
-use Rattle.dd_session.proofs.Engaging.{never_unanswered}
-use Rattle.dd_session.proofs.Open.{whole_over}
+use Rattle.dd_session.proofs.{Engaging.never_unanswered, Open.whole_over}
 use Rattle.dd_session.proofs.session.run_accepted.Goals as goal
 
 pub returns-in-Ok-clause-ran : goal.returns-in-Ok-clause-ran

@@ -1,6 +1,5 @@
 use Rattle.dd_session.specs.Sides.{told}
-use Rattle.dd_session.proofs.Engaging.{begun}
-use Rattle.dd_session.proofs.Refused.{line_over, refused_to_end}
+use Rattle.dd_session.proofs.{Engaging.begun, Refused.line_over, Refused.refused_to_end}
 use Rattle.dd_session.proofs.session.run_bytes.Goals as goal
 
 pub returns-in-Err-clause-ran : goal.returns-in-Err-clause-ran

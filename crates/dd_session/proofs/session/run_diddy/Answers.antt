@@ -1,11 +1,6 @@
-use Rattle.std.proofs.Common.{ℕ, refl, sym, ◌∙◌, subst}
-use Rattle.std.proofs.lemmas.Bool.{false≢true}
-use Rattle.dd_session.specs.Sides.{told}
-use Rattle.dd_session.specs.Samples.{SampleEnded}
-use Rattle.dd_session.proofs.CheckEnds.{never_bad}
-use Rattle.dd_session.proofs.Decided.{decided}
-use Rattle.dd_session.proofs.Engaging.{refused_unasked, same_sample}
-use Rattle.dd_session.proofs.Sampled.{never_sampled}
+use Rattle.std.proofs.{Common.ℕ, Common.refl, Common.sym, Common.◌∙◌, Common.subst, lemmas.Bool.false≢true}
+use Rattle.dd_session.specs.{Sides.told, Samples.SampleEnded}
+use Rattle.dd_session.proofs.{CheckEnds.never_bad, Decided.decided, Engaging.refused_unasked, Engaging.same_sample, Sampled.never_sampled}
 use Rattle.dd_session.proofs.Words.{alone, different, one_sample}
 use Rattle.dd_session.proofs.session.run_diddy.Goals as goal
 

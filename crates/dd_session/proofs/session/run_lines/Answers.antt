@@ -1,6 +1,5 @@
 use Rattle.dd_session.specs.Sides.{told}
-use Rattle.dd_session.proofs.Engaging.{never_unanswered}
-use Rattle.dd_session.proofs.Sampled.{lines_over}
+use Rattle.dd_session.proofs.{Engaging.never_unanswered, Sampled.lines_over}
 use Rattle.dd_session.proofs.session.run_lines.Goals as goal
 
 pub returns-in-Ok-clause-wrote : goal.returns-in-Ok-clause-wrote

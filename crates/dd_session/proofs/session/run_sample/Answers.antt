@@ -1,6 +1,5 @@
 use Rattle.dd_sample.specs.Sample.{sample_text}
-use Rattle.dd_session.proofs.Numbered.{few_queries}
-use Rattle.dd_session.proofs.Sampled.{sample_over}
+use Rattle.dd_session.proofs.{Numbered.few_queries, Sampled.sample_over}
 use Rattle.dd_session.proofs.session.run_sample.Goals as goal
 
 pub run_lines-requires : goal.run_lines-requires

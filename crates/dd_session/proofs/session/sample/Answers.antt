@@ -1,8 +1,7 @@
 use Rattle.std.proofs.Common.{◌≡◌, ℕ, List, length, sym, ap, subst, ◌∙◌, arith}
 use Rattle.std.proofs.lemmas.Bool.{false≢true}
 use Rattle.dd_sample.specs.Sample.{sample_text}
-use Rattle.dd_script.specs.Parts.{Parts}
-use Rattle.dd_script.specs.Scripts.{Spells}
+use Rattle.dd_script.specs.{Parts.Parts, Scripts.Spells}
 use Rattle.dd_session.proofs.Sampled.{only_memory}
 use Rattle.dd_session.proofs.session.sample.Goals as goal
 

@@ -1,7 +1,6 @@
 use Rattle.std.proofs.Common.{◌+◌, List, arith, rules, subst}
 use Rattle.dd_query.specs.declared.queries.Query.{Query}
-use Rattle.dd_session.specs.writing.Forms.{text_in}
-use Rattle.dd_session.specs.Written.{AnsweredFront}
+use Rattle.dd_session.specs.{writing.Forms.text_in, Written.AnsweredFront}
 use Rattle.dd_session.proofs.Engaging.{engaged_next, engaged_none}
 use Rattle.dd_session.proofs.Streamed.{answered_next, answered_none, front_next}
 use Rattle.dd_session.proofs.stream.answer_all.Goals as goal

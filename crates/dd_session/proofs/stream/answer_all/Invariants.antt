@@ -1,10 +1,8 @@
 use Rattle.std.proofs.Common.{◌≤◌, take}
-use Rattle.dd_engines.specs.Rosters.{roster_seen}
-use Rattle.dd_engines.specs.Rounds.{Kept}
+use Rattle.dd_engines.specs.{Rosters.roster_seen, Rounds.Kept}
 use Rattle.dd_answer.specs.Asking.{AsksSomeBoxes}
 use Rattle.dd_respond.specs.Asking.{Engages}
-use Rattle.dd_session.specs.writing.Forms.{text_in}
-use Rattle.dd_session.specs.Written.{Answered}
+use Rattle.dd_session.specs.{writing.Forms.text_in, Written.Answered}
 use Rattle.dd_session.proofs.stream.answer_all.Given as goal
 
 abbrev pub invariant-loop-done : goal.invariant-loop-done

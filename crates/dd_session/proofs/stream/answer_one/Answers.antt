@@ -1,6 +1,5 @@
 use Rattle.std.proofs.Common.{rules, ◌∷◌, []}
-use Rattle.dd_session.specs.writing.Forms.{text_in}
-use Rattle.dd_session.specs.Written.{AnsweredFront}
+use Rattle.dd_session.specs.{writing.Forms.text_in, Written.AnsweredFront}
 use Rattle.dd_session.proofs.Streamed.{answered_one, front_of_none, front_of_one}
 use Rattle.dd_session.proofs.stream.answer_one.Goals as goal
 

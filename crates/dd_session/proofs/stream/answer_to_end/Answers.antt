@@ -1,6 +1,5 @@
 use Rattle.std.proofs.Common.{rules}
-use Rattle.dd_session.specs.writing.Forms.{text_in}
-use Rattle.dd_session.specs.Written.{AnsweredShort}
+use Rattle.dd_session.specs.{writing.Forms.text_in, Written.AnsweredShort}
 use Rattle.dd_session.proofs.Streamed.{answered_to_end, short_in_answers, short_at_end}
 use Rattle.dd_session.proofs.stream.answer_to_end.Goals as goal
 

@@ -1,9 +1,6 @@
 use Rattle.std.proofs.Common.{rules, refl, inl, inr}
-use Rattle.dd_session.specs.Written.{CutShort}
-use Rattle.dd_session.specs.Asking.{HeaderTaken}
-use Rattle.dd_session.proofs.Engaging.{taken_before}
-use Rattle.dd_session.proofs.Headers.{header_is}
-use Rattle.dd_session.proofs.Numbered.{few_queries}
+use Rattle.dd_session.specs.{Written.CutShort, Asking.HeaderTaken}
+use Rattle.dd_session.proofs.{Engaging.taken_before, Headers.header_is, Numbered.few_queries}
 use Rattle.dd_session.proofs.Streamed.{cut_at_start, cut_in_header, cut_in_answers, whole_output}
 use Rattle.dd_session.proofs.stream.run_script.Goals as goal
 

@@ -1,8 +1,6 @@
 use Rattle.std.proofs.Common.{◌≡◌, true, take, drop, ◌++◌}
-use Rattle.std.specs.Prelude.{map}
-use Rattle.std.specs.List.{list_all}
-use Rattle.dd_fraction.specs.Exact.{times, inverse}
-use Rattle.dd_fraction.specs.Checked.{does_product_fit}
+use Rattle.std.specs.{Prelude.map, List.list_all}
+use Rattle.dd_fraction.specs.{Exact.times, Exact.inverse, Checked.does_product_fit}
 use Rattle.dd_simplex.proofs.line.divide.Given as goal
 
 abbrev pub invariant-loop-i : goal.invariant-loop-i

@@ -1,7 +1,5 @@
-use Rattle.std.proofs.Common.{sym, ◌∙◌, arith}
-use Rattle.std.proofs.lemmas.Grind.{common_steps}
-use Rattle.dd_simplex.proofs.IdleLines.{back_fractions, pivot_fractions}
-use Rattle.dd_simplex.proofs.LineSteps.{back_sizes}
+use Rattle.std.proofs.{Common.sym, Common.◌∙◌, Common.arith, lemmas.Grind.common_steps}
+use Rattle.dd_simplex.proofs.{IdleLines.back_fractions, IdleLines.pivot_fractions, LineSteps.back_sizes}
 use Rattle.dd_simplex.proofs.line.pivot_lines.Goals as goal
 
 pub substitute_each-requires-2-clause-sizes : goal.substitute_each-requires-2-clause-sizes

@@ -1,6 +1,5 @@
 use Rattle.std.proofs.Common.{◌<◌, length, arith, refl, sym, ap, ◌∙◌}
-use Rattle.dd_simplex.specs.table.Lines.{changed_line}
-use Rattle.dd_simplex.specs.table.Lines.{does_changed_fit}
+use Rattle.dd_simplex.specs.table.Lines.{changed_line, does_changed_fit}
 use Rattle.dd_simplex.proofs.CellSteps.{in_place_step}
 use Rattle.dd_simplex.proofs.line.substitute_each.Goals as goal
 

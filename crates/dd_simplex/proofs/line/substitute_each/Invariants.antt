@@ -1,8 +1,6 @@
 use Rattle.std.proofs.Common.{◌≡◌, true, take, drop, ◌++◌}
-use Rattle.std.specs.Prelude.{map}
-use Rattle.std.specs.List.{list_all}
-use Rattle.dd_simplex.specs.table.Lines.{changed_line}
-use Rattle.dd_simplex.specs.table.Lines.{does_changed_fit}
+use Rattle.std.specs.{Prelude.map, List.list_all}
+use Rattle.dd_simplex.specs.table.Lines.{changed_line, does_changed_fit}
 use Rattle.dd_simplex.proofs.line.substitute_each.Given as goal
 
 abbrev pub invariant-loop-i : goal.invariant-loop-i

@@ -1,6 +1,5 @@
 use Rattle.std.proofs.Common.{◌<◌, get_or, length, arith, sym, ap, ◌∙◌}
-use Rattle.dd_fraction.specs.Exact.{Exact}
-use Rattle.dd_fraction.specs.Checked.{checked_less_product}
+use Rattle.dd_fraction.specs.{Exact.Exact, Checked.checked_less_product}
 use Rattle.dd_simplex.proofs.CellSteps.{subtract_step, subtract_stops}
 use Rattle.dd_simplex.proofs.line.subtract.Goals as goal
 

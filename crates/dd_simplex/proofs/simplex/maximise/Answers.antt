@@ -1,13 +1,9 @@
 use Rattle.std.proofs.Common.{◌≡◌, ℕ, suc, ◌+◌, ◌-◌, ◌<◌, ◌≤◌, None, sym, subst, ◌∙◌, arith}
-use Rattle.dd_simplex.specs.declared.fault.SimplexFault.{SimplexFault}
-use Rattle.dd_simplex.specs.declared.fault.SimplexFault.TheVariants as fault
-use Rattle.dd_simplex.specs.declared.solution.Solved.{Solved}
+use Rattle.dd_simplex.specs.{declared.fault.SimplexFault.SimplexFault, declared.solution.Solved.Solved, Programs.LinearProgram}
+use Rattle.dd_simplex.specs.{Runs.IsRunRefusal, Runs.stop_of, Runs.Overflows, table.Lines.Table, table.Steps.DoesEnter}
 use Rattle.std.specs.Prelude.{Result, Ok, Err, IsErrAnd, IfErr}
-use Rattle.dd_simplex.specs.Programs.{LinearProgram}
-use Rattle.dd_simplex.specs.Runs.{IsRunRefusal, stop_of, Overflows}
-use Rattle.dd_simplex.specs.table.Lines.{Table}
-use Rattle.dd_simplex.specs.table.Steps.{DoesEnter}
 use Rattle.dd_simplex.proofs.Running.{IsAlong, along_start, along_turn, along_stuck, along_limit, others_within, read_ends, read_best}
+use Rattle.dd_simplex.specs.declared.fault.SimplexFault.TheVariants as fault
 use Rattle.dd_simplex.proofs.simplex.maximise.Goals as goal
 
 one_less : (k i : ℕ) → i < k → k - i ≡ suc (k - (i + 1))

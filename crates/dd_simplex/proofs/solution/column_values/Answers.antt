@@ -1,11 +1,9 @@
 use Rattle.std.proofs.Common.{◌≡◌, ℕ, ◌<◌, List, [], length, ap, subst, ◌∙◌, arith}
 use Rattle.std.proofs.lemmas.List.{get_or_default}
-use Rattle.dd_simplex.specs.Programs.{zero_of}
-use Rattle.dd_simplex.specs.table.Lines.{Line}
-use Rattle.dd_simplex.specs.table.Values.{GiveColumns}
+use Rattle.dd_simplex.specs.{Programs.zero_of, table.Lines.Line, table.Values.GiveColumns}
 use Rattle.dd_simplex.proofs.Valuing.{columns_set, columns_skip}
-use Rattle.dd_simplex.proofs.solution.column_values.Goals as goal
 use Rattle.dd_simplex.proofs.solution.column_values.Goals.{then-line-columns, else-line-columns}
+use Rattle.dd_simplex.proofs.solution.column_values.Goals as goal
 
 pub loop-i-preserved : goal.loop-i-preserved
 loop-i-preserved c =

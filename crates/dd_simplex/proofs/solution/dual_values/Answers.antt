@@ -1,13 +1,10 @@
 use Rattle.std.proofs.Common.{◌≡◌, ℕ, ◌+◌, ◌<◌, List, length, get_or, sym, ap, subst, ◌∙◌, arith}
-use Rattle.std.proofs.lemmas.Grind.{common_steps}
-use Rattle.std.proofs.lemmas.List.{get_or_default}
+use Rattle.std.proofs.lemmas.{Grind.common_steps, List.get_or_default}
 use Rattle.dd_fraction.specs.Exact.{Exact, minus}
-use Rattle.dd_simplex.specs.Programs.{zero_of}
-use Rattle.dd_simplex.specs.table.Lines.{Table, other_at}
-use Rattle.dd_simplex.specs.table.Values.{GiveDuals}
+use Rattle.dd_simplex.specs.{Programs.zero_of, table.Lines.Table, table.Lines.other_at, table.Values.GiveDuals}
 use Rattle.dd_simplex.proofs.Valuing.{duals_set, duals_skip}
-use Rattle.dd_simplex.proofs.solution.dual_values.Goals as goal
 use Rattle.dd_simplex.proofs.solution.dual_values.Goals.{then-variable-columns, else-variable-columns}
+use Rattle.dd_simplex.proofs.solution.dual_values.Goals as goal
 
 pub loop-j-preserved : goal.loop-j-preserved
 loop-j-preserved c =

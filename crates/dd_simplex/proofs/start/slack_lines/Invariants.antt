@@ -1,7 +1,5 @@
 use Rattle.std.proofs.Common.{◌≡◌, ℕ, ◌+◌, ◌<◌, length}
-use Rattle.dd_simplex.specs.Programs.{program_row}
-use Rattle.dd_simplex.specs.table.Lines.{line_at}
-use Rattle.dd_simplex.specs.table.Steps.{IsLineOf}
+use Rattle.dd_simplex.specs.{Programs.program_row, table.Lines.line_at, table.Steps.IsLineOf}
 use Rattle.dd_simplex.proofs.start.slack_lines.Given as goal
 
 abbrev pub invariant-loop-i : goal.invariant-loop-i

@@ -1,20 +1,14 @@
 use Rattle.std.proofs.Common.{◌≡◌, ◌<◌, List, [], length, true, false, sym, ap, subst, ◌∙◌, rules, arith, to_z-of_z}
-use Rattle.std.proofs.lemmas.Grind.{common_steps}
-use Rattle.std.specs.Int.{w128}
-use Rattle.std.specs.Int.RustNames.{int_lt}
+use Rattle.std.proofs.lemmas.{Grind.common_steps, List.get_or_default, List.Elements.All-get_or}
+use Rattle.std.specs.Int.{w128, RustNames.int_lt}
 use lib.IntN.{pos}
 use mir.Val.{SFits}
-use Rattle.std.proofs.lemmas.List.{get_or_default}
-use Rattle.std.proofs.lemmas.List.Elements.{All-get_or}
-use Rattle.dd_fraction.specs.Exact.{Exact, inverse}
-use Rattle.dd_fraction.specs.Checked.{checked_quotient}
-use Rattle.dd_simplex.specs.Programs.{fraction_at, zero_of}
-use Rattle.dd_simplex.specs.table.Lines.{Line, line_at}
-use Rattle.dd_simplex.specs.table.Choices.{does_limit}
+use Rattle.dd_fraction.specs.{Exact.Exact, Exact.inverse, Checked.checked_quotient}
+use Rattle.dd_simplex.specs.{Programs.fraction_at, Programs.zero_of, table.Lines.Line, table.Lines.line_at, table.Choices.does_limit}
 use Rattle.dd_simplex.proofs.CellSteps.{product_gives}
 use Rattle.dd_simplex.proofs.Choosing.{over_no, over_yes, IsFound, found_skip, found_first, found_keeps, found_new}
-use Rattle.dd_simplex.proofs.tableau.leaving.Goals as goal
 use Rattle.dd_simplex.proofs.tableau.leaving.Goals.{in-Some-chosen, in_default-chosen-2, in_default-chosen}
+use Rattle.dd_simplex.proofs.tableau.leaving.Goals as goal
 
 pub loop-i-preserved-then-num-le0 : goal.loop-i-preserved-then-num-le0
 loop-i-preserved-then-num-le0 c =

@@ -1,5 +1,4 @@
-use Rattle.std.proofs.Common.{arith}
-use Rattle.std.proofs.lemmas.Grind.{common_steps}
+use Rattle.std.proofs.{Common.arith, lemmas.Grind.common_steps}
 use Rattle.dd_solver.proofs.analysis.find_place.Goals as goal
 
 pub loop-i-preserved : goal.loop-i-preserved

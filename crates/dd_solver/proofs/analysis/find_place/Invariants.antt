@@ -1,6 +1,5 @@
 use Rattle.std.proofs.Common.{◌≡◌, ◌≤◌, ◌<◌, ℕ, false, get_or}
-use Rattle.std.specs.Option.{MatchOption}
-use Rattle.std.specs.Bool.{⊤}
+use Rattle.std.specs.{Option.MatchOption, Bool.⊤}
 use Rattle.dd_trail.specs.declared.trail.Entry.{Entry}
 use Rattle.dd_solver.specs.searching.Analysis.{marks, IsPlace}
 use Rattle.dd_solver.proofs.analysis.find_place.Given as goal

@@ -1,8 +1,9 @@
 use Rattle.std.proofs.Common.{rules}
 use Rattle.std.specs.Prelude.{◌↔◌}
 use Rattle.dd_solver.specs.Answers.{IsSatisfiable, IsFound, IsRefuted, IsAnswer}
-use Rattle.dd_solver.proofs.Right.{found_right, refuted_right, if_ok}
+use Rattle.dd_solver.proofs.Right.{found_right, refuted_right}
 use Rattle.dd_solver.proofs.search.solve_with.Goals as goal
+use Rattle.dd_values.specs.lemmas.Results.{if_ok}
 
 pub returns-clause-found : goal.returns-clause-found
 returns-clause-found c =

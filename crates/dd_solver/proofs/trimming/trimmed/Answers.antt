@@ -1,8 +1,7 @@
 use Rattle.std.proofs.Common.{length, ◌∙◌, subst, sym}
 use Rattle.std.specs.List.{All}
 use Rattle.dd_solver.specs.searching.Marking.{IsMarking, renamed}
-use Rattle.dd_solver.proofs.Kept.{no_more, no_deletes, DeletesNothing}
-use Rattle.dd_solver.proofs.Planned.{marked_refute, marked_used}
+use Rattle.dd_solver.proofs.{Kept.no_more, Kept.no_deletes, Kept.DeletesNothing, Planned.marked_refute, Planned.marked_used}
 use Rattle.dd_solver.proofs.trimming.trimmed.Goals as goal
 
 pub returns-clause-refutes : goal.returns-clause-refutes

@@ -1,11 +1,10 @@
 use Rattle.std.proofs.Common.{arith, ◌<◌, length, Contains, subst, sym, ◌∙◌}
 use Rattle.std.proofs.lemmas.Grind.{common_steps}
-use Rattle.dd_lattice.specs.Order.{cell_cmp}
-use Rattle.dd_lattice.specs.lemmas.InOrderLaws.{cells_equal}
+use Rattle.dd_lattice.specs.{Order.cell_cmp, lemmas.InOrderLaws.cells_equal}
 use Rattle.dd_topology.specs.lemmas.OrderLaws.{has-insert_key}
 use Rattle.dd_topology.proofs.GrowthLaws.{adds_new, adds_known}
-use Rattle.dd_topology.proofs.balls.fresh_cells.Goals as goal
 use Rattle.dd_topology.proofs.balls.fresh_cells.Goals.{then-branch+in_ok-push, else-branch}
+use Rattle.dd_topology.proofs.balls.fresh_cells.Goals as goal
 
 pub loop-cell-preserved : goal.loop-cell-preserved
 loop-cell-preserved c =

@@ -1,5 +1,4 @@
-use Rattle.std.proofs.Common.{arith}
-use Rattle.std.proofs.lemmas.Grind.{common_steps}
+use Rattle.std.proofs.{Common.arith, lemmas.Grind.common_steps}
 use Rattle.dd_lattice.specs.Place.{place}
 use Rattle.dd_topology.proofs.CoordinateLaws.{apart_x, apart_y, joined_z}
 use Rattle.dd_topology.proofs.balls.is_sum.Goals as goal

@@ -1,6 +1,4 @@
-use Rattle.std.proofs.Common.{arith}
-use Rattle.std.proofs.lemmas.Grind.{common_steps}
-use Rattle.std.proofs.lemmas.Result.{err_from_is_err_and}
+use Rattle.std.proofs.{Common.arith, lemmas.Grind.common_steps, lemmas.Result.err_from_is_err_and}
 use Rattle.dd_topology.specs.Balls.{neighbours}
 use Rattle.dd_topology.proofs.GrowthLaws.{part_out_of_range}
 use Rattle.dd_topology.proofs.balls.neighbours_of.Goals as goal

@@ -1,5 +1,4 @@
-use Rattle.std.proofs.Common.{◌++◌, ap, sym, ◌∙◌, arith}
-use Rattle.std.proofs.lemmas.Grind.{elements}
+use Rattle.std.proofs.{Common.◌++◌, Common.ap, Common.sym, Common.◌∙◌, Common.arith, lemmas.Grind.elements}
 use Rattle.dd_topology.specs.Topology.{start_of}
 use Rattle.dd_topology.proofs.GrowthLaws.{other_end, other_in_range}
 use Rattle.dd_topology.proofs.balls.push_start.Goals as goal

@@ -1,5 +1,4 @@
-use Rattle.std.proofs.Common.{arith}
-use Rattle.std.proofs.lemmas.Grind.{common_steps}
+use Rattle.std.proofs.{Common.arith, lemmas.Grind.common_steps}
 use Rattle.dd_topology.proofs.TableLaws.{not_twice}
 use Rattle.dd_topology.proofs.builtin.made.Goals as goal
 

@@ -1,7 +1,6 @@
 use Rattle.std.proofs.Common.{◌≡◌, ◌<◌, ℕ, List, false, arith, map, take, get_or, length, Contains, Bor}
-use Rattle.std.proofs.lemmas.Grind.{common_steps}
+use Rattle.std.proofs.lemmas.{Grind.common_steps, List.length-map, List.take-map, List.get_or-map}
 use Rattle.std.specs.Prelude.{bytes_eq}
-use Rattle.std.proofs.lemmas.List.{length-map, take-map, get_or-map}
 use Rattle.dd_topology.specs.Builtin.{has_repeat}
 use Rattle.dd_topology.proofs.TableLaws.{not_named}
 use Rattle.dd_topology.proofs.builtin.names_of.Goals as goal

@@ -1,7 +1,5 @@
 use Rattle.std.proofs.Common.{Some, sym, ◌∙◌}
-use Rattle.dd_lattice.specs.Place.{is_in_range}
-use Rattle.dd_lattice.specs.Cells.{cell}
-use Rattle.dd_lattice.specs.lemmas.RangeLaws.{of_sum, of_no_sum}
+use Rattle.dd_lattice.specs.{Place.is_in_range, Cells.cell, lemmas.RangeLaws.of_sum, lemmas.RangeLaws.of_no_sum}
 use Rattle.dd_topology.specs.Topology.{end_of}
 use Rattle.dd_topology.proofs.edge.end_of.Goals as goal
 

@@ -1,5 +1,4 @@
-use Rattle.std.proofs.Common.{arith}
-use Rattle.std.proofs.lemmas.Grind.{common_steps}
+use Rattle.std.proofs.{Common.arith, lemmas.Grind.common_steps}
 use Rattle.dd_lattice.specs.Place.{IsCoordinateInRange}
 use Rattle.dd_topology.proofs.CoordinateLaws.{difference_of_near}
 use Rattle.dd_topology.proofs.edge.reversed.Goals as goal

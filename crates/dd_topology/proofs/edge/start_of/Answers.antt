@@ -1,7 +1,5 @@
 use Rattle.std.proofs.Common.{Some, None, if◌then◌else◌, sym, ◌∙◌, ap}
-use Rattle.dd_lattice.specs.Place.{Place, moved, is_in_range}
-use Rattle.dd_lattice.specs.Cells.{cell}
-use Rattle.dd_lattice.specs.lemmas.RangeLaws.{of_sum, of_no_sum}
+use Rattle.dd_lattice.specs.{Place.Place, Place.moved, Place.is_in_range, Cells.cell, lemmas.RangeLaws.of_sum, lemmas.RangeLaws.of_no_sum}
 use Rattle.dd_topology.specs.Topology.{start_of}
 use Rattle.dd_topology.proofs.edge.start_of.Goals as goal
 

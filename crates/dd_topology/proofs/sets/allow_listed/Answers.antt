@@ -1,6 +1,4 @@
-use Rattle.std.proofs.Common.{length, ap, ◌∙◌, arith}
-use Rattle.std.proofs.lemmas.Grind.{common_steps}
-use Rattle.std.proofs.lemmas.List.{take_all}
+use Rattle.std.proofs.{Common.length, Common.ap, Common.◌∙◌, Common.arith, lemmas.Grind.common_steps, lemmas.List.take_all}
 use Rattle.dd_topology.specs.Sets.{is_listed}
 use Rattle.dd_topology.proofs.SetLaws.{listed_rows}
 use Rattle.dd_topology.proofs.sets.allow_listed.Goals as goal

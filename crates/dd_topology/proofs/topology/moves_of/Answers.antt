@@ -1,5 +1,4 @@
-use Rattle.std.proofs.Common.{◌<◌, ◌∙◌, sym, refl, length, arith}
-use Rattle.std.proofs.lemmas.Option.{slice_get_read}
+use Rattle.std.proofs.{Common.◌<◌, Common.◌∙◌, Common.sym, Common.refl, Common.length, Common.arith, lemmas.Option.slice_get_read}
 use Rattle.std.proofs.lemmas.Bool.{not-false, not-true}
 use Rattle.dd_topology.proofs.MoveLaws.{single_more, repeats_from, new_from, moves_more}
 use Rattle.dd_topology.proofs.topology.moves_of.Goals as goal

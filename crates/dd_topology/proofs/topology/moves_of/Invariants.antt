@@ -1,6 +1,5 @@
 use Rattle.std.proofs.Common.{◌≡◌, map, take}
-use Rattle.dd_topology.specs.Topology.{AreSingle}
-use Rattle.dd_topology.specs.keeping.Kept.{move_of}
+use Rattle.dd_topology.specs.{Topology.AreSingle, keeping.Kept.move_of}
 use Rattle.dd_topology.proofs.topology.moves_of.Given as goal
 
 abbrev pub invariant-loop-edge : goal.invariant-loop-edge

@@ -1,6 +1,5 @@
 use Rattle.std.proofs.Common.{◌≡◌, ℕ, ◌<◌, ◌≤◌}
-use Rattle.dd_derivation.specs.declared.propagation.Finding.TheVariants.{Open}
-use Rattle.dd_derivation.specs.Derivations.{hint_finding, is_among}
+use Rattle.dd_derivation.specs.{declared.propagation.Finding.TheVariants.Open, Derivations.hint_finding, Derivations.is_among}
 use Rattle.dd_trail.specs.Trails.{falses}
 use Rattle.dd_trail.proofs.propagation.scan_between.Given as goal
 

@@ -1,6 +1,5 @@
 use Rattle.std.proofs.Common.{◌≡◌, ◌<◌, ℕ, arith, sym, subst}
-use Rattle.dd_transfer.specs.Graphs.{Transfer}
-use Rattle.dd_transfer.specs.Transfers.{IsGraphOf}
+use Rattle.dd_transfer.specs.{Graphs.Transfer, Transfers.IsGraphOf}
 use Rattle.dd_transfer.proofs.Sizes.{graph_is, some_states}
 use Rattle.dd_transfer.proofs.building.graph_of.Goals as goal
 

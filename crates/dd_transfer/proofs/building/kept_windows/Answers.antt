@@ -1,8 +1,6 @@
-use Rattle.std.proofs.Common.{◌+◌, Bool, List, ap, sym, subst, arith}
-use Rattle.std.proofs.lemmas.Grind.{common_steps}
+use Rattle.std.proofs.{Common.◌+◌, Common.Bool, Common.List, Common.ap, Common.sym, Common.subst, Common.arith, lemmas.Grind.common_steps}
 use Rattle.dd_strip.specs.declared.strip.Strip.{Strip}
-use Rattle.dd_transfer.specs.Windows.{Shown, AreWindows}
-use Rattle.dd_transfer.specs.placing.Formulas.{ArePlaces}
+use Rattle.dd_transfer.specs.{Windows.Shown, Windows.AreWindows, placing.Formulas.ArePlaces}
 use Rattle.dd_transfer.proofs.Written.{advanced, full, kept_more}
 use Rattle.dd_transfer.proofs.building.kept_windows.Goals as goal
 

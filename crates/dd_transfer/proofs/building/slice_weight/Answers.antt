@@ -3,8 +3,7 @@ use Rattle.std.specs.List.{All}
 use Rattle.dd_pattern.specs.Weight.{AreWeights, total_weight}
 use Rattle.dd_strip.specs.Strips.{cells}
 use Rattle.dd_transfer.specs.Windows.{digits}
-use Rattle.dd_transfer.proofs.Digits.{digits_length, digits_below}
-use Rattle.dd_transfer.proofs.Sizes.{cells_few}
+use Rattle.dd_transfer.proofs.{Digits.digits_length, Digits.digits_below, Sizes.cells_few}
 use Rattle.dd_transfer.proofs.building.slice_weight.Goals as goal
 
 written : (base b count n number : ℕ) (xs : List ℕ) → xs ≡ digits base count number → base ≡ b → count ≡ n → xs ≡ digits b n number

@@ -1,5 +1,4 @@
-use Rattle.std.proofs.Common.{arith}
-use Rattle.std.proofs.lemmas.Grind.{common_steps}
+use Rattle.std.proofs.{Common.arith, lemmas.Grind.common_steps}
 use Rattle.dd_transfer.proofs.building.slice_weights.Goals as goal
 
 pub loop-slice-preserved : goal.loop-slice-preserved

@@ -1,7 +1,5 @@
 use Rattle.std.proofs.Common.{◌≡◌, pos, arith, rules}
-use Rattle.dd_lattice.specs.Place.{place}
-use Rattle.dd_lattice.specs.Cells.{cell}
-use Rattle.dd_lattice.specs.declared.position.Cell.{Cell}
+use Rattle.dd_lattice.specs.{Place.place, Cells.cell, declared.position.Cell.Cell}
 use Rattle.dd_transfer.specs.Windows.{slice_index_of}
 use Rattle.dd_transfer.proofs.Places.{slice_below}
 use Rattle.dd_transfer.proofs.cells.slice_place.Goals as goal

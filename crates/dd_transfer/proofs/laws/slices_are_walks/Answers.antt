@@ -1,5 +1,4 @@
-use Rattle.dd_transfer.proofs.Numbers.{are_digits}
-use Rattle.dd_transfer.proofs.Following.{are_edges}
+use Rattle.dd_transfer.proofs.{Numbers.are_digits, Following.are_edges}
 use Rattle.dd_transfer.proofs.laws.slices_are_walks.Goals as goal
 
 pub returns : goal.returns

@@ -1,10 +1,8 @@
 use Rattle.std.proofs.Common.{◌≡◌, ◌+◌, ℤ, to_z, of_z, w32, arith, rules, ap, sym, ◌∙◌, subst}
 use Rattle.dd_lattice.specs.declared.position.Cell.{Cell}
 use Rattle.dd_strip.specs.Strips.{cells}
-use Rattle.dd_transfer.specs.Windows.{cell_at}
-use Rattle.dd_transfer.specs.placing.Formulas.{SaysAt}
-use Rattle.dd_transfer.proofs.Places.{parts_of}
-use Rattle.dd_transfer.proofs.Saying.{ArePlacesBelow, no_places, places_more, all_places}
+use Rattle.dd_transfer.specs.{Windows.cell_at, placing.Formulas.SaysAt}
+use Rattle.dd_transfer.proofs.{Places.parts_of, Saying.ArePlacesBelow, Saying.no_places, Saying.places_more, Saying.all_places}
 use Rattle.dd_transfer.proofs.placing.formulas.Goals as goal
 
 pub formula_at-requires-clause-node : goal.formula_at-requires-clause-node

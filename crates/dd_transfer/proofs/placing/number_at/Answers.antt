@@ -1,5 +1,4 @@
-use Rattle.dd_lattice.specs.Place.{IsCoordinateInRange}
-use Rattle.dd_transfer.proofs.Places.{sum_of_near}
+use Rattle.dd_lattice.specs.{Place.IsCoordinateInRange, lemmas.MoveLaws.sum_of_near}
 use Rattle.dd_transfer.proofs.placing.number_at.Goals as goal
 
 pub returns : goal.returns

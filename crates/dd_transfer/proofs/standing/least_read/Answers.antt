@@ -1,11 +1,8 @@
 use Rattle.std.proofs.Common.{◌≡◌, ℕ, ℤ, pos, to_z, of_z, w32, ap, sym, ◌∙◌, arith, rules}
-use Rattle.std.specs.List.{flat_map, range_with_len}
-use Rattle.std.specs.Int.{int_min}
+use Rattle.std.specs.{List.flat_map, List.range_with_len, Int.int_min}
 use Rattle.dd_lattice.specs.declared.position.Cell.{Cell}
-use Rattle.dd_formula.specs.LocalRule.{cells_at}
-use Rattle.dd_formula.specs.Reach.{all_cells}
+use Rattle.dd_formula.specs.{LocalRule.cells_at, Reach.all_cells, lemmas.Ranges.fold_push}
 use Rattle.dd_counts.specs.Rules.{least_x}
-use Rattle.dd_formula.specs.lemmas.Ranges.{fold_push}
 use Rattle.dd_transfer.proofs.standing.least_read.Goals as goal
 
 pub loop-node-preserved : goal.loop-node-preserved

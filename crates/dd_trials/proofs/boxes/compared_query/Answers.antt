@@ -3,7 +3,7 @@ use Rattle.std.specs.List.{Contains}
 use Rattle.std.proofs.lemmas.List.Elements.{Contains-get_or}
 use Rattle.dd_trials.proofs.boxes.compared_query.Goals as goal
 
--- the query is one of the script's
+-- the query is in the script
 pub question-requires : goal.question-requires
 question-requires c =
     let queries = c.args.script.now.queries in

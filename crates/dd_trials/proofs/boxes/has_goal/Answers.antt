@@ -1,6 +1,5 @@
 use Rattle.std.proofs.Common.{subst}
-use Rattle.dd_boxes.specs.Goals.{IsGoalFor}
-use Rattle.dd_boxes.specs.Views.{goal_of}
+use Rattle.dd_boxes.specs.{Goals.IsGoalFor, Views.goal_of}
 use Rattle.dd_trials.proofs.boxes.has_goal.Goals as goal
 
 pub differ-requires-clause-over : goal.differ-requires-clause-over

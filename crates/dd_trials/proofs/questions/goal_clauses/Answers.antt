@@ -1,10 +1,7 @@
 use Rattle.std.proofs.Common.{◌≡◌, subst, arith}
 use Rattle.std.specs.Prelude.{IfOk}
-use Rattle.dd_formula.specs.Counts.{cut}
-use Rattle.dd_formula.specs.ValueCounts.{differ_clauses}
-use Rattle.dd_formula.specs.declared.automaton.Automaton.{Automaton}
-use Rattle.dd_boxes.specs.Goals.{AreOver, IsGoalFor}
-use Rattle.dd_boxes.specs.Views.{numbers_of, goal_of}
+use Rattle.dd_formula.specs.{Counts.cut, ValueCounts.differ_clauses, declared.automaton.Automaton.Automaton}
+use Rattle.dd_boxes.specs.{Goals.AreOver, Goals.IsGoalFor, Views.numbers_of, Views.goal_of}
 use Rattle.dd_trials.proofs.questions.goal_clauses.Goals as goal
 
 pub differ_clauses-requires-clause-nodes : goal.differ_clauses-requires-clause-nodes

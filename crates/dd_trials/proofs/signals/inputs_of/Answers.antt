@@ -1,9 +1,10 @@
-use Rattle.dd_trials.proofs.Ascending.{comes_after, one_more}
+use Rattle.dd_trials.proofs.Ascending.{one_more}
 use Rattle.dd_trials.proofs.signals.inputs_of.Goals as goal
+use Rattle.dd_lattice.specs.lemmas.InOrderLaws.{turn_after}
 
 pub add-requires : goal.add-requires
 add-requires c =
-    comes_after c.args.cells.now c.loop-cell.cell-index c.cell-item.result c.loop-cell.inputs.cells c.requires.ascending c.loop-cell-test.true c.cell-item.is
+    turn_after c.args.cells.now c.loop-cell.cell-index c.cell-item.result c.loop-cell.inputs.cells c.requires.ascending c.loop-cell-test.true c.cell-item.is
     c.loop-cell.invariant.before
 
 pub loop-cell-preserved : goal.loop-cell-preserved

@@ -3,7 +3,7 @@ use Rattle.std.specs.List.{Contains}
 use Rattle.std.proofs.lemmas.List.Elements.{Contains-get_or}
 use Rattle.dd_trials_answers.proofs.excluding.answers_to.Goals as goal
 
--- the query is one of the script's
+-- the query is in the script
 pub answer-requires : goal.answer-requires
 answer-requires c =
     let queries = c.args.script.now.queries in

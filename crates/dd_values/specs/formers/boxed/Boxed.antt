@@ -1,4 +1,4 @@
--- How a recursive type runs through `Boxed`: straight through, since the view is the value alone.
+-- How a recursive type may contain `Boxed`: as the value itself, since contracts see only the value.
 use mathlib.Core.Path.{refl}
 use mathlib.Core.Former.{Former, this, const, pair, via}
 use base.Stored.{gnil}
@@ -12,17 +12,15 @@ use denote.HolePlaces.{Recodes, struct_places, laid, one_value}
 use denote.Hole.Fix.{over}
 use denote.Param.Weighed.{Weighed}
 use denote.Model.Placed.{view_places}
-use Rattle.std.specs.declared.boxed.Box.{Box}
-use Rattle.std.specs.contracts.boxed.Box as box
-use Rattle.std.specs.declared.alloc.Global.{Global}
-use Rattle.std.specs.contracts.alloc.Global as heap
-use Rattle.std.specs.contracts.impls.GlobalAllocator.TheImpl.{ghosts}
+use Rattle.std.specs.{declared.boxed.Box.Box, declared.alloc.Global.Global, contracts.impls.GlobalAllocator.TheImpl.ghosts}
 use Rattle.dd_values.specs.declared.boxed.Boxed.TheInside.{Inside}
 use Rattle.dd_values.specs.declared.boxed.Boxed.TheView.{view, invariant}
+use Rattle.std.specs.contracts.boxed.Box as box
+use Rattle.std.specs.contracts.alloc.Global as heap
 use Rattle.dd_values.specs.contracts.boxed.Boxed as value
 use Rattle.dd_values.specs.contracts.boxed.Boxed.TheInside as inside
 
--- the type of what stands in the hole itself
+-- the type that fills the hole, unchanged
 abbrev pub the_former : Former {0} → Former {0}
 the_former hole = hole
 

@@ -1,4 +1,4 @@
--- How a recursive type runs through `Items`: as through a list, since the view keeps the items alone.
+-- How a recursive type may contain `Items`: as a list, since contracts see only the items.
 use mathlib.Core.Path.{◌≡◌, refl, sym}
 use mathlib.Core.List.{List, []}
 use mathlib.Core.Former.{Former, this, list, via, children}
@@ -10,16 +10,15 @@ use denote.Hole.Carrier.{listed, list-listed}
 use denote.Hole.Fix.{over}
 use denote.Param.Weighed.{Weighed, w_list}
 use denote.Model.Placed.{view_places}
-use Rattle.std.specs.formers.vec.Vec as vec
-use Rattle.std.specs.declared.alloc.Global.{Global}
-use Rattle.std.specs.contracts.alloc.Global as heap
-use Rattle.std.specs.contracts.impls.GlobalAllocator.TheImpl.{ghosts}
+use Rattle.std.specs.{declared.alloc.Global.Global, contracts.impls.GlobalAllocator.TheImpl.ghosts}
 use Rattle.dd_values.specs.declared.items.Items.TheInside.{Inside}
 use Rattle.dd_values.specs.declared.items.Items.TheView.{view, invariant}
+use Rattle.std.specs.formers.vec.Vec as vec
+use Rattle.std.specs.contracts.alloc.Global as heap
 use Rattle.dd_values.specs.contracts.items.Items as value
 use Rattle.dd_values.specs.contracts.items.Items.TheInside as inside
 
--- the type of lists of what stands in the hole
+-- lists of the type that fills the hole
 abbrev pub the_former : Former {0} → Former {0}
 the_former hole = list hole
 

@@ -1,5 +1,4 @@
-use Rattle.dd_verify.proofs.BoxForms.{no_equal}
-use Rattle.dd_verify.proofs.Deciding.{nothing_holds}
+use Rattle.dd_verify.proofs.{BoxForms.no_equal, Deciding.nothing_holds}
 use Rattle.dd_verify.proofs.boxes.check_equal.Goals as goal
 
 pub returns-in-YesBoth : goal.returns-in-YesBoth

@@ -1,5 +1,4 @@
-use Rattle.std.proofs.Common.{sym, ◌∙◌}
-use Rattle.std.proofs.lemmas.Bool.{false≢true}
+use Rattle.std.proofs.{Common.sym, Common.◌∙◌, lemmas.Bool.false≢true}
 use Rattle.dd_verify.proofs.Deciding.{nothing_holds}
 use Rattle.dd_verify.proofs.configurations.check_periodic.Goals as goal
 

@@ -1,14 +1,9 @@
-use Rattle.std.proofs.Common.{◌≡◌, true, sym, subst, ◌∙◌}
+use Rattle.std.proofs.{Common.◌≡◌, Common.true, Common.sym, Common.subst, Common.◌∙◌, lemmas.Bool.false≢true, lemmas.Result.IfOk-weaker}
 use Rattle.std.specs.Prelude.{◌↔◌}
-use Rattle.std.proofs.lemmas.Bool.{false≢true}
-use Rattle.std.proofs.lemmas.Result.{IfOk-weaker}
 use Rattle.dd_formula.specs.declared.automaton.Automaton.{Automaton}
-use Rattle.dd_boxes.specs.Goals.{differ, AreOver, IsGoalFor}
-use Rattle.dd_boxes.specs.Views.{numbers_of, goal_of}
-use Rattle.dd_boxes.specs.Witnesses.{IsWitness}
+use Rattle.dd_boxes.specs.{Goals.differ, Goals.AreOver, Goals.IsGoalFor, Views.numbers_of, Views.goal_of, Witnesses.IsWitness}
 use Rattle.dd_automaton.specs.Images.{DifferAtOrigin}
-use Rattle.dd_verify.proofs.Deciding.{nothing_holds}
-use Rattle.dd_verify.proofs.Differing.{defined, difference_decides}
+use Rattle.dd_verify.proofs.{Deciding.nothing_holds, Differing.defined, Differing.difference_decides}
 use Rattle.dd_verify.proofs.configurations.shows.Goals as goal
 
 pub differ_at_origin-requires-clause-left : goal.differ_at_origin-requires-clause-left

@@ -1,6 +1,5 @@
-use Rattle.std.proofs.Common.{[], subst, ◌∙◌}
+use Rattle.std.proofs.{Common.[], Common.subst, Common.◌∙◌, lemmas.List.get_or_default}
 use Rattle.std.specs.Prelude.{IsTrue, IfOk}
-use Rattle.std.proofs.lemmas.List.{get_or_default}
 use Rattle.dd_certificate.specs.Bounds.{IsWritableRefutation}
 use Rattle.dd_verify.proofs.conjugacies.check_at.Goals as goal
 

@@ -1,5 +1,4 @@
-use Rattle.dd_verify.proofs.Deciding.{nothing_holds}
-use Rattle.dd_verify.proofs.PartForms.{no_conjugacy, unknown_decides}
+use Rattle.dd_verify.proofs.{Deciding.nothing_holds, PartForms.no_conjugacy, PartForms.unknown_decides}
 use Rattle.dd_verify.proofs.conjugacies.check_conjugacy.Goals as goal
 
 pub returns-in-Conjugate : goal.returns-in-Conjugate

@@ -1,9 +1,7 @@
 use Rattle.dd_boxes.specs.Views.{goal_of}
 use Rattle.dd_question.specs.Conjugacies.{conjugacy_of}
 use Rattle.dd_verify.specs.Evidence.{broken}
-use Rattle.dd_verify.proofs.BoxForms.{decides}
-use Rattle.dd_verify.proofs.Deciding.{nothing_holds}
-use Rattle.dd_verify.proofs.PartForms.{broken_of, broken_fits, no_taken}
+use Rattle.dd_verify.proofs.{BoxForms.decides, Deciding.nothing_holds, PartForms.broken_of, PartForms.broken_fits, PartForms.no_taken}
 use Rattle.dd_verify.proofs.conjugacies.check_part.Goals as goal
 
 pub returns-in-Some : goal.returns-in-Some

@@ -1,10 +1,7 @@
 use Rattle.dd_problem.specs.pushing.Told.{IsToldGoal}
 use Rattle.dd_question.specs.Conjugacies.{EachPart, conjugacy_of}
-use Rattle.dd_verify.proofs.Claiming.{member_claims, box_claims, equal_claims}
-use Rattle.dd_verify.proofs.Listing.{list_claims}
-use Rattle.dd_verify.proofs.Starring.{minimal_claims}
-use Rattle.dd_verify.proofs.PartForms.{conjugacy_claims}
-use Rattle.dd_verify.proofs.TorusForms.{torus_claims}
+use Rattle.dd_verify.proofs.{Claiming.member_claims, Claiming.box_claims, Claiming.equal_claims, Listing.list_claims}
+use Rattle.dd_verify.proofs.{Starring.minimal_claims, PartForms.conjugacy_claims, TorusForms.torus_claims}
 use Rattle.dd_verify.proofs.Weighing.{strip_claims, discharge_claims}
 use Rattle.dd_verify.proofs.laws.claims_hold.Goals as goal
 

@@ -1,6 +1,5 @@
 use Rattle.dd_formula.specs.lemmas.FirstCells.{not_both}
-use Rattle.dd_verify.proofs.PlaceLaws.{outside_at}
-use Rattle.dd_verify.proofs.Deciding.{nothing_holds}
+use Rattle.dd_verify.proofs.{PlaceLaws.outside_at, Deciding.nothing_holds}
 use Rattle.dd_verify.proofs.places.is_outside.Goals as goal
 
 pub returns-in-Inside : goal.returns-in-Inside

@@ -1,8 +1,7 @@
 use Rattle.std.proofs.Common.{◌≡◌, true, List, [], ◌∷◌, ◌++◌, length, take, get_or, ℤ, pos, ap, sym, subst, ◌∙◌, arith}
-use Rattle.std.specs.Prelude.{◌↔◌}
 use Rattle.std.proofs.lemmas.Bool.{false≢true}
-use Rattle.dd_verify.proofs.PlaceLaws.{place_decides, place_last}
-use Rattle.dd_verify.proofs.Deciding.{nothing_holds}
+use Rattle.std.specs.Prelude.{◌↔◌}
+use Rattle.dd_verify.proofs.{PlaceLaws.place_decides, PlaceLaws.place_last, Deciding.nothing_holds}
 use Rattle.dd_verify.proofs.places.is_place.Goals as goal
 
 pub returns-then-not-is_node : goal.returns-then-not-is_node

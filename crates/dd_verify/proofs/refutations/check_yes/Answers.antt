@@ -1,10 +1,7 @@
-use Rattle.std.proofs.Common.{◌≤◌, arith}
+use Rattle.std.proofs.{Common.◌≤◌, Common.arith, lemmas.Bool.false≢true}
 use Rattle.std.specs.Prelude.{max}
-use Rattle.dd_boxes.specs.Views.{goal_of}
-use Rattle.dd_boxes.specs.lemmas.FromBox.{from_least}
-use Rattle.std.proofs.lemmas.Bool.{false≢true}
-use Rattle.dd_verify.proofs.Counting.{box_few, too_near, too_far}
-use Rattle.dd_verify.proofs.Deciding.{nothing_holds}
+use Rattle.dd_boxes.specs.{Views.goal_of, lemmas.FromBox.from_least}
+use Rattle.dd_verify.proofs.{Counting.box_few, Counting.too_near, Counting.too_far, Deciding.nothing_holds}
 use Rattle.dd_verify.proofs.refutations.check_yes.Goals as goal
 
 pub least_radius-requires : goal.least_radius-requires

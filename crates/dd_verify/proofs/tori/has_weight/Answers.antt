@@ -1,9 +1,7 @@
-use Rattle.std.proofs.Common.{◌≡◌, true}
+use Rattle.std.proofs.{Common.◌≡◌, Common.true, lemmas.Result.IfOk-weaker}
 use Rattle.std.specs.Prelude.{◌↔◌}
-use Rattle.std.proofs.lemmas.Result.{IfOk-weaker}
 use Rattle.dd_pattern.specs.Weight.{total_weight}
-use Rattle.dd_boxes.specs.Goals.{always}
-use Rattle.dd_boxes.specs.Witnesses.{IsWitness}
+use Rattle.dd_boxes.specs.{Goals.always, Witnesses.IsWitness}
 use Rattle.dd_verify.specs.Tori.{HasWeight}
 use Rattle.dd_verify.proofs.TorusForms.{weight_decides}
 use Rattle.dd_verify.proofs.tori.has_weight.Goals as goal

@@ -1,6 +1,5 @@
 use Rattle.std.proofs.lemmas.Result.{IfOk-weaker}
-use Rattle.dd_verify.proofs.PartForms.{lacking}
-use Rattle.dd_verify.proofs.TorusForms.{weight_of, room_of, least_decides}
+use Rattle.dd_verify.proofs.{PartForms.lacking, TorusForms.weight_of, TorusForms.room_of, TorusForms.least_decides}
 use Rattle.dd_verify.proofs.tori.is_least.Goals as goal
 
 pub returns-then-not-branch : goal.returns-then-not-branch

@@ -1,12 +1,9 @@
-use Rattle.std.proofs.Common.{◌≡◌, true, subst, sym}
+use Rattle.std.proofs.{Common.◌≡◌, Common.true, Common.subst, Common.sym, lemmas.Result.IfOk-weaker}
 use Rattle.std.specs.Prelude.{◌↔◌}
-use Rattle.std.proofs.lemmas.Result.{IfOk-weaker}
 use Rattle.dd_formula.specs.Living.{Fits}
-use Rattle.dd_boxes.specs.Views.{goal_of}
-use Rattle.dd_boxes.specs.Witnesses.{IsWitness}
+use Rattle.dd_boxes.specs.{Views.goal_of, Witnesses.IsWitness}
 use Rattle.dd_verify.specs.Evidence.{IsNo}
-use Rattle.dd_verify.proofs.Deciding.{nothing_holds}
-use Rattle.dd_verify.proofs.Giving.{given_from, shown_decides}
+use Rattle.dd_verify.proofs.{Deciding.nothing_holds, Giving.given_from, Giving.shown_decides}
 use Rattle.dd_verify.proofs.witnesses.check_no.Goals as goal
 
 pub returns-in-None : goal.returns-in-None

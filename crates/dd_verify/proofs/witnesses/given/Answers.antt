@@ -1,8 +1,6 @@
-use Rattle.std.proofs.Common.{◌<◌, [], ◌∷◌, sym, subst, ◌∙◌}
+use Rattle.std.proofs.{Common.◌<◌, Common.[], Common.◌∷◌, Common.sym, Common.subst, Common.◌∙◌, lemmas.Bool.false≢true}
 use Rattle.std.specs.List.{All}
-use Rattle.std.proofs.lemmas.Bool.{false≢true}
-use Rattle.dd_pattern.specs.Periods.{periods_of}
-use Rattle.dd_pattern.specs.Tile.{tile}
+use Rattle.dd_pattern.specs.{Periods.periods_of, Tile.tile}
 use Rattle.dd_verify.proofs.Giving.{made_tile, given_made, given_not_made, not_within}
 use Rattle.dd_verify.proofs.witnesses.given.Goals as goal
 

@@ -1,6 +1,5 @@
 use Rattle.std.proofs.Common.{◌≡◌, suc, ◌-◌, true, drop, Some, ap, sym, ◌∙◌, arith, rules}
-use Rattle.dd_written.specs.reading.Formulas.{begins, part_at, unary_at}
-use Rattle.dd_written.specs.lemmas.Rounds.{goes_on}
+use Rattle.dd_written.specs.{reading.Formulas.begins, reading.Formulas.part_at, reading.Formulas.unary_at, lemmas.Rounds.goes_on}
 use Rattle.dd_written.proofs.formulas.+read.Goals as goal
 
 pub unary-returns : goal.unary-returns

@@ -1,7 +1,6 @@
 use Rattle.std.proofs.Common.{◌≡◌, ◌+◌, ◌∷◌, [], length, length-append, arith, ap}
 use Rattle.std.proofs.lemmas.Grind.{common_steps}
-use Rattle.dd_circuit.specs.Circuits.{IsGate, size}
-use Rattle.dd_circuit.specs.lemmas.GateLists.{AreGates-snoc}
+use Rattle.dd_circuit.specs.{Circuits.IsGate, Circuits.size, lemmas.GateLists.AreGates-snoc}
 use Rattle.dd_circuit.proofs.gates.Circuit.add.Goals as goal
 
 pub invariant_of-self-2 : goal.invariant_of-self-2

@@ -1,5 +1,4 @@
-use Rattle.std.proofs.Common.{◌∙◌, arith}
-use Rattle.std.proofs.lemmas.Grind.{common_steps}
+use Rattle.std.proofs.{Common.◌∙◌, Common.arith, lemmas.Grind.common_steps}
 use Rattle.dd_circuit.specs.lemmas.ValueLaws.{gate_here, values_step, values_done, values_only}
 use Rattle.dd_circuit.proofs.gates.Circuit.value.Goals as goal
 

@@ -1,8 +1,6 @@
-use Rattle.std.proofs.Common.{◌≡◌, false, take, arith, refl, ap, ◌∙◌}
-use Rattle.std.proofs.lemmas.List.{take_all}
+use Rattle.std.proofs.{Common.◌≡◌, Common.false, Common.take, Common.arith, Common.refl, Common.ap, Common.◌∙◌, lemmas.List.take_all}
 use Rattle.std.proofs.lemmas.List.Elements.{All-more}
-use Rattle.dd_clause.specs.declared.clause.Literal.{Literal}
-use Rattle.dd_clause.specs.Clauses.{ClauseList, IsLiteralInRange}
+use Rattle.dd_clause.specs.{declared.clause.Literal.Literal, Clauses.ClauseList, Clauses.IsLiteralInRange}
 use Rattle.dd_clause.proofs.cnf.Cnf.is_in_range.Goals as goal
 
 none : Literal

@@ -1,10 +1,8 @@
 use Rattle.std.proofs.Common.{◌≡◌, ◌++◌, ◌∷◌, [], ap, sym, subst, ◌∙◌, arith}
 use Rattle.std.proofs.lemmas.Grind.{common_steps}
-use Rattle.std.specs.List.{All}
-use Rattle.std.specs.declared.cmp.Ordering.TheVariants.{Less}
+use Rattle.std.specs.{List.All, declared.cmp.Ordering.TheVariants.Less}
 use Rattle.dd_lattice.specs.Order.{cell_cmp}
-use Rattle.dd_compile.specs.Wiring.{Wiring}
-use Rattle.dd_compile.specs.lemmas.WiringLaws.{one_more}
+use Rattle.dd_compile.specs.{Wiring.Wiring, lemmas.WiringLaws.one_more}
 use Rattle.dd_compile.proofs.inputs.Inputs.add.Goals as goal
 
 pub invariant_of-self-2 : goal.invariant_of-self-2

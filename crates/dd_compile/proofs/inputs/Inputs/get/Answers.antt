@@ -1,6 +1,5 @@
 use Rattle.std.proofs.Common.{◌∙◌}
-use Rattle.dd_compile.specs.Wiring.{Wiring}
-use Rattle.dd_compile.specs.lemmas.WiringLaws.{found, missing}
+use Rattle.dd_compile.specs.{Wiring.Wiring, lemmas.WiringLaws.found, lemmas.WiringLaws.missing}
 use Rattle.dd_compile.proofs.inputs.Inputs.get.Goals as goal
 
 pub returns-in-Ok-clause-value : goal.returns-in-Ok-clause-value

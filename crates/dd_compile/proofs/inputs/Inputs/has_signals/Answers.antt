@@ -1,10 +1,8 @@
 use Rattle.std.proofs.Common.{◌≡◌, ℕ, Bool, true, false, List, length, Some, refl, eq-eqb}
-use Rattle.std.specs.Prelude.{Option, ◌==◌, ◌&&◌}
-use Rattle.std.specs.List.{list_all}
 use Rattle.std.proofs.lemmas.Bool.{eqb-true}
+use Rattle.std.specs.{Prelude.Option, Prelude.◌==◌, Prelude.◌&&◌, List.list_all}
 use Rattle.dd_circuit.specs.declared.gates.Signal.{Signal}
-use Rattle.dd_compile.specs.Wiring.{Wiring, signals_of}
-use Rattle.dd_compile.specs.RuleSignals.{is_signal, are_signals}
+use Rattle.dd_compile.specs.{Wiring.Wiring, Wiring.signals_of, RuleSignals.is_signal, RuleSignals.are_signals}
 use Rattle.dd_compile.specs.lemmas.WiringLaws.{found_list, missing_list}
 use Rattle.dd_compile.proofs.inputs.Inputs.has_signals.Goals as goal
 

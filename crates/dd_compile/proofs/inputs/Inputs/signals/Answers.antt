@@ -1,6 +1,5 @@
 use Rattle.std.proofs.Common.{ap, sym, ◌∙◌, Some}
-use Rattle.dd_compile.specs.Wiring.{Wiring}
-use Rattle.dd_compile.specs.lemmas.WiringLaws.{found_list, missing_list}
+use Rattle.dd_compile.specs.{Wiring.Wiring, lemmas.WiringLaws.found_list, lemmas.WiringLaws.missing_list}
 use Rattle.dd_compile.proofs.inputs.Inputs.signals.Goals as goal
 
 pub returns-in-Ok : goal.returns-in-Ok

@@ -1,5 +1,4 @@
-use Rattle.std.proofs.Common.{arith}
-use Rattle.std.proofs.lemmas.Grind.{common_steps}
+use Rattle.std.proofs.{Common.arith, lemmas.Grind.common_steps}
 use Rattle.dd_values.specs.Variables.{true_variables}
 use Rattle.dd_boxes.specs.Views.{goal_of}
 use Rattle.dd_problem.specs.lemmas.TorusSizes.{small_periods}

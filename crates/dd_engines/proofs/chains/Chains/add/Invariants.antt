@@ -1,8 +1,6 @@
-use Rattle.std.proofs.Common.{◌≡◌, ◌++◌, length, take}
-use Rattle.std.proofs.Math.ListN.{replicate}
+use Rattle.std.proofs.{Common.◌≡◌, Common.◌++◌, Common.length, Common.take, Math.ListN.replicate}
 use Rattle.dd_clause.specs.declared.clause.Literal.{Literal}
-use Rattle.dd_engines.specs.walking.Truths.{times_in}
-use Rattle.dd_engines.specs.walking.Chains.{IsLinked, HasChain, numbers_of}
+use Rattle.dd_engines.specs.walking.{Truths.times_in, Chains.IsLinked, Chains.HasChain, Chains.numbers_of}
 use Rattle.dd_engines.proofs.chains.Chains.add.Given as goal
 
 abbrev pub invariant-loop-literal : goal.invariant-loop-literal

@@ -1,8 +1,6 @@
 use Rattle.std.proofs.Common.{◌≡◌, ◌+◌, Bool, true, false, not, ℕ, ap, sym, ◌∙◌, get_or, arith}
+use Rattle.std.proofs.lemmas.{Grind.common_steps, List.length-set, List.Elements.at_read}
 use Rattle.std.specs.Bool.{beq}
-use Rattle.std.proofs.lemmas.Grind.{common_steps}
-use Rattle.std.proofs.lemmas.List.{length-set}
-use Rattle.std.proofs.lemmas.List.Elements.{at_read}
 use Rattle.dd_engines.proofs.Cycling.{changed_same, changed_other, differences_few}
 use Rattle.dd_engines.proofs.cycle.Landmark.count.Goals as goal
 

@@ -1,5 +1,4 @@
-use Rattle.std.proofs.Common.{arith}
-use Rattle.std.proofs.lemmas.Grind.{common_steps}
+use Rattle.std.proofs.{Common.arith, lemmas.Grind.common_steps}
 use Rattle.dd_engines.proofs.Cycling.{differences_self}
 use Rattle.dd_engines.proofs.cycle.Landmark.new.Goals as goal
 

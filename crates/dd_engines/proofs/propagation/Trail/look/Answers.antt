@@ -1,6 +1,5 @@
 use Rattle.std.proofs.Common.{◌≡◌, ◌<◌, List, [], length, get_or, sym, subst, arith}
-use Rattle.dd_clause.specs.declared.clause.Literal.{Literal}
-use Rattle.dd_clause.specs.Clauses.{IsClauseInRange, IsLiteralInRange}
+use Rattle.dd_clause.specs.{declared.clause.Literal.Literal, Clauses.IsClauseInRange, Clauses.IsLiteralInRange}
 use Rattle.dd_derivation.specs.declared.propagation.Finding.TheVariants.{Falsified, Forced}
 use Rattle.dd_derivation.specs.Derivations.{finding}
 use Rattle.dd_engines.specs.propagation.Following.{is_false_by}

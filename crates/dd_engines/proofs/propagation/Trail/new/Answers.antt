@@ -1,6 +1,4 @@
-use Rattle.std.proofs.Common.{◌≡◌, None, arith}
-use Rattle.std.proofs.Math.ListN.{replicate}
-use Rattle.std.proofs.lemmas.Grind.{common_steps}
+use Rattle.std.proofs.{Common.◌≡◌, Common.None, Common.arith, Math.ListN.replicate, lemmas.Grind.common_steps}
 use Rattle.dd_engines.proofs.Following.{follows_from_nothing}
 use Rattle.dd_engines.proofs.propagation.Trail.new.Goals as goal
 

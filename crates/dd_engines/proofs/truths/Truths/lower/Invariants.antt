@@ -1,7 +1,6 @@
 use Rattle.std.proofs.Common.{◌≡◌, ◌<◌, ◌≤◌, length}
 use Rattle.std.specs.List.{All}
-use Rattle.dd_engines.specs.walking.Truths.{IsListed, changed, less}
-use Rattle.dd_engines.specs.walking.Chains.{chain_of}
+use Rattle.dd_engines.specs.walking.{Truths.IsListed, Truths.changed, Truths.less, Chains.chain_of}
 use Rattle.dd_engines.proofs.truths.Truths.lower.Given as goal
 
 abbrev pub invariant-loop-at : goal.invariant-loop-at

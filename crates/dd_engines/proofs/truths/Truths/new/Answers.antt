@@ -1,7 +1,5 @@
 use Rattle.std.proofs.Common.{◌≡◌, ◌<◌, ◌^◌, ◌+◌, ◌/◌, ℕ, Bool, true, List, length, map, replicate, get_or, subst, sym, ap, ◌∙◌, arith}
-use Rattle.std.proofs.lemmas.Grind.{common_steps}
-use Rattle.std.proofs.lemmas.List.{length-map}
-use Rattle.std.proofs.lemmas.List.Elements.{All-more}
+use Rattle.std.proofs.lemmas.{Grind.common_steps, List.length-map, List.Elements.All-more}
 use Rattle.dd_clause.specs.declared.clause.Literal.{Literal}
 use Rattle.dd_engines.specs.walking.Truths.{IsListed, true_count}
 use Rattle.dd_engines.proofs.Counting.{all_marked}

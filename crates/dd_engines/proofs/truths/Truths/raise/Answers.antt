@@ -1,10 +1,7 @@
-use Rattle.std.proofs.Common.{◌≡◌, ℕ, ◌-◌, ◌<◌, List, length, ap, subst, sym, ◌∙◌, arith}
+use Rattle.std.proofs.Common.{◌≡◌, ℕ, ◌-◌, ◌<◌, List, length, ap, subst, sym, ◌∙◌, arith, get_or}
+use Rattle.std.proofs.lemmas.List.{length-set, Elements.All-tail, Elements.All-weaker}
 use Rattle.std.specs.List.{All}
-use Rattle.std.proofs.Common.{get_or}
-use Rattle.std.proofs.lemmas.List.{length-set}
-use Rattle.std.proofs.lemmas.List.Elements.{All-tail, All-weaker}
-use Rattle.dd_engines.specs.walking.Truths.{more, changed}
-use Rattle.dd_engines.specs.walking.Chains.{chain_of}
+use Rattle.dd_engines.specs.walking.{Truths.more, Truths.changed, Chains.chain_of}
 use Rattle.dd_engines.proofs.Chaining.{chain_at}
 use Rattle.dd_engines.proofs.truths.Truths.raise.Goals as goal
 

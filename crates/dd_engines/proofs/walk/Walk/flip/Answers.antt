@@ -1,8 +1,7 @@
 use Rattle.std.proofs.Common.{◌≡◌, ℕ, ◌<◌, List, length, ap, subst, sym, ◌∙◌, arith}
-use Rattle.std.specs.List.{All}
 use Rattle.std.proofs.lemmas.List.Elements.{All-weaker}
-use Rattle.dd_clause.specs.declared.clause.Literal.{Literal}
-use Rattle.dd_clause.specs.Clauses.{negation}
+use Rattle.std.specs.List.{All}
+use Rattle.dd_clause.specs.{declared.clause.Literal.Literal, Clauses.negation}
 use Rattle.dd_engines.specs.walking.Truths.{more, less, changed}
 use Rattle.dd_engines.specs.walking.Chains.{HasChain, numbers_of}
 use Rattle.dd_engines.proofs.Walking.{chain_there, within_counts, length-changed, flip_walks}

@@ -1,19 +1,15 @@
 use Rattle.std.proofs.Common.{◌≡◌, ◌+◌, ◌*◌, ◌∷◌, ◌++◌, [], ◌<◌, ◌∙◌, ℕ, length, take, ap, sym, subst, refl, arith}
-use Rattle.std.proofs.lemmas.Grind.{common_steps}
-use Rattle.std.proofs.lemmas.List.{take_at}
-use Rattle.std.proofs.lemmas.Result.{err_from_is_err_and}
+use Rattle.std.proofs.lemmas.{Grind.common_steps, List.take_at, Result.err_from_is_err_and}
 use denote.Param.Weighed.{at_most}
 use Rattle.dd_lattice.specs.declared.position.Cell.{Cell}
-use Rattle.dd_expansion.specs.declared.expanded.Expanded.{Expanded}
-use Rattle.dd_expansion.specs.declared.expanded.Expanded.TheVariants as expanded
-use Rattle.dd_expansion.specs.declared.formulas.Formula.{Formula}
-use Rattle.dd_expansion.specs.Leaves.{instances}
-use Rattle.dd_expansion.specs.expanding.Near.{AreNear}
-use Rattle.dd_expansion.specs.Expansion.{expansion}
-use Rattle.dd_expansion.proofs.formulas.Formula.TheLaws.{the_size}
+use Rattle.dd_expansion.specs.{declared.expanded.Expanded.Expanded, declared.formulas.Formula.Formula, Leaves.instances}
+use Rattle.dd_expansion.specs.{expanding.Near.AreNear, Expansion.expansion}
 use Rattle.dd_expansion.specs.lemmas.Layers.{expansion_and, expansion_or, expansion_for_all, expansion_exists}
+use Rattle.dd_expansion.specs.lemmas.Depths.{quantified_depth}
+use Rattle.dd_expansion.proofs.formulas.Formula.TheLaws.{the_size}
 use Rattle.dd_expansion.proofs.Nodes.{nodes_and, nodes_or, nodes_for_all, nodes_exists, nodes_not, nodes_implies, nodes_iff, expansion_not, expansion_implies, expansion_iff}
-use Rattle.dd_expansion.proofs.Parts.{part_fits, part_depth, quantified_fits, quantified_depth, inner_is, inner_fits, inner_depth, inner_near, item_near, made_more, paid_more, paid_as, paid_after, few_at, few_for_all}
+use Rattle.dd_expansion.proofs.Parts.{part_fits, part_depth, quantified_fits, inner_is, inner_fits, inner_depth, inner_near, item_near, made_more, paid_more, paid_as, paid_after, few_at, few_for_all}
+use Rattle.dd_expansion.specs.declared.expanded.Expanded.TheVariants as expanded
 use Rattle.dd_expansion.proofs.expansion.Scope.+expand.Goals as goal
 
 pub expand_all-expand-requires : goal.expand_all-expand-requires

@@ -1,7 +1,6 @@
 use Rattle.std.proofs.Common.{◌≡◌, ◌+◌, ◌∷◌, ◌++◌, [], take, map}
 use Rattle.std.specs.List.{sum_by}
-use Rattle.dd_expansion.specs.Leaves.{instances}
-use Rattle.dd_expansion.specs.Expansion.{expansion}
+use Rattle.dd_expansion.specs.{Leaves.instances, Expansion.expansion}
 use Rattle.dd_expansion.proofs.expansion.Scope.+expand.Given as goal
 
 abbrev pub invariant-expand_all-loop-formula : goal.invariant-expand_all-loop-formula

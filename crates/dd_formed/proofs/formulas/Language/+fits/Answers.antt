@@ -2,8 +2,9 @@ use Rattle.std.proofs.Common.{◌+◌, ◌<◌, ◌^◌, map, ap, sym, ◌∙◌
 use Rattle.std.specs.List.{list_all}
 use Rattle.dd_expansion.specs.Limits.{formula_fits, list_depth, depth}
 use Rattle.dd_expansion.specs.lemmas.Layers.{fits_and, fits_or, depth_and, depth_or}
-use Rattle.dd_formed.proofs.Layers.{parts_within, some_fails, one_more, all_pass}
+use Rattle.dd_formed.proofs.Layers.{parts_within, one_more, all_pass}
 use Rattle.dd_formed.proofs.formulas.Language.+fits.Goals as goal
+use Rattle.dd_values.specs.lemmas.Lists.{some_fails}
 
 pub all_fit-returns-then-not-fits : goal.all_fit-returns-then-not-fits
 all_fit-returns-then-not-fits t c = λ few.

@@ -1,6 +1,5 @@
 use Rattle.std.proofs.Common.{◌∙◌, ap, arith}
-use Rattle.dd_formula.specs.Automata.{counted}
-use Rattle.dd_formula.specs.declared.automaton.Automaton.{Automaton}
+use Rattle.dd_formula.specs.{Automata.counted, declared.automaton.Automaton.Automaton}
 use Rattle.dd_formula.specs.lemmas.AutomatonLaws.{shallow, depth_composed}
 use Rattle.dd_formula.proofs.automaton.Automaton.+depth.Goals as goal
 

@@ -3,13 +3,11 @@ use Rattle.std.proofs.lemmas.Grind.{common_steps}
 use Rattle.std.specs.List.{list_all}
 use Rattle.dd_lattice.specs.declared.position.Cell.{Cell}
 use Rattle.dd_expansion.specs.Leaves.{total}
-use Rattle.dd_formula.specs.LocalRule.{is_near}
-use Rattle.dd_formula.specs.declared.automaton.Automaton.{Automaton}
-use Rattle.dd_formula.specs.declared.automaton.Automaton.TheVariants as v
+use Rattle.dd_formula.specs.{LocalRule.is_near, declared.automaton.Automaton.Automaton}
 use Rattle.dd_formula.specs.Automata.{CommonNumbers, IsAutomaton, counted, cells_of, is_cell_of}
-use Rattle.dd_formula.specs.Counts.{cut}
-use Rattle.dd_formula.specs.lemmas.Cuts.{total_more, total-take-le, next_cut, cut_passed}
+use Rattle.dd_formula.specs.{Counts.cut, lemmas.Cuts.total_more, lemmas.Cuts.total-take-le, lemmas.Cuts.next_cut, lemmas.Cuts.cut_passed}
 use Rattle.dd_formula.specs.lemmas.AutomatonLaws.{depth_composed, outer_part, inner_part, near_cells, node_at, instances_composed}
+use Rattle.dd_formula.specs.declared.automaton.Automaton.TheVariants as v
 use Rattle.dd_formula.proofs.automaton.Automaton.+instances.Goals as goal
 
 pub instances-composed_instances-requires : goal.instances-composed_instances-requires

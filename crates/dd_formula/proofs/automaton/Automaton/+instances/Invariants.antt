@@ -1,7 +1,6 @@
 use Rattle.std.proofs.Common.{◌≡◌, ◌+◌, ◌*◌, map, max, take}
 use Rattle.dd_expansion.specs.Leaves.{total}
-use Rattle.dd_formula.specs.Automata.{counted}
-use Rattle.dd_formula.specs.Counts.{cut}
+use Rattle.dd_formula.specs.{Automata.counted, Counts.cut}
 use Rattle.dd_formula.proofs.automaton.Automaton.+instances.Given as goal
 
 abbrev pub decreases-instances : goal.decreases-instances

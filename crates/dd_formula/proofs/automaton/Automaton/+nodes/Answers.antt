@@ -1,8 +1,7 @@
 use Rattle.std.proofs.Common.{◌∙◌, ap, sym, subst}
-use Rattle.dd_formula.specs.Automata.{automaton_fits, has_rules, IsNodesOf}
-use Rattle.dd_formula.specs.declared.automaton.Automaton.{Automaton}
-use Rattle.dd_formula.specs.declared.automaton.Automaton.TheVariants as v
+use Rattle.dd_formula.specs.{Automata.automaton_fits, Automata.has_rules, Automata.IsNodesOf, declared.automaton.Automaton.Automaton}
 use Rattle.dd_formula.specs.lemmas.AutomatonLaws.{nodes_given, nodes_outer, nodes_inner}
+use Rattle.dd_formula.specs.declared.automaton.Automaton.TheVariants as v
 use Rattle.dd_formula.proofs.automaton.Automaton.+nodes.Goals as goal
 
 pub returns-in-Given : goal.returns-in-Given

@@ -1,18 +1,12 @@
 use Rattle.std.proofs.Common.{◌≡◌, List, ◌++◌, map, ap, sym, ◌∙◌, subst, arith}
-use Rattle.std.proofs.lemmas.Grind.{common_steps}
+use Rattle.std.proofs.lemmas.{Grind.common_steps, Bool.leb-true, Result.IfOk-weaker}
 use Rattle.std.specs.List.{list_all, flat_map}
-use Rattle.std.proofs.lemmas.Bool.{leb-true}
-use Rattle.std.proofs.lemmas.Result.{IfOk-weaker}
-use Rattle.dd_lattice.specs.Cells.{shifted}
-use Rattle.dd_lattice.specs.declared.position.Cell.{Cell}
-use Rattle.dd_lattice.specs.InOrder.{in_order}
-use Rattle.dd_lattice.specs.lemmas.InOrderLaws.{list_all-in_order}
-use Rattle.dd_formula.specs.LocalRule.{is_near}
-use Rattle.dd_formula.specs.declared.automaton.Automaton.{Automaton}
-use Rattle.dd_formula.specs.declared.automaton.Automaton.TheVariants as v
+use Rattle.dd_lattice.specs.{Cells.shifted, declared.position.Cell.Cell, InOrder.in_order, lemmas.InOrderLaws.list_all-in_order}
+use Rattle.dd_formula.specs.{LocalRule.is_near, declared.automaton.Automaton.Automaton}
 use Rattle.dd_formula.specs.Automata.{CommonNumbers, IsAutomaton, counted, cells_of, is_cell_of}
 use Rattle.dd_formula.specs.lemmas.Cuts.{flat_more}
 use Rattle.dd_formula.specs.lemmas.AutomatonLaws.{depth_composed, reads_given, reads_composed, outer_part, inner_part, near_cells, node_at, passes_at, passes_both, moved_placed, moved_cells}
+use Rattle.dd_formula.specs.declared.automaton.Automaton.TheVariants as v
 use Rattle.dd_formula.proofs.automaton.Automaton.+reads.Goals as goal
 
 pub reads-composed_reads-requires : goal.reads-composed_reads-requires

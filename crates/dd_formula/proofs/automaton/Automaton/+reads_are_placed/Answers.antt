@@ -1,6 +1,5 @@
 use Rattle.std.proofs.Common.{sym, subst}
-use Rattle.dd_formula.specs.Values.{IsPlaced}
-use Rattle.dd_formula.specs.lemmas.ValueLaws.{placed_given, placed_composed}
+use Rattle.dd_formula.specs.{Values.IsPlaced, lemmas.ValueLaws.placed_given, lemmas.ValueLaws.placed_composed}
 use Rattle.dd_formula.proofs.automaton.Automaton.+reads_are_placed.Goals as goal
 
 pub returns-in-Given : goal.returns-in-Given

@@ -1,15 +1,11 @@
 use Rattle.std.proofs.Common.{◌++◌, ◌∷◌, [], map, take, ap, sym, ◌∙◌, subst, arith}
-use Rattle.std.proofs.lemmas.Grind.{common_steps}
+use Rattle.std.proofs.lemmas.{Grind.common_steps, Result.IfOk-weaker}
 use Rattle.std.specs.List.{list_all}
-use Rattle.std.proofs.lemmas.Result.{IfOk-weaker}
 use Rattle.dd_lattice.specs.declared.position.Cell.{Cell}
 use Rattle.dd_pattern.specs.Filling.{filling_look}
 use Rattle.dd_expansion.specs.Terms.{origin_at}
-use Rattle.dd_formula.specs.declared.automaton.Automaton.{Automaton}
-use Rattle.dd_formula.specs.Automata.{value, cells_of, is_cell_of}
-use Rattle.dd_formula.specs.Values.{is_read}
-use Rattle.dd_formula.specs.valuing.Readable.{IsReadable}
-use Rattle.dd_formula.specs.lemmas.AutomatonLaws.{node_at, passes_at}
+use Rattle.dd_formula.specs.{declared.automaton.Automaton.Automaton, Automata.value, Automata.cells_of, Automata.is_cell_of, Values.is_read}
+use Rattle.dd_formula.specs.{valuing.Readable.IsReadable, lemmas.AutomatonLaws.node_at, lemmas.AutomatonLaws.passes_at}
 use Rattle.dd_formula.proofs.SeenLaws.{inner_readable, outer_readable, composed_is, readable_there, value_there, values_more, where_given, not_given, seen_there}
 use Rattle.dd_formula.proofs.automaton.Automaton.+value.Goals as goal
 

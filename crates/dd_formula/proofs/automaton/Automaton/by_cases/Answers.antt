@@ -1,7 +1,5 @@
-use Rattle.std.proofs.Common.{map, sym, subst, arith}
-use Rattle.std.proofs.lemmas.Result.{err_from_is_err_and}
-use Rattle.dd_formula.specs.ByCases.{numbers_over, case_over, IsCasesRefusal}
-use Rattle.dd_formula.specs.lemmas.AutomatonLaws.{counted_given}
+use Rattle.std.proofs.{Common.map, Common.sym, Common.subst, Common.arith, lemmas.Result.err_from_is_err_and}
+use Rattle.dd_formula.specs.{ByCases.numbers_over, ByCases.case_over, ByCases.IsCasesRefusal, lemmas.AutomatonLaws.counted_given}
 use Rattle.dd_formula.proofs.CaseCounts.{all_fit}
 use Rattle.dd_formula.proofs.automaton.Automaton.by_cases.Goals as goal
 

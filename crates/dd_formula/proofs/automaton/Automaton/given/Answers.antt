@@ -1,7 +1,6 @@
 use Rattle.std.proofs.Common.{◌≡◌, ◌≤◌, true, ap, sym, ◌∙◌, arith}
-use Rattle.dd_formula.specs.Automata.{is_few, is_short, counted}
+use Rattle.dd_formula.specs.{Automata.is_few, Automata.is_short, Automata.counted, lemmas.AutomatonLaws.given_formed}
 use Rattle.dd_formula.specs.declared.automaton.Automaton.TheVariants as v
-use Rattle.dd_formula.specs.lemmas.AutomatonLaws.{given_formed}
 use Rattle.dd_formula.proofs.automaton.Automaton.given.Goals as goal
 
 pub returns-then-has_few-clause-formed : goal.returns-then-has_few-clause-formed

@@ -1,8 +1,5 @@
-use Rattle.std.proofs.Common.{◌≡◌, ap, sym, ◌∙◌, subst, arith}
-use Rattle.std.proofs.lemmas.Result.{IfOk-weaker}
-use Rattle.dd_formula.specs.Automata.{IsNodesOf}
-use Rattle.dd_formula.specs.Reach.{automaton_reach}
-use Rattle.dd_formula.specs.declared.automaton.Automaton.{Automaton}
+use Rattle.std.proofs.{Common.◌≡◌, Common.ap, Common.sym, Common.◌∙◌, Common.subst, Common.arith, lemmas.Result.IfOk-weaker}
+use Rattle.dd_formula.specs.{Automata.IsNodesOf, Reach.automaton_reach, declared.automaton.Automaton.Automaton}
 use Rattle.dd_formula.specs.lemmas.FarthestLaws.{bare_reach}
 use Rattle.dd_formula.proofs.automaton.Automaton.reach.Goals as goal
 

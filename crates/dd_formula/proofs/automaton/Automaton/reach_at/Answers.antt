@@ -1,6 +1,5 @@
 use Rattle.std.proofs.Common.{◌∙◌, arith}
-use Rattle.dd_formula.specs.Automata.{cells_of}
-use Rattle.dd_formula.specs.declared.automaton.Automaton.{Automaton}
+use Rattle.dd_formula.specs.{Automata.cells_of, declared.automaton.Automaton.Automaton}
 use Rattle.dd_formula.specs.lemmas.FarthestLaws.{radius_more, automaton_near}
 use Rattle.dd_formula.proofs.automaton.Automaton.reach_at.Goals as goal
 

@@ -1,9 +1,7 @@
 use Rattle.std.proofs.Common.{◌≡◌, Bool, true, false, Some, None, ℕ, cond, ap, sym, ◌∙◌}
 use Rattle.dd_lattice.specs.declared.position.Cell.{Cell}
 use Rattle.dd_pattern.specs.Reading.{Look}
-use Rattle.dd_formula.specs.declared.automaton.Automaton.{Automaton}
-use Rattle.dd_formula.specs.Automata.{value, cells_of}
-use Rattle.dd_formula.specs.Values.{is_read}
+use Rattle.dd_formula.specs.{declared.automaton.Automaton.Automaton, Automata.value, Automata.cells_of, Values.is_read}
 use Rattle.dd_formula.proofs.SeenLaws.{found_none, found_some, cells_given, seen_there, readable_there, value_there}
 use Rattle.dd_formula.proofs.automaton.Automaton.value.Goals as goal
 

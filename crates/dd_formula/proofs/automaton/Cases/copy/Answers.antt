@@ -1,5 +1,4 @@
-use Rattle.std.proofs.Common.{arith}
-use Rattle.std.proofs.lemmas.Grind.{common_steps}
+use Rattle.std.proofs.{Common.arith, lemmas.Grind.common_steps}
 use Rattle.dd_formula.proofs.automaton.Cases.copy.Goals as goal
 
 pub loop-rule-preserved : goal.loop-rule-preserved

@@ -1,11 +1,9 @@
 use Rattle.std.proofs.Common.{◌≡◌, ◌<◌, ◌≤◌, ◌+◌, List, ℕ, length, take, get_or, ap, sym, ◌∙◌, subst, arith}
-use Rattle.std.proofs.lemmas.Grind.{common_steps}
+use Rattle.std.proofs.lemmas.{Grind.common_steps, List.take_all}
 use Rattle.std.specs.List.{list_all}
-use Rattle.std.proofs.lemmas.List.{take_all}
 use Rattle.dd_expansion.specs.Leaves.{instances}
 use Rattle.dd_formula.specs.LocalRule.{LocalRule, expansion_at, reads_at, is_near}
-use Rattle.dd_formula.specs.Automata.{case_instances, cases_reads}
-use Rattle.dd_formula.specs.lemmas.Cuts.{total_more, flat_more}
+use Rattle.dd_formula.specs.{Automata.case_instances, Automata.cases_reads, lemmas.Cuts.total_more, lemmas.Cuts.flat_more}
 use Rattle.dd_formula.specs.lemmas.AutomatonLaws.{case_has, rule_nodes, passes_both}
 use Rattle.dd_formula.proofs.automaton.Cases.instances.Goals as goal
 

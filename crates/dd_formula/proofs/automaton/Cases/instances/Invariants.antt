@@ -1,8 +1,6 @@
 use Rattle.std.proofs.Common.{◌≡◌, ◌+◌, true, take}
 use Rattle.std.specs.List.{list_all}
-use Rattle.dd_formula.specs.LocalRule.{is_near}
-use Rattle.dd_formula.specs.Automata.{case_instances, cases_reads}
-use Rattle.dd_formula.specs.Counts.{cut}
+use Rattle.dd_formula.specs.{LocalRule.is_near, Automata.case_instances, Automata.cases_reads, Counts.cut}
 use Rattle.dd_formula.proofs.automaton.Cases.instances.Given as goal
 
 abbrev pub invariant-loop-rule : goal.invariant-loop-rule

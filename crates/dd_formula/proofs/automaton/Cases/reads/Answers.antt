@@ -1,13 +1,8 @@
 use Rattle.std.proofs.Common.{◌≡◌, ◌<◌, ◌≤◌, List, ◌++◌, ℕ, length, get_or, ap, sym, ◌∙◌, subst, arith}
-use Rattle.std.proofs.lemmas.Grind.{common_steps}
+use Rattle.std.proofs.lemmas.{Grind.common_steps, Result.IfOk-weaker, List.take_all}
 use Rattle.std.specs.List.{list_all, flat_map}
-use Rattle.std.proofs.lemmas.Result.{IfOk-weaker}
-use Rattle.dd_lattice.specs.InOrder.{in_order}
-use Rattle.dd_lattice.specs.lemmas.InOrderLaws.{list_all-in_order}
-use Rattle.std.proofs.lemmas.List.{take_all}
-use Rattle.dd_formula.specs.LocalRule.{LocalRule, cells_at}
-use Rattle.dd_formula.specs.Automata.{is_cell_of}
-use Rattle.dd_formula.specs.lemmas.Cuts.{flat_more}
+use Rattle.dd_lattice.specs.{InOrder.in_order, lemmas.InOrderLaws.list_all-in_order}
+use Rattle.dd_formula.specs.{LocalRule.LocalRule, LocalRule.cells_at, Automata.is_cell_of, lemmas.Cuts.flat_more}
 use Rattle.dd_formula.specs.lemmas.AutomatonLaws.{reads_by_cases, rule_reads, case_has, passes_both}
 use Rattle.dd_formula.proofs.automaton.Cases.reads.Goals as goal
 

@@ -1,7 +1,6 @@
 use Rattle.std.proofs.Common.{◌≡◌, ◌<◌, true, take}
 use Rattle.std.specs.List.{list_all, flat_map}
-use Rattle.dd_formula.specs.LocalRule.{cells_at}
-use Rattle.dd_formula.specs.Automata.{CommonNumbers, cases_fit, is_cell_of}
+use Rattle.dd_formula.specs.{LocalRule.cells_at, Automata.CommonNumbers, Automata.cases_fit, Automata.is_cell_of}
 use Rattle.dd_formula.proofs.automaton.Cases.reads.Given as goal
 
 abbrev pub invariant-loop-rule : goal.invariant-loop-rule

@@ -1,10 +1,8 @@
 use Rattle.std.proofs.Common.{◌≡◌, ◌<◌, ◌≤◌, ℕ, List, length, take, get_or, ap, sym, ◌∙◌, subst}
-use Rattle.std.specs.List.{list_all}
 use Rattle.std.proofs.lemmas.List.{take_all}
+use Rattle.std.specs.List.{list_all}
 use Rattle.dd_lattice.specs.lemmas.InOrderLaws.{list_all-in_order}
-use Rattle.dd_formula.specs.LocalRule.{LocalRule, reads_at}
-use Rattle.dd_formula.specs.Automata.{is_cell_of, cases_reads}
-use Rattle.dd_formula.specs.lemmas.Cuts.{flat_more}
+use Rattle.dd_formula.specs.{LocalRule.LocalRule, LocalRule.reads_at, Automata.is_cell_of, Automata.cases_reads, lemmas.Cuts.flat_more}
 use Rattle.dd_formula.specs.lemmas.AutomatonLaws.{rule_reads, case_has, passes_both}
 use Rattle.dd_formula.proofs.automaton.Cases.reads_are_placed.Goals as goal
 

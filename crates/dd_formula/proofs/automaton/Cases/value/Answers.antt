@@ -1,10 +1,8 @@
 use Rattle.std.proofs.Common.{◌≡◌, ◌<◌, ℕ, List, length, get_or, true, false, sym, ◌∙◌, ap, subst, arith}
-use Rattle.std.proofs.lemmas.Grind.{common_steps}
-use Rattle.std.proofs.lemmas.Option.{none-some, same_Some}
-use Rattle.dd_formula.specs.LocalRule.{LocalRule, is_true}
-use Rattle.dd_pattern.specs.Reading.{HasSymbolsBelow}
-use Rattle.dd_formula.specs.lemmas.AutomatonLaws.{case_has, rule_nodes}
+use Rattle.std.proofs.lemmas.{Grind.common_steps, Option.none-some, Option.same_Some}
+use Rattle.dd_formula.specs.{LocalRule.LocalRule, LocalRule.is_true, lemmas.AutomatonLaws.case_has, lemmas.AutomatonLaws.rule_nodes}
 use Rattle.dd_formula.specs.lemmas.ValueLaws.{case_step, case_given, rule_symbols, told}
+use Rattle.dd_pattern.specs.Reading.{HasSymbolsBelow}
 use Rattle.dd_formula.proofs.automaton.Cases.value.Goals as goal
 
 pub truth-requires : goal.truth-requires

@@ -1,10 +1,8 @@
 use Rattle.std.proofs.Common.{◌≡◌, ◌<◌, ◌≤◌, subst, get_or, arith, ap, ◌∙◌, [], ◌∷◌}
 use Rattle.dd_lattice.specs.Cells.{cell}
-use Rattle.dd_expansion.specs.Terms.{origin_at}
-use Rattle.dd_expansion.specs.lemmas.LeavesAreReads.{same_cells}
-use Rattle.dd_formula.specs.LocalRule.{LocalRule, kept_rule, expansion_at}
+use Rattle.dd_expansion.specs.{Terms.origin_at, lemmas.LeavesAreReads.same_cells}
+use Rattle.dd_formula.specs.{LocalRule.LocalRule, LocalRule.kept_rule, LocalRule.expansion_at, lemmas.RuleLaws.at_cell}
 use Rattle.dd_formula.proofs.Nodes.{get_or-at_nodes}
-use Rattle.dd_formula.specs.lemmas.RuleLaws.{at_cell}
 use Rattle.dd_formula.proofs.rule.Rule.expansion.Goals as goal
 
 pub returns-clause-value : goal.returns-clause-value

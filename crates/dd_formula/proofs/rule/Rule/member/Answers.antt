@@ -1,12 +1,10 @@
 use Rattle.std.proofs.Common.{◌≡◌, ◌<◌, ℕ, length, Bool, true, false, Option, Some, None, sym, arith, ap, ◌∙◌}
-use borrow.Author.Count.{below_more}
 use Rattle.std.proofs.lemmas.Option.{none-some, same_Some}
+use borrow.Author.Count.{below_more}
 use Rattle.std.specs.Prelude.{cond}
 use Rattle.dd_lattice.specs.declared.position.Cell.{Cell}
-use Rattle.dd_pattern.specs.Tile.{Tile, IsPeriodic, cell_in, tile_look}
-use Rattle.dd_pattern.specs.lemmas.BoxLaws.{in_box}
-use Rattle.dd_formula.specs.LocalRule.{LocalRule, IsRule, is_true, is_given}
-use Rattle.dd_formula.specs.Living.{Fits}
+use Rattle.dd_pattern.specs.{Tile.Tile, Tile.IsPeriodic, Tile.cell_in, Tile.tile_look, lemmas.BoxLaws.in_box}
+use Rattle.dd_formula.specs.{LocalRule.LocalRule, LocalRule.IsRule, LocalRule.is_true, LocalRule.is_given, Living.Fits}
 use Rattle.dd_formula.specs.lemmas.Reached.{box_given, tile_below}
 use Rattle.dd_formula.proofs.LivesLaws.{true_in, lives_from_box, first_from_box}
 use Rattle.dd_formula.proofs.rule.Rule.member.Goals as goal

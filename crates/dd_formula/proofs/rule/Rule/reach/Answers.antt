@@ -1,6 +1,5 @@
 use Rattle.std.proofs.Common.{arith}
-use Rattle.dd_formula.specs.LocalRule.{cells_at}
-use Rattle.dd_formula.specs.lemmas.FarthestLaws.{radius_more, rule_near}
+use Rattle.dd_formula.specs.{LocalRule.cells_at, lemmas.FarthestLaws.radius_more, lemmas.FarthestLaws.rule_near}
 use Rattle.dd_formula.proofs.rule.Rule.reach.Goals as goal
 
 pub loop-node-preserved : goal.loop-node-preserved

@@ -1,7 +1,6 @@
 use Rattle.std.proofs.Common.{◌≡◌, ◌≤◌}
 use Rattle.std.specs.List.{flat_map, range_with_len}
-use Rattle.dd_formula.specs.LocalRule.{cells_at}
-use Rattle.dd_formula.specs.Reach.{farthest}
+use Rattle.dd_formula.specs.{LocalRule.cells_at, Reach.farthest}
 use Rattle.dd_formula.proofs.rule.Rule.reach.Given as goal
 
 abbrev pub invariant-loop-node : goal.invariant-loop-node

@@ -1,6 +1,5 @@
 use Rattle.std.proofs.Common.{subst}
-use Rattle.dd_formula.specs.LocalRule.{IsRule}
-use Rattle.dd_formula.specs.lemmas.AllowedLaws.{look_below}
+use Rattle.dd_formula.specs.{LocalRule.IsRule, lemmas.AllowedLaws.look_below}
 use Rattle.dd_formula.proofs.rule.Rule.symbols.Goals as goal
 
 pub returns-clause-allowed : goal.returns-clause-allowed

@@ -1,9 +1,8 @@
-use Rattle.std.proofs.Common.{◌≡◌, arith, rules}
+use Rattle.std.proofs.{Common.◌≡◌, Common.arith, Common.rules, lemmas.Int.ints}
 use Rattle.std.specs.Int.{w128}
 use lib.IntN.{pos}
 use mir.Val.{SFits}
 use borrow.Author.Differences.{same_in}
-use Rattle.std.proofs.lemmas.Int.{ints}
 use Rattle.dd_fraction.specs.Exact.{Exact}
 use Rattle.dd_fraction.proofs.Quick.{zero_sum}
 use Rattle.dd_fraction.proofs.fraction.Fraction.add.Goals as goal

@@ -1,8 +1,7 @@
-use Rattle.std.proofs.Common.{◌≡◌, ◌<◌, ◌^◌, ◌∙◌, ap, arith, rules}
+use Rattle.std.proofs.{Common.◌≡◌, Common.◌<◌, Common.◌^◌, Common.◌∙◌, Common.ap, Common.arith, Common.rules, lemmas.Int.to_z-of_z}
 use Rattle.std.specs.Int.{w128}
 use lib.IntN.{ℤ}
 use mir.Val.{SFits}
-use Rattle.std.proofs.lemmas.Int.{to_z-of_z}
 use Rattle.dd_fraction.specs.Exact.{Exact, lowest}
 use Rattle.dd_fraction.proofs.Quick.{alike_sum}
 use Rattle.dd_fraction.proofs.fraction.Fraction.alike_sum.Goals as goal

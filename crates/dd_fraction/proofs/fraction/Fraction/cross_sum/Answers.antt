@@ -1,15 +1,14 @@
 use Rattle.std.proofs.Common.{◌≡◌, ◌*◌, ◌∙◌, ◌⊎◌, inl, inr, rules}
+use Rattle.std.proofs.lemmas.Int.{to_z-of_z, to_z_pos}
 use Rattle.std.specs.Int.{w128}
 use lib.IntN.{pos, ◌+ℤ◌}
 use mir.Val.{SFits, to_z}
-use Rattle.std.proofs.lemmas.Int.{to_z-of_z, to_z_pos}
-use Rattle.dd_fraction.specs.Exact.{Exact}
-use Rattle.dd_fraction.specs.Checked.{IsFraction}
-use Rattle.dd_fraction.proofs.Quick.{as_lowest, whole_side}
+use Rattle.dd_fraction.specs.{Exact.Exact, Checked.IsFraction}
 use Rattle.dd_fraction.specs.lemmas.Results.{bounded_within, sum_none_first, sum_none_second, sum_none_third, sum_none_fourth, sum_some, size_some, size_within}
 use Rattle.dd_fraction.specs.lemmas.Ring.{product_above}
-use Rattle.dd_fraction.proofs.fraction.Fraction.cross_sum.Goals as goal
+use Rattle.dd_fraction.proofs.Quick.{as_lowest, whole_side}
 use Rattle.dd_fraction.proofs.fraction.Fraction.cross_sum.Goals.{then-self-eq1-via-then-self-eq1, then-self-eq1-via-else-self-eq1+then-other-eq1}
+use Rattle.dd_fraction.proofs.fraction.Fraction.cross_sum.Goals as goal
 
 pub returns-in_err-left : goal.returns-in_err-left
 returns-in_err-left c =

@@ -1,13 +1,11 @@
 use Rattle.std.proofs.Common.{◌≡◌, ℕ, ◌<◌, ◌^◌, ◌∙◌, sym, ap, arith, rules}
-use Rattle.std.specs.Int.{w128}
-use Rattle.std.specs.Int.RustNames.{unsigned_abs}
+use Rattle.std.proofs.lemmas.Int.{to_z-of_z, to_z_pos, ints}
+use Rattle.std.specs.Int.{w128, RustNames.unsigned_abs}
 use lib.IntN.{pos, ◌-ℤ◌}
 use mir.Val.{SFits, to_z, of_z}
-use Rattle.std.proofs.lemmas.Int.{to_z-of_z, to_z_pos, ints}
-use Rattle.dd_fraction.specs.Exact.{Exact}
-use Rattle.dd_fraction.specs.lemmas.Results.{inverted, size_above}
-use Rattle.dd_fraction.proofs.fraction.Fraction.invert.Goals as goal
+use Rattle.dd_fraction.specs.{Exact.Exact, lemmas.Results.inverted, lemmas.Results.size_above}
 use Rattle.dd_fraction.proofs.fraction.Fraction.invert.Goals.{then-self-lt0, else-self-lt0}
+use Rattle.dd_fraction.proofs.fraction.Fraction.invert.Goals as goal
 
 negated_size : (d : ℕ) → d < 2 ^ 127 → unsigned_abs (to_z w128 (of_z w128 (pos 0 -ℤ to_z w128 d))) ≡ d
 negated_size d p = omega (arith, ints)

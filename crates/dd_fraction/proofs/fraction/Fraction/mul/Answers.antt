@@ -1,16 +1,13 @@
-use Rattle.std.proofs.Common.{◌*◌, ap, ◌∙◌, rules}
-use Rattle.std.specs.Int.{w128}
-use Rattle.std.specs.Int.RustNames.{unsigned_abs}
+use Rattle.std.proofs.{Common.◌*◌, Common.ap, Common.◌∙◌, Common.rules, lemmas.Int.to_z-of_z}
+use Rattle.std.specs.Int.{w128, RustNames.unsigned_abs}
 use lib.IntN.{◌*ℤ◌}
 use mir.Val.{SFits}
-use Rattle.std.proofs.lemmas.Int.{to_z-of_z}
-use Rattle.dd_fraction.specs.Exact.{Exact}
-use Rattle.dd_fraction.specs.Checked.{IsFraction}
-use Rattle.dd_fraction.proofs.Quick.{as_lowest, unit_left, unit_right}
+use Rattle.dd_fraction.specs.{Exact.Exact, Checked.IsFraction}
 use Rattle.dd_fraction.specs.lemmas.Results.{bounded_some, bounded_within, product_some, size_some, size_within}
 use Rattle.dd_fraction.specs.lemmas.Ring.{product_above}
-use Rattle.dd_fraction.proofs.fraction.Fraction.mul.Goals as goal
+use Rattle.dd_fraction.proofs.Quick.{as_lowest, unit_left, unit_right}
 use Rattle.dd_fraction.proofs.fraction.Fraction.mul.Goals.{then-is_unit-via-then-is_unit, then-is_unit-via-else-is_unit+then-is_unit-2}
+use Rattle.dd_fraction.proofs.fraction.Fraction.mul.Goals as goal
 
 pub in_lowest_terms-requires : goal.in_lowest_terms-requires
 in_lowest_terms-requires c =

@@ -1,7 +1,6 @@
-use Rattle.std.proofs.Common.{◌∙◌, rules}
+use Rattle.std.proofs.{Common.◌∙◌, Common.rules, lemmas.Int.to_z-of_z}
 use Rattle.std.specs.Int.{w128}
 use mir.Val.{SFits}
-use Rattle.std.proofs.lemmas.Int.{to_z-of_z}
 use Rattle.dd_fraction.specs.Checked.{checked_less_product}
 use Rattle.dd_fraction.proofs.fraction.Fraction.small_less_product.Goals as goal
 

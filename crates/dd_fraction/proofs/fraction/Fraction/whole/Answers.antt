@@ -1,7 +1,6 @@
-use Rattle.std.proofs.Common.{arith}
+use Rattle.std.proofs.{Common.arith, lemmas.Int.to_z-of_z, lemmas.Int.ints}
 use Rattle.std.specs.Int.{w64, w128}
 use mir.Val.{SFits}
-use Rattle.std.proofs.lemmas.Int.{to_z-of_z, ints}
 use Rattle.dd_fraction.specs.lemmas.Results.{whole_fraction}
 use Rattle.dd_fraction.proofs.fraction.Fraction.whole.Goals as goal
 

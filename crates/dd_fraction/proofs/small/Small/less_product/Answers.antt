@@ -1,13 +1,12 @@
 use Rattle.std.proofs.Common.{◌≡◌, ℕ, ◌*◌, ◌<◌, refl, sym, ap, subst, ◌∙◌, arith, rules, Some}
+use Rattle.std.proofs.lemmas.Int.{to_z-of_z}
 use Rattle.std.specs.Int.{w16, w32, w64}
 use mir.Val.{SFits}
 use lib.IntN.{pos, ◌-ℤ◌, ◌*ℤ◌}
-use Rattle.std.proofs.lemmas.Int.{to_z-of_z}
-use Rattle.dd_fraction.specs.Exact.{Exact}
-use Rattle.dd_fraction.specs.lemmas.Ring.{product_above}
+use Rattle.dd_fraction.specs.{Exact.Exact, lemmas.Ring.product_above}
 use Rattle.dd_fraction.proofs.LessProduct.{small_sizes, small_words, small_less_product, less_product_at, alike_less_product}
-use Rattle.dd_fraction.proofs.small.Small.less_product.Goals as goal
 use Rattle.dd_fraction.proofs.small.Small.less_product.Goals.{After-from-7, After-from-9, After-from-11}
+use Rattle.dd_fraction.proofs.small.Small.less_product.Goals as goal
 
 pub returns-then-den-from : goal.returns-then-den-from
 returns-then-den-from c =

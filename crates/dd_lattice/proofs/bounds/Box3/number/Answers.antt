@@ -1,5 +1,4 @@
-use Rattle.std.proofs.Common.{ap, arith}
-use Rattle.std.proofs.lemmas.Grind.{common_steps}
+use Rattle.std.proofs.{Common.ap, Common.arith, lemmas.Grind.common_steps}
 use Rattle.dd_lattice.specs.lemmas.BoxLaws.{index_below}
 use Rattle.dd_lattice.proofs.bounds.Box3.number.Goals as goal
 

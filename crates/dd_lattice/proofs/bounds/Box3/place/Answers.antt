@@ -1,6 +1,5 @@
 use Rattle.std.proofs.Common.{◌<◌, rules}
-use Rattle.dd_lattice.specs.Boxes.{Bounds, volume}
-use Rattle.dd_lattice.specs.lemmas.BoxLaws.{place_within}
+use Rattle.dd_lattice.specs.{Boxes.Bounds, Boxes.volume, lemmas.BoxLaws.place_within}
 use Rattle.dd_lattice.proofs.bounds.Box3.place.Goals as goal
 
 pub raised-requires : goal.raised-requires

@@ -1,6 +1,5 @@
 use Rattle.std.proofs.Common.{◌<◌, arith}
-use Rattle.dd_lattice.specs.Boxes.{volume}
-use Rattle.dd_lattice.specs.lemmas.BoxLaws.{place_within, index_of_place}
+use Rattle.dd_lattice.specs.{Boxes.volume, lemmas.BoxLaws.place_within, lemmas.BoxLaws.index_of_place}
 use Rattle.dd_lattice.proofs.bounds.Box3.position_at.Goals as goal
 
 pub returns-then-index-volume-clause-within : goal.returns-then-index-volume-clause-within

@@ -1,8 +1,5 @@
-use Rattle.std.proofs.Common.{Err, ◌∙◌, arith}
-use Rattle.std.proofs.lemmas.Grind.{common_steps}
-use Rattle.std.proofs.lemmas.Bool.{false≢true}
-use Rattle.dd_lattice.specs.lemmas.InOrderLaws.{place_total, places_equal}
-use Rattle.dd_lattice.specs.lemmas.SearchLaws.{search_tells}
+use Rattle.std.proofs.{Common.Err, Common.◌∙◌, Common.arith, lemmas.Grind.common_steps, lemmas.Bool.false≢true}
+use Rattle.dd_lattice.specs.lemmas.{InOrderLaws.place_total, InOrderLaws.places_equal, SearchLaws.search_tells}
 use Rattle.dd_lattice.proofs.region.Region.holds.Goals as goal
 
 pub returns-in-Err : goal.returns-in-Err

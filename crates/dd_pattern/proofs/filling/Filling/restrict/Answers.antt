@@ -1,7 +1,5 @@
-use Rattle.std.proofs.Common.{sym, ◌∙◌, subst, arith}
-use Rattle.std.proofs.lemmas.Grind.{common_steps}
-use Rattle.dd_pattern.specs.Filling.{IsFilling}
-use Rattle.dd_pattern.specs.lemmas.FillingLaws.{missing_from_none}
+use Rattle.std.proofs.{Common.sym, Common.◌∙◌, Common.subst, Common.arith, lemmas.Grind.common_steps}
+use Rattle.dd_pattern.specs.{Filling.IsFilling, lemmas.FillingLaws.missing_from_none}
 use Rattle.dd_pattern.proofs.filling.Filling.restrict.Goals as goal
 
 pub returns-in_default : goal.returns-in_default

@@ -1,5 +1,4 @@
-use Rattle.std.proofs.Common.{arith, rules}
-use Rattle.std.proofs.lemmas.Grind.{common_steps}
+use Rattle.std.proofs.{Common.arith, Common.rules, lemmas.Grind.common_steps}
 use Rattle.dd_pattern.specs.lemmas.TileSizes.{sizes_of}
 use Rattle.dd_pattern.proofs.periodic.Periodic.base.Goals as goal
 

@@ -1,7 +1,6 @@
 use Rattle.std.proofs.Common.{◌≡◌, ◌%◌, arith, rules, sym, subst}
 use Rattle.dd_lattice.specs.Cells.{cell}
-use Rattle.dd_pattern.specs.Tile.{IsTile, IsPeriodic, IsInBox, cell_in}
-use Rattle.dd_pattern.specs.lemmas.BoxLaws.{in_box, index_of_cell}
+use Rattle.dd_pattern.specs.{Tile.IsTile, Tile.IsPeriodic, Tile.IsInBox, Tile.cell_in, lemmas.BoxLaws.in_box, lemmas.BoxLaws.index_of_cell}
 use Rattle.dd_pattern.proofs.periodic.Periodic.cell_at.Goals as goal
 
 pub returns-clause-in_box : goal.returns-clause-in_box

@@ -1,7 +1,5 @@
-use Rattle.std.proofs.Common.{◌≡◌, [], sym, arith, subst}
-use Rattle.std.proofs.lemmas.Result.{IfOk-weaker}
-use Rattle.dd_pattern.specs.Periods.{AreAllWithin}
-use Rattle.dd_pattern.specs.listing.Adding.{IsAdded, HasPlane, HasBox}
+use Rattle.std.proofs.{Common.◌≡◌, Common.[], Common.sym, Common.arith, Common.subst, lemmas.Result.IfOk-weaker}
+use Rattle.dd_pattern.specs.{Periods.AreAllWithin, listing.Adding.IsAdded, listing.Adding.HasPlane, listing.Adding.HasBox}
 use Rattle.dd_pattern.proofs.PeriodsLaws.{level_more, all_within}
 use Rattle.dd_pattern.proofs.periods.Periods.within.Goals as goal
 

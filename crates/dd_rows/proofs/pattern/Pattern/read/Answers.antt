@@ -1,7 +1,6 @@
-use Rattle.std.proofs.Common.{◌≡◌, ◌∙◌, get_or, ap, sym, arith}
-use Rattle.std.specs.Prelude.{unwrap_or, slice_get}
-use Rattle.std.proofs.lemmas.List.{get_or_default}
+use Rattle.std.proofs.{Common.◌≡◌, Common.◌∙◌, Common.get_or, Common.ap, Common.sym, Common.arith, lemmas.List.get_or_default}
 use Rattle.std.proofs.lemmas.Option.{unwrap_or-slice_get}
+use Rattle.std.specs.Prelude.{unwrap_or, slice_get}
 use Rattle.dd_rows.proofs.Collected.{mapped_next}
 use Rattle.dd_rows.proofs.pattern.Pattern.read.Goals as goal
 

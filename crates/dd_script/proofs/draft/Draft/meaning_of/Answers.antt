@@ -1,6 +1,5 @@
 use Rattle.std.proofs.lemmas.Result.{err_from_is_err_and}
-use Rattle.dd_faults.specs.Commands.{written_faults}
-use Rattle.dd_faults.specs.lemmas.Nothing.{none_first}
+use Rattle.dd_faults.specs.{Commands.written_faults, lemmas.Nothing.none_first}
 use Rattle.dd_script.proofs.Walking.{asked_is, means}
 use Rattle.dd_script.proofs.draft.Draft.meaning_of.Goals as goal
 

@@ -1,8 +1,7 @@
 use Rattle.std.proofs.Common.{◌≡◌, Some, refl, subst}
 use Rattle.std.specs.List.{Contains}
 use Rattle.dd_question.specs.Questions.{asked_of}
-use Rattle.dd_script.specs.Questions.{asked}
-use Rattle.dd_script.specs.{Parts.Parts, Parts.parts, Kept.IsScriptOf}
+use Rattle.dd_script.specs.{Questions.asked, Parts.Parts, Parts.parts, Kept.IsScriptOf}
 use Rattle.dd_script.proofs.script.Script.question.Goals as goal
 
 pub question_of-question-requires-clause-pairs : goal.question_of-question-requires-clause-pairs

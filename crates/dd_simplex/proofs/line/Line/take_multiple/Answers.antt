@@ -1,5 +1,4 @@
-use Rattle.std.proofs.Common.{arith}
-use Rattle.std.proofs.lemmas.Grind.{common_steps}
+use Rattle.std.proofs.{Common.arith, lemmas.Grind.common_steps}
 use Rattle.dd_simplex.proofs.line.Line.take_multiple.Goals as goal
 
 pub returns-in_default-clause-fits : goal.returns-in_default-clause-fits

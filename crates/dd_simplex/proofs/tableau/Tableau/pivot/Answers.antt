@@ -1,8 +1,6 @@
 use Rattle.std.proofs.Common.{◌≡◌, List, ◌<◌, length, get_or, subst, sym, ap, ◌∙◌, arith}
-use Rattle.std.proofs.lemmas.Grind.{common_steps}
-use Rattle.std.specs.List.{slice_set}
-use Rattle.std.specs.Vec.{with_items}
-use Rattle.std.proofs.lemmas.List.{with_items_is, get_or_default}
+use Rattle.std.proofs.lemmas.{Grind.common_steps, List.with_items_is, List.get_or_default}
+use Rattle.std.specs.{List.slice_set, Vec.with_items}
 use Rattle.dd_fraction.specs.Exact.{Exact, plus, times}
 use Rattle.dd_simplex.specs.Programs.{fraction_at, zero_of}
 use Rattle.dd_simplex.specs.table.Lines.{Table, Line, line_at, other_at, changed_lines, changed_table, less}

@@ -1,9 +1,7 @@
 use Rattle.std.proofs.Common.{◌≡◌, ◌<◌, length, Some, inr, refl, ap, sym, ◌∙◌, subst, arith}
-use Rattle.std.specs.List.{All}
 use Rattle.std.proofs.lemmas.Grind.{common_steps}
-use Rattle.dd_simplex.specs.table.Lines.{Line, Table}
-use Rattle.dd_simplex.specs.table.Choices.{DoRatiosFit}
-use Rattle.dd_simplex.specs.table.Steps.{DoesEnter, DoesLeave}
+use Rattle.std.specs.List.{All}
+use Rattle.dd_simplex.specs.table.{Lines.Line, Lines.Table, Choices.DoRatiosFit, Steps.DoesEnter, Steps.DoesLeave}
 use Rattle.dd_simplex.proofs.IdleLines.{table_fractions, table_sizes, place_within}
 use Rattle.dd_simplex.proofs.tableau.Tableau.turn.Goals as goal
 

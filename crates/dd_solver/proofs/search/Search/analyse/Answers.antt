@@ -1,12 +1,9 @@
 use Rattle.std.proofs.Common.{◌≡◌, take, drop, true, [], ◌++◌, length, ap, ◌∙◌, arith}
-use Rattle.std.proofs.lemmas.Grind.{common_steps}
+use Rattle.std.proofs.lemmas.{Grind.common_steps, List.length-take, List.length-append, List.length-drop}
 use Rattle.std.specs.Option.{MatchOption}
-use Rattle.std.proofs.lemmas.List.{length-take, length-append, length-drop}
 use Rattle.dd_derivation.specs.declared.step.Step.{Step}
-use Rattle.dd_solver.specs.searching.Reasons.{all_known}
-use Rattle.dd_solver.specs.searching.Analysis.{is_rightly_learned, Asserts}
-use Rattle.dd_solver.specs.searching.Deleting.{MayDelete}
-use Rattle.dd_solver.specs.searching.Search.{known_through}
+use Rattle.dd_solver.specs.searching.{Reasons.all_known, Analysis.is_rightly_learned, Analysis.Asserts}
+use Rattle.dd_solver.specs.searching.{Deleting.MayDelete, Search.known_through}
 use Rattle.dd_solver.proofs.Moves.{search_learned, alive_more, goes_on}
 use Rattle.dd_solver.proofs.search.Search.analyse.Goals as goal
 

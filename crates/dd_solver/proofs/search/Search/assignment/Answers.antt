@@ -1,11 +1,10 @@
 use Rattle.std.proofs.Common.{◌≡◌, ℕ, ◌≤◌, true, false, length, subst, sym}
 use Rattle.dd_clause.specs.Clauses.{Satisfies}
-use Rattle.dd_values.specs.Variables.{true_variables}
+use Rattle.dd_values.specs.{Variables.true_variables, lemmas.Results.if_ok_both}
 use Rattle.dd_derivation.specs.Derivations.{is_among, has_variable}
 use Rattle.dd_trail.specs.Trails.{falses}
 use Rattle.dd_solver.specs.searching.Search.{State, AreOpen}
 use Rattle.dd_solver.proofs.Moves.{values_satisfy}
-use Rattle.dd_solver.proofs.Right.{if_ok_both}
 use Rattle.dd_solver.proofs.search.Search.assignment.Goals as goal
 
 pub returns : goal.returns

@@ -1,8 +1,6 @@
 use Rattle.std.proofs.Common.{None}
-use Rattle.dd_trail.specs.declared.trail.Entry.{Entry}
-use Rattle.dd_trail.specs.Trails.{IsFree}
-use Rattle.dd_solver.proofs.Moves.{search_push}
-use Rattle.dd_solver.proofs.Rises.{push_falls}
+use Rattle.dd_trail.specs.{declared.trail.Entry.Entry, Trails.IsFree}
+use Rattle.dd_solver.proofs.{Moves.search_push, Rises.push_falls}
 use Rattle.dd_solver.proofs.search.Search.decide.Goals as goal
 
 pub invariant_of-self-2 : goal.invariant_of-self-2

@@ -1,14 +1,8 @@
-use Rattle.std.proofs.Common.{◌≡◌, Some, length, subst, ◌∙◌, arith}
-use Rattle.std.proofs.lemmas.Grind.{common_steps}
-use Rattle.dd_derivation.specs.declared.propagation.Finding.TheVariants.{Forced}
-use Rattle.dd_derivation.specs.Derivations.{hint_finding, is_among}
-use Rattle.dd_trail.specs.declared.trail.Entry.{Entry}
-use Rattle.dd_trail.specs.Trails.{IsFull, falses}
-use Rattle.dd_solver.specs.searching.Reasons.{all_known}
-use Rattle.dd_trail.specs.Propagation.{AreOpenBetween}
-use Rattle.dd_solver.specs.searching.Search.{known_through}
-use Rattle.dd_solver.proofs.Moves.{forced_in_range, forced_new, entry_forced, search_push, all_open}
-use Rattle.dd_solver.proofs.Numbers.{Known}
+use Rattle.std.proofs.{Common.◌≡◌, Common.Some, Common.length, Common.subst, Common.◌∙◌, Common.arith, lemmas.Grind.common_steps}
+use Rattle.dd_derivation.specs.{declared.propagation.Finding.TheVariants.Forced, Derivations.hint_finding, Derivations.is_among}
+use Rattle.dd_trail.specs.{declared.trail.Entry.Entry, Trails.IsFull, Trails.falses, Propagation.AreOpenBetween}
+use Rattle.dd_solver.specs.searching.{Reasons.all_known, Search.known_through}
+use Rattle.dd_solver.proofs.{Moves.forced_in_range, Moves.forced_new, Moves.entry_forced, Moves.search_push, Moves.all_open, Numbers.Known}
 use Rattle.dd_solver.proofs.Rises.{push_falls}
 use Rattle.dd_solver.proofs.search.Search.propagate.Goals as goal
 

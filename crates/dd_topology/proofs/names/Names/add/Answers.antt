@@ -1,5 +1,4 @@
-use Rattle.std.proofs.Common.{◌∙◌, map, ap, sym, refl, arith}
-use Rattle.std.proofs.lemmas.Grind.{common_steps}
+use Rattle.std.proofs.{Common.◌∙◌, Common.map, Common.ap, Common.sym, Common.refl, Common.arith, lemmas.Grind.common_steps}
 use Rattle.std.specs.Prelude.{string_bytes}
 use Rattle.dd_topology.specs.lemmas.NamingLaws.{known, unknown, map-insert_key}
 use Rattle.dd_topology.proofs.names.Names.add.Goals as goal

@@ -1,5 +1,4 @@
-use Rattle.std.proofs.Common.{arith}
-use Rattle.std.proofs.lemmas.Grind.{elements}
+use Rattle.std.proofs.{Common.arith, lemmas.Grind.elements}
 use Rattle.dd_topology.proofs.sets.Sets.copy.Goals as goal
 
 pub returns-clause-value : goal.returns-clause-value

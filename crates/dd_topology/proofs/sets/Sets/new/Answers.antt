@@ -1,7 +1,6 @@
 use Rattle.std.proofs.Common.{◌≡◌, ◌*◌, true, replicate, length, ap, sym, ◌∙◌, subst}
 use Rattle.std.proofs.lemmas.List.{length-replicate}
-use Rattle.dd_topology.specs.Sets.{symbol_sets, all_symbols, IsSets}
-use Rattle.dd_topology.specs.keeping.Kept.{in_rows}
+use Rattle.dd_topology.specs.{Sets.symbol_sets, Sets.all_symbols, Sets.IsSets, keeping.Kept.in_rows}
 use Rattle.dd_topology.proofs.SetLaws.{rows-replicate, all_are_sets}
 use Rattle.dd_topology.proofs.sets.Sets.new.Goals as goal
 

@@ -1,7 +1,6 @@
 use Rattle.std.proofs.Common.{◌≡◌, ◌<◌, ◌*◌, ◌+◌, ◌-◌, length, ap, sym, ◌∙◌, subst, arith}
 use Rattle.std.specs.List.{All}
-use Rattle.dd_topology.specs.Sets.{symbol_sets, restricted}
-use Rattle.dd_topology.specs.keeping.Kept.{in_rows}
+use Rattle.dd_topology.specs.{Sets.symbol_sets, Sets.restricted, keeping.Kept.in_rows}
 use Rattle.dd_topology.proofs.SetLaws.{length-in_rows, rows_restricted, as_long, restricted_are_sets}
 use Rattle.dd_topology.proofs.sets.Sets.restrict.Goals as goal
 

@@ -1,10 +1,7 @@
 use Rattle.std.proofs.Common.{◌≡◌, ◌<◌, arith, ap, sym, ◌∙◌, subst, [], eqb-true}
-use Rattle.std.proofs.lemmas.Grind.{common_steps}
-use Rattle.std.proofs.lemmas.List.{nil_from_length}
-use Rattle.std.proofs.lemmas.Result.{err_from_is_err_and}
+use Rattle.std.proofs.lemmas.{Grind.common_steps, List.nil_from_length, Result.err_from_is_err_and}
 use Rattle.std.specs.BTreeSet.{insert_key}
-use Rattle.dd_lattice.specs.Order.{cell_cmp}
-use Rattle.dd_lattice.specs.Place.{IsInRange}
+use Rattle.dd_lattice.specs.{Order.cell_cmp, Place.IsInRange}
 use Rattle.dd_topology.specs.Balls.{IsInBall}
 use Rattle.dd_topology.proofs.GrowthLaws.{IsGrown, grown_start, grown_more, stopped, left_range, cells_at_last, list_at_last, fault_from}
 use Rattle.dd_topology.proofs.topology.Topology.ball_within.Goals as goal

@@ -1,7 +1,5 @@
 use Rattle.std.proofs.Common.{◌<◌, ◌∙◌, sym, refl, length, Some, None, arith}
-use Rattle.std.proofs.lemmas.Grind.{common_steps}
-use Rattle.std.proofs.lemmas.List.{length-map}
-use Rattle.std.proofs.lemmas.Option.{slice_get_read}
+use Rattle.std.proofs.lemmas.{Grind.common_steps, List.length-map, Option.slice_get_read}
 use Rattle.dd_topology.specs.keeping.Kept.{move_of}
 use Rattle.dd_topology.proofs.MoveLaws.{found_by_move}
 use Rattle.dd_topology.proofs.topology.Topology.edge_from.Goals as goal

@@ -1,5 +1,4 @@
-use Rattle.dd_topology.proofs.BallLaws.{is_adjacent-exact, in_ball, ball_holds}
-use Rattle.dd_topology.proofs.GridLaws.{short_edges}
+use Rattle.dd_topology.proofs.{BallLaws.is_adjacent-exact, BallLaws.in_ball, BallLaws.ball_holds, GridLaws.short_edges}
 use Rattle.dd_topology.proofs.topology.Topology.edges.Goals as goal
 
 pub returns-clause-adjacent : goal.returns-clause-adjacent

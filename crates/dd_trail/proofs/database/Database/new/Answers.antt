@@ -1,6 +1,5 @@
 use Rattle.std.proofs.Common.{sym, ◌∙◌}
-use Rattle.dd_derivation.specs.Derivations.{clauses_before}
-use Rattle.dd_derivation.specs.lemmas.Numbers.{length-before}
+use Rattle.dd_derivation.specs.{Derivations.clauses_before, lemmas.Numbers.length-before}
 use Rattle.dd_trail.proofs.Numbers.{length-known_of}
 use Rattle.dd_trail.proofs.database.Database.new.Goals as goal
 

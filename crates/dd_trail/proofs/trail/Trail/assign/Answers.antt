@@ -1,5 +1,4 @@
-use Rattle.std.proofs.Common.{◌≡◌, false, arith}
-use Rattle.std.proofs.lemmas.Grind.{common_steps}
+use Rattle.std.proofs.{Common.◌≡◌, Common.false, Common.arith, lemmas.Grind.common_steps}
 use Rattle.dd_clause.specs.Clauses.{IsLiteralInRange}
 use Rattle.dd_derivation.specs.Derivations.{has_variable}
 use Rattle.dd_trail.specs.Trails.{falses}

@@ -1,9 +1,7 @@
 use Rattle.std.proofs.Common.{◌-◌, false, set, take, sym, ◌∙◌, subst, arith}
 use Rattle.dd_clause.specs.Clauses.{negation}
-use Rattle.dd_trail.specs.declared.trail.Entry.{Entry}
-use Rattle.dd_trail.specs.keeping.Values.{IsDenied, code}
+use Rattle.dd_trail.specs.{declared.trail.Entry.Entry, keeping.Values.IsDenied, keeping.Values.code, lemmas.Trails.take_shorter}
 use Rattle.dd_trail.proofs.Denied.{denied_less}
-use Rattle.dd_trail.specs.lemmas.Trails.{take_shorter}
 use Rattle.dd_trail.proofs.trail.Trail.undo.Goals as goal
 
 pub loop-self-preserved : goal.loop-self-preserved

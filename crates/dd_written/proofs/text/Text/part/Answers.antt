@@ -1,4 +1,4 @@
--- Parts of ASCII texts are texts.
+-- A part of an ASCII text is ASCII.
 use Rattle.std.proofs.lemmas.Str.{IsUtf8-from_ascii, IsAscii-take, IsAscii-drop}
 use Rattle.dd_written.proofs.text.Text.part.Goals as goal
 

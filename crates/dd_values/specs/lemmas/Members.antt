@@ -1,10 +1,8 @@
 -- Membership in lists, and lists that ascend strictly in some order.
 use Rattle.std.proofs.Common.{◌≡◌, ◌<◌, ℕ, zero, suc, List, [], ◌∷◌, ◌++◌, map, length, get_or, refl, sym, ◌∙◌, subst, inl, inr, ◌⊎◌, arith}
-use Rattle.std.specs.List.{All, Contains}
-use Rattle.std.specs.List.Sorted.{IsStrictlySortedBy}
-use Rattle.std.specs.declared.cmp.Ordering.{Ordering}
-use Rattle.std.specs.declared.cmp.Ordering.TheVariants.{Less}
 use Rattle.std.proofs.lemmas.List.Elements.{All-append, All-map, All-weaker, All-contains_itself, All-contains, All-from_recursion, recursion_from_All}
+use Rattle.std.specs.{List.All, List.Contains, List.Sorted.IsStrictlySortedBy, declared.cmp.Ordering.Ordering}
+use Rattle.std.specs.declared.cmp.Ordering.TheVariants.{Less}
 
 pub Contains-first : {X : Type 0} (x : X) (xs : List X) → Contains (x ∷ xs) x
 Contains-first x xs = (0, omega arith, refl)
@@ -12,7 +10,7 @@ Contains-first x xs = (0, omega arith, refl)
 pub Contains-later : {X : Type 0} (x : X) (xs : List X) (q : X) → Contains xs q → Contains (x ∷ xs) q
 Contains-later x xs q c = (suc c.0, omega (arith, c.1), c.2)
 
-at_cases : {X : Type 0} (x : X) (xs : List X) (q : X) (k : ℕ) → k < length (x ∷ xs) → get_or (x ∷ xs) k q ≡ q → (x ≡ q) ⊎ Contains xs q
+pub at_cases : {X : Type 0} (x : X) (xs : List X) (q : X) (k : ℕ) → k < length (x ∷ xs) → get_or (x ∷ xs) k q ≡ q → (x ≡ q) ⊎ Contains xs q
 at_cases x xs q zero below is = inl is
 at_cases x xs q (suc k) below is = inr (k, omega arith, is)
 
@@ -25,7 +23,7 @@ Contains-nil q c = absurd (let below = c.1 in omega arith)
 pub All-from_contains : {X : Type 0} (P : X → Type 0) (xs : List X) → ((q : X) → Contains xs q → P q) → All P xs
 All-from_contains P xs h = All-weaker (Contains xs) P h xs (All-contains_itself xs)
 
--- one list after another, each of whose members stands before all of the other's
+-- two lists joined, where each member of the first is before all of the second
 pub sorted_append : {K : Type 0} (R : K → K → Ordering) (xs ys : List K) → IsStrictlySortedBy R xs → IsStrictlySortedBy R ys →
     ((p q : K) → Contains xs p → Contains ys q → R p q ≡ Less) → IsStrictlySortedBy R (xs ++ ys)
 unfolding IsStrictlySortedBy
@@ -46,7 +44,7 @@ sorted_push {K} R xs y up before =
       | inr none ↦ absurd (Contains-nil q none)
     ])
 
--- the head stands before the rest
+-- the head comes before the rest
 pub sorted_first : {K : Type 0} (R : K → K → Ordering) (x : K) (xs : List K) → IsStrictlySortedBy R (x ∷ xs) → (q : K) → Contains xs q → R x q ≡ Less
 unfolding IsStrictlySortedBy
 sorted_first R x xs up q c = All-contains (λ y. R x y ≡ Less) xs q (All-from_recursion (λ y. R x y ≡ Less) xs up.0) c

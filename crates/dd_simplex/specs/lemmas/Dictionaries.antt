@@ -1,0 +1,6 @@
+-- Dictionaries that are the same.
+use Rattle.dd_simplex.specs.{Dictionaries.Dictionary, Runs.Ends}
+use Rattle.std.proofs.Common.{◌≡◌}
+
+pub ends_same : (d e : Dictionary) → Ends d ≡ Ends e → d ≡ e
+ends_same d e h = cc

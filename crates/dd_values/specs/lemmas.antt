@@ -1,0 +1,5 @@
+pub mod Members
+pub mod Booleans
+pub mod Results
+pub mod Lists
+pub mod Numbers
