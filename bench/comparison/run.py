@@ -1,10 +1,11 @@
 #!/usr/bin/env python3
-"""Asks ten questions of diddy and of general solvers: run.py PROGRAM [NUMBER ..]. Seconds of processor time, the least of TURNS turns (3), one turn
-where it takes over a second; a solver is stopped after LIMIT seconds (120).
+"""Times ten scripts by diddy, and the same questions by general solvers: run.py PROGRAM [NUMBER ..]. With - for PROGRAM only the solvers are timed,
+and their answers compared with the stored ones. Seconds of processor time, the least of TURNS turns (3), one turn where it takes over a second; a
+call of a solver is stopped after LIMIT seconds (300).
 
-For each question: what diddy answers, its run and the check of its output. Then the same question by hand: Python makes clauses or a linear or integer
-program, and a solver decides. Python's time and the solver's stand apart. The clauses are the companion's, the linear programs of discharges those
-of bench/discharging. A least density is a linear program over the edges of the transfer graph: the least weight of a circulation of size 1."""
+By hand, Python makes clauses or a program, and a solver decides; the times of both stand apart. The clauses are the companion's, box by box, torus
+by torus and weight by weight; the linear programs of discharges are those of bench/discharging. A least density is a linear program over the edges of
+the transfer graph: the least weight of a circulation of size 1."""
 import os
 import pathlib
 import re
@@ -13,6 +14,7 @@ import shutil
 import subprocess
 import sys
 import tempfile
+from fractions import Fraction
 
 sys.dont_write_bytecode = True
 BENCH = pathlib.Path(__file__).resolve().parents[1]
@@ -25,14 +27,7 @@ from companion.accept import accept  # noqa: E402
 del sys.modules["baseline"]  # bench/boxes has another module of this name
 import programs  # noqa: E402
 
-DOM = "%rule dom Ep[o1] p=1\n"
-
-
-def first_query(name):
-    """A script of examples/ with its first query alone."""
-    lines = (EXAMPLES / f"{name}.diddy").read_text().splitlines(keepends=True)
-    queries = [number for number, line in enumerate(lines) if re.match("%(contains|empty)", line)]
-    return "".join(line for number, line in enumerate(lines) if number not in queries[1:])
+TURNS, LIMIT = int(os.environ.get("TURNS", "3")), float(os.environ.get("LIMIT", "300"))
 
 
 def made(folder, name):
@@ -42,19 +37,12 @@ def made(folder, name):
         return pathlib.Path(room, f"{name}.diddy").read_text()
 
 
-DISTANCE = "%alphabet 0 1 2 3 4\n%limits 3 5 10\n"
-QUESTIONS = {
-    "a codeword has another a knight's move away": "%rule code Ep[o1] (p=1 & Aq[o1] (q=1 -> q@p))\n"
-    "%rule knight o=1 -> (o.rt.rt.up=1 | o.rt.rt.dn=1)\n%contains knight code\n",
-    "four colours at distance 2": DISTANCE + "%rule four Ap[o2] (p!=4 & (p@o | p!=o))\n%empty four\n",
-    "five colours at distance 2": DISTANCE + "%rule five Ap[o2] (p@o | p!=o)\n%empty five\n",
-    "squares of side 3 share a side": first_query("square-tilings"),
-    "an aperiodic tile set": first_query("aperiodic-tiles"),
+STORED = ("perfect-codes", "colourings-king", "square-tilings", "pentominoes", "aperiodic-tiles", "dominating-strips", "identifying-codes")
+SCRIPTS = {
+    **{name: EXAMPLES.joinpath(f"{name}.diddy").read_text() for name in STORED},
     "rule 110 twice": made("queries", "rule110"),
-    "the billiard ball rule is its own inverse": made("images", "blocks"),
-    "dominating a torus of 7 by 7": DOM + "%least dom [7 7]\n",
-    "dominating a ring of five": DOM + "%density dom [5]\n",
-    "identifying codes by shares": (EXAMPLES / "identifying-codes.diddy").read_text(),
+    "the billiard ball rule": made("images", "blocks"),
+    "dominating 7 by 7": "%rule dom Ep[o1] p=1\n%least dom [7 7]\n",
 }
 
 
@@ -64,10 +52,10 @@ def used(who):
     return usage.ru_utime + usage.ru_stime
 
 
-def least(action):
+def timed(action):
     """The least time of some turns, own and of children, and what the action gives."""
     best = None
-    for _ in range(int(os.environ.get("TURNS", "3"))):
+    for _ in range(TURNS):
         own, others = used(resource.RUSAGE_SELF), used(resource.RUSAGE_CHILDREN)
         said = action()
         times = used(resource.RUSAGE_SELF) - own, used(resource.RUSAGE_CHILDREN) - others
@@ -82,98 +70,122 @@ def written(program, word, given):
     return subprocess.run([program, word], input=given, capture_output=True).stdout
 
 
-def glpsol(text, *options):
-    """What glpsol finds to be the least or greatest value of a program in CPLEX's format."""
+def answers(output):
+    """The answer lines of an output, without their numbers."""
+    return re.findall(r"^query \d+ (.*)$", output.decode("latin-1"), re.M)
+
+
+def optimum(text, *options):
+    """The least or greatest value of a program in CPLEX's format, by glpsol; None where there is none."""
     with tempfile.TemporaryDirectory() as room:
         pathlib.Path(room, "program.lp").write_text(text)
-        try:
-            subprocess.run(["glpsol", *options, "--lp", f"{room}/program.lp", "-o", f"{room}/out"], capture_output=True,
-                           timeout=float(os.environ.get("LIMIT", "120")))
-        except subprocess.TimeoutExpired:
-            return "no answer"
-        found = re.search(r"^Objective: .* = (\S+)", pathlib.Path(room, "out").read_text(), re.M)
-        return found.group(1) if found else "no answer"
+        subprocess.run(["glpsol", *options, "--lp", f"{room}/program.lp", "-o", f"{room}/out"], capture_output=True, timeout=LIMIT, check=True)
+        said = pathlib.Path(room, "out").read_text()
+    if not re.search(r"^Status: +(INTEGER )?OPTIMAL", said, re.M):
+        return None
+    return Fraction(re.search(r"^Objective: .* = (\S+)", said, re.M).group(1)).limit_denominator(10000)
 
 
-def by_sat(script):
-    """The answer line by a solver over the companion's clauses."""
-    query = accept(script.encode()).queries[0]
-    if query.word != "least":
-        return query.combined([clausal.verdict("cadical", question) for question in query.questions()])
-    torus, below = query.torus(), 1
-    while not clausal.satisfiable("cadical", torus.clauses(below)):
-        below += 1
-    return f"LEAST {below - 1}"
+def by_clauses(script):
+    """The answers by CaDiCaL."""
+    found = []
+    for query in accept(script.encode()).queries:
+        if query.word != "least":
+            found.append(query.combined([clausal.verdict("cadical", question) for question in query.questions()]))
+            continue
+        torus, below = query.torus(), 1
+        while not clausal.satisfiable("cadical", torus.clauses(below)):
+            below += 1
+        found.append(f"LEAST {below - 1}")
+    return found
 
 
-def integer_program(script):
-    """The least number of cells that dominate a torus, as an integer program with a variable for each cell."""
-    query = accept(script.encode()).queries[0]
-    torus, rows = query.torus(), []
-    for cell in torus.cells:
-        beside = {torus.numbered.symbol_at(other) for other in [cell, *query.script.topology.neighbours(cell)]}
-        rows.append(" + ".join(f"x{number}" for number in sorted(beside)) + " >= 1")
-    names = [f"x{number}" for number in range(len(torus.cells))]
-    return "\n".join(["Minimize", " + ".join(names), "Subject To", *rows, "Binary", *names, "End", ""])
+def by_integers(script):
+    """The least numbers of cells that dominate tori, by integer programs with a variable for each cell."""
+    found = []
+    for query in accept(script.encode()).queries:
+        torus, rows = query.torus(), []
+        for cell in torus.cells:
+            beside = {torus.numbered.symbol_at(other) for other in [cell, *query.script.topology.neighbours(cell)]}
+            rows.append(" + ".join(f"x{number}" for number in sorted(beside)) + " >= 1")
+        names = [f"x{number}" for number in range(len(torus.cells))]
+        least = optimum("\n".join(["Minimize", " + ".join(names), "Subject To", *rows, "Binary", *names, "End", ""]))
+        found.append(f"LEAST {least}")
+    return found
 
 
-def circulation(script):
-    """The least weight of a circulation of size 1 through the transfer graph."""
-    strip = accept(script.encode()).queries[0].strip()
+def circulation(strip):
+    """The least weight of a circulation of size 1 through a transfer graph."""
     weights, edges = strip.slice_weights(), list(strip.edges())
-    into = {state: [] for state in range(strip.state_count())}
+    terms = {state: [] for state in range(strip.state_count())}
     for number, (source, target, _) in enumerate(edges):
         if source != target:
-            into[source].append(f"- x{number}")
-            into[target].append(f"+ x{number}")
+            terms[source].append(f"- x{number}")
+            terms[target].append(f"+ x{number}")
     goal = [f"+ {weights[slice_]} x{number}" for number, (_, _, slice_) in enumerate(edges) if weights[slice_]]
-    rows = ["\n".join([*terms, "= 0"]) for terms in into.values() if terms]
+    rows = ["\n".join([*row, "= 0"]) for row in terms.values() if row]
     return "\n".join(["Minimize", *goal, "Subject To", *rows, *[f"+ x{number}" for number in range(len(edges))], "= 1", "End", ""])
 
 
-def discharge(script):
-    """The linear program of a discharge."""
-    read = programs.Script(script)
-    _, args = next(query for query in read.queries if query[0] == "discharge")
-    vectors, rest = [], args[3:]
-    while rest:
-        end = rest.index("]")
-        vectors.append(tuple([int(entry) for entry in rest[1:end]] + [0] * (4 - end)))
-        rest = rest[end + 1:]
-    return programs.written(programs.program(read, args[0], int(args[1]), int(args[2]), vectors)[3])
+def by_circulations(script, *options):
+    """The least densities of strips."""
+    found = []
+    for query in accept(script.encode()).queries:
+        strip = query.strip()
+        least = optimum(circulation(strip), *options) if any(True for _ in strip.edges()) else None
+        density = None if least is None else least / strip.positions
+        found.append("EMPTY" if density is None else f"DENSITY {density.numerator}/{density.denominator}")
+    return found
 
 
-def others(script):
-    """The ways to answer a question by hand: a name, and a call that gives the answer. A density is given per slice."""
+def by_programs(script, *options):
+    """The bounds of discharges."""
+    read, found = programs.Script(script), []
+    for _, args in read.queries:
+        vectors, rest = [], args[3:]
+        while rest:
+            end = rest.index("]")
+            vectors.append(tuple([int(entry) for entry in rest[1:end]] + [0] * (4 - end)))
+            rest = rest[end + 1:]
+        rows = programs.program(read, args[0], int(args[1]), int(args[2]), vectors)[3]
+        best = optimum(programs.written(rows), *options)
+        found.append(f"BOUND {best.numerator}/{best.denominator}")
+    return found
+
+
+def ways(script):
+    """The ways to answer a script by hand."""
     word = accept(script.encode()).queries[0].word
-    if word == "density":
-        return [("glpsol", lambda: glpsol(circulation(script))), ("glpsol --exact", lambda: glpsol(circulation(script), "--exact"))]
-    if word == "discharge":
-        return [("glpsol", lambda: glpsol(discharge(script))), ("glpsol --exact", lambda: glpsol(discharge(script), "--exact"))]
-    found = [("CaDiCaL", lambda: by_sat(script))]
-    return found + [("glpsol, integers", lambda: glpsol(integer_program(script)))] if word == "least" else found
+    if word in ("density", "discharge"):
+        action = by_circulations if word == "density" else by_programs
+        return {"glpsol": lambda: action(script), "glpsol --exact": lambda: action(script, "--exact")}
+    if word == "least":
+        return {"CaDiCaL": lambda: by_clauses(script), "glpsol, integers": lambda: by_integers(script)}
+    return {"CaDiCaL": lambda: by_clauses(script)}
 
 
 def main():
     """The command."""
     program = sys.argv[1]
-    chosen = [int(word) for word in sys.argv[2:]] or range(1, len(QUESTIONS) + 1)
+    chosen = [int(word) for word in sys.argv[2:]] or range(1, len(SCRIPTS) + 1)
     missing = [name for name in ("cadical", "glpsol") if not shutil.which(name)]
     if missing:
         sys.exit(f"not installed: {', '.join(missing)}")
-    print("| Question | answer | diddy | its check | by hand | its answer | Python | solver |")
-    print("|---|---|---|---|---|---|---|---|")
-    for number, (name, script) in enumerate(QUESTIONS.items(), 1):
+    print("| Script | answers | diddy | its check | by hand | Python | solver |\n|---|---|---|---|---|---|---|")
+    for number, (name, script) in enumerate(SCRIPTS.items(), 1):
         if number not in chosen:
             continue
-        run = least(lambda: written(program, "run", script.encode()))
-        check = least(lambda: written(program, "check", run[2]))
-        answer = next(line for line in run[2].split(b"\n") if line.startswith(b"query 1 "))[8:].decode()
-        cells = [name, answer, f"{run[1]:.3f}", f"{check[1]:.3f}"]
-        for how, action in others(script):
-            own, solver, said = least(action)
-            print("| " + " | ".join([*cells, how, said, f"{own:.2f}", f"{solver:.2f}"]) + " |", flush=True)
-            cells = ["", "", "", ""]
+        own, check, wanted = "", "", None
+        if program != "-":
+            _, run, output = timed(lambda: written(program, "run", script.encode()))
+            own, check, wanted = f"{run:.3f}", f"{timed(lambda: written(program, 'check', output))[1]:.3f}", answers(output)
+        elif name in STORED:
+            wanted = answers(EXAMPLES.joinpath(f"{name}.answer").read_bytes())
+        for way, action in ways(script).items():
+            python, solver, said = timed(action)
+            count = "other answers" if wanted not in (None, said) else str(len(said))
+            print(f"| {name} | {count} | {own} | {check} | {way} | {python:.2f} | {solver:.2f} |", flush=True)
+            name = own = check = ""
 
 
 if __name__ == "__main__":
