@@ -106,7 +106,7 @@ module _ (r : LocalRule) (a at : ℕ) (some : 0 < r.symbols) (within : at < r.sy
 -- ---- the parts of the code
 
 pub outcomes_length : (r : LocalRule) (a : ℕ) → length (outcomes r a) ≡ r.symbols ^ length (cells_at r a)
-outcomes_length r a = length-map (outcome r a) (words r.symbols (length (cells_at r a))) ∙ words_length r.symbols (length (cells_at r a))
+outcomes_length r a = length-map (words r.symbols (length (cells_at r a))) (outcome r a) ∙ words_length r.symbols (length (cells_at r a))
 
 pub thinned_here : (r : LocalRule) (a at m : ℕ) (all : List ℕ) (table : List Outcome) (p : List (Option ℕ)) (ds : List ℕ) (from : ℕ) → m ≡ r.symbols → all ≡ strides_of r.symbols (length (cells_at r a)) → table ≡ outcomes r a →
     IsThinned m table (digits m all at) p ds from → IsThinned r.symbols (outcomes r a) (digits r.symbols (strides_of r.symbols (length (cells_at r a))) at) p ds from

@@ -22,7 +22,7 @@ joined_length f k each a (suc n) =
     omega (arith, here, later, both)
 
 begun_length : (m n : ℕ) → length (words m n) ≡ m ^ n → (s : ℕ) → length (map (λ ss. s ∷ ss) (words m n)) ≡ m ^ n
-begun_length m n many s = length-map (λ ss. s ∷ ss) (words m n) ∙ many
+begun_length m n many s = length-map (words m n) (λ ss. s ∷ ss) ∙ many
 
 pub words_length : (m n : ℕ) → length (words m n) ≡ m ^ n
 words_length m zero = sym (pow-zero m)
@@ -96,7 +96,7 @@ digits_below m at [] some = All-nil (λ s. s < m)
 digits_below m at (d ∷ ds) some = All-cons (λ s. s < m) (at / d % m) (digits m ds at) (mod_below (at / d) m some) (digits_below m at ds some)
 
 pub digits_word : (m n at : ℕ) → 0 < m → IsWord m n (digits m (strides_of m n) at)
-digits_word m n at some = record { as_many = length-map (λ d. at / d % m) (strides_of m n) ∙ strides_length m n; below = digits_below m at (strides_of m n) some }
+digits_word m n at some = record { as_many = length-map (strides_of m n) (λ d. at / d % m) ∙ strides_length m n; below = digits_below m at (strides_of m n) some }
 
 digits_number : (m n at : ℕ) → 0 < m → number m (digits m (strides_of m n) at) ≡ at % m ^ n
 digits_number m zero at some = let one = pow-zero m in let below = mod_below at (m ^ 0) (power_some m 0 some) in omega (arith, one, below)

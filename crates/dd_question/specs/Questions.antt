@@ -2,10 +2,10 @@
 use Rattle.std.specs.Prelude.{ℕ, List, Bool, true, false, ◌||◌, Option, Some, None, if◌then◌else◌}
 use Rattle.dd_values.specs.declared.limits.Limits.{Limits}
 use Rattle.dd_lattice.specs.Place.{Place}
-use Rattle.dd_pattern.specs.Tile.{Tile, IsTile}
+use Rattle.dd_pattern.specs.{Periods.periods_of, Tile.Tile, Tile.IsTile}
 use Rattle.dd_formula.specs.{LocalRule.LocalRule, LocalRule.IsRule, Living.Fits, Allowed.HasAllowed}
 use Rattle.dd_strip.specs.Strips.{IsStrip, HasWeights}
-use Rattle.dd_boxes.specs.{Goals.GoalOf, Goals.breaks, Goals.AreAlike, Goals.IsGoalFor, Views.goal_of}
+use Rattle.dd_boxes.specs.{Goals.GoalOf, Goals.breaks, Goals.AreAlike, Goals.IsGoalFor, TorusPeriods.AreTorusPeriods, Views.goal_of}
 use Rattle.dd_question.specs.declared.{excess.Excess.Excess, fault.QuestionFault.QuestionFault}
 use Rattle.dd_question.specs.{declared.question.Question.Question, Boxes.is_long, Boxes.IsFormedBox, Boxes.IsAskable, Boxes.IsSoundBox}
 use Rattle.dd_question.specs.Conjugacies.{ConjugacyOf, is_some_long, IsPart, EachPart, conjugacy_of}

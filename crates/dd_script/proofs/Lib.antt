@@ -1,5 +1,4 @@
 pub mod Growing
 pub mod Kept
 pub mod Walking
-pub mod ScriptLaws
 pub mod Asking

@@ -1,7 +1,7 @@
 -- The commands of a script one by one: what each changes, and the first fault.
-use Rattle.std.specs.Prelude.{ℕ, ◌+◌, List, [], ◌∷◌, ◌++◌, length, map, Bool, false, ◌==◌, Option, Some, None, unwrap_or, codes}
+use Rattle.std.specs.Prelude.{ℕ, ◌+◌, List, [], ◌∷◌, ◌++◌, length, map, Bool, ◌==◌, Option, Some, None, unwrap_or}
 use Rattle.std.specs.{List.list_any, List.range_with_len, Option.option_or, Option.option_map, Option.option_and_then}
-use Rattle.dd_topology.specs.{Builtin.square, Sets.SymbolSets, Sets.all_symbols, Sets.restricted}
+use Rattle.dd_topology.specs.Sets.{restricted}
 pub use Rattle.dd_written.specs.Values.{word_text}
 use Rattle.dd_script.specs.Tree.{Head, Fault, Context}
 pub use Rattle.dd_commands.specs.{declared.script.Written.Written, Scripts.stage_of}
@@ -9,37 +9,16 @@ use Rattle.dd_commands.specs.Heads.{stage}
 pub use Rattle.dd_faults.specs.{declared.fault.Limit.Limit, declared.fault.Fault.Fault, Order.first_fault, Commands.written_faults}
 pub use Rattle.dd_meanings.specs.{declared.meaning.Meaning.Meaning, Meanings.meaning as meaning_of, Meanings.counted_sizes}
 pub use Rattle.dd_pairs.specs.Faults.{limit_of}
+use Rattle.dd_start.specs.Start.{known_start, allowing, unrestricted}
 use Rattle.dd_pairs.specs.{Parts.PartOf, Parts.pair_of, Faults.parts_faults, Faults.earliest}
-use Rattle.dd_script.specs.{Questions.query_excess, Questions.parts_for, Questions.pairs_for, Parts.Parts, Parts.Known, Parts.Query, Parts.Pair}
+use Rattle.dd_script.specs.{Questions.query_excess, Questions.parts_for, Questions.pairs_for, Parts.Parts, Parts.Query, Parts.Pair}
 
 -- ---- the defaults
-
--- the square grid with the node 0, and the symbols 0 and 1, whose weights are 0 and 1
-abbrev pub known_start : Known
-known_start =
-    record {
-      setting = record { nodes = codes "0" ∷ []; symbols = codes "0" ∷ codes "1" ∷ []; topology = square; sets = all_symbols 1 2 };
-      nodes_are_given = false;
-      restricted = [];
-      weights = 0 ∷ 1 ∷ [];
-      limits = record { radius = 4; period = 4; pivots = 10000 };
-      rules = [];
-      automata = [];
-      configurations = [];
-    }
 
 abbrev pub start : Parts
 start = record { known = known_start; rules = []; automata = []; configurations = []; queries = []; pairs = [] }
 
 -- ---- what a command changes
-
--- with these sets of symbols; the nodes in the list are restricted
-abbrev pub allowing : Known → SymbolSets → List ℕ → Known
-allowing k sets nodes = record k { setting = record (k.setting) { sets = sets }; restricted = nodes }
-
--- each node allows each symbol, and none is restricted
-abbrev pub unrestricted : Known → Known
-unrestricted k = allowing k (all_symbols (length k.setting.nodes) (length k.setting.symbols)) []
 
 -- The script after one more command, with this meaning. If nodes or symbols change, each node allows each symbol again; if
 -- symbols change, the weight of each is its index.

@@ -10,7 +10,6 @@ ghost use Rattle.dd_pairs.specs.Made.{ArePairs};
 ghost use Rattle.dd_script.specs.{Kept.IsScriptOf, Walk.start, Walk.asked_fault, Walk.parts_in, Walk.pairs_in};
 ghost use Rattle.dd_script.specs.Drafts.{parts_of, draft_of, with_meaning, fault_at, Means};
 
-use crate::known::{allow_all, numbers_below, start};
 use crate::questions::question_of;
 use crate::script::{Contents, Made, Script};
 use dd_commands::Written;
@@ -18,6 +17,7 @@ use dd_faults::{Fault, Refusal, check};
 use dd_known::{Context, TOO_MANY};
 use dd_meanings::{Meaning, add_new, mean};
 use dd_pairs::{Pair, limit_of, pairs_of};
+use dd_start::{allow_all, numbers_below, start};
 use dd_topology::Names;
 use dd_values::{Boxed, Items};
 use dd_written::{Name, Text, Word, name_text};

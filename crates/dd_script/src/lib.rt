@@ -3,8 +3,6 @@
 
 mod draft;
 mod fault;
-mod known;
-mod laws;
 mod parsing;
 mod questions;
 mod script;
@@ -15,6 +13,5 @@ pub use dd_query::Query;
 pub use dd_question::{CheckedQuestion, Question};
 pub use dd_values::Limits;
 pub use fault::{ScriptFault, ScriptKind};
-pub use laws::{one_refusal, one_script, spelled_or_refused};
 pub use parsing::parse;
 pub use script::Script;

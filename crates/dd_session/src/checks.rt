@@ -16,7 +16,8 @@ use crate::stream::RunFault;
 use dd_certificate::Answer;
 use dd_output::{CertificateFault, MOST_OUTPUT, Output, one_output, read_output};
 use dd_outside::{ReadAllFault, Sink, Source, read_all};
-use dd_script::{Script, parse, spelled_or_refused};
+use dd_script::{Script, parse};
+use dd_spelling::spelled_or_refused;
 use std::alloc::{AllocError, Global};
 
 // The status of a check to the end.

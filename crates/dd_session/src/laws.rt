@@ -9,7 +9,8 @@ ghost use Rattle.dd_session.specs.Agreement.{IsRunOutput, IsJudgement};
 use dd_agreement::right_is_certificate;
 use dd_checker::certified;
 use dd_output::one_output;
-use dd_script::{Script, one_script};
+use dd_script::Script;
+use dd_spelling::one_script;
 
 /// Does nothing; its contract says that the whole output of a run over a script, of at most 268,435,456 bytes, is accepted by
 /// a check that comes to its end, with the run's status.

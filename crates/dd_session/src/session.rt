@@ -24,7 +24,8 @@ use dd_engines::{Engine, Roster, kept_is_reflexive};
 use dd_outside::{ReadAllFault, Sink, Source, WriteFault, read_all, write_whole};
 use dd_sample::{sample_number, sample_script};
 use dd_sampling::samples_spell;
-use dd_script::{Script, ScriptFault, ScriptKind, parse, spelled_or_refused};
+use dd_script::{Script, ScriptFault, ScriptKind, parse};
+use dd_spelling::spelled_or_refused;
 use dd_values::MOST_SCRIPT;
 use std::alloc::{AllocError, Global};
 

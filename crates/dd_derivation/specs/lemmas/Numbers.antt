@@ -38,7 +38,7 @@ slice_get-map {A = A} f (y ∷ xs) zero x h = let e : y ≡ x = cc in ap (λ z. 
 slice_get-map f (y ∷ xs) (suc k) x h = slice_get-map f xs k x h
 
 pub length-before : (clauses : List (List Literal)) (steps : List Step) → length (clauses_before clauses steps) ≡ length clauses + length steps
-length-before clauses steps = length-append clauses (map (λ s. s.clause) steps) ∙ ap (λ (n : ℕ). length clauses + n) (length-map (λ s. s.clause) steps)
+length-before clauses steps = length-append clauses (map (λ s. s.clause) steps) ∙ ap (λ (n : ℕ). length clauses + n) (length-map steps (λ s. s.clause))
 
 -- a clause of the list
 pub in_clauses : (clauses : List (List Literal)) (steps : List Step) (alive : List Bool) (number : ℕ) (c : List Literal) → (number ≡ 0 → ⊥) → length clauses + length steps ≤ length alive → slice_get clauses (number - 1) ≡ Some c → get_or alive (number - 1) false ≡ true → clause_of (known_of (clauses_before clauses steps) alive) number ≡ Some c

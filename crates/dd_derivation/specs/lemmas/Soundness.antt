@@ -14,7 +14,7 @@ use Rattle.dd_derivation.specs.Derivations.{is_empty, same_literal, is_among, fi
 use Rattle.dd_values.specs.lemmas.Booleans.{same_from_beq, beq_same}
 use Rattle.dd_clause.specs.lemmas.LiteralLaws.{is_true_under-negation}
 
-made : ℕ → Bool → Literal
+pub made : ℕ → Bool → Literal
 made v p = record { variable = v; positive = p }
 
 pub made-eq : (v w : ℕ) (p q : Bool) → v ≡ w → p ≡ q → made v p ≡ made w q

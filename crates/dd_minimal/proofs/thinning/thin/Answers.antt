@@ -30,7 +30,7 @@ can_spare-requires-clause-reach c =
     let step = step_in m c.args.table.now c.args.strides.now c.args.at c.loop-stride.stride-index c.digit-symbol.result c.loop-stride.pattern c.loop-stride.left_out.items c.loop-stride.from
     c.requires.symbols c.requires.strides c.loop-stride-test.true c.digit-symbol.ensures c.loop-stride.invariant in
     let long : m ^ length (digits m c.args.strides.now c.args.at) ≡ length c.args.table.now =
-    ap (λ k. m ^ k) (length-map _ c.args.strides.now) ∙ sym c.requires.table in
+    ap (λ k. m ^ k) (length-map c.args.strides.now _) ∙ sym c.requires.table in
     subst (λ k. without + reach m (c.as_slice.result.now ++ stride ∷ []) < k) long
     (subst (λ ds. without + reach m (ds ++ stride ∷ []) < m ^ length (digits m c.args.strides.now c.args.at)) (sym c.as_slice.ensures.value) step.within)
 
@@ -79,4 +79,4 @@ returns c =
     let m = c.args.symbols in
     let all : c.loop-stride.stride-index ≡ length c.args.strides.now = (let past = c.loop-stride-test.false in let most = c.loop-stride.auto.stride-index-end in omega (arith, past, most)) in
     end m c.args.table.now (digits m c.args.strides.now c.args.at) c.loop-stride.stride-index c.loop-stride.pattern c.loop-stride.left_out.items c.loop-stride.from
-    (all ∙ sym (length-map _ c.args.strides.now)) c.loop-stride.invariant
+    (all ∙ sym (length-map c.args.strides.now _)) c.loop-stride.invariant

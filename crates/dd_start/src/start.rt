@@ -2,7 +2,7 @@
 ghost use Rattle.std.specs.Prelude.{◌≡◌, ◌≤◌, length, IfOk, OnOk};
 ghost use Rattle.std.specs.List.{range_with_len};
 ghost use Rattle.dd_known.specs.Sound.{IsSound};
-ghost use Rattle.dd_script.specs.Walk.{known_start, unrestricted};
+ghost use Rattle.dd_start.specs.Start.{known_start, unrestricted};
 
 use dd_known::{Known, Setting};
 use dd_meanings::{zero, zero_and_one};
@@ -20,7 +20,7 @@ const PERIOD_AT_START: u32 = 4;
 const PIVOTS_AT_START: u32 = 10_000;
 
 /// The defaults: the square grid with the node 0, and the symbols 0 and 1, whose weights are 0 and 1.
-pub(crate) fn start(alloc: Global) -> Result<Known, AllocError>
+pub fn start(alloc: Global) -> Result<Known, AllocError>
     ensures known { IfOk result (λ known. known ≡ known_start) }
     ensures sound { OnOk result (IsSound known_start) }
 {
@@ -52,14 +52,15 @@ pub(crate) fn start(alloc: Global) -> Result<Known, AllocError>
     })
 }
 
-pub(crate) fn numbers_below(alloc: Global, count: u32) -> Result<Vec<u32>, AllocError>
+/// The numbers below this one, in order.
+pub fn numbers_below(alloc: Global, count: u32) -> Result<Vec<u32>, AllocError>
     ensures { IfOk result (λ numbers. numbers.items ≡ range_with_len 0 count) }
 {
     (0..count).collect(alloc)
 }
 
 /// Lets each node allow each symbol again.
-pub(crate) fn allow_all(alloc: Global, known: &mut Known) -> Result<(), AllocError>
+pub fn allow_all(alloc: Global, known: &mut Known) -> Result<(), AllocError>
     requires nodes { 1 ≤ length known.old.setting.nodes }
     requires symbols { 1 ≤ length known.old.setting.symbols }
     ensures { OnOk result (known.new ≡ unrestricted known.old) }

@@ -1,6 +1,6 @@
 use Rattle.std.proofs.Common.{refl}
-use Rattle.dd_script.proofs.ScriptLaws.{spelled_or_refused}
-use Rattle.dd_script.proofs.laws.spelled_or_refused.Goals as goal
+use Rattle.dd_spelling.proofs.ScriptLaws.{spelled_or_refused}
+use Rattle.dd_spelling.proofs.laws.spelled_or_refused.Goals as goal
 
 pub returns-clause-either : goal.returns-clause-either
 returns-clause-either c = λ bytes few. spelled_or_refused c.formula_is_read.ensures bytes _ refl

@@ -1,0 +1,2 @@
+-- the defaults, and the sets of symbols that nodes allow
+pub mod Start

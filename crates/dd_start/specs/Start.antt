@@ -1,0 +1,26 @@
+-- What holds before a script defines anything.
+use Rattle.std.specs.Prelude.{ℕ, List, [], ◌∷◌, length, false, codes}
+use Rattle.dd_topology.specs.{Builtin.square, Sets.SymbolSets, Sets.all_symbols}
+use Rattle.dd_known.specs.Tree.{Known}
+
+-- the square grid with the node 0, and the symbols 0 and 1, whose weights are 0 and 1
+abbrev pub known_start : Known
+known_start =
+    record {
+      setting = record { nodes = codes "0" ∷ []; symbols = codes "0" ∷ codes "1" ∷ []; topology = square; sets = all_symbols 1 2 };
+      nodes_are_given = false;
+      restricted = [];
+      weights = 0 ∷ 1 ∷ [];
+      limits = record { radius = 4; period = 4; pivots = 10000 };
+      rules = [];
+      automata = [];
+      configurations = [];
+    }
+
+-- with these sets of symbols; the nodes in the list are restricted
+abbrev pub allowing : Known → SymbolSets → List ℕ → Known
+allowing k sets nodes = record k { setting = record (k.setting) { sets = sets }; restricted = nodes }
+
+-- each node allows each symbol, and none is restricted
+abbrev pub unrestricted : Known → Known
+unrestricted k = allowing k (all_symbols (length k.setting.nodes) (length k.setting.symbols)) []

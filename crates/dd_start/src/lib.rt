@@ -1,0 +1,6 @@
+//! What holds before a script defines anything, and again for the symbols that nodes allow when it names others.
+#![tactic(auto)]
+
+mod start;
+
+pub use start::{allow_all, numbers_below, start};
