@@ -61,4 +61,5 @@ def main() -> None:
         print(f"query {number} {query.combined([verdict(solver, question) for question in query.questions()])}", flush=True)
 
 
-main()
+if __name__ == "__main__":
+    main()
