@@ -54,8 +54,8 @@ loop-k-preserved c =
       landmark = rw (c.flip.ensures.landmark, c.flip.ensures.flips)
           (kept_reached c.args.cnf.now c.first.new.self.landmark c.renew.new.self values c.loop-k.k (rw c.as_slice.ensures.value at c.renew.ensures.kept) (rw c.first.ensures.landmark c.loop-k.invariant.landmark) started);
       turn = rw c.flip.ensures.flips
-          (turn_kept c.args.cnf.now c.first.new.self.landmark c.renew.new.self values c.loop-k.k c.loop-k.turn c.turn_with.result values literals
-          (rw c.first.ensures.landmark c.loop-k.invariant.turn) (rw c.as_slice.ensures.value at c.renew.ensures.kept) c.turn_with.ensures started first.first);
+          (turn_kept c.args.cnf.now c.first.new.self.landmark c.renew.new.self values c.loop-k.k c.loop-k.turn c.turn_with-turn.result values literals
+          (rw c.first.ensures.landmark c.loop-k.invariant.turn) (rw c.as_slice.ensures.value at c.renew.ensures.kept) c.turn_with-turn.ensures started first.first);
       counted = c.flip.ensures.counted;
       none_before = none_more c.args.cnf.now values c.loop-k.k literals started first.first c.loop-k.invariant.none_before;
     }
