@@ -161,8 +161,12 @@ next_as cnf j k turn m less multiple is back b =
     ]
 
 as_before : (cnf : ClauseList) (j k turn : ℕ) → j < k → (k - j) % turn ≡ 0 → IsTurn cnf j k turn → values_after cnf j ≡ values_after cnf k → (d : ℕ) → IsAsBefore cnf j k turn (d + k)
-as_before cnf j k turn less multiple is back zero = record { at = j; after = omega arith; before = less; less = less; multiple = multiple; same = back }
-as_before cnf j k turn less multiple is back (suc d) = next_as cnf j k turn (d + k) less multiple is back (as_before cnf j k turn less multiple is back d)
+as_before cnf j k turn less multiple is back zero =
+    let here : k ≡ 0 + k = omega arith in
+    subst (λ (m : ℕ). IsAsBefore cnf j k turn m) here (record { at = j; after = omega arith; before = less; less = less; multiple = multiple; same = back })
+as_before cnf j k turn less multiple is back (suc d) =
+    let next : suc (d + k) ≡ suc d + k = omega arith in
+    subst (λ (m : ℕ). IsAsBefore cnf j k turn m) next (next_as cnf j k turn (d + k) less multiple is back (as_before cnf j k turn less multiple is back d))
 
 -- All later values came before: each is reached after fewer flips.
 none_after : (cnf : ClauseList) (j k turn : ℕ) → j < k → (k - j) % turn ≡ 0 → IsTurn cnf j k turn → values_after cnf j ≡ values_after cnf k → NoneBefore cnf k → (n : ℕ) → NoneBefore cnf n

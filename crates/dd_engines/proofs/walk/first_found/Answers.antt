@@ -53,7 +53,7 @@ loop-k-preserved c =
       reached = reached_more c.args.cnf.now values c.loop-k.k literals literal started first.first at ∙ ap (λ (v : List Bool). Some v) (sym made);
       landmark = rw (c.flip.ensures.landmark, c.flip.ensures.flips)
           (kept_reached c.args.cnf.now c.first.new.self.landmark c.renew.new.self values c.loop-k.k (rw c.as_slice.ensures.value at c.renew.ensures.kept) (rw c.first.ensures.landmark c.loop-k.invariant.landmark) started);
-      turn = rw (c.flip.ensures.flips, add-one c.loop-k.k)
+      turn = rw c.flip.ensures.flips
           (turn_kept c.args.cnf.now c.first.new.self.landmark c.renew.new.self values c.loop-k.k c.loop-k.turn c.turn_with.result values literals
           (rw c.first.ensures.landmark c.loop-k.invariant.turn) (rw c.as_slice.ensures.value at c.renew.ensures.kept) c.turn_with.ensures started first.first);
       counted = c.flip.ensures.counted;
