@@ -97,7 +97,7 @@ impl<'a> Questions for BoxQuestion<'a> {
         // A law: a roster that is not asked stays as it is.
         kept_is_reflexive();
         let cnf = box_clauses(self.alloc, self.premise, self.goal, radius)?;
-        match outcome(self.alloc, &cnf, Style::Broad, roster)? {
+        match outcome(self.alloc, &cnf, box_style(self.goal), roster)? {
             Outcome::Refuted(steps) => Ok(Some(evidence(self.alloc, &cnf, steps)?)),
             Outcome::Found(_) => Ok(None),
         }
