@@ -1,14 +1,12 @@
 #!/bin/sh
 # Times lists of forbidden patterns of a rule that reads sixteen cells, with 65,536 fillings, and the comparison of two steps of an
 # automaton with an automaton of two steps: rule 110, and Life with itself. Seconds of the whole program, from the script's bytes to the
-# last byte of the output, and of the check of that output: the least processor time of five runs.
+# last byte of the output, and of the check of that output: the least processor time of five runs. DIDDY names another build.
 set -eu
 
-root=$(cd "$(dirname "$0")/../.." && pwd)
-work=$(mktemp -d)
-trap 'rm -rf "$work"' EXIT
-program=${1:-$root/crates/dd_program/out/dd_program}
-[ -x "$program" ] || "$root/diddy" run < /dev/null > "$work/nothing" || true
+here=$(cd "$(dirname "$0")" && pwd)
+. "$here/../build.sh"
+find_program
 
 # Sixteen cells, each compared with 1, joined by an operator.
 sixteen() {
@@ -64,7 +62,7 @@ neighbours() {
 # The least processor time of five runs.
 least() {
     for turn in 1 2 3 4 5; do
-        bash -c "TIMEFORMAT='%U %S'; time '$program' $1 < '$work/$2' > '$work/$3'" 2>&1
+        bash -c "TIMEFORMAT='%U %S'; time '$diddy' $1 < '$work/$2' > '$work/$3'" 2>&1
     done | awk '{ print $1 + $2 }' | sort -n | head -1
 }
 

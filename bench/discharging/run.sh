@@ -7,12 +7,9 @@
 set -eu
 
 here=$(cd "$(dirname "$0")" && pwd)
-root=$(cd "$here/../.." && pwd)
-work=$(mktemp -d)
-trap 'rm -rf "$work"' EXIT
+. "$here/../build.sh"
+find_program
 c++ -O2 -o "$work/run" "$here/../simplex/run.cpp"
-[ -n "${DIDDY:-}" ] || "$root/diddy" run < /dev/null > "$work/nothing"
-diddy=${DIDDY:-$root/crates/dd_program/out/dd_program}
 
 TIMEFORMAT=%U
 seconds() {

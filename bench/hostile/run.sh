@@ -9,11 +9,8 @@
 set -eu
 
 here=$(cd "$(dirname "$0")" && pwd)
-root=$(cd "$here/../.." && pwd)
-work=$(mktemp -d)
-trap 'rm -rf "$work"' EXIT
-[ -n "${DIDDY:-}" ] || "$root/diddy" run < /dev/null > "$work/nothing" || true
+. "$here/../build.sh"
+find_program
 cc -O2 -Wall -Wextra -shared -fPIC -o "$work/fails.so" "$here/fails.c"
-diddy=${DIDDY:-$root/crates/dd_program/out/dd_program}
 python3 "$here/trials.py" "$diddy" "$work" "${MOST:-400}" "$@"
 [ $# -gt 0 ] || [ ! -x /usr/bin/time ] || "$here/peaks.sh" "$diddy" "$work"

@@ -4,10 +4,10 @@ and writes the answer lines alone. The clauses of boxes are those of docs/certif
 import pathlib
 import subprocess
 import sys
-import tempfile
 
 sys.dont_write_bytecode = True
-sys.path.insert(0, str(pathlib.Path(__file__).resolve().parents[2] / "tools"))
+BENCH = pathlib.Path(__file__).resolve().parents[1]
+sys.path[:0] = [str(BENCH), str(BENCH.parent / "tools")]
 
 from companion.accept import accept  # noqa: E402
 from companion.boxes import Question  # noqa: E402
@@ -15,17 +15,13 @@ from companion.clauses import Clauses  # noqa: E402
 from companion.lattice import moved  # noqa: E402
 from companion.script import Configuration  # noqa: E402
 from companion.searching import product, tori  # noqa: E402
+from dimacs import written  # noqa: E402
 
 
 def satisfiable(solver: str, clauses: Clauses) -> bool:
     """Whether the solver finds an assignment."""
-    with tempfile.NamedTemporaryFile("w", suffix=".cnf") as file:
-        file.write(f"p cnf {clauses.variables} {len(clauses)}\n")
-        for number in range(1, len(clauses) + 1):
-            signed = [-(literal >> 1) if literal & 1 else literal >> 1 for literal in clauses.clause(number)]
-            file.write(" ".join(map(str, [*signed, 0])) + "\n")
-        file.flush()
-        return subprocess.run([solver, file.name], capture_output=True).returncode == 10
+    with written(clauses) as file:
+        return subprocess.run([solver, file], capture_output=True).returncode == 10
 
 
 def torus(question: Question, periods: "tuple[int, ...]", shear: int) -> Clauses:
@@ -65,4 +61,5 @@ def main() -> None:
         print(f"query {number} {query.combined([verdict(solver, question) for question in query.questions()])}", flush=True)
 
 
-main()
+if __name__ == "__main__":
+    main()

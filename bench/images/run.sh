@@ -5,22 +5,10 @@
 set -eu
 
 here=$(cd "$(dirname "$0")" && pwd)
-root=$(cd "$here/../.." && pwd)
-work=$(mktemp -d)
-trap 'rm -rf "$work"' EXIT
-[ -n "${DIDDY:-}" ] || "$root/diddy" run < /dev/null > "$work/nothing" || true
-diddy=${DIDDY:-$root/crates/dd_program/out/dd_program}
+. "$here/../build.sh"
+find_program
 solver=${SOLVER:-cadical}
 python3 "$here/scripts.py" "$work"
-
-TIMEFORMAT='%U %S'
-least() {
-    turns=$1 given=$2
-    shift 2
-    for _ in $(seq "$turns"); do
-        { time "$@" < "$given" > "$work/said"; } 2>&1
-    done | awk '{ print $1 + $2 }' | sort -n | head -1
-}
 
 echo "| Script | answers | bytes written | diddy | its check | Python and $solver |"
 echo '|---|---|---|---|---|---|'

@@ -7,13 +7,14 @@ import resource
 import shutil
 import subprocess
 import sys
-import tempfile
 
 sys.dont_write_bytecode = True
-sys.path.insert(0, str(pathlib.Path(__file__).resolve().parents[2] / "tools"))
+BENCH = pathlib.Path(__file__).resolve().parents[1]
+sys.path[:0] = [str(BENCH), str(BENCH.parent / "tools")]
 
 from companion.accept import accept  # noqa: E402
 from companion.clauses import Clauses  # noqa: E402
+from dimacs import written  # noqa: E402
 
 SOLVERS = [solver for solver in ("minisat", "cadical") if shutil.which(solver)]
 DOM = "%rule dom Ep[o1] p=1\n%least dom "
@@ -39,13 +40,8 @@ def timed(words: "list[str]", given: bytes = b"") -> "tuple[float, bytes]":
 
 def solved(solver: str, clauses: Clauses) -> float:
     """The processor time of a solver on a list."""
-    with tempfile.NamedTemporaryFile("w", suffix=".cnf") as file:
-        file.write(f"p cnf {clauses.variables} {len(clauses)}\n")
-        for number in range(1, len(clauses) + 1):
-            signed = [-(literal >> 1) if literal & 1 else literal >> 1 for literal in clauses.clause(number)]
-            file.write(" ".join(map(str, [*signed, 0])) + "\n")
-        file.flush()
-        return timed([solver, file.name])[0]
+    with written(clauses) as file:
+        return timed([solver, file])[0]
 
 
 def main() -> None:

@@ -4,9 +4,9 @@
 # bytes, with a thousand commands. The time is that of the whole program, from the script's bytes to the end of its output.
 set -eu
 
-root=$(cd "$(dirname "$0")/../.." && pwd)
-work=$(mktemp -d)
-trap 'rm -rf "$work"' EXIT
+here=$(cd "$(dirname "$0")" && pwd)
+. "$here/../build.sh"
+find_program
 
 chessboard() {
     awk 'BEGIN { for (y = 0; y < 256; y++) for (x = 0; x < 256; x++) printf " %d", (x + y) % 2 }'
@@ -36,6 +36,6 @@ printf '%%rule r Ap[o3] Aq[p3] Ar[q3] r=0' > "$work/expansion"
 
 for script in hard sixteen twenty expansion reading; do
     echo "$script"
-    "$root/diddy" run < "$work/$script" | tail -n 2 | head -n 1 | cut -c 1-80
-    bash -c "time '$root/diddy' run < '$work/$script' > /dev/null"
+    "$diddy" run < "$work/$script" | tail -n 2 | head -n 1 | cut -c 1-80
+    bash -c "time '$diddy' run < '$work/$script' > /dev/null"
 done

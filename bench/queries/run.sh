@@ -4,29 +4,19 @@
 # rule 110 composed with itself against the rule of its two steps by a table of
 # five cells, and against that of three steps, and Life composed with itself against Life. Seconds of processor time of the whole program, the
 # least of five runs, or of TURNS. DIDDY names another program than the one that is built here. With the word life, Life composed with itself is
-# compared with the same composition as well, which takes a minute or two, and writes 263 MB.
+# compared with the same composition as well, which takes long and writes hundreds of MB.
 set -eu
 
 here=$(cd "$(dirname "$0")" && pwd)
-root=$(cd "$here/../.." && pwd)
-work=$(mktemp -d)
-trap 'rm -rf "$work"' EXIT
-[ -n "${DIDDY:-}" ] || "$root/diddy" run < /dev/null > "$work/nothing" || true
-diddy=${DIDDY:-$root/crates/dd_program/out/dd_program}
+. "$here/../build.sh"
+find_program
 python3 "$here/scripts.py" "$work"
-
-TIMEFORMAT='%U %S'
-least() {
-    for _ in $(seq "${TURNS:-5}"); do
-        { time "$diddy" "$1" < "$2" > "$work/said"; } 2>&1
-    done | awk '{ print $1 + $2 }' | sort -n | head -1
-}
 
 echo '| Script | answer | bytes written | diddy | its check |'
 echo '|---|---|---|---|---|'
 for script in forbidden minimal-parity minimal-none minimal-majority rule110 rule110-apart life-apart "$@"; do
-    own=$(least run "$work/$script.diddy")
+    own=$(least "${TURNS:-5}" "$work/$script.diddy" "$diddy" run)
     cp "$work/said" "$work/output"
     answer=$(grep -a '^query 1 ' "$work/output")
-    echo "| $script | ${answer#query 1 } | $(wc -c < "$work/output") | $own | $(least check "$work/output") |"
+    echo "| $script | ${answer#query 1 } | $(wc -c < "$work/output") | $own | $(least "${TURNS:-5}" "$work/output" "$diddy" check) |"
 done

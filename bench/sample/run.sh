@@ -6,6 +6,6 @@
 set -eu
 
 here=$(cd "$(dirname "$0")" && pwd)
-root=$(cd "$here/../.." && pwd)
-[ -n "${DIDDY:-}" ] || "$root/diddy" run < /dev/null > /dev/null || true
-python3 "$here/parts.py" "${DIDDY:-$root/crates/dd_program/out/dd_program}" "${1:-16384}"
+. "$here/../build.sh"
+find_program
+python3 "$here/parts.py" "$diddy" "${1:-16384}"

@@ -5,12 +5,9 @@
 set -eu
 
 here=$(cd "$(dirname "$0")" && pwd)
-root=$(cd "$here/../.." && pwd)
-work=$(mktemp -d)
-trap 'rm -rf "$work"' EXIT
+. "$here/../build.sh"
+find_program
 c++ -O2 -std=c++17 -o "$work/least_density" "$here/least_density.cpp"
-[ -n "${DIDDY:-}" ] || "$root/diddy" run < /dev/null > "$work/nothing" || true
-diddy=${DIDDY:-$root/crates/dd_program/out/dd_program}
 
 TIMEFORMAT='%U %S'
 least() {

@@ -1,4 +1,4 @@
-"""Takes a script from its bytes: gives the script, or the fault for which it is refused."""
+"""Reads a script from its bytes: gives the script, or the fault for which it is refused."""
 from typing import Dict, List, Type
 
 from .commands import (Alphabet, AutoText, Command, ComposeText, ConfText, Dim, Limits, Nodes, Only, RuleText, TopologyText, Weights)
@@ -20,12 +20,12 @@ MEANINGS: Dict[type, Type[Meaning]] = {
 
 
 def commands_of(text: bytes) -> List[Command]:
-    """The commands of a script, or the first Fault of its syntax."""
+    """The commands of a script; raises the first Fault of its syntax."""
     return Reader(tokens_of(text), {word: list(query.arguments) for word, query in QUERIES.items()}).commands()
 
 
 def accept(text: bytes) -> Script:
-    """The script that these bytes spell, or the Fault for which they are refused."""
+    """The script that these bytes spell; raises the Fault for which they are refused."""
     commands = commands_of(text)
     script = Script()
     for command in commands:

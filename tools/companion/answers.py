@@ -43,8 +43,7 @@ class No(NamedTuple):
 
     def line(self) -> str:
         """The answer's line, without its number."""
-        words = ["NO", self.side, numbers(self.periods), f"shear {self.shear}" if self.shear else ""]
-        return " ".join(word for word in words if word)
+        return f"NO {self.side + ' ' if self.side else ''}{torus(self.periods, self.shear)}"
 
 
 class Pattern(NamedTuple):
@@ -102,8 +101,7 @@ class Broken(NamedTuple):
 
     def line(self) -> str:
         """The answer's line, without its number."""
-        words = ["BROKEN", str(self.part), numbers(self.periods), f"shear {self.shear}" if self.shear else ""]
-        return " ".join(word for word in words if word)
+        return f"BROKEN {self.part} {torus(self.periods, self.shear)}"
 
 
 class Least(NamedTuple):
@@ -181,3 +179,8 @@ Answer = Union[In, Out, Yes, No, Listed, Minimal, Conjugate, Broken, Least, Noth
 def numbers(given: List[int]) -> str:
     """Numbers with blanks between them."""
     return " ".join(map(str, given))
+
+
+def torus(periods: List[int], shear: int) -> str:
+    """Periods, and the shear if it isn't 0."""
+    return numbers(periods) + (f" shear {shear}" if shear else "")

@@ -1,6 +1,6 @@
 """The linear program of a discharge, and the check of its bounds.
 
-docs/certificate.md defines the program, docs/discharging.md says what it is for.
+docs/certificate.md defines the program, docs/discharging.md explains it.
 """
 from fractions import Fraction
 from typing import Dict, List, NamedTuple, Optional, Sequence, Tuple
@@ -14,14 +14,14 @@ MOST_ROWS, MOST_COLUMNS = 2048, 256
 
 
 class Row(NamedTuple):
-    """A row: the columns with a coefficient other than 0, with it, and what their sum is at most."""
+    """A row: pairs of a column and its coefficient, where that isn't 0, and the greatest value of their sum."""
 
     coefficients: Tuple[Tuple[int, int], ...]
     most: int
 
 
 class Program(NamedTuple):
-    """The program of a discharge: the column 0 is c, then come the amounts, by vector and then by pattern."""
+    """The program of a discharge. Column 0 is c; then come the amounts, by vector and then by pattern."""
 
     patterns: List[Filling]
     columns: int
@@ -45,12 +45,12 @@ class Discharge:
         self.region = Region(script, rule, region_positions(script.dim, radius, margin, vectors))
 
     def _window(self, by: Offset) -> List[int]:
-        """The numbers, in the region, of the cells of B(radius) round a position."""
+        """The numbers, in the region, of the cells of B(radius) around a position."""
         positions = [(z + by[0], y + by[1], x + by[2]) for z, y, x in box(self.script.dim, self.radius)]
         return [self.region.number[(*position, node)] for position in positions for node in range(len(self.script.nodes))]
 
     def program(self) -> Optional[Program]:
-        """The program, or None where it has too many fillings, rows or columns."""
+        """The program, or None if it has too many fillings, rows or columns."""
         fillings = self.region.admissible(MOST_FILLINGS)
         if fillings is None:
             return None
@@ -64,7 +64,7 @@ class Discharge:
         return Program(patterns, columns, rows)
 
     def _rows(self, fillings: List[Filling], windows: List[List[int]], numbers: Dict[Filling, int]) -> List[Row]:
-        """The rows, each once, in the order in which they are first seen."""
+        """The rows, each once, in first-seen order."""
         nodes = len(self.script.nodes)
         origin = [self.region.number[0, 0, 0, node] for node in range(nodes)]
         rows = {Row(((0, 1),), nodes * max(self.script.weights)): None}
@@ -83,7 +83,7 @@ class Discharge:
 
 
 def bound_fault(program: Program, over: int, under: int, denominator: int, amounts: Sequence[int], duals: Sequence[int]) -> Optional[str]:
-    """Why an answer BOUND is none of this program, or None where it is one."""
+    """Why an answer BOUND is wrong for this program, or None if it is right."""
     bound = Fraction(over, under)
     if (bound.numerator, bound.denominator) != (over, under):
         return f"{over}/{under} is not in lowest terms"
@@ -103,7 +103,7 @@ def bound_fault(program: Program, over: int, under: int, denominator: int, amoun
 
 
 def _duals_fault(program: Program, denominator: int, held: int, duals: Sequence[int]) -> Optional[str]:
-    """Why the duals don't show that no amounts hold more, or None where they do."""
+    """Why the duals don't show that no amounts do better, or None if they do."""
     sums = [0] * program.columns
     for row, dual in zip(program.rows, duals):
         for column, coefficient in row.coefficients:

@@ -1,6 +1,6 @@
 """Box questions: whether something can happen at the origin of a configuration that obeys a rule.
 
-The premise is the rule; the goal is what may happen. docs/certificate.md says which clauses a box of a radius has.
+The premise is the rule; the goal is what may happen. docs/certificate.md defines the clauses of a box.
 """
 from typing import Callable, Optional, Set
 
@@ -12,7 +12,7 @@ MOST_CLAUSES = 2000000
 
 
 class Nothing:
-    """The goal of emptiness: nothing more than a configuration."""
+    """The goal of emptiness, which always holds: any configuration shows it."""
 
     def reads(self) -> Set[Cell]:
         """The cells that the goal reads at the origin."""
@@ -26,7 +26,7 @@ class Nothing:
         """Appends the goal's clauses."""
 
     def holds(self, script: Script, symbol_at: Callable[[Cell], int]) -> bool:
-        """Whether the goal holds at the origin, where each cell has the symbol that the call gives."""
+        """Whether the goal holds at the origin, if each cell has the symbol that the call gives."""
         return True
 
 
@@ -98,21 +98,21 @@ class Question:
         return max(self.script.limits.radius, self.least_radius())
 
     def clauses_a_position(self) -> int:
-        """How many clauses a position takes, at the most, without the goal's."""
+        """How many clauses a position takes at most, without those of the goal."""
         script, symbols = self.script, len(self.script.symbols)
         forbidden = sum(symbols - len(allowed) for allowed in script.allowed)
         return len(script.nodes) * (2 + symbols * (symbols - 1) // 2) + forbidden + self.premise.clause_count()
 
     def most_clauses(self, radius: int) -> int:
-        """How many clauses the box of a radius takes at the most."""
+        """How many clauses the box of a radius takes at most."""
         return (2 * radius + 1) ** self.script.dim * self.clauses_a_position() + self.goal.clause_count(self.script)
 
     def torus_clauses(self) -> int:
-        """How many clauses the largest torus takes at the most."""
+        """How many clauses the largest torus takes at most."""
         return self.script.limits.period ** self.script.dim * self.clauses_a_position() + self.goal.clause_count(self.script)
 
     def largest(self) -> int:
-        """How many clauses the largest box or torus takes at the most."""
+        """How many clauses the largest box or torus takes at most."""
         return max(self.most_clauses(self.greatest_radius()), self.torus_clauses())
 
     def clauses(self, radius: int) -> Clauses:
@@ -138,13 +138,13 @@ class Question:
         return clauses
 
     def _steps(self, radius: int) -> "tuple[int, int]":
-        """By how much the number of a position in the box grows along z and along y."""
+        """By how much a position's number in the box grows along z and along y."""
         side = 2 * radius + 1
         return side * side, side
 
 
 def why_not(question: Question, configuration: Configuration) -> Optional[str]:
-    """Why a configuration is no witness of a question, or None where it is one."""
+    """Why a configuration is no witness for a question, or None if it is one."""
     script = question.script
     false = configuration.first_false(question.premise)
     if false is not None:
@@ -155,13 +155,13 @@ def why_not(question: Question, configuration: Configuration) -> Optional[str]:
 
 
 def goal_fault(goal: Goal) -> str:
-    """What is said where a goal doesn't hold."""
+    """What is said if a goal doesn't hold."""
     if isinstance(goal, Differ):
         return f"{goal.left.name} and {goal.right.name} give the same symbols"
     return f"the rule {goal.rule.name} is true" if isinstance(goal, Breaks) else "nothing is wrong"
 
 
 def shown_cell(script: Script, cell: Cell) -> str:
-    """A cell in words: its coordinates, and its node where there are several."""
+    """A cell in words: its coordinates, and its node if there are several."""
     place = "(" + ", ".join(str(entry) for entry in (cell[2], cell[1], cell[0])[:script.dim]) + ")"
     return place if len(script.nodes) == 1 else f"the node {script.node_names()[cell[3]]} of {place}"

@@ -43,7 +43,7 @@ class Clauses:
         return 2 * self.variables
 
     def symbols_of(self, number: int, symbols: int, allowed: Sequence[int]) -> None:
-        """Adds the clauses that the cell with a number has exactly one symbol, one that is allowed. Its variables begin at
+        """Adds the clauses that the cell with this number has exactly one symbol, and an allowed one. Its variables begin at
         1 + number · symbols."""
         inputs = [2 * (1 + number * symbols + symbol) for symbol in range(symbols)]
         self.add(inputs)
@@ -114,19 +114,20 @@ class Clauses:
 
 
 def _moved_inputs(inputs: Inputs, by: Cell) -> Inputs:
-    """The inputs as they are seen from another position."""
+    """The inputs as seen from another position."""
     return lambda cell, symbol: inputs(moved(cell, by[:3]), symbol)
 
 
 class Template:
-    """The clauses of a rule's gates at one node, written once. They differ from place to place by two amounts: that of the inputs'
-    variables and that of the gates' variables."""
+    """The clauses of a rule's gates at one node, written once. From place to place, all variables of inputs are shifted by one number, and all
+    variables of gates by another."""
 
     MIDDLE = 1 << 26
-    """The inputs at the origin are written round this variable, since some of them may lie below 0; gates come after twice this one."""
+    """Inputs at the origin are numbered from this variable on, in both directions, since some would lie below 0. Gates are numbered from twice this
+    variable on."""
 
     def __init__(self, expanded: Expanded, first_input: Callable[[Cell], int]) -> None:
-        """`first_input` gives the variable of a cell with the symbol 0 where the rule stands at the origin; it may be negative."""
+        """`first_input` gives the variable that a cell has the symbol 0, for the rule at the origin; it may be negative."""
         written = Clauses(2 * self.MIDDLE)
         signal = written.formula(expanded, lambda cell, symbol: 2 * (self.MIDDLE + first_input(cell) + symbol))
         written.add((signal,))
@@ -138,7 +139,7 @@ class Template:
         self.starts = written.starts[1:]
 
     def write(self, clauses: Clauses, inputs: int) -> None:
-        """Appends the clauses at a place whose inputs' variables are greater by this amount than those at the origin."""
+        """Appends the clauses at a place whose input variables exceed those at the origin by `inputs`."""
         amounts = (2 * inputs, 2 * clauses.variables)
         begin = len(clauses.literals)
         clauses.literals.extend([amounts[kind] + code for kind, code in self.codes])

@@ -1,4 +1,4 @@
-"""The commands of a script as they are written, before anything is looked up."""
+"""The commands of a script as written, before names are looked up."""
 from typing import List, NamedTuple, Optional, Tuple, Union
 
 from .cursor import NumberList
@@ -92,7 +92,7 @@ class ComposeText(NamedTuple):
 
 
 class Ask(NamedTuple):
-    """A query: its arguments are names, numbers and lists, as its kind of query wants them."""
+    """A query. Its arguments are names, numbers and lists, as its kind of query demands."""
 
     arguments: List[Union[Token, NumberList, List[NumberList]]]
 
@@ -101,7 +101,7 @@ Body = Union[Dim, Nodes, Alphabet, TopologyText, Only, Weights, Limits, RuleText
 
 
 class Command(NamedTuple):
-    """A command: its number in the script, its word, all of its tokens from `%` on, and what it says."""
+    """A command: its number in the script, its word, all its tokens from `%` on, and its contents."""
 
     number: int
     keyword: Token

@@ -1,4 +1,4 @@
-"""Goes through the tokens of a script, and says what was expected where a token doesn't fit."""
+"""Goes through the tokens of a script. If a token doesn't fit, it says what was expected."""
 from typing import List, NamedTuple
 
 from . import tokens
@@ -25,7 +25,7 @@ class Cursor:
         self.at = 0
 
     def next(self) -> Token:
-        """The token that comes next, without taking it."""
+        """The next token, without taking it."""
         return self.tokens[self.at]
 
     def ends_command(self) -> bool:
@@ -39,21 +39,21 @@ class Cursor:
         return self.tokens[self.at - 1]
 
     def takes_sign(self, text: str) -> bool:
-        """Takes the sign with this text where it comes next."""
+        """Takes the sign with this text if it comes next; says whether it did."""
         if not self.next().is_sign(text):
             return False
         self.at += 1
         return True
 
     def takes_word(self, text: str) -> bool:
-        """Takes the word with this text where it comes next."""
+        """Takes the word with this text if it comes next; says whether it did."""
         if not self.next().is_word(text):
             return False
         self.at += 1
         return True
 
     def fault(self, expected: str) -> Fault:
-        """The fault that the next token isn't what is expected there."""
+        """The fault that the next token isn't the expected one."""
         token = self.next()
         rule = f"expected {expected}, found {token.shown()}"
         if token.kind == tokens.BAD:
@@ -61,13 +61,13 @@ class Cursor:
         return Fault("syntax", "", token.at, rule, token.text)
 
     def sign(self, text: str, place: str) -> Token:
-        """Takes the sign with this text, which has to come."""
+        """Takes the sign with this text, or raises a fault."""
         if not self.next().is_sign(text):
             raise self.fault(f"`{text}` {place}")
         return self.take()
 
     def word(self, what: str) -> Token:
-        """Takes a word, which has to come."""
+        """Takes a word, or raises a fault."""
         if self.next().kind != tokens.WORD:
             raise self.fault(f"{what}, which is a word of letters a to z")
         return self.take()
@@ -77,20 +77,20 @@ class Cursor:
         return self.next().kind == tokens.WORD or self.next().is_natural()
 
     def name(self, what: str) -> Token:
-        """Takes the name of a node or a symbol, which has to come."""
+        """Takes the name of a node or a symbol, or raises a fault."""
         if not self.is_name():
             raise self.fault(f"{what}, which is a word or a number")
         return self.take()
 
     def names(self, what: str) -> List[Token]:
-        """Takes names as long as there are, at least one."""
+        """Takes one name or more."""
         found = [self.name(what)]
         while self.is_name():
             found.append(self.take())
         return found
 
     def natural(self, what: str) -> Token:
-        """Takes a number without a sign, which has to come."""
+        """Takes a number without a sign, or raises a fault."""
         if not self.next().is_natural():
             raise self.fault(f"{what}, which is a number without a sign")
         return self.take()

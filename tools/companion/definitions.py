@@ -1,4 +1,4 @@
-"""What the commands mean that name something: rules, configurations, automata and compositions; and their faults."""
+"""The meaning of rules, configurations, automata and compositions, and their faults."""
 from typing import FrozenSet, Iterator, Sequence, Tuple
 
 from .faults import Fault
@@ -46,7 +46,7 @@ class FormulaNames:
         self.meaning = meaning
 
     def faults(self, formula: Formula, scope: FrozenSet[str] = frozenset("o")) -> Iterator[Fault]:
-        """The faults, where these variables are in scope."""
+        """The faults of a formula, with these variables in scope."""
         if isinstance(formula, Not):
             yield from self.faults(formula.part, scope)
         elif isinstance(formula, (And, Or)):
@@ -63,7 +63,7 @@ class FormulaNames:
     def _quantified(self, formula: Quantified, scope: FrozenSet[str]) -> Iterator[Fault]:
         name = formula.variable
         if name.text in scope:
-            yield twice(name, f"the variable {name.text} is in scope here already")
+            yield twice(name, f"the variable {name.text} is already in scope here")
         for variable, _ in formula.balls:
             yield from self._variable(variable, scope)
         yield from self.faults(formula.body, scope | {name.text})
@@ -89,7 +89,7 @@ class FormulaNames:
 
 
 def written_sizes(formulas: Sequence[Formula]) -> Iterator[Fault]:
-    """The limits that formulas pass as they are written: moves, radii and numbers of balls."""
+    """The limits on moves, radii and numbers of balls that formulas pass."""
     for term in (term for formula in formulas for term in terms_of(formula)):
         if len(term.moves) > MOST_MOVES:
             yield over("moves", term.moves[MOST_MOVES], f"a term has at most {MOST_MOVES} moves, this one has {len(term.moves)}")
@@ -103,7 +103,7 @@ def written_sizes(formulas: Sequence[Formula]) -> Iterator[Fault]:
 
 
 def rule_of(script: Script, name: str, formula: Formula) -> Rule:
-    """The rule of a formula; TooLarge where its expansion at some node passes the limit."""
+    """The rule of a formula; raises TooLarge if its expansion at some node passes the limit."""
     script.end_header()
     expansion = Expansion(script.topology, script.symbols, script.nodes, MOST_PARTS)
     return Rule(name, formula, [expansion.at(formula, (0, 0, 0, node)) for node in range(len(script.nodes))])
@@ -111,12 +111,12 @@ def rule_of(script: Script, name: str, formula: Formula) -> Rule:
 
 def too_many_parts(token: Token) -> Fault:
     """The fault of an expansion over the limit."""
-    return over("instances", token, f"without variables the formula has more than {MOST_PARTS:,} parts at some node")
+    return over("instances", token, f"the formula's expansion has more than {MOST_PARTS:,} parts at some node")
 
 
 def too_far(token: Token, reach: int) -> Fault:
-    """The fault of a cell that is read too far away."""
-    return over("reach", token, f"a cell is read that lies {reach} away along an axis, and {MOST_REACH} is the most")
+    """The fault that a cell is read too far away."""
+    return over("reach", token, f"a cell {reach} away along an axis is read, and {MOST_REACH} is the most")
 
 
 class RuleMeaning(Meaning):
@@ -188,7 +188,7 @@ class ConfMeaning(Meaning):
 def automaton_sizes(token: Token, automaton: Automaton) -> Iterator[Fault]:
     """The limits that an automaton passes."""
     if max(automaton.sizes) > MOST_PARTS:
-        comes = f"at some node the automaton comes to {max(automaton.sizes):,} parts"
+        comes = f"at some node the automaton has {max(automaton.sizes):,} parts"
         yield over("instances", token, f"{comes}, and {MOST_PARTS:,} are the most")
     if automaton_reach(automaton) > MOST_REACH:
         yield too_far(token, automaton_reach(automaton))
@@ -240,16 +240,16 @@ class ComposeMeaning(Meaning):
 
 
 KINDS = {Rule: "a rule", Cases: "an automaton", Composition: "an automaton", Configuration: "a configuration"}
-"""What the kinds of named things are called."""
+"""The kinds of named things in words."""
 
 
 def wrong_kind(script: Script, token: Token, wanted: Tuple[type, ...]) -> Iterator[Fault]:
-    """The fault of a name that stands for nothing of these kinds."""
+    """The fault that a name doesn't stand for a thing of these kinds."""
     named = script.named.get(token.text)
     what = KINDS[wanted[0]]
     if named is None:
         of_kind = [name for name, value in script.named.items() if isinstance(value, wanted)]
         known = f"; named so far: {', '.join(of_kind)}" if of_kind else "; none is named so far"
-        yield unknown(token, f"{what} is wanted here, and nothing is named {token.text} before{known}")
+        yield unknown(token, f"expected {what} here, but nothing is named {token.text} before{known}")
     elif not isinstance(named, wanted):
-        yield unknown(token, f"{what} is wanted here, and {token.text} is {KINDS[type(named)]}")
+        yield unknown(token, f"expected {what} here, but {token.text} is {KINDS[type(named)]}")

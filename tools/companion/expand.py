@@ -1,4 +1,4 @@
-"""`tools/expand < longer`: writes a script of the longer language as a plain script. It is not proved; what it writes is what counts."""
+"""`tools/expand < longer`: translates a script of the longer language into a plain one. It is not proved; answers are about the plain script."""
 import sys
 from typing import BinaryIO, Dict, List, TextIO
 
@@ -32,13 +32,13 @@ def header_of(commands: List[Command]) -> Script:
 
 
 def definitions_of(commands: List[Command]) -> Dict[str, Definition]:
-    """What is named by formulas."""
+    """The named formulas, rules, automata and compositions."""
     found: Dict[str, Definition] = {}
     for command in commands:
         body = command.body
         if isinstance(body, (LetText, RuleText, AutoText, ComposeText)):
             if body.name.text in found:
-                raise Fault("twice", body.name.text, body.name.at, f"{body.name.text} is named before", body.name.text)
+                raise Fault("twice", body.name.text, body.name.at, f"the name {body.name.text} is taken", body.name.text)
             found[body.name.text] = body
         if isinstance(body, LetText):
             for fault in repeated(body.variables, "the variable"):
@@ -47,7 +47,7 @@ def definitions_of(commands: List[Command]) -> Dict[str, Definition]:
 
 
 class Expanding:
-    """Writes the commands of a longer script, and keeps which of them each plain command comes from."""
+    """Translates the commands of a longer script, and keeps the source of each plain command."""
 
     def __init__(self, text: bytes) -> None:
         self.text = text
@@ -89,7 +89,7 @@ class Expanding:
 
 
 def expanded(text: bytes) -> str:
-    """The plain script of a longer one, or the Fault for which there is none, with a place in the longer one."""
+    """The plain script of a longer one; raises a Fault with a place in the longer one if there is none."""
     expanding = Expanding(text)
     plain = expanding.plain()
     try:

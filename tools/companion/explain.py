@@ -14,7 +14,7 @@ ACCEPTED, REFUSED = 0, 2
 
 
 def header_lines(script: Script) -> List[str]:
-    """What the header says, with what holds where it says nothing."""
+    """What the header says, with the defaults of what it leaves out."""
     names = script.symbol_names()
     nodes = [f"{name}: {' '.join(names[symbol] for symbol in allowed)}" for name, allowed in zip(script.nodes, script.allowed)]
     return [f"dimension {script.dim}; {len(script.topology.edges)} edges with the labels {' '.join(sorted(script.topology.labels))}",
@@ -39,13 +39,13 @@ def definition_rows(script: Script) -> Iterator[List[str]]:
 
 
 def explained(script: Script) -> Iterator[str]:
-    """What is said of an accepted script."""
+    """The lines about an accepted script."""
     yield from header_lines(script)
     rows = list(definition_rows(script))
     if rows:
         yield ""
         yield from table([["name", "node", "reads", "reach", "parts", "clauses"], *rows])
-        yield f"(at most {MOST_REACH} may a cell lie away, and {MOST_PARTS:,} parts are the most)"
+        yield f"(a rule reads at most {MOST_REACH} away, and has at most {MOST_PARTS:,} parts at a node)"
     for number, query in enumerate(script.queries, 1):
         yield ""
         yield f"query {number} {query.text()}"
@@ -54,7 +54,7 @@ def explained(script: Script) -> Iterator[str]:
 
 
 def explain(text: bytes, out: TextIO) -> int:
-    """Explains a script, and gives the status."""
+    """Writes what there is to say of a script, and gives the status."""
     if len(text) > MOST_BYTES:
         out.write(f"refused long\nthe script has over {MOST_BYTES:,} bytes\n")
         return REFUSED

@@ -10,7 +10,7 @@ LIMITS = ("commands", "word", "number", "nodes", "alphabet", "edges", "offset", 
 
 
 class Fault(Exception):
-    """Why a script is refused. `at` is an offset in its bytes, `name` what stands behind the kind in the refusal's line."""
+    """Why a script is refused. `at` is an offset in its bytes; `name` is what follows the kind in the refusal's line."""
 
     def __init__(self, kind: str, name: str, at: int, rule: str, token: str = "", command: int = 0) -> None:
         super().__init__(kind, name, at, rule)
@@ -22,11 +22,11 @@ class Fault(Exception):
         self.command = command
 
     def line(self) -> str:
-        """The line that a refused script is answered by."""
+        """The line that answers a refused script."""
         return " ".join(word for word in ("refused", str(self.command), self.kind, self.name) if word)
 
     def rank(self) -> "tuple[int, int, int]":
-        """Of the faults of one command the least counts: by kind, then by limit, then by place."""
+        """Orders the faults of one command by kind, then by limit, then by place. The least one counts."""
         limit = LIMITS.index(self.name) if self.kind == "size" else 0
         return KINDS.index(self.kind), limit, self.at
 
@@ -45,5 +45,5 @@ def place(script: bytes, at: int) -> Place:
 
 
 def first(faults: List[Fault]) -> Optional[Fault]:
-    """The fault that counts of those of one command."""
+    """Of the faults of one command, the one that counts."""
     return min(faults, key=Fault.rank, default=None)

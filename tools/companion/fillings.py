@@ -1,4 +1,4 @@
-"""Fillings of regions, in lexicographic order, and those that a rule breaks or leaves."""
+"""Fillings in lexicographic order: those that break a rule, and those of a region that are admissible."""
 from typing import Iterator, List, Optional, Sequence, Tuple
 
 from .lattice import Cell, Offset, cells_of
@@ -9,7 +9,7 @@ Filling = Tuple[int, ...]
 
 
 def breaking(script: Script, rule: Rule, node: int) -> Iterator[Filling]:
-    """The fillings of what a rule reads at a node for which it is false, in lexicographic order."""
+    """The fillings of what a rule reads at a node for which the rule is false, in lexicographic order."""
     reads, symbols = rule.reads[node], len(script.symbols)
     tables = digit_tables(symbols, len(reads))
     place = {cell: number for number, cell in enumerate(reads)}
@@ -22,7 +22,7 @@ def breaking(script: Script, rule: Rule, node: int) -> Iterator[Filling]:
 
 
 class Region:
-    """Positions in order, with the places at which all that a rule reads lies in them."""
+    """Positions in order, and the cells at which all that a rule reads lies in them."""
 
     def __init__(self, script: Script, rule: Rule, positions: Sequence[Offset]) -> None:
         self.script = script
@@ -39,12 +39,12 @@ class Region:
                 self.constant = self.constant and rule.holds(cell[3], ())
 
     def fits(self, filling: Filling) -> bool:
-        """Whether the rule is true at the places whose last cell is the last of these."""
+        """Whether the rule is true at the places whose last read cell is the last cell of this partial filling."""
         holds = self.rule.holds
         return all(holds(node, tuple([filling[number] for number in numbers])) for node, numbers in self.settled[len(filling) - 1])
 
     def admissible(self, most: int) -> Optional[List[Filling]]:
-        """The admissible fillings in lexicographic order, or None where some first cells have more than so many."""
+        """The admissible fillings in lexicographic order, or None if the first k cells have more than `most`, for some k."""
         found: List[Filling] = [()] if self.constant else []
         for cell in self.cells:
             allowed = self.script.allowed[cell[3]]

@@ -1,6 +1,6 @@
 """Reads formulas.
 
-`!` and the quantifiers bind tightest, then come `&`, `|`, `->` (to the right) and `<->` (to the left).
+`!` and the quantifiers bind tightest, then `&`, `|`, `->` (grouped to the right) and `<->` (grouped to the left).
 """
 from typing import Callable, FrozenSet, List, Tuple
 
@@ -17,8 +17,8 @@ CELL: Scope = frozenset("o")
 
 
 class FormulaReader:
-    """Reads formulas from a cursor. Beside each formula goes its height: atoms have the height 0, and each sign, bracket and quantifier
-    stands one above the highest of its parts, a list with `&` or `|` as one."""
+    """Reads formulas from a cursor, each with its height. Atoms have height 0. Each sign, bracket and quantifier is one higher than its highest part;
+    a list with `&` or `|` counts once."""
 
     def __init__(self, cursor: Cursor) -> None:
         self.cursor = cursor
@@ -29,13 +29,13 @@ class FormulaReader:
         return self.equivalence(scope)[0]
 
     def above(self, *heights: int) -> int:
-        """The height of what stands above parts with these heights, within the limit."""
+        """One more than the greatest of these heights, within the limit."""
         if max(heights) >= MOST_DEPTH:
             raise self.cursor.fault(f"a formula that is at most {MOST_DEPTH} deep")
         return max(heights) + 1
 
     def inside(self, read: Callable[[], Read]) -> Read:
-        """Reads a part that has a sign, a bracket or a quantifier before it. So many may be open as a formula may be high."""
+        """Reads a part after a sign, a bracket or a quantifier. No more of these may be open than a formula may be high."""
         self.open = self.above(self.open)
         part = read()
         self.open -= 1
@@ -103,7 +103,7 @@ class FormulaReader:
         return self.cursor.word("a ball's variable"), self.cursor.natural("a ball's radius")
 
     def term(self) -> Term:
-        """A variable with moves behind it."""
+        """A variable with its moves."""
         variable = self.cursor.word("a cell's variable")
         moves: List[Token] = []
         while self.cursor.takes_sign("."):
@@ -123,10 +123,10 @@ class FormulaReader:
             return SameCell(left, self.term())
         if self.cursor.takes_sign(":"):
             return OnNode(left, self.cursor.name("a node"))
-        raise self.cursor.fault("`=`, `!=`, `~`, `@`, `:` or `.` behind a cell")
+        raise self.cursor.fault("`=`, `!=`, `~`, `@`, `:` or `.` after a cell")
 
     def equality(self, left: Term, equal: bool, scope: Scope) -> Formula:
-        """What stands behind `=`: a variable in scope is a term, another word or a number a symbol."""
+        """What follows `=`: a variable in scope is a term; any other word, and a number, is a symbol."""
         token = self.cursor.next()
         if token.is_natural():
             return IsSymbol(left, self.cursor.take(), equal)

@@ -1,4 +1,4 @@
-"""Formulas: their form, and what they come to at a node, without variables.
+"""Formulas, and their expansions at a node, which have no variables.
 
 A formula is a first-order formula over the cells of the lattice, as in Salo and Törmä (2023). Its expansion at a cell has no variables:
 its leaves say that a cell has a symbol. docs/guide.md has the language, docs/certificate.md the expansions.
@@ -10,7 +10,7 @@ from .tokens import Token
 
 
 class Term(NamedTuple):
-    """A variable and the labels of the moves behind it."""
+    """A variable and the labels of its moves."""
 
     variable: Token
     moves: Tuple[Token, ...]
@@ -147,7 +147,7 @@ class Expansion:
         self._written = 0
 
     def at(self, formula: Formula, cell: Cell) -> Expanded:
-        """What the formula comes to at a cell."""
+        """The expansion of a formula at a cell."""
         self._written = 0
         return self._of(formula, {"o": cell})
 
@@ -161,7 +161,7 @@ class Expansion:
         return AllOf([]) if holds else SomeOf([])
 
     def _cell(self, term: Term, scope: Dict[str, Cell]) -> Optional[Cell]:
-        """The cell at the end of a term's moves, or None where one is missing."""
+        """The cell at the end of a term's moves, or None if a move is missing."""
         cell: Optional[Cell] = scope[term.variable.text]
         for label in term.moves:
             if cell is None:
@@ -257,7 +257,7 @@ def gate_clauses(expanded: Expanded) -> int:
 
 
 def truth(expanded: Expanded, symbol_at: Callable[[Cell], int]) -> bool:
-    """Whether an expansion holds where each cell has the symbol that the call gives."""
+    """Whether an expansion holds, if each cell has the symbol that the call gives."""
     if isinstance(expanded, Leaf):
         return symbol_at(expanded.cell) == expanded.symbol
     if isinstance(expanded, Opposite):

@@ -42,8 +42,8 @@ class NodesMeaning(Meaning):
 
     def shapes(self) -> Iterator[Fault]:
         names = self.body.names
-        if len(names) > 1 and not any(isinstance(command.body, TopologyText) for command in self.behind()):
-            yield shape(names[1], "two nodes or more want a %topology, and the script has none")
+        if len(names) > 1 and not any(isinstance(command.body, TopologyText) for command in self.after()):
+            yield shape(names[1], "two nodes or more need a %topology, and the script has none")
 
     def sizes(self) -> Iterator[Fault]:
         names = self.body.names

@@ -12,7 +12,7 @@ ORIGIN: Offset = (0, 0, 0)
 
 
 class Edge(NamedTuple):
-    """An edge of a topology: it leads from the node `source` of any position to the node `target` of the position `by` further."""
+    """An edge of a topology: it leads from the node `source` of any position to the node `target` of that position moved by `by`."""
 
     label: str
     source: int
@@ -53,7 +53,7 @@ def cells_of(positions: Iterable[Offset], nodes: int) -> List[Cell]:
 
 
 def distance(cell: Cell) -> int:
-    """How far a cell lies from the origin along an axis, at the most."""
+    """The greatest distance of a cell from the origin along an axis."""
     return max(abs(cell[0]), abs(cell[1]), abs(cell[2]))
 
 
@@ -74,18 +74,18 @@ class Topology:
         self._balls: Dict[Tuple[int, int], List[Cell]] = {}
 
     def move(self, cell: Cell, label: str) -> Optional[Cell]:
-        """Where the move leads from a cell, or None where it is missing there."""
+        """Where the move leads from a cell, or None if it is missing there."""
         edge = self._moves.get((label, cell[3]))
         if edge is None:
             return None
         return (cell[0] + edge.by[0], cell[1] + edge.by[1], cell[2] + edge.by[2], edge.target)
 
     def neighbours(self, cell: Cell) -> List[Cell]:
-        """The cells to which an edge leads from this one, or from which one leads here."""
+        """The cells that are joined to this one by an edge, in either direction."""
         return [(cell[0] + by[0], cell[1] + by[1], cell[2] + by[2], node) for by, node in self._beside[cell[3]]]
 
     def are_adjacent(self, one: Cell, other: Cell) -> bool:
-        """Whether some edge leads from one cell to the other."""
+        """Whether some edge joins the two cells, in either direction."""
         by = (other[0] - one[0], other[1] - one[1], other[2] - one[2])
         return (by, other[3]) in self._beside[one[3]]
 

@@ -37,7 +37,7 @@ class Value(NamedTuple):
 
 
 class Count(NamedTuple):
-    """How many cells of a range are such. The range is balls, or the neighbours of a cell."""
+    """A comparison with the number of cells of a range for which a formula holds. The range is balls, or the neighbours of a cell."""
 
     sign: Token
     variable: Token
@@ -49,7 +49,7 @@ class Count(NamedTuple):
 
 
 class Loop(NamedTuple):
-    """A formula for all of some symbols, or for some of them. Without symbols it goes over the alphabet."""
+    """A formula for all of some symbols, or for some of them; without symbols, for those of the alphabet."""
 
     every: bool
     variable: Token
@@ -93,18 +93,18 @@ class LongReader(FormulaReader):
             return Call(name, cells)
         self.cursor.take()
         if len(cells) != 1:
-            raise self.cursor.fault("one cell in the brackets behind an automaton's name")
+            raise self.cursor.fault("one cell in the brackets after an automaton's name")
         return Value(name, cells[0], self.cursor.name("a symbol"), sign.text == "=")
 
     def count(self, scope: Scope) -> Read:
         """`#p[o1] f >= 2` or `#p~o f >= 2`."""
         sign = self.cursor.take()
-        variable = self.cursor.word("the variable of the cells that are counted")
+        variable = self.cursor.word("the variable of the counted cells")
         balls, beside = [], None
         if self.cursor.takes_sign("~"):
             beside = self.term()
         else:
-            self.cursor.sign("[", "or `~` behind the variable of the cells that are counted")
+            self.cursor.sign("[", "or `~` after the variable of the counted cells")
             balls.append(self.ball())
             while not self.cursor.takes_sign("]"):
                 balls.append(self.ball())
@@ -113,7 +113,7 @@ class LongReader(FormulaReader):
             if self.cursor.takes_sign(comparison):
                 number = self.cursor.natural("a number of cells")
                 return Count(sign, variable, balls, beside, body, comparison, number), self.above(height)
-        raise self.cursor.fault("`>=`, `<=` or `=` behind what is counted")
+        raise self.cursor.fault("`>=`, `<=` or `=` after what is counted")
 
     def loop(self, scope: Scope) -> Read:
         """`As{red green} f`, or with E."""
@@ -123,7 +123,7 @@ class LongReader(FormulaReader):
         symbols: List[Token] = []
         if not self.cursor.takes_sign("*"):
             symbols = self.cursor.names("a symbol")
-        self.cursor.sign("}", "behind the symbols")
+        self.cursor.sign("}", "after the symbols")
         body, height = self.inside(lambda: self.tight(scope))
         return Loop(kind.text == "A", variable, symbols, body), self.above(height)
 
@@ -146,5 +146,5 @@ class LongScript(Reader):
 
 
 def long_commands(script: bytes, queries: Dict[str, List[str]]) -> List[Command]:
-    """The commands of a longer script, or the first Fault of its syntax."""
+    """The commands of a longer script; raises the first Fault of its syntax."""
     return LongScript(tokens.tokens_of(script, SIGNS), queries).commands()

@@ -1,7 +1,7 @@
 """Images and conjugacies, as box questions on pairs of automata.
 
-An automaton maps a shift into another where its composition with an automaton that marks the cells at which the second rule fails gives the
-same as one that marks nothing. Two automata are inverse where both compositions are the identity.
+An automaton maps a shift into another if the following two agree: its composition with an automaton that marks the cells at which the second rule
+fails, and an automaton that marks nothing. Two automata are inverse if both compositions are the identity.
 """
 from typing import List
 
@@ -16,7 +16,7 @@ HERE = Term(Token(WORD, "o", 0), ())
 
 
 def guarded(script: Script, rule: Rule) -> Formula:
-    """That a rule holds and each node has a symbol that it allows."""
+    """The formula that a rule holds and the node has a symbol that it allows."""
     members: List[Formula] = [rule.formula]
     for name, node in script.nodes.items():
         allowed = script.allowed[node]
@@ -27,7 +27,7 @@ def guarded(script: Script, rule: Rule) -> Formula:
 
 
 def depth(formula: Formula) -> int:
-    """How deep a formula is nested. Its atoms are 0 deep, and a list of one part is no deeper than the part."""
+    """How deeply a formula is nested. Atoms have depth 0, and a list of one part has the depth of the part."""
     if isinstance(formula, (And, Or)):
         parts = [depth(part) for part in formula.parts]
         return max(parts, default=0) + (len(parts) > 1)
@@ -44,7 +44,7 @@ def constant(script: Script, symbol: int) -> Cases:
 
 
 def marked(script: Script, rule: Rule) -> Cases:
-    """The automaton that gives the symbol 0 where a rule holds and the symbol is allowed, else the symbol 1."""
+    """The automaton that gives the symbol 0 where a rule holds and the symbol is allowed, and the symbol 1 elsewhere."""
     return Cases(f"marked {rule.name}", [(rule_of(script, rule.name, guarded(script, rule)), 0)], 1, len(script.nodes))
 
 
@@ -74,6 +74,6 @@ def conjugacy_questions(script: Script, there: Automaton, back: Automaton, sourc
 
 
 def image_breaks(script: Script, automaton: Automaton, rule: Rule, cell: Cell, symbol_at) -> bool:
-    """Whether an image has, at a cell, a symbol that isn't allowed, or breaks a rule there: the definition, for comparison."""
+    """Whether an image has a symbol at a cell that isn't allowed, or breaks a rule there. This is the definition, for comparison."""
     image = lambda read: automaton.value(read, symbol_at)  # noqa: E731
     return not script.allows(cell[3], image(cell)) or not rule.holds_at(cell, image)

@@ -1,7 +1,7 @@
 """What the commands of a script mean, and the faults of their meaning.
 
-Each command is gone through by a class of this module, or by its kind of query: first the names, then the shapes, then the sizes; and
-where there is no fault, what it says is put into the script.
+There is a subclass of Meaning for each command and each kind of query. It looks for faults of names, then of shapes, then of sizes. If there is none,
+it adds to the script what the command says.
 """
 from typing import Any, Iterator, Optional, Sequence
 
@@ -36,7 +36,7 @@ def over(limit: str, token: Token, rule: str) -> Fault:
 
 
 class Meaning:
-    """A command's meaning for a script. The iterators give faults; those of sizes in the order of the limits."""
+    """The meaning of a command of a script. The iterators give its faults, those of sizes in the order of the limits."""
 
     def __init__(self, script: Script, command: Command, commands: Sequence[Command]) -> None:
         self.script = script
@@ -49,8 +49,8 @@ class Meaning:
         """The commands before this one."""
         return self.commands[:self.command.number - 1]
 
-    def behind(self) -> Sequence[Command]:
-        """The commands behind this one."""
+    def after(self) -> Sequence[Command]:
+        """The commands after this one."""
         return self.commands[self.command.number:]
 
     def names(self) -> Iterator[Fault]:
@@ -62,14 +62,14 @@ class Meaning:
         return iter(())
 
     def sizes(self) -> Iterator[Fault]:
-        """Limits that are passed, but those that each token has."""
+        """Limits that are passed, but for those of single tokens."""
         return iter(())
 
     def apply(self) -> None:
-        """Puts what the command says into the script."""
+        """Adds to the script what the command says."""
 
     def fault(self) -> Optional[Fault]:
-        """The fault that counts."""
+        """The fault that counts, or None."""
         found = first(list(self.names())) or first(list(self.shapes())) or next(self._token_sizes(), None) or next(self.sizes(), None)
         if found:
             found.command = self.command.number
@@ -86,9 +86,9 @@ class Meaning:
                 yield over("number", token, f"a number is at most {MOST_NUMBER:,} in absolute value")
 
     def taken(self, name: Token) -> Iterator[Fault]:
-        """The fault of a name that a rule, an automaton or a configuration has."""
+        """The fault that a rule, an automaton or a configuration already has this name."""
         if name.text in self.script.named:
-            yield twice(name, f"{name.text} is named before; rules, automata and configurations share their names")
+            yield twice(name, f"the name {name.text} is taken; rules, automata and configurations share their names")
 
     def known_symbols(self, tokens: Sequence[Token]) -> Iterator[Fault]:
         """The faults of symbols that the alphabet doesn't have."""

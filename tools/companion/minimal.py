@@ -1,4 +1,4 @@
-"""Minimal forbidden patterns: patterns from which no cell can be left out, which together forbid what a rule forbids."""
+"""Minimal forbidden patterns: no cell of them can be left out, and together they forbid what a rule forbids."""
 from typing import List, Optional
 
 from .fillings import Filling, breaking
@@ -6,11 +6,11 @@ from .script import Rule, Script
 from .tables import any_of, digit_tables
 
 Partial = List[Optional[int]]
-"""A symbol for each cell that is read, or None where the cell is left out."""
+"""For each cell that is read, a symbol, or None if the cell is left out."""
 
 
 class Patterns:
-    """The fillings of what a rule reads at a node, as cases of tables."""
+    """The fillings of what a rule reads at a node, as bits of tables."""
 
     def __init__(self, script: Script, rule: Rule, node: int) -> None:
         reads, symbols = rule.reads[node], len(script.symbols)
@@ -40,7 +40,7 @@ class Patterns:
         return cases
 
     def shortened(self, filling: Filling) -> Partial:
-        """A breaking filling without the cells, taken in order, that can be left out."""
+        """A breaking filling from which cells are left out in order, as long as all fillings that agree with the rest break the rule."""
         partial: Partial = list(filling)
         for place in range(len(partial)):
             kept, partial[place] = partial[place], None
@@ -52,7 +52,7 @@ class Patterns:
 def minimal(script: Script, rule: Rule, node: int) -> List[Partial]:
     """The minimal patterns that a rule forbids at a node.
 
-    Each comes of a breaking filling, in lexicographic order, that agrees with no pattern before.
+    Breaking fillings are taken in lexicographic order; each that agrees with no earlier pattern gives a pattern.
     """
     patterns = Patterns(script, rule, node)
     found: List[Partial] = []

@@ -1,10 +1,10 @@
 """Reads outputs, line by line; docs/certificate.md, "The lines", is the grammar.
 
-Where bytes are no output, it finds the longest front of them that begins some output. So each byte is looked at in its place; but steps,
-of which there may be very many, are first tried by one pattern for the whole line.
+If the bytes are no output, it finds their longest prefix that begins some output. So it reads byte by byte. Steps, of which there may be very
+many, are first tried by one regular expression for the whole line.
 """
 import re
-from typing import Callable, Dict, List, NamedTuple, Optional, Sequence
+from typing import Callable, Dict, List, NamedTuple, Optional, Sequence, TypeVar
 
 from .answers import (Answer, Bound, Broken, Conjugate, Density, Empty, In, Least, Listed, Minimal, No, Nothing, Out, Pattern, Starred, Unknown,
                       Yes)
@@ -20,9 +20,11 @@ MOST_VARIABLE = 1 << 24
 STEP = re.compile(rb"step ((?:-?[1-9][0-9]* )*)0 ((?:[1-9][0-9]* )*)0 ((?:[1-9][0-9]* )*)0\n")
 NUMBERS = re.compile(rb"((?: (?:0|-?[1-9][0-9]*))*)\n")
 
+Item = TypeVar("Item")
+
 
 class NoOutput(Exception):
-    """Bytes that are no output; `offset` is the length of the longest front that begins some output."""
+    """Bytes that are no output; `offset` is the length of the longest prefix that begins some output."""
 
     def __init__(self, offset: int, expected: str) -> None:
         super().__init__(offset, expected)
@@ -63,7 +65,7 @@ class Text:
         self.one_of([word])
 
     def number(self, least: int = 0, most: int = MOST_NUMBER, signed: bool = False) -> int:
-        """Reads a number between the bounds, or with a sign between their opposites. It ends where no further digit can stand."""
+        """Reads a number between the bounds, or, with a sign, between their opposites. It ends before a digit that can't follow."""
         begin = self.at
         if signed and self.next() == b"-":
             self.at += 1
@@ -83,7 +85,7 @@ class Text:
         return int(self.data[begin:self.at])
 
     def numbers(self, least: int = 0, most: int = MOST_NUMBER, signed: bool = False) -> List[int]:
-        """Reads a blank and a number as often as they come, up to the end of the line."""
+        """Reads numbers, each with a blank before it, up to the end of the line."""
         line = NUMBERS.match(self.data, self.at)
         if line:
             found = [int(number) for number in line.group(1).split()]
@@ -103,7 +105,7 @@ class Text:
 
 
 def _common(data: bytes, at: int, word: bytes) -> int:
-    """How many bytes of the word stand at a place."""
+    """How many bytes of the word stand at a place, from its first byte on."""
     count = 0
     while count < len(word) and data[at + count:at + count + 1] == word[count:count + 1]:
         count += 1
@@ -158,7 +160,7 @@ def _yes(text: Text) -> Answer:
 
 
 def periods(text: Text) -> "tuple[List[int], int]":
-    """Reads one to three periods and, behind two or three, a shear, up to the end of the line."""
+    """Reads one to three periods and, after two or three, perhaps a shear, up to the end of the line."""
     found = [text.number()]
     while text.one_of([b"\n", b" "]) == b" ":
         if len(found) == 3 or len(found) == 2 and text.next() == b"s":
@@ -187,19 +189,23 @@ def _out(text: Text) -> Answer:
     return Out(found)
 
 
-def _list(text: Text) -> Answer:
+def _patterns(text: Text, pattern: Callable[[Text], Item]) -> List[Item]:
+    """Reads the number of patterns and a line for each, of which `pattern` reads what follows the word."""
     count = text.number()
     text.word(b"\n")
-    patterns = []
-    while len(patterns) < count:
+    found: List[Item] = []
+    while len(found) < count:
         text.word(b"pattern ")
-        node = text.number()
-        patterns.append(Pattern(node, text.numbers()))
-    return Listed(patterns)
+        found.append(pattern(text))
+    return found
+
+
+def _list(text: Text) -> Answer:
+    return Listed(_patterns(text, lambda line: Pattern(line.number(), line.numbers())))
 
 
 def _starred(text: Text) -> List[Optional[int]]:
-    """Reads a blank and a number or a star as often as they come, up to the end of the line."""
+    """Reads numbers and stars, each with a blank before it, up to the end of the line."""
     found: List[Optional[int]] = []
     while text.one_of([b" ", b"\n"]) == b" ":
         if text.next() == b"*":
@@ -211,14 +217,7 @@ def _starred(text: Text) -> List[Optional[int]]:
 
 
 def _minimal(text: Text) -> Answer:
-    count = text.number()
-    text.word(b"\n")
-    patterns = []
-    while len(patterns) < count:
-        text.word(b"pattern ")
-        node = text.number()
-        patterns.append(Starred(node, _starred(text)))
-    return Minimal(patterns)
+    return Minimal(_patterns(text, lambda line: Starred(line.number(), _starred(line))))
 
 
 def _conjugate(text: Text) -> Answer:
@@ -287,7 +286,7 @@ ANSWERS: Dict[bytes, Callable[[Text], Answer]] = {
     b"BOUND ": _bound, b"UNKNOWN ": _unknown, b"MINIMAL ": _minimal, b"CONJUGATE ": _conjugate, b"BROKEN ": _broken, b"LEAST ": _least,
     b"NONE\n": lambda text: Nothing(refutation(text)),
 }
-"""The answers, by how their lines begin."""
+"""The reader of each answer, by the beginning of its line."""
 
 
 def read_output(data: bytes) -> Output:
@@ -304,5 +303,5 @@ def read_output(data: bytes) -> Output:
         text.word(b"%d " % (len(answers) + 1))
         answers.append(ANSWERS[text.one_of(list(ANSWERS))](text))
     if text.at != len(data):
-        raise NoOutput(text.at, "expected nothing behind the line `end`")
+        raise NoOutput(text.at, "expected nothing after the line `end`")
     return Output(script, answers)

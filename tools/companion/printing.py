@@ -4,24 +4,24 @@ from typing import List, Union
 from .formulas import (Adjacent, And, Formula, Iff, Implies, IsSymbol, Not, OnNode, Or, Quantified, SameCell, SameSymbol, Term)
 
 IFF, IMPLIES, OR, AND, TIGHT = range(5)
-"""How tightly a formula binds; what binds less than its place wants stands in brackets."""
+"""How tightly a formula binds. A formula that binds less tightly than its place demands stands in brackets."""
 
 TRUE = And([])
 FALSE = Or([])
 
 
 def is_true(formula: Formula) -> bool:
-    """Whether a formula is the one that always holds."""
+    """Whether this is the formula that always holds."""
     return isinstance(formula, And) and not formula.parts
 
 
 def is_false(formula: Formula) -> bool:
-    """Whether a formula is the one that never holds."""
+    """Whether this is the formula that never holds."""
     return isinstance(formula, Or) and not formula.parts
 
 
 def is_constant(formula: Formula) -> bool:
-    """Whether a formula always holds or never."""
+    """Whether this is one of these two."""
     return is_true(formula) or is_false(formula)
 
 
@@ -35,7 +35,7 @@ def written(formula: Formula) -> str:
 
 
 def _at(formula: Formula, least: int) -> str:
-    """A formula where it has to bind at least so tightly."""
+    """A formula at a place that demands a binding of at least this level."""
     level, text = _text(formula)
     return text if level >= least else f"({text})"
 
@@ -72,7 +72,7 @@ def term(given: Term) -> str:
 
 
 def joined(parts: List[Formula], every: bool) -> Formula:
-    """All of the parts, or some of them, without parts that are always true or always false."""
+    """All of the parts or some of them, with constant parts left out where they don't matter."""
     kind, settles = (And, is_false) if every else (Or, is_true)
     found: List[Formula] = []
     for part in parts:
@@ -90,7 +90,7 @@ def opposite(formula: Formula) -> Formula:
 
 
 def weight(formula: Formula) -> int:
-    """How large a formula is as text, about: its atoms and signs."""
+    """Roughly how long a formula is as text: its atoms and signs."""
     if isinstance(formula, (And, Or)):
         return 1 + sum(weight(part) for part in formula.parts)
     if isinstance(formula, (Implies, Iff)):

@@ -1,4 +1,4 @@
-"""Reads the commands of a script. Only what is written is looked at here; meaning.py looks names up."""
+"""Reads the commands of a script. It looks only at the syntax; meaning.py looks names up."""
 from typing import Callable, Dict, List, Type, Union
 
 from . import tokens
@@ -11,7 +11,7 @@ from .lattice import BUILT_IN
 from .tokens import Token
 
 HEADER = ("dim", "nodes", "alphabet", "topology", "only", "weights", "limits")
-"""The commands of the header, in the order in which they have to come."""
+"""The commands of the header, in their order."""
 
 
 def _dim(cursor: Cursor) -> Body:
@@ -63,7 +63,7 @@ def _limits(cursor: Cursor) -> Body:
 
 
 def rule_text(cursor: Cursor, formulas: FormulaReader) -> Body:
-    """What follows `%rule`."""
+    """The contents of `%rule`."""
     return RuleText(cursor.word("the rule's name"), formulas.formula())
 
 
@@ -75,17 +75,17 @@ def _conf(cursor: Cursor) -> Body:
 
 
 def auto_text(cursor: Cursor, formulas: FormulaReader) -> Body:
-    """What follows `%auto`."""
+    """The contents of `%auto`."""
     name = cursor.word("the automaton's name")
     cases = []
     while cursor.takes_word("when"):
         formula = formulas.formula()
         if not cursor.takes_word("give"):
-            raise cursor.fault("`give` behind a case's formula")
+            raise cursor.fault("`give` after a case's formula")
         cases.append((formula, cursor.name("the symbol that the case gives")))
     if not cursor.takes_word("else"):
         raise cursor.fault("`when` or `else`")
-    return AutoText(name, cases, cursor.name("the symbol that is given else"))
+    return AutoText(name, cases, cursor.name("the symbol after `else`"))
 
 
 def _compose(cursor: Cursor) -> Body:
@@ -122,11 +122,11 @@ def _ask(cursor: Cursor, arguments: List[str]) -> Ask:
 
 
 NAMED = {"rule": "a rule", "conf": "a configuration", "auto": "an automaton"}
-"""What the kinds of names are called."""
+"""The kinds of names in words."""
 
 
 class Reader:
-    """Reads a script's commands one after the other. `queries` has the kinds of the arguments of each query."""
+    """Reads a script's commands in turn. `queries` has the kinds of arguments of each query."""
 
     with_formulas = WITH_FORMULAS
     formula_reader: Type[FormulaReader] = FormulaReader
@@ -138,7 +138,7 @@ class Reader:
         self.number = 0
 
     def commands(self) -> List[Command]:
-        """All commands, or the first fault of the syntax."""
+        """All commands; raises the first fault of the syntax."""
         found = []
         try:
             if not self.cursor.ends_command():
@@ -156,7 +156,7 @@ class Reader:
         self.cursor.take()
         keyword = self.cursor.next()
         if keyword.kind != tokens.WORD or not any(keyword.text in known for known in (COMMANDS, self.with_formulas, self.queries)):
-            raise self.cursor.fault("the word of a command behind `%`")
+            raise self.cursor.fault("the word of a command after `%`")
         self._in_order(keyword)
         self.cursor.take()
         body = self._body(keyword.text)
@@ -165,7 +165,7 @@ class Reader:
         return Command(self.number, keyword, self.cursor.tokens[begin:self.cursor.at], body)
 
     def _body(self, word: str) -> Body:
-        """What follows the word of a command."""
+        """What follows a command's word."""
         if word in COMMANDS:
             return COMMANDS[word](self.cursor)
         if word in self.with_formulas:
@@ -173,7 +173,7 @@ class Reader:
         return _ask(self.cursor, self.queries[word])
 
     def _in_order(self, keyword: Token) -> None:
-        """Looks whether a command may stand behind those before it."""
+        """Raises a fault if a command may not follow those before it."""
         word = keyword.text
         if word in HEADER:
             late = [before for before in self.seen if before not in HEADER or HEADER.index(before) > HEADER.index(word)]

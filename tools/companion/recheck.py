@@ -1,7 +1,7 @@
 """`tools/recheck < output`: an independent check of an output. It is not proved.
 
-It writes what `diddy check` writes and ends with the same status, and says on standard error why an answer is rejected.
-With --lines it also says on standard error what each accepted answer claims.
+It writes what `diddy check` writes, and ends with the same status. On standard error it says why an answer is rejected and, with --lines, what each
+accepted answer claims.
 """
 import sys
 from typing import BinaryIO, List, TextIO
@@ -58,7 +58,7 @@ def recheck(data: bytes, out: TextIO, said: TextIO, claims: bool = False) -> int
 
 
 def check_output(output: Output, out: TextIO, said: TextIO, claims: bool) -> int:
-    """Takes the script of an output, and checks its answers."""
+    """Reads the script of an output, and checks the answers."""
     try:
         script = accept(output.script)
     except Fault as fault:

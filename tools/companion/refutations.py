@@ -8,7 +8,7 @@ from .clauses import Clauses
 
 
 class Step(NamedTuple):
-    """A step as it stands in an output: literals with their signs, numbers of clauses as hints, numbers of clauses to delete."""
+    """A step as it stands in an output: signed literals, the numbers of hinted clauses, the numbers of clauses to delete."""
 
     literals: Sequence[int]
     hints: Sequence[int]
@@ -16,7 +16,7 @@ class Step(NamedTuple):
 
 
 class Refutation:
-    """Clauses, to which steps add more. `false` has a 1 at each literal that is taken as false."""
+    """Clauses, to which steps add more. `false` has a 1 at each literal that is false."""
 
     def __init__(self, clauses: Clauses) -> None:
         self.clauses = clauses
@@ -25,7 +25,7 @@ class Refutation:
         self.deleted = bytearray(1)
 
     def fault(self, steps: Sequence[Step]) -> Optional[str]:
-        """Why the steps don't refute the clauses, or None where they do."""
+        """Why the steps don't refute the clauses, or None if they do."""
         for number, step in enumerate(steps, 1):
             why = self._step(step)
             if why:
@@ -35,7 +35,7 @@ class Refutation:
         return None
 
     def _step(self, step: Step) -> Optional[str]:
-        """Checks a step and adds its clause."""
+        """Checks a step and adds its clause; gives the fault, if any."""
         if not step.hints:
             return "there is no hint"
         clause = [2 * literal if literal > 0 else 1 - 2 * literal for literal in step.literals]
@@ -52,11 +52,11 @@ class Refutation:
         return why or self._delete(step.deletes, clause)
 
     def _propagate(self, hints: Sequence[int], trail: List[int]) -> Optional[str]:
-        """Follows the hints. What is found to be false goes to the trail."""
+        """Follows the hints. Literals that become false go to the trail."""
         false, literals, starts, last = self.false, self.clauses.literals, self.clauses.starts, len(hints) - 1
         for place, hint in enumerate(hints):
             if not self._stands(hint):
-                return f"hint {hint} is the number of no clause that stands here"
+                return f"hint {hint} is not the number of a clause at hand"
             left = [literal for literal in literals[starts[hint - 1]:starts[hint]] if not false[literal]]
             if len(left) > 1:
                 left = list(set(left))
@@ -72,14 +72,14 @@ class Refutation:
         return None
 
     def _stands(self, number: int) -> bool:
-        """Whether there is a clause with this number that isn't deleted."""
+        """Whether a clause with this number exists and isn't deleted."""
         return 1 <= number <= len(self.clauses) and not (number < len(self.deleted) and self.deleted[number])
 
     def _delete(self, deletes: Sequence[int], clause: List[int]) -> Optional[str]:
-        """Deletes clauses, and then adds the step's own."""
+        """Deletes clauses, and then adds the step's clause."""
         for number in deletes:
             if not self._stands(number):
-                return f"the clause {number}, which is to be deleted, doesn't stand here"
+                return f"the deleted clause {number} is not at hand"
             if number >= len(self.deleted):
                 self.deleted.extend(bytes(number + 1 - len(self.deleted)))
             self.deleted[number] = 1

@@ -5,7 +5,7 @@ from .faults import Fault, place
 
 
 def pointed(script: bytes, at: int) -> List[str]:
-    """The line of a script in which an offset lies, and a mark below the place."""
+    """The line of a script that has an offset, and a mark below the place."""
     begin = script.rfind(b"\n", 0, at) + 1
     end = script.find(b"\n", at)
     line = script[begin:len(script) if end < 0 else end].decode("latin-1")
@@ -22,6 +22,6 @@ def located(script: bytes, fault: Fault) -> List[str]:
 
 
 def table(rows: Sequence[Sequence[str]]) -> List[str]:
-    """Rows with their columns below each other; all but the first column to the right."""
+    """Rows with aligned columns; all columns but the first are aligned to the right."""
     widths = [max(len(row[column]) for row in rows) for column in range(len(rows[0]))]
     return ["  ".join([row[0].ljust(widths[0]), *[cell.rjust(width) for cell, width in zip(row[1:], widths[1:])]]).rstrip() for row in rows]

@@ -1,4 +1,4 @@
-"""A script that was accepted, or its front: what its names stand for."""
+"""An accepted script, or its commands so far: what its names stand for."""
 import itertools
 from typing import Callable, Dict, Iterator, List, NamedTuple, Optional, Sequence, Tuple, Union
 
@@ -10,7 +10,7 @@ Symbol = int
 
 
 class Rule:
-    """A rule: its formula, what that comes to at each node of the origin, and which cells it reads there, in cell order."""
+    """A rule: its formula, its expansions at the nodes of the origin, and the cells that it reads there, in cell order."""
 
     def __init__(self, name: str, formula: Formula, expansions: List[Expanded]) -> None:
         self.name = name
@@ -32,7 +32,7 @@ class Rule:
         return sum(gate_clauses(expanded) for expanded in self.expansions)
 
     def holds(self, node: Node, symbols: Tuple[Symbol, ...]) -> bool:
-        """Whether the rule is true at a node where the cells that it reads there have these symbols, in cell order."""
+        """Whether the rule is true at a node, if the cells that it reads there have these symbols, in cell order."""
         known = self._known[node]
         if symbols not in known:
             at = dict(zip(self.reads[node], symbols))
@@ -46,7 +46,7 @@ class Rule:
 
 
 class Cases:
-    """An automaton by cases: the symbol of the first case whose rule holds, else the last one."""
+    """An automaton by cases: the symbol of the first case whose rule holds, otherwise the last symbol."""
 
     def __init__(self, name: str, cases: List[Tuple[Rule, Symbol]], otherwise: Symbol, nodes: int) -> None:
         self.name = name
@@ -84,7 +84,7 @@ class Composition:
 
     @property
     def reads(self) -> List[List[Cell]]:
-        """The cells that the composition reads at each node, in cell order. They are found when they are first asked for."""
+        """The cells that the composition reads at each node, in cell order. They are computed when first needed."""
         if self._reads is None:
             inner = self.inner.reads
             self._reads = [sorted({moved(cell, read[:3]) for read in reads for cell in inner[read[3]]}) for reads in self.outer.reads]
@@ -153,7 +153,7 @@ Named = Union[Rule, Cases, Composition, Configuration]
 
 
 class Script:
-    """What the header says and what the names stand for. Each field has the value that holds where no command gives one."""
+    """What the header says and what the names stand for. Each field begins with its default."""
 
     def __init__(self) -> None:
         self.dim = 2
@@ -168,7 +168,7 @@ class Script:
 
     @property
     def topology(self) -> Topology:
-        """The topology, which is a built-in one where the script names none."""
+        """The topology; a built-in one if the script names none."""
         if self._topology is None:
             dim, nodes, edges = BUILT_IN[DEFAULT[self.dim]]
             self._topology = Topology(dim, nodes, edges)
@@ -202,7 +202,7 @@ class Script:
         return sum(self.weights[symbol] for symbol in symbols)
 
     def places(self, rule: Rule, positions: Sequence[Offset]) -> Iterator[Tuple[Cell, List[Cell]]]:
-        """The cells of these positions at which all that the rule reads lies in them, in order, with what it reads there."""
+        """The cells of these positions at which all that the rule reads lies in the positions, in order, with what it reads there."""
         inside = set(positions)
         for position in positions:
             for node, reads in enumerate(rule.reads):

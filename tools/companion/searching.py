@@ -1,4 +1,4 @@
-"""Plain searches for answer lines. They are slow, and give up where they take too long; what they find is found from the definitions."""
+"""Plain searches for answer lines, from the definitions. They are slow, and give up if they take too long."""
 import itertools
 from fractions import Fraction
 from typing import Callable, Dict, Iterator, List, Optional, Sequence, Tuple
@@ -9,7 +9,7 @@ from .script import Configuration, Script
 from .strips import Strip
 
 MOST_TRIED = 20000
-"""How many symbols are tried before a search gives up."""
+"""The number of symbols that a search tries before it gives up."""
 
 Test = Callable[[List[int]], bool]
 
@@ -19,7 +19,7 @@ class TooLong(Exception):
 
 
 class Search:
-    """Looks for a filling of numbered cells that passes tests, symbol by symbol. A test is made where its last cell has a symbol."""
+    """Looks for a filling of numbered cells that passes tests, symbol by symbol. A test is made once its last cell has a symbol."""
 
     def __init__(self, budget: int = MOST_TRIED) -> None:
         self.budget = budget
@@ -46,7 +46,7 @@ class Search:
 
 
 def _tests(question: Question, cells: Sequence[Cell], places: Sequence[Cell], number: Callable[[Cell], int]) -> List[List[Test]]:
-    """The tests that the premise holds at the places and the goal at the origin. `number` gives the number of each cell of Z^d."""
+    """The tests that the premise holds at the places and the goal at the origin. `number` numbers the cells of Z^d."""
     tests: List[List[Test]] = [[] for _ in cells]
     premise = question.premise
     for cell in places:
@@ -103,7 +103,7 @@ def torus_has(question: Question, periods: Sequence[int], shear: int, search: Se
 
 
 def verdict(question: Question) -> str:
-    """The answer's line to one box question, as if it were asked alone; TooLong where the search gives up."""
+    """The line that answers a single box question; raises TooLong if the search gives up."""
     search = Search()
     for radius in range(question.least_radius(), question.greatest_radius() + 1):
         if not box_has(question, radius, search):
@@ -116,7 +116,7 @@ def verdict(question: Question) -> str:
 
 
 def least_mean(strip: Strip) -> Optional[Fraction]:
-    """The least weight over length of closed walks, by the table of walks of all lengths (Karp 1978); None where there is none."""
+    """The least mean weight of a closed walk, by a table of walks of all lengths (Karp 1978); None if there is none."""
     weights = strip.slice_weights()
     edges = [(source, target, weights[slice_]) for source, target, slice_ in strip.edges()]
     count = strip.state_count()

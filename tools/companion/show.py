@@ -1,7 +1,7 @@
 """`tools/show < output`: the configurations of an output as rows of text. It is not proved, and checks nothing.
 
-Rows go upwards, so the first row that is printed is the highest. A layer is printed for each z, the nodes of a position stand beside each
-other, and shears are carried out: two fundamental boxes are shown along each of the first two axes.
+Rows go upwards, so the highest row is printed first. There is a layer for each z. The nodes of a position stand beside each other. Two fundamental
+boxes are shown along each of the first two axes, with the shear.
 """
 import sys
 from typing import BinaryIO, List, Optional, TextIO
@@ -32,7 +32,7 @@ def shown(script: Script, configuration: Configuration, marked: Optional[Cell]) 
 
 
 def row_position(script: Script, configuration: Configuration, position: "tuple[int, int, int]", marked: Optional[Cell], width: int) -> str:
-    """The symbols of the nodes of a position. The cell that is marked stands in brackets."""
+    """The symbols of a position's nodes, with the marked cell in brackets."""
     names = script.symbol_names()
     cells = []
     for node in range(len(script.nodes)):
@@ -48,10 +48,10 @@ def show(data: bytes, out: TextIO, said: TextIO) -> int:
         output = read_output(data)
         script = accept(output.script)
     except NoOutput as fault:
-        said.write(f"no output: at byte {fault.offset}: {fault.expected}\n")
+        said.write(f"this is no output: at byte {fault.offset}: {fault.expected}\n")
         return REFUSED
     except Fault as fault:
-        said.write(f"an output of no script: {fault.line()}: {fault.rule}\n")
+        said.write(f"the output's script is refused: {fault.line()}: {fault.rule}\n")
         return REFUSED
     for number, (query, answer) in enumerate(zip(script.queries, output.answers), 1):
         out.write(f"query {number} {query.text()}: {answer.line()}\n")

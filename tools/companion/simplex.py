@@ -6,7 +6,7 @@ from .bounds import Program
 
 
 class Tableau:
-    """A tableau: each row is a basic variable's, with its coefficients and its right side last. Row -1 is the objective's."""
+    """A tableau with a row for each basic variable: its coefficients, and its right side last. The objective's row stands apart."""
 
     def __init__(self, program: Program) -> None:
         rows, columns = len(program.rows), program.columns
@@ -22,11 +22,11 @@ class Tableau:
         self.objective = [Fraction(-1)] + [Fraction(0)] * (columns + rows)
 
     def entering(self) -> Optional[int]:
-        """The first variable that the objective wants, or None at the end."""
+        """The first variable that improves the objective, or None at the end."""
         return next((column for column, value in enumerate(self.objective[:-1]) if value < 0), None)
 
     def leaving(self, column: int) -> int:
-        """The row whose variable leaves: of the least ratio, the one of the least variable."""
+        """The row whose variable leaves: the least ratio, and of these the least variable."""
         ratios = [(line[-1] / line[column], self.basis[row], row) for row, line in enumerate(self.table) if line[column] > 0]
         return min(ratios)[2]
 

@@ -1,6 +1,6 @@
 """Transfer graphs of rules over strips, and the check of least densities.
 
-docs/certificate.md defines the graph, docs/strips.md says what it is for (a transfer matrix, as in Lind and Marcus, 1995).
+docs/certificate.md defines the graph, docs/strips.md explains it (a transfer matrix, as in Lind and Marcus 1995).
 """
 import itertools
 from fractions import Fraction
@@ -70,7 +70,7 @@ class Strip:
         return found
 
     def edges(self) -> Iterator[Tuple[int, int, int]]:
-        """The edges: the state from which each leads, the state to which it leads, and the slice."""
+        """The edges, each as its first state, its last state and its slice."""
         slices, states = self.slice_count(), self.state_count()
         for window in set_bits(self._edge_bits(), self.window_count()):
             yield window // slices, window % states, window % slices
@@ -86,12 +86,12 @@ class Strip:
 
 def cycle_fault(strip: Strip, edges: Dict[Tuple[int, int], int], density: Fraction,
                 cycle: Sequence[int]) -> Tuple[Optional[str], Fraction]:
-    """Why a list of states is no closed walk of this density, or None; and its weight over its length."""
+    """Why a list of states is no closed walk of this density, or None if it is one; and its weight over its length."""
     total = 0
     for place, state in enumerate(cycle):
         following = cycle[(place + 1) % len(cycle)]
         if (state, following) not in edges:
-            return f"the cycle goes from {state} to {following}, where no edge leads", Fraction(0)
+            return f"the cycle goes from {state} to {following}, but no edge does", Fraction(0)
         total += edges[state, following]
     mean = Fraction(total, len(cycle))
     if mean / strip.positions != density:
@@ -100,7 +100,7 @@ def cycle_fault(strip: Strip, edges: Dict[Tuple[int, int], int], density: Fracti
 
 
 def density_fault(strip: Strip, over: int, under: int, cycle: Sequence[int], potentials: Sequence[int]) -> Optional[str]:
-    """Why an answer DENSITY is none of this strip, or None where it is one."""
+    """Why an answer DENSITY is wrong for this strip, or None if it is right."""
     density = Fraction(over, under)
     if (density.numerator, density.denominator) != (over, under):
         return f"{over}/{under} is not in lowest terms"
@@ -120,7 +120,7 @@ def density_fault(strip: Strip, over: int, under: int, cycle: Sequence[int], pot
 
 
 def ranks_fault(strip: Strip, ranks: Sequence[int]) -> Optional[str]:
-    """Why an answer EMPTY is none of this strip, or None where it is one."""
+    """Why an answer EMPTY is wrong for this strip, or None if it is right."""
     if len(ranks) != strip.state_count():
         return f"there are {len(ranks)} ranks for {strip.state_count()} states"
     for source, target, _ in strip.edges():

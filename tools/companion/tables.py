@@ -1,4 +1,4 @@
-"""The truth of formulas in many cases at once: the bit i of a whole number stands for the i-th case.
+"""The truth of formulas in many cases at once: bit i of a number stands for the i-th case.
 
 The cases are the fillings of some cells, numbered in lexicographic order: a filling is a number whose digits are the symbols, the
 first one the most significant.
@@ -10,7 +10,7 @@ from .lattice import Cell
 
 
 def digit_tables(base: int, count: int) -> List[List[int]]:
-    """For each digit of the numbers with so many digits and each value: a bit for each number whose digit has the value.
+    """For each digit place and each value: a bit for each of the numbers with `count` digits whose digit there has the value.
 
     The first digit is the most significant one.
     """
@@ -23,7 +23,7 @@ def digit_tables(base: int, count: int) -> List[List[int]]:
 
 
 def _repeated(pattern: int, period: int, total: int) -> int:
-    """A pattern of bits, again after each period, up to a total."""
+    """A pattern of bits, repeated with a period up to a total length."""
     while period < total:
         pattern |= pattern << period
         period *= 2
@@ -31,7 +31,7 @@ def _repeated(pattern: int, period: int, total: int) -> int:
 
 
 def any_of(tables: List[int]) -> int:
-    """The cases of any of these."""
+    """The union of these sets of cases."""
     found = 0
     for bits in tables:
         found |= bits
@@ -39,16 +39,14 @@ def any_of(tables: List[int]) -> int:
 
 
 def set_bits(bits: int, total: int) -> Iterator[int]:
-    """The places of the bits that are set, in order."""
+    """The places of the set bits, in order."""
     for place, digit in enumerate(reversed(format(bits, f"0{total}b"))):
         if digit == "1":
             yield place
 
 
 def table(expanded: Expanded, leaf: Callable[[Cell, int], int], full: int) -> int:
-    """The truth of an expansion in many cases at once: bit i of a number stands for the i-th case, and `full` has all bits.
-
-    The call `leaf` gives the cases in which a cell has a symbol.
+    """The cases in which an expansion is true. `full` has the bits of all cases; `leaf` gives the cases in which a cell has a symbol.
     """
     if isinstance(expanded, Leaf):
         return leaf(expanded.cell, expanded.symbol)

@@ -1,8 +1,8 @@
-"""Formulas that count: how many of some formulas hold.
+"""Formulas that say how many of a list of formulas hold.
 
-The list is halved: at least k of a list hold where, for some i, at least i of its first half hold and at least k - i of the rest. So the
-formula grows with n·log(n)^(k-1), and not with the number of subsets. Where k is over half of the list, it may be shorter to say that
-fewer than n - k + 1 of the opposites hold.
+The list is halved: at least k of it hold if, for some i, at least i of the first half hold and at least k - i of the rest. So the formula grows
+with n·log(n)^(k-1), and not with the number of subsets. If k is over half of the list, it may be shorter to say that fewer than n - k + 1 of the
+opposites hold.
 """
 from typing import Dict, List, Tuple
 
@@ -23,7 +23,7 @@ class Threshold:
         self.known: Dict[Tuple[bool, int, int, int], Weighed] = {}
 
     def at_least(self, sign: bool, count: int, begin: int, end: int) -> Weighed:
-        """At least so many of the formulas from `begin` to `end` hold; with the sign False, of their opposites."""
+        """At least `count` of the formulas from `begin` to `end` hold; with the sign False, of their opposites."""
         length = end - begin
         if count <= 0 or count > length:
             return (TRUE if count <= 0 else FALSE), 1
@@ -49,7 +49,7 @@ class Threshold:
 
 
 def at_least(count: int, formulas: List[Formula]) -> Formula:
-    """At least so many of the formulas hold; TooLarge where that has more parts than a rule may have."""
+    """At least `count` of the formulas hold; raises TooLarge if that has more parts than a rule may have."""
     found, size = Threshold(formulas).at_least(True, count, 0, len(formulas))
     if size > MOST_PARTS:
         raise TooLarge
@@ -57,14 +57,14 @@ def at_least(count: int, formulas: List[Formula]) -> Formula:
 
 
 def at_most(count: int, formulas: List[Formula]) -> Formula:
-    """At most so many of the formulas hold."""
+    """At most `count` of the formulas hold."""
     return opposite(at_least(count + 1, formulas))
 
 
 def exactly(count: int, formulas: List[Formula]) -> Formula:
-    """Exactly so many of the formulas hold."""
+    """Exactly `count` of the formulas hold."""
     return joined([at_least(count, formulas), at_most(count, formulas)], every=True)
 
 
 COMPARISONS = {">=": at_least, "<=": at_most, "=": exactly}
-"""What the signs say of a count."""
+"""The formula of each comparison."""

@@ -9,7 +9,7 @@ TOKEN = re.compile(rb"(?P<word>[a-z]+)|(?P<number>(?:0|-?[1-9][0-9]*)(?![0-9]))|
 
 
 class Token(NamedTuple):
-    """A token, its text and the offset at which it begins. A whole script ends with an END, which stands just behind the last token."""
+    """A token: its kind, its text and the offset of its first byte. The tokens of a whole script end with an END just after the last token."""
 
     kind: str
     text: str
@@ -28,7 +28,7 @@ class Token(NamedTuple):
         return self.kind == NUMBER and self.text[0] != "-"
 
     def value(self) -> int:
-        """The number that this token is."""
+        """The number that the token spells."""
         return int(self.text)
 
     def shown(self) -> str:
@@ -39,7 +39,7 @@ class Token(NamedTuple):
 
 
 def tokens_of(script: bytes, signs: "re.Pattern[bytes]" = TOKEN) -> List[Token]:
-    """The tokens up to the first byte that begins none, which is a BAD token, or to the end."""
+    """All tokens with an END, or the tokens before the first byte that begins none, with a BAD token for this byte."""
     tokens: List[Token] = []
     at = end = 0
     while True:

@@ -1,4 +1,4 @@
-"""Least weights on a torus: of the configurations with given periods and no shear that obey a rule."""
+"""Least weights on a torus, over the configurations with given periods and no shear that obey a rule."""
 import itertools
 from typing import List, Optional, Sequence, Tuple
 
@@ -22,7 +22,7 @@ class Torus:
         self.cells: List[Cell] = list(self.numbered.cells())
 
     def least(self) -> Optional[Tuple[int, List[int]]]:
-        """The least weight with the first filling that has it, by trying all fillings; None where none obeys the rule."""
+        """The least weight and the first filling that has it, by trying all fillings; None if none obeys the rule."""
         best: Optional[Tuple[int, List[int]]] = None
         for filling in itertools.product(*[self.script.allowed[cell[3]] for cell in self.cells]):
             weight = self.script.position_weight(filling)
@@ -37,7 +37,7 @@ class Torus:
         return len(self.script.symbols) ** self.volume <= MOST_FILLINGS
 
     def clauses(self, below: int) -> Clauses:
-        """The clauses that a configuration obeys the rule, and weighs less than this where it is at least 1."""
+        """The clauses that a configuration obeys the rule and, if `below` is at least 1, weighs less than this."""
         script, symbols = self.script, len(self.script.symbols)
         clauses = Clauses(self.volume * symbols)
         for number, cell in enumerate(self.cells):
@@ -55,7 +55,7 @@ class Torus:
         return 2 * (1 + number * len(self.script.symbols) + symbol)
 
     def _heavy(self, clauses: Clauses, below: int) -> int:
-        """The gates that the first cells weigh at least 1, 2 and on, cell by cell; the last of them."""
+        """Adds, cell by cell, the gates that the first cells weigh at least 1, 2 and on; gives the last gate."""
         before: List[int] = []
         for number in range(self.volume):
             gates = []

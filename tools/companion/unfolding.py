@@ -1,4 +1,4 @@
-"""Writes formulas of the longer language in the plain one."""
+"""Translates formulas of the longer language into the plain one."""
 import itertools
 import string
 from typing import Dict, FrozenSet, List, NamedTuple, Optional, Sequence, Tuple, Union
@@ -20,7 +20,7 @@ Definition = Union[LetText, RuleText, AutoText, ComposeText]
 
 
 class Scope(NamedTuple):
-    """What the variables of a formula stand for: terms of the plain formula, or symbols; and the plain formula's own variables."""
+    """What the variables of a formula stand for, terms of the plain formula or symbols; and the plain formula's own variables."""
 
     cells: Dict[str, Term]
     symbols: Dict[str, str]
@@ -40,7 +40,7 @@ class Scope(NamedTuple):
         return Scope({**self.cells, name: Term(word(plain), ())}, self.symbols, self.taken | {plain})
 
     def fresh(self, wanted: str) -> str:
-        """A name for a variable: the wanted one, or else the first that isn't taken."""
+        """A name for a variable: the wanted one if it is free, otherwise the first that is free."""
         if wanted not in self.taken:
             return wanted
         letters = string.ascii_lowercase[15:] + string.ascii_lowercase[:15]
@@ -71,7 +71,7 @@ class Unfolding:
         self.written = 0
 
     def rule(self, name: Token, formula: Formula, scope: Scope = ORIGIN) -> Formula:
-        """A formula of a command in the plain language, or the fault that it grows too large."""
+        """A formula of a command in the plain language; raises a fault if it grows too large."""
         self.open = [name.text]
         self.written = 0
         try:
@@ -83,7 +83,7 @@ class Unfolding:
         raise Fault("size", "instances", name.at, f"written out, this has more than {MOST_PARTS:,} parts", name.text)
 
     def _step(self) -> None:
-        """Counts a formula that is looked at."""
+        """Counts a formula that is visited."""
         self.written += 1
         if self.written > MOST_WRITTEN:
             raise TooLarge
@@ -143,7 +143,7 @@ class Unfolding:
         return Quantified(formula.every, word(plain), balls, body)
 
     def _bound(self, name: str, cell: Term, scope: Scope, inside) -> Formula:
-        """A formula in which a variable stands for a cell at the end of moves: a new variable is bound to it, three moves a step."""
+        """Binds a new variable to the cell at the end of moves, three moves at a time, and gives the formula inside."""
         step = Term(cell.variable, cell.moves[:MOST_STEP])
         plain = scope.fresh(name)
         inner = scope.bound(name, plain)
@@ -157,7 +157,7 @@ class Unfolding:
     def _definition(self, name: Token, kinds: Tuple[type, ...], what: str) -> Definition:
         found = self.definitions.get(name.text)
         if not isinstance(found, kinds):
-            raise Fault("unknown", name.text, name.at, f"{what} is wanted here, and {name.text} is none", name.text)
+            raise Fault("unknown", name.text, name.at, f"expected {what} here, and {name.text} is none", name.text)
         if name.text in self.open:
             raise Fault("syntax", "", name.at, f"a circle: {' -> '.join([*self.open, name.text])}", name.text)
         return found
@@ -175,7 +175,7 @@ class Unfolding:
         return unfolded
 
     def _value(self, name: Token, cell: Term, symbol: str, taken: FrozenSet[str]) -> Formula:
-        """That an automaton has a value at a cell."""
+        """The formula that an automaton has a value at a cell."""
         found = self._definition(name, (AutoText, ComposeText), "an automaton")
         self.open.append(name.text)
         if isinstance(found, AutoText):
@@ -186,7 +186,7 @@ class Unfolding:
         return value
 
     def _by_cases(self, automaton: AutoText, symbol: str, unfold) -> Formula:
-        """That the first case that holds gives a symbol: from the last case to the first."""
+        """The formula that the first case that holds gives a symbol, built from the last case to the first."""
         value = TRUE if automaton.otherwise.text == symbol else FALSE
         for formula, given in reversed(automaton.cases):
             case = unfold(formula)
@@ -219,7 +219,7 @@ class Unfolding:
         return formula
 
     def _count(self, formula: Count, scope: Scope) -> Formula:
-        """A count: over cells that moves lead to where that is so, else by one quantifier in another."""
+        """A count: over the cells that moves lead to, if they lead to all of them, otherwise by nested quantifiers."""
         comparison, wanted = formula.comparison, formula.number.value()
         middle = formula.beside
         if middle is None and len(formula.balls) == 1:
@@ -239,7 +239,7 @@ class Unfolding:
         return joined(ways, every=False)
 
     def _paths(self, formula: Count) -> Optional[List[Tuple[List[str], Sequence[Tuple[Token, ...]]]]]:
-        """The nodes, grouped by which moves lead to the cells that are counted; None where some cell is reached by no moves."""
+        """The nodes, grouped by the moves that lead to the counted cells; None if moves don't reach some cell."""
         groups: Dict[Tuple[Tuple[Token, ...], ...], List[str]] = {}
         for name, node in self.script.nodes.items():
             cell = (0, 0, 0, node)
@@ -254,7 +254,7 @@ class Unfolding:
         return [(nodes, moves) for moves, nodes in groups.items()]
 
     def _nested_count(self, formula: Count, scope: Scope) -> Formula:
-        """A count by quantifiers: at least k cells are such where one is, and at least k - 1 others."""
+        """A count by quantifiers: at least k cells are such if one is, and at least k - 1 others."""
         wanted, comparison = formula.number.value(), formula.comparison
         if comparison == ">=":
             return self._at_least(wanted, formula, scope, [])
@@ -266,7 +266,7 @@ class Unfolding:
             return TRUE
         balls = [(formula.beside.variable, number(1))] if formula.beside is not None and not formula.beside.moves else formula.balls
         if formula.beside is not None and formula.beside.moves:
-            rule = "neighbours behind moves can't be counted here: some of them are reached by no moves"
+            rule = "the neighbours of a cell behind moves can't be counted here: moves don't reach all of them"
             raise Fault("syntax", "", formula.sign.at, rule)
         for variable, _ in balls:
             cell = scope.term(Term(variable, ()))
@@ -284,7 +284,7 @@ class Unfolding:
 
 
 def moves_to(topology: Topology, begin: Cell, cells: Sequence[Cell]) -> Optional[List[Tuple[Token, ...]]]:
-    """For each of these cells, in their order, the fewest moves that lead there; None where no moves lead to one of them."""
+    """For each of these cells, in their order, the fewest moves that lead there; None if moves don't reach one of them."""
     paths: Dict[Cell, Tuple[Token, ...]] = {begin: ()}
     front = [begin]
     labels = list(dict.fromkeys(edge.label for edge in topology.edges))

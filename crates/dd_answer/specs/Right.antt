@@ -1,6 +1,6 @@
 -- Which answers to the queries of a script are right.
 use Rattle.std.specs.Prelude.{IsSomeAnd}
-use Rattle.dd_certificate.specs.declared.answer.Answer.{Answer}
+use Rattle.dd_certificate.specs.{declared.answer.Answer.Answer, Bounds.IsWritable}
 use Rattle.dd_query.specs.declared.queries.Query.{Query}
 use Rattle.dd_respond.specs.Right.{IsRightTo}
 use Rattle.dd_script.specs.{Parts.Parts, Questions.asked}
@@ -8,3 +8,10 @@ use Rattle.dd_script.specs.{Parts.Parts, Questions.asked}
 -- the answer to what the query asks, within the script's limits
 abbrev pub Right : Parts → Query → Answer → Type 0
 Right s q a = IsSomeAnd (asked s q) (λ k. IsRightTo s.known.limits k a)
+
+-- The answer to a query.
+pub record IsAnswerTo (s : Parts) (q : Query) (a : Answer) : Type 0 where
+  -- It is right.
+  pub right : Right s q a
+  -- An output can hold it: each number and each list is within its bounds.
+  pub writable : IsWritable a

@@ -1,11 +1,9 @@
 //! Queries answered one by one.
-ghost use Rattle.std.specs.Prelude.{IfOk, OnOk, Contains};
-ghost use Rattle.dd_certificate.specs.Bounds.{IsWritable};
+ghost use Rattle.std.specs.Prelude.{IfOk, Contains};
 ghost use Rattle.dd_engines.specs.Rosters.{roster_seen};
-ghost use Rattle.dd_engines.specs.Rounds.{Kept};
-ghost use Rattle.dd_respond.specs.Asking.{Engages};
+ghost use Rattle.dd_respond.specs.Asking.{AreEngaged};
 ghost use Rattle.dd_answer.specs.Asking.{AsksBoxes};
-ghost use Rattle.dd_answer.specs.Right.{Right};
+ghost use Rattle.dd_answer.specs.Right.{IsAnswerTo};
 
 use dd_certificate::Answer;
 use dd_engines::{Engine, Roster};
@@ -24,10 +22,8 @@ pub fn answer<E: Engine>(
     roster: &mut Roster<E>,
 ) -> Result<Answer, AllocError>
     requires { Contains script.now.queries query.now }
-    ensures right { IfOk result (Right script.now query.now) }
-    ensures writable { IfOk result IsWritable }
-    ensures kept { Kept (roster_seen E.asked E.given E.sound roster.old) (roster_seen E.asked E.given E.sound roster.new) }
-    ensures asked { OnOk result (Engages (AsksBoxes script.now query.now) (roster_seen E.asked E.given E.sound roster.old) (roster_seen E.asked E.given E.sound roster.new)) }
+    ensures answer { IfOk result (IsAnswerTo script.now query.now) }
+    ensures engines { AreEngaged (AsksBoxes script.now query.now) (roster_seen E.asked E.given E.sound roster.old) (roster_seen E.asked E.given E.sound roster.new) result }
 {
     let question = script.question(query);
     respond(alloc, &question, roster)

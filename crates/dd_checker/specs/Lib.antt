@@ -2,6 +2,8 @@
 pub mod Certificates
 -- what the answers to the queries of a script claim
 pub mod Claims
+-- what the verdict on an answer says
+pub mod Verdicts
 -- what a YES says of any configuration
 pub mod Lifted
 -- what a CONJUGATE says of any configuration

@@ -1,7 +1,7 @@
 //! Answers to the queries of scripts.
-ghost use Rattle.std.specs.Prelude.{◌≡◌, ◌↔◌, IfOk};
-ghost use Rattle.dd_checker.specs.Certificates.{IsCertificate, HasQuery};
-ghost use Rattle.dd_checker.specs.Claims.{Claim};
+ghost use Rattle.std.specs.Prelude.{IfOk};
+ghost use Rattle.dd_checker.specs.Certificates.{HasQuery};
+ghost use Rattle.dd_checker.specs.Verdicts.{IsVerdictOn};
 
 use crate::laws::query_certified;
 use crate::verdict::Verdict;
@@ -19,8 +19,7 @@ pub fn check_answer(
     answer: &Answer,
 ) -> Result<Verdict, AllocError>
     requires { HasQuery script.now query }
-    ensures exact { IfOk result (λ verdict. (verdict ≡ Verdict.Accepted) ↔ IsCertificate script.now query answer.now) }
-    ensures claim { IfOk result (λ verdict. verdict ≡ Verdict.Accepted → Claim script.now query answer.now) }
+    ensures { IfOk result (IsVerdictOn script.now query answer.now) }
 {
     let queries = script.queries();
     let number = query as usize - 1;

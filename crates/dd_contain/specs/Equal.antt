@@ -41,3 +41,10 @@ HasBothNumbers x y (Same left right) =
     AreNumbered (box_problem x (breaks y) left.radius) left.steps × AreNumbered (box_problem y (breaks x) right.radius) right.steps
 HasBothNumbers x y (Differ side tile) = Unit {0}
 HasBothNumbers x y Open = Unit {0}
+
+-- What the question of equality comes to within the limits n and p.
+pub record IsEquality (x y : LocalRule) (n p : ℕ) (equality : Equality) : Type 0 where
+  -- The join of what the two questions come to.
+  pub decided : IsEqualDecided x y n p equality
+  -- The evidence of a YES is numbered.
+  pub numbered : HasBothNumbers x y equality

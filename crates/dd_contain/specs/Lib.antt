@@ -4,6 +4,8 @@ pub mod Decided
 pub mod Questions
 -- what is decided about two rules
 pub mod Equal
+-- what a decision does with the engines of a roster
+pub mod Engines
 -- when a box question has which answer
 pub mod Laws
 -- the search

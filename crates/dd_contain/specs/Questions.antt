@@ -45,3 +45,10 @@ abbrev pub HasNumbers : LocalRule → GoalOf → Decision → Type 0
 HasNumbers x g (Yes n steps) = AreNumbered (box_problem x g n) steps
 HasNumbers x g (No tile) = Unit {0}
 HasNumbers x g Unknown = Unit {0}
+
+-- What a box question comes to within the limits n and p.
+pub record IsDecision (x : LocalRule) (g : GoalOf) (n p : ℕ) (decision : Decision) : Type 0 where
+  -- The least radius that suffices, else the first periods that show the goal, else unknown.
+  pub decided : IsDecided x g n p decision
+  -- The evidence of a YES is numbered.
+  pub numbered : HasNumbers x g decision

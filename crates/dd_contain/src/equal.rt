@@ -1,11 +1,11 @@
 //! Whether two rules allow the same configurations. Each of two questions asks for a configuration of one rule that breaks the
 //! other.
-ghost use Rattle.std.specs.Prelude.{◌≡◌, ◌≤◌, IfOk, OnOk};
+ghost use Rattle.std.specs.Prelude.{◌≡◌, ◌≤◌, IfOk};
 ghost use Rattle.dd_boxes.specs.Goals.{breaks, IsGoalFor};
 ghost use Rattle.dd_boxes.specs.Counts.{IsSmallQuestion};
 ghost use Rattle.dd_engines.specs.Rosters.{roster_seen};
-ghost use Rattle.dd_engines.specs.Rounds.{Kept, FirstAsked};
-ghost use Rattle.dd_contain.specs.Equal.{joined, IsEqualDecided, HasBothNumbers};
+ghost use Rattle.dd_contain.specs.Equal.{joined, IsEquality};
+ghost use Rattle.dd_contain.specs.Engines.{AreAsked};
 
 use crate::decision::{Decision, Enough};
 use crate::questions::decide;
@@ -84,10 +84,8 @@ pub fn decide_equal<E: Engine>(
     requires right_goal { IsGoalFor right.now (breaks left.now) }
     requires left_small { IsSmallQuestion left.now (breaks right.now) limits.now.radius limits.now.period }
     requires right_small { IsSmallQuestion right.now (breaks left.now) limits.now.radius limits.now.period }
-    ensures decided { IfOk result (IsEqualDecided left.now right.now limits.now.radius limits.now.period) }
-    ensures numbered { IfOk result (HasBothNumbers left.now right.now) }
-    ensures kept { Kept (roster_seen E.asked E.given E.sound roster.old) (roster_seen E.asked E.given E.sound roster.new) }
-    ensures first { OnOk result (FirstAsked (roster_seen E.asked E.given E.sound roster.old) (roster_seen E.asked E.given E.sound roster.new)) }
+    ensures decided { IfOk result (IsEquality left.now right.now limits.now.radius limits.now.period) }
+    ensures engines { AreAsked (roster_seen E.asked E.given E.sound roster.old) (roster_seen E.asked E.given E.sound roster.new) result }
 {
     // Laws of a roster that is asked several times.
     kept_is_transitive();

@@ -1,5 +1,5 @@
 //! What the search asks about boxes and periods.
-ghost use Rattle.std.specs.Prelude.{◌≡◌, ◌↔◌, ◌≤◌, true, IfOk, OnOk, IfSome};
+ghost use Rattle.std.specs.Prelude.{◌≡◌, ◌↔◌, ◌≤◌, true, IfOk, IfSome};
 ghost use Rattle.dd_boxes.specs.Boxes.{Suffices};
 ghost use Rattle.dd_boxes.specs.Goals.{IsGoalFor};
 ghost use Rattle.dd_boxes.specs.Counts.{IsSmallQuestion};
@@ -7,9 +7,9 @@ ghost use Rattle.dd_boxes.specs.Views.{goal_of};
 ghost use Rattle.dd_derivation.specs.Derivations.{refutes};
 ghost use Rattle.dd_derivation.specs.Sizes.{AreNumbered};
 ghost use Rattle.dd_engines.specs.Rosters.{roster_seen};
-ghost use Rattle.dd_engines.specs.Rounds.{Kept, FirstAsked};
 ghost use Rattle.dd_solver.specs.Answers.{IsAnswer, IsFound, IsRefuted, IsSatisfiable};
-ghost use Rattle.dd_contain.specs.Questions.{RefutesByNumbers, ShowsAt, Displays, AsksRadius, AsksPeriods, IsDecided, HasNumbers};
+ghost use Rattle.dd_contain.specs.Questions.{RefutesByNumbers, ShowsAt, Displays, AsksRadius, AsksPeriods, IsDecision};
+ghost use Rattle.dd_contain.specs.Engines.{AreAsked};
 
 use crate::decision::Decision;
 use crate::search::{Questions, search};
@@ -48,8 +48,7 @@ fn outcome<E: Engine>(
     ensures answer { IfOk result (IsAnswer cnf.now.variables cnf.now.clauses) }
     ensures found { IfOk result (λ outcome. IsFound outcome ↔ IsSatisfiable cnf.now.clauses) }
     ensures refuted { IfOk result (λ outcome. IsRefuted outcome ↔ ¬ (IsSatisfiable cnf.now.clauses)) }
-    ensures kept { Kept (roster_seen E.asked E.given E.sound roster.old) (roster_seen E.asked E.given E.sound roster.new) }
-    ensures first { OnOk result (FirstAsked (roster_seen E.asked E.given E.sound roster.old) (roster_seen E.asked E.given E.sound roster.new)) }
+    ensures engines { AreAsked (roster_seen E.asked E.given E.sound roster.old) (roster_seen E.asked E.given E.sound roster.new) result }
 {
     match roster.ask(alloc, cnf)? {
         Some(proposed) => Ok(proposed),
@@ -147,10 +146,8 @@ pub fn decide<E: Engine>(
     requires period { (1 ≤ limits.now.period) × (limits.now.period ≤ 8) }
     requires goal { IsGoalFor premise.now (goal_of premise.now goal.now) }
     requires small { IsSmallQuestion premise.now (goal_of premise.now goal.now) limits.now.radius limits.now.period }
-    ensures decided { IfOk result (IsDecided premise.now (goal_of premise.now goal.now) limits.now.radius limits.now.period) }
-    ensures numbered { IfOk result (HasNumbers premise.now (goal_of premise.now goal.now)) }
-    ensures kept { Kept (roster_seen E.asked E.given E.sound roster.old) (roster_seen E.asked E.given E.sound roster.new) }
-    ensures first { OnOk result (FirstAsked (roster_seen E.asked E.given E.sound roster.old) (roster_seen E.asked E.given E.sound roster.new)) }
+    ensures decided { IfOk result (IsDecision premise.now (goal_of premise.now goal.now) limits.now.radius limits.now.period) }
+    ensures engines { AreAsked (roster_seen E.asked E.given E.sound roster.old) (roster_seen E.asked E.given E.sound roster.new) result }
 {
     // A law: a roster that is not asked stays as it is.
     kept_is_reflexive();

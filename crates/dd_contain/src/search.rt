@@ -5,6 +5,7 @@ ghost use Rattle.dd_pattern.specs.declared.periods.Periods.{Periods as AnyPeriod
 ghost use Rattle.dd_pattern.specs.Tile.{Tile};
 ghost use Rattle.dd_engines.specs.Rosters.{roster_seen};
 ghost use Rattle.dd_engines.specs.Rounds.{Kept, FirstAsked};
+ghost use Rattle.dd_contain.specs.Engines.{AreAsked};
 ghost use Rattle.dd_contain.specs.Decided.{NoneIn, IsLeast, NoneWithin, IsFirst, IsDecidedBy};
 ghost use Rattle.dd_contain.specs.searching.Listed.{NoneBefore, IsFirstOf, AsksRadii, AsksListed, AsksWithin};
 ghost use Rattle.dd_contain.specs.searching.Asking.{AskedOrSame};
@@ -38,8 +39,7 @@ pub(crate) trait Questions {
     ) -> Result<Option<Items<Step>>, AllocError>
         requires { asks_radius self.now radius }
         ensures found { IfOk result (λ found. MatchOption found (suffices self.now radius → ⊥) (λ steps. suffices self.now radius × refutes self.now radius steps)) }
-        ensures kept { Kept (roster_seen E.asked E.given E.sound roster.old) (roster_seen E.asked E.given E.sound roster.new) }
-        ensures first { OnOk result (FirstAsked (roster_seen E.asked E.given E.sound roster.old) (roster_seen E.asked E.given E.sound roster.new)) };
+        ensures engines { AreAsked (roster_seen E.asked E.given E.sound roster.old) (roster_seen E.asked E.given E.sound roster.new) result };
 
     fn configuration<E: Engine>(
         &self,
@@ -48,8 +48,7 @@ pub(crate) trait Questions {
     ) -> Result<Option<Periodic>, AllocError>
         requires { asks_periods self.now at.now }
         ensures found { IfOk result (λ found. MatchOption found (shows self.now at.now → ⊥) (λ tile. shows self.now at.now × displays self.now at.now tile)) }
-        ensures kept { Kept (roster_seen E.asked E.given E.sound roster.old) (roster_seen E.asked E.given E.sound roster.new) }
-        ensures first { OnOk result (FirstAsked (roster_seen E.asked E.given E.sound roster.old) (roster_seen E.asked E.given E.sound roster.new)) };
+        ensures engines { AreAsked (roster_seen E.asked E.given E.sound roster.old) (roster_seen E.asked E.given E.sound roster.new) result };
 }
 
 /// A configuration that shows the goal, with its periods.
@@ -145,8 +144,7 @@ pub(crate) fn search<Q: Questions, E: Engine>(
     requires radii { AsksRadii (Q.asks_radius questions.now) least most }
     requires periods { AsksWithin (Q.asks_periods questions.now) dim period }
     ensures decided { IfOk result (IsDecidedBy (Q.suffices questions.now) (Q.refutes questions.now) (Q.shows questions.now) (Q.displays questions.now) least most dim period) }
-    ensures kept { Kept (roster_seen E.asked E.given E.sound roster.old) (roster_seen E.asked E.given E.sound roster.new) }
-    ensures first { OnOk result (FirstAsked (roster_seen E.asked E.given E.sound roster.old) (roster_seen E.asked E.given E.sound roster.new)) }
+    ensures engines { AreAsked (roster_seen E.asked E.given E.sound roster.old) (roster_seen E.asked E.given E.sound roster.new) result }
 {
     // Laws of a roster that is asked several times.
     kept_is_transitive();

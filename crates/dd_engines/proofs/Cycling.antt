@@ -1,13 +1,13 @@
 -- How many values differ from those of a landmark, and when the walk is back there.
-use Rattle.std.proofs.Common.{◌≡◌, ℕ, zero, suc, ◌+◌, ◌-◌, ◌%◌, ◌<◌, ◌≤◌, Bool, true, false, not, List, [], ◌∷◌, Option, Some, None, refl, sym, ◌∙◌, ap, subst, inl, inr, length, get_or, take, arith}
+use Rattle.std.proofs.Common.{◌≡◌, ℕ, zero, suc, ◌+◌, ◌-◌, ◌%◌, ◌<◌, ◌≤◌, Bool, true, false, not, List, [], ◌∷◌, Option, Some, None, refl, sym, ◌∙◌, ap, subst, inl, inr, ◌⊎◌, length, get_or, arith}
 use Rattle.std.proofs.Math.{ListN.set, Nat.mod-add-mod}
 use Rattle.std.proofs.lemmas.Nat.Gcd.{dvd_of_mod-eq-zero, mod-eq-zero_of_dvd, dvd_trans}
-use Rattle.std.proofs.lemmas.List.Elements.{All-weaker, All-more, All-nil}
-use Rattle.std.specs.{Bool.beq, Option.IfSome}
+use Rattle.std.proofs.lemmas.Bool.{cases_lt}
+use Rattle.std.specs.{Bool.beq, Option.IfSome, Option.IsSomeAnd, Option.option_and_then}
 use Rattle.dd_clause.specs.{declared.clause.Literal.Literal, Clauses.ClauseList}
-use Rattle.dd_engines.specs.{declared.cycle.Landmark.Landmark, Walks.values_after, Walks.NoneBefore, Repeats.PickAlike}
-use Rattle.dd_engines.specs.walking.Cycles.{differences, IsTurn, IsCounted, IsBack, IsSameOrNew}
-use Rattle.dd_engines.proofs.Repeating.{none_later}
+use Rattle.dd_engines.specs.{declared.cycle.Landmark.Landmark, Walks.values_after, Walks.first_unsatisfied, Walks.flipped, Walks.NoneBefore}
+use Rattle.dd_engines.specs.walking.Cycles.{differences, IsTurn, IsTurnWith, IsCounted, IsBack, IsSameOrNew}
+use Rattle.dd_engines.proofs.Repeating.{flip_alike}
 
 pub differences_self : (xs : List Bool) → differences xs xs ≡ 0
 differences_self [] = refl
@@ -52,22 +52,57 @@ changed_other (false ∷ xs) (false ∷ ys) zero long lt other = absurd (cc othe
 changed_other (x ∷ xs) (y ∷ ys) (suc i) long lt other = omega (arith, changed_other xs ys i (omega (arith, long)) (omega (arith, lt)) other)
 
 -- a multiple of a turn is a turn
-pub turn_more : (clauses : List (List Literal)) (turn next : ℕ) → 0 < next → next % turn ≡ 0 → IsTurn clauses turn → IsTurn clauses next
-turn_more clauses turn next some multiple is = (
+turn_more : (cnf : ClauseList) (from to turn next : ℕ) → 0 < next → next % turn ≡ 0 → IsTurn cnf from to turn → IsTurn cnf from to next
+turn_more cnf from to turn next some multiple is = (
   some,
-  All-weaker (λ clause. 0 < length clause → turn % length clause ≡ 0) (λ clause. 0 < length clause → next % length clause ≡ 0)
-      (λ clause h has. mod-eq-zero_of_dvd (length clause) (dvd_trans (length clause) (dvd_of_mod-eq-zero (length clause) (h has)) (dvd_of_mod-eq-zero turn multiple))) clauses is.1,
+  λ i values clause after before at takes has. mod-eq-zero_of_dvd (length clause) (dvd_trans (length clause) (dvd_of_mod-eq-zero (length clause) (is.1 i values clause after before at takes has)) (dvd_of_mod-eq-zero turn multiple)),
 )
 
--- a turn of the clauses so far is one of the next clause too
-pub turn_next : (clauses : List (List Literal)) (i turn next : ℕ) (clause : List Literal) → i < length clauses → clause ≡ get_or clauses i clause → 0 < next → next % turn ≡ 0 → (0 < length clause → next % length clause ≡ 0) → IsTurn (take i clauses) turn → IsTurn (take (i + 1) clauses) next
-turn_next clauses i turn next clause lt at some multiple here is =
-    let behind = turn_more (take i clauses) turn next some multiple is in
-    let P : List Literal → Type 0 = λ c. 0 < length c → next % length c ≡ 0 in
-    (some, All-more P clauses i clause lt behind.1 (subst P at here))
+turn_on : (cnf : ClauseList) (from to next : ℕ) (turn : Option ℕ) → IfSome turn (IsTurn cnf from to) → IsSomeAnd turn (λ t. next % t ≡ 0) → 0 < next → IsTurn cnf from to next
+turn_on cnf from to next None turns multiple some = absurd multiple
+turn_on cnf from to next (Some turn) turns multiple some = turn_more cnf from to turn next some multiple turns
 
-pub turn_start : (clauses : List (List Literal)) → IsTurn [] 1
-turn_start clauses = (omega arith, All-nil (λ c. 0 < length c → 1 % length c ≡ 0))
+-- where no flip was made, each number is a turn
+pub turn_none : (cnf : ClauseList) (from to next : ℕ) → 0 < next → from ≡ to → IsTurn cnf from to next
+turn_none cnf from to next some same = (some, λ i values clause after before at takes has. absurd (omega (arith, same, after, before)))
+
+same_values : (v w : List Bool) → Some v ≡ Some w → v ≡ w
+same_values v w e = cc
+
+same_clause : (c d : List Literal) → Some c ≡ Some d → c ≡ d
+same_clause c d e = cc
+
+takes_same : (cnf : ClauseList) (k i : ℕ) (values other : List Bool) (clause taken : List Literal) → i ≡ k → values_after cnf k ≡ Some values → first_unsatisfied values cnf.clauses ≡ Some clause
+    → values_after cnf i ≡ Some other → first_unsatisfied other cnf.clauses ≡ Some taken → clause ≡ taken
+takes_same cnf k i values other clause taken same reached first at takes =
+    let equal : other ≡ values = same_values other values (sym at ∙ ap (values_after cnf) same ∙ reached) in
+    same_clause clause taken (sym first ∙ ap (λ (v : List Bool). first_unsatisfied v cnf.clauses) (sym equal) ∙ takes)
+
+-- a turn that is a multiple of the length of the next clause is one after the next flip too
+turn_next : (cnf : ClauseList) (from k turn : ℕ) (values : List Bool) (clause : List Literal) → values_after cnf k ≡ Some values → first_unsatisfied values cnf.clauses ≡ Some clause → (0 < length clause → turn % length clause ≡ 0)
+    → IsTurn cnf from k turn → IsTurn cnf from (k + 1) turn
+turn_next cnf from k turn values clause reached first here is = (
+  is.0,
+  λ i other taken after before at takes has. elim (cases_lt i k) [
+    | inl earlier ↦ is.1 i other taken after earlier at takes has
+    | inr past ↦
+        let same : i ≡ k = omega (arith, before, past) in
+        subst (λ (c : List Literal). 0 < length c → turn % length c ≡ 0) (takes_same cnf k i values other clause taken same reached first at takes) here has
+  ],
+)
+
+turn_before : (cnf : ClauseList) (old new : Landmark) (kept : List Bool) (k next : ℕ) (turn : Option ℕ) → IfSome turn (IsTurn cnf old.flips k) → IsSameOrNew old new kept k → 0 < next
+    → (new.flips ≡ k) ⊎ IsSomeAnd turn (λ t. next % t ≡ 0) → IsTurn cnf new.flips k next
+turn_before cnf old new kept k next turn turns same some (inl at) = turn_none cnf new.flips k next some at
+turn_before cnf old new kept k next turn turns (inr now) some (inr multiple) = turn_none cnf new.flips k next some now.1
+turn_before cnf old new kept k next turn turns (inl same) some (inr multiple) = subst (λ (f : ℕ). IsTurn cnf f k next) (sym same.1) (turn_on cnf old.flips k next turn turns multiple some)
+
+-- the next turn is one of all flips since the landmark
+pub turn_kept : (cnf : ClauseList) (old new : Landmark) (kept : List Bool) (k : ℕ) (turn next : Option ℕ) (values : List Bool) (clause : List Literal) → IfSome turn (IsTurn cnf old.flips k) → IsSameOrNew old new kept k
+    → IfSome next (IsTurnWith new.flips k turn (length clause)) → values_after cnf k ≡ Some values → first_unsatisfied values cnf.clauses ≡ Some clause → IfSome next (IsTurn cnf new.flips (k + 1))
+turn_kept cnf old new kept k turn None values clause turns same with_length reached first = tt
+turn_kept cnf old new kept k turn (Some next) values clause turns same with_length reached first =
+    turn_next cnf new.flips k next values clause reached first with_length.1 (turn_before cnf old new kept k next turn turns same with_length.0 with_length.2)
 
 alike : (n j k : ℕ) → j < k → (k - j) % n ≡ 0 → j % n ≡ k % n
 alike n j k less none =
@@ -75,11 +110,69 @@ alike n j k less none =
     let here : 0 + j ≡ j = omega arith in
     ap (λ (m : ℕ). m % n) (sym here) ∙ ap (λ (r : ℕ). (r + j) % n) (sym none) ∙ mod-add-mod (k - j) n j ∙ ap (λ (m : ℕ). m % n) at
 
--- after a turn the flips pick the same literals
-pub alike_after : (clauses : List (List Literal)) (turn j k : ℕ) → IsTurn clauses turn → j < k → (k - j) % turn ≡ 0 → PickAlike clauses j k
-alike_after clauses turn j k is less multiple =
-    All-weaker (λ clause. 0 < length clause → turn % length clause ≡ 0) (λ clause. 0 < length clause → j % length clause ≡ k % length clause)
-    (λ clause h has. alike (length clause) j k less (mod-eq-zero_of_dvd (length clause) (dvd_trans (length clause) (dvd_of_mod-eq-zero (length clause) (h has)) (dvd_of_mod-eq-zero turn multiple)))) clauses is.1
+-- The values after some number of flips came before, after a number between two others, and the flips that follow pick alike.
+record IsAsBefore (cnf : ClauseList) (j k turn m : ℕ) : Type 0 where
+  at : ℕ
+  after : j ≤ at
+  before : at < k
+  less : at < m
+  multiple : (m - at) % turn ≡ 0
+  same : values_after cnf at ≡ values_after cnf m
+
+step_here : (j k : ℕ) (values : List Bool) (o : Option (List Literal)) → ((c : List Literal) → o ≡ Some c → 0 < length c → j % length c ≡ k % length c) → option_and_then (flipped j values) o ≡ option_and_then (flipped k values) o
+step_here j k values None picks = refl
+step_here j k values (Some c) picks = flip_alike j k values c (picks c refl)
+
+steps_here : (cnf : ClauseList) (j k : ℕ) (o : Option (List Bool)) → ((values : List Bool) (c : List Literal) → o ≡ Some values → first_unsatisfied values cnf.clauses ≡ Some c → 0 < length c → j % length c ≡ k % length c)
+    → option_and_then (λ values. option_and_then (flipped j values) (first_unsatisfied values cnf.clauses)) o ≡ option_and_then (λ values. option_and_then (flipped k values) (first_unsatisfied values cnf.clauses)) o
+steps_here cnf j k None picks = refl
+steps_here cnf j k (Some values) picks = step_here j k values (first_unsatisfied values cnf.clauses) (λ c. picks values c refl)
+
+next_here : (cnf : ClauseList) (j k : ℕ) → values_after cnf j ≡ values_after cnf k → ((values : List Bool) (c : List Literal) → values_after cnf j ≡ Some values → first_unsatisfied values cnf.clauses ≡ Some c → 0 < length c → j % length c ≡ k % length c)
+    → values_after cnf (suc j) ≡ values_after cnf (suc k)
+next_here cnf j k same picks =
+    steps_here cnf j k (values_after cnf j) picks
+    ∙ ap (option_and_then (λ values. option_and_then (flipped k values) (first_unsatisfied values cnf.clauses))) same
+
+both : (a b n : ℕ) → a % n ≡ 0 → b % n ≡ 0 → (a + b) % n ≡ 0
+both a b n one two =
+    let here : 0 + b ≡ b = omega arith in
+    sym (mod-add-mod a n b) ∙ ap (λ (r : ℕ). (r + b) % n) one ∙ ap (λ (m : ℕ). m % n) here ∙ two
+
+next_as : (cnf : ClauseList) (j k turn m : ℕ) → j < k → (k - j) % turn ≡ 0 → IsTurn cnf j k turn → values_after cnf j ≡ values_after cnf k → IsAsBefore cnf j k turn m → IsAsBefore cnf j k turn (suc m)
+next_as cnf j k turn m less multiple is back b =
+    let next : values_after cnf (suc b.at) ≡ values_after cnf (suc m) =
+    next_here cnf b.at m b.same (λ values c reached takes has. alike (length c) b.at m b.less (mod-eq-zero_of_dvd (length c) (dvd_trans (length c) (dvd_of_mod-eq-zero (length c) (is.1 b.at values c b.after b.before reached takes has)) (dvd_of_mod-eq-zero turn b.multiple)))) in
+    elim (cases_lt (suc b.at) k) [
+      | inl within ↦
+          let far : m - b.at ≡ suc m - suc b.at = omega arith in
+          record { at = suc b.at; after = omega (arith, b.after); before = within; less = omega (arith, b.less); multiple = subst (λ (n : ℕ). n % turn ≡ 0) far b.multiple; same = next }
+      | inr past ↦
+          let end : suc b.at ≡ k = omega (arith, past, b.before) in
+          let far : (m - b.at) + (k - j) ≡ suc m - j = omega (arith, end, b.less, less) in
+          record {
+            at = j;
+            after = omega arith;
+            before = less;
+            less = omega (arith, b.less, b.after);
+            multiple = subst (λ (n : ℕ). n % turn ≡ 0) far (both (m - b.at) (k - j) turn b.multiple multiple);
+            same = back ∙ ap (values_after cnf) (sym end) ∙ next;
+          }
+    ]
+
+as_before : (cnf : ClauseList) (j k turn : ℕ) → j < k → (k - j) % turn ≡ 0 → IsTurn cnf j k turn → values_after cnf j ≡ values_after cnf k → (d : ℕ) → IsAsBefore cnf j k turn (d + k)
+as_before cnf j k turn less multiple is back zero = record { at = j; after = omega arith; before = less; less = less; multiple = multiple; same = back }
+as_before cnf j k turn less multiple is back (suc d) = next_as cnf j k turn (d + k) less multiple is back (as_before cnf j k turn less multiple is back d)
+
+-- All later values came before: each is reached after fewer flips.
+none_after : (cnf : ClauseList) (j k turn : ℕ) → j < k → (k - j) % turn ≡ 0 → IsTurn cnf j k turn → values_after cnf j ≡ values_after cnf k → NoneBefore cnf k → (n : ℕ) → NoneBefore cnf n
+none_after cnf j k turn less multiple is back none n m values lt reached satisfying = elim (cases_lt m k) [
+  | inl before ↦ none m values before reached satisfying
+  | inr past ↦
+      let at : (m - k) + k ≡ m = omega (arith, past) in
+      let b = as_before cnf j k turn less multiple is back (m - k) in
+      none b.at values b.before (b.same ∙ ap (values_after cnf) at ∙ reached) satisfying
+]
 
 -- the landmark stays one of the walk's assignments
 pub kept_reached : (cnf : ClauseList) (old new : Landmark) (values : List Bool) (k : ℕ) → IsSameOrNew old new values k → values_after cnf old.flips ≡ Some old.values.items → values_after cnf k ≡ Some values → values_after cnf new.flips ≡ Some new.values.items
@@ -87,14 +180,9 @@ kept_reached cnf old new values k (inl same) old_reached reached = ap (values_af
 kept_reached cnf old new values k (inr now) old_reached reached = ap (values_after cnf) now.1 ∙ reached ∙ ap (λ (v : List Bool). Some v) (sym now.0)
 
 -- A walk that is back in an earlier state goes round. If no values satisfied until then, none ever do.
-pub none_ever : (cnf : ClauseList) (landmark : Landmark) (values : List Bool) (turn : Option ℕ) (k : ℕ) → IfSome turn (IsTurn cnf.clauses) → IsBack landmark turn k → IsCounted landmark values
+pub none_ever : (cnf : ClauseList) (landmark : Landmark) (values : List Bool) (turn : Option ℕ) (k : ℕ) → IfSome turn (IsTurn cnf landmark.flips k) → IsBack landmark turn k → IsCounted landmark values
     → values_after cnf landmark.flips ≡ Some landmark.values.items → values_after cnf k ≡ Some values → NoneBefore cnf k → (n : ℕ) → NoneBefore cnf n
 none_ever cnf landmark values None k turns back counted kept reached none = absurd back.turned
 none_ever cnf landmark values (Some turn) k turns back counted kept reached none =
     let same = no_difference landmark.values.items values counted.long (sym counted.counted ∙ back.same) in
-    none_later cnf landmark.flips k back.later
-    (record {
-      values = kept ∙ ap (λ (v : List Bool). Some v) same ∙ sym reached;
-      picks = alike_after cnf.clauses turn landmark.flips k turns back.later back.turned;
-    })
-    none
+    none_after cnf landmark.flips k turn back.later back.turned turns (kept ∙ ap (λ (v : List Bool). Some v) same ∙ sym reached) none

@@ -20,7 +20,7 @@ picked : (c : List Literal) (j k : ℕ) → (0 < length c → j % length c ≡ k
 picked [] j k alike = refl
 picked (l ∷ c) j k alike = ap (slice_get (l ∷ c)) (alike (omega arith))
 
-flip_alike : (j k : ℕ) (values : List Bool) (c : List Literal) → (0 < length c → j % length c ≡ k % length c) → flipped j values c ≡ flipped k values c
+pub flip_alike : (j k : ℕ) (values : List Bool) (c : List Literal) → (0 < length c → j % length c ≡ k % length c) → flipped j values c ≡ flipped k values c
 flip_alike j k values c alike = ap (option_map (made_true values)) (picked c j k alike)
 
 step_alike : (j k : ℕ) (values : List Bool) (clauses : List (List Literal)) → PickAlike clauses j k → (o : Option (List Literal)) → first_unsatisfied values clauses ≡ o

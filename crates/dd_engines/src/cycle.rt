@@ -1,10 +1,10 @@
 //! Whether a walk goes round: it is back at earlier values, and its flips pick the same literals again. One earlier
 //! assignment is kept, and replaced each time that the number of flips has doubled (Brent 1980). A count says in how
-//! many variables the present one differs from it.
+//! many variables the present one differs from it. The flips pick alike if the number of flips since is a multiple of
+//! the length of each clause that was taken since; the lengths of other clauses don't matter.
 ghost use Rattle.std.specs.Prelude.{◌≡◌, ◌*◌, ◌<◌, ◌%◌, true, false, not, length, replicate, slice_set, slice_index_or, IfOk, IfSome};
-ghost use Rattle.dd_engines.specs.walking.Cycles.{IsTurn, IsCounted, IsBack, IsSameOrNew};
+ghost use Rattle.dd_engines.specs.walking.Cycles.{IsCounted, IsBack, IsSameOrNew, IsTurnWith};
 
-use dd_clause::Clause;
 use std::alloc::{AllocError, Global};
 
 /// An assignment of the walk, the number of flips before it, and in how many variables the present one differs from it.
@@ -44,7 +44,8 @@ impl Landmark {
         }
     }
 
-    /// Whether the walk is back in the state that it had here. `turn` is a multiple of the lengths of the clauses, if one is known.
+    /// Whether the walk is back in the state that it had here. `turn` is a
+    /// multiple of the lengths of the clauses taken since, if one is known.
     pub fn is_back(&self, k: u32, turn: Option<u32>) -> bool
         requires { IfSome turn (λ t. 0 < t) }
         ensures { result ≡ true → IsBack self.now turn k }
@@ -67,6 +68,17 @@ impl Landmark {
             self.differing = 0;
         }
     }
+
+    /// A multiple, at most `most`, of the lengths of the clauses taken since this landmark, if there is one: flip number
+    /// `k` takes a clause of this length, and `turn` is such a multiple for the flips before.
+    pub fn turn_with(&self, k: u32, turn: Option<u32>, length: usize, most: u32) -> Option<u32>
+        requires { IfSome turn (λ t. 0 < t) }
+        ensures { IfSome result (IsTurnWith self.now.flips k turn length) }
+    {
+        let length = u32::try_from(length).ok()?;
+        let before = if self.flips == k { 1 } else { turn? };
+        common_multiple(before, length, most)
+    }
 }
 
 /// The least multiple of `first`, up to `most`, that is a multiple of `other` too. If `other` is 0, it is `first`.
@@ -85,16 +97,4 @@ fn common_multiple(first: u32, other: u32, most: u32) -> Option<u32>
         multiple = multiple.checked_add(first)?;
     }
     None
-}
-
-/// After how many flips, at most `most`, the flips pick the same literals again: a multiple of all lengths of clauses.
-pub fn turn_of(clauses: &[Clause], most: u32) -> Option<u32>
-    ensures { IfSome result (IsTurn clauses.now) }
-{
-    let mut turn = 1;
-    for clause in clauses {
-        let length = u32::try_from(clause.literals().len()).ok()?;
-        turn = common_multiple(turn, length, most)?;
-    }
-    Some(turn)
 }

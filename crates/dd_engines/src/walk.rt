@@ -11,7 +11,7 @@ ghost use Rattle.dd_engines.specs.walking.Chains.{IsListingOf};
 ghost use Rattle.dd_engines.specs.walking.Cycles.{IsCounted};
 
 use crate::chains::Chains;
-use crate::cycle::{Landmark, turn_of};
+use crate::cycle::Landmark;
 use crate::truths::Truths;
 use dd_clause::{Assignment, Clause, Cnf, Literal};
 use std::alloc::{AllocError, Global};
@@ -94,8 +94,8 @@ pub fn first_found(
     ensures { IfOk result (λ found. MatchOption found (NoneBefore cnf.now (flips + 1)) (IsFirstOnWalk cnf.now flips)) }
 {
     let clauses = cnf.clauses();
-    let turn = turn_of(clauses, flips);
     let mut walk = Walk::new(alloc, cnf)?;
+    let mut turn = Some(1);
     for k in 0..flips {
         let Some(number) = walk.first(clauses) else {
             return Ok(Some(walk.into_assignment()));
@@ -108,6 +108,7 @@ pub fn first_found(
             return Ok(None);
         }
         walk.landmark.renew(k, walk.values.as_slice());
+        turn = walk.landmark.turn_with(k, turn, literals.len(), flips);
         walk.flip(clauses, chains, literals[k as usize % literals.len()]);
     }
     match walk.first(clauses) {

@@ -4,8 +4,8 @@ use Rattle.std.proofs.lemmas.Bool.{or_parts, eqb-true}
 use Rattle.std.proofs.lemmas.List.{get_or-map, get_or-take, length-map, length-take-le}
 use Rattle.std.proofs.lemmas.List.Elements.{Contains-get_or}
 use Rattle.std.specs.{List.All, List.flat_map, Fmt.signed_decimal}
-use Rattle.dd_values.specs.lemmas.Members.{Contains-map}
 use Rattle.dd_lattice.specs.Place.{Place}
+use Rattle.dd_values.specs.lemmas.Members.{Contains-map}
 use Rattle.dd_query.specs.{Tree.Entry, Tree.Vector, Vectors.coordinate, Vectors.place_of}
 use Rattle.dd_faults.specs.Repeats.{entry_key, vector_key, twice_vector, twice_vectors}
 use Rattle.dd_faults.specs.{Commands.entry_value, Commands.has_entries, Commands.is_far, lemmas.Repeats.once}

@@ -4,7 +4,7 @@ use Rattle.dd_pattern.specs.Tile.{Tile}
 use Rattle.dd_formula.specs.LocalRule.{LocalRule}
 use Rattle.dd_values.specs.declared.limits.Limits.{Limits}
 use Rattle.dd_boxes.specs.Goals.{GoalOf}
-use Rattle.dd_certificate.specs.{declared.answer.Answer.Answer, declared.answer.Side.Side, Text.verdict_text}
+use Rattle.dd_certificate.specs.{declared.answer.Answer.Answer, declared.answer.Side.Side, Text.verdict_text, Bounds.IsWritable}
 use Rattle.dd_contain.specs.declared.{decision.Decision.Decision, equal.Equality.Equality, equal.Half.Half}
 use Rattle.dd_contain.specs.{Questions.IsDecided, Equal.IsEqualDecided}
 use Rattle.dd_question.specs.Questions.{Asked}
@@ -66,6 +66,13 @@ IsRightTo l (asked.discharge x radius margin vs ws) a = IsRightDischarge x radiu
 IsRightTo l (asked.smallest x) a = IsMinimalCertificate x a
 IsRightTo l (asked.conjugacy c) a = IsRightConjugacy l c a
 IsRightTo l (asked.least x along ws) a = IsRightLeast x along ws a
+
+-- The response to a question within these limits.
+pub record IsResponse (l : Limits) (k : Asked) (a : Answer) : Type 0 where
+  -- The answer is right.
+  pub right : IsRightTo l k a
+  -- An output can hold it: each number and each list is within its bounds.
+  pub writable : IsWritable a
 
 -- the answer is not definite: its first line says that a stated limit was met
 abbrev pub is_unknown : Answer → Bool

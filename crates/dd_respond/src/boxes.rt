@@ -1,10 +1,10 @@
 //! Answers to box questions.
-ghost use Rattle.std.specs.Prelude.{◌≡◌, All, IfOk, OnOk};
+ghost use Rattle.std.specs.Prelude.{◌≡◌, All, IfOk};
 ghost use Rattle.dd_boxes.specs.Goals.{breaks};
 ghost use Rattle.dd_boxes.specs.Views.{goal_of};
 ghost use Rattle.dd_certificate.specs.Bounds.{IsWritable, IsWritableNumber};
 ghost use Rattle.dd_engines.specs.Rosters.{roster_seen};
-ghost use Rattle.dd_engines.specs.Rounds.{Kept, FirstAsked};
+ghost use Rattle.dd_contain.specs.Engines.{AreAsked};
 ghost use Rattle.dd_values.specs.Ranges.{AreLimits};
 ghost use Rattle.dd_question.specs.Boxes.{IsAskable};
 ghost use Rattle.dd_respond.specs.Writable.{IsWritableDecision, IsWritableEquality};
@@ -101,8 +101,7 @@ pub(crate) fn decided<E: Engine>(
     requires askable { IsAskable limits.now premise.now (goal_of premise.now goal.now) }
     ensures right { IfOk result (IsRightBox limits.now premise.now (goal_of premise.now goal.now)) }
     ensures writable { IfOk result IsWritable }
-    ensures kept { Kept (roster_seen E.asked E.given E.sound roster.old) (roster_seen E.asked E.given E.sound roster.new) }
-    ensures first { OnOk result (FirstAsked (roster_seen E.asked E.given E.sound roster.old) (roster_seen E.asked E.given E.sound roster.new)) }
+    ensures engines { AreAsked (roster_seen E.asked E.given E.sound roster.old) (roster_seen E.asked E.given E.sound roster.new) result }
 {
     refutations_fit();
     let decision = decide(alloc, premise, goal, limits, roster)?;
@@ -122,8 +121,7 @@ pub(crate) fn compared<E: Engine>(
     requires right { IsAskable limits.now right.now (breaks left.now) }
     ensures right { IfOk result (IsRightEqual limits.now left.now right.now) }
     ensures writable { IfOk result IsWritable }
-    ensures kept { Kept (roster_seen E.asked E.given E.sound roster.old) (roster_seen E.asked E.given E.sound roster.new) }
-    ensures first { OnOk result (FirstAsked (roster_seen E.asked E.given E.sound roster.old) (roster_seen E.asked E.given E.sound roster.new)) }
+    ensures engines { AreAsked (roster_seen E.asked E.given E.sound roster.old) (roster_seen E.asked E.given E.sound roster.new) result }
 {
     refutations_fit();
     let equality = decide_equal(alloc, left, right, limits, roster)?;

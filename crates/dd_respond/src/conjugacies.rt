@@ -2,7 +2,7 @@
 ghost use Rattle.std.specs.Prelude.{◌≡◌, ◌≤◌, ◌∷◌, ◌++◌, [], false, IfOk, OnOk, MatchOption};
 ghost use Rattle.dd_certificate.specs.Bounds.{IsWritable, IsWritableNumber, IsWritablePart};
 ghost use Rattle.dd_engines.specs.Rosters.{roster_seen};
-ghost use Rattle.dd_engines.specs.Rounds.{Kept, FirstAsked};
+ghost use Rattle.dd_contain.specs.Engines.{AreAsked};
 ghost use Rattle.dd_values.specs.Ranges.{AreLimits};
 ghost use Rattle.dd_question.specs.Boxes.{IsSoundBox};
 ghost use Rattle.dd_question.specs.Conjugacies.{EachPart, conjugacy_of};
@@ -73,8 +73,7 @@ fn part_decided<E: Engine>(
     requires sound { EachPart (IsSoundBox limits.now) (conjugacy_of conjugacy.now) }
     ensures comes { IfOk result (ComesTo limits.now (conjugacy_of conjugacy.now) number) }
     ensures writable { IfOk result IsWritableDecision }
-    ensures kept { Kept (roster_seen E.asked E.given E.sound roster.old) (roster_seen E.asked E.given E.sound roster.new) }
-    ensures first { OnOk result (FirstAsked (roster_seen E.asked E.given E.sound roster.old) (roster_seen E.asked E.given E.sound roster.new)) }
+    ensures engines { AreAsked (roster_seen E.asked E.given E.sound roster.old) (roster_seen E.asked E.given E.sound roster.new) result }
 {
     refutations_fit();
     match conjugacy.part(number) {
@@ -95,8 +94,7 @@ fn first_failed<E: Engine>(
     requires sound { EachPart (IsSoundBox limits.now) (conjugacy_of conjugacy.now) }
     requires found { AreFound limits.now (conjugacy_of conjugacy.now) 1 findings.old }
     ensures failed { IfOk result (λ failed. MatchOption failed (AreFound limits.now (conjugacy_of conjugacy.now) 5 findings.new) (IsFailed limits.now (conjugacy_of conjugacy.now))) }
-    ensures kept { Kept (roster_seen E.asked E.given E.sound roster.old) (roster_seen E.asked E.given E.sound roster.new) }
-    ensures first { OnOk result (FirstAsked (roster_seen E.asked E.given E.sound roster.old) (roster_seen E.asked E.given E.sound roster.new)) }
+    ensures engines { AreAsked (roster_seen E.asked E.given E.sound roster.old) (roster_seen E.asked E.given E.sound roster.new) result }
 {
     // Laws of a roster that is asked several times.
     kept_is_reflexive();
@@ -154,8 +152,7 @@ pub(crate) fn conjugate<E: Engine>(
     requires sound { EachPart (IsSoundBox limits.now) (conjugacy_of conjugacy.now) }
     ensures right { IfOk result (IsRightConjugacy limits.now (conjugacy_of conjugacy.now)) }
     ensures writable { IfOk result IsWritable }
-    ensures kept { Kept (roster_seen E.asked E.given E.sound roster.old) (roster_seen E.asked E.given E.sound roster.new) }
-    ensures first { OnOk result (FirstAsked (roster_seen E.asked E.given E.sound roster.old) (roster_seen E.asked E.given E.sound roster.new)) }
+    ensures engines { AreAsked (roster_seen E.asked E.given E.sound roster.old) (roster_seen E.asked E.given E.sound roster.new) result }
 {
     let mut findings = Findings::new(alloc);
     match first_failed(alloc, conjugacy, limits, roster, &mut findings)? {

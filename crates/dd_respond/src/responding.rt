@@ -3,8 +3,8 @@ ghost use Rattle.std.specs.Prelude.{IfOk, OnOk};
 ghost use Rattle.dd_certificate.specs.Bounds.{IsWritable};
 ghost use Rattle.dd_engines.specs.Rosters.{roster_seen};
 ghost use Rattle.dd_engines.specs.Rounds.{Kept};
-ghost use Rattle.dd_respond.specs.Asking.{IsBoxQuestion, Engages};
-ghost use Rattle.dd_respond.specs.Right.{IsRightTo};
+ghost use Rattle.dd_respond.specs.Asking.{IsBoxQuestion, Engages, AreEngaged};
+ghost use Rattle.dd_respond.specs.Right.{IsRightTo, IsResponse};
 
 use crate::boxes::{compared, decided};
 use crate::conjugacies::conjugate;
@@ -19,10 +19,8 @@ use dd_engines::{Engine, Roster, kept_is_reflexive};
 use dd_question::{CheckedQuestion, Question};
 use std::alloc::{AllocError, Global};
 
-/// The right answer to a question within its limits. An output can hold each of its numbers and lists.
-///
-/// A box question goes to the roster as in `decide`. No other question asks an engine. The roster is kept.
-pub fn respond<E: Engine>(
+/// The right answer to a question, by its kind.
+fn by_kind<E: Engine>(
     alloc: Global,
     question: &CheckedQuestion,
     roster: &mut Roster<E>,
@@ -63,4 +61,18 @@ pub fn respond<E: Engine>(
             weights,
         } => lightest(alloc, rule, periods, weights),
     }
+}
+
+/// The right answer to a question within its limits. An output can hold each of its numbers and lists.
+///
+/// A box question goes to the roster as in `decide`. No other question asks an engine. The roster is kept.
+pub fn respond<E: Engine>(
+    alloc: Global,
+    question: &CheckedQuestion,
+    roster: &mut Roster<E>,
+) -> Result<Answer, AllocError>
+    ensures answer { IfOk result (IsResponse question.now.limits question.now.question) }
+    ensures engines { AreEngaged (IsBoxQuestion question.now.question) (roster_seen E.asked E.given E.sound roster.old) (roster_seen E.asked E.given E.sound roster.new) result }
+{
+    by_kind(alloc, question, roster)
 }

@@ -86,8 +86,8 @@ ended_run source sink given bytes status to_end short same ran = by_status statu
   by_status Rejected run = absurd run
 
 -- no run ends by bad words
-pub never_ran : {K : Type 0} (sink : Told K) (bytes : List ℕ) (status : Status) → RanOver sink bytes status → status ≢ BadWords
-never_ran sink bytes status ran is = let none : ⊥ = subst (RanOver sink bytes) is ran in none
+pub never_ran : {S K : Type 0} (source : Told S) (sink : Told K) (status : Status) → Ended source sink status → status ≢ BadWords
+never_ran source sink status ended is = let none : ⊥ = subst (Ended source sink) is ended in none
 
 -- ---- how much was taken
 

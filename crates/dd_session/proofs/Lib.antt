@@ -1,4 +1,5 @@
 pub mod Asked
+pub mod ByWord
 pub mod CheckEnds
 pub mod CheckedOver
 pub mod Decided

@@ -7,8 +7,8 @@ use Rattle.dd_session.specs.declared.status.Status.{Status}
 use Rattle.dd_session.specs.declared.status.Status.TheVariants.{Definite, SomeUnknown, Refused, ReadFault, WriteFault, Memory, BadWords, Rejected}
 use Rattle.dd_session.specs.{Answers.AllRight, Answers.has_unknown, Output.output_of}
 
--- The bytes are this script, and the text is the whole output of a run over them, with a right answer to each query; some
--- answer is that it is not known, or none is so.
+-- The bytes are this script, and the text is the whole output of a run over them, with a right answer to each query. `has` says whether
+-- some answer is UNKNOWN.
 pub record IsRunOutput (bytes : List ℕ) (s : Parts) (has : Bool) (text : List ℕ) : Type 0 where
   pub spelled : Spells bytes s
   pub short : length bytes ≤ most_script
@@ -18,7 +18,7 @@ pub record IsRunOutput (bytes : List ℕ) (s : Parts) (has : Bool) (text : List 
   pub unknown_is : has_unknown answers ≡ has
   pub text_is : text ≡ output_of bytes answers
 
--- The check came to its end: nothing failed, and memory was not wanting.
+-- The check came to its end: nothing failed, and memory sufficed.
 abbrev pub IsJudgement : Status → Type 0
 IsJudgement Definite = Unit {0}
 IsJudgement SomeUnknown = Unit {0}

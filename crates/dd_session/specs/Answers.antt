@@ -7,18 +7,18 @@ use Rattle.dd_script.specs.Parts.{Parts}
 use Rattle.dd_answer.specs.Right.{Right}
 use Rattle.dd_respond.specs.Right.{is_unknown}
 
--- some answer is that it is not known
+-- some answer is UNKNOWN
 abbrev pub has_unknown : List Answer → Bool
 has_unknown [] = false
 has_unknown (a ∷ answers) = is_unknown a || has_unknown answers
 
--- the answers are right for the first of the queries, in order, and an output can hold each
+-- these are right answers to the first of the queries, in order, and an output can hold each
 abbrev pub AllRight : Parts → List Query → List Answer → Type 0
 AllRight s queries [] = ⊤
 AllRight s [] (a ∷ answers) = ⊥
 AllRight s (q ∷ queries) (a ∷ answers) = Right s q a × IsWritable a × AllRight s queries answers
 
--- some query of the script has no definite answer: a right answer to it is that it is not known
+-- some query of the script has no definite answer: UNKNOWN is a right answer to it
 abbrev pub IsOpen : Parts → Type 0
 IsOpen s = (q : Query) × Contains s.queries q × ((a : Answer) × Right s q a × (is_unknown a ≡ true))
 
@@ -27,7 +27,7 @@ abbrev pub IsOpenAs : Bool → Parts → Type 0
 IsOpenAs true s = IsOpen s
 IsOpenAs false s = IsOpen s → ⊥
 
--- what is written of answers to the queries from a number on, where so much is written of each: its text, or its first line
+-- the answers as they are written, numbered from `first` on: `written` gives the text of each, or its first line
 abbrev pub texts : (ℕ → Answer → List ℕ) → ℕ → List Answer → List ℕ
 texts written first [] = []
 texts written first (a ∷ answers) = written first a ++ texts written (first + 1) answers

@@ -1,14 +1,31 @@
--- What a run does to a roster of engines.
-use Rattle.std.specs.{Prelude.ℕ, Prelude.◌≤◌, Prelude.List, Prelude.◌++◌, Prelude.length, declared.option.Option.Option}
-use Rattle.std.specs.Io.KnownBytes.{Appends}
+-- Which engines of a roster a session asks.
+use Rattle.std.specs.Prelude.{◌≡◌, ◌⊎◌, Bool, Some, ℕ, ◌≤◌, List, ◌++◌, length}
+use Rattle.std.specs.{declared.option.Option.Option, Io.KnownBytes.Appends}
 use Rattle.dd_values.specs.Bounds.{most_script}
 use Rattle.dd_outside.specs.Bytes.{ReadToEnd}
-use Rattle.dd_engines.specs.Rounds.{Seen, FirstAsked}
+use Rattle.dd_engines.specs.{declared.roster.Roster.Roster, Rosters.roster_seen, Rounds.Seen, Rounds.Kept, Rounds.FirstAsked}
 use Rattle.dd_script.specs.{Parts.Parts, Scripts.Spells}
 use Rattle.dd_answer.specs.Asking.{AsksSomeBoxes}
 use Rattle.dd_session.specs.declared.status.Status.{Status}
 use Rattle.dd_session.specs.declared.status.Status.TheVariants.{Definite, SomeUnknown, Refused, ReadFault, WriteFault, Memory, BadWords, Rejected}
-use Rattle.dd_session.specs.Output.{header}
+use Rattle.dd_session.specs.{Output.header, Runs.IsAccepted, Sides.Told}
+
+-- The engines before and after a call: the roster itself, and what is seen of each engine.
+pub record Engines (E : Type 0) : Type 0 where
+  pub old : Roster E
+  pub new : Roster E
+  pub before : List Seen
+  pub after : List Seen
+
+abbrev pub engines : {E : Type 0} → (E → ℕ) → (E → ℕ) → (E → Bool) → Roster E → Roster E → Engines E
+engines asked given sound old new =
+    record { old = old; new = new; before = roster_seen asked given sound old; after = roster_seen asked given sound new }
+
+-- no engine was asked
+abbrev pub AreUnasked : {E : Type 0} → Engines E → Type 0
+AreUnasked roster = roster.new ≡ roster.old
+
+-- ---- when the first engine is asked
 
 -- The lines before the first answer were written whole.
 pub record HeaderTaken (old new : Option (List ℕ)) (bytes : List ℕ) : Type 0 where
@@ -21,7 +38,7 @@ pub record Begun (old new : Option (List ℕ)) (bytes : List ℕ) : Type 0 where
   pub spelled : Spells bytes script
   pub taken : HeaderTaken old new bytes
 
--- The source gave a script to its end, and the lines before its first answer were written whole.
+-- The source was read to its end, it gave a script, and the lines before its first answer were written whole.
 pub record HasBegun (left_old left_new held_old held_new : Option (List ℕ)) : Type 0 where
   pub bytes : List ℕ
   pub read : ReadToEnd left_old left_new bytes
@@ -57,8 +74,26 @@ pub record AsksFirstOver (bytes : List ℕ) (before after : List Seen) : Type 0 
   pub spelled : Spells bytes script
   pub first : AsksSomeBoxes script script.queries → FirstAsked before after
 
--- The same of the bytes that the source gave to its end.
+-- The source was read to its end, and this holds of its bytes.
 pub record AsksFirst (left_old left_new : Option (List ℕ)) (before after : List Seen) : Type 0 where
   pub bytes : List ℕ
   pub read : ReadToEnd left_old left_new bytes
   pub run : AsksFirstOver bytes before after
+
+-- ---- what a session does with the engines
+
+-- Whatever the words: the roster is kept.
+pub record AreKept {E : Type 0} (roster : Engines E) (status : Status) : Type 0 where
+  -- Each sound engine is still there, in order, and no count has fallen.
+  pub kept : Kept roster.before roster.after
+  -- Where no query is answered, no engine is asked.
+  pub unanswered : IsUnanswered status → AreUnasked roster
+
+-- With `run`.
+pub record RunConsults {S K E : Type 0} (source : Told S) (sink : Told K) (roster : Engines E) (status : Status) : Type 0 where
+  -- No engine is asked before the lines before the first answer are written whole.
+  pub late : AreUnasked roster ⊎ HasBegun source.bytes_old source.bytes_new sink.bytes_old sink.bytes_new
+  -- No engine is asked for an input that is refused.
+  pub refused : (bytes : List ℕ) → source.bytes_old ≡ Some bytes → ¬ IsAccepted bytes → AreUnasked roster
+  -- Where all queries were answered and one of them asks a box question, the first engine that is left was asked.
+  pub asked : IsToEnd status → AsksFirst source.bytes_old source.bytes_new roster.before roster.after

@@ -10,24 +10,24 @@ use Rattle.dd_session.specs.declared.status.Status.TheVariants.{Definite, SomeUn
 use Rattle.dd_session.specs.{Output.long_line, Sides.Told, Sides.IsUntouched, Sides.HasFailed}
 use Rattle.dd_session.specs.Checks.{accepted_lines, checked_line, rejected_line, most_checked, AcceptedTo, IsEnding, IsCheckable, IsRefusedOutput, IsAllAccepted, IsRejectedAfter, IsCheckedOutput}
 
--- The whole text for bytes whose queries are all accepted was written.
+-- All answers in the bytes are accepted, and the whole text that says so was written.
 pub record WholeCheck (old new : Option (List ℕ)) (has : Bool) (bytes : List ℕ) : Type 0 where
   pub all : IsAllAccepted has bytes
   pub appends : Appends old new (accepted_lines (length all.output.answers) ++ checked_line (length all.output.answers))
 
--- The whole text for bytes with a query that is rejected was written.
+-- Some answer is rejected, and the whole text up to the first such was written.
 pub record WholeRejection (old new : Option (List ℕ)) (bytes : List ℕ) : Type 0 where
   pub done : ℕ
   pub rejected : IsRejectedAfter done bytes
   pub appends : Appends old new (accepted_lines done ++ rejected_line (done + 1))
 
--- The line for bytes that are refused was written.
+-- The bytes are refused, and the line that says so was written.
 pub record WholeRefusedOutput (old new : Option (List ℕ)) (bytes : List ℕ) : Type 0 where
   pub line : List ℕ
   pub refused : IsRefusedOutput bytes line
   pub appends : Appends old new line
 
--- A front of the text for these answers was written: of the lines of the first queries, which are accepted, and of what follows.
+-- A prefix of the text for these answers was written: of the lines of the first accepted queries, and of what follows them.
 pub record CheckFront (old new : Option (List ℕ)) (s : Parts) (answers : List Answer) : Type 0 where
   pub done : ℕ
   pub ending : List ℕ
@@ -35,20 +35,20 @@ pub record CheckFront (old new : Option (List ℕ)) (s : Parts) (answers : List 
   pub is_ending : IsEnding s answers done ending
   pub front : GainsFront old new (accepted_lines done ++ ending)
 
--- A front of the text for bytes that are checked was written.
+-- The bytes are checked, and a prefix of the text for them was written.
 pub record ShortCheck (old new : Option (List ℕ)) (bytes : List ℕ) : Type 0 where
   pub output : Output
   pub script : Parts
   pub checkable : IsCheckable bytes output script
   pub front : CheckFront old new script output.answers
 
--- A front of the line for bytes that are refused was written.
+-- The bytes are refused, and a prefix of the line that says so was written.
 pub record ShortRefusedOutput (old new : Option (List ℕ)) (bytes : List ℕ) : Type 0 where
   pub line : List ℕ
   pub refused : IsRefusedOutput bytes line
   pub front : GainsFront old new line
 
--- What was written of the check of these bytes, by its status.
+-- What a check of these bytes wrote, by its status.
 abbrev pub CheckedOver : {K : Type 0} → Told K → List ℕ → Status → Type 0
 CheckedOver sink bytes Definite = WholeCheck sink.bytes_old sink.bytes_new false bytes
 CheckedOver sink bytes SomeUnknown = WholeCheck sink.bytes_old sink.bytes_new true bytes
@@ -60,14 +60,14 @@ CheckedOver sink bytes ReadFault = ⊥
 CheckedOver sink bytes BadWords = ⊥
 CheckedOver sink bytes Rejected = WholeRejection sink.bytes_old sink.bytes_new bytes
 
--- The source gave bytes to its end, of a length that is allowed, and this holds of them.
+-- The source was read to its end, it gave at most 268,435,456 bytes, and this holds of them.
 pub record Read (left_old left_new : Option (List ℕ)) (P : List ℕ → Type 0) : Type 0 where
   pub bytes : List ℕ
   pub read : ReadToEnd left_old left_new bytes
   pub short : length bytes ≤ most_checked
   pub holds : P bytes
 
--- The source gave bytes to its end, and this holds of them.
+-- The same, of a source before and after a call.
 abbrev pub OfBytes : {S : Type 0} → Told S → (List ℕ → Type 0) → Type 0
 OfBytes source P = Read source.bytes_old source.bytes_new P
 
@@ -89,7 +89,7 @@ CheckEnded source sink Memory = OfBytes source (ShortCheck sink.bytes_old sink.b
 CheckEnded source sink BadWords = ⊥
 CheckEnded source sink Rejected = OfBytes source (WholeRejection sink.bytes_old sink.bytes_new)
 
--- What the bytes decide of the status, where the source told them.
+-- What the status says of the bytes of the source.
 pub record CheckDecides (bytes : List ℕ) (status : Status) : Type 0 where
   pub definite : status ≡ Definite → (length bytes ≤ most_checked) × IsAllAccepted false bytes
   pub some_unknown : status ≡ SomeUnknown → (length bytes ≤ most_checked) × IsAllAccepted true bytes

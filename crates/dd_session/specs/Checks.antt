@@ -20,7 +20,7 @@ accepted_line number = codes "query " ++ (decimal number ++ codes " accepted\n")
 abbrev pub rejected_line : ℕ → List ℕ
 rejected_line number = codes "query " ++ (decimal number ++ codes " rejected\n")
 
--- after the lines of all queries: how many they are
+-- after the lines of all queries: how many there are
 abbrev pub checked_line : ℕ → List ℕ
 checked_line count = codes "checked " ++ (decimal count ++ codes "\n")
 
@@ -29,7 +29,7 @@ abbrev pub accepted_lines : ℕ → List ℕ
 accepted_lines zero = []
 accepted_lines (suc done) = accepted_lines done ++ accepted_line (done + 1)
 
--- for bytes that are no output: how many of them begin one
+-- for bytes that are no output: so many of them begin one
 abbrev pub offset_line : ℕ → List ℕ
 offset_line offset = codes "refused at " ++ (decimal offset ++ codes "\n")
 
@@ -39,7 +39,7 @@ script_line command k = refused_line (codes "refused script") command k
 
 -- ---- which answers are accepted
 
--- there is an answer with this number, from 1, and it is a certificate for the query with the number, which there is
+-- there are a query and an answer with this number, from 1, and the answer is a certificate of the query
 abbrev pub IsAcceptedAt : Parts → List Answer → ℕ → Type 0
 IsAcceptedAt s answers number = IsSomeAnd (slice_get answers (number - 1)) (λ a. IsCertificate s number a)
 
@@ -57,7 +57,7 @@ pub record AllAccepted (s : Parts) (answers : List Answer) : Type 0 where
   pub accepted : AcceptedTo s answers (length answers)
   pub claims : (number : ℕ) → 1 ≤ number → number ≤ length answers → IsTrueAt s answers number
 
--- After so many that are accepted comes a query or an answer, and there is not both of them, or the answer is no certificate.
+-- After so many accepted answers comes a query without an answer, an answer without a query, or an answer that is no certificate.
 pub record FirstRejected (s : Parts) (answers : List Answer) (done : ℕ) : Type 0 where
   pub within : done < max (length s.queries) (length answers)
   pub before : AcceptedTo s answers done
@@ -70,25 +70,25 @@ pub record IsOutput (bytes : List ℕ) (o : Output) : Type 0 where
   pub writable : IsWritableOutput o
   pub text_is : bytes ≡ output_text o
 
--- And its script is this one.
+-- They are, and the output's script is this one.
 pub record IsCheckable (bytes : List ℕ) (o : Output) (s : Parts) : Type 0 where
   pub output : IsOutput bytes o
   pub spelled : Spells o.script s
 
--- Bytes of a length that is allowed are refused by this line.
+-- The bytes are no output, or the script in them is none, and this line says so.
 pub data IsRefusedOutput (bytes : List ℕ) (line : List ℕ) : Type 0 where
   malformed : (offset : ℕ) → ¬ IsWellFormed bytes → IsOffset bytes offset → line ≡ offset_line offset → IsRefusedOutput bytes line
   no_script : (o : Output) → IsOutput bytes o → (command : ℕ) (k : RefusalKind) → RefusedAs o.script command k → line ≡ script_line command k
       → IsRefusedOutput bytes line
 
--- How the text goes on after the lines of the first queries, which are accepted: by the line of the first rejected query, or
--- by the last line. Where the check was broken off it may go on in no way.
+-- How the text goes on after the lines of so many accepted queries: with the line of the first rejected query, or with the last line.
+-- Where the check was broken off, it may stop there.
 pub data IsEnding (s : Parts) (answers : List Answer) (done : ℕ) (ending : List ℕ) : Type 0 where
   broken_off : ending ≡ [] → IsEnding s answers done ending
   rejected : FirstRejected s answers done → ending ≡ rejected_line (done + 1) → IsEnding s answers done ending
   finished : AllAccepted s answers → done ≡ length answers → ending ≡ checked_line done → IsEnding s answers done ending
 
--- The bytes are such an output; each query is accepted, and some answer is that it is not known, or none is so.
+-- The bytes are such an output, and each of its answers is accepted. `has` says whether some answer is UNKNOWN.
 pub record IsAllAccepted (has : Bool) (bytes : List ℕ) : Type 0 where
   pub output : Output
   pub script : Parts
@@ -103,7 +103,7 @@ pub record IsRejectedAfter (done : ℕ) (bytes : List ℕ) : Type 0 where
   pub checkable : IsCheckable bytes output script
   pub rejected : FirstRejected script output.answers done
 
--- The bytes are such an output of a length that is allowed.
+-- The bytes are such an output, of at most 268,435,456 bytes.
 pub record IsCheckedOutput (bytes : List ℕ) : Type 0 where
   pub short : length bytes ≤ most_checked
   pub output : Output

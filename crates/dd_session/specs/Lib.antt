@@ -1,12 +1,14 @@
+-- what a session does, by its words
+pub mod Sessions
 -- the words that a session has
 pub mod Words
 -- a source and a sink before and after a call
 pub mod Sides
--- what is written of right answers
+-- right answers as they are written
 pub mod Written
 -- what a run reads and writes, by its status
 pub mod Runs
--- what a run does to a roster of engines
+-- which engines of a roster a session asks
 pub mod Asking
 -- what the run of a sample writes, by its status
 pub mod Samples

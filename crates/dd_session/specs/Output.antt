@@ -19,7 +19,7 @@ output_of bytes answers = header bytes ++ texts answer_text 1 answers ++ end_lin
 
 -- ---- the lines for an input that is refused
 
--- too long
+-- for an input that is too long
 abbrev pub long_line : List ℕ
 long_line = codes "refused long\n"
 
@@ -52,11 +52,11 @@ refusal_kind_text (twice name) = codes "twice " ++ name
 refusal_kind_text dimension = codes "dimension"
 refusal_kind_text (size l) = codes "size " ++ limit_text l
 
--- no script: these words, the number of the command, and what is wrong with it
+-- for bytes that are no script: these words, the number of the command, and what is wrong with it
 abbrev pub refused_line : List ℕ → ℕ → RefusalKind → List ℕ
 refused_line words command k = words ++ (codes " " ++ (decimal command ++ (codes " " ++ (refusal_kind_text k ++ codes "\n"))))
 
--- the words in the answer to a script, which is none
+-- the words with which a run refuses its input
 abbrev pub refused_words : List ℕ
 refused_words = codes "refused"
 

@@ -9,71 +9,71 @@ use Rattle.dd_session.specs.declared.status.Status.TheVariants.{Definite, SomeUn
 use Rattle.dd_session.specs.{Answers.IsOpenAs, Output.long_line, Output.refused_line, Output.refused_words}
 use Rattle.dd_session.specs.{Sides.Told, Sides.IsUntouched, Sides.HasFailed, Written.WholeOutput, Written.CutShort}
 
--- The bytes are a script, its whole output was written, and it has or has not a query without a definite answer.
+-- The bytes are a script, and its whole output was written. `has` says whether some answer is UNKNOWN, which depends on the script alone.
 pub record WholeRun (old new : Option (List ℕ)) (bytes : List ℕ) (has : Bool) : Type 0 where
   pub script : Parts
   pub spelled : Spells bytes script
   pub output : WholeOutput old new bytes script has
   pub is_open : IsOpenAs has script
 
--- The bytes are a script, and a front of its output was written.
+-- The bytes are a script, and a prefix of its output was written.
 pub record ShortRun (old new : Option (List ℕ)) (bytes : List ℕ) : Type 0 where
   pub script : Parts
   pub spelled : Spells bytes script
   pub output : CutShort old new bytes script
 
--- The source gave a script to its end, and the sink gained the whole output with a right answer for each query.
+-- The source was read to its end, it gave a script, and the whole output was written, with a right answer to each query.
 pub record RanWhole (left_old left_new held_old held_new : Option (List ℕ)) (has : Bool) : Type 0 where
   pub bytes : List ℕ
   pub read : ReadToEnd left_old left_new bytes
   pub short : length bytes ≤ most_script
   pub run : WholeRun held_old held_new bytes has
 
--- The source gave a script to its end, and the sink gained a front of a right output.
+-- The source was read to its end, it gave a script, and a prefix of an output with right answers was written.
 pub record RanShort (left_old left_new held_old held_new : Option (List ℕ)) : Type 0 where
   pub bytes : List ℕ
   pub read : ReadToEnd left_old left_new bytes
   pub short : length bytes ≤ most_script
   pub run : ShortRun held_old held_new bytes
 
--- The bytes are a script of a length that is allowed.
+-- The bytes are a script, of at most 1,048,576 bytes.
 pub record IsAccepted (bytes : List ℕ) : Type 0 where
   pub short : length bytes ≤ most_script
   pub script : Parts
   pub spelled : Spells bytes script
 
--- Bytes of a length that is allowed are no script, and this is the line for them.
+-- The bytes are no script, and this line says so.
 pub record IsRefusedBy (bytes : List ℕ) (line : List ℕ) : Type 0 where
   pub command : ℕ
   pub kind : RefusalKind
   pub no_script : RefusedAs bytes command kind
   pub line_is : line ≡ refused_line refused_words command kind
 
--- The bytes are refused, and the line for them was written.
+-- The bytes are no script, and the line that says so was written.
 pub record WholeRefusal (old new : Option (List ℕ)) (bytes : List ℕ) : Type 0 where
   pub line : List ℕ
   pub refused : IsRefusedBy bytes line
   pub appends : Appends old new line
 
--- The bytes are refused, and a front of the line for them was written.
+-- The bytes are no script, and a prefix of the line that says so was written.
 pub record ShortRefusal (old new : Option (List ℕ)) (bytes : List ℕ) : Type 0 where
   pub line : List ℕ
   pub refused : IsRefusedBy bytes line
   pub front : GainsFront old new line
 
--- The source gave an input that is refused, and this is the line for it.
+-- The source gave too many bytes, or bytes that are no script, and this line says so.
 pub data IsRefusedInput (left_old left_new : Option (List ℕ)) (line : List ℕ) : Type 0 where
   too_long : GivesMore left_old left_new most_script → line ≡ long_line → IsRefusedInput left_old left_new line
   no_run : (bytes : List ℕ) → ReadToEnd left_old left_new bytes → length bytes ≤ most_script
       → IsRefusedBy bytes line → IsRefusedInput left_old left_new line
 
--- An input that is refused, and its line was written.
+-- The input is refused, and the line that says so was written.
 pub record RefusedWhole (left_old left_new held_old held_new : Option (List ℕ)) : Type 0 where
   pub line : List ℕ
   pub refused : IsRefusedInput left_old left_new line
   pub appends : Appends held_old held_new line
 
--- An input that is refused, and a front of its line was written.
+-- The input is refused, and a prefix of the line that says so was written.
 pub record RefusedShort (left_old left_new held_old held_new : Option (List ℕ)) : Type 0 where
   pub line : List ℕ
   pub refused : IsRefusedInput left_old left_new line
@@ -81,7 +81,7 @@ pub record RefusedShort (left_old left_new held_old held_new : Option (List ℕ)
 
 -- ---- by the status
 
--- What was written of a run over these bytes, by its status.
+-- What a run over these bytes wrote, by its status.
 abbrev pub RanOver : {K : Type 0} → Told K → List ℕ → Status → Type 0
 RanOver sink bytes Definite = WholeRun sink.bytes_old sink.bytes_new bytes false
 RanOver sink bytes SomeUnknown = WholeRun sink.bytes_old sink.bytes_new bytes true
@@ -92,7 +92,7 @@ RanOver sink bytes ReadFault = ⊥
 RanOver sink bytes BadWords = ⊥
 RanOver sink bytes Rejected = ⊥
 
--- What a session read and wrote, by its status. A fault comes only where the source or the sink failed in this call.
+-- What a run read and wrote, by its status. A fault comes only where the source or the sink failed in this call.
 abbrev pub Ended : {S K : Type 0} → Told S → Told K → Status → Type 0
 Ended source sink Definite = RanWhole source.bytes_old source.bytes_new sink.bytes_old sink.bytes_new false
 Ended source sink SomeUnknown = RanWhole source.bytes_old source.bytes_new sink.bytes_old sink.bytes_new true
@@ -102,15 +102,15 @@ Ended source sink WriteFault =
     (RanShort source.bytes_old source.bytes_new sink.bytes_old sink.bytes_new
     ⊎ RefusedShort source.bytes_old source.bytes_new sink.bytes_old sink.bytes_new) × HasFailed sink
 Ended source sink Memory = RanShort source.bytes_old source.bytes_new sink.bytes_old sink.bytes_new ⊎ IsUntouched sink
-Ended source sink BadWords = IsUntouched source × IsUntouched sink
+Ended source sink BadWords = ⊥
 Ended source sink Rejected = ⊥
 
--- The bytes are a script that is run, and some query of it has no definite answer, or none is so.
+-- The bytes are a script that is run. `has` says whether some query of it has no definite answer.
 pub record IsAcceptedAs (has : Bool) (bytes : List ℕ) : Type 0 where
   pub accepted : IsAccepted bytes
   pub is_open : IsOpenAs has accepted.script
 
--- What the bytes decide of the status, where the source told them.
+-- What the status says of the bytes of the source.
 pub record DecidesStatus (bytes : List ℕ) (status : Status) : Type 0 where
   pub definite : status ≡ Definite → IsAcceptedAs false bytes
   pub some_unknown : status ≡ SomeUnknown → IsAcceptedAs true bytes

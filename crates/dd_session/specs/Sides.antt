@@ -8,7 +8,7 @@ use Rattle.dd_session.specs.declared.status.Status.{Status}
 use Rattle.dd_session.specs.declared.status.Status.TheVariants.{Definite, SomeUnknown, Refused, ReadFault, WriteFault, Memory, BadWords, Rejected}
 use Rattle.dd_session.specs.Output.{IsLineOf}
 
--- A source or a sink before and after a call: itself, the bytes that it tells, and how often it has failed.
+-- A source or a sink before and after a call: itself, the bytes that it tells, and how often it failed.
 pub record Told (X : Type 0) : Type 0 where
   pub old : X
   pub new : X
@@ -27,7 +27,7 @@ IsUntouched side = side.new ≡ side.old
 abbrev pub HasFailed : {X : Type 0} → Told X → Type 0
 HasFailed side = Rose side.faults_old side.faults_new
 
--- A line for an input that is refused was written, or a front of it.
+-- This line for a refused input was written, or a prefix of it where the sink failed.
 abbrev pub RefusedBy : {K : Type 0} → Told K → List ℕ → Status → Type 0
 RefusedBy sink line Refused = Appends sink.bytes_old sink.bytes_new line
 RefusedBy sink line WriteFault = GainsFront sink.bytes_old sink.bytes_new line × HasFailed sink
@@ -38,17 +38,17 @@ RefusedBy sink line Memory = ⊥
 RefusedBy sink line BadWords = ⊥
 RefusedBy sink line Rejected = ⊥
 
--- The line, from these words on, for what was found wrong with a command was written, or a front of it.
+-- The line for what is wrong with a command, which begins with these words, was written, or a prefix of it.
 pub record LineRefused {K : Type 0} (sink : Told K) (words : List ℕ) (command : ℕ) (kind : ScriptKind) (status : Status) : Type 0 where
   pub line : List ℕ
   pub line_is : IsLineOf words command kind line
   pub wrote : RefusedBy sink line status
 
--- So it is, or memory was wanting before.
+-- That is so, or memory ran out before anything was written.
 abbrev pub RefusedFor : {K : Type 0} → Told K → List ℕ → ℕ → ScriptKind → Status → Type 0
 RefusedFor sink words command kind status = LineRefused sink words command kind status ⊎ ((status ≡ Memory) × IsUntouched sink)
 
--- The status of a run to the end, by whether some answer is that it is not known.
+-- The status of a run that came to its end, by whether some answer is UNKNOWN.
 abbrev pub status_of : Bool → Status
 status_of true = SomeUnknown
 status_of false = Definite

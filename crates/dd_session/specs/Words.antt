@@ -10,11 +10,11 @@ IsOnly text words = words ≡ text ∷ []
 abbrev pub IsSample : ℕ → List (List ℕ) → Type 0
 IsSample number words = IsSampleNumber number × (words ≡ codes "sample" ∷ decimal number ∷ [])
 
--- the number of the sample that they ask for; none where they ask for none
+-- the number of the sample that they ask for, or none where they ask for none
 abbrev pub IsSampleOf : List (List ℕ) → Option ℕ → Type 0
 IsSampleOf words (Some number) = IsSample number words
 IsSampleOf words None = (number : ℕ) → ¬ IsSample number words
 
--- they ask for nothing that there is
+-- they ask for nothing that a session does
 abbrev pub AreBad : List (List ℕ) → Type 0
 AreBad words = (¬ IsOnly (codes "run") words) × (¬ IsOnly (codes "check") words) × ((number : ℕ) → ¬ IsSample number words)

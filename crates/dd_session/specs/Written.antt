@@ -1,4 +1,4 @@
--- What was written of right answers to the queries of a script.
+-- Right answers to the queries of a script, as they are written: `written` says how much of each, by its number.
 use Rattle.std.specs.Prelude.{◌≡◌, ◌⊎◌, ℕ, List, [], ◌++◌, length, Bool}
 use Rattle.std.specs.{declared.option.Option.Option, Io.KnownBytes.Appends}
 use Rattle.dd_outside.specs.Bytes.{GainsFront}
@@ -8,7 +8,7 @@ use Rattle.dd_script.specs.Parts.{Parts}
 use Rattle.dd_session.specs.{Answers.AllRight, Answers.has_unknown, Answers.texts, Output.header, Output.output_of}
 use Rattle.dd_output.specs.Outputs.{end_line}
 
--- Right answers to these queries of a script were written, from a number on, so much of each.
+-- Right answers to these queries were written. The first of them has the number `first`.
 pub record Answered (written : ℕ → Answer → List ℕ) (old new : Option (List ℕ)) (s : Parts) (queries : List Query) (first : ℕ) (has : Bool) : Type 0 where
   pub answers : List Answer
   pub right : AllRight s queries answers
@@ -16,13 +16,13 @@ pub record Answered (written : ℕ → Answer → List ℕ) (old new : Option (L
   pub unknown_is : has_unknown answers ≡ has
   pub appends : Appends old new (texts written first answers)
 
--- A front of right answers to the first of these queries was written, from a number on, so much of each.
+-- A prefix of right answers to the first of these queries was written.
 pub record AnsweredFront (written : ℕ → Answer → List ℕ) (old new : Option (List ℕ)) (s : Parts) (queries : List Query) (first : ℕ) : Type 0 where
   pub answers : List Answer
   pub right : AllRight s queries answers
   pub front : GainsFront old new (texts written first answers)
 
--- Right answers to all queries of a script were written, so much of each, and the end line.
+-- Right answers to all queries of a script were written, and then the end line.
 pub record AnsweredToEnd (written : ℕ → Answer → List ℕ) (old new : Option (List ℕ)) (s : Parts) (has : Bool) : Type 0 where
   pub answers : List Answer
   pub right : AllRight s s.queries answers
@@ -30,7 +30,7 @@ pub record AnsweredToEnd (written : ℕ → Answer → List ℕ) (old new : Opti
   pub unknown_is : has_unknown answers ≡ has
   pub appends : Appends old new (texts written 1 answers ++ end_line)
 
--- A front of that was written: of right answers to the first queries, and of the end line after the answers to all of them.
+-- A prefix of that was written: of right answers to the first queries, and of the end line once all queries have an answer.
 pub record AnsweredShort (written : ℕ → Answer → List ℕ) (old new : Option (List ℕ)) (s : Parts) : Type 0 where
   pub answers : List Answer
   pub ending : List ℕ
@@ -46,8 +46,8 @@ pub record WholeOutput (old new : Option (List ℕ)) (bytes : List ℕ) (s : Par
   pub unknown_is : has_unknown answers ≡ has
   pub appends : Appends old new (output_of bytes answers)
 
--- A front of the output was written: of the header, of right answers to the first queries, and of the end line after
--- the answers to all of them.
+-- A prefix of the output was written: of the header, of right answers to the first queries, and of the end line once all queries have
+-- an answer.
 pub record CutShort (old new : Option (List ℕ)) (bytes : List ℕ) (s : Parts) : Type 0 where
   pub answers : List Answer
   pub ending : List ℕ

@@ -1,11 +1,11 @@
-//! The check of the answers of an output, each line written as soon as it is known.
-ghost use Rattle.std.specs.Prelude.{◌≡◌, ◌≤◌, length, IfOk, OnErr, IsErrOf, string_bytes};
-ghost use Rattle.dd_values.specs.Counts.{Rose};
+//! The check of an output's answers. Each line is written as soon as it is known.
+ghost use Rattle.std.specs.Prelude.{◌≡◌, ◌≤◌, length, IfOk, OnErr, string_bytes};
 ghost use Rattle.std.specs.List.{list_any};
 ghost use Rattle.dd_values.specs.Bounds.{most_commands};
 ghost use Rattle.dd_respond.specs.Right.{is_unknown};
 ghost use Rattle.dd_session.specs.Checked.{CheckFront};
 ghost use Rattle.dd_session.specs.Checks.{checked_line};
+ghost use Rattle.dd_session.specs.writing.Faults.{HasSinkCause};
 ghost use Rattle.dd_session.specs.checking.Judged.{
   verdict_line,
   IsJudged,
@@ -22,14 +22,14 @@ use dd_outside::{Sink, write_whole};
 use dd_script::Script;
 use std::alloc::{AllocError, Global};
 
-/// Whether some answer is that it is not known.
+/// Whether some answer is UNKNOWN.
 pub(crate) fn has_unknown(answers: &[Answer]) -> bool
     ensures { result ≡ list_any is_unknown answers.now }
 {
     answers.iter().any(|answer| is_unknown(answer))
 }
 
-// The line for a query by its number.
+// The line for the query with this number.
 fn verdict_line(alloc: Global, number: u32, accepted: bool) -> Result<String, AllocError>
     ensures { IfOk result (λ line. string_bytes line ≡ verdict_line number accepted) }
 {
@@ -40,14 +40,14 @@ fn verdict_line(alloc: Global, number: u32, accepted: bool) -> Result<String, Al
     }
 }
 
-// The last line, where the answers to so many queries are accepted.
+// The last line of a check that accepts all answers: how many there are.
 fn checked_line(alloc: Global, count: usize) -> Result<String, AllocError>
     ensures { IfOk result (λ line. string_bytes line ≡ checked_line count) }
 {
     format!(in alloc; "checked {count}\n")
 }
 
-// Whether there are a query and an answer with the number, and the answer is a certificate.
+// Whether a query and an answer have this number, and the answer is a certificate.
 fn is_accepted(
     alloc: Global,
     script: &Script,
@@ -66,7 +66,7 @@ fn is_accepted(
     Ok(verdict == Verdict::Accepted)
 }
 
-// Checks one answer, and writes its line. True where it is accepted.
+// Checks one answer and writes its line. True where it is accepted.
 fn check_one<K: Sink>(
     alloc: Global,
     script: &Script,
@@ -77,8 +77,7 @@ fn check_one<K: Sink>(
     requires { 1 ≤ number }
     ensures wrote { IfOk result (λ accepted. Judged (K.held sink.old) (K.held sink.new) script.now answers.now number accepted) }
     ensures cut { OnErr result (JudgedFront (K.held sink.old) (K.held sink.new) script.now answers.now number) }
-    ensures later { K.faults sink.old ≤ K.faults sink.new }
-    ensures write_fault { IsErrOf result RunFault.WriteFault → Rose (K.faults sink.old) (K.faults sink.new) }
+    ensures faults { HasSinkCause (K.faults sink.old) (K.faults sink.new) result }
 {
     let accepted = is_accepted(alloc, script, answers, number)?;
     let line = verdict_line(alloc, number, accepted)?;
@@ -86,7 +85,7 @@ fn check_one<K: Sink>(
     Ok(accepted)
 }
 
-// Checks the answers in order, up to the first that is rejected. True where all are accepted.
+// Checks the answers in order, and stops at the first that is rejected. True where all are accepted.
 fn check_each<K: Sink>(
     alloc: Global,
     script: &Script,
@@ -97,8 +96,7 @@ fn check_each<K: Sink>(
     requires few_answers { length answers.now ≤ most_commands }
     ensures wrote { IfOk result (EachJudged (K.held sink.old) (K.held sink.new) script.now answers.now) }
     ensures cut { OnErr result (CheckFront (K.held sink.old) (K.held sink.new) script.now answers.now) }
-    ensures later { K.faults sink.old ≤ K.faults sink.new }
-    ensures write_fault { IsErrOf result RunFault.WriteFault → Rose (K.faults sink.old) (K.faults sink.new) }
+    ensures faults { HasSinkCause (K.faults sink.old) (K.faults sink.new) result }
 {
     let most = script.queries().len().max(answers.len());
     for done in 0..most {
@@ -110,8 +108,7 @@ fn check_each<K: Sink>(
     Ok(true)
 }
 
-/// Checks the answers in order, up to the first that is rejected, and writes how many they are where all are accepted. True
-/// then.
+/// Checks the answers in order, and stops at the first that is rejected. Where all are accepted, writes how many there are. True then.
 pub(crate) fn check_all<K: Sink>(
     alloc: Global,
     script: &Script,
@@ -122,8 +119,7 @@ pub(crate) fn check_all<K: Sink>(
     requires few_answers { length answers.now ≤ most_commands }
     ensures wrote { IfOk result (AllJudged (K.held sink.old) (K.held sink.new) script.now answers.now) }
     ensures cut { OnErr result (CheckFront (K.held sink.old) (K.held sink.new) script.now answers.now) }
-    ensures later { K.faults sink.old ≤ K.faults sink.new }
-    ensures write_fault { IsErrOf result RunFault.WriteFault → Rose (K.faults sink.old) (K.faults sink.new) }
+    ensures faults { HasSinkCause (K.faults sink.old) (K.faults sink.new) result }
 {
     certified(script);
     let are_accepted = check_each(alloc, script, answers, sink)?;

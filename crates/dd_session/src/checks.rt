@@ -6,7 +6,8 @@ ghost use Rattle.dd_script.specs.Scripts.{Spells};
 ghost use Rattle.dd_session.specs.Answers.{has_unknown};
 ghost use Rattle.dd_session.specs.Sides.{told};
 ghost use Rattle.dd_session.specs.Checks.{most_checked, offset_line};
-ghost use Rattle.dd_session.specs.Checked.{CheckedOver, CheckEnded, CheckDecides};
+ghost use Rattle.dd_session.specs.Checked.{CheckedOver, CheckEnded};
+ghost use Rattle.dd_session.specs.Sessions.{IsCheck, KeepsCounts};
 ghost use Rattle.dd_session.specs.checking.Judged.{checked_status};
 
 use crate::checking::{check_all, has_unknown};
@@ -20,7 +21,7 @@ use dd_script::{Script, parse};
 use dd_spelling::spelled_or_refused;
 use std::alloc::{AllocError, Global};
 
-// The status of a check to the end.
+// The status of a check that came to its end.
 fn checked_status(accepted: bool, answers: &[Answer]) -> Status
     ensures { result ≡ checked_status accepted (has_unknown answers.now) }
 {
@@ -31,7 +32,7 @@ fn checked_status(accepted: bool, answers: &[Answer]) -> Status
     }
 }
 
-// Checks an output whose script is known.
+// Checks the answers of an output, given its script.
 fn check_script<K: Sink>(alloc: Global, output: &Output, script: &Script, sink: &mut K) -> Status
     requires writable { IsWritableOutput output.now }
     requires spelled { Spells output.now.script script.now }
@@ -84,8 +85,7 @@ fn check_bytes<K: Sink>(alloc: Global, bytes: &[u8], sink: &mut K) -> Status
 fn check<S: Source, K: Sink>(alloc: Global, source: &mut S, sink: &mut K) -> Status
     ensures ended { CheckEnded (told S.left S.faults source.old source.new) (told K.held K.faults sink.old sink.new) result }
     ensures taken { GivesAtMost (S.left source.old) (S.left source.new) (most_checked + 1) }
-    ensures source_faults { S.faults source.old ≤ S.faults source.new }
-    ensures sink_faults { K.faults sink.old ≤ K.faults sink.new }
+    ensures faults { KeepsCounts (told S.left S.faults source.old source.new) (told K.held K.faults sink.old sink.new) }
 {
     match read_all(alloc, source, MOST_OUTPUT) {
         Ok(bytes) => check_bytes(alloc, &bytes, sink),
@@ -95,23 +95,20 @@ fn check<S: Source, K: Sink>(alloc: Global, source: &mut S, sink: &mut K) -> Sta
     }
 }
 
-/// Reads an output from the source, checks the answer to each query of its script, and writes what it found, line by line.
+/// Reads an output from the source and checks the answer to each query of its script. Each line is written as soon as it is known.
 ///
-/// An input of more than 268,435,456 bytes is refused by the line `refused long`; bytes that are no output by `refused at
-/// OFFSET`, with the number of bytes that begin one; and an output whose script is none by `refused script C KIND`, with the
-/// number of the command and what is wrong with it. Else the line `query K accepted` is written for each query in order, and
-/// then `checked COUNT`: each answer is a certificate then, and what it claims of all infinite configurations is true. At the
-/// first query whose answer is no certificate, or that has none, and at the first answer to no query, the line `query K
-/// rejected` ends the check.
+/// For each query in order the line `query K accepted` is written, and after the last one `checked COUNT`. Then each answer is a
+/// certificate, and what it claims of all infinite configurations is true. The line `query K rejected` ends the check at the first query
+/// that has no answer, or whose answer is no certificate, and at the first answer that has no query.
 ///
-/// Where the source fails, nothing is written; where the sink fails or memory is wanting, a front of what was to be written
-/// may have been. At most 268,435,457 bytes are taken from the source.
+/// Three kinds of input are refused by one line. `refused long`: it has more than 268,435,456 bytes. `refused at OFFSET`: it is no output,
+/// and so many of its bytes begin one. `refused script C KIND`: its script is none, with the number of the command and what is wrong with it.
+///
+/// If the source fails, nothing is written. If the sink fails or memory runs out, only a prefix of these lines may have been written. At
+/// most 268,435,457 bytes are taken from the source.
 pub fn check_diddy<S: Source, K: Sink>(alloc: Global, source: &mut S, sink: &mut K) -> Status
-    ensures ended { CheckEnded (told S.left S.faults source.old source.new) (told K.held K.faults sink.old sink.new) result }
-    ensures decided { (bytes : List ℕ) → S.left source.old ≡ Some bytes → CheckDecides bytes result }
-    ensures taken { GivesAtMost (S.left source.old) (S.left source.new) (most_checked + 1) }
-    ensures source_faults { S.faults source.old ≤ S.faults source.new }
-    ensures sink_faults { K.faults sink.old ≤ K.faults sink.new }
+    ensures checked { IsCheck (told S.left S.faults source.old source.new) (told K.held K.faults sink.old sink.new) result }
+    ensures faults { KeepsCounts (told S.left S.faults source.old source.new) (told K.held K.faults sink.old sink.new) }
 {
     one_output();
     spelled_or_refused();

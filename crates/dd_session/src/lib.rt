@@ -1,4 +1,4 @@
-//! Whole runs, from the bytes of a script to the bytes of its answers, the check of such an output, and runs of sample scripts.
+//! Whole sessions: the run of a script, from its bytes to those of its answers, the check of such an output, and the run of a sample.
 #![tactic(auto)]
 
 mod checking;

@@ -33,7 +33,7 @@ fn limit_text(limit: Limit) -> &'static str
     }
 }
 
-// The line for a command that is refused, from these words on, with what is wrong with it, and a name.
+// The line for a refused command: these words, its number, the fault, and a name where the fault has one.
 fn refused_line(
     alloc: Global,
     words: &str,
@@ -46,7 +46,7 @@ fn refused_line(
     format!(in alloc; "{words} {command} {fault}{name}\n")
 }
 
-/// The line for a text that is no script, from these words on. Want of memory has none.
+/// The line for bytes that are no script. It begins with these words. Want of memory has no line.
 pub(crate) fn refused_text(
     alloc: Global,
     words: &str,

@@ -3,16 +3,15 @@ ghost use Rattle.std.specs.Prelude.{◌≡◌, ◌≢◌, ◌⊎◌, ◌+◌, �
 ghost use Rattle.dd_values.specs.Bounds.{most_script, most_commands};
 ghost use Rattle.dd_outside.specs.Bytes.{GivesAtMost};
 ghost use Rattle.dd_engines.specs.Rosters.{roster_seen};
-ghost use Rattle.dd_engines.specs.Rounds.{Kept, FirstAsked};
+ghost use Rattle.dd_engines.specs.Rounds.{FirstAsked};
 ghost use Rattle.dd_sample.specs.Sample.{IsSampleNumber, sample_text};
 ghost use Rattle.dd_script.specs.Scripts.{Spells};
 ghost use Rattle.dd_answer.specs.Asking.{AsksSomeBoxes};
-ghost use Rattle.dd_session.specs.Asking.{HeaderTaken, Begun, HasBegun, IsToEnd, IsUnanswered, AsksFirstOver, AsksFirst};
-ghost use Rattle.dd_session.specs.Checks.{most_checked};
-ghost use Rattle.dd_session.specs.Checked.{CheckEnded, CheckDecides};
-ghost use Rattle.dd_session.specs.Words.{IsOnly, IsSample, IsSampleOf, AreBad};
+ghost use Rattle.dd_session.specs.Asking.{engines, AreKept, HeaderTaken, Begun, HasBegun, IsToEnd, AsksFirstOver, AsksFirst};
+ghost use Rattle.dd_session.specs.Words.{IsOnly, IsSampleOf};
 ghost use Rattle.dd_session.specs.Sides.{told, status_of, RefusedBy, RefusedFor};
-ghost use Rattle.dd_session.specs.Runs.{RanOver, Ended, DecidesStatus, IsAccepted};
+ghost use Rattle.dd_session.specs.Runs.{RanOver, Ended};
+ghost use Rattle.dd_session.specs.Sessions.{IsSession, KeepsCounts, Consults};
 ghost use Rattle.dd_session.specs.Samples.{is_memory, LinesOf, SampleEnded};
 
 use crate::checks::check_diddy;
@@ -60,7 +59,7 @@ fn sample_of(words: &[String]) -> Option<u32>
     }
 }
 
-/// Writes the line of an input that is refused.
+/// Writes the line for an input that is refused.
 pub(crate) fn refuse<K: Sink>(sink: &mut K, line: &[u8]) -> Status
     ensures wrote { RefusedBy (told K.held K.faults sink.old sink.new) line.now result }
     ensures later { K.faults sink.old ≤ K.faults sink.new }
@@ -71,7 +70,7 @@ pub(crate) fn refuse<K: Sink>(sink: &mut K, line: &[u8]) -> Status
     }
 }
 
-/// Writes the line for a text that is no script, from these words on.
+/// Writes the line for bytes that are no script. It begins with these words.
 pub(crate) fn refuse_fault<K: Sink>(
     alloc: Global,
     words: &str,
@@ -98,8 +97,7 @@ fn run_accepted<K: Sink, E: Engine>(
     requires { Spells bytes.now script.now }
     ensures ran { RanOver (told K.held K.faults sink.old sink.new) bytes.now result }
     ensures later { K.faults sink.old ≤ K.faults sink.new }
-    ensures roster_kept { Kept (roster_seen E.asked E.given E.sound roster.old) (roster_seen E.asked E.given E.sound roster.new) }
-    ensures roster_untouched { IsUnanswered result → roster.new ≡ roster.old }
+    ensures kept { AreKept (engines E.asked E.given E.sound roster.old roster.new) result }
     ensures late { (roster.new ≡ roster.old) ⊎ HeaderTaken (K.held sink.old) (K.held sink.new) bytes.now }
     ensures asked { IsToEnd result → AsksSomeBoxes script.now script.now.queries → FirstAsked (roster_seen E.asked E.given E.sound roster.old) (roster_seen E.asked E.given E.sound roster.new) }
 {
@@ -111,7 +109,7 @@ fn run_accepted<K: Sink, E: Engine>(
     }
 }
 
-/// The status of a run to the end.
+/// The status of a run that came to its end.
 pub(crate) fn status_of(has_unknown: bool) -> Status
     ensures { result ≡ status_of has_unknown }
 {
@@ -132,8 +130,7 @@ fn run_bytes<K: Sink, E: Engine>(
     requires { length bytes.now ≤ most_script }
     ensures ran { RanOver (told K.held K.faults sink.old sink.new) bytes.now result }
     ensures later { K.faults sink.old ≤ K.faults sink.new }
-    ensures roster_kept { Kept (roster_seen E.asked E.given E.sound roster.old) (roster_seen E.asked E.given E.sound roster.new) }
-    ensures roster_untouched { IsUnanswered result → roster.new ≡ roster.old }
+    ensures kept { AreKept (engines E.asked E.given E.sound roster.old roster.new) result }
     ensures late { (roster.new ≡ roster.old) ⊎ Begun (K.held sink.old) (K.held sink.new) bytes.now }
     ensures asked { IsToEnd result → AsksFirstOver bytes.now (roster_seen E.asked E.given E.sound roster.old) (roster_seen E.asked E.given E.sound roster.new) }
 {
@@ -145,7 +142,7 @@ fn run_bytes<K: Sink, E: Engine>(
     }
 }
 
-// What the word `run` does.
+// The word `run`.
 fn run<S: Source, K: Sink, E: Engine>(
     alloc: Global,
     source: &mut S,
@@ -153,12 +150,9 @@ fn run<S: Source, K: Sink, E: Engine>(
     roster: &mut Roster<E>,
 ) -> Status
     ensures ended { Ended (told S.left S.faults source.old source.new) (told K.held K.faults sink.old sink.new) result }
-    ensures ran { result ≢ Status.BadWords }
     ensures taken { GivesAtMost (S.left source.old) (S.left source.new) (most_script + 1) }
-    ensures source_faults { S.faults source.old ≤ S.faults source.new }
-    ensures sink_faults { K.faults sink.old ≤ K.faults sink.new }
-    ensures roster_kept { Kept (roster_seen E.asked E.given E.sound roster.old) (roster_seen E.asked E.given E.sound roster.new) }
-    ensures roster_untouched { IsUnanswered result → roster.new ≡ roster.old }
+    ensures faults { KeepsCounts (told S.left S.faults source.old source.new) (told K.held K.faults sink.old sink.new) }
+    ensures kept { AreKept (engines E.asked E.given E.sound roster.old roster.new) result }
     ensures late { (roster.new ≡ roster.old) ⊎ HasBegun (S.left source.old) (S.left source.new) (K.held sink.old) (K.held sink.new) }
     ensures asked { IsToEnd result → AsksFirst (S.left source.old) (S.left source.new) (roster_seen E.asked E.given E.sound roster.old) (roster_seen E.asked E.given E.sound roster.new) }
 {
@@ -178,12 +172,12 @@ fn is_memory(kind: &ScriptKind) -> bool
     matches!(kind, ScriptKind::Memory)
 }
 
-// The sample with the number, as a script.
+// The sample script with this number.
 fn sample(alloc: Global, number: u32) -> Result<Script, AllocError>
     requires { IsSampleNumber number }
     ensures { IfOk result (λ script. Spells (sample_text number) script) }
 {
-    // Laws: each sample spells a script, and so is not refused.
+    // Laws: each sample spells a script, so it is not refused.
     samples_spell();
     spelled_or_refused();
     let bytes = sample_script(alloc, number)?;
@@ -209,8 +203,7 @@ fn run_lines<K: Sink, E: Engine>(
     requires { length script.now.queries ≤ most_commands }
     ensures wrote { LinesOf (told K.held K.faults sink.old sink.new) script.now result }
     ensures later { K.faults sink.old ≤ K.faults sink.new }
-    ensures roster_kept { Kept (roster_seen E.asked E.given E.sound roster.old) (roster_seen E.asked E.given E.sound roster.new) }
-    ensures answered { IsUnanswered result → ⊥ }
+    ensures kept { AreKept (engines E.asked E.given E.sound roster.old roster.new) result }
     ensures asked { IsToEnd result → AsksSomeBoxes script.now script.now.queries → FirstAsked (roster_seen E.asked E.given E.sound roster.old) (roster_seen E.asked E.given E.sound roster.new) }
 {
     one_line(script);
@@ -221,7 +214,7 @@ fn run_lines<K: Sink, E: Engine>(
     }
 }
 
-// What the word `sample` and a number do.
+// The word `sample` and a number.
 fn run_sample<K: Sink, E: Engine>(
     alloc: Global,
     number: u32,
@@ -231,8 +224,7 @@ fn run_sample<K: Sink, E: Engine>(
     requires { IsSampleNumber number }
     ensures ended { SampleEnded (told K.held K.faults sink.old sink.new) number result }
     ensures later { K.faults sink.old ≤ K.faults sink.new }
-    ensures roster_kept { Kept (roster_seen E.asked E.given E.sound roster.old) (roster_seen E.asked E.given E.sound roster.new) }
-    ensures answered { IsUnanswered result → ⊥ }
+    ensures kept { AreKept (engines E.asked E.given E.sound roster.old roster.new) result }
     ensures asked { IsToEnd result → AsksFirstOver (sample_text number) (roster_seen E.asked E.given E.sound roster.old) (roster_seen E.asked E.given E.sound roster.new) }
 {
     // A law: a roster that is not asked stays as it is.
@@ -243,25 +235,28 @@ fn run_sample<K: Sink, E: Engine>(
     }
 }
 
-/// Runs a session by the words after the program's name: `run`, `check`, or `sample` and a number. With `run` it reads a
-/// script from the source and writes its output, with a right answer to each query, to the sink. Each number and
-/// each list of an answer is within the bounds of an output. Some answer is that it is not known exactly where the status
-/// says so, and this is a matter of the script. With `check` it does what `check_diddy` does. With `sample N`, where N is a number
-/// from 1 to 16,384 in decimal without a leading zero, it runs the sample script with this number, whose text `sample_script` gives,
-/// and writes the first line of a right answer to each of its queries, as soon as it is known, and then `end`; the source is left as
-/// it is. Other words do nothing.
+/// Does what the words after the program's name ask for: `run`, `check`, or `sample` and a number. Other words do nothing.
 ///
-/// With `run`, an input of more than 1,048,576 bytes is refused by the line `refused long`, and one that is no script by
-/// `refused C KIND`, with the number of the command and what is wrong with it. Nothing is run then. Where
-/// the source fails, nothing is written; where the sink fails or memory is wanting, a front of what was
-/// to be written may have been. At most 1,048,577 bytes are taken from the source.
+/// `run` reads a script from the source and writes its output to the sink, with a right answer to each query. An output can hold each
+/// answer: its numbers and lists are within their bounds. The status says whether some answer is UNKNOWN, which depends on the script alone.
+/// An input of more than 1,048,576 bytes is refused by the line `refused long`. One that is no script is refused by `refused C KIND`, with the
+/// number of the command and what is wrong with it. At most 1,048,577 bytes are taken from the source.
 ///
-/// With `run` and `sample`, the engines of the roster are asked before each search of a box question. What is written is right
-/// whatever they propose. So on every return that is `Definite` or `SomeUnknown` each answer's first line, and the status, are the
-/// same over every roster; on others they need not be, since an engine may want memory. The roster is kept: each sound engine is
-/// still there, in order, on every return. With `run`, no engine is asked before the lines before the first answer are written whole,
-/// nor for an input that is refused; with other words than these two none is. Where the run came to its end and some query asks a
-/// box question, the first engine that is left was asked, and only engines that aren't sound were let go before it.
+/// `check` does what `check_diddy` does.
+///
+/// `sample N` runs the sample script with the number N, whose text `sample_script` gives. N is a number from 1 to 16,384, in decimal without
+/// a leading zero. The first line of a right answer to each query is written as soon as it is known, and then `end`. The source is left as
+/// it is.
+///
+/// If the source fails, nothing is written. If the sink fails or memory runs out, only a prefix of the text may have been written.
+///
+/// `run` and `sample` ask the engines of the roster before each search of a box question. What is written is right whatever they propose.
+/// So wherever the status is `Definite` or `SomeUnknown`, it and the first line of each answer are the same over every roster. Other statuses
+/// need not be the same, since an engine may run out of memory.
+///
+/// The roster is kept: each sound engine is still there, in order, on every return. `run` asks no engine before the lines before the first
+/// answer are written whole, and none for an input that is refused. `check` asks none. Where a run or a sample comes to its end and some query
+/// is a box question, the first engine that is left was asked, and only engines that aren't sound were let go before it.
 pub fn run_diddy<S: Source, K: Sink>(
     alloc: Global,
     words: &[String],
@@ -269,38 +264,9 @@ pub fn run_diddy<S: Source, K: Sink>(
     sink: &mut K,
     roster: &mut Roster,
 ) -> Status
-    ensures bad_words { result ≡ Status.BadWords ↔ AreBad (map string_bytes words.now) }
-    ensures kept { result ≡ Status.BadWords → (source.new ≡ source.old) × (sink.new ≡ sink.old) × (roster.new ≡ roster.old) }
-
-    ensures ran { IsOnly (codes "run") (map string_bytes words.now) →
-        Ended (told S.left S.faults source.old source.new) (told K.held K.faults sink.old sink.new) result }
-    ensures run_decided { IsOnly (codes "run") (map string_bytes words.now) →
-        (bytes : List ℕ) → S.left source.old ≡ Some bytes → DecidesStatus bytes result }
-    ensures run_taken { IsOnly (codes "run") (map string_bytes words.now) → GivesAtMost (S.left source.old) (S.left source.new) (most_script + 1) }
-
-    ensures checked { IsOnly (codes "check") (map string_bytes words.now) →
-        CheckEnded (told S.left S.faults source.old source.new) (told K.held K.faults sink.old sink.new) result }
-    ensures check_decided { IsOnly (codes "check") (map string_bytes words.now) →
-        (bytes : List ℕ) → S.left source.old ≡ Some bytes → CheckDecides bytes result }
-    ensures check_taken { IsOnly (codes "check") (map string_bytes words.now) → GivesAtMost (S.left source.old) (S.left source.new) (most_checked + 1) }
-
-    ensures sampled { (number : ℕ) → IsSample number (map string_bytes words.now) →
-        SampleEnded (told K.held K.faults sink.old sink.new) number result }
-    ensures sample_kept { (number : ℕ) → IsSample number (map string_bytes words.now) → source.new ≡ source.old }
-
-    ensures source_faults { S.faults source.old ≤ S.faults source.new }
-    ensures sink_faults { K.faults sink.old ≤ K.faults sink.new }
-
-    ensures roster_kept { Kept (roster_seen asked given sound roster.old) (roster_seen asked given sound roster.new) }
-    ensures roster_untouched { IsUnanswered result → roster.new ≡ roster.old }
-    ensures roster_late { IsOnly (codes "run") (map string_bytes words.now) → (roster.new ≡ roster.old) ⊎ HasBegun (S.left source.old) (S.left source.new) (K.held sink.old) (K.held sink.new) }
-    ensures refused_unasked { IsOnly (codes "run") (map string_bytes words.now) →
-        (bytes : List ℕ) → S.left source.old ≡ Some bytes → ¬ IsAccepted bytes → roster.new ≡ roster.old }
-    ensures run_asked { IsOnly (codes "run") (map string_bytes words.now) → IsToEnd result →
-        AsksFirst (S.left source.old) (S.left source.new) (roster_seen asked given sound roster.old) (roster_seen asked given sound roster.new) }
-    ensures sample_asked { (number : ℕ) → IsSample number (map string_bytes words.now) → IsToEnd result →
-        AsksFirstOver (sample_text number) (roster_seen asked given sound roster.old) (roster_seen asked given sound roster.new) }
-    ensures check_asks_nobody { IsOnly (codes "check") (map string_bytes words.now) → roster.new ≡ roster.old }
+    ensures session { IsSession (map string_bytes words.now) (told S.left S.faults source.old source.new) (told K.held K.faults sink.old sink.new) result }
+    ensures engines { Consults (map string_bytes words.now) (told S.left S.faults source.old source.new) (told K.held K.faults sink.old sink.new)
+        (engines asked given sound roster.old roster.new) result }
 {
     // A law: a roster that is not asked stays as it is.
     kept_is_reflexive();

@@ -5,7 +5,7 @@
 pub enum Status {
     /// Every query has a definite answer.
     Definite = 0,
-    /// Some answer is that it is not known within the stated limits.
+    /// Some answer is UNKNOWN: it is not known within the stated limits.
     SomeUnknown = 1,
     /// The input was refused, and nothing was run.
     Refused = 2,
@@ -13,9 +13,9 @@ pub enum Status {
     ReadFault = 3,
     /// The sink failed.
     WriteFault = 4,
-    /// Memory was wanting.
+    /// Memory ran out.
     Memory = 5,
-    /// The words ask for nothing that there is.
+    /// The words ask for nothing that a session does.
     BadWords = 6,
     /// A checked answer is no certificate.
     Rejected = 7,

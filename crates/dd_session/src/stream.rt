@@ -1,17 +1,16 @@
-//! The output of a script, and the first lines of its answers, each part written as soon as it is made.
-ghost use Rattle.std.specs.Prelude.{◌≡◌, ◌⊎◌, ◌≤◌, ◌∷◌, [], length, Contains, IfOk, OnOk, OnErr, IsErrOf};
+//! The answers to a script, whole or only their first lines. Each is written as soon as it is made.
+ghost use Rattle.std.specs.Prelude.{◌≡◌, ◌⊎◌, ◌≤◌, ◌∷◌, [], length, Contains, IfOk, OnOk, OnErr};
 ghost use Rattle.std.specs.Io.KnownBytes.{Appends};
 ghost use Rattle.dd_values.specs.Bounds.{most_commands};
-ghost use Rattle.dd_values.specs.Counts.{Rose};
 ghost use Rattle.dd_outside.specs.Bytes.{GainsFront};
 ghost use Rattle.dd_engines.specs.Rosters.{roster_seen};
-ghost use Rattle.dd_engines.specs.Rounds.{Kept};
 ghost use Rattle.dd_script.specs.Scripts.{Spells};
 ghost use Rattle.dd_answer.specs.Asking.{AsksBoxes, AsksSomeBoxes};
-ghost use Rattle.dd_respond.specs.Asking.{Engages};
+ghost use Rattle.dd_respond.specs.Asking.{AreEngaged};
 ghost use Rattle.dd_respond.specs.Right.{is_unknown};
 ghost use Rattle.dd_session.specs.declared.stream.RunFault.TheVariants.{WriteFault, Memory};
 ghost use Rattle.dd_session.specs.Asking.{HeaderTaken};
+ghost use Rattle.dd_session.specs.writing.Faults.{HasSinkCause};
 ghost use Rattle.dd_session.specs.writing.Forms.{text_in};
 ghost use Rattle.dd_session.specs.Written.{Answered, AnsweredFront, AnsweredToEnd, AnsweredShort, WholeOutput, CutShort};
 
@@ -28,7 +27,7 @@ use std::alloc::{AllocError, Global};
 pub(crate) enum RunFault {
     /// The sink failed.
     WriteFault,
-    /// Memory was wanting.
+    /// Memory ran out.
     Memory,
 }
 
@@ -57,14 +56,14 @@ pub(crate) enum Form {
     Line,
 }
 
-/// Whether the answer is that it is not known.
+/// Whether the answer is UNKNOWN.
 pub(crate) fn is_unknown(answer: &Answer) -> bool
     ensures { result ≡ is_unknown answer.now }
 {
     matches!(answer, Answer::Unknown { .. })
 }
 
-// What is written of the answer to the query with the number.
+// The text of the answer to the query with this number, in this form.
 fn text_in(alloc: Global, form: Form, number: u32, answer: &Answer) -> Result<Vec<u8>, AllocError>
     ensures { IfOk result (λ text. text.items ≡ text_in form number answer.now) }
 {
@@ -74,7 +73,7 @@ fn text_in(alloc: Global, form: Form, number: u32, answer: &Answer) -> Result<Ve
     }
 }
 
-// Writes so much of the answer to the query with the number. True where it is unknown.
+// Writes the answer to the query with this number, in this form. True where it is unknown.
 fn write_one<K: Sink>(
     alloc: Global,
     form: Form,
@@ -85,15 +84,14 @@ fn write_one<K: Sink>(
     ensures unknown { IfOk result (λ unknown. unknown ≡ is_unknown answer.now) }
     ensures wrote { OnOk result (Appends (K.held sink.old) (K.held sink.new) (text_in form number answer.now)) }
     ensures cut { OnErr result (GainsFront (K.held sink.old) (K.held sink.new) (text_in form number answer.now)) }
-    ensures later { K.faults sink.old ≤ K.faults sink.new }
-    ensures write_fault { IsErrOf result RunFault.WriteFault → Rose (K.faults sink.old) (K.faults sink.new) }
+    ensures faults { HasSinkCause (K.faults sink.old) (K.faults sink.new) result }
 {
     let text = text_in(alloc, form, number, answer)?;
     write_whole(sink, &text)?;
     Ok(is_unknown(answer))
 }
 
-// Answers one query, and writes so much of it. True where the answer is unknown.
+// Answers one query and writes the answer, in this form. True where it is unknown.
 fn answer_one<K: Sink, E: Engine>(
     alloc: Global,
     script: &Script,
@@ -106,16 +104,14 @@ fn answer_one<K: Sink, E: Engine>(
     requires { Contains script.now.queries query.now }
     ensures wrote { IfOk result (λ unknown. Answered (text_in form) (K.held sink.old) (K.held sink.new) script.now (query.now ∷ []) number unknown) }
     ensures cut { OnErr result (AnsweredFront (text_in form) (K.held sink.old) (K.held sink.new) script.now (query.now ∷ []) number) }
-    ensures later { K.faults sink.old ≤ K.faults sink.new }
-    ensures write_fault { IsErrOf result RunFault.WriteFault → Rose (K.faults sink.old) (K.faults sink.new) }
-    ensures kept { Kept (roster_seen E.asked E.given E.sound roster.old) (roster_seen E.asked E.given E.sound roster.new) }
-    ensures asked { OnOk result (Engages (AsksBoxes script.now query.now) (roster_seen E.asked E.given E.sound roster.old) (roster_seen E.asked E.given E.sound roster.new)) }
+    ensures faults { HasSinkCause (K.faults sink.old) (K.faults sink.new) result }
+    ensures engines { AreEngaged (AsksBoxes script.now query.now) (roster_seen E.asked E.given E.sound roster.old) (roster_seen E.asked E.given E.sound roster.new) result }
 {
     let found = answer(alloc, script, query, roster)?;
     write_one(alloc, form, number, &found, sink)
 }
 
-// Answers all queries in order, and writes so much of each before the next answer is made. True where an answer is unknown.
+// Answers all queries in order. Each answer is written before the next one is made. True where some answer is unknown.
 #[tactic(auto, using(crate::proofs::Asked::asked_at, crate::proofs::Streamed::answered_next, crate::proofs::Engaging::engaged_next))]
 fn answer_all<K: Sink, E: Engine>(
     alloc: Global,
@@ -127,10 +123,8 @@ fn answer_all<K: Sink, E: Engine>(
     requires { length script.now.queries ≤ most_commands }
     ensures wrote { IfOk result (λ unknown. Answered (text_in form) (K.held sink.old) (K.held sink.new) script.now script.now.queries 1 unknown) }
     ensures cut { OnErr result (AnsweredFront (text_in form) (K.held sink.old) (K.held sink.new) script.now script.now.queries 1) }
-    ensures later { K.faults sink.old ≤ K.faults sink.new }
-    ensures write_fault { IsErrOf result RunFault.WriteFault → Rose (K.faults sink.old) (K.faults sink.new) }
-    ensures kept { Kept (roster_seen E.asked E.given E.sound roster.old) (roster_seen E.asked E.given E.sound roster.new) }
-    ensures asked { OnOk result (Engages (AsksSomeBoxes script.now script.now.queries) (roster_seen E.asked E.given E.sound roster.old) (roster_seen E.asked E.given E.sound roster.new)) }
+    ensures faults { HasSinkCause (K.faults sink.old) (K.faults sink.new) result }
+    ensures engines { AreEngaged (AsksSomeBoxes script.now script.now.queries) (roster_seen E.asked E.given E.sound roster.old) (roster_seen E.asked E.given E.sound roster.new) result }
 {
     // Laws of a roster that is asked several times.
     kept_is_reflexive();
@@ -144,7 +138,7 @@ fn answer_all<K: Sink, E: Engine>(
     Ok(has_unknown)
 }
 
-/// Answers all queries in order, writes so much of each, and the end line. True where an answer is unknown.
+/// Answers all queries in order, and writes the answers and the end line. True where some answer is unknown.
 pub(crate) fn answer_to_end<K: Sink, E: Engine>(
     alloc: Global,
     script: &Script,
@@ -155,18 +149,15 @@ pub(crate) fn answer_to_end<K: Sink, E: Engine>(
     requires { length script.now.queries ≤ most_commands }
     ensures whole { IfOk result (λ unknown. AnsweredToEnd (text_in form) (K.held sink.old) (K.held sink.new) script.now unknown) }
     ensures cut { OnErr result (AnsweredShort (text_in form) (K.held sink.old) (K.held sink.new) script.now) }
-    ensures later { K.faults sink.old ≤ K.faults sink.new }
-    ensures write_fault { IsErrOf result RunFault.WriteFault → Rose (K.faults sink.old) (K.faults sink.new) }
-    ensures kept { Kept (roster_seen E.asked E.given E.sound roster.old) (roster_seen E.asked E.given E.sound roster.new) }
-    ensures asked { OnOk result (Engages (AsksSomeBoxes script.now script.now.queries) (roster_seen E.asked E.given E.sound roster.old) (roster_seen E.asked E.given E.sound roster.new)) }
+    ensures faults { HasSinkCause (K.faults sink.old) (K.faults sink.new) result }
+    ensures engines { AreEngaged (AsksSomeBoxes script.now script.now.queries) (roster_seen E.asked E.given E.sound roster.old) (roster_seen E.asked E.given E.sound roster.new) result }
 {
     let has_unknown = answer_all(alloc, script, form, sink, roster)?;
     write_whole(sink, b"end\n")?;
     Ok(has_unknown)
 }
 
-/// Runs an accepted script. True where an answer is unknown. No engine is asked before the lines before the first answer are
-/// written whole.
+/// Runs an accepted script. True where some answer is unknown. No engine is asked before the header is written whole.
 pub(crate) fn run_script<K: Sink, E: Engine>(
     alloc: Global,
     bytes: &[u8],
@@ -177,10 +168,8 @@ pub(crate) fn run_script<K: Sink, E: Engine>(
     requires { Spells bytes.now script.now }
     ensures whole { IfOk result (λ unknown. WholeOutput (K.held sink.old) (K.held sink.new) bytes.now script.now unknown) }
     ensures cut { OnErr result (CutShort (K.held sink.old) (K.held sink.new) bytes.now script.now) }
-    ensures later { K.faults sink.old ≤ K.faults sink.new }
-    ensures write_fault { IsErrOf result RunFault.WriteFault → Rose (K.faults sink.old) (K.faults sink.new) }
-    ensures kept { Kept (roster_seen E.asked E.given E.sound roster.old) (roster_seen E.asked E.given E.sound roster.new) }
-    ensures asked { OnOk result (Engages (AsksSomeBoxes script.now script.now.queries) (roster_seen E.asked E.given E.sound roster.old) (roster_seen E.asked E.given E.sound roster.new)) }
+    ensures faults { HasSinkCause (K.faults sink.old) (K.faults sink.new) result }
+    ensures engines { AreEngaged (AsksSomeBoxes script.now script.now.queries) (roster_seen E.asked E.given E.sound roster.old) (roster_seen E.asked E.given E.sound roster.new) result }
     ensures late { (roster.new ≡ roster.old) ⊎ HeaderTaken (K.held sink.old) (K.held sink.new) bytes.now }
 {
     // A law: a roster that is not asked stays as it is.

@@ -1,4 +1,4 @@
-"""What each kind of query has: its arguments, its faults, the check of its answers, what they claim, and what it costs."""
+"""What each kind of query has: arguments, faults, the check of its answers, their claims, and its costs."""
 from typing import Any, Iterator, List, Optional, Sequence, Tuple
 
 from ..answers import Answer, Unknown
@@ -13,11 +13,11 @@ OF_KIND = {"rule": (Rule,), "conf": (Configuration,), "auto": (Cases, Compositio
 WRONG_ANSWER = "this is no answer to such a query"
 
 Picture = Tuple[Configuration, Optional[Cell]]
-"""What is shown of an answer: a configuration, and a cell of it that is marked."""
+"""The picture of an answer: a configuration, and a cell of it to be marked."""
 
 
 class Query(Meaning):
-    """A query of a script. `arguments` has the kinds of what follows its word: rule, conf, auto, number, list, vectors."""
+    """A query of a script. `arguments` has the kinds of its arguments: rule, conf, auto, number, list, vectors."""
 
     word = ""
     arguments: Sequence[str] = ()
@@ -58,7 +58,7 @@ class Query(Meaning):
         return over(limit, self.keyword, rule)
 
     def rejection(self, answer: Answer) -> Optional[str]:
-        """Why an answer is rejected, or None where it is accepted."""
+        """Why an answer is rejected, or None if it is accepted."""
         raise NotImplementedError
 
     def claim(self, answer: Answer) -> str:
@@ -66,20 +66,20 @@ class Query(Meaning):
         raise NotImplementedError
 
     def costs(self) -> List[str]:
-        """What the query will cost, and which limit is nearest."""
+        """What the query will cost, beside the limits."""
         return []
 
     def picture(self, answer: Answer) -> Optional[Picture]:
-        """The configuration that an answer shows, where it shows one."""
+        """The picture of an answer, if it has one."""
         return None
 
     def found(self) -> Optional[str]:
-        """The answer's line, by a plain search; None where that takes too long."""
+        """The answer's line, by a plain search; None if that takes too long."""
         return None
 
 
 def rejects_unknown(answer: Answer, reasons: Sequence[str]) -> Optional[str]:
-    """Why an answer that is no certificate is rejected: only some words of UNKNOWN are answers to a query."""
+    """Why an answer without a certificate is rejected, or None if it is UNKNOWN with one of these reasons."""
     if isinstance(answer, Unknown) and answer.reason in reasons:
         return None
     return WRONG_ANSWER

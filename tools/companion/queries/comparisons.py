@@ -13,7 +13,7 @@ SIDES = ("left", "right")
 
 
 def configuration_of(question: Question, answer: No) -> "Tuple[Optional[Configuration], str]":
-    """The configuration of an answer NO, or why there is none."""
+    """The configuration of an answer NO, or None and the reason."""
     script = question.script
     periods, shear, symbols = answer.periods, answer.shear, answer.symbols
     if len(periods) != script.dim:
@@ -35,13 +35,13 @@ def configuration_of(question: Question, answer: No) -> "Tuple[Optional[Configur
 
 
 def no_fault(question: Question, answer: No) -> Optional[str]:
-    """Why the configuration of an answer NO is no witness of a question, or None where it is one."""
+    """Why the configuration of an answer NO is no witness for a question, or None if it is one."""
     configuration, why = configuration_of(question, answer)
     return why if configuration is None else why_not(question, configuration)
 
 
 def yes_fault(question: Question, radius: int, steps: Sequence[Step]) -> Optional[str]:
-    """Why steps don't show that a question has the answer YES at a radius, or None where they do."""
+    """Why steps don't show that a question has the answer YES at a radius, or None if they do."""
     least, most = question.least_radius(), question.greatest_radius()
     if radius < least:
         return f"the radius {radius} is under {least}, the least one whose box holds all that the goal reads"

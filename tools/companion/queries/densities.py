@@ -24,7 +24,7 @@ class LeastDensity(Query):
     def shapes(self) -> Iterator[Fault]:
         given = self.body.arguments[1]
         if len(given.entries) != self.script.dim - 1:
-            yield shape(given.bracket, f"the periods of a strip are {self.script.dim - 1}, one for each axis after the first")
+            yield shape(given.bracket, f"a strip has {self.script.dim - 1} periods, one for each axis after the first")
 
     def sizes(self) -> Iterator[Fault]:
         for entry in self.body.arguments[1].entries:

@@ -59,16 +59,15 @@ class BestBound(Query):
     def claim(self, answer: Answer) -> str:
         if not isinstance(answer, Bound):
             return "nothing is claimed"
-        return (f"amounts along these vectors hold {answer.over}/{answer.under} at each position, none hold more, and large boxes of "
-                f"configurations of {self.argument(0).name} weigh as much per position, but for what comes in at their border")
+        return (f"with the best amounts along these vectors each position holds at least {answer.over}/{answer.under}; so boxes in configurations of "
+                f"{self.argument(0).name} weigh as much per position, less what comes in at their border")
 
     def costs(self) -> List[str]:
         discharge = self.discharge()
-        said = [f"a region of {len(discharge.region.cells)} cells, of which the rule is looked at in "
-                f"{sum(map(len, discharge.region.settled))}"]
+        said = [f"a region of {len(discharge.region.cells)} cells; the rule counts at {sum(map(len, discharge.region.settled))} of them"]
         fillings = discharge.region.admissible(MOST_FILLINGS)
         if fillings is None:
-            return said + [f"some first cells have more than {MOST_FILLINGS:,} admissible fillings, so the answer is UNKNOWN large"]
+            return said + [f"the region's first cells have more than {MOST_FILLINGS:,} admissible fillings, so the answer is UNKNOWN large"]
         said.append(f"{share(len(fillings), MOST_FILLINGS)} admissible fillings")
         program = discharge.program()
         if program is None:

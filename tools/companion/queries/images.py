@@ -16,14 +16,14 @@ MOST_NESTED = 64
 
 
 class PairQuery(BoxQuery):
-    """A query of box questions on pairs of automata, which are made of its automata and rules."""
+    """A query of box questions on pairs of automata, made from its automata and rules."""
 
     def shapes(self) -> Iterator[Fault]:
         if len(self.script.symbols) < 2:
-            yield shape(self.keyword, "where there is one symbol alone, every automaton gives it everywhere")
+            yield shape(self.keyword, "with only one symbol every automaton gives it everywhere")
 
     def image(self, automaton: Automaton, source: Rule, target: Rule) -> Iterator[Fault]:
-        """The limits that the question of an image passes."""
+        """The limits that the question passes whether an image obeys a rule."""
         nested = depth(guarded(self.script, target))
         if nested > MOST_NESTED:
             why = f"with the symbols that nodes allow, the rule {target.name} is nested {nested} deep, and {MOST_NESTED} is the most"
@@ -31,11 +31,11 @@ class PairQuery(BoxQuery):
         yield from self.made(lambda: image_question(self.script, automaton, source, target))
 
     def both(self, outer: Automaton, inner: Automaton, rule: Rule) -> Iterator[Fault]:
-        """The limits that the question passes whether two automata, the inner one first, change nothing."""
+        """The limits that the question passes whether two automata, the inner one first, give the identity."""
         yield from self.made(lambda: identity_question(self.script, outer, inner, rule))
 
     def made(self, question_of: Callable[[], Question]) -> Iterator[Fault]:
-        """The limits that the pair of a question passes, and then the question."""
+        """The limits that the automata of a question pass, and then the question."""
         try:
             question = question_of()
         except TooLarge:

@@ -17,12 +17,12 @@ class Forbidden(Query):
     arguments = ("rule",)
 
     def fillings(self) -> List[int]:
-        """How many fillings what the rule reads has, at each node."""
+        """How many fillings the cells that the rule reads have, at each node."""
         return [len(self.script.symbols) ** len(reads) for reads in self.argument(0).reads]
 
     def sizes(self) -> Iterator[Fault]:
         if max(self.fillings()) > MOST_PATTERNS:
-            yield self.passed("patterns", f"what the rule reads at some node has {max(self.fillings()):,} fillings, "
+            yield self.passed("patterns", f"the cells that the rule reads at some node have {max(self.fillings()):,} fillings, "
                                           f"and {MOST_PATTERNS:,} are the most")
 
     def patterns(self) -> List[Pattern]:
@@ -59,7 +59,8 @@ class MinimalPatterns(Forbidden):
         return difference(answer.patterns, self.starred()) if isinstance(answer, Minimal) else WRONG_ANSWER
 
     def claim(self, answer: Answer) -> str:
-        return f"{self.argument(0).name} is false exactly where what it reads agrees with one of these patterns, and no cell of them can be left out"
+        return (f"{self.argument(0).name} is false exactly where what it reads agrees with one of these patterns, "
+                f"and no cell of them can be left out")
 
     def found(self) -> Optional[str]:
         return f"MINIMAL {len(self.starred())}"
@@ -69,7 +70,7 @@ Listable = Union[Pattern, Starred]
 
 
 def difference(given: Sequence[Listable], wanted: Sequence[Listable]) -> Optional[str]:
-    """Why a list of patterns isn't the one that is wanted, or None where it is."""
+    """Why a list of patterns isn't the wanted one, or None if it is."""
     for number, (one, right) in enumerate(zip(given, wanted), 1):
         if one != right:
             return f"pattern {number} is {shown(one)}, and has to be {shown(right)}"

@@ -22,7 +22,7 @@ class LeastWeight(Query):
     arguments = ("rule", "list")
 
     def torus(self) -> Torus:
-        """The torus with what the rule says of it."""
+        """The torus of the query."""
         return Torus(self.script, self.argument(0), self.argument(1))
 
     def volume(self) -> int:
@@ -30,7 +30,7 @@ class LeastWeight(Query):
         return product(self.argument(1))
 
     def most_clauses(self) -> int:
-        """How many clauses any of the lists has at the most."""
+        """How many clauses each of the lists has at most."""
         script = self.script
         cells = self.volume() * len(script.nodes)
         heaviest = cells * max(script.weights)
@@ -40,7 +40,7 @@ class LeastWeight(Query):
     def shapes(self) -> Iterator[Fault]:
         given = self.body.arguments[1]
         if len(given.entries) != self.script.dim:
-            yield shape(given.bracket, f"the periods of a torus are {self.script.dim}, one for each axis")
+            yield shape(given.bracket, f"a torus has {self.script.dim} periods, one for each axis")
 
     def sizes(self) -> Iterator[Fault]:
         given = self.body.arguments[1]
@@ -65,7 +65,7 @@ class LeastWeight(Query):
         return Refutation(self.torus().clauses(below)).fault(steps)
 
     def _configuration_fault(self, answer: Least) -> Optional[str]:
-        """Why the configuration doesn't live, or has another weight; None where all is well."""
+        """Why the configuration doesn't live or has another weight, or None if it is right."""
         script, nodes = self.script, len(self.script.nodes)
         wanted = self.volume() * nodes
         if len(answer.symbols) != wanted:

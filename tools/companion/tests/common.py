@@ -1,4 +1,4 @@
-"""What several tests use."""
+"""What several tests share."""
 import io
 import pathlib
 from typing import Tuple

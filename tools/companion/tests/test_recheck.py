@@ -34,7 +34,7 @@ class Altered(unittest.TestCase):
         self.assertEqual(checked(whole(DIES, "query 1 YES 0", "refutation 1", "step 0 6 4 2 3 0 0"))[0], 0)
         for step, said in (("0 6 4 2 0 0", "the last hint 2 has a literal that is not false"),
                            ("0 1 6 4 2 3 0 0", "step 1: hint 1 has two literals that are not false"),
-                           ("0 6 4 2 9 0 0", "hint 9 is the number of no clause"), ("0 0 0", "there is no hint"),
+                           ("0 6 4 2 9 0 0", "hint 9 is not the number of a clause"), ("0 0 0", "there is no hint"),
                            ("0 6 4 2 3 3 0 0", "hint 3 has no literal"), ("0 6 6 4 2 3 0 0", "hint 6 has a literal that is true already"),
                            ("4 0 6 0 0", "the variable 4 is over"), ("1 -1 0 6 0 0", "stands twice")):
             self.rejected(whole(DIES, "query 1 YES 0", "refutation 1", f"step {step}"), said)
@@ -55,7 +55,7 @@ class Altered(unittest.TestCase):
     def test_strips(self) -> None:
         """Cycles, potentials and fractions that aren't right."""
         self.assertEqual(checked(whole(COVER, *COVER_LINES))[0], 0)
-        for place, line, said in ((0, "query 1 DENSITY 2/4", "lowest terms"), (1, "cycle 1 0", "where no edge leads"),
+        for place, line, said in ((0, "query 1 DENSITY 2/4", "lowest terms"), (1, "cycle 1 0", "but no edge does"),
                                   (1, "cycle 1 1", "has the density 1, not 1/2"), (2, "potentials -1 2", "potential 1 breaks the edge 0 -> 1 by 2")):
             lines = list(COVER_LINES)
             lines[place] = line

@@ -24,7 +24,7 @@ PLACES = {
     "%rule a o=0 %least a [2]": "[2", "%rule a o=0 %least a [0 3]": "[0", "%rule a o=0 %least a [300 300]": "[300 ",
     "%rule a o=1 %least a [40 40]": "least",
 }
-"""Where the scripts of docs/refusals.md are at fault: the last place at which this text stands."""
+"""For each script of docs/refusals.md, the text at whose last occurrence its fault is reported."""
 
 
 class Refusals(unittest.TestCase):
@@ -43,17 +43,17 @@ class Refusals(unittest.TestCase):
             self.assertEqual(found[2], script.rfind(PLACES[script]) + 1 if PLACES[script] else len(script) + 1, line)
 
     def test_header_order(self) -> None:
-        """A command of the header that comes too late is named as such."""
+        """A command of the header that comes too late is reported as such."""
         line, row, column, rule = refusal("%rule a o=0\n%dim 1\n")
         self.assertEqual((line, row, column), ("refused 2 syntax", 2, 2))
         self.assertIn("has to come before %rule", rule)
         self.assertIn("given twice", refusal("%dim 1 %dim 1")[3])
 
     def test_wrong_kind(self) -> None:
-        """A rule's name where a configuration's is wanted is named as such."""
+        """A rule's name in place of a configuration's is reported as such."""
         line, _, column, rule = refusal("%rule a o=0\n%member a a\n")
         self.assertEqual((line, column), ("refused 2 unknown a", 9))
-        self.assertIn("a configuration is wanted here, and a is a rule", rule)
+        self.assertIn("expected a configuration here, but a is a rule", rule)
 
     def test_kinds_in_order(self) -> None:
         """In a command the first kind counts, and within sizes the first limit."""

@@ -1,8 +1,8 @@
 -- How a walk is found to go round.
-use Rattle.std.specs.Prelude.{◌≡◌, ℕ, ◌+◌, ◌-◌, ◌%◌, ◌<◌, ◌⊎◌, if◌then◌else◌, Bool, List, [], ◌∷◌, Option, length, All, IsSomeAnd}
+use Rattle.std.specs.Prelude.{◌≡◌, ℕ, ◌+◌, ◌-◌, ◌%◌, ◌<◌, ◌≤◌, ◌⊎◌, if◌then◌else◌, Bool, List, [], ◌∷◌, Option, Some, length, IsSomeAnd}
 use Rattle.std.specs.Bool.{beq}
-use Rattle.dd_clause.specs.declared.clause.Literal.{Literal}
-use Rattle.dd_engines.specs.declared.cycle.Landmark.{Landmark}
+use Rattle.dd_clause.specs.{declared.clause.Literal.Literal, Clauses.ClauseList}
+use Rattle.dd_engines.specs.{declared.cycle.Landmark.Landmark, Walks.values_after, Walks.first_unsatisfied}
 
 -- in how many places two lists of one length differ
 abbrev pub differences : List Bool → List Bool → ℕ
@@ -10,9 +10,13 @@ differences [] ys = 0
 differences (x ∷ xs) [] = 0
 differences (x ∷ xs) (y ∷ ys) = (if beq x y then 0 else 1) + differences xs ys
 
--- the number is a multiple of the length of each clause that isn't empty
-abbrev pub IsTurn : List (List Literal) → ℕ → Type 0
-IsTurn clauses turn = (0 < turn) × All (λ clause. 0 < length clause → turn % length clause ≡ 0) clauses
+-- the number is a multiple of the length of each clause that a flip takes, of the flips from one number on and before another
+abbrev pub IsTurn : ClauseList → ℕ → ℕ → ℕ → Type 0
+IsTurn cnf from to turn = (0 < turn) × ((i : ℕ) (values : List Bool) (clause : List Literal) → from ≤ i → i < to → values_after cnf i ≡ Some values → first_unsatisfied values cnf.clauses ≡ Some clause → 0 < length clause → turn % length clause ≡ 0)
+
+-- The number is a multiple of a length, and of an earlier turn, unless the flips begin at this one.
+abbrev pub IsTurnWith : ℕ → ℕ → Option ℕ → ℕ → ℕ → Type 0
+IsTurnWith from k turn length next = (0 < next) × (0 < length → next % length ≡ 0) × ((from ≡ k) ⊎ IsSomeAnd turn (λ t. next % t ≡ 0))
 
 -- the landmark knows in how many places the values differ from its own
 pub record IsCounted (landmark : Landmark) (values : List Bool) : Type 0 where

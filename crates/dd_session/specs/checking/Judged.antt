@@ -1,4 +1,4 @@
--- What is written of the answers of a script that are checked in order.
+-- What the check of answers writes, one after the other.
 use Rattle.std.specs.Prelude.{◌≡◌, ℕ, ◌+◌, max, List, [], ◌++◌, length, Bool, true, false}
 use Rattle.std.specs.{declared.option.Option.Option, Io.KnownBytes.Appends}
 use Rattle.dd_outside.specs.Bytes.{GainsFront}
@@ -21,12 +21,12 @@ pub record Judged (old new : Option (List ℕ)) (s : Parts) (answers : List Answ
   pub judged : IsJudged s answers number accepted
   pub appends : Appends old new (verdict_line number accepted)
 
--- A front of that line was written.
+-- A prefix of that line was written.
 pub data JudgedFront (old new : Option (List ℕ)) (s : Parts) (answers : List Answer) (number : ℕ) : Type 0 where
   nothing : GainsFront old new [] → JudgedFront old new s answers number
   part : (accepted : Bool) → IsJudged s answers number accepted → GainsFront old new (verdict_line number accepted) → JudgedFront old new s answers number
 
--- The numbers of the queries and of the answers go to here.
+-- The greatest number of a query or of an answer.
 abbrev pub most_of : Parts → List Answer → ℕ
 most_of s answers = max (length s.queries) (length answers)
 
@@ -46,7 +46,7 @@ pub record AcceptedAll (old new : Option (List ℕ)) (s : Parts) (answers : List
   pub all : AllAccepted s answers
   pub appends : Appends old new (accepted_lines (length answers) ++ checked_line (length answers))
 
--- All are accepted, or there is a first one that is rejected.
+-- By whether all are accepted; else there is a first one that is rejected.
 abbrev pub EachJudged : Option (List ℕ) → Option (List ℕ) → Parts → List Answer → Bool → Type 0
 EachJudged old new s answers true = AcceptedEach old new s answers
 EachJudged old new s answers false = RejectedHere old new s answers
@@ -55,7 +55,7 @@ abbrev pub AllJudged : Option (List ℕ) → Option (List ℕ) → Parts → Lis
 AllJudged old new s answers true = AcceptedAll old new s answers
 AllJudged old new s answers false = RejectedHere old new s answers
 
--- The status of a check to the end, by whether all are accepted and whether some answer is that it is not known.
+-- The status of a check that came to its end, by whether all are accepted and whether some answer is UNKNOWN.
 abbrev pub checked_status : Bool → Bool → Status
 checked_status true has = status_of has
 checked_status false has = Rejected

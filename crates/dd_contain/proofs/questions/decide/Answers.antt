@@ -2,7 +2,8 @@ use Rattle.std.proofs.{Common.◌≡◌, Common.arith, Common.rules, Common.subs
 use Rattle.std.specs.Prelude.{max, IfOk}
 use Rattle.dd_boxes.specs.{Boxes.Suffices, Views.goal_of, lemmas.ReachLaws.least_near}
 use Rattle.dd_contain.specs.{Decided.IsDecidedBy, searching.Listed.AsksWithin}
-use Rattle.dd_contain.specs.Questions.{AsksPeriods, RefutesByNumbers, ShowsAt, Displays, IsDecided, HasNumbers}
+use Rattle.dd_contain.specs.Questions.{AsksPeriods, RefutesByNumbers, ShowsAt, Displays, IsDecided, HasNumbers, IsDecision}
+use Rattle.dd_values.specs.lemmas.Results.{if_ok_both}
 use Rattle.dd_contain.proofs.LimitLaws.{radii_asked, periods_asked, decided, numbered}
 use Rattle.dd_contain.proofs.questions.decide.Goals as goal
 
@@ -37,21 +38,19 @@ pub returns-clause-decided : goal.returns-clause-decided
 returns-clause-decided e c =
     let x = c.args.premise.now in
     let g = goal_of c.args.premise.now c.args.goal.now in
+    let n = c.args.limits.now.radius in
     let least = c.in_ok-least.least in
     let most = c.max-most.result in
     let p = c.args.limits.now.period in
     let top : c.max-most.result ≡ max c.args.limits.now.radius c.in_ok-least.least = search rules in
-    IfOk-weaker c.search.result (IsDecidedBy (Suffices x g) (RefutesByNumbers x g) (ShowsAt x g) (Displays x g) least most x.dimension p) (IsDecided x g c.args.limits.now.radius p)
-    (decided x g c.args.limits.now.radius p least c.symbols-symbols.ensures.kept c.requires.goal (c.in_ok-least.ensures c.args.premise.now c.symbols-symbols.ensures.kept c.requires.goal) c.requires.small most top)
-    (subst (λ d. IfOk c.search.result (IsDecidedBy (Suffices x g) (RefutesByNumbers x g) (ShowsAt x g) (Displays x g) least most d p)) c.dim.ensures c.search.ensures.decided)
+    let is : IfOk c.search.result (IsDecided x g n p) =
+    IfOk-weaker c.search.result (IsDecidedBy (Suffices x g) (RefutesByNumbers x g) (ShowsAt x g) (Displays x g) least most x.dimension p) (IsDecided x g n p)
+    (decided x g n p least c.symbols-symbols.ensures.kept c.requires.goal (c.in_ok-least.ensures c.args.premise.now c.symbols-symbols.ensures.kept c.requires.goal) c.requires.small most top)
+    (subst (λ d. IfOk c.search.result (IsDecidedBy (Suffices x g) (RefutesByNumbers x g) (ShowsAt x g) (Displays x g) least most d p)) c.dim.ensures c.search.ensures.decided) in
+    let numbers : IfOk c.search.result (HasNumbers x g) =
+    IfOk-weaker c.search.result (IsDecidedBy (Suffices x g) (RefutesByNumbers x g) (ShowsAt x g) (Displays x g) least most c.dim.result p) (HasNumbers x g)
+    (numbered x g least most c.dim.result p) c.search.ensures.decided in
+    if_ok_both c.search.result (IsDecided x g n p) (HasNumbers x g) (IsDecision x g n p) (λ d one two. record { decided = one; numbered = two }) is numbers
 
-pub returns-clause-numbered : goal.returns-clause-numbered
-returns-clause-numbered e c =
-    let x = c.args.premise.now in
-    let g = goal_of c.args.premise.now c.args.goal.now in
-    let least = c.in_ok-least.least in
-    let most = c.max-most.result in
-    let d = c.dim.result in
-    let p = c.args.limits.now.period in
-    IfOk-weaker c.search.result (IsDecidedBy (Suffices x g) (RefutesByNumbers x g) (ShowsAt x g) (Displays x g) least most d p) (HasNumbers x g)
-    (numbered x g least most d p) c.search.ensures.decided
+pub returns-in_err-least-clause-engines : goal.returns-in_err-least-clause-engines
+returns-in_err-least-clause-engines e c = record { kept = c.kept_is_reflexive.ensures _; first = search rules }

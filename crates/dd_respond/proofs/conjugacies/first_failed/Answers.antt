@@ -23,7 +23,11 @@ loop-number-preserved g c =
           (subst (ComesTo l parts c.loop-number.number) w.in-Unknown.is told.comes) refl refl refl)
     ]
     in
-    record { found = found; kept = search rules; first = search rules }
+    record {
+      found = found;
+      kept = c.kept_is_transitive.ensures _ _ _ c.loop-number.invariant.kept c.part_decided.ensures.engines.kept;
+      first = λ _. c.first_asked_earlier.ensures _ _ _ c.loop-number.invariant.kept c.in_ok-radius.ensures.engines.first;
+    }
 
 pub returns-clause-failed : goal.returns-clause-failed
 returns-clause-failed g c =

@@ -26,5 +26,5 @@ loop-done-preserved g c =
       within = omega (arith, c.loop-done-test.true);
       accepted = accepted_next _ _ _ _ c.loop-done.done (c.loop-done.done + 1) (omega arith) c.loop-done.invariant.accepted one;
       wrote = lines_next _ _ _ _ _ c.loop-done.done (c.loop-done.done + 1) (omega arith) c.loop-done.invariant.wrote one;
-      later = omega (arith, c.loop-done.invariant.later, c.check_one.ensures.later);
+      later = omega (arith, c.loop-done.invariant.later, c.check_one.ensures.faults.later);
     }

@@ -17,10 +17,10 @@ pub loop-done-preserved : goal.loop-done-preserved
 loop-done-preserved g c = record {
   wrote = answered_next (text_in c.args.form) _ _ _ _ c.queries-queries.result.now _ c.loop-done.done (c.loop-done.done + 1) _ _
       (omega arith) c.index-queries-done.is (omega arith) c.loop-done.invariant.wrote c.in_ok-has_unknown.ensures.wrote;
-  later = omega (arith, c.loop-done.invariant.later, c.answer_one.ensures.later);
-  kept = c.kept_is_transitive.ensures _ _ _ c.loop-done.invariant.kept c.answer_one.ensures.kept;
+  later = omega (arith, c.loop-done.invariant.later, c.answer_one.ensures.faults.later);
+  kept = c.kept_is_transitive.ensures _ _ _ c.loop-done.invariant.kept c.answer_one.ensures.engines.kept;
   asked = engaged_next c.first_asked_earlier.ensures c.args.script.now c.queries-queries.result.now _ c.loop-done.done _ _ _
-      (omega arith) c.index-queries-done.is c.loop-done.invariant.kept c.loop-done.invariant.asked c.in_ok-has_unknown.ensures.asked;
+      (omega arith) c.index-queries-done.is c.loop-done.invariant.kept c.loop-done.invariant.asked c.in_ok-has_unknown.ensures.engines.asked;
 }
 
 pub returns-in_err-has_unknown-clause-cut : goal.returns-in_err-has_unknown-clause-cut
