@@ -68,6 +68,14 @@ fn style_of(at: &Periods) -> Style {
     }
 }
 
+/// The style of search for a box. Whether automata agree is a question of their gates more than of the cells.
+fn box_style(goal: &Goal) -> Style {
+    match goal {
+        Goal::Differ(_, _) => Style::Focused,
+        _ => Style::Broad,
+    }
+}
+
 /// The question whether a configuration that obeys the premise can have the goal.
 #[derive(Clone, Copy)]
 struct BoxQuestion<'a> {
