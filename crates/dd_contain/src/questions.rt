@@ -68,6 +68,14 @@ fn style_of(at: &Periods) -> Style {
     }
 }
 
+/// The style of search for a box. Whether automata agree is a question of their gates more than of the cells.
+fn box_style(goal: &Goal) -> Style {
+    match goal {
+        Goal::Differ(_, _) => Style::Focused,
+        _ => Style::Broad,
+    }
+}
+
 /// The question whether a configuration that obeys the premise can have the goal.
 #[derive(Clone, Copy)]
 struct BoxQuestion<'a> {
@@ -97,7 +105,7 @@ impl<'a> Questions for BoxQuestion<'a> {
         // A law: a roster that is not asked stays as it is.
         kept_is_reflexive();
         let cnf = box_clauses(self.alloc, self.premise, self.goal, radius)?;
-        match outcome(self.alloc, &cnf, Style::Broad, roster)? {
+        match outcome(self.alloc, &cnf, box_style(self.goal), roster)? {
             Outcome::Refuted(steps) => Ok(Some(evidence(self.alloc, &cnf, steps)?)),
             Outcome::Found(_) => Ok(None),
         }

@@ -15,7 +15,7 @@ use dd_derivation::{Outcome, Step, last_number};
 use dd_formula::Rule;
 use dd_pattern::Periodic;
 use dd_problem::read_torus;
-use dd_solver::{solve, trimmed};
+use dd_solver::{Style, solve_with, trimmed};
 use dd_values::Items;
 use std::alloc::{AllocError, Global};
 
@@ -55,7 +55,7 @@ fn search_below(
     ensures { IfOk result (IsLighter rule.now (periods_of periods 0) weights.now below) }
 {
     let cnf = weight_clauses(alloc, rule, periods, weights, below)?;
-    match solve(alloc, &cnf)? {
+    match solve_with(alloc, &cnf, Style::Focused)? {
         Outcome::Found(found) => {
             let periodic = read_torus(alloc, rule, periods, 0, &found)?;
             // This read brings in what the type guarantees.
