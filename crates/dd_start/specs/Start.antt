@@ -1,7 +1,7 @@
 -- What holds before a script defines anything.
 use Rattle.std.specs.Prelude.{ℕ, List, [], ◌∷◌, length, false, codes}
 use Rattle.dd_topology.specs.{Builtin.square, Sets.SymbolSets, Sets.all_symbols}
-use Rattle.dd_known.specs.Tree.{Known}
+use Rattle.dd_known.specs.declared.known.Known.{Known}
 
 -- the square grid with the node 0, and the symbols 0 and 1, whose weights are 0 and 1
 abbrev pub known_start : Known

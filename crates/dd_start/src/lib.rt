@@ -1,6 +1,6 @@
 //! What holds before a script defines anything, and again for the symbols that nodes allow when it names others.
 #![tactic(auto)]
 
-mod start;
+mod defaults;
 
-pub use start::{allow_all, numbers_below, start};
+pub use defaults::{allow_all, numbers_below, start};
