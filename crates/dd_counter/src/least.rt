@@ -1,5 +1,5 @@
 //! The least weight of a configuration on a torus. Each configuration that is found is followed by a search for a lighter one, until
-//! the search is refuted. The first searches ask for much less each time, so that few are needed.
+//! the search is refuted. A search for a much lighter one comes first where the weight is high, so that few searches are needed.
 ghost use Rattle.std.specs.Prelude.{◌≡◌, ◌≤◌, ◌*◌, length, All, IfOk};
 ghost use Rattle.dd_values.specs.Bounds.{most_variables, most_weight};
 ghost use Rattle.dd_pattern.specs.Periods.{periods_of, periods_volume};
@@ -15,7 +15,7 @@ use dd_derivation::{Outcome, Step, last_number};
 use dd_formula::Rule;
 use dd_pattern::Periodic;
 use dd_problem::read_torus;
-use dd_solver::{Style, solve_with, trimmed};
+use dd_solver::{solve, trimmed};
 use dd_values::Items;
 use std::alloc::{AllocError, Global};
 
@@ -55,7 +55,7 @@ fn search_below(
     ensures { IfOk result (IsLighter rule.now (periods_of periods 0) weights.now below) }
 {
     let cnf = weight_clauses(alloc, rule, periods, weights, below)?;
-    match solve_with(alloc, &cnf, Style::Focused)? {
+    match solve(alloc, &cnf)? {
         Outcome::Found(found) => {
             let periodic = read_torus(alloc, rule, periods, 0, &found)?;
             // This read brings in what the type guarantees.
@@ -72,8 +72,11 @@ fn search_below(
     }
 }
 
-/// A configuration of the periods that lives, no heavier than `start`. Each search asks for twice as much less than the one before,
-/// until one is refuted.
+/// A weight that is higher than a refuted one by no more than this is lowered by steps of one.
+const NEAR: u64 = 32;
+
+/// A configuration of the periods that lives, no heavier than `start`. Its weight is at most `NEAR`, or a search for one that is lighter
+/// by more than `NEAR` was refuted. Each search asks for twice as much less than the one before, and after a refutation for `NEAR` less.
 fn descended(
     alloc: Global,
     rule: &Rule,
@@ -91,16 +94,20 @@ fn descended(
 {
     let mut best = start;
     let mut weight = best.weight(weights);
-    let mut step: u64 = 1;
-    while weight != 0 {
-        let below = weight.saturating_sub(step).max(1);
+    let mut refuted: u64 = 0;
+    let mut step = NEAR;
+    while weight.saturating_sub(refuted) > NEAR {
+        let below = weight.saturating_sub(step).max(refuted + 1);
         match search_below(alloc, rule, periods, weights, below)? {
             Lighter::Found(periodic) => {
                 weight = periodic.weight(weights);
                 best = periodic;
                 step = step.saturating_mul(2);
             }
-            Lighter::Nothing(_) => return Ok(best),
+            Lighter::Nothing(_) => {
+                refuted = below;
+                step = NEAR;
+            }
         }
     }
     Ok(best)
