@@ -1,5 +1,5 @@
 //! Rules: formulas over a topology and an alphabet, their truth, and the configurations that live in their subshifts.
-#![tactic(auto)]
+#![tactic(auto, using(std::proofs::lemmas::Grind::common_steps))]
 
 mod automaton;
 mod by_cases;

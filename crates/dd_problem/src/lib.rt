@@ -1,5 +1,5 @@
 //! Box questions as clauses.
-#![tactic(auto)]
+#![tactic(auto, using(std::proofs::lemmas::Grind::common_steps))]
 
 mod boxes;
 mod differing;

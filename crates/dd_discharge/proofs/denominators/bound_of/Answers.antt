@@ -1,5 +1,5 @@
 use Rattle.std.proofs.Common.{◌≡◌, ◌≤◌, ◌<◌, ◌^◌, ◌++◌, ap, subst, sym, ◌∙◌, arith, rules, ℕ, List, ℤ, pos, map, drop, Some}
-use Rattle.std.proofs.lemmas.{Grind.common_steps, Int.to_z-of_z, Result.err_from_is_err_and}
+use Rattle.std.proofs.lemmas.{Int.to_z-of_z, Result.err_from_is_err_and}
 use Rattle.std.specs.{Int.w128, Int.RustNames.unsigned_abs, List.All, List.Any}
 use mir.Val.{SFits}
 use Rattle.dd_values.specs.Bounds.{most_number}
@@ -88,6 +88,3 @@ returns-clause-small c =
     (c.in_ok-amounts.ensures.value ∙ ap (map (numerator_over n)) (tail_is xs))
     (subst (All (λ a. numerator_over n a ≤ most_number)) (tail_is xs) c.in_ok-amounts.ensures.printed)
     c.in_ok-duals.ensures.value c.in_ok-duals.ensures.printed c.requires.some_dual
-
-pub returns-in_default-numerator_over-clause-err : goal.returns-in_default-numerator_over-clause-err
-returns-in_default-numerator_over-clause-err c = grind (arith, common_steps)

@@ -4,9 +4,6 @@ use Rattle.dd_expansion.proofs.expanded.+copy.Goals as goal
 pub Expanded::copy-returns-in_ok-copy_boxed-in-Iff-2 : goal.Expanded::copy-returns-in_ok-copy_boxed-in-Iff-2
 Expanded::copy-returns-in_ok-copy_boxed-in-Iff-2 t c = grind (arith, common_steps)
 
-pub copy_all-loop-part-preserved : goal.copy_all-loop-part-preserved
-copy_all-loop-part-preserved t c = grind (arith, common_steps)
-
 pub Expanded::copy-returns-in_ok-copy_all-in-And : goal.Expanded::copy-returns-in_ok-copy_all-in-And
 Expanded::copy-returns-in_ok-copy_all-in-And t c = grind (arith, common_steps)
 

@@ -28,9 +28,6 @@ Formula::copy-returns-in_ok-left-in-Iff t c = grind (arith, common_steps)
 pub Formula::copy-returns-in_ok-balls-in-ForAll : goal.Formula::copy-returns-in_ok-balls-in-ForAll
 Formula::copy-returns-in_ok-balls-in-ForAll t c = grind (arith, common_steps)
 
-pub copy_quantified-returns : goal.copy_quantified-returns
-copy_quantified-returns t c = grind (arith, common_steps)
-
 pub Formula::copy-returns-in_ok-copy_boxed-in-Not : goal.Formula::copy-returns-in_ok-copy_boxed-in-Not
 Formula::copy-returns-in_ok-copy_boxed-in-Not t c = grind (arith, common_steps)
 
@@ -39,9 +36,6 @@ Formula::copy-returns-in_ok-copy_all-in-Or t c = grind (arith, common_steps)
 
 pub Formula::copy-returns-in_ok-left-in-Implies : goal.Formula::copy-returns-in_ok-left-in-Implies
 Formula::copy-returns-in_ok-left-in-Implies t c = grind (arith, common_steps)
-
-pub copy_all-loop-part-preserved : goal.copy_all-loop-part-preserved
-copy_all-loop-part-preserved t c = grind (arith, common_steps)
 
 pub Formula::copy-returns-in_ok-copy-in-NotSymbol : goal.Formula::copy-returns-in_ok-copy-in-NotSymbol
 Formula::copy-returns-in_ok-copy-in-NotSymbol t c = grind (arith, common_steps)

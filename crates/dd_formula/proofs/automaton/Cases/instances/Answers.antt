@@ -1,5 +1,5 @@
 use Rattle.std.proofs.Common.{◌≡◌, ◌<◌, ◌≤◌, ◌+◌, List, ℕ, length, take, get_or, ap, sym, ◌∙◌, subst, arith}
-use Rattle.std.proofs.lemmas.{Grind.common_steps, List.take_all}
+use Rattle.std.proofs.lemmas.List.take_all
 use Rattle.std.specs.List.{list_all}
 use Rattle.dd_expansion.specs.Leaves.{instances}
 use Rattle.dd_formula.specs.LocalRule.{LocalRule, expansion_at, reads_at, is_near}
@@ -56,9 +56,3 @@ returns-clause-near c =
     let cases : List (LocalRule × ℕ) = c.args.self.now.cases in
     let past : length cases ≤ c.loop-rule.rule-index = subst (λ xs. length xs ≤ c.loop-rule.rule-index) c.as_slice-rule-items.ensures c.loop-rule-test.false in
     ap (λ xs. list_all is_near (cases_reads xs c.args.node)) (sym (take_all c.loop-rule.rule-index cases past)) ∙ c.loop-rule.invariant.near
-
-pub returns-clause-count : goal.returns-clause-count
-returns-clause-count c = grind (arith, common_steps)
-
-pub expansion-requires : goal.expansion-requires
-expansion-requires c = grind (arith, common_steps)

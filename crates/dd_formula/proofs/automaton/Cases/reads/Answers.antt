@@ -1,5 +1,5 @@
-use Rattle.std.proofs.Common.{◌≡◌, ◌<◌, ◌≤◌, List, ◌++◌, ℕ, length, get_or, ap, sym, ◌∙◌, subst, arith}
-use Rattle.std.proofs.lemmas.{Grind.common_steps, Result.IfOk-weaker, List.take_all}
+use Rattle.std.proofs.Common.{◌≡◌, ◌<◌, ◌≤◌, List, ◌++◌, ℕ, length, get_or, ap, sym, ◌∙◌, subst}
+use Rattle.std.proofs.lemmas.{Result.IfOk-weaker, List.take_all}
 use Rattle.std.specs.List.{list_all, flat_map}
 use Rattle.dd_lattice.specs.{InOrder.in_order, lemmas.InOrderLaws.list_all-in_order}
 use Rattle.dd_formula.specs.{LocalRule.LocalRule, LocalRule.cells_at, Automata.is_cell_of, lemmas.Cuts.flat_more}
@@ -42,6 +42,3 @@ returns-clause-placed c =
     ap (list_all (is_cell_of s)) is
     ∙ (list_all-in_order (is_cell_of s) c.deref.result.now
     ∙ (ap (list_all (is_cell_of s)) c.deref.ensures.value ∙ c.loop-rule.invariant.placed s fit node))) c.in_order.ensures.list
-
-pub reads-requires : goal.reads-requires
-reads-requires c = grind (arith, common_steps)

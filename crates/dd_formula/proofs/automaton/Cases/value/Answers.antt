@@ -1,5 +1,5 @@
 use Rattle.std.proofs.Common.{◌≡◌, ◌<◌, ℕ, List, length, get_or, true, false, sym, ◌∙◌, ap, subst, arith}
-use Rattle.std.proofs.lemmas.{Grind.common_steps, Option.none-some, Option.same_Some}
+use Rattle.std.proofs.lemmas.Option.{none-some, same_Some}
 use Rattle.dd_formula.specs.{LocalRule.LocalRule, LocalRule.is_true, lemmas.AutomatonLaws.case_has, lemmas.AutomatonLaws.rule_nodes}
 use Rattle.dd_formula.specs.lemmas.ValueLaws.{case_step, case_given, rule_symbols, told}
 use Rattle.dd_pattern.specs.Reading.{HasSymbolsBelow}
@@ -60,6 +60,3 @@ unreachable-requires g c =
     let below : i < length cases = subst (λ xs. i < length xs) same c.loop-rule-test.true in
     let answer = told case.0 at look c.truth.result (case_given cases look at.position at.node i case c.requires.given below is) c.truth.ensures.value in
     absurd (none-some (is_true case.0 at look) (sym c.in-None.is ∙ answer))
-
-pub returns : goal.returns
-returns g c = grind (arith, common_steps)
