@@ -1,5 +1,5 @@
 use Rattle.std.proofs.Common.{◌≡◌, ◌≤◌, length, ◌++◌, ◌∷◌, [], List, get_or, false, ap, ◌∙◌, arith}
-use Rattle.std.proofs.lemmas.List.get_or_default
+use Rattle.std.proofs.lemmas.List.{get_or_default}
 use Rattle.dd_circuit.specs.{declared.gates.Signal.Signal, Circuits.opposite}
 use Rattle.dd_compile.specs.lemmas.CaseGates.{choosing_end, choosing_few, choosing_step}
 use Rattle.dd_compile.specs.lemmas.Progress.{one_more}

@@ -1,4 +1,4 @@
-use Rattle.std.proofs.Common.rules
+use Rattle.std.proofs.Common.{rules}
 use Rattle.dd_contain.specs.declared.decision.Decision.{Decision}
 use Rattle.dd_contain.specs.declared.decision.Decision.TheVariants.{Yes, No, Unknown}
 use Rattle.dd_contain.specs.{Questions.HasNumbers, Questions.IsDecision, Equal.UnlessNo, Equal.joined, Equal.HasBothNumbers}

@@ -1,5 +1,5 @@
 use Rattle.std.proofs.Common.{◌≡◌, ◌<◌, ◌≤◌, ◌+◌, List, ℕ, map, length, take, get_or, ap, ◌∙◌, subst, arith}
-use Rattle.std.proofs.lemmas.List.take_all
+use Rattle.std.proofs.lemmas.List.{take_all}
 use Rattle.std.specs.List.{range_with_len}
 use Rattle.dd_expansion.specs.Leaves.{clause_count, total}
 use Rattle.dd_formula.specs.{LocalRule.LocalRule, LocalRule.expansion_at, Counts.cut, lemmas.Cuts.total_more, ValueCounts.case_clauses}

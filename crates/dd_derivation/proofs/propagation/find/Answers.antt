@@ -1,5 +1,5 @@
 use Rattle.std.proofs.Common.{◌≡◌, ℕ, ◌≤◌, List, true, false, length, get_or, take, arith, Bool, Some, Option, subst, not, sym, refl, ◌∙◌}
-use Rattle.std.proofs.lemmas.Bool.not-true
+use Rattle.std.proofs.lemmas.Bool.{not-true}
 use Rattle.std.specs.List.{filter}
 use Rattle.dd_clause.specs.{declared.clause.Literal.Literal, Clauses.negation}
 use Rattle.dd_derivation.specs.Derivations.{same_literal}

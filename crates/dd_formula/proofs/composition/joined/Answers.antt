@@ -1,4 +1,4 @@
-use Rattle.std.proofs.Common.refl
+use Rattle.std.proofs.Common.{refl}
 use Rattle.dd_formula.proofs.composition.joined.Goals as goal
 
 pub returns-in-Ok-new-clause-ok : goal.returns-in-Ok-new-clause-ok

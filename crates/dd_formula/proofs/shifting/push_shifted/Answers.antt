@@ -1,5 +1,5 @@
 use Rattle.std.proofs.Common.{◌++◌, ◌∷◌, [], List, map, take, ap, sym, ◌∙◌}
-use Rattle.std.proofs.lemmas.List.append_assoc
+use Rattle.std.proofs.lemmas.List.{append_assoc}
 use Rattle.dd_lattice.specs.{Cells.shifted, declared.position.Cell.Cell}
 use Rattle.dd_formula.specs.{LocalRule.is_near, lemmas.AutomatonLaws.passes_at}
 use Rattle.dd_formula.proofs.SeenLaws.{values_more}

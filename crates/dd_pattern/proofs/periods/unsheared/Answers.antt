@@ -1,5 +1,5 @@
 use Rattle.std.proofs.Common.{◌≡◌, ◌≤◌, ◌*◌, pos, unsigned_abs, ◌-ℤ◌, ℕ, ℤ, w32, w64, to_z, of_z, arith}
-use Rattle.std.proofs.Math.Nat.mul-le-mul
+use Rattle.std.proofs.Math.Nat.{mul-le-mul}
 use Rattle.std.proofs.lemmas.Int.{ints, to_z-of_z, unsigned_abs-mul, fits_signed_from_abs}
 use Rattle.std.specs.Prelude.{◌*ℤ◌}
 use Rattle.dd_lattice.specs.Place.{IsCoordinateInRange}

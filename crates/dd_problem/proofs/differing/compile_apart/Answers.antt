@@ -1,5 +1,5 @@
 use Rattle.std.proofs.Common.{◌<◌, List, [], ◌∷◌, length, get_or, false, ap, arith}
-use Rattle.std.proofs.lemmas.List.get_or_default
+use Rattle.std.proofs.lemmas.List.{get_or_default}
 use Rattle.dd_circuit.specs.declared.gates.Signal.{Signal}
 use Rattle.dd_problem.proofs.Parting.{parting_in, parting_step, parting_end}
 use Rattle.dd_problem.proofs.differing.compile_apart.Goals as goal

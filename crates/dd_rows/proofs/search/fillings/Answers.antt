@@ -1,5 +1,5 @@
 use Rattle.std.proofs.Common.{◌≡◌, ◌<◌, ◌+◌, ℕ, List, length, sym, ◌∙◌, ap, subst, take, map, get_or, arith}
-use Rattle.std.proofs.lemmas.List.get_or_default
+use Rattle.std.proofs.lemmas.List.{get_or_default}
 use Rattle.std.proofs.lemmas.List.FromFn.{get_or-map-range_with_len, length-map-range_with_len}
 use Rattle.std.proofs.lemmas.{Result.err_from_is_err_and, List.Elements.All-filter, List.Elements.All-take}
 use Rattle.std.specs.{Bool.nat_eq, List.range_with_len, List.flat_map}

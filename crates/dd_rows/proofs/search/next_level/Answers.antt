@@ -1,5 +1,5 @@
 use Rattle.std.proofs.Common.{◌<◌, ◌++◌, length, sym, ◌∙◌, ap, get_or}
-use Rattle.std.proofs.lemmas.Result.err_from_is_err_and
+use Rattle.std.proofs.lemmas.Result.{err_from_is_err_and}
 use Rattle.std.specs.List.{flat_map}
 use Rattle.dd_rows.specs.{Fillings.most_fillings, listing.Levels.extended, listing.Formulas.are_all_true}
 use Rattle.dd_rows.proofs.Steps.{on_large_weaker, flat_map_large}

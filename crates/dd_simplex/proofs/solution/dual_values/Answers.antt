@@ -1,5 +1,5 @@
 use Rattle.std.proofs.Common.{◌≡◌, ℕ, ◌+◌, ◌<◌, List, length, get_or, sym, ap, subst, ◌∙◌, arith}
-use Rattle.std.proofs.lemmas.List.get_or_default
+use Rattle.std.proofs.lemmas.List.{get_or_default}
 use Rattle.dd_fraction.specs.Exact.{Exact, minus}
 use Rattle.dd_simplex.specs.{Programs.zero_of, table.Lines.Table, table.Lines.other_at, table.Values.GiveDuals}
 use Rattle.dd_simplex.proofs.Valuing.{duals_set, duals_skip}

@@ -1,4 +1,4 @@
-use Rattle.std.proofs.Common.ap
+use Rattle.std.proofs.Common.{ap}
 use Rattle.dd_lattice.specs.lemmas.BoxLaws.{index_below}
 use Rattle.dd_lattice.proofs.bounds.Box3.number.Goals as goal
 

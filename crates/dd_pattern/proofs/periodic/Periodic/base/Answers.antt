@@ -1,4 +1,4 @@
-use Rattle.std.proofs.Common.rules
+use Rattle.std.proofs.Common.{rules}
 use Rattle.dd_pattern.specs.lemmas.TileSizes.{sizes_of}
 use Rattle.dd_pattern.proofs.periodic.Periodic.base.Goals as goal
 

@@ -1,5 +1,5 @@
 use Rattle.std.proofs.Common.{◌≡◌, ◌<◌, ◌+◌, ◌*◌, length, false, [], ap, sym, ◌∙◌, arith}
-use Rattle.std.proofs.lemmas.List.get_or_default
+use Rattle.std.proofs.lemmas.List.{get_or_default}
 use Rattle.dd_topology.specs.Sets.{allows}
 use Rattle.dd_topology.proofs.SetLaws.{item_at, item_below, length-in_rows}
 use Rattle.dd_topology.proofs.sets.Sets.allows.Goals as goal
