@@ -17,7 +17,7 @@ use Rattle.dd_rows.specs.Patterns.{origin, pattern_at, givers, pattern_number}
 use Rattle.dd_rows.specs.Programs.{one_at, coefficients, origin_weight, row_of, greatest_weight_row, is_same_row, add_row, first_seen, rows, column_count, IsProgramOf}
 use Rattle.dd_boxes.specs.{Discharges.AreWeightsFor, Cells.box_cells}
 use Rattle.dd_discharge.specs.{Amounts.row_in, listing.Tables.AreRowsOf}
-use Rattle.dd_values.specs.lemmas.Lists.{all_map, all_flat_map}
+use Rattle.dd_values.specs.lemmas.Lists.{all_map, all_flat_map, slice_index_within}
 
 record IsRowOf (columns : ℕ) (r : Row) : Type 0 where
   size : length r.coefficients ≡ columns
@@ -68,14 +68,9 @@ coefficient_size : (ps : List (List ℕ)) (out : List ℕ) (ins : List (List ℕ
 coefficient_size ps out ins n e = let size = blocks_size ps out ins in let same = ap (λ (m : ℕ). m * length ps) e in omega (arith, size, same)
 
 -- ---- weights
-weight_small : (ws : List ℕ) (s : ℕ) → All (λ w. w ≤ 1000) ws → slice_index ws s ≤ 1000
-weight_small [] s h = omega arith
-weight_small (w ∷ ws) zero h = h 0 0 (omega arith)
-weight_small (w ∷ ws) (suc s) h = weight_small ws s (λ k d p. h (suc k) d (omega (arith, p)))
-
 total_small : (ws ss : List ℕ) → All (λ w. w ≤ 1000) ws → total_weight ws ss ≤ length ss * 1000
 total_small ws [] h = omega arith
-total_small ws (s ∷ ss) h = let rest = total_small ws ss h in let first = weight_small ws s h in let parts = sum_by-cons (slice_index ws) s ss in omega (arith, rest, first, parts)
+total_small ws (s ∷ ss) h = let rest = total_small ws ss h in let first = slice_index_within 1000 ws s h in let parts = sum_by-cons (slice_index ws) s ss in omega (arith, rest, first, parts)
 
 greatest_small : (ws : List ℕ) → All (λ w. w ≤ 1000) ws → greatest ws ≤ 1000
 greatest_small [] h = omega arith

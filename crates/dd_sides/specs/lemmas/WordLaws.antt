@@ -1,5 +1,5 @@
 -- Lists of symbols for cells: which symbol each cell has, and that the words include every list that the nodes allow.
-use Rattle.std.proofs.Common.{◌≡◌, ◌<◌, ◌+◌, ◌≤◌, ℕ, zero, suc, true, false, List, [], ◌∷◌, map, refl, sym, ap, subst, ◌∙◌, inl, inr, Some, arith}
+use Rattle.std.proofs.Common.{◌≡◌, ◌<◌, ◌+◌, ◌≤◌, ℕ, zero, suc, true, false, List, [], ◌∷◌, map, sym, ap, subst, ◌∙◌, inl, inr, Some, arith}
 use Rattle.std.proofs.lemmas.Bool.{cases_Bool, cases_lt, false≢true}
 use Rattle.std.specs.{Prelude.is_some, Prelude.slice_get, List.Contains, List.range_with_len, Ordering.is_eq}
 use Rattle.dd_lattice.specs.{Order.cell_cmp, declared.position.Cell.Cell, lemmas.InOrderLaws.cells_equal}
@@ -46,9 +46,3 @@ words_have x f (c ∷ cs) ok =
     let choice : Contains (allowed_symbols x c.node) (f c) = in_filter (rule_allows x c.node) (range_with_len 0 x.symbols) (f c) (range_has x.symbols (f c) here.1) here.0 in
     let rest = words_have x f cs (λ d h. ok d (Contains-later c cs d h)) in
     into_flat_map (λ s. map (λ ss. s ∷ ss) (words x cs)) (allowed_symbols x c.node) (f c) (f c ∷ map f cs) choice (Contains-map (λ ss. f c ∷ ss) (words x cs) (map f cs) rest)
-
--- two functions that agree on a list map it to the same list
-pub mapped_alike : {X Y : Type 0} (f g : X → Y) (xs : List X) → ((x : X) → Contains xs x → f x ≡ g x) → map f xs ≡ map g xs
-mapped_alike f g [] same = refl
-mapped_alike {X} {Y} f g (x ∷ xs) same =
-    ap (λ (y : Y). y ∷ map f xs) (same x (Contains-first x xs)) ∙ ap (λ (ys : List Y). g x ∷ ys) (mapped_alike f g xs (λ y h. same y (Contains-later x xs y h)))
