@@ -1,5 +1,5 @@
 -- At the end the columns and the duals are feasible and have the same value, so no columns give more.
-use Rattle.std.proofs.Common.{◌≡◌, ◌≢◌, ℕ, zero, suc, ◌+◌, ◌-◌, ◌<◌, ◌≤◌, List, length, Bool, true, false, cond, None, refl, sym, ap, subst, ◌∙◌, arith}
+use Rattle.std.proofs.Common.{◌≡◌, ◌≢◌, ℕ, zero, suc, ◌+◌, ◌-◌, ◌<◌, List, length, Bool, true, false, cond, None, refl, sym, ap, subst, ◌∙◌, arith}
 use Rattle.std.specs.Bool.{nat_lt}
 use Rattle.dd_fraction.specs.{Exact.Exact, Exact.plus, Exact.times, Exact.minus, Exact.low, Order.IsNonneg, Order.IsAtMost}
 use Rattle.dd_fraction.specs.lemmas.Laws.{plus_comm, zero_plus, plus_zero, zero_times, times_zero, times_one, one_times, plus_minus, plus_undo, plus_cancel, plus_low_left, low_plus, low_times, minus_minus, minus_plus, minus_times, minus_times_right}

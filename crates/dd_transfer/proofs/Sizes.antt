@@ -1,18 +1,18 @@
 -- The numbers of states, slices and windows, and what a graph keeps.
-use Rattle.std.proofs.Common.{◌≡◌, ℕ, zero, suc, ◌+◌, ◌-◌, ◌*◌, ◌/◌, ◌%◌, ◌^◌, ◌<◌, ◌≤◌, Bool, true, false, List, [], ◌∷◌, length, get_or, Option, Some, None, max, refl, ap, sym, ◌∙◌, subst, arith, inl, inr}
-use Rattle.std.proofs.lemmas.Bool.{cases_lt, lt-ltb, ltb-true, cases_Bool, and_parts}
+use Rattle.std.proofs.Common.{◌≡◌, ℕ, zero, suc, ◌+◌, ◌*◌, ◌/◌, ◌%◌, ◌^◌, ◌<◌, ◌≤◌, Bool, true, false, List, [], ◌∷◌, length, get_or, Option, Some, None, refl, ap, sym, ◌∙◌, subst, arith, inl, inr}
+use Rattle.std.proofs.lemmas.Bool.{cases_lt, lt-ltb, ltb-true, and_parts}
 use Rattle.std.proofs.lemmas.{Nat.mul-add-lt, List.Sums.sum_by-cons}
 use Rattle.std.proofs.Math.Nat.{pow-suc, mul-div_cancel_left, mul-mod_left, pow-le-pow_left, pow-le-pow_right, mul-le-mul_left, mul-le-mul_right}
-use Rattle.std.specs.Prelude.{◌⊎◌, ◌↔◌, cond, nat_lt, ◌&&◌, slice_index, slice_index_or, sum_by}
+use Rattle.std.specs.Prelude.{cond, nat_lt, ◌&&◌, slice_index, slice_index_or}
 use Rattle.std.specs.List.{All}
-use Rattle.dd_pattern.specs.Weight.{AreWeights, total_weight}
+use Rattle.dd_pattern.specs.Weight.{total_weight}
 use Rattle.dd_formula.specs.LocalRule.{LocalRule, IsRule}
 use Rattle.dd_counts.specs.Rules.{slices, states, longer_states, window}
 use Rattle.dd_strip.specs.{declared.strip.Strip.Strip, Strips.IsSized, Strips.IsFor, Strips.cells, Strips.positions, Strips.HasWeights}
-use Rattle.dd_transfer.specs.Graphs.{Transfer, IsTransfer, transfer, target, next_of, window_of, weight_at}
+use Rattle.dd_transfer.specs.Graphs.{transfer, target, next_of, window_of}
 use Rattle.dd_transfer.specs.Windows.{AreWindows, IsWindow, digits}
 use Rattle.dd_transfer.specs.Transfers.{IsGraphOf, IsEdge, slice_weight}
-use Rattle.dd_transfer.proofs.Digits.{digits_length, digits_below}
+use Rattle.dd_transfer.proofs.Digits.{digits_length}
 use Rattle.dd_values.specs.lemmas.{Lists.slice_index_within, Numbers.power_some}
 
 more_power : (s w : ℕ) → s ^ (w + 1) ≡ s ^ w * s

@@ -1,6 +1,6 @@
 -- Lists of symbols for cells: which symbol each cell has, and that the words include every list that the nodes allow.
-use Rattle.std.proofs.Common.{◌≡◌, ◌<◌, ◌+◌, ◌≤◌, ℕ, zero, suc, true, false, List, [], ◌∷◌, map, sym, ap, subst, ◌∙◌, inl, inr, Some, arith}
-use Rattle.std.proofs.lemmas.Bool.{cases_Bool, cases_lt, false≢true}
+use Rattle.std.proofs.Common.{◌≡◌, ◌<◌, ℕ, true, false, List, [], ◌∷◌, map, sym, ap, subst, ◌∙◌, inl, inr, Some}
+use Rattle.std.proofs.lemmas.Bool.{cases_Bool, false≢true}
 use Rattle.std.specs.{Prelude.is_some, Prelude.slice_get, List.Contains, List.range_with_len, Ordering.is_eq}
 use Rattle.dd_lattice.specs.{Order.cell_cmp, declared.position.Cell.Cell, lemmas.InOrderLaws.cells_equal}
 use Rattle.dd_values.specs.lemmas.Members.{Contains-nil, Contains-cons_cases, Contains-first, Contains-later, Contains-map}
@@ -8,7 +8,6 @@ use Rattle.dd_values.specs.lemmas.{Booleans.equal_from, Lists.range_has, Lists.i
 use Rattle.dd_formula.specs.LocalRule.{LocalRule, rule_allows}
 use Rattle.dd_rows.specs.Fillings.{look_of, allowed_symbols, words}
 use Rattle.dd_rows.specs.lemmas.Ready.{number_later, number_here, same_cell}
-use Rattle.dd_rows.specs.lemmas.AdmissibleLaws.{kept_first_if, kept_later_if}
 use Rattle.dd_topology.specs.lemmas.ListLaws.{into_flat_map}
 
 -- which symbol each cell has
