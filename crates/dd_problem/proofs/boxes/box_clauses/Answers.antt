@@ -1,4 +1,4 @@
-use Rattle.std.proofs.Common.{length, subst, sym}
+use Rattle.std.proofs.{Common.length, Common.subst, Common.sym, Common.arith, lemmas.Grind.common_steps}
 use Rattle.std.specs.List.{range_with_len}
 use Rattle.dd_boxes.specs.{Cells.box_cells, Views.goal_of}
 use Rattle.dd_problem.specs.pushing.Pushed.{HasAllSymbols}
@@ -95,3 +95,6 @@ returns-clause-decides c =
     c.symbols-symbols.ensures.kept c.requires.few c.dim.ensures c.centred_box.ensures.value c.unwrap-bounds.ensures c.nodes.ensures.value c.in_ok-cells.ensures c.deref-2.ensures.value in
     let inputs = inputs_are c.args.premise.now c.args.radius c.symbols-symbols.result c.deref.result.now c.in_ok-inputs.inputs c.in_ok-inputs.ensures c.symbols-symbols.ensures.value first in
     deciding c.args.premise.now (goal_of c.args.premise.now c.args.goal.now) c.args.radius c.deref-2.result.now c.in_ok-inputs.inputs c.symbols-symbols.ensures.kept c.told_goal.ensures c.requires.reaches c.requires.few inputs second c.problem.result c.problem.ensures
+
+pub cells_of-requires : goal.cells_of-requires
+cells_of-requires c = grind (arith, common_steps)
