@@ -1,5 +1,5 @@
 //! Cellular automata on periodic configurations.
-#![tactic(auto, using(std::proofs::lemmas::Grind::common_steps))]
+#![tactic(auto)]
 
 mod differing;
 mod image;

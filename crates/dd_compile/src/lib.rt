@@ -1,5 +1,5 @@
 //! Formulas without variables, rules and values of automata as gates, over the signals that say which symbol a cell has.
-#![tactic(auto, using(std::proofs::lemmas::Grind::common_steps))]
+#![tactic(auto)]
 
 mod automata;
 mod compiling;

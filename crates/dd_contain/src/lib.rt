@@ -1,5 +1,5 @@
 //! Decides box questions, and the two box questions of an equality.
-#![tactic(auto, using(std::proofs::lemmas::Grind::common_steps))]
+#![tactic(auto)]
 
 mod decision;
 mod equal;

@@ -1,5 +1,5 @@
 //! How much work a question takes, each count cut off past a limit.
-#![tactic(auto, using(std::proofs::lemmas::Grind::common_steps))]
+#![tactic(auto)]
 
 mod clauses;
 mod rules;

@@ -1,5 +1,5 @@
 //! The least density of the configurations of a strip, with its certificate, and the checks of these certificates.
-#![tactic(auto, using(std::proofs::lemmas::Grind::common_steps))]
+#![tactic(auto)]
 
 mod answer;
 mod checking;

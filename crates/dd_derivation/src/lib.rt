@@ -1,5 +1,5 @@
 //! Refutations of a clause list: their steps, and the check that they are right.
-#![tactic(auto, using(std::proofs::lemmas::Grind::common_steps))]
+#![tactic(auto)]
 
 mod known;
 mod propagation;

@@ -1,6 +1,6 @@
 //! Tests of formulas and automata before rules are made of them: their numbers name what exists, and they are within the
 //! limits.
-#![tactic(auto, using(std::proofs::lemmas::Grind::common_steps))]
+#![tactic(auto)]
 
 mod automata;
 mod depth;

@@ -1,6 +1,6 @@
 //! Whole outputs, read back. Bytes that are no output are refused at the first byte with which no output continues.
 //! The grammar is a table of lines. Each line has a text that completes it, so the offset is exact.
-#![tactic(auto, using(std::proofs::lemmas::Grind::common_steps))]
+#![tactic(auto)]
 
 mod bodies;
 mod conjugacies;

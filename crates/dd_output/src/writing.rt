@@ -18,7 +18,7 @@ pub fn header(alloc: Global, script: &[u8]) -> Result<Vec<u8>, AllocError>
 }
 
 /// The texts of the answers to the queries from the first on.
-#[tactic(auto, using(std::proofs::lemmas::Grind::common_steps, crate::proofs::Written::answers_next))]
+#[tactic(auto, using(crate::proofs::Written::answers_next))]
 fn answers_text(alloc: Global, answers: &[Answer]) -> Result<Vec<u8>, AllocError>
     requires { length answers.now ≤ most_commands }
     ensures { IfOk result (λ text. text.items ≡ answers_text 1 answers.now) }

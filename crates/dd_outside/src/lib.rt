@@ -1,5 +1,5 @@
 //! Sources and sinks of bytes that count their faults, and the reading and writing of whole texts.
-#![tactic(auto, using(std::proofs::lemmas::Grind::common_steps))]
+#![tactic(auto)]
 
 mod faults;
 mod memory;

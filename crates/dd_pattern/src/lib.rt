@@ -1,5 +1,5 @@
 //! Fillings and periodic configurations, and what it means to read them.
-#![tactic(auto, using(std::proofs::lemmas::Grind::common_steps))]
+#![tactic(auto)]
 
 mod filling;
 mod periodic;

@@ -1,5 +1,5 @@
 //! Box questions as clauses.
-#![tactic(auto, using(std::proofs::lemmas::Grind::common_steps))]
+#![tactic(auto)]
 
 mod boxes;
 mod differing;

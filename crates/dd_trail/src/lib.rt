@@ -1,6 +1,6 @@
 //! The trail of a search over clauses: the literals that are true, in the order in which they became so. Two watched
 //! literals find what the clauses make true next. An order says which variable is decided next.
-#![tactic(auto, using(std::proofs::lemmas::Grind::common_steps))]
+#![tactic(auto)]
 
 mod database;
 mod order;

@@ -1,5 +1,5 @@
 //! Transfer graphs of strips: states of some slices, and an edge for each slice that may follow one.
-#![tactic(auto, using(std::proofs::lemmas::Grind::common_steps))]
+#![tactic(auto)]
 
 mod building;
 mod cells;

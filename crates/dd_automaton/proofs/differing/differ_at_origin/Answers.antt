@@ -1,5 +1,5 @@
 use Rattle.std.proofs.Common.{◌≡◌, ◌≤◌, inl, inr, sym, ◌∙◌, subst, arith}
-use Rattle.std.proofs.Math.Nat.{eq-or-lt_of_le}
+use Rattle.std.proofs.{lemmas.Grind.common_steps, Math.Nat.eq-or-lt_of_le}
 use Rattle.dd_pattern.specs.Tile.{tile_look}
 use Rattle.dd_expansion.specs.Terms.{origin_at}
 use Rattle.dd_formula.specs.Automata.{value}
@@ -17,3 +17,6 @@ loop-node-preserved c = λ a below.
       | inl same ↦ subst (λ b. value f look (origin_at b) ≡ value g look (origin_at b)) (sym same) here
       | inr less ↦ c.loop-node.invariant a less
     ]
+
+pub returns-then-first-second : goal.returns-then-first-second
+returns-then-first-second c = grind (arith, common_steps)

@@ -1,4 +1,5 @@
 use Rattle.std.proofs.Common.{◌≡◌, ℕ, List, length, ◌+◌, Some, ap, sym, ◌∙◌, subst, arith, length-append}
+use Rattle.std.proofs.lemmas.Grind.{common_steps}
 use Rattle.dd_pattern.specs.Tile.{Tile, tile_look, cell_in}
 use Rattle.dd_formula.specs.{Automata.first_case, declared.automaton.Cases.Cases}
 use Rattle.dd_formula.specs.lemmas.ValueLaws.{value_given, placed_given}
@@ -35,3 +36,6 @@ returns c =
     (image_from_box (v.Given cases) t c.requires.symbols kept.tile c.requires.formed (placed_given cases c.reads_are_placed.ensures) ss
     (omega (arith, count, c.loop-number.invariant.as_many, c.loop-number-test.false))
     (λ k h. c.loop-number.invariant.values k (omega (arith, h, count, c.loop-number-test.false)) ∙ ap Some (sym (value_given cases (tile_look t) (cell_in t k)))))
+
+pub unreachable-requires : goal.unreachable-requires
+unreachable-requires c = grind (arith, common_steps)

@@ -1,5 +1,5 @@
 use Rattle.std.proofs.Common.{◌≡◌, ◌≤◌, length, ◌++◌, ◌∷◌, [], List, get_or, false, ap, ◌∙◌, arith}
-use Rattle.std.proofs.lemmas.List.{get_or_default}
+use Rattle.std.proofs.lemmas.{Grind.common_steps, List.get_or_default}
 use Rattle.dd_circuit.specs.{declared.gates.Signal.Signal, Circuits.opposite}
 use Rattle.dd_compile.specs.lemmas.CaseGates.{choosing_end, choosing_few, choosing_step}
 use Rattle.dd_compile.specs.lemmas.Progress.{one_more}
@@ -59,3 +59,6 @@ returns-clause-signals c =
     let e = c.in_ok-choice-2.ensures in
     (choosing_end c.args.rules.now c.loop-signal.signal-index c.args.circuit.now c.loop-signal.circuit c.and-2.new.self c.loop-signal.chosen.items c.loop-signal.before.items
     c.deref-2.result.now c.push-2.new.self.items c.in_ok-choice-2.choice c.loop-signal.invariant c.loop-signal-test.false c.deref-2.ensures.value e.inputs e.gates e.signal c.in_ok-push-4.ensures.items).1
+
+pub and-requires-2-clause-few : goal.and-requires-2-clause-few
+and-requires-2-clause-few c = grind (arith, common_steps)

@@ -1,5 +1,5 @@
 use Rattle.std.proofs.Common.{◌≡◌, ◌<◌, ℕ, List, length, get_or, true, false, ap, ◌∙◌, arith, eq-eqb}
-use Rattle.std.proofs.lemmas.{Bool.ne_eqb, List.get_or_default}
+use Rattle.std.proofs.lemmas.{Grind.common_steps, Bool.ne_eqb, List.get_or_default}
 use Rattle.dd_circuit.specs.declared.gates.Signal.{Signal}
 use Rattle.dd_compile.specs.lemmas.CaseGates.{giving_step}
 use Rattle.dd_compile.proofs.values.giving.Goals.{then-other-symbol+in_ok-push, else-other-symbol}
@@ -28,3 +28,6 @@ loop-number-preserved c =
           giving_step c.args.symbol xs fs c.loop-number.members.items c.if-other-symbol.members.items i x f false c.loop-number.invariant below below' is is'
           (ne_eqb x c.args.symbol w.if-other-symbol.false) (ap (λ v. v.items) w.members-is)
     ]
+
+pub returns : goal.returns
+returns c = grind (arith, common_steps)

@@ -1,4 +1,4 @@
-use Rattle.std.proofs.Common.{rules}
+use Rattle.std.proofs.{Common.rules, Common.arith, lemmas.Grind.common_steps}
 use Rattle.dd_contain.specs.declared.decision.Decision.{Decision}
 use Rattle.dd_contain.specs.declared.decision.Decision.TheVariants.{Yes, No, Unknown}
 use Rattle.dd_contain.specs.{Questions.HasNumbers, Questions.IsDecision, Equal.UnlessNo, Equal.joined, Equal.HasBothNumbers}
@@ -35,3 +35,6 @@ returns-in_ok-second-in_default-clause-decided g c =
       };
       numbered = search rules;
     }
+
+pub returns-in-No-clause-decided : goal.returns-in-No-clause-decided
+returns-in-No-clause-decided c = grind (arith, common_steps)

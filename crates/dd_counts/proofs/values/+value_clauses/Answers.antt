@@ -1,4 +1,5 @@
 use Rattle.std.proofs.Common.{◌≡◌, ◌+◌, List, ℕ, map, take, ap, sym, ◌∙◌, subst, arith}
+use Rattle.std.proofs.lemmas.Grind.{common_steps}
 use Rattle.std.specs.List.{list_all}
 use Rattle.dd_lattice.specs.declared.position.Cell.{Cell}
 use Rattle.dd_expansion.specs.Leaves.{total}
@@ -60,3 +61,9 @@ value_clauses_from-loop-cell-preserved t c =
     let cell : Cell = c.cell-item.result in
     next_cut c.args.limit c.loop-cell.sum c.in_ok-value_clauses.field-0 c.plus-sum.result (total (map at (take i cells))) (at cell) (total (map at (take (i + 1) cells)))
     c.loop-cell.invariant c.in_ok-value_clauses.ensures c.plus-sum.ensures (total_more at cells i cell c.loop-cell-test.true c.cell-item.is)
+
+pub value_clauses_from-returns : goal.value_clauses_from-returns
+value_clauses_from-returns t c = grind (arith, common_steps)
+
+pub value_clauses_from-value_clauses-requires : goal.value_clauses_from-value_clauses-requires
+value_clauses_from-value_clauses-requires t c = grind (arith, common_steps)

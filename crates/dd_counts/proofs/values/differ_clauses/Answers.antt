@@ -1,4 +1,4 @@
-use Rattle.std.proofs.Common.{◌+◌, ℕ, map, arith}
+use Rattle.std.proofs.{Common.◌+◌, Common.ℕ, Common.map, Common.arith, lemmas.Grind.common_steps}
 use Rattle.std.specs.List.{range_with_len}
 use Rattle.dd_expansion.specs.Leaves.{total}
 use Rattle.dd_formula.specs.{ValueCounts.differ_at, lemmas.Cuts.next_cut, lemmas.Ranges.total_push}
@@ -12,3 +12,6 @@ loop-node-preserved c =
     let more = total_push at n in
     next_cut c.args.limit c.loop-node.sum c.in_ok-here.here c.plus-sum.result (sum n + 1) (at n) (sum (n + 1) + 1)
     c.loop-node.invariant c.in_ok-here.ensures c.plus-sum.ensures (omega (arith, more))
+
+pub differ_at-requires-clause-node : goal.differ_at-requires-clause-node
+differ_at-requires-clause-node c = grind (arith, common_steps)

@@ -1,5 +1,5 @@
 use Rattle.std.proofs.Common.{◌≡◌, ◌≤◌, ◌+◌, List, ℕ, map, length, take, ap, ◌∙◌, subst, arith}
-use Rattle.std.proofs.lemmas.List.{take_all}
+use Rattle.std.proofs.lemmas.{Grind.common_steps, List.take_all}
 use Rattle.std.specs.List.{range_with_len}
 use Rattle.dd_expansion.specs.Leaves.{clause_count, total}
 use Rattle.dd_formula.specs.{LocalRule.LocalRule, LocalRule.expansion_at, Counts.cut, lemmas.Cuts.total_more, ValueCounts.case_clauses}
@@ -40,3 +40,6 @@ returns c =
     let sum : ℕ → ℕ = λ k. total (map (λ j. j + 4) (range_with_len 0 k)) in
     by_case c.args.limit c.args.symbols (length cases) (sum i) (case_clauses cases n) c.loop-rule.clauses (ap sum all)
     (c.loop-rule.invariant.clauses ∙ ap (λ xs. cut c.args.limit (case_clauses xs n + sum i + (2 + c.args.symbols))) (take_all i cases past))
+
+pub clause_count-requires : goal.clause_count-requires
+clause_count-requires c = grind (arith, common_steps)

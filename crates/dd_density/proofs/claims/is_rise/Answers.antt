@@ -1,4 +1,4 @@
-use Rattle.std.proofs.Common.{ℕ, arith, refl, ◌*◌, ◌<◌, ◌^◌, ◌≤◌}
+use Rattle.std.proofs.{Common.ℕ, Common.arith, Common.refl, Common.◌*◌, Common.◌<◌, Common.◌^◌, Common.◌≤◌, lemmas.Grind.common_steps}
 use Rattle.std.proofs.{lemmas.Int.ints, Math.Nat.mul-le-mul}
 use Rattle.dd_density.proofs.claims.is_rise.Goals as goal
 
@@ -14,3 +14,6 @@ pub returns : goal.returns
 returns c =
     let b = bound c.args.mean.denominator c.args.weight c.requires.denominator c.requires.weight in
     (λ _. omega (arith, ints, c.if-rise-most.false), λ _. refl)
+
+pub overflow_sub-most : goal.overflow_sub-most
+overflow_sub-most c = grind (arith, common_steps)

@@ -1,4 +1,4 @@
-use Rattle.std.proofs.Common.{ℕ, ◌<◌, ◌^◌, length, arith, subst}
+use Rattle.std.proofs.{Common.ℕ, Common.◌<◌, Common.◌^◌, Common.length, Common.arith, Common.subst, lemmas.Grind.common_steps}
 use Rattle.dd_transfer.specs.Certificates.{IsInLowestTerms}
 use Rattle.dd_density.proofs.Fractions.{lowest_small}
 use Rattle.dd_density.proofs.Shown.{AreFound, found_same, shown_found, small_product, some_product}
@@ -60,3 +60,6 @@ returns c =
     } in
     shown_found g c.args.volume c.args.numerator c.args.denominator walk c.args.potentials.now mn md dn dd c.are_potentials.result found
     (omega (arith, c.if-density-numerator.false)) (omega (arith, c.if-density-denominator.false)) c.are_potentials.ensures
+
+pub returns-in_default : goal.returns-in_default
+returns-in_default c = grind (arith, common_steps)

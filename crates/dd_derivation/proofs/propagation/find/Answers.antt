@@ -1,5 +1,5 @@
 use Rattle.std.proofs.Common.{◌≡◌, ℕ, ◌≤◌, List, true, false, length, get_or, take, arith, Bool, Some, Option, subst, not, sym, refl, ◌∙◌}
-use Rattle.std.proofs.lemmas.Bool.{not-true}
+use Rattle.std.proofs.lemmas.{Grind.common_steps, Bool.not-true}
 use Rattle.std.specs.List.{filter}
 use Rattle.dd_clause.specs.{declared.clause.Literal.Literal, Clauses.negation}
 use Rattle.dd_derivation.specs.Derivations.{same_literal}
@@ -35,3 +35,6 @@ returns-then-is_false g c =
     let s = at_end p c.args.clause.now c.loop-literal.literal-index _ _ (omega arith) c.in-Some-candidate.is c.loop-literal.invariant in
     let m : p (negation c.in-Some-candidate.literal) ≡ true = cc in
     sym (forced_end p c.args.clause.now c.in-Some-candidate.literal s ∙ rw m refl)
+
+pub loop-literal-preserved : goal.loop-literal-preserved
+loop-literal-preserved g c = grind (arith, common_steps)

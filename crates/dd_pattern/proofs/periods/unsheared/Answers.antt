@@ -1,5 +1,5 @@
 use Rattle.std.proofs.Common.{◌≡◌, ◌≤◌, ◌*◌, pos, unsigned_abs, ◌-ℤ◌, ℕ, ℤ, w32, w64, to_z, of_z, arith}
-use Rattle.std.proofs.Math.Nat.{mul-le-mul}
+use Rattle.std.proofs.{lemmas.Grind.common_steps, Math.Nat.mul-le-mul}
 use Rattle.std.proofs.lemmas.Int.{ints, to_z-of_z, unsigned_abs-mul, fits_signed_from_abs}
 use Rattle.std.specs.Prelude.{◌*ℤ◌}
 use Rattle.dd_lattice.specs.Place.{IsCoordinateInRange}
@@ -21,3 +21,9 @@ returns c =
     let own_product : to_z w64 (of_z w64 (k *ℤ pos q)) ≡ k *ℤ pos q = to_z-of_z w64 _ (fits_signed_from_abs w64 _ (omega (arith, small))) in
     let own : to_z w64 (of_z w64 (x -ℤ k *ℤ pos q)) ≡ x -ℤ k *ℤ pos q = to_z-of_z w64 _ (fits_signed_from_abs w64 _ (omega (arith, ints, small, near.0, near.1))) in
     rw (own_x, own_k, own_q, own_product) own
+
+pub overflow_sub-result : goal.overflow_sub-result
+overflow_sub-result c = grind (arith, common_steps)
+
+pub overflow_mul-result : goal.overflow_mul-result
+overflow_mul-result c = grind (arith, common_steps)

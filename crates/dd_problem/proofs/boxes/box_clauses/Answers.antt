@@ -1,4 +1,4 @@
-use Rattle.std.proofs.Common.{length, subst, sym}
+use Rattle.std.proofs.{Common.length, Common.subst, Common.sym, Common.arith, lemmas.Grind.common_steps}
 use Rattle.std.specs.List.{range_with_len}
 use Rattle.dd_boxes.specs.{Cells.box_cells, Views.goal_of}
 use Rattle.dd_problem.specs.pushing.Pushed.{HasAllSymbols}
@@ -71,3 +71,6 @@ returns c =
       shows = showing x g n cells told kept c.told_goal.ensures c.requires.reaches c.requires.few inputs second c.problem.result c.problem.ensures;
       decides = deciding x g n cells told kept c.told_goal.ensures c.requires.reaches c.requires.few inputs second c.problem.result c.problem.ensures;
     }
+
+pub cells_of-requires : goal.cells_of-requires
+cells_of-requires c = grind (arith, common_steps)

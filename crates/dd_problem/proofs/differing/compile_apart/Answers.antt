@@ -1,5 +1,5 @@
 use Rattle.std.proofs.Common.{◌<◌, List, [], ◌∷◌, length, get_or, false, ap, arith}
-use Rattle.std.proofs.lemmas.List.{get_or_default}
+use Rattle.std.proofs.lemmas.{Grind.common_steps, List.get_or_default}
 use Rattle.dd_circuit.specs.declared.gates.Signal.{Signal}
 use Rattle.dd_problem.proofs.Parting.{parting_in, parting_step, parting_end}
 use Rattle.dd_problem.proofs.differing.compile_apart.Goals as goal
@@ -40,3 +40,6 @@ pub returns : goal.returns
 returns c =
     let done = parting_end c.args.first.now c.args.second.now c.loop-number.number c.args.circuit.now c.loop-number.circuit c.loop-number.signals.items c.loop-number.invariant c.loop-number-test.false in
     record { extends = c.loop-number.invariant.extends; gates = done.0; signals = done.1 }
+
+pub returns-in_err-push-clause-extends : goal.returns-in_err-push-clause-extends
+returns-in_err-push-clause-extends c = grind (arith, common_steps)

@@ -1,5 +1,5 @@
 use Rattle.std.proofs.Common.{◌≡◌, ◌≤◌, ◌+◌, ◌∷◌, ◌++◌, [], length, ap, sym, subst, ◌∙◌, arith}
-use Rattle.std.proofs.lemmas.{Bool.and_parts, Result.IfOk-weaker}
+use Rattle.std.proofs.lemmas.{Grind.common_steps, Bool.and_parts, Result.IfOk-weaker}
 use Rattle.std.specs.{Prelude.Result, Prelude.Ok, Prelude.Err, Prelude.IfOk, Prelude.OnErr, List.All}
 use Rattle.dd_lattice.specs.{Cells.cell, declared.position.Cell.Cell}
 use Rattle.dd_formula.specs.{Automata.counted, declared.automaton.Automaton.Automaton}
@@ -109,3 +109,12 @@ returns-clause-signal c =
     c.compile_value-2.new.circuit h.extends.inputs h.gates c.deref.result.now c.deref-2.result.now (c.deref.ensures.value ∙ e.signals) (c.deref-2.ensures.value ∙ h.signals)
     c.compile_apart.new.circuit p.extends.inputs p.gates c.in_ok-apart.apart.items c.deref-3.result.now p.signals c.deref-3.ensures.value s (size c.or.new.self) is signal
     ∙ ap (λ k. (differ_made k c.args.left.now c.args.right.now c.args.inputs.now at (size c.args.circuit.now)).signal) c.symbols-symbols.ensures.value)
+
+pub compile_apart-requires-clause-first : goal.compile_apart-requires-clause-first
+compile_apart-requires-clause-first c = grind (arith, common_steps)
+
+pub returns-in_err-apart-clause-extends : goal.returns-in_err-apart-clause-extends
+returns-in_err-apart-clause-extends c = grind (arith, common_steps)
+
+pub returns-in_err-second-clause-extends : goal.returns-in_err-second-clause-extends
+returns-in_err-second-clause-extends c = grind (arith, common_steps)

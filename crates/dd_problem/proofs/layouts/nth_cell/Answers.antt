@@ -1,6 +1,9 @@
-use Rattle.std.proofs.Common.{◌*◌, ◌<◌, ℕ, zero, suc, arith}
+use Rattle.std.proofs.{Common.◌*◌, Common.◌<◌, Common.ℕ, Common.zero, Common.suc, Common.arith, lemmas.Grind.common_steps}
 use Rattle.dd_lattice.specs.Boxes.{volume}
 use Rattle.dd_problem.proofs.layouts.nth_cell.Goals as goal
+
+pub overflow_cast-result : goal.overflow_cast-result
+overflow_cast-result c = grind (arith, common_steps)
 
 -- a cell has a node
 some_node : (positions nodes number : ℕ) → number < positions * nodes → 0 < nodes

@@ -1,4 +1,4 @@
-use Rattle.std.proofs.Common.{◌+◌, Bool, List, ap, sym, subst}
+use Rattle.std.proofs.{Common.◌+◌, Common.Bool, Common.List, Common.ap, Common.sym, Common.subst, Common.arith, lemmas.Grind.common_steps}
 use Rattle.dd_strip.specs.declared.strip.Strip.{Strip}
 use Rattle.dd_transfer.specs.{Windows.Shown, Windows.AreWindows, placing.Formulas.ArePlaces}
 use Rattle.dd_transfer.proofs.Written.{advanced, full, kept_more}
@@ -25,3 +25,12 @@ loop-number-preserved c =
       windows = subst (AreWindows r s (n + 1)) (sym {A = List Bool} c.in_ok-push.ensures.items)
           (kept_more r s w n c.loop-number.kept.items c.is_kept.result c.loop-number.invariant.windows c.loop-number.invariant.window_is c.is_kept.ensures);
     }
+
+pub returns : goal.returns
+returns c = grind (arith, common_steps)
+
+pub advance-requires : goal.advance-requires
+advance-requires c = grind (arith, common_steps)
+
+pub loop-number-init : goal.loop-number-init
+loop-number-init c = grind (arith, common_steps)

@@ -1,3 +1,4 @@
+use Rattle.std.proofs.{Common.arith, lemmas.Grind.common_steps}
 use Rattle.dd_values.specs.Variables.{true_variables}
 use Rattle.dd_boxes.specs.Views.{goal_of}
 use Rattle.dd_problem.specs.lemmas.TorusSizes.{small_periods}
@@ -23,3 +24,6 @@ read_torus-requires-clause-periods g c = small_periods c.args.self.now.premise.n
 
 pub torus_clauses-requires-clause-periods : goal.torus_clauses-requires-clause-periods
 torus_clauses-requires-clause-periods g c = small_periods c.args.self.now.premise.now c.args.at.now c.nodes-nodes.ensures.kept c.requires.periods
+
+pub returns-clause-found : goal.returns-clause-found
+returns-clause-found c = grind (arith, common_steps)

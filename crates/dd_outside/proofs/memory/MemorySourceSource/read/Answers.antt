@@ -1,0 +1,5 @@
+use Rattle.std.proofs.{Common.arith, lemmas.Grind.common_steps}
+use Rattle.dd_outside.proofs.memory.MemorySourceSource.read.Goals as goal
+
+pub returns-clause-count : goal.returns-clause-count
+returns-clause-count c = grind (arith, common_steps)
