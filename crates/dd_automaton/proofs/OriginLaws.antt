@@ -1,30 +1,11 @@
 -- What an automaton reads at the origin of a periodic configuration has symbols.
-use Rattle.std.proofs.Common.{◌≡◌, ◌<◌, ℕ, true, Option, Some, None, if◌then◌else◌, refl, ap, sym, ◌∙◌, arith, pos}
-use Rattle.std.proofs.lemmas.Int.{ints}
-use Rattle.std.specs.Prelude.{◌-ℤ◌, ◌*ℤ◌}
-use Rattle.dd_lattice.specs.{Place.Place, Place.place, lemmas.MoveLaws.place_same}
-use Rattle.dd_pattern.specs.{declared.periods.Periods.Periods, Periods.base_of, Periods.residue, Periods.quotient, Periods.unsheared}
-use Rattle.dd_pattern.specs.Tile.{Tile, IsTile, IsPeriodic, IsInBox, tile_look}
-use Rattle.dd_pattern.specs.lemmas.Residues.{residue_small, quotient_small}
+use Rattle.std.proofs.Common.{◌≡◌, ◌<◌, ℕ, true, Option, Some, None, if◌then◌else◌, refl, ap, sym, ◌∙◌}
+use Rattle.dd_pattern.specs.{Tile.Tile, Tile.IsPeriodic, Tile.tile_look, lemmas.BoxLaws.origin_in_box}
 use Rattle.dd_expansion.specs.Terms.{origin_at}
 use Rattle.dd_formula.specs.{Automata.value, Automata.counted, Values.IsPlaced, Values.HasLook, Values.is_read}
 use Rattle.dd_formula.specs.{declared.automaton.Automaton.Automaton, lemmas.AutomatonLaws.near_reads}
 use Rattle.dd_automaton.specs.Images.{tile_numbers, IsDefinedOn}
 use Rattle.dd_automaton.proofs.ImageLaws.{given_all, tile_is_below}
-
-abbrev origin : Place
-origin = place (pos 0) (pos 0) (pos 0)
-
-base_of-origin : (p : Periods) → 0 < p.x → 0 < p.y → 0 < p.z → base_of p origin ≡ origin
-base_of-origin p x y z =
-    let turns : quotient (pos 0) p.y ≡ pos 0 = quotient_small 0 p.y y in
-    let straight : unsheared p origin ≡ pos 0 = ap (λ q. pos 0 -ℤ q *ℤ pos p.shear) turns ∙ omega (arith, ints) in
-    let on_x : residue (unsheared p origin) p.x ≡ 0 = ap (λ w. residue w p.x) straight ∙ residue_small 0 p.x x in
-    place_same (pos (residue (unsheared p origin) p.x)) (pos (residue (pos 0) p.y)) (pos (residue (pos 0) p.z)) (pos 0) (pos 0) (pos 0)
-    (ap pos on_x) (ap pos (residue_small 0 p.y y)) (ap pos (residue_small 0 p.z z))
-
-origin_in_box : (t : Tile) (a : ℕ) → IsTile t → a < t.nodes → IsInBox t (origin_at a)
-origin_in_box t a tile node = record { base = base_of-origin t.periods tile.periods.x_some tile.periods.y_some tile.periods.z_some; node = node }
 
 pub has_look : (f : Automaton) (t : Tile) (a : ℕ) → IsDefinedOn f t → a < t.nodes → HasLook f (origin_at a) (tile_look t)
 has_look f t a defined node =

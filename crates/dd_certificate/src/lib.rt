@@ -1,5 +1,5 @@
 //! The output text: the answers to queries, and how they are written.
-#![tactic(auto)]
+#![tactic(auto, using(std::proofs::lemmas::Grind::common_steps))]
 
 mod answer;
 mod decimal;

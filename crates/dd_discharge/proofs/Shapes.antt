@@ -1,23 +1,23 @@
 -- The shape of a program's rows: each has a coefficient from -1 to 1 for each column and a small bound, and the first is the cap's row.
-use Rattle.std.proofs.Common.{◌≡◌, ℕ, zero, suc, ◌+◌, ◌-◌, ◌*◌, ◌<◌, ◌≤◌, Bool, true, false, cond, List, [], ◌∷◌, ◌++◌, length, get_or, map, replicate, max, refl, sym, ap, subst, ◌∙◌, length-append, arith}
-use Rattle.std.proofs.{lemmas.Int.ints, lemmas.List.length-map, lemmas.List.length-replicate, Math.Nat.mul-le-mul_right}
+use Rattle.std.proofs.Common.{◌≡◌, ℕ, zero, suc, ◌+◌, ◌-◌, ◌*◌, ◌<◌, ◌≤◌, Bool, true, false, cond, List, [], ◌∷◌, ◌++◌, length, map, replicate, refl, sym, ap, subst, ◌∙◌, length-append, arith}
+use Rattle.std.proofs.{lemmas.List.length-map, lemmas.List.length-replicate, Math.Nat.mul-le-mul_right}
 use Rattle.std.proofs.lemmas.List.FromFn.{length-range_with_len}
 use Rattle.std.proofs.lemmas.List.Elements.{All-append, All-cons, All-nil}
 use Rattle.std.proofs.lemmas.List.Sums.{sum_by-cons}
-use Rattle.std.specs.{Prelude.unwrap_or, Prelude.slice_index, Prelude.sum_by, Bool.nat_eq, Int.RustNames.unsigned_abs}
+use Rattle.std.specs.{Prelude.unwrap_or, Prelude.slice_index, Bool.nat_eq, Int.RustNames.unsigned_abs}
 use Rattle.std.specs.List.{All, fold, flat_map, list_any, range_with_len}
 use lib.IntN.{ℤ, pos, ◌-ℤ◌}
-use Rattle.dd_lattice.specs.{Place.Place, Cells.cell, declared.position.Cell.Cell}
+use Rattle.dd_lattice.specs.{Place.Place, Cells.cell}
 use Rattle.dd_topology.specs.Topology.{reversed}
 use Rattle.dd_pattern.specs.{Reading.Look, Weight.total_weight}
 use Rattle.dd_expansion.specs.Limits.{greatest}
 use Rattle.dd_formula.specs.LocalRule.{LocalRule}
 use Rattle.dd_rows.specs.{declared.rows.Row.Row, declared.rows.Rows.Rows, Fillings.look_of, Fillings.fillings}
 use Rattle.dd_rows.specs.Patterns.{origin, pattern_at, givers, pattern_number}
-use Rattle.dd_rows.specs.Programs.{one_at, coefficients, origin_weight, row_of, greatest_weight_row, is_same_row, add_row, first_seen, rows, column_count, IsProgramOf}
+use Rattle.dd_rows.specs.Programs.{one_at, coefficients, row_of, greatest_weight_row, is_same_row, add_row, first_seen, rows, column_count, IsProgramOf}
 use Rattle.dd_boxes.specs.{Discharges.AreWeightsFor, Cells.box_cells}
 use Rattle.dd_discharge.specs.{Amounts.row_in, listing.Tables.AreRowsOf}
-use Rattle.dd_values.specs.lemmas.Lists.{all_map, all_flat_map}
+use Rattle.dd_values.specs.lemmas.Lists.{all_map, all_flat_map, slice_index_within}
 
 record IsRowOf (columns : ℕ) (r : Row) : Type 0 where
   size : length r.coefficients ≡ columns
@@ -68,14 +68,9 @@ coefficient_size : (ps : List (List ℕ)) (out : List ℕ) (ins : List (List ℕ
 coefficient_size ps out ins n e = let size = blocks_size ps out ins in let same = ap (λ (m : ℕ). m * length ps) e in omega (arith, size, same)
 
 -- ---- weights
-weight_small : (ws : List ℕ) (s : ℕ) → All (λ w. w ≤ 1000) ws → slice_index ws s ≤ 1000
-weight_small [] s h = omega arith
-weight_small (w ∷ ws) zero h = h 0 0 (omega arith)
-weight_small (w ∷ ws) (suc s) h = weight_small ws s (λ k d p. h (suc k) d (omega (arith, p)))
-
 total_small : (ws ss : List ℕ) → All (λ w. w ≤ 1000) ws → total_weight ws ss ≤ length ss * 1000
 total_small ws [] h = omega arith
-total_small ws (s ∷ ss) h = let rest = total_small ws ss h in let first = weight_small ws s h in let parts = sum_by-cons (slice_index ws) s ss in omega (arith, rest, first, parts)
+total_small ws (s ∷ ss) h = let rest = total_small ws ss h in let first = slice_index_within 1000 ws s h in let parts = sum_by-cons (slice_index ws) s ss in omega (arith, rest, first, parts)
 
 greatest_small : (ws : List ℕ) → All (λ w. w ≤ 1000) ws → greatest ws ≤ 1000
 greatest_small [] h = omega arith

@@ -1,5 +1,5 @@
 //! Bounds by discharging: the best bound of a rule's program along some vectors, what certifies it, and the check of a claimed one.
-#![tactic(auto)]
+#![tactic(auto, using(std::proofs::lemmas::Grind::common_steps))]
 
 mod best;
 mod bound;

@@ -3,7 +3,7 @@
 -- no literal is taken as false.
 use Rattle.std.proofs.Common.{◌≡◌, ℕ, zero, suc, ◌+◌, ◌<◌, Bool, true, false, cond, not, ◌&&◌, List, [], ◌∷◌, ◌++◌, Some, refl, ap, sym, ◌∙◌, subst, inl, inr, ◌⊎◌, length, get_or, take, reverse, arith, add-one}
 use Rattle.std.proofs.lemmas.Bool.{cases_Bool, or_cases, or_left, or_right, false≢true}
-use Rattle.std.proofs.lemmas.List.{take_more, take_all, reverse-append, Folds.list_any-append}
+use Rattle.std.proofs.lemmas.List.{take_more, take_all, reverse-append, map-append, Folds.list_any-append}
 use Rattle.std.specs.List.{list_all, filter, All}
 use Rattle.dd_clause.specs.{declared.clause.Literal.Literal, Clauses.negation, Clauses.IsLiteralInRange, Clauses.IsClauseInRange}
 use Rattle.dd_derivation.specs.declared.propagation.Finding.{Finding}
@@ -13,7 +13,7 @@ use Rattle.dd_derivation.specs.lemmas.{Soundness.same_literal-eq, Findings.In, F
 use Rattle.dd_engines.specs.declared.analysis.Entry.{Entry}
 use Rattle.dd_engines.specs.propagation.Following.{alive, falses, IsForced, IsTrail, IsFalsified, Ends}
 use Rattle.dd_engines.specs.propagation.Analysis.{marks, Grows, AreMarked}
-use Rattle.dd_engines.proofs.Following.{falses-append, forced_has}
+use Rattle.dd_engines.proofs.Following.{forced_has}
 
 -- Two tests that agree on a clause leave the same literals of it. If the second calls fewer literals false, it finds the same.
 filter_same : (p q : Literal → Bool) (c : List Literal) → ((x : Literal) → In c x → p x ≡ q x) → filter (λ x. not (p x)) c ≡ filter (λ x. not (q x)) c
@@ -73,7 +73,7 @@ leads_conflict cs entries marked k conflict m = record {
 }
 
 falses-more : (entries : List Entry) (j : ℕ) (d : Entry) (x : Literal) → j < length entries → is_among (falses (take (j + 1) entries)) x ≡ is_among (falses (take j entries) ++ negation (get_or entries j d).literal ∷ []) x
-falses-more entries j d x lt = ap (λ (es : List Entry). is_among (falses es) x) (take_more entries j d lt) ∙ ap (λ (xs : List Literal). is_among xs x) (falses-append (take j entries) (get_or entries j d ∷ []))
+falses-more entries j d x lt = ap (λ (es : List Entry). is_among (falses es) x) (take_more entries j d lt) ∙ ap (λ (xs : List Literal). is_among xs x) (map-append (λ (e : Entry). negation e.literal) (take j entries) (get_or entries j d ∷ []))
 
 -- a literal that is false after an entry was false before it, or is the negation of its literal
 later_from : (entries : List Entry) (j : ℕ) (d : Entry) (x : Literal) → j < length entries → In (falses (take j entries)) x → In (falses (take (j + 1) entries)) x

@@ -2,8 +2,8 @@
 use Rattle.std.proofs.Common.{◌≡◌, ℕ, zero, suc, ◌-◌, ◌<◌, ◌≤◌, Bool, true, false, cond, not, ◌&&◌, ◌||◌, eqb, List, [], ◌∷◌, ◌++◌, Option, Some, None, refl, ap, sym, ◌∙◌, subst, inl, inr, ◌⊎◌, get_or, length, arith}
 use Rattle.std.proofs.Math.ListN.{set, replicate}
 use Rattle.std.proofs.lemmas.Bool.{eq-eqb, ne_eqb, le-leb, leb-true, and_from, and_parts, or_cases, cases_Bool, cases_eq, cases_lt, not-true, false≢true}
-use Rattle.std.proofs.lemmas.List.{length-set, get_or_past, get_or-set_other, get_or-replicate, length-replicate, length-append, take-append-le, get_or_append_left}
-use Rattle.std.proofs.{lemmas.List.Folds.list_any-append, Math.Seq.get_or-append_seam, Math.Seq.take-append_seam}
+use Rattle.std.proofs.lemmas.List.{length-set, get_or_past, get_or-set_other, get_or-replicate, length-replicate, length-append, take-append-le, get_or_append_left, map-append}
+use Rattle.std.proofs.Math.Seq.{get_or-append_seam, take-append_seam}
 use Rattle.std.proofs.lemmas.{Grind.get_or-set_at, List.Sums.sum_by-set}
 use Rattle.std.proofs.lemmas.List.Elements.{All-head, All-tail, All-same, All-filter, filter_passes}
 use Rattle.std.specs.{Bool.beq, List.list_all, List.filter, List.All}
@@ -11,13 +11,9 @@ use Rattle.dd_clause.specs.{declared.clause.Literal.Literal, Clauses.negation, C
 use Rattle.dd_derivation.specs.declared.propagation.Finding.TheVariants.{Falsified, Forced, Open}
 use Rattle.dd_derivation.specs.declared.step.Step.{Step}
 use Rattle.dd_derivation.specs.Derivations.{is_empty, same_literal, is_among, is_literal_in_range, finding_of, finding, clause_of, is_conflict, is_proper, is_right}
-use Rattle.dd_derivation.specs.lemmas.{Findings.finding-congr, Soundness.literal-eq, Soundness.same_literal-eq}
+use Rattle.dd_derivation.specs.lemmas.{Falses.among_snoc, Findings.finding-congr, Soundness.forced_by, Soundness.literal-eq, Soundness.same_literal-eq}
 use Rattle.dd_engines.specs.{declared.analysis.Entry.Entry, SingleSteps.IsSingleStep}
 use Rattle.dd_engines.specs.propagation.Following.{is_other, is_false_by, unknown_count, unknowns, alive, falses, IsForced, IsTrail, Conflicts, Follows, FollowsMore, IsSettled}
-
-forced_by : (b : Bool) (l m : Literal) → cond b (Forced l) Open ≡ Forced m → (b ≡ true) × (l ≡ m)
-forced_by true l m h = (refl, cc)
-forced_by false l m h = absurd (cc)
 
 -- a literal that a clause makes true is one of its own, and has no value
 pub record IsFree (p : Literal → Bool) (l : Literal) : Type 0 where
@@ -114,21 +110,8 @@ trail_more cs entries e trail here k d h = elim (cases_eq k (length entries)) [
       rw (get_or_append_left entries (e ∷ []) d k b, take-append-le k entries (e ∷ []) (omega (arith, b))) (trail k d b))
 ]
 
-pub falses-append : (xs ys : List Entry) → falses (xs ++ ys) ≡ falses xs ++ falses ys
-falses-append [] ys = refl
-falses-append (x ∷ xs) ys = ap (λ (zs : List Literal). negation x.literal ∷ zs) (falses-append xs ys)
-
-or_turned : (a b : Bool) → (a || (b || false)) ≡ (b || a)
-or_turned true true = refl
-or_turned true false = refl
-or_turned false true = refl
-or_turned false false = refl
-
 among_more : (entries : List Entry) (e : Entry) (x : Literal) → is_among (falses (entries ++ e ∷ [])) x ≡ is_among (negation e.literal ∷ falses entries) x
-among_more entries e x =
-    ap (λ (xs : List Literal). is_among xs x) (falses-append entries (e ∷ []))
-    ∙ list_any-append (same_literal x) (falses entries) (negation e.literal ∷ [])
-    ∙ or_turned (is_among (falses entries) x) (same_literal x (negation e.literal))
+among_more entries e x = ap (λ (xs : List Literal). is_among xs x) (map-append (λ (n : Entry). negation n.literal) entries (e ∷ [])) ∙ among_snoc (falses entries) (negation e.literal) x
 
 entry : Literal → ℕ → Entry
 entry l k = record { literal = l; number = k }

@@ -1,5 +1,5 @@
 //! Engines that propose assignments or refutations for a clause list, and a roster that asks them in turn.
-#![tactic(auto)]
+#![tactic(auto, using(std::proofs::lemmas::Grind::common_steps))]
 
 mod analysis;
 mod chains;

@@ -1,5 +1,5 @@
 -- One more line.
-use Rattle.std.proofs.Common.{◌≡◌, ℕ, ◌+◌, ◌<◌, List, [], ◌∷◌, ◌++◌, length, take, get_or, refl, sym, ◌∙◌, ap, subst, append-nil, append_assoc, length-take-le, Contains, arith}
+use Rattle.std.proofs.Common.{◌≡◌, ℕ, ◌+◌, ◌<◌, List, [], ◌∷◌, ◌++◌, length, take, get_or, refl, sym, ◌∙◌, ap, subst, append-nil, append_assoc, length-take-le, arith}
 use Rattle.std.proofs.lemmas.List.{take_more}
 use Rattle.dd_query.specs.declared.queries.Query.{Query}
 use Rattle.dd_script.specs.Parts.{Parts}
@@ -34,6 +34,3 @@ line_next s queries done next q text line less is at is_text is_line =
     subst (λ (qs : List Query). AreLines s 1 qs (text ++ line))
     (ap (λ (x : Query). take done queries ++ x ∷ []) is ∙ sym (take_more queries done q less))
     (line_added s 1 next (take done queries) q text line is_text is_line behind)
-
-pub asked_at : (queries : List Query) (done : ℕ) (q : Query) → done < length queries → q ≡ get_or queries done q → Contains queries q
-asked_at queries done q less is = (done, less, sym is)

@@ -1,3 +1,4 @@
+pub mod Claims
 pub mod HoldsKeeps
 pub mod Layers
 pub mod LeafLaws

@@ -17,7 +17,7 @@ impl Expanded {
 }
 
 #[cycle(count)]
-#[tactic(auto, using(crate::proofs::Sizes::count_layers))]
+#[tactic(auto, using(std::proofs::lemmas::Grind::common_steps, crate::proofs::Sizes::count_layers))]
 fn count(expanded: &Expanded) -> u64
     requires { clause_count expanded.now < 2 ^ 64 }
     ensures { result ≡ clause_count expanded.now }
@@ -34,7 +34,7 @@ fn count(expanded: &Expanded) -> u64
 
 /// The clauses of the parts and of the gate that joins them.
 #[cycle(count)]
-#[tactic(auto, using(crate::proofs::Sizes::count_layers))]
+#[tactic(auto, using(std::proofs::lemmas::Grind::common_steps, crate::proofs::Sizes::count_layers))]
 fn count_all(parts: &[Expanded]) -> u64
     requires { clause_count (Expanded.And parts.now) < 2 ^ 64 }
     ensures { result ≡ clause_count (Expanded.And parts.now) }

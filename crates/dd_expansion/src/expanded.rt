@@ -47,7 +47,7 @@ impl Expanded {
 
     /// The number of nodes of this tree.
     #[cycle(instances)]
-    #[tactic(auto, using(crate::proofs::Sizes::instance_layers))]
+    #[tactic(auto, using(std::proofs::lemmas::Grind::common_steps, crate::proofs::Sizes::instance_layers))]
     pub fn instances(&self) -> u32
         requires { instances self.now < 2 ^ 32 }
         ensures { result ≡ instances self.now }
@@ -83,7 +83,7 @@ fn copy_all(alloc: Global, parts: &[Expanded]) -> Result<Items<Expanded>, AllocE
 
 /// The nodes of the parts, and the node that joins them.
 #[cycle(instances)]
-#[tactic(auto, using(crate::proofs::Sizes::instance_layers))]
+#[tactic(auto, using(std::proofs::lemmas::Grind::common_steps, crate::proofs::Sizes::instance_layers))]
 fn joined_instances(parts: &[Expanded]) -> u32
     requires { instances (Expanded.And parts.now) < 2 ^ 32 }
     ensures { result ≡ instances (Expanded.And parts.now) }

@@ -26,7 +26,7 @@ impl Expanded {
 
 /// Adds the cells of the leaves.
 #[cycle(add_cells)]
-#[tactic(auto, using(crate::specs::lemmas::Layers::leaf_cells_layers))]
+#[tactic(auto, using(std::proofs::lemmas::Grind::common_steps, crate::specs::lemmas::Layers::leaf_cells_layers))]
 fn add_cells(expanded: &Expanded, found: &mut BTreeSet<Cell>) -> Result<(), AllocError>
     ensures { OnOk result (found.new.keys ≡ fold (insert_key cell_cmp) found.old.keys (leaf_cells expanded.now)) }
 {

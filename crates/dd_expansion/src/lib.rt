@@ -1,5 +1,5 @@
 //! First-order formulas over the cells of a topology, and their expansions without variables.
-#![tactic(auto)]
+#![tactic(auto, using(std::proofs::lemmas::Grind::common_steps))]
 
 mod atoms;
 mod counting;

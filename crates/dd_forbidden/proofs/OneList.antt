@@ -1,67 +1,20 @@
 -- All breaking fillings in order are one list, no longer than the number of all fillings.
-use Rattle.std.proofs.Common.{◌≡◌, ◌<◌, ◌≤◌, ◌+◌, ◌*◌, ◌^◌, ℕ, zero, suc, Bool, true, false, cond, List, [], ◌∷◌, ◌++◌, length, refl, sym, ◌∙◌, ap, subst, inl, inr, arith}
+use Rattle.std.proofs.Common.{◌≡◌, ◌<◌, ◌≤◌, ◌+◌, ◌*◌, ◌^◌, ℕ, zero, suc, Bool, true, false, cond, List, [], ◌∷◌, ◌++◌, length, sym, subst, arith}
 use Rattle.std.proofs.{Math.Nat.pow-zero, Math.Nat.pow-succ', lemmas.Bool.and_parts, lemmas.Bool.false≢true}
-use Rattle.std.proofs.lemmas.{Cmp.nat_list_cmp_total, Cmp.tied_itself, List.length-append}
-use Rattle.std.proofs.lemmas.List.Elements.{All-nil, All-cons, All-contains}
-use Rattle.std.proofs.lemmas.Map.Views.{All-after_first}
-use Rattle.std.specs.{List.All, List.Contains, List.flat_map, List.range_with_len, List.Sorted.IsStrictlySortedBy, Ordering.nat_cmp}
-use Rattle.std.specs.{Cmp.IsTotalOrder, Cmp.Lexicographic.slice_cmp, declared.cmp.Ordering.Ordering}
-use Rattle.std.specs.declared.cmp.Ordering.TheVariants.{Less, Equal, Greater}
+use Rattle.std.proofs.lemmas.{Cmp.nat_list_cmp_total, List.length-append}
+use Rattle.std.proofs.lemmas.List.Elements.{All-nil, All-cons}
+use Rattle.std.specs.{List.All, List.flat_map, List.range_with_len, Ordering.nat_cmp, Cmp.Lexicographic.slice_cmp}
 use Rattle.dd_lattice.specs.declared.position.Cell.{Cell}
+use Rattle.dd_topology.specs.lemmas.OrderLaws.{same_sorted}
 use Rattle.dd_formula.specs.LocalRule.{LocalRule, rule_allows, cells_at, IsRule}
 use Rattle.dd_formula.specs.lemmas.AllowedLaws.{allowed_below}
 use Rattle.dd_forbidden.specs.Breaking.{are_allowed, is_true_at_origin, IsBreaking, BreakingFillings}
 use Rattle.dd_forbidden.specs.listing.Extensions.{extensions}
 use Rattle.dd_forbidden.proofs.ExtensionLaws.{breaking_fillings}
-use Rattle.dd_values.specs.lemmas.Members.{Contains-later, Contains-cons_cases, Contains-first, Contains-nil}
-
--- ---- lists that ascend strictly and have the same members are the same
-
-module _ {K : Type 0} (R : K → K → Ordering) (o : IsTotalOrder R) where
-  not_itself : (x : K) → R x x ≡ Less → ⊥
-  not_itself x h = let tied : R x x ≡ Equal = tied_itself o x in absurd (cc (tied, h))
-
-  not_both : (x y : K) → R x y ≡ Less → R y x ≡ Less → ⊥
-  not_both x y h k = let back : R x y ≡ Greater = o.antisymm x y ∙ cc k in absurd (cc (back, h))
-
-  after : (x : K) (xs : List K) (q : K) → IsStrictlySortedBy R (x ∷ xs) → Contains xs q → R x q ≡ Less
-  after x xs q up there = All-contains (λ k. R x k ≡ Less) xs q (All-after_first R x xs up) there
-
-  rest : (x : K) (xs : List K) → IsStrictlySortedBy R (x ∷ xs) → IsStrictlySortedBy R xs
-  unfolding IsStrictlySortedBy
-  rest x xs up = up.1
-
-  heads : (x y : K) (xs ys : List K) → IsStrictlySortedBy R (x ∷ xs) → IsStrictlySortedBy R (y ∷ ys) → Contains (y ∷ ys) x → Contains (x ∷ xs) y → x ≡ y
-  heads x y xs ys up up' here there = elim (Contains-cons_cases y ys x here) [
-    | inl same ↦ sym same
-    | inr later ↦ (elim (Contains-cons_cases x xs y there) [
-      | inl same ↦ same
-      | inr other ↦ absurd (not_both x y (after x xs y up other) (after y ys x up' later))
-    ])
-  ]
-
-  -- a later member of the one is a later member of the other
-  later_too : (x y : K) (xs ys : List K) (q : K) → IsStrictlySortedBy R (x ∷ xs) → x ≡ y → Contains xs q → Contains (y ∷ ys) q → Contains ys q
-  later_too x y xs ys q up same there both = elim (Contains-cons_cases y ys q both) [
-    | inl first ↦ absurd (not_itself x (subst (λ k. R x k ≡ Less) (sym (same ∙ first)) (after x xs q up there)))
-    | inr other ↦ other
-  ]
-
-  sorted_same : (xs ys : List K) → IsStrictlySortedBy R xs → IsStrictlySortedBy R ys → ((q : K) → Contains xs q → Contains ys q) →
-      ((q : K) → Contains ys q → Contains xs q) → xs ≡ ys
-  sorted_same [] [] up up' to from = refl
-  sorted_same [] (y ∷ ys) up up' to from = absurd (Contains-nil y (from y (Contains-first y ys)))
-  sorted_same (x ∷ xs) [] up up' to from = absurd (Contains-nil x (to x (Contains-first x xs)))
-  sorted_same (x ∷ xs) (y ∷ ys) up up' to from =
-      let first : x ≡ y = heads x y xs ys up up' (to x (Contains-first x xs)) (from y (Contains-first y ys)) in
-      let others : xs ≡ ys = sorted_same xs ys (rest x xs up) (rest y ys up')
-      (λ q there. later_too x y xs ys q up first there (to q (Contains-later x xs q there)))
-      (λ q there. later_too y x ys xs q up' (sym first) there (from q (Contains-later y ys q there))) in
-      ap (λ k. k ∷ xs) first ∙ ap (λ ks. y ∷ ks) others
 
 pub one_list : (r : LocalRule) (a : ℕ) (xs ys : List (List ℕ)) → BreakingFillings r a xs → BreakingFillings r a ys → xs ≡ ys
 one_list r a xs ys one other =
-    sorted_same (slice_cmp nat_cmp) nat_list_cmp_total xs ys one.ascending other.ascending
+    same_sorted (slice_cmp nat_cmp) nat_list_cmp_total xs ys one.ascending other.ascending
     (λ q there. other.each q (one.only q there)) (λ q there. one.each q (other.only q there))
 
 -- ---- its length

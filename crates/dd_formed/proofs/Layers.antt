@@ -9,6 +9,7 @@ use Rattle.dd_expansion.specs.declared.formulas.Formula.{TheFolds.fold-roll-Form
 use Rattle.dd_expansion.specs.Limits.{balls_fit, formula_fits, formula_fits_step, greatest, list_depth, depth, depth_step}
 use Rattle.dd_expansion.specs.lemmas.Layers.{fits_and, fits_or, depth_and, depth_or}
 use Rattle.dd_expansion.specs.lemmas.Depths.{greatest_at, quantified_depth}
+use Rattle.dd_formula.specs.lemmas.ReachLaws.{max_within}
 use Rattle.dd_values.specs.lemmas.Numbers.{cond_more}
 use Rattle.dd_expansion.specs.declared.formulas.Formula.TheVariants as formula
 
@@ -51,9 +52,7 @@ pub ruleset fits_layers = (fits_not, fits_and, fits_or, fits_implies, fits_iff, 
 
 greatest_le : (fs : List Formula) (n : ℕ) → nat_le (greatest (map depth fs)) n ≡ list_all (λ f. nat_le (depth f) n) fs
 greatest_le [] n = le-leb 0 n (omega arith)
-greatest_le (f ∷ fs) n = most (depth f) (greatest (map depth fs)) n ∙ ap (λ b. nat_le (depth f) n && b) (greatest_le fs n) where
-  most : (a b k : ℕ) → nat_le (max a b) k ≡ (nat_le a k && nat_le b k)
-  most a b k = grind (arith, nat_tests)
+greatest_le (f ∷ fs) n = max_within (depth f) (greatest (map depth fs)) n ∙ ap (λ b. nat_le (depth f) n && b) (greatest_le fs n)
 
 -- a list of less than two parts
 pub shallow_few : (fs : List Formula) (n : ℕ) → length fs < 2 → nat_le (list_depth (map depth fs)) n ≡ list_all (λ f. nat_le (depth f) n) fs

@@ -9,5 +9,6 @@ pub mod CompositionLaws
 pub mod CasesLaws
 pub mod FarthestLaws
 pub mod ValueLaws
+pub mod ValuedLaws
 pub mod FirstCells
 pub mod LookLaws

@@ -109,7 +109,7 @@ impl Automaton {
 
     /// The cells that the automaton reads at a node, counted from the origin, in cell order, each once.
     #[cycle(reads)]
-    #[tactic(auto, using(crate::specs::lemmas::AutomatonLaws::layers))]
+    #[tactic(auto, using(std::proofs::lemmas::Grind::common_steps, crate::specs::lemmas::AutomatonLaws::layers))]
     pub fn reads(&self, alloc: Global, node: u32) -> Result<Vec<Cell>, AllocError>
         requires { HasNode self.now node }
         ensures list { IfOk result (λ v. v.items ≡ cells_of self.now node) }
@@ -163,7 +163,7 @@ impl Automaton {
     /// default. A composition counts the outer automaton at the node, and the inner one at the node and at each cell that
     /// the outer one reads. Past 20,000 it is cut off at 20,001.
     #[cycle(instances)]
-    #[tactic(auto, using(crate::specs::lemmas::AutomatonLaws::layers))]
+    #[tactic(auto, using(std::proofs::lemmas::Grind::common_steps, crate::specs::lemmas::AutomatonLaws::layers))]
     pub fn instances(&self, alloc: Global, node: u32) -> Result<u32, AllocError>
         requires { HasNode self.now node }
         ensures { IfOk result (λ n. n ≡ cut most_instances ((counted self.now).instances node)) }

@@ -1,5 +1,5 @@
 //! Rules: formulas over a topology and an alphabet, their truth, and the configurations that live in their subshifts.
-#![tactic(auto)]
+#![tactic(auto, using(std::proofs::lemmas::Grind::common_steps))]
 
 mod automaton;
 mod by_cases;
@@ -17,9 +17,8 @@ mod values;
 
 pub use automaton::{Automaton, Cases};
 pub use counts::{cut_off, plus, power, times};
-pub use dd_expansion::{BallOf, Expanded, Formula, Term};
+pub use dd_expansion::{Expanded, Formula, Term};
 pub use fault::RuleFault;
 pub use lives::Membership;
-pub use making::MOST_INSTANCES;
 pub use reach::farthest;
 pub use rule::Rule;

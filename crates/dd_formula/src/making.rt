@@ -17,7 +17,7 @@ use dd_values::Items;
 use std::alloc::{AllocError, Global};
 
 /// The greatest number of nodes of an expansion.
-pub const MOST_INSTANCES: u32 = 20_000;
+pub(crate) const MOST_INSTANCES: u32 = 20_000;
 /// The greatest distance along an axis of a cell that is read.
 const MOST_REACH: u32 = 16;
 

@@ -1,5 +1,5 @@
 //! Positions and cells of the lattice Z^d for d = 1, 2, 3, their order, boxes and regions.
-#![tactic(auto)]
+#![tactic(auto, using(std::proofs::lemmas::Grind::common_steps))]
 
 mod bounds;
 mod fault;

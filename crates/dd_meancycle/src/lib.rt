@@ -1,5 +1,5 @@
 //! The least mean of the cycles of a transfer graph, by a cycle and potentials; or ranks where there is no cycle.
-#![tactic(auto)]
+#![tactic(auto, using(std::proofs::lemmas::Grind::common_steps))]
 
 mod confirming;
 mod edges;

@@ -1,7 +1,7 @@
 -- Filling the table, symbol by symbol.
 use Rattle.std.proofs.Common.{◌≡◌, ◌<◌, ◌+◌, ◌++◌, ◌&&◌, ℕ, suc, true, false, cond, Bool, List, [], ◌∷◌, length, map, refl, sym, ◌∙◌, ap, arith}
 use Rattle.std.proofs.lemmas.List.{append_assoc, append-nil, Elements.All-append}
-use Rattle.std.specs.List.{Contains, flat_map, range_with_len}
+use Rattle.std.specs.List.{flat_map, range_with_len}
 use Rattle.dd_lattice.specs.declared.position.Cell.{Cell}
 use Rattle.dd_numbered.specs.{declared.numbered.Numbered.Numbered, Numbered.holds_in, Numbered.IsSettled}
 use Rattle.dd_formula.specs.LocalRule.{LocalRule, rule_allows}
@@ -9,18 +9,13 @@ use Rattle.dd_forbidden.specs.{Breaking.are_allowed, Breaking.is_true_at_origin,
 use Rattle.dd_minimal.specs.{declared.outcome.Outcome.Outcome, declared.outcome.Outcome.TheVariants.Barred, Minimal.words}
 use Rattle.dd_minimal.specs.finding.Outcomes.{outcome_behind, known_outcome, of_truth}
 use Rattle.dd_minimal.proofs.AllWords.{words_are}
-use Rattle.dd_values.specs.lemmas.Members.{Contains-later, Contains-first}
-use Rattle.dd_values.specs.lemmas.Lists.{flat_map_agree, map_flat_map, range_more}
+use Rattle.dd_values.specs.lemmas.Lists.{flat_map_agree, map_agree, map_flat_map, range_more}
 
 -- ---- tables of words, by their first symbols
 
 mapped : {X Y Z : Type 0} (f : Y → Z) (h : X → Y) (xs : List X) → map f (map h xs) ≡ map (λ x. f (h x)) xs
 mapped f h [] = refl
 mapped f h (x ∷ xs) = ap (λ ys. f (h x) ∷ ys) (mapped f h xs)
-
-pub map_same : {X Y : Type 0} (f g : X → Y) (xs : List X) → ((x : X) → Contains xs x → f x ≡ g x) → map f xs ≡ map g xs
-map_same f g [] same = refl
-map_same f g (x ∷ xs) same = ap (λ y. y ∷ map f xs) (same x (Contains-first x xs)) ∙ ap (λ ys. g x ∷ ys) (map_same f g xs (λ q c. same q (Contains-later x xs q c)))
 
 abbrev pub part : (List ℕ → Outcome) → ℕ → ℕ → ℕ → List Outcome
 part f m n s = map (λ ss. f (s ∷ ss)) (words m n)
@@ -51,7 +46,7 @@ pub part_allowed : (r : LocalRule) (a : ℕ) (c : Cell) (cs rest : List Cell) (s
     part (outcome_behind r a rest start) m n s ≡ map (outcome_behind r a cs (start ++ s ∷ [])) (words m n)
 part_allowed r a c cs rest start m n s split is =
     ap (λ ds. part (outcome_behind r a ds start) m n s) split
-    ∙ map_same (λ ss. outcome_behind r a (c ∷ cs) start (s ∷ ss)) (outcome_behind r a cs (start ++ s ∷ [])) (words m n)
+    ∙ map_agree (λ ss. outcome_behind r a (c ∷ cs) start (s ∷ ss)) (outcome_behind r a cs (start ++ s ∷ [])) (words m n)
     (λ ss at. behind_at r a start s ss (rule_allows r c.node s) (are_allowed r cs ss) is)
 
 barred_at : (al rest : Bool) (o : Outcome) → al ≡ false → cond (al && rest) o Barred ≡ cond rest Barred Barred
@@ -62,7 +57,7 @@ pub part_barred : (r : LocalRule) (a : ℕ) (c : Cell) (cs rest : List Cell) (st
     part (outcome_behind r a rest start) m n s ≡ map (known_outcome r cs Barred) (words m n)
 part_barred r a c cs rest start m n s split is =
     ap (λ ds. part (outcome_behind r a ds start) m n s) split
-    ∙ map_same (λ ss. outcome_behind r a (c ∷ cs) start (s ∷ ss)) (known_outcome r cs Barred) (words m n)
+    ∙ map_agree (λ ss. outcome_behind r a (c ∷ cs) start (s ∷ ss)) (known_outcome r cs Barred) (words m n)
     (λ ss at. barred_at (rule_allows r c.node s) (are_allowed r cs ss) (of_truth (is_true_at_origin r a (start ++ s ∷ ss))) is)
 
 known_at : (al rest : Bool) (o : Outcome) → cond (al && rest) o Barred ≡ cond rest (cond al o Barred) Barred
@@ -74,7 +69,7 @@ pub part_known : (r : LocalRule) (c : Cell) (cs rest : List Cell) (o : Outcome) 
     part (known_outcome r rest o) m n s ≡ map (known_outcome r cs (cond (rule_allows r c.node s) o Barred)) (words m n)
 part_known r c cs rest o m n s split =
     ap (λ ds. part (known_outcome r ds o) m n s) split
-    ∙ map_same (λ ss. known_outcome r (c ∷ cs) o (s ∷ ss)) (known_outcome r cs (cond (rule_allows r c.node s) o Barred)) (words m n)
+    ∙ map_agree (λ ss. known_outcome r (c ∷ cs) o (s ∷ ss)) (known_outcome r cs (cond (rule_allows r c.node s) o Barred)) (words m n)
     (λ ss at. known_at (rule_allows r c.node s) (are_allowed r cs ss) o)
 
 -- ---- what the first symbols settle
@@ -82,7 +77,7 @@ part_known r c cs rest o m n s split =
 pub all_settled : (r : LocalRule) (a : ℕ) (e : Numbered) (rest : List Cell) (start begun : List ℕ) (truth value : Bool) → SaysKept r a e → AreSymbols r start → begun ≡ start → value ≡ truth → IsSettled e begun value →
     map (known_outcome r rest (of_truth truth)) (words r.symbols (length rest)) ≡ map (outcome_behind r a rest start) (words r.symbols (length rest))
 all_settled r a e rest start begun truth value says below same is settled =
-    map_same (known_outcome r rest (of_truth truth)) (outcome_behind r a rest start) (words r.symbols (length rest))
+    map_agree (known_outcome r rest (of_truth truth)) (outcome_behind r a rest start) (words r.symbols (length rest))
     (λ ss c.
     let symbols = All-append (λ s. s < r.symbols) start ss below (words_are r.symbols (length rest) ss c).below in
     let so : is_true_at_origin r a (start ++ ss) ≡ truth =

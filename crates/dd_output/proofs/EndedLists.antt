@@ -12,7 +12,7 @@ use Rattle.dd_certificate.specs.Bounds.{most_count, IsWritableHint}
 use Rattle.dd_values.specs.Bounds.{most_variables}
 use Rattle.dd_output.proofs.Readers.{Reads, before_reads, map_reads, same_reads, choice_reads}
 use Rattle.dd_output.proofs.{Tokens.word_reads, Tokens.after_reads, Numbers.IsEnd, Numbers.number_reads}
-use Rattle.dd_output.proofs.Entries.{entries_text, AllFrom, entry_fits, entry_text, entries_reads, shorter, unrolled_item}
+use Rattle.dd_output.proofs.Entries.{entries_text, AllFrom, entry_fits, entry_text, entries_reads, unrolls}
 use Rattle.dd_output.proofs.{Loops.Unrolls, Signs.FirstDigit, Signs.first_digit, Forms.only, Forms.Good, Forms.good_same}
 
 the_end : (end other : ℕ) → IsEnd end other end
@@ -170,10 +170,7 @@ pub flat_unrolls : {A : Type 0} (F : A → Type 0) (t : A → List ℕ) (u : Lis
     → ((x : A) → F x → 0 < length (t x)) → Unrolls (λ _. entry)
 flat_unrolls F t u entry law some =
     let C : ℕ → List ℕ → Type 0 = IsList {B = Unit {0}} (λ _. F) (λ _. t) anything (λ _ _. u) in
-    record {
-      shorter = shorter (λ _. F) (λ _. t) anything (λ _ _. u) C (λ _. entry) law (λ k x good. some x good) (λ k x text good rest. list_more (λ _. F) (λ _. t) anything (λ _ _. u) k x text good rest);
-      unrolled = unrolled_item (λ _. F) (λ _. t) anything (λ _ _. u) C (λ _. entry) law (λ k x good. some x good) (λ k x text good rest. list_more (λ _. F) (λ _. t) anything (λ _ _. u) k x text good rest);
-    }
+    unrolls (λ _. F) (λ _. t) anything (λ _ _. u) C (λ _. entry) law (λ k x good. some x good) (λ k x text good rest. list_more (λ _. F) (λ _. t) anything (λ _ _. u) k x text good rest)
 
 pub hint_unrolls : (end : ℕ) → Unrolls (λ _. number_entry end)
 hint_unrolls end = flat_unrolls IsWritableHint spaced (48 ∷ end ∷ []) (number_entry end) (number_entry_reads end) hint_some

@@ -1,6 +1,7 @@
 -- The law of lists that continue as long as the next entry is an item.
 use Rattle.std.proofs.Common.{◌≡◌, ℕ, zero, suc, ◌<◌, List, [], ◌∷◌, ◌++◌, length, Result, Ok, Err, inl, inr, refl, sym, ap, subst, ◌∙◌, append_assoc, length-append, arith}
 use Rattle.dd_output.specs.reading.Stops.{Stop, stop, Read, ◌>>=◌, Entry, item, last, next_at, until_at, entries_at}
+use Rattle.dd_output.proofs.Loops.{Unrolls}
 use Rattle.dd_output.proofs.Readers.{Halts, Reads, bind_ok, bind_err, ok_is}
 
 -- the text of such a list, from the place k on
@@ -31,7 +32,7 @@ module _ {A B : Type 0} (F : ℕ → A → Type 0) (t : ℕ → A → List ℕ) 
     (law : (k : ℕ) → Reads (entry_fits F G k) (entry_text t u k) (C k) (entry k))
     (some : (k : ℕ) (x : A) → F k x → 0 < length (t k x))
     (more : (k : ℕ) (x : A) (text : List ℕ) → F k x → C (suc k) text → C k (t k x ++ text)) where
-  pub shorter : (k : ℕ) (bytes : List ℕ) (x : A) (rest : List ℕ) → entry k bytes ≡ Ok (item x, rest) → length rest < length bytes
+  shorter : (k : ℕ) (bytes : List ℕ) (x : A) (rest : List ℕ) → entry k bytes ≡ Ok (item x, rest) → length rest < length bytes
   shorter k bytes x rest e =
       let one = (law k).takes bytes (item x) rest e in
       omega (arith, ap length one.0, length-append (t k x) rest, some k x one.1)
@@ -54,11 +55,14 @@ module _ {A B : Type 0} (F : ℕ → A → Type 0) (t : ℕ → A → List ℕ) 
       (next_same f g k bytes (until_same f g (suc k)) p q)
 
   -- one entry, and the rest
-  pub unrolled_item : (k : ℕ) (bytes : List ℕ) (x : A) (rest : List ℕ) → entry k bytes ≡ Ok (item x, rest)
+  unrolled_item : (k : ℕ) (bytes : List ℕ) (x : A) (rest : List ℕ) → entry k bytes ≡ Ok (item x, rest)
       → entries_at entry k bytes ≡ (entries_at entry (suc k) rest >>= λ o. Ok ((x ∷ o.0.0, o.0.1), o.1))
   unrolled_item k bytes x rest e =
       let short = shorter k bytes x rest e in
       rw (e, until_same (length bytes) (suc (length rest)) (suc k) rest (omega (arith, short)) (omega arith)) refl
+
+  pub unrolls : Unrolls entry
+  unrolls = record { shorter = shorter; unrolled = unrolled_item }
 
   pub unrolled_last : (k : ℕ) (bytes : List ℕ) (y : B) (rest : List ℕ) → entry k bytes ≡ Ok (last y, rest)
       → entries_at entry k bytes ≡ Ok (([], y), rest)

@@ -9,7 +9,7 @@ use Rattle.dd_certificate.specs.Bounds.{most_number, IsWritableNumber, IsWritabl
 use Rattle.dd_output.specs.reading.Stops.{Read, is_digit, number_at, map_at, Entry, item, last, entries_at}
 use Rattle.dd_output.specs.reading.Lists.{AtMost, is_last, end_at, other_at, zeros, line_entry_of, line_of, line_entry, numbers, signed_at, signed_entry, integers}
 use Rattle.dd_output.proofs.{Readers.Reads, Readers.map_reads, Readers.same_reads, Numbers.IsEnd, Numbers.number_reads, Signs.signed_reads}
-use Rattle.dd_output.proofs.Entries.{entries_text, AllFrom, entry_fits, entry_text, entries_reads, shorter, unrolled_item}
+use Rattle.dd_output.proofs.Entries.{entries_text, AllFrom, entry_fits, entry_text, entries_reads, unrolls}
 use Rattle.dd_output.proofs.{Loops.Unrolls, EndedLists.IsList, EndedLists.list_more}
 use Rattle.dd_output.proofs.Forms.{IsText, ReadsText, Good, text_map}
 
@@ -153,12 +153,9 @@ module _ {A : Type 0} (F : A → Type 0) (show : A → List ℕ) (nil : A) (nil_
   item_some x = omega (arith, length-append (show x) (32 ∷ []))
 
   pub line_unrolls : Unrolls {A = A} {B = A} (entries_with one least most)
-  line_unrolls = record {
-    shorter = shorter ItemFits item_text LastFits last_text Completed (entries_with one least most) entry_reads (λ k x good. item_some x)
-        (λ k x text good rest. list_more ItemFits item_text LastFits last_text k x text good rest);
-    unrolled = unrolled_item ItemFits item_text LastFits last_text Completed (entries_with one least most) entry_reads (λ k x good. item_some x)
-        (λ k x text good rest. list_more ItemFits item_text LastFits last_text k x text good rest);
-  }
+  line_unrolls =
+      unrolls ItemFits item_text LastFits last_text Completed (entries_with one least most) entry_reads (λ k x good. item_some x)
+      (λ k x text good rest. list_more ItemFits item_text LastFits last_text k x text good rest)
 
   line_shift : (k : ℕ) (xs : List A) (y : A) → 32 ∷ entries_text item_text last_text k xs y ≡ flat_map (after_shown show) (xs ++ y ∷ []) ++ 10 ∷ []
   line_shift k [] y = sym (ap (λ (l : List ℕ). l ++ 10 ∷ []) (flat_map-cons (after_shown show) y [] ∙ append-nil ((after_shown show) y)))

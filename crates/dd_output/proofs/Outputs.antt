@@ -12,7 +12,7 @@ use Rattle.dd_output.specs.reading.{Lists.items_of, Lists.ended, Grammar.answer_
 use Rattle.dd_output.specs.reading.Whole.{answer_entry_of, query_text, open_entry, answer_entry, answers_at, script_of, script_at, output_of, head_text, output_at}
 use Rattle.dd_output.proofs.Readers.{Reads, before_reads, then_reads, map_reads, same_reads, choice_reads}
 use Rattle.dd_output.proofs.{Tokens.word_reads, Tokens.bytes_reads, Tokens.after_reads, Numbers.number_reads}
-use Rattle.dd_output.proofs.Entries.{entries_text, AllFrom, entry_fits, entry_text, entries_reads, shorter, unrolled_item}
+use Rattle.dd_output.proofs.Entries.{entries_text, AllFrom, entry_fits, entry_text, entries_reads, unrolls}
 use Rattle.dd_output.proofs.{Loops.Unrolls, EndedLists.IsList, EndedLists.list_more}
 use Rattle.dd_output.proofs.Forms.{IsText, ReadsText, InBounds, number_text, only, text_map}
 use Rattle.dd_output.proofs.{Periods.cond_reads, FirstBytes.body_text, AnswerRows.answer_good}
@@ -131,12 +131,9 @@ answer_some : (k : ℕ) (a : Answer) → 0 < length (answer_text_at k a)
 answer_some k a = omega arith
 
 pub answer_unrolls : Unrolls {B = Unit {0}} answer_entry
-answer_unrolls = record {
-  shorter = shorter FitsAt answer_text_at done the_end Answers answer_entry answer_entry_reads (λ k x good. answer_some k x)
-      (λ k x text good rest. list_more {B = Unit {0}} FitsAt answer_text_at done the_end k x text good rest);
-  unrolled = unrolled_item FitsAt answer_text_at done the_end Answers answer_entry answer_entry_reads (λ k x good. answer_some k x)
-      (λ k x text good rest. list_more {B = Unit {0}} FitsAt answer_text_at done the_end k x text good rest);
-}
+answer_unrolls =
+    unrolls FitsAt answer_text_at done the_end Answers answer_entry answer_entry_reads (λ k x good. answer_some k x)
+    (λ k x text good rest. list_more {B = Unit {0}} FitsAt answer_text_at done the_end k x text good rest)
 
 -- ---- all answers
 

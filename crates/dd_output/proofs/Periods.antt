@@ -11,7 +11,7 @@ use Rattle.dd_output.specs.reading.Forms.{Form, nothing, number, after}
 use Rattle.dd_output.specs.reading.Periods.{PeriodsEnd, ends, shears, period_of, period_at, shear_of, shear_at, period_entry, periods_of, periods}
 use Rattle.dd_output.proofs.{Readers.Reads, Readers.map_reads, Readers.same_reads, Readers.choice_reads, Numbers.number_reads}
 use Rattle.dd_output.proofs.Signs.{first_digit}
-use Rattle.dd_output.proofs.Entries.{entries_text, AllFrom, entry_fits, entry_text, entries_reads, shorter, unrolled_item}
+use Rattle.dd_output.proofs.Entries.{entries_text, AllFrom, entry_fits, entry_text, entries_reads, unrolls}
 use Rattle.dd_output.proofs.{Loops.Unrolls, EndedLists.IsList, EndedLists.list_more}
 use Rattle.dd_output.proofs.Forms.{IsText, Good, text_map, good_after, good_number, InBounds, number_text, Within, ended_number}
 
@@ -164,12 +164,9 @@ period_some : (p : ℕ) → 0 < length (decimal p ++ 32 ∷ [])
 period_some p = omega (arith, length-append (decimal p) (32 ∷ []))
 
 pub periods_unroll : Unrolls {A = ℕ} {B = PeriodsEnd} period_entry
-periods_unroll = record {
-  shorter = shorter PeriodFits period_text EndFits end_text Completed period_entry entry_reads (λ k x good. period_some x)
-      (λ k x text good rest. list_more PeriodFits period_text EndFits end_text k x text good rest);
-  unrolled = unrolled_item PeriodFits period_text EndFits end_text Completed period_entry entry_reads (λ k x good. period_some x)
-      (λ k x text good rest. list_more PeriodFits period_text EndFits end_text k x text good rest);
-}
+periods_unroll =
+    unrolls PeriodFits period_text EndFits end_text Completed period_entry entry_reads (λ k x good. period_some x)
+    (λ k x text good rest. list_more PeriodFits period_text EndFits end_text k x text good rest)
 
 -- ---- all periods
 

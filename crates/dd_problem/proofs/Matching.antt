@@ -10,14 +10,14 @@ use Rattle.dd_expansion.specs.lemmas.{LeafLaws.leaves_both, LeafLaws.leaves_weak
 use Rattle.dd_compile.specs.Wiring.{Wiring}
 use Rattle.dd_compile.specs.Compiling.{made, wires_near, is_wire, certain, compiled, wire_or_zero}
 use Rattle.dd_compile.specs.{lemmas.MadeCount.made_same, ValueSignals.are_wired_there}
-use Rattle.dd_formula.specs.{LocalRule.LocalRule, LocalRule.IsRule, LocalRule.reads_at, LocalRule.expansion_at, Automata.counted}
+use Rattle.dd_formula.specs.{LocalRule.LocalRule, LocalRule.IsRule, LocalRule.reads_at, LocalRule.expansion_at, Automata.counted, lemmas.ReachLaws.all_numbers}
 use Rattle.dd_boxes.specs.{Goals.GoalOf, Goals.breaks, Goals.differ, Goals.always, Boxes.origin}
 use Rattle.dd_problem.specs.{pushing.Told.IsToldGoal, Layouts.Layout, Layouts.fits_in}
 use Rattle.dd_problem.specs.Clauses.{input, Part, cell_clauses, part_gates, part_clauses, units, some_true, some_false}
 use Rattle.dd_problem.specs.Problems.{wire, place_maker, premise_part, goal_part, input_count, problem}
 use Rattle.dd_problem.specs.{Differing.differ_made, lemmas.ValueWires.GoalWired, lemmas.ValueWires.value_is_wired}
 use Rattle.dd_problem.specs.pushing.Pushed.{are_both_wired, is_wired_at, is_goal_wired, wired_part, wired_parts, wired_goal, wired_problem}
-use Rattle.dd_problem.specs.lemmas.{RangesLeft.row_within, Reading.IsLayout, Wiring.HasReads, Wiring.all_of_range}
+use Rattle.dd_problem.specs.lemmas.{RangesLeft.row_within, Reading.IsLayout, Wiring.HasReads}
 use Rattle.dd_values.specs.lemmas.Booleans.{same_bool}
 
 -- at the leaves that pass p, counted from v, the wires are the layout's inputs
@@ -141,12 +141,12 @@ goal_same w l x p always ok layout reads match = refl
 pub goal_is_wired : (w : Wiring) (l : Layout) (x : LocalRule) (p : Cell → Bool) (g : GoalOf) → IsToldGoal x g → IsLayout l → HasReads l g → GoalWired l x.symbols g → GoalMatches w l x.symbols p g →
     is_goal_wired w (length l.places * x.symbols) g ≡ true
 goal_is_wired w l x p (breaks y) ok layout reads values match =
-    all_of_range (λ a. is_wired_at w (length l.places * x.symbols) y (cell origin a)) y.nodes 0
+    all_numbers (λ a. is_wired_at w (length l.places * x.symbols) y (cell origin a)) 0 y.nodes
     (λ a below. (let node : a < y.nodes = omega arith in same_test w l x.symbols p y (cell origin a) ok.0 (sym ok.1.symbols) layout (match a node) ∙ reads a node))
 goal_is_wired w l x p (differ s f g) ok layout reads values match =
     let n = length l.places * x.symbols in
     let same = ap (λ k. length l.places * k) values.symbols in
-    all_of_range (are_both_wired w n s f g) s.nodes 0
+    all_numbers (are_both_wired w n s f g) 0 s.nodes
     (λ a below. (let node : a < s.nodes = omega arith in
     and_from _ _
     (ap (λ v. are_wired_there n s.symbols v ((counted f).reads a) (cell origin a)) match ∙ value_is_wired l layout.within s f values.left a node n (omega (arith, same)))

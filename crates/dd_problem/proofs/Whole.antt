@@ -6,21 +6,21 @@ use Rattle.dd_clause.specs.Clauses.{ClauseList}
 use Rattle.dd_circuit.specs.Circuits.{size}
 use Rattle.dd_compile.specs.{Wiring.Wiring, Compiling.wires_near, ValueSignals.are_wired_there, lemmas.Layers.wired_more}
 use Rattle.dd_compile.specs.lemmas.StillWired.{still_wired}
-use Rattle.dd_formula.specs.{Automata.counted, LocalRule.LocalRule, LocalRule.expansion_at}
+use Rattle.dd_formula.specs.{Automata.counted, LocalRule.LocalRule, LocalRule.expansion_at, lemmas.ReachLaws.all_numbers}
 use Rattle.dd_boxes.specs.{Boxes.origin, Goals.GoalOf, Goals.breaks, Goals.differ, Goals.always}
 use Rattle.dd_problem.specs.Clauses.{Part, cell_clauses, part_gates, part_clauses}
 use Rattle.dd_problem.specs.Encodings.{Encoding, clause_list, extended, over_inputs, with_parts}
 use Rattle.dd_problem.specs.pushing.Pushed.{are_both_wired, is_wired_at, is_goal_wired, wired_parts, wired_goal, wired_problem}
-use Rattle.dd_problem.specs.lemmas.Wiring.{all_of_range, range_at}
+use Rattle.dd_problem.specs.lemmas.Wiring.{range_at}
 use Rattle.dd_problem.specs.lemmas.Growing.{same_encoding, extended_size, with_parts-append}
 
 -- a goal that is wired with some variables is still wired with more
 pub goal_wired_more : (w : Wiring) (n m : ℕ) (g : GoalOf) → n ≤ m → is_goal_wired w n g ≡ true → is_goal_wired w m g ≡ true
 goal_wired_more w n m (breaks y) more h =
-    all_of_range (λ a. is_wired_at w m y (cell origin a)) y.nodes 0
+    all_numbers (λ a. is_wired_at w m y (cell origin a)) 0 y.nodes
     (λ a below. wired_more n m (wires_near w origin) (expansion_at y a) more (range_at (λ b. is_wired_at w n y (cell origin b)) y.nodes 0 a h (omega arith) below))
 goal_wired_more w n m (differ s f g) more h =
-    all_of_range (are_both_wired w m s f g) s.nodes 0
+    all_numbers (are_both_wired w m s f g) 0 s.nodes
     (λ a below. (let here = range_at (are_both_wired w n s f g) s.nodes 0 a h (omega arith) below in
     let both = and_parts (are_wired_there n s.symbols w ((counted f).reads a) (cell origin a)) (are_wired_there n s.symbols w ((counted g).reads a) (cell origin a)) here in
     and_from _ _ (still_wired n m s.symbols w (cell origin a) more ((counted f).reads a) both.0)

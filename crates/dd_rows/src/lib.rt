@@ -1,6 +1,6 @@
 //! The linear program of a rule along some vectors: the domain on which the rule is discharged, its admissible fillings, and the
 //! patterns and distinct rows that they give.
-#![tactic(auto)]
+#![tactic(auto, using(std::proofs::lemmas::Grind::common_steps))]
 
 mod domain;
 mod fault;

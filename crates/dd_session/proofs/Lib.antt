@@ -1,4 +1,3 @@
-pub mod Asked
 pub mod ByWord
 pub mod CheckEnds
 pub mod CheckedOver

@@ -112,7 +112,7 @@ fn answer_one<K: Sink, E: Engine>(
 }
 
 // Answers all queries in order. Each answer is written before the next one is made. True where some answer is unknown.
-#[tactic(auto, using(crate::proofs::Asked::asked_at, crate::proofs::Streamed::answered_next, crate::proofs::Engaging::engaged_next))]
+#[tactic(auto, using(dd_values::specs::lemmas::Lists::contains_at, crate::proofs::Streamed::answered_next, crate::proofs::Engaging::engaged_next))]
 fn answer_all<K: Sink, E: Engine>(
     alloc: Global,
     script: &Script,

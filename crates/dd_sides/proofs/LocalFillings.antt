@@ -13,7 +13,8 @@ use Rattle.dd_boxes.specs.Boxes.{origin}
 use Rattle.dd_rows.specs.{Fillings.look_of, Fillings.words, Fillings.fillings, Laws.AreCellsOf, Patterns.pattern_at, Programs.origin_weight}
 use Rattle.dd_rows.specs.lemmas.AdmissibleLaws.{the_admissible}
 use Rattle.dd_sides.specs.Sides.{position_weight}
-use Rattle.dd_sides.specs.lemmas.WordLaws.{read_word, word_has, words_have, mapped_alike}
+use Rattle.dd_values.specs.lemmas.Lists.{map_agree}
+use Rattle.dd_sides.specs.lemmas.WordLaws.{read_word, word_has, words_have}
 
 -- the symbol of a cell, counted from p
 abbrev pub around : Look → Place → Cell → ℕ
@@ -78,7 +79,7 @@ shown_filling x cs look p rule of flat allowed all ok =
 pub shown_pattern : (cs box : List Cell) (look : Look) (p q : Place) → ((c : Cell) → Contains box c → Contains cs (shifted q c)) →
     pattern_at box (shown cs look p) q ≡ pattern_at box look (moved q p)
 shown_pattern cs box look p q within =
-    mapped_alike (λ c. unwrap_or (shown cs look p (shifted q c)) 0) (λ c. unwrap_or (look (shifted (moved q p) c)) 0) box (λ c h.
+    map_agree (λ c. unwrap_or (shown cs look p (shifted q c)) 0) (λ c. unwrap_or (look (shifted (moved q p) c)) 0) box (λ c h.
     ap (λ (o : Option ℕ). unwrap_or o 0) (read_word (around look p) cs (shifted q c) (within c h))
     ∙ ap (λ (d : Cell). unwrap_or (look d) 0) (shifted_twice q p c))
 
@@ -86,6 +87,6 @@ pub shown_weight : (x : LocalRule) (ws : List ℕ) (cs : List Cell) (look : Look
     origin_weight x ws (shown cs look p) ≡ position_weight x ws look p
 shown_weight x ws cs look p within =
     ap (total_weight ws)
-    (mapped_alike (λ a. unwrap_or (shown cs look p (cell origin a)) 0) (λ a. unwrap_or (look (cell p a)) 0) (range_with_len 0 x.nodes) (λ a h.
+    (map_agree (λ a. unwrap_or (shown cs look p (cell origin a)) 0) (λ a. unwrap_or (look (cell p a)) 0) (range_with_len 0 x.nodes) (λ a h.
     ap (λ (o : Option ℕ). unwrap_or o 0) (read_word (around look p) cs (cell origin a) (within a h))
     ∙ ap (λ (q : Place). unwrap_or (look (cell q a)) 0) (moved_from_origin p)))

@@ -1,5 +1,5 @@
 -- At the end the columns and the duals are feasible and have the same value, so no columns give more.
-use Rattle.std.proofs.Common.{◌≡◌, ◌≢◌, ℕ, zero, suc, ◌+◌, ◌-◌, ◌<◌, ◌≤◌, List, length, Bool, true, false, cond, None, refl, sym, ap, subst, ◌∙◌, arith}
+use Rattle.std.proofs.Common.{◌≡◌, ◌≢◌, ℕ, zero, suc, ◌+◌, ◌-◌, ◌<◌, List, length, Bool, true, false, cond, None, refl, sym, ap, subst, ◌∙◌, arith}
 use Rattle.std.specs.Bool.{nat_lt}
 use Rattle.dd_fraction.specs.{Exact.Exact, Exact.plus, Exact.times, Exact.minus, Exact.low, Order.IsNonneg, Order.IsAtMost}
 use Rattle.dd_fraction.specs.lemmas.Laws.{plus_comm, zero_plus, plus_zero, zero_times, times_zero, times_one, one_times, plus_minus, plus_undo, plus_cancel, plus_low_left, low_plus, low_times, minus_minus, minus_plus, minus_times, minus_times_right}
@@ -10,26 +10,20 @@ use Rattle.dd_simplex.specs.{Dictionaries.Dictionary, Dictionaries.count, Runs.e
 use Rattle.dd_simplex.specs.Laws.{dictionary_coefficient, price}
 use Rattle.dd_simplex.proofs.Totals.{eq_same, total_low, total_same, total_none, total_pick, total_split, total_nonneg, zero_nonneg}
 use Rattle.dd_simplex.proofs.{Equations.Holds, Reaching.IsReached, Reaching.start_holds, Reaching.start_says, Reaching.entering_none}
-use Rattle.dd_values.specs.lemmas.Booleans.{eq_other}
+use Rattle.dd_values.specs.lemmas.Booleans.{eq_other, lt_yes, lt_no}
 
 -- ---- orders from sums
+taken_away : (a y b : Exact) → plus a y ≡ low b → plus b (minus a) ≡ low y
+taken_away a y b e =
+    sym (plus_low_left b (minus a))
+    ∙ (ap (λ (t : Exact). plus t (minus a)) (sym e)
+    ∙ (plus_comm (plus a y) (minus a) ∙ (ap (λ (t : Exact). plus (minus a) (plus t y)) (sym (minus_minus a)) ∙ plus_undo (minus a) y)))
+
 at_most_from_sum : (a y b : Exact) → plus a y ≡ low b → IsNonneg y → IsAtMost a b
-at_most_from_sum a y b e p = at_most_from_gap a b (subst IsNonneg (sym gap) (nonneg_lowest y.num y.den p.sign))
-  where
-    gap : plus b (minus a) ≡ low y
-    gap =
-        sym (plus_low_left b (minus a))
-        ∙ (ap (λ (t : Exact). plus t (minus a)) (sym e)
-        ∙ (plus_comm (plus a y) (minus a) ∙ (ap (λ (t : Exact). plus (minus a) (plus t y)) (sym (minus_minus a)) ∙ plus_undo (minus a) y)))
+at_most_from_sum a y b e p = at_most_from_gap a b (subst IsNonneg (sym (taken_away a y b e)) (nonneg_lowest y.num y.den p.sign))
 
 at_most_from_less : (x z u : Exact) → plus z x ≡ low u → IsNonneg (minus x) → IsAtMost u z
-at_most_from_less x z u e p = at_most_from_sum u (minus x) z same p
-  where
-    same : plus u (minus x) ≡ low z
-    same =
-        sym (plus_low_left u (minus x))
-        ∙ (ap (λ (t : Exact). plus t (minus x)) (sym e ∙ plus_comm z x)
-        ∙ (plus_comm (plus x z) (minus x) ∙ (ap (λ (t : Exact). plus (minus x) (plus t z)) (sym (minus_minus x)) ∙ plus_undo (minus x) z)))
+at_most_from_less x z u e p = at_most_from_sum u (minus x) z (taken_away x z u (plus_comm x z ∙ e)) p
 
 total_minus : (f : ℕ → Exact) (n : ℕ) → fraction_sum (λ v. minus (f v)) n ≡ minus (fraction_sum f n)
 total_minus f zero = refl
@@ -41,23 +35,14 @@ joined p u s w = cond (nat_lt w p.columns) (u w) (s (w - p.columns))
 
 joined_column : (p : LinearProgram) (u s : ℕ → Exact) (j : ℕ) → j < p.columns → joined p u s j ≡ u j
 joined_column p u s j h = ap (λ (b : Bool). cond b (u j) (s (j - p.columns))) (lt_yes j p.columns h)
-  where
-    lt_yes : (v n : ℕ) → v < n → nat_lt v n ≡ true
-    lt_yes v n p = grind (arith, p)
 
 joined_slack : (p : LinearProgram) (u s : ℕ → Exact) (k : ℕ) → joined p u s (p.columns + k) ≡ s k
 joined_slack p u s k = ap (λ (b : Bool). cond b (u (p.columns + k)) (s (p.columns + k - p.columns))) (lt_no (p.columns + k) p.columns (omega arith)) ∙ ap s (take_off p.columns k)
   where
-    lt_no : (v n : ℕ) → n ≤ v → nat_lt v n ≡ false
-    lt_no v n p = grind (arith, p)
-
     take_off : (n k : ℕ) → n + k - n ≡ k
     take_off n k = omega arith
 
 module _ (p : LinearProgram) (d : Dictionary) (g : IsProgram p) (r : IsReached p d) where
-  n : ℕ
-  n = p.columns
-
   -- columns u and slacks s that meet the rows with σ times their bounds
   abbrev slack_price : ℕ → Exact
   slack_price k = price d (p.columns + k)
@@ -88,21 +73,21 @@ module _ (p : LinearProgram) (d : Dictionary) (g : IsProgram p) (r : IsReached p
       ap (λ (y : Exact). plus y (minus (coefficient p k j))) (column_alone j q (coefficient p k))
       ∙ (plus_low_left (coefficient p k j) (minus (coefficient p k j)) ∙ (plus_minus (coefficient p k j) ∙ sym (zero_times (bound_at p k))))
 
+  -- a sum over columns and slacks
+  joined_total : (f u s : ℕ → Exact) → fraction_sum (λ w. times (f w) (joined p u s w)) (count p)
+      ≡ plus (fraction_sum (λ j. times (f j) (u j)) p.columns) (fraction_sum (λ k. times (f (p.columns + k)) (s k)) (length p.rows))
+  joined_total f u s =
+      total_split (λ w. times (f w) (joined p u s w)) p.columns (length p.rows)
+      ∙ (λ i. plus
+      (total_same (λ w. times (f w) (joined p u s w)) (λ j. times (f j) (u j)) p.columns (λ j q. ap (times (f j)) (joined_column p u s j q)) i)
+      (total_same (λ k. times (f (p.columns + k)) (joined p u s (p.columns + k))) (λ k. times (f (p.columns + k)) (s k)) (length p.rows) (λ k q. ap (times (f (p.columns + k))) (joined_slack p u s k)) i))
+
   worth_at : (σ : Exact) (u s : ℕ → Exact)
       → ((k : ℕ) → k < length p.rows → plus (fraction_sum (λ j. times (coefficient p k j) (u j)) p.columns) (s k) ≡ times σ (bound_at p k))
       → plus (times σ d.value) (plus (fraction_sum (λ j. times (price d j) (u j)) p.columns) (fraction_sum (λ k. times (slack_price k) (s k)) (length p.rows))) ≡ low (u 0)
   worth_at σ u s h =
-      sym (ap (plus (times σ d.value)) (total_split (λ w. times (price d w) (x w)) p.columns (length p.rows) ∙ (λ i. plus (columns i) (slacks i))))
-      ∙ (r.worth σ x (start_holds p σ x (joined_meets σ u s h)) ∙ ap low (joined_column p u s 0 g.wide))
-    where
-      x : ℕ → Exact
-      x = joined p u s
-
-      columns : fraction_sum (λ w. times (price d w) (x w)) p.columns ≡ fraction_sum (λ j. times (price d j) (u j)) p.columns
-      columns = total_same (λ w. times (price d w) (x w)) (λ j. times (price d j) (u j)) p.columns (λ j q. ap (times (price d j)) (joined_column p u s j q))
-
-      slacks : fraction_sum (λ k. times (price d (p.columns + k)) (x (p.columns + k))) (length p.rows) ≡ fraction_sum (λ k. times (slack_price k) (s k)) (length p.rows)
-      slacks = total_same (λ k. times (price d (p.columns + k)) (x (p.columns + k))) (λ k. times (slack_price k) (s k)) (length p.rows) (λ k q. ap (times (slack_price k)) (joined_slack p u s k))
+      sym (ap (plus (times σ d.value)) (joined_total (price d) u s))
+      ∙ (r.worth σ (joined p u s) (start_holds p σ (joined p u s) (joined_meets σ u s h)) ∙ ap low (joined_column p u s 0 g.wide))
 
   dual_price : (k : ℕ) → dual_of p d k ≡ minus (price d (p.columns + k))
   dual_price k = by (d.is_basic (p.columns + k))
@@ -135,9 +120,6 @@ module _ (p : LinearProgram) (d : Dictionary) (g : IsProgram p) (r : IsReached p
   duals_equation : (j : ℕ) → j < p.columns → plus (fraction_sum (λ k. times (dual_of p d k) (coefficient p k j)) (length p.rows)) (price d j) ≡ low (unit 0 j)
   duals_equation j q = sum
     where
-      u : ℕ → Exact
-      u w = unit w j
-
       S : Exact
       S = fraction_sum (λ k. times (dual_of p d k) (coefficient p k j)) (length p.rows)
 
@@ -172,15 +154,8 @@ module _ (p : LinearProgram) (d : Dictionary) (g : IsProgram p) (r : IsReached p
       → (v : ℕ) → v < count p → d.is_basic v ≡ true
       → plus (fraction_sum (λ j. times (dictionary_coefficient d v j) (u j)) p.columns) (fraction_sum (λ k. times (dictionary_coefficient d v (p.columns + k)) (s k)) (length p.rows)) ≡ times σ (d.bound v)
   side_at σ u s h v q b =
-      sym (total_split (λ w. times (dictionary_coefficient d v w) (joined p u s w)) p.columns (length p.rows) ∙ (λ i. plus (columns i) (slacks i)))
+      sym (joined_total (dictionary_coefficient d v) u s)
       ∙ r.forth σ (joined p u s) (start_holds p σ (joined p u s) (joined_meets σ u s h)) v q b
-    where
-      columns : fraction_sum (λ w. times (dictionary_coefficient d v w) (joined p u s w)) p.columns ≡ fraction_sum (λ j. times (dictionary_coefficient d v j) (u j)) p.columns
-      columns = total_same (λ w. times (dictionary_coefficient d v w) (joined p u s w)) (λ j. times (dictionary_coefficient d v j) (u j)) p.columns (λ j t. ap (times (dictionary_coefficient d v j)) (joined_column p u s j t))
-
-      slacks : fraction_sum (λ k. times (dictionary_coefficient d v (p.columns + k)) (joined p u s (p.columns + k))) (length p.rows) ≡ fraction_sum (λ k. times (dictionary_coefficient d v (p.columns + k)) (s k)) (length p.rows)
-      slacks = total_same (λ k. times (dictionary_coefficient d v (p.columns + k)) (joined p u s (p.columns + k))) (λ k. times (dictionary_coefficient d v (p.columns + k)) (s k)) (length p.rows)
-          (λ k t. ap (times (dictionary_coefficient d v (p.columns + k))) (joined_slack p u s k))
 
   pub combined_bound : (v : ℕ) → v < count p → d.is_basic v ≡ true → low (d.bound v) ≡ fraction_sum (λ k. times (dictionary_coefficient d v (p.columns + k)) (bound_at p k)) (length p.rows)
   combined_bound v q b =
@@ -218,9 +193,6 @@ module _ (p : LinearProgram) (d : Dictionary) (g : IsProgram p) (r : IsReached p
   no_more : entering (count p) d ≡ None → (xs : List Exact) → IsFeasible p xs → IsAtMost (fraction_at xs 0) d.value
   no_more h xs f = at_most_from_less X d.value (fraction_at xs 0) sum less
     where
-      u : ℕ → Exact
-      u = fraction_at xs
-
       s : ℕ → Exact
       s k = plus (bound_at p k) (minus (fraction_sum (λ j. times (coefficient p k j) (fraction_at xs j)) p.columns))
 

@@ -11,7 +11,8 @@ use Rattle.dd_simplex.specs.table.Lines.{Line, Table, line_at, other_at, less, d
 use Rattle.dd_simplex.specs.table.Standing.{IsTable, StandsFor}
 use Rattle.dd_simplex.proofs.Equations.{true_false, apart, then_entering, then_leaving, then_other}
 use Rattle.dd_simplex.proofs.Firsts.{and_left, and_right}
-use Rattle.dd_simplex.proofs.Places.{length_less, less_at, less_fits_at, beside_at, lines_size, line_same, line_other, solved_at, set_here, set_else}
+use Rattle.dd_simplex.proofs.LineSteps.{changed_at}
+use Rattle.dd_simplex.proofs.Places.{length_less, less_at, less_fits_at, beside_at, lines_size, line_other, solved_at, set_here, set_else}
 use Rattle.dd_simplex.proofs.PivotTests.{pivot_length, other_apart, columns_apart, pivot_here, pivot_else, pivot_bound, less_here, less_else, product_fraction, sum_fraction, less_fraction}
 use Rattle.dd_simplex.proofs.Totals.{eq_same}
 use Rattle.dd_values.specs.lemmas.{Booleans.eq_other, Lists.list_at}
@@ -39,7 +40,7 @@ module _ (n : ℕ) (t : Table) (d : Dictionary) (k : IsTable t) (s : StandsFor n
   others_are = length-set t.others e (line_at t.lines r).basic
 
   at_r : line_at new_lines r ≡ pivot
-  at_r = line_same t.lines e r (other_at t.others e) line
+  at_r = changed_at t.lines e r (other_at t.others e) line
 
   at_i : (i : ℕ) → i < length t.lines → i ≢ r → line_at new_lines i ≡ changed_line e pivot (line_at t.lines i)
   at_i i p o = line_other t.lines e r (other_at t.others e) i line p o

@@ -88,12 +88,6 @@ lines_size lines e r v h =
     let p = solved_line v e (line_at lines r) in
     ap length (rows_turned f lines r p h) ∙ (length-set (map f lines) r p ∙ length-map lines f)
 
-pub line_same : (lines : List Line) (e r v : ℕ) → r < length lines → line_at (changed_lines e r v lines) r ≡ solved_line v e (line_at lines r)
-line_same lines e r v h =
-    let f = changed_line e (solved_line v e (line_at lines r)) in
-    let p = solved_line v e (line_at lines r) in
-    ap (λ (ls : List Line). line_at ls r) (rows_turned f lines r p h) ∙ get_or-set_same (map f lines) r p _ (simp length-map h)
-
 pub line_other : (lines : List Line) (e r v i : ℕ) → r < length lines → i < length lines → i ≢ r
     → line_at (changed_lines e r v lines) i ≡ changed_line e (solved_line v e (line_at lines r)) (line_at lines i)
 line_other lines e r v i h q k =

@@ -1,5 +1,5 @@
 //! Linear programs over exact fractions, maximised by Bland's pivot rule.
-#![tactic(auto)]
+#![tactic(auto, using(std::proofs::lemmas::Grind::common_steps))]
 
 mod fault;
 mod laws;

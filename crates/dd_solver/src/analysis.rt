@@ -18,14 +18,14 @@ use std::alloc::{AllocError, Global};
 
 /// A place of the trail to return to, where a decision stands, and the literal that is forced there.
 #[derive(Clone, Copy)]
-pub struct Turn {
+pub(crate) struct Turn {
     pub place: usize,
     pub literal: Literal,
 }
 
 /// The literals of the learned clause, and its hints. An empty clause has no turn.
 #[derive(Drop)]
-pub struct Learned {
+pub(crate) struct Learned {
     pub literals: Vec<Literal>,
     pub hints: Vec<u64>,
     pub turn: Option<Turn>,
@@ -33,7 +33,7 @@ pub struct Learned {
 
 /// What to do with an entry: resolve it with the clause with this number, or keep it. The first one kept makes the turn.
 #[derive(Clone, Copy)]
-pub enum Choice {
+pub(crate) enum Choice {
     Resolve(u64),
     Keep(Turn),
 }
@@ -305,7 +305,7 @@ fn bump_again(
 
 /// Learns a clause from the one with this number, whose literals are all false. The variables of the clauses that it
 /// follows from become more active. In a broad style of order, some become more active a second time.
-pub fn learn(
+pub(crate) fn learn(
     alloc: Global,
     database: &Database,
     trail: &Trail,

@@ -36,7 +36,7 @@ struct Candidate {
 /// The number of levels of each learned clause. For each level, the number of the count that saw it last, and the
 /// number of counts. The number of learned clauses at the next review, and the number between the last two.
 #[derive(Drop)]
-pub struct Deletion {
+pub(crate) struct Deletion {
     levels: Vec<u32>,
     counted: Vec<u64>,
     counts: u64,
@@ -82,7 +82,7 @@ fn take_chosen(
 
 impl Deletion {
     /// Nothing is learned yet.
-    pub fn new(alloc: Global, variables: usize) -> Result<Deletion, AllocError> {
+    pub(crate) fn new(alloc: Global, variables: usize) -> Result<Deletion, AllocError> {
         Ok(Deletion {
             levels: Vec::new(alloc),
             counted: vec![in alloc; 0; variables.saturating_add(1)]?,
@@ -194,7 +194,7 @@ impl Deletion {
 
     /// Notes that a clause of these literals was learned by these hints, with `clauses` clauses in the list. Returns
     /// the numbers of the clauses that are deleted with it.
-    pub fn review(
+    pub(crate) fn review(
         &mut self,
         alloc: Global,
         database: &Database,

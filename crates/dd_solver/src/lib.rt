@@ -1,6 +1,6 @@
 //! A search that learns clauses. It finds an assignment that satisfies a clause list, or steps that refute it.
 //! Trimming keeps only the steps that are used.
-#![tactic(auto)]
+#![tactic(auto, using(std::proofs::lemmas::Grind::common_steps))]
 
 mod analysis;
 mod deletion;

@@ -23,7 +23,7 @@ use std::marker::Model;
 /// The clauses, the steps learned so far, and whether each of their clauses is alive. The trail, the watched literals
 /// and the order of decisions. The worth of learned clauses, and room for the analysis.
 #[derive(Drop)]
-pub struct Search<'a> {
+pub(crate) struct Search<'a> {
     clauses: &'a [Clause],
     steps: Vec<Step>,
     alive: Vec<bool>,
@@ -65,7 +65,7 @@ fn push_step(steps: &mut Vec<Step>, alive: &mut Vec<bool>, step: Step) -> Result
 
 impl<'a> Search<'a> {
     /// Before the first decision: nothing has a value, and nothing is learned.
-    pub fn new(
+    pub(crate) fn new(
         alloc: Global,
         clauses: &'a [Clause],
         variables: u32,

@@ -1,5 +1,5 @@
 //! Topologies: the named labels and the edges of a lattice, moves along them, adjacency and balls.
-#![tactic(auto)]
+#![tactic(auto, using(std::proofs::lemmas::Grind::common_steps))]
 
 mod balls;
 mod builtin;

@@ -2,13 +2,13 @@
 -- variable has a value.
 use Rattle.std.proofs.Common.{◌≡◌, ◌≢◌, ℕ, zero, suc, ◌+◌, ◌-◌, ◌<◌, ◌≤◌, Bool, true, false, not, ◌||◌, List, [], ◌∷◌, ◌++◌, Option, Some, None, refl, ap, sym, ◌∙◌, subst, length, get_or, set, take, inl, inr, arith, eqb, add-one, get_or-set_same, get_or-set_other}
 use Rattle.std.proofs.lemmas.Bool.{cases_eq, eq-eqb, eqb-true, ne_eqb, false≢true, and_left}
-use Rattle.std.proofs.lemmas.List.{length-set, length-append, take-append-le, get_or_append_left, take_all, take_more}
+use Rattle.std.proofs.lemmas.List.{length-set, length-append, take-append-le, get_or_append_left, take_all, take_more, map-append}
 use Rattle.std.proofs.Math.Seq.{get_or-append_seam, take-append_seam}
 use Rattle.std.specs.{Bool.beq, Bool.IsTrue, Prelude.◌↔◌}
 use Rattle.dd_clause.specs.{declared.clause.Literal.Literal, Clauses.IsLiteralInRange, Clauses.negation}
 use Rattle.dd_derivation.specs.{Derivations.same_literal, Derivations.is_among, Derivations.has_variable, lemmas.Falses.among_snoc}
 use Rattle.dd_trail.specs.{declared.trail.Entry.Entry, Trails.falses, Trails.IsFull, keeping.Values.IsNewTo}
-use Rattle.dd_trail.specs.lemmas.Trails.{falses-append, has_variable-in, in-has_variable, absent}
+use Rattle.dd_trail.specs.lemmas.Trails.{has_variable-in, in-has_variable, absent}
 
 -- a variable with this value makes its literal of this sign false
 abbrev pub value_denies : Bool → Option Bool → Bool
@@ -76,7 +76,7 @@ among_other : (trail : List Literal) (x e : Literal) → x.variable ≢ e.variab
 among_other trail x e n = or_first (same_literal x (negation e)) (is_among trail x) (and_left _ _ (ne_eqb x.variable e.variable n))
 
 pub falses-snoc : (trail : List Entry) (e : Entry) (x : Literal) → is_among (falses (trail ++ e ∷ [])) x ≡ is_among (negation e.literal ∷ falses trail) x
-falses-snoc trail e x = ap (λ (xs : List Literal). is_among xs x) (falses-append trail (e ∷ [])) ∙ among_snoc (falses trail) (negation e.literal) x
+falses-snoc trail e x = ap (λ (xs : List Literal). is_among xs x) (map-append (λ (n : Entry). negation n.literal) trail (e ∷ [])) ∙ among_snoc (falses trail) (negation e.literal) x
 
 pub valued_more : (trail : List Entry) (values : List (Option Bool)) (e : Entry) → IsValued trail values → IsLiteralInRange (length values) e.literal → has_variable e.literal.variable (falses trail) ≡ false → IsValued (trail ++ e ∷ []) (set values (e.literal.variable - 1) (Some e.literal.positive))
 valued_more trail values e v r f =

@@ -143,14 +143,14 @@ impl Trail {
     }
 
     /// Whether each variable has a value.
-    pub fn is_full(&self) -> bool
+    pub(crate) fn is_full(&self) -> bool
         ensures { IsTrue result ↔ IsFull self.now.variables self.now.entries }
     {
         self.entries.len() == self.variables
     }
 
     /// Whether there is a variable of this number, and it has no value.
-    pub fn is_free(&self, variable: usize) -> bool
+    pub(crate) fn is_free(&self, variable: usize) -> bool
         ensures { IsTrue result ↔ IsFree self.now.variables self.now.entries variable }
     {
         if variable == 0 || variable > self.variables {
@@ -160,7 +160,7 @@ impl Trail {
     }
 
     /// A variable that has no value.
-    pub fn find_free(&self) -> Option<u32>
+    pub(crate) fn find_free(&self) -> Option<u32>
         requires { self.now.variables < 2 ^ 32 }
         ensures { MatchOption result (IsFull self.now.variables self.now.entries) (IsFree self.now.variables self.now.entries) }
     {
@@ -219,7 +219,7 @@ impl Trail {
     }
 
     /// For each literal, by its place in a list of all of them, whether it is false.
-    pub fn denied(&self) -> &[bool] {
+    pub(crate) fn denied(&self) -> &[bool] {
         self.denied.as_slice()
     }
 

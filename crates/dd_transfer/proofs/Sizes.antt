@@ -1,19 +1,19 @@
 -- The numbers of states, slices and windows, and what a graph keeps.
-use Rattle.std.proofs.Common.{◌≡◌, ℕ, zero, suc, ◌+◌, ◌-◌, ◌*◌, ◌/◌, ◌%◌, ◌^◌, ◌<◌, ◌≤◌, Bool, true, false, List, [], ◌∷◌, length, get_or, Option, Some, None, max, refl, ap, sym, ◌∙◌, subst, arith, inl, inr}
-use Rattle.std.proofs.lemmas.Bool.{cases_lt, lt-ltb, ltb-true, cases_Bool, and_parts}
-use Rattle.std.proofs.lemmas.{Nat.mul-add-lt, List.Elements.All-head, List.Elements.All-tail, List.Sums.sum_by-cons}
+use Rattle.std.proofs.Common.{◌≡◌, ℕ, zero, suc, ◌+◌, ◌*◌, ◌/◌, ◌%◌, ◌^◌, ◌<◌, ◌≤◌, Bool, true, false, List, [], ◌∷◌, length, get_or, Option, Some, None, refl, ap, sym, ◌∙◌, subst, arith, inl, inr}
+use Rattle.std.proofs.lemmas.Bool.{cases_lt, lt-ltb, ltb-true, and_parts}
+use Rattle.std.proofs.lemmas.{Nat.mul-add-lt, List.Sums.sum_by-cons}
 use Rattle.std.proofs.Math.Nat.{pow-suc, mul-div_cancel_left, mul-mod_left, pow-le-pow_left, pow-le-pow_right, mul-le-mul_left, mul-le-mul_right}
-use Rattle.std.specs.Prelude.{◌⊎◌, ◌↔◌, cond, nat_lt, ◌&&◌, slice_index, slice_index_or, sum_by}
+use Rattle.std.specs.Prelude.{cond, nat_lt, ◌&&◌, slice_index, slice_index_or}
 use Rattle.std.specs.List.{All}
-use Rattle.dd_pattern.specs.Weight.{AreWeights, total_weight}
+use Rattle.dd_pattern.specs.Weight.{total_weight}
 use Rattle.dd_formula.specs.LocalRule.{LocalRule, IsRule}
 use Rattle.dd_counts.specs.Rules.{slices, states, longer_states, window}
 use Rattle.dd_strip.specs.{declared.strip.Strip.Strip, Strips.IsSized, Strips.IsFor, Strips.cells, Strips.positions, Strips.HasWeights}
-use Rattle.dd_transfer.specs.Graphs.{Transfer, IsTransfer, transfer, target, next_of, window_of, weight_at}
+use Rattle.dd_transfer.specs.Graphs.{transfer, target, next_of, window_of}
 use Rattle.dd_transfer.specs.Windows.{AreWindows, IsWindow, digits}
 use Rattle.dd_transfer.specs.Transfers.{IsGraphOf, IsEdge, slice_weight}
-use Rattle.dd_transfer.proofs.Digits.{digits_length, digits_below}
-use Rattle.dd_values.specs.lemmas.Numbers.{power_some}
+use Rattle.dd_transfer.proofs.Digits.{digits_length}
+use Rattle.dd_values.specs.lemmas.{Lists.slice_index_within, Numbers.power_some}
 
 more_power : (s w : ℕ) → s ^ (w + 1) ≡ s ^ w * s
 more_power s w = let e : w + 1 ≡ suc w = omega arith in ap (λ (n : ℕ). s ^ n) e ∙ pow-suc s w
@@ -56,14 +56,9 @@ weight_most ws [] n light len = omega arith
 weight_most ws (x ∷ ss) zero light len = absurd (omega arith)
 weight_most ws (x ∷ ss) (suc n) light len =
     let rest = weight_most ws ss n light (omega arith) in
-    let one : slice_index ws x ≤ 1000 = each ws x light in
+    let one : slice_index ws x ≤ 1000 = slice_index_within 1000 ws x light in
     let all : total_weight ws (x ∷ ss) ≡ slice_index ws x + total_weight ws ss = sum_by-cons (slice_index ws) x ss in
     omega (arith, rest, one, all)
-  where
-    each : (ws : List ℕ) (x : ℕ) → All (λ w. w ≤ 1000) ws → slice_index ws x ≤ 1000
-    each [] x light = omega arith
-    each (w ∷ ws) zero light = All-head (λ w. w ≤ 1000) w ws light
-    each (w ∷ ws) (suc x) light = each ws x (All-tail (λ w. w ≤ 1000) w ws light)
 
 pub cells_few : (s : Strip) → IsSized s → cells s ≤ 16384
 cells_few s sized = most s.nodes s.y s.z sized.nodes_most sized.y_most sized.z_most

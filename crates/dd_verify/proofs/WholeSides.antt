@@ -13,8 +13,8 @@ use Rattle.dd_boxes.specs.lemmas.CutLaws.{cond_symbols}
 use Rattle.dd_discharge.specs.{declared.bound.Bound.Bound, Amounts.held_over}
 use Rattle.dd_sides.specs.Sides.{side_length, side, is_near_run, is_in_grown, is_grown_cell, IsSideFilling, position_weight, side_weight}
 use Rattle.dd_sides.specs.{Boundaries.boundary, Lifted.reach_of, Lifted.HoldsOnSides, lemmas.BoxLaws.IsAt, lemmas.BoxLaws.box_at_most}
-use Rattle.dd_sides.specs.lemmas.{GroundCells.active_first, GroundCells.range_below, WordLaws.mapped_alike}
-use Rattle.dd_values.specs.lemmas.Booleans.{cond_domain}
+use Rattle.dd_sides.specs.lemmas.GroundCells.{active_first, range_below}
+use Rattle.dd_values.specs.lemmas.{Booleans.cond_domain, Lists.map_agree}
 
 -- ---- the grown box lies in Z^d
 
@@ -80,7 +80,7 @@ module _ (x : LocalRule) (n e : ℕ) (u : Place) (look : Look) where
     part_position : (p : Place) → IsAt (side x.dimension n) u p → position_weight x ws part p ≡ position_weight x ws look p
     part_position p at =
         ap (total_weight ws)
-        (mapped_alike (λ a. unwrap_or (part (cell p a)) 0) (λ a. unwrap_or (look (cell p a)) 0) (range_with_len 0 x.nodes) (λ a h.
+        (map_agree (λ a. unwrap_or (part (cell p a)) 0) (λ a. unwrap_or (look (cell p a)) 0) (range_with_len 0 x.nodes) (λ a h.
         let near = at_grown x.dimension n e u p some flat at in
         ap (λ (b : Bool). unwrap_or (cond b (look (cell p a)) None) 0)
         (and_from (is_in_grown x.dimension n e u p) (nat_lt a x.nodes) near (lt-ltb a x.nodes (range_below x.nodes a h)))))

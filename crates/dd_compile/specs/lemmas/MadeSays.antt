@@ -12,7 +12,7 @@ use Rattle.dd_circuit.specs.declared.gates.{Signal.Signal, Gate.Gate}
 use Rattle.dd_circuit.specs.declared.gates.Gate.TheVariants.{And, Or, Iff}
 use Rattle.dd_circuit.specs.{Circuits.signal_value, Circuits.gate_value, Circuits.agrees, Circuits.opposite, lemmas.ValueLaws.agrees-append}
 use Rattle.dd_compile.specs.Compiling.{Maker, all_made, then_gate, made_step, made}
-use Rattle.dd_values.specs.lemmas.Booleans.{same_from_beq}
+use Rattle.dd_values.specs.lemmas.Booleans.{same_from_beq, if_not}
 
 -- the wires of the cells that pass p say the symbols of look
 abbrev pub Tell : (ℕ → Bool) → (Cell → ℕ → Signal) → (Cell → ℕ → Bool) → Look → Type 0
@@ -62,11 +62,7 @@ list_any-as-map p [] = refl
 list_any-as-map p (x ∷ xs) = rw (list_any-as-map p xs) refl
 
 pub opposite_value : (set : ℕ → Bool) (s : Signal) → signal_value set (opposite s) ≡ not (signal_value set s)
-opposite_value set s = go s.positive (set s.variable) where
-  go : (p v : Bool) → (if not p then v else not v) ≡ not (if p then v else not v)
-  go true v = refl
-  go false true = refl
-  go false false = refl
+opposite_value set s = if_not s.positive (set s.variable)
 
 constant_value : (set : ℕ → Bool) (b : Bool) → gate_value set (if b then And [] else Or []) ≡ b
 constant_value set true = refl

@@ -1,35 +1,22 @@
 -- The gates of an automaton's value, by its parts, and how many there are.
-use Rattle.std.proofs.Common.{◌≡◌, ◌≤◌, ℕ, ◌+◌, List, [], ◌∷◌, map, length, ap, sym, ◌∙◌, subst, arith, length-append}
+use Rattle.std.proofs.Common.{◌≡◌, ◌≤◌, ℕ, ◌+◌, List, [], ◌∷◌, map, length, ap, sym, ◌∙◌, arith, length-append}
 use Rattle.dd_lattice.specs.{Cells.shifted, InOrder.in_order, Place.Place, declared.position.Cell.Cell}
 use Rattle.dd_expansion.specs.Leaves.{total}
 use Rattle.dd_formula.specs.LocalRule.{LocalRule, expansion_at}
 use Rattle.dd_formula.specs.Automata.{Counted, counted, counted_step, cells_of}
-use Rattle.dd_formula.specs.ValueCounts.{Valued, valued_step, value_clauses, given_clauses, case_clauses}
-use Rattle.dd_formula.specs.declared.automaton.Automaton.{Automaton, roll-Automaton}
+use Rattle.dd_formula.specs.ValueCounts.{Valued, value_clauses, given_clauses, case_clauses}
+use Rattle.dd_formula.specs.declared.automaton.Automaton.{Automaton}
 use Rattle.dd_formula.specs.declared.automaton.Cases.{Cases}
-use Rattle.dd_formula.specs.declared.automaton.Automaton.TheFolds.{fold-Automaton, fold-roll-Automaton, ind-Automaton, map-Automaton}
+use Rattle.dd_formula.specs.declared.automaton.Automaton.TheFolds.{fold-Automaton, fold-roll-Automaton}
 use Rattle.dd_formula.specs.declared.automaton.Automaton.TheOpen.{Automaton-F}
 use Rattle.dd_formula.specs.lemmas.AutomatonLaws.{counted_given, counted_composed}
+use Rattle.dd_formula.specs.lemmas.ValuedLaws.{by_forms, valued_given, valued_composed, valued_counts}
 use Rattle.dd_compile.specs.Wiring.{Wiring, with_cell}
 use Rattle.dd_compile.specs.Compiling.{AllMade, certain, compiled, wires_near}
 use Rattle.dd_compile.specs.ValueGates.{ValueMaker, Gated, gated_step, rules_made, given_made, inner_made, composed_made, value_made}
 use Rattle.dd_compile.specs.lemmas.{MadeCount.made_count, FewGates.gates_below, ChoiceLaws.choices_length}
 use Rattle.dd_compile.specs.lemmas.CaseRules.{value_length, rules_length}
 use Rattle.dd_formula.specs.declared.automaton.Automaton.TheVariants as v
-
--- a claim about all automata, by their two forms
-abbrev Known : (Automaton → Type 0) → Type 0
-Known P = (f : Automaton) × P f
-
-abbrev layer : (P : Automaton → Type 0) → Automaton-F (Known P) → Automaton-F Automaton
-layer P y = map-Automaton (Known P) Automaton (λ f. f.0) y
-
-step_by_forms : (P : Automaton → Type 0) → ((c : Cases) → P (v.Given c)) → ((f g : Automaton) → P f → P g → P (v.Composed f g)) → (y : Automaton-F (Known P)) → P (roll-Automaton (layer P y))
-step_by_forms P given composed (Automaton-F.Given c) = subst P (sym (v.rolls-Given c)) (given c)
-step_by_forms P given composed (Automaton-F.Composed f g) = subst P (sym (v.rolls-Composed f.0 g.0)) (composed f.0 g.0 f.1 g.1)
-
-pub by_forms : (P : Automaton → Type 0) → ((c : Cases) → P (v.Given c)) → ((f g : Automaton) → P f → P g → P (v.Composed f g)) → (f : Automaton) → P f
-by_forms P given composed = ind-Automaton P (λ x y is. subst (λ z. P (roll-Automaton z)) is (step_by_forms P given composed y))
 
 abbrev gated : ℕ → Automaton → Gated
 gated k = fold-Automaton Gated (gated_step k)
@@ -40,30 +27,13 @@ gated_given k c = ap (gated k) (sym (v.rolls-Given c)) ∙ fold-roll-Automaton G
 gated_composed : (k : ℕ) (f g : Automaton) → gated k (v.Composed f g) ≡ gated_step k (Automaton-F.Composed (gated k f) (gated k g))
 gated_composed k f g = ap (gated k) (sym (v.rolls-Composed f g)) ∙ fold-roll-Automaton Gated (gated_step k) (Automaton-F.Composed f g)
 
-abbrev valued : ℕ → Automaton → Valued
-valued k = fold-Automaton Valued (valued_step k)
-
-valued_given : (k : ℕ) (c : Cases) → valued k (v.Given c) ≡ valued_step k (Automaton-F.Given c)
-valued_given k c = ap (valued k) (sym (v.rolls-Given c)) ∙ fold-roll-Automaton Valued (valued_step k) (Automaton-F.Given c)
-
-valued_composed : (k : ℕ) (f g : Automaton) → valued k (v.Composed f g) ≡ valued_step k (Automaton-F.Composed (valued k f) (valued k g))
-valued_composed k f g = ap (valued k) (sym (v.rolls-Composed f g)) ∙ fold-roll-Automaton Valued (valued_step k) (Automaton-F.Composed f g)
-
--- both folds count the same
+-- the fold counts the same
 gated_counts : (k : ℕ) (f : Automaton) → (gated k f).counts ≡ counted f
 gated_counts k =
     by_forms (λ f. (gated k f).counts ≡ counted f) (λ c. ap (λ (x : Gated). x.counts) (gated_given k c) ∙ sym (counted_given c))
     (λ f g first second.
     ap (λ (x : Gated). x.counts) (gated_composed k f g)
     ∙ (ap (λ (x : Counted). counted_step (Automaton-F.Composed x (gated k g).counts)) first
-    ∙ (ap (λ (x : Counted). counted_step (Automaton-F.Composed (counted f) x)) second ∙ sym (counted_composed f g))))
-
-valued_counts : (k : ℕ) (f : Automaton) → (valued k f).counts ≡ counted f
-valued_counts k =
-    by_forms (λ f. (valued k f).counts ≡ counted f) (λ c. ap (λ (x : Valued). x.counts) (valued_given k c) ∙ sym (counted_given c))
-    (λ f g first second.
-    ap (λ (x : Valued). x.counts) (valued_composed k f g)
-    ∙ (ap (λ (x : Counted). counted_step (Automaton-F.Composed x (valued k g).counts)) first
     ∙ (ap (λ (x : Counted). counted_step (Automaton-F.Composed (counted f) x)) second ∙ sym (counted_composed f g))))
 
 -- the gates at the two forms of an automaton

@@ -8,7 +8,7 @@ use Rattle.dd_clause.specs.{declared.clause.Literal.Literal, Clauses.negation}
 use Rattle.dd_derivation.specs.declared.propagation.Finding.{Finding}
 use Rattle.dd_derivation.specs.declared.propagation.Finding.TheVariants.{Forced, Open}
 use Rattle.dd_derivation.specs.Derivations.{same_literal, is_among, finding_of, finding, clause_of, hint_finding}
-use Rattle.dd_derivation.specs.lemmas.Soundness.{same_literal-eq, same_literal-refl}
+use Rattle.dd_derivation.specs.lemmas.Soundness.{same_literal-eq, same_literal-refl, forced_by}
 
 -- the literals are copies of the candidate
 abbrev pub Sums : Option Literal → List Literal → Type 0
@@ -110,10 +110,6 @@ same_all l (y ∷ rest) x h i =
 pub forces_from : (p : Literal → Bool) (c : List Literal) (l : Literal) → finding p c ≡ Forced l → Forces p c l
 forces_from p c l h = go (left_of p c) refl h
   where
-    forced_by : (b : Bool) (l m : Literal) → cond b (Forced l) Open ≡ Forced m → (b ≡ true) × (l ≡ m)
-    forced_by true l m h = (refl, cc)
-    forced_by false l m h = absurd (cc)
-
     go : (xs : List Literal) → xs ≡ left_of p c → finding_of p xs ≡ Forced l → Forces p c l
     go [] e h = absurd (cc)
     go (y ∷ rest) e h =

@@ -64,7 +64,7 @@ same_false set l (m ∷ rest) h e =
     let f : is_true_under set m ≡ false = subst (λ (x : Literal). is_true_under set x ≡ false) q e in
     or_from _ _ f r
 
-forced_by : (b : Bool) (l m : Literal) → cond b (Forced l) Open ≡ Forced m → (b ≡ true) × (l ≡ m)
+pub forced_by : (b : Bool) (l m : Literal) → cond b (Forced l) Open ≡ Forced m → (b ≡ true) × (l ≡ m)
 forced_by true l m h = (refl, cc)
 forced_by false l m h = absurd (cc)
 

@@ -12,6 +12,7 @@ use Rattle.dd_topology.specs.lemmas.ListLaws.{some_passes, passes_any}
 use Rattle.dd_topology.specs.lemmas.OrderLaws.{cell_total, sorted-in_order, is-in_order}
 use Rattle.dd_expansion.specs.declared.formulas.Formula.{Formula}
 use Rattle.dd_expansion.specs.declared.formulas.Formula.TheFolds.{fold-roll-Formula, ind-Formula, map-Formula}
+use Rattle.dd_expansion.specs.lemmas.Claims.{Known, layer}
 use Rattle.dd_expansion.specs.declared.{formulas.Formula.TheOpen.Formula-F, expanded.Expanded.Expanded}
 use Rattle.dd_expansion.specs.declared.expanded.Expanded.{TheFolds.fold-roll-Expanded, TheOpen.Expanded-F}
 use Rattle.dd_expansion.specs.Terms.{cell_of, same_cell, balls_of}
@@ -94,14 +95,8 @@ at_cells_pass test e each (Some c) o' = at_cell_passes test (e c) (each c) o'
 abbrev ReadsThose : List Edge → ℕ → Formula → Type 0
 ReadsThose es n f = (env : List Cell) (test : Cell → Bool) → leaves_pass (λ c s. test c) (expansion es n f env) ≡ list_all test (reads es f env)
 
-abbrev Known : List Edge → ℕ → Type 0
-Known es n = (f : Formula) × ReadsThose es n f
-
-abbrev layer : (es : List Edge) (n : ℕ) → Formula-F (Known es n) → Formula-F Formula
-layer es n y = map-Formula (Known es n) Formula (λ e. e.0) y
-
 module _ (es : List Edge) (n : ℕ) (some : 1 ≤ n) (env : List Cell) (test : Cell → Bool) where
-  all_read : (fs : List (Known es n)) →
+  all_read : (fs : List (Known (ReadsThose es n))) →
       list_all (leaves_pass (by_cell test)) (map (λ e. e env) (map (expansion es n) (map (λ e. e.0) fs))) ≡ list_all test (flat_map (λ r. r env) (map (reads es) (map (λ e. e.0) fs)))
   all_read [] = refl
   all_read (f ∷ fs) =
@@ -111,15 +106,15 @@ module _ (es : List Edge) (n : ℕ) (some : 1 ≤ n) (env : List Cell) (test : C
         list_all-append test (reads es f.0 env) (flat_map (λ r. r env) (map (reads es) (map (λ e. e.0) fs))),
       )
 
-  each_reads : (f : Known es n) (cs : List Cell) →
+  each_reads : (f : Known (ReadsThose es n)) (cs : List Cell) →
       list_all (leaves_pass (by_cell test)) (map (λ c. expansion es n f.0 (env ++ c ∷ [])) (in_order cs)) ≡ list_all test (flat_map (λ c. reads es f.0 (env ++ c ∷ [])) cs)
   each_reads f cs =
       leaves_of_each (by_cell test) (expansion es n f.0) env cs
       ∙ (list_all-alike (λ c. leaves_pass (by_cell test) (expansion es n f.0 (env ++ c ∷ []))) (λ c. list_all test (reads es f.0 (env ++ c ∷ []))) (λ c. f.1 (env ++ c ∷ []) test) cs
       ∙ sym (list_all-flat_map test (λ c. reads es f.0 (env ++ c ∷ [])) cs))
 
-  step_reads : (y : Formula-F (Known es n)) →
-      leaves_pass (by_cell test) (expansion_step es n (map-Formula Formula Expansion (expansion es n) (layer es n y)) env) ≡ list_all test (reads_step es (map-Formula Formula Reading (reads es) (layer es n y)) env)
+  step_reads : (y : Formula-F (Known (ReadsThose es n))) →
+      leaves_pass (by_cell test) (expansion_step es n (map-Formula Formula Expansion (expansion es n) (layer (ReadsThose es n) y)) env) ≡ list_all test (reads_step es (map-Formula Formula Reading (reads es) (layer (ReadsThose es n) y)) env)
   step_reads (Formula-F.Symbol t s) = at_cell_reads test (leaf s) (leaves_of_leaf (by_cell test) s) (cell_of es env t)
   step_reads (Formula-F.NotSymbol t s) =
       at_cell_reads test (λ c. negated (leaf s c)) (λ c. leaves_of_negated (by_cell test) (leaf s c) ∙ leaves_of_leaf (by_cell test) s c) (cell_of es env t)
@@ -193,28 +188,22 @@ equal_below n c d = leaves_of_equal (by_symbol n) n c d ∙ range_below 0 n n (o
 abbrev AreBelow : Grid → ℕ → Formula → Type 0
 AreBelow g n f = (es : List Edge) (env : List Cell) (scope : ℕ) → formula_fits g n f scope ≡ true → leaves_pass (λ c s. nat_lt s n) (expansion es n f env) ≡ true
 
-abbrev Fitting : Grid → ℕ → Type 0
-Fitting g n = (f : Formula) × AreBelow g n f
-
-abbrev fitting_layer : (g : Grid) (n : ℕ) → Formula-F (Fitting g n) → Formula-F Formula
-fitting_layer g n y = map-Formula (Fitting g n) Formula (λ e. e.0) y
-
 module _ (g : Grid) (n : ℕ) (es : List Edge) (env : List Cell) where
-  all_below : (fs : List (Fitting g n)) (scope : ℕ) → list_all (λ f. f scope) (map (formula_fits g n) (map (λ e. e.0) fs)) ≡ true →
+  all_below : (fs : List (Known (AreBelow g n))) (scope : ℕ) → list_all (λ f. f scope) (map (formula_fits g n) (map (λ e. e.0) fs)) ≡ true →
       list_all (leaves_pass (by_symbol n)) (map (λ e. e env) (map (expansion es n) (map (λ e. e.0) fs))) ≡ true
   all_below [] scope h = refl
   all_below (f ∷ fs) scope h =
       let both = and_parts (formula_fits g n f.0 scope) (list_all (λ f. f scope) (map (formula_fits g n) (map (λ e. e.0) fs))) h in
       and_from _ _ (f.1 es env scope both.0) (all_below fs scope both.1)
 
-  each_below : (f : Fitting g n) (scope : ℕ) (cs : List Cell) → formula_fits g n f.0 (scope + 1) ≡ true →
+  each_below : (f : Known (AreBelow g n)) (scope : ℕ) (cs : List Cell) → formula_fits g n f.0 (scope + 1) ≡ true →
       list_all (leaves_pass (by_symbol n)) (map (λ c. expansion es n f.0 (env ++ c ∷ [])) (in_order cs)) ≡ true
   each_below f scope cs h =
       leaves_of_each (by_symbol n) (expansion es n f.0) env cs
       ∙ all_pass (λ c. leaves_pass (by_symbol n) (expansion es n f.0 (env ++ c ∷ []))) (λ c. f.1 es (env ++ c ∷ []) (scope + 1) h) cs
 
-  step_below : (y : Formula-F (Fitting g n)) (scope : ℕ) → formula_fits_step g n (map-Formula Formula (ℕ → Bool) (formula_fits g n) (fitting_layer g n y)) scope ≡ true →
-      leaves_pass (by_symbol n) (expansion_step es n (map-Formula Formula Expansion (expansion es n) (fitting_layer g n y)) env) ≡ true
+  step_below : (y : Formula-F (Known (AreBelow g n))) (scope : ℕ) → formula_fits_step g n (map-Formula Formula (ℕ → Bool) (formula_fits g n) (layer (AreBelow g n) y)) scope ≡ true →
+      leaves_pass (by_symbol n) (expansion_step es n (map-Formula Formula Expansion (expansion es n) (layer (AreBelow g n) y)) env) ≡ true
   step_below (Formula-F.Symbol t s) scope h =
       let both = and_parts (term_fits g scope t) (nat_lt s n) h in
       at_cell_passes (by_symbol n) (leaf s) (λ c. leaves_of_leaf (by_symbol n) s c ∙ both.1) (cell_of es env t)

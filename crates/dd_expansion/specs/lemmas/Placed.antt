@@ -12,6 +12,7 @@ use Rattle.dd_topology.specs.Topology.{end_of, start_of, reversed, leaves, step}
 use Rattle.dd_topology.specs.Balls.{edge_ends, edge_starts, beside, neighbours, ball}
 use Rattle.dd_expansion.specs.declared.formulas.{Term.Term, BallOf.BallOf, Formula.Formula}
 use Rattle.dd_expansion.specs.declared.formulas.Formula.TheFolds.{fold-roll-Formula, ind-Formula, map-Formula}
+use Rattle.dd_expansion.specs.lemmas.Claims.{Known, layer}
 use Rattle.dd_expansion.specs.declared.formulas.Formula.TheOpen.{Formula-F}
 use Rattle.dd_expansion.specs.Terms.{walk, cell_of, ball_round, balls_of, origin_at}
 use Rattle.dd_expansion.specs.{Reads.Reading, Reads.both_cells, Reads.reads, Reads.reads_step, Placed.is_flat, Placed.is_placed}
@@ -93,12 +94,6 @@ cond_passes p false c h = refl
 abbrev Reached : List Edge → (Cell → Bool) → Formula → Type 0
 Reached es p f = (env : List Cell) → list_all p env ≡ true → list_all p (reads es f env) ≡ true
 
-abbrev Known : List Edge → (Cell → Bool) → Type 0
-Known es p = (f : Formula) × Reached es p f
-
-abbrev layer : (es : List Edge) (p : Cell → Bool) → Formula-F (Known es p) → Formula-F Formula
-layer es p y = map-Formula (Known es p) Formula (λ e. e.0) y
-
 -- each edge leads, forth and back, from cells that pass a test to cells that pass it
 module _ (es : List Edge) (p : Cell → Bool) (q : Edge → Bool) (edges : list_all q es ≡ true)
     (forth : (c : Cell) (e : Edge) → p c ≡ true → q e ≡ true → p (end_of c e) ≡ true)
@@ -143,18 +138,18 @@ module _ (es : List Edge) (p : Cell → Bool) (q : Edge → Bool) (edges : list_
   both_pass (Some c) None h h' = refl
   both_pass (Some c) (Some d) h h' = and_from _ _ (and_parts (p c) true h).0 h'
 
-  all_pass_reads : (fs : List (Known es p)) (env : List Cell) → list_all p env ≡ true → list_all p (flat_map (λ r. r env) (map (reads es) (map (λ e. e.0) fs))) ≡ true
+  all_pass_reads : (fs : List (Known (Reached es p))) (env : List Cell) → list_all p env ≡ true → list_all p (flat_map (λ r. r env) (map (reads es) (map (λ e. e.0) fs))) ≡ true
   all_pass_reads [] env h = refl
   all_pass_reads (f ∷ fs) env h =
       list_all-append p (reads es f.0 env) (flat_map (λ r. r env) (map (reads es) (map (λ e. e.0) fs))) ∙ and_from _ _ (f.1 env h) (all_pass_reads fs env h)
 
-  each_passes : (f : Known es p) (env cs : List Cell) → list_all p env ≡ true → list_all p cs ≡ true → list_all p (flat_map (λ c. reads es f.0 (env ++ c ∷ [])) cs) ≡ true
+  each_passes : (f : Known (Reached es p)) (env cs : List Cell) → list_all p env ≡ true → list_all p cs ≡ true → list_all p (flat_map (λ c. reads es f.0 (env ++ c ∷ [])) cs) ≡ true
   each_passes f env cs h k =
       list_all-flat_map p (λ c. reads es f.0 (env ++ c ∷ [])) cs
       ∙ list_all-weaker p (λ c. list_all p (reads es f.0 (env ++ c ∷ [])))
       (λ c here. f.1 (env ++ c ∷ []) (list_all-append p env (c ∷ []) ∙ and_from _ _ h (and_from _ _ here refl))) cs k
 
-  step_passes_reads : (y : Formula-F (Known es p)) (env : List Cell) → list_all p env ≡ true → list_all p (reads_step es (map-Formula Formula Reading (reads es) (layer es p y)) env) ≡ true
+  step_passes_reads : (y : Formula-F (Known (Reached es p))) (env : List Cell) → list_all p env ≡ true → list_all p (reads_step es (map-Formula Formula Reading (reads es) (layer (Reached es p) y)) env) ≡ true
   step_passes_reads (Formula-F.Symbol t s) env h = cell_passes env t h
   step_passes_reads (Formula-F.NotSymbol t s) env h = cell_passes env t h
   step_passes_reads (Formula-F.Same t u) env h = both_pass (cell_of es env t) (cell_of es env u) (cell_passes env t h) (cell_passes env u h)

@@ -10,6 +10,7 @@ use Rattle.dd_topology.specs.{declared.edge.Edge.Edge, Balls.is_adjacent}
 use Rattle.dd_pattern.specs.Reading.{Look, HasSymbolsBelow}
 use Rattle.dd_expansion.specs.declared.formulas.Formula.{Formula}
 use Rattle.dd_expansion.specs.declared.formulas.Formula.TheFolds.{fold-roll-Formula, ind-Formula, map-Formula}
+use Rattle.dd_expansion.specs.lemmas.Claims.{Known, layer}
 use Rattle.dd_expansion.specs.declared.{formulas.Formula.TheOpen.Formula-F, expanded.Expanded.Expanded}
 use Rattle.dd_expansion.specs.declared.expanded.Expanded.{TheFolds.fold-roll-Expanded, TheOpen.Expanded-F}
 use Rattle.dd_expansion.specs.Terms.{cell_of, on_cell, on_cells, same_cell, balls_of}
@@ -83,25 +84,19 @@ at_cells_say e p look same (Some c) o' = at_cell_says (e c) (p c) look (same c) 
 abbrev SaysSame : List Edge → ℕ → Formula → Type 0
 SaysSame es n f = (env : List Cell) (look : Look) → HasSymbolsBelow n look → holds (expansion es n f env) look ≡ truth es f env look
 
-abbrev Known : List Edge → ℕ → Type 0
-Known es n = (f : Formula) × SaysSame es n f
-
-abbrev layer : (es : List Edge) (n : ℕ) → Formula-F (Known es n) → Formula-F Formula
-layer es n y = map-Formula (Known es n) Formula (λ e. e.0) y
-
 module _ (es : List Edge) (n : ℕ) (env : List Cell) (look : Look) (below : HasSymbolsBelow n look) where
-  all_say : (fs : List (Known es n)) →
+  all_say : (fs : List (Known (SaysSame es n))) →
       list_all (λ e. holds e look) (map (λ e. e env) (map (expansion es n) (map (λ e. e.0) fs))) ≡ list_all (λ t. t env look) (map (truth es) (map (λ e. e.0) fs))
   all_say [] = refl
   all_say (f ∷ fs) = rw (f.1 env look below, all_say fs)
 
-  any_say : (fs : List (Known es n)) →
+  any_say : (fs : List (Known (SaysSame es n))) →
       list_any (λ e. holds e look) (map (λ e. e env) (map (expansion es n) (map (λ e. e.0) fs))) ≡ list_any (λ t. t env look) (map (truth es) (map (λ e. e.0) fs))
   any_say [] = refl
   any_say (f ∷ fs) = rw (f.1 env look below, any_say fs)
 
   -- each cell of the balls in place of the variable
-  for_all_says : (f : Known es n) (cs : List Cell) →
+  for_all_says : (f : Known (SaysSame es n)) (cs : List Cell) →
       holds (all_of (map (λ c. expansion es n f.0 (env ++ c ∷ [])) (in_order cs))) look ≡ list_all (λ c. truth es f.0 (env ++ c ∷ []) look) cs
   for_all_says f cs =
       holds_all_of (map (λ c. expansion es n f.0 (env ++ c ∷ [])) (in_order cs)) look
@@ -109,7 +104,7 @@ module _ (es : List Edge) (n : ℕ) (env : List Cell) (look : Look) (below : Has
       ∙ (list_all-in_order (λ c. holds (expansion es n f.0 (env ++ c ∷ [])) look) cs
       ∙ list_all-alike (λ c. holds (expansion es n f.0 (env ++ c ∷ [])) look) (λ c. truth es f.0 (env ++ c ∷ []) look) (λ c. f.1 (env ++ c ∷ []) look below) cs))
 
-  exists_says : (f : Known es n) (cs : List Cell) →
+  exists_says : (f : Known (SaysSame es n)) (cs : List Cell) →
       holds (any_of (map (λ c. expansion es n f.0 (env ++ c ∷ [])) (in_order cs))) look ≡ list_any (λ c. truth es f.0 (env ++ c ∷ []) look) cs
   exists_says f cs =
       holds_any_of (map (λ c. expansion es n f.0 (env ++ c ∷ [])) (in_order cs)) look
@@ -117,8 +112,8 @@ module _ (es : List Edge) (n : ℕ) (env : List Cell) (look : Look) (below : Has
       ∙ (list_any-in_order (λ c. holds (expansion es n f.0 (env ++ c ∷ [])) look) cs
       ∙ list_any-alike (λ c. holds (expansion es n f.0 (env ++ c ∷ [])) look) (λ c. truth es f.0 (env ++ c ∷ []) look) (λ c. f.1 (env ++ c ∷ []) look below) cs))
 
-  step_says : (y : Formula-F (Known es n)) →
-      holds (expansion_step es n (map-Formula Formula Expansion (expansion es n) (layer es n y)) env) look ≡ truth_step es (map-Formula Formula Truth (truth es) (layer es n y)) env look
+  step_says : (y : Formula-F (Known (SaysSame es n))) →
+      holds (expansion_step es n (map-Formula Formula Expansion (expansion es n) (layer (SaysSame es n) y)) env) look ≡ truth_step es (map-Formula Formula Truth (truth es) (layer (SaysSame es n) y)) env look
   step_says (Formula-F.Symbol t s) = at_cell_says (leaf s) (λ c. is_symbol s (look c)) look (λ c. holds_leaf s c look) (cell_of es env t)
   step_says (Formula-F.NotSymbol t s) =
       at_cell_says (λ c. negated (leaf s c)) (λ c. not (is_symbol s (look c))) look (λ c. holds_negated (leaf s c) look ∙ ap not (holds_leaf s c look)) (cell_of es env t)

@@ -11,6 +11,7 @@ use Rattle.dd_topology.specs.Balls.{same_place, leads, is_adjacent, edge_ends, e
 use Rattle.dd_pattern.specs.Reading.{Look}
 use Rattle.dd_expansion.specs.declared.formulas.{Term.Term, BallOf.BallOf, Formula.Formula}
 use Rattle.dd_expansion.specs.declared.formulas.Formula.TheFolds.{fold-roll-Formula, ind-Formula, map-Formula}
+use Rattle.dd_expansion.specs.lemmas.Claims.{Known, layer}
 use Rattle.dd_expansion.specs.declared.formulas.Formula.TheOpen.{Formula-F}
 use Rattle.dd_expansion.specs.Terms.{walk, cell_of, on_cell, on_cells, same_cell, ball_round, balls_of}
 use Rattle.dd_expansion.specs.Truth.{Truth, is_symbol, are_equal, truth, truth_step}
@@ -134,31 +135,25 @@ module _ (v : Place) where
 abbrev Shifts : List Edge → Formula → Type 0
 Shifts es f = (v : Place) (env : List Cell) (look : Look) → truth es f (map (shifted v) env) look ≡ truth es f env (λ c. look (shifted v c))
 
-abbrev Known : List Edge → Type 0
-Known es = (f : Formula) × Shifts es f
-
-abbrev layer : (es : List Edge) → Formula-F (Known es) → Formula-F Formula
-layer es y = map-Formula (Known es) Formula (λ e. e.0) y
-
 -- the configuration moved by -v
 abbrev back : Place → Look → Look
 back v look c = look (shifted v c)
 
 module _ (es : List Edge) (v : Place) (env : List Cell) (look : Look) where
-  all_shift : (fs : List (Known es)) →
+  all_shift : (fs : List (Known (Shifts es))) →
       list_all (λ t. t (map (shifted v) env) look) (map (truth es) (map (λ e. e.0) fs)) ≡ list_all (λ t. t env (back v look)) (map (truth es) (map (λ e. e.0) fs))
   all_shift [] = refl
   all_shift (f ∷ fs) = rw (f.1 v env look, all_shift fs)
 
-  any_shift : (fs : List (Known es)) →
+  any_shift : (fs : List (Known (Shifts es))) →
       list_any (λ t. t (map (shifted v) env) look) (map (truth es) (map (λ e. e.0) fs)) ≡ list_any (λ t. t env (back v look)) (map (truth es) (map (λ e. e.0) fs))
   any_shift [] = refl
   any_shift (f ∷ fs) = rw (f.1 v env look, any_shift fs)
 
-  body_shifts : (f : Known es) (c : Cell) → truth es f.0 (map (shifted v) env ++ shifted v c ∷ []) look ≡ truth es f.0 (env ++ c ∷ []) (back v look)
+  body_shifts : (f : Known (Shifts es)) (c : Cell) → truth es f.0 (map (shifted v) env ++ shifted v c ∷ []) look ≡ truth es f.0 (env ++ c ∷ []) (back v look)
   body_shifts f c = ap (λ x. truth es f.0 x look) (sym (map-append (shifted v) env (c ∷ []))) ∙ f.1 v (env ++ c ∷ []) look
 
-  for_all_shifts : (f : Known es) (bs : List BallOf) →
+  for_all_shifts : (f : Known (Shifts es)) (bs : List BallOf) →
       list_all (λ c. truth es f.0 (map (shifted v) env ++ c ∷ []) look) (balls_of es (map (shifted v) env) bs)
       ≡ list_all (λ c. truth es f.0 (env ++ c ∷ []) (back v look)) (balls_of es env bs)
   for_all_shifts f bs =
@@ -166,7 +161,7 @@ module _ (es : List Edge) (v : Place) (env : List Cell) (look : Look) where
       ∙ (list_all-map (λ c. truth es f.0 (map (shifted v) env ++ c ∷ []) look) (shifted v) (balls_of es env bs)
       ∙ list_all-alike (λ c. truth es f.0 (map (shifted v) env ++ shifted v c ∷ []) look) (λ c. truth es f.0 (env ++ c ∷ []) (back v look)) (body_shifts f) (balls_of es env bs))
 
-  exists_shifts : (f : Known es) (bs : List BallOf) →
+  exists_shifts : (f : Known (Shifts es)) (bs : List BallOf) →
       list_any (λ c. truth es f.0 (map (shifted v) env ++ c ∷ []) look) (balls_of es (map (shifted v) env) bs)
       ≡ list_any (λ c. truth es f.0 (env ++ c ∷ []) (back v look)) (balls_of es env bs)
   exists_shifts f bs =
@@ -183,8 +178,8 @@ module _ (es : List Edge) (v : Place) (env : List Cell) (look : Look) where
       on_cells_shifted v p q same (cell_of es env t) (cell_of es env u) (cell_of es (map (shifted v) env) t) (cell_of es (map (shifted v) env) u)
       (cell_of_shifted v es env t) (cell_of_shifted v es env u)
 
-  step_shifts : (y : Formula-F (Known es)) →
-      truth_step es (map-Formula Formula Truth (truth es) (layer es y)) (map (shifted v) env) look ≡ truth_step es (map-Formula Formula Truth (truth es) (layer es y)) env (back v look)
+  step_shifts : (y : Formula-F (Known (Shifts es))) →
+      truth_step es (map-Formula Formula Truth (truth es) (layer (Shifts es) y)) (map (shifted v) env) look ≡ truth_step es (map-Formula Formula Truth (truth es) (layer (Shifts es) y)) env (back v look)
   step_shifts (Formula-F.Symbol t s) = atom_shifts (λ c. is_symbol s (look c)) (λ c. is_symbol s (back v look c)) (λ c. refl) t
   step_shifts (Formula-F.NotSymbol t s) = atom_shifts (λ c. not (is_symbol s (look c))) (λ c. not (is_symbol s (back v look c))) (λ c. refl) t
   step_shifts (Formula-F.Same t u) = pair_shifts (λ c d. are_equal (look c) (look d)) (λ c d. are_equal (back v look c) (back v look d)) (λ c d. refl) t u

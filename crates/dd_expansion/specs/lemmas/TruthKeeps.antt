@@ -8,6 +8,7 @@ use Rattle.dd_topology.specs.declared.edge.Edge.{Edge}
 use Rattle.dd_pattern.specs.Reading.{Look}
 use Rattle.dd_expansion.specs.declared.formulas.Formula.{Formula}
 use Rattle.dd_expansion.specs.declared.formulas.Formula.TheFolds.{fold-roll-Formula, ind-Formula, map-Formula}
+use Rattle.dd_expansion.specs.lemmas.Claims.{Known, layer}
 use Rattle.dd_expansion.specs.{declared.formulas.Formula.TheOpen.Formula-F, Terms.cell_of, Terms.on_cell, Terms.on_cells, Terms.balls_of}
 use Rattle.dd_expansion.specs.Truth.{Truth, is_symbol, are_equal, truth, truth_step}
 use Rattle.dd_expansion.specs.{Reads.Reading, Reads.both_cells, Reads.reads, Reads.reads_step, lemmas.Shifting.truth_shifted}
@@ -30,54 +31,48 @@ module _ (p : Cell → Bool) (look other : Look) (agree : AgreeOn p look other) 
 abbrev Depends : List Edge → Formula → Type 0
 Depends es f = (env : List Cell) (p : Cell → Bool) (look other : Look) → AgreeOn p look other → list_all p (reads es f env) ≡ true → truth es f env look ≡ truth es f env other
 
-abbrev Known : List Edge → Type 0
-Known es = (f : Formula) × Depends es f
-
-abbrev layer : (es : List Edge) → Formula-F (Known es) → Formula-F Formula
-layer es y = map-Formula (Known es) Formula (λ e. e.0) y
-
 module _ (es : List Edge) (env : List Cell) (p : Cell → Bool) (look other : Look) (agree : AgreeOn p look other) where
   -- the reads of a list's first member, and those of the others
-  first_and_rest : (f : Known es) (fs : List (Known es)) → list_all p (flat_map (λ r. r env) (map (reads es) (map (λ e. e.0) (f ∷ fs)))) ≡ true →
+  first_and_rest : (f : Known (Depends es)) (fs : List (Known (Depends es))) → list_all p (flat_map (λ r. r env) (map (reads es) (map (λ e. e.0) (f ∷ fs)))) ≡ true →
       (list_all p (reads es f.0 env) ≡ true) × (list_all p (flat_map (λ r. r env) (map (reads es) (map (λ e. e.0) fs))) ≡ true)
   first_and_rest f fs h =
       let rest = flat_map (λ r. r env) (map (reads es) (map (λ e. e.0) fs)) in
       and_parts (list_all p (reads es f.0 env)) (list_all p rest) (sym (list_all-append p (reads es f.0 env) rest) ∙ h)
 
-  all_depend : (fs : List (Known es)) → list_all p (flat_map (λ r. r env) (map (reads es) (map (λ e. e.0) fs))) ≡ true →
+  all_depend : (fs : List (Known (Depends es))) → list_all p (flat_map (λ r. r env) (map (reads es) (map (λ e. e.0) fs))) ≡ true →
       list_all (λ t. t env look) (map (truth es) (map (λ e. e.0) fs)) ≡ list_all (λ t. t env other) (map (truth es) (map (λ e. e.0) fs))
   all_depend [] h = refl
   all_depend (f ∷ fs) h = let both = first_and_rest f fs h in rw (f.1 env p look other agree both.0, all_depend fs both.1)
 
-  any_depend : (fs : List (Known es)) → list_all p (flat_map (λ r. r env) (map (reads es) (map (λ e. e.0) fs))) ≡ true →
+  any_depend : (fs : List (Known (Depends es))) → list_all p (flat_map (λ r. r env) (map (reads es) (map (λ e. e.0) fs))) ≡ true →
       list_any (λ t. t env look) (map (truth es) (map (λ e. e.0) fs)) ≡ list_any (λ t. t env other) (map (truth es) (map (λ e. e.0) fs))
   any_depend [] h = refl
   any_depend (f ∷ fs) h = let both = first_and_rest f fs h in rw (f.1 env p look other agree both.0, any_depend fs both.1)
 
-  both_depend : (f f' : Known es) → list_all p (reads es f.0 env ++ reads es f'.0 env) ≡ true → (truth es f.0 env look ≡ truth es f.0 env other) × (truth es f'.0 env look ≡ truth es f'.0 env other)
+  both_depend : (f f' : Known (Depends es)) → list_all p (reads es f.0 env ++ reads es f'.0 env) ≡ true → (truth es f.0 env look ≡ truth es f.0 env other) × (truth es f'.0 env look ≡ truth es f'.0 env other)
   both_depend f f' h =
       let both = and_parts (list_all p (reads es f.0 env)) (list_all p (reads es f'.0 env)) (sym (list_all-append p (reads es f.0 env) (reads es f'.0 env)) ∙ h) in
       (f.1 env p look other agree both.0, f'.1 env p look other agree both.1)
 
   -- the reads of the first cell of a ball, and those of the others
-  first_cell : (f : Known es) (c : Cell) (cs : List Cell) → list_all p (flat_map (λ d. reads es f.0 (env ++ d ∷ [])) (c ∷ cs)) ≡ true →
+  first_cell : (f : Known (Depends es)) (c : Cell) (cs : List Cell) → list_all p (flat_map (λ d. reads es f.0 (env ++ d ∷ [])) (c ∷ cs)) ≡ true →
       (list_all p (reads es f.0 (env ++ c ∷ [])) ≡ true) × (list_all p (flat_map (λ d. reads es f.0 (env ++ d ∷ [])) cs) ≡ true)
   first_cell f c cs h =
       let rest = flat_map (λ d. reads es f.0 (env ++ d ∷ [])) cs in
       and_parts (list_all p (reads es f.0 (env ++ c ∷ []))) (list_all p rest) (sym (list_all-append p (reads es f.0 (env ++ c ∷ [])) rest) ∙ h)
 
-  for_all_depends : (f : Known es) (cs : List Cell) → list_all p (flat_map (λ c. reads es f.0 (env ++ c ∷ [])) cs) ≡ true →
+  for_all_depends : (f : Known (Depends es)) (cs : List Cell) → list_all p (flat_map (λ c. reads es f.0 (env ++ c ∷ [])) cs) ≡ true →
       list_all (λ c. truth es f.0 (env ++ c ∷ []) look) cs ≡ list_all (λ c. truth es f.0 (env ++ c ∷ []) other) cs
   for_all_depends f [] h = refl
   for_all_depends f (c ∷ cs) h = let both = first_cell f c cs h in rw (f.1 (env ++ c ∷ []) p look other agree both.0, for_all_depends f cs both.1)
 
-  exists_depends : (f : Known es) (cs : List Cell) → list_all p (flat_map (λ c. reads es f.0 (env ++ c ∷ [])) cs) ≡ true →
+  exists_depends : (f : Known (Depends es)) (cs : List Cell) → list_all p (flat_map (λ c. reads es f.0 (env ++ c ∷ [])) cs) ≡ true →
       list_any (λ c. truth es f.0 (env ++ c ∷ []) look) cs ≡ list_any (λ c. truth es f.0 (env ++ c ∷ []) other) cs
   exists_depends f [] h = refl
   exists_depends f (c ∷ cs) h = let both = first_cell f c cs h in rw (f.1 (env ++ c ∷ []) p look other agree both.0, exists_depends f cs both.1)
 
-  step_depends : (y : Formula-F (Known es)) → list_all p (reads_step es (map-Formula Formula Reading (reads es) (layer es y)) env) ≡ true →
-      truth_step es (map-Formula Formula Truth (truth es) (layer es y)) env look ≡ truth_step es (map-Formula Formula Truth (truth es) (layer es y)) env other
+  step_depends : (y : Formula-F (Known (Depends es))) → list_all p (reads_step es (map-Formula Formula Reading (reads es) (layer (Depends es) y)) env) ≡ true →
+      truth_step es (map-Formula Formula Truth (truth es) (layer (Depends es) y)) env look ≡ truth_step es (map-Formula Formula Truth (truth es) (layer (Depends es) y)) env other
   step_depends (Formula-F.Symbol t s) h = at_cell_agree p look other agree (is_symbol s) (cell_of es env t) h
   step_depends (Formula-F.NotSymbol t s) h = at_cell_agree p look other agree (λ a. not (is_symbol s a)) (cell_of es env t) h
   step_depends (Formula-F.Same t u) h = at_cells_agree p look other agree are_equal (cell_of es env t) (cell_of es env u) h

@@ -1,5 +1,5 @@
 -- Why no rule is made of a formula, and no automaton by cases.
-use Rattle.std.proofs.Common.{◌≡◌, ◌≤◌, ℕ, true, false, refl, arith}
+use Rattle.std.proofs.Common.{◌≡◌, ◌<◌, ◌≤◌, ℕ, true, false, List, length, get_or, refl, ap, ◌∙◌, subst, arith}
 use Rattle.std.proofs.lemmas.Bool.{and_from, lt-leb, eq-eqb}
 use Rattle.std.specs.{Prelude.nat_le, List.list_all}
 use Rattle.dd_topology.specs.{Grid.Grid, Sets.SymbolSets}
@@ -24,6 +24,14 @@ passes_one n f Instances h = h
 passes_one n f Reach h = h
 passes_one n f Depth h = absurd h
 passes_one n f Memory h = tt
+
+-- the case that a loop over the cases is at
+pub record IsCase (cases : List (LocalRule × ℕ)) (i : ℕ) (case : LocalRule × ℕ) : Type 0 where
+  pub is : case ≡ get_or cases i case
+  pub below : i < length cases
+
+pub case_of : (cases items : List (LocalRule × ℕ)) (i : ℕ) (case : LocalRule × ℕ) → items ≡ cases → case ≡ get_or items i case → i < length items → IsCase cases i case
+case_of cases items i case same is below = record { is = is ∙ ap (λ xs. get_or xs i case) same; below = subst (λ xs. i < length xs) same below }
 
 -- a rule over a topology and its symbols has their numbers
 pub has_numbers : (g : Grid) (s : SymbolSets) (f : Formula) → rule_has (numbers_over g s) (local_rule g s f) ≡ true

@@ -1,5 +1,5 @@
 -- The greatest common divisor, and numbers without a common divisor.
-use Rattle.std.proofs.Common.{◌≡◌, ℕ, zero, suc, ◌+◌, ◌*◌, ◌/◌, ◌%◌, ◌<◌, ◌≤◌, refl, ap, subst, ◌∙◌, arith}
+use Rattle.std.proofs.Common.{◌≡◌, ℕ, zero, suc, ◌+◌, ◌*◌, ◌/◌, ◌%◌, ◌<◌, ◌≤◌, refl, sym, ap, subst, ◌∙◌, arith}
 use Rattle.std.proofs.lemmas.Nat.{mod_below, mod-mul-add, div-add-mod'}
 use Rattle.std.proofs.lemmas.Nat.Gcd.{IsGcd-from_zero, IsGcd-from_mod, same_from_IsGcd, dvd-zero, dvd_antisymm, le_of_dvd}
 use Rattle.std.proofs.Math.Nat.{mul-le-mul_right, div-mul_cancel, eq_of_mul-eq-mul_right}
@@ -56,6 +56,24 @@ is_common (suc n) a (suc b) p =
 pub greatest_common-is : (a b : ℕ) → IsGcd a b (greatest_common a b)
 unfolding greatest_common
 greatest_common-is a b = is_common (suc b) a b (omega arith)
+
+-- numbers without a common divisor, k times
+pub IsGcd-scaled : (a b k : ℕ) → 0 < k → IsGcd a b 1 → IsGcd (a * k) (b * k) k
+IsGcd-scaled a b k z alone =
+    let one : greatest_common a b ≡ 1 = same_from_IsGcd a b (greatest_common a b) 1 (greatest_common-is a b) alone in
+    let size : greatest_common a b * k ≡ k = ap (λ (g : ℕ). g * k) one ∙ omega arith in
+    subst (IsGcd (a * k) (b * k)) size (greatest_common-scaled a b k z)
+
+-- two fractions in lowest terms with equal cross products are the same
+pub same_fraction : (n d m e : ℕ) → 0 < d → 0 < e → IsGcd n d 1 → IsGcd m e 1 → n * e ≡ m * d → (n ≡ m) × (d ≡ e)
+same_fraction n d m e d_some e_some one other cross =
+    let first : IsGcd (n * e) (d * e) e = IsGcd-scaled n d e e_some one in
+    let second : IsGcd (m * d) (e * d) d = IsGcd-scaled m e d d_some other in
+    let turned : e * d ≡ d * e = omega arith in
+    let again : IsGcd (n * e) (d * e) d = subst (λ (x : ℕ). IsGcd x (d * e) d) (sym cross) (subst (λ (x : ℕ). IsGcd (m * d) x d) turned second) in
+    let same : d ≡ e = same_from_IsGcd (n * e) (d * e) d e again first in
+    let over : n * e ≡ m * e = cross ∙ ap (λ (x : ℕ). m * x) same in
+    (eq_of_mul-eq-mul_right e e_some n m over, same)
 
 pub greatest_common_le : (a b : ℕ) → 0 < b → greatest_common a b ≤ b
 greatest_common_le a b p = le_of_dvd p (greatest_common-is a b).1

@@ -6,11 +6,24 @@ use Rattle.std.specs.{Prelude.◌-ℤ◌, Prelude.◌*ℤ◌, Cmp.int_ranks, Cmp
 use Rattle.std.specs.{Ordering.int_cmp, Ordering.nat_cmp, Ordering.ordering_then, Ordering.MatchOrdering, Int.Signed.◌<ℤ◌}
 use Rattle.std.specs.declared.cmp.Ordering.{Ordering}
 use Rattle.std.specs.declared.cmp.Ordering.TheVariants.{Less, Equal, Greater}
-use Rattle.dd_lattice.specs.{Place.Place, Cells.cell, Order.cell_cmp, declared.position.Cell.Cell, lemmas.MoveLaws.place_same}
-use Rattle.dd_pattern.specs.Periods.{periods_volume, residue, unsheared, base_of}
+use Rattle.dd_lattice.specs.{Place.Place, Place.place, Cells.cell, Order.cell_cmp, declared.position.Cell.Cell, lemmas.MoveLaws.place_same}
+use Rattle.dd_pattern.specs.{declared.periods.Periods.Periods, Periods.periods_volume, Periods.residue, Periods.quotient, Periods.unsheared, Periods.base_of}
 use Rattle.dd_pattern.specs.Tile.{Tile, IsTile, IsInBox, tile_index, cell_in}
 use Rattle.dd_pattern.specs.lemmas.Residues.{residue_below, residue_small, quotient_small}
 
+-- the origin
+base_of-origin : (p : Periods) → 0 < p.x → 0 < p.y → 0 < p.z → base_of p (place (pos 0) (pos 0) (pos 0)) ≡ place (pos 0) (pos 0) (pos 0)
+base_of-origin p x y z =
+    let turns : quotient (pos 0) p.y ≡ pos 0 = quotient_small 0 p.y y in
+    let straight : unsheared p (place (pos 0) (pos 0) (pos 0)) ≡ pos 0 = ap (λ q. pos 0 -ℤ q *ℤ pos p.shear) turns ∙ omega (arith, ints) in
+    let on_x : residue (unsheared p (place (pos 0) (pos 0) (pos 0))) p.x ≡ 0 = ap (λ w. residue w p.x) straight ∙ residue_small 0 p.x x in
+    place_same (pos (residue (unsheared p (place (pos 0) (pos 0) (pos 0))) p.x)) (pos (residue (pos 0) p.y)) (pos (residue (pos 0) p.z)) (pos 0) (pos 0) (pos 0)
+    (ap pos on_x) (ap pos (residue_small 0 p.y y)) (ap pos (residue_small 0 p.z z))
+
+pub origin_in_box : (t : Tile) (a : ℕ) → IsTile t → a < t.nodes → IsInBox t (cell (place (pos 0) (pos 0) (pos 0)) a)
+origin_in_box t a tile node = record { base = base_of-origin t.periods tile.periods.x_some tile.periods.y_some tile.periods.z_some; node = node }
+
+-- cells by their numbers
 pub cell_at_index : (t : Tile) → IsTile t → (v : Place) (a : ℕ) → a < t.nodes → cell_in t (tile_index t (cell v a)) ≡ cell (base_of t.periods v) a
 cell_at_index t ok v a h =
     let x_in = residue_below (unsheared t.periods v) t.periods.x ok.periods.x_some in

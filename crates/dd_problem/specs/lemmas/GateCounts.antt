@@ -5,8 +5,8 @@ use Rattle.dd_lattice.specs.{Cells.cell, declared.position.Cell.Cell}
 use Rattle.dd_expansion.specs.Leaves.{total, clause_count}
 use Rattle.dd_compile.specs.{Compiling.AllMade, Compiling.all_made, lemmas.FewGates.gates_below, lemmas.MadeCount.made_count, Wiring.Wiring}
 use Rattle.dd_compile.specs.{ValueGates.fresh, ValueGates.value_made, lemmas.ChoiceLaws.fresh_length}
-use Rattle.dd_compile.specs.lemmas.ValueParts.{by_forms, made_given, made_composed, few_gates}
-use Rattle.dd_formula.specs.{LocalRule.LocalRule, LocalRule.expansion_at, ValueCounts.differ_at, declared.automaton.Automaton.Automaton}
+use Rattle.dd_compile.specs.lemmas.ValueParts.{made_given, made_composed, few_gates}
+use Rattle.dd_formula.specs.{LocalRule.LocalRule, LocalRule.expansion_at, ValueCounts.differ_at, declared.automaton.Automaton.Automaton, lemmas.ValuedLaws.by_forms}
 use Rattle.dd_circuit.specs.declared.gates.{Signal.Signal, Gate.TheVariants.Or}
 use Rattle.dd_boxes.specs.{Goals.GoalOf, Goals.breaks, Goals.differ, Goals.always, Boxes.origin, Counts.goal_clauses}
 use Rattle.dd_problem.specs.{Layouts.Layout, Clauses.part_gates}

@@ -2,7 +2,7 @@
 use Rattle.std.proofs.Common.{◌≡◌, ℕ, zero, suc, ◌+◌, ◌*◌, ◌<◌, ◌≤◌, arith, Bool, true, false, List, [], ◌∷◌, ◌++◌, map, length, refl, ap, sym, ◌∙◌, Some, None}
 use Rattle.std.proofs.lemmas.{Bool.and_parts, Bool.ltb-true, List.map-append}
 use Rattle.std.proofs.lemmas.List.Folds.{list_all-append, list_all-map}
-use Rattle.std.specs.Prelude.{not, if◌then◌else◌, ◌&&◌, ◌||◌, ◌==◌, Option, nat_lt}
+use Rattle.std.specs.Prelude.{not, ◌&&◌, ◌||◌, ◌==◌, Option, nat_lt}
 use Rattle.std.specs.List.{list_all, list_any, filter, range_with_len}
 use Rattle.dd_lattice.specs.{Place.Place, Cells.cell, Cells.shifted, declared.position.Cell.Cell}
 use Rattle.dd_pattern.specs.Reading.{Look, HasSymbolsBelow}
@@ -19,7 +19,7 @@ use Rattle.dd_problem.specs.Clauses.{input, Part, part_gates, some_true, some_fa
 use Rattle.dd_problem.specs.Problems.{wire, place_maker, premise_part, goal_part, problem_parts, input_count}
 use Rattle.dd_problem.specs.{Differing.differ_made, lemmas.Parts.tests, lemmas.Parts.PartSays, lemmas.Parts.tests_law}
 use Rattle.dd_problem.specs.lemmas.ValueWires.{AreValuesWired, GoalWired, differ_gates_say}
-use Rattle.dd_values.specs.lemmas.Booleans.{and_true, or_false}
+use Rattle.dd_values.specs.lemmas.Booleans.{and_true, or_false, if_not}
 
 -- the inputs of the layout's cells say the symbols of the look
 abbrev pub InputsTell : (ℕ → Bool) → Layout → ℕ → Look → Type 0
@@ -66,11 +66,7 @@ one_unit : (b : Bool) → ((b || false) && true) ≡ b
 one_unit b = and_true (b || false) ∙ or_false b
 
 opposing_is : (set : ℕ → Bool) (s : Signal) → is_literal_true set (opposing s) ≡ not (signal_value set s)
-opposing_is set s = go s.positive (set s.variable) where
-  go : (p v : Bool) → (if not p then v else not v) ≡ not (if p then v else not v)
-  go true v = refl
-  go false true = refl
-  go false false = refl
+opposing_is set s = if_not s.positive (set s.variable)
 
 any_opposing : (set : ℕ → Bool) (ss : List Signal) → list_any (is_literal_true set) (map opposing ss) ≡ list_any not (map (signal_value set) ss)
 any_opposing set [] = refl

@@ -1,5 +1,5 @@
 -- If the layout has inputs for what automata read at the origin, the gates of their values are right and say the values.
-use Rattle.std.proofs.Common.{◌≡◌, ℕ, zero, suc, ◌+◌, ◌*◌, ◌<◌, ◌≤◌, Bool, true, List, [], ◌∷◌, length, refl, ap, sym, subst, ◌∙◌, arith, inl, inr, Some, eq-eqb}
+use Rattle.std.proofs.Common.{◌≡◌, ℕ, ◌+◌, ◌*◌, ◌<◌, ◌≤◌, Bool, true, List, [], ◌∷◌, length, ap, sym, subst, ◌∙◌, arith, inl, inr, Some, eq-eqb}
 use Rattle.std.proofs.lemmas.{Int.ints, Bool.and_parts, Bool.and_from, Bool.le-leb, Option.slice_get_within}
 use Rattle.std.proofs.lemmas.List.{Folds.list_all-map, FromFn.length-map-range_with_len}
 use Rattle.std.specs.{Prelude.◌==◌, Prelude.not, Prelude.nat_le, Prelude.slice_get, List.Contains, List.list_all, List.range_with_len}
@@ -8,7 +8,7 @@ use Rattle.dd_values.specs.lemmas.{Members.Contains-nil, Members.Contains-cons_c
 use Rattle.dd_pattern.specs.Reading.{Look, HasSymbolsBelow}
 use Rattle.dd_expansion.specs.Truth.{is_symbol}
 use Rattle.dd_formula.specs.Automata.{CommonNumbers, IsAutomaton, counted, value}
-use Rattle.dd_formula.specs.{declared.automaton.Automaton.Automaton, lemmas.ValueLaws.value_below}
+use Rattle.dd_formula.specs.{declared.automaton.Automaton.Automaton, lemmas.ValueLaws.value_below, lemmas.ReachLaws.all_numbers}
 use Rattle.dd_circuit.specs.{declared.gates.Signal.Signal, Circuits.AreGates, Circuits.signal_of, Circuits.signal_value, Circuits.agrees}
 use Rattle.dd_compile.specs.{Wiring.signals_of, Wiring.signal_for, RuleSignals.is_signal, RuleSignals.are_signals, ValueGates.value_made}
 use Rattle.dd_compile.specs.{ValueSignals.TellsCells, ValueSignals.are_wired_there, Valued.IsMadeValue, Valued.SaysItsValue}
@@ -44,11 +44,7 @@ passes_member test (e ∷ ds) d h there =
     elim (Contains-cons_cases e ds d there) [ inl same ↦ ap test (sym same) ∙ both.0 | inr later ↦ passes_member test ds d both.1 later ]
 
 all_inputs : (p : Signal → Bool) (m k : ℕ) (n j : ℕ) → ((s : ℕ) → s < j + n → p (signal_of (input m k s)) ≡ true) → list_all (λ s. p (signal_of (input m k s))) (range_with_len j n) ≡ true
-all_inputs p m k n j h = ranged (λ s. p (signal_of (input m k s))) n j h
-  where
-    ranged : (q : ℕ → Bool) (n j : ℕ) → ((s : ℕ) → s < j + n → q s ≡ true) → list_all q (range_with_len j n) ≡ true
-    ranged q zero j h = refl
-    ranged q (suc n) j h = and_from _ _ (h j (omega arith)) (ranged q n (j + 1) (λ s below. h s (omega arith)))
+all_inputs p m k n j h = all_numbers (λ s. p (signal_of (input m k s))) j n h
 
 -- the inputs of a number are signals of the first variables
 inputs_are_signals : (m k count n : ℕ) → k < count → count * m ≤ n → are_signals n m (Some (symbol_signals m k)) ≡ true

@@ -9,7 +9,7 @@ use Rattle.dd_lattice.specs.{Cells.cell, Cells.shifted, declared.position.Cell.C
 use Rattle.dd_pattern.specs.Reading.{Look, HasSymbolsBelow}
 use Rattle.dd_expansion.specs.{Terms.origin_at, Leaves.leaves_pass, lemmas.LeafLaws.leaves_both, lemmas.LeavesAreReads.leaves_are_reads}
 use Rattle.dd_formula.specs.LocalRule.{LocalRule, IsRule, is_true, reads_at, expansion_at}
-use Rattle.dd_formula.specs.Automata.{value}
+use Rattle.dd_formula.specs.{Automata.value, lemmas.ReachLaws.all_numbers}
 use Rattle.dd_boxes.specs.{Goals.GoalOf, Goals.breaks, Goals.differ, Goals.always, Goals.HasGoal, Boxes.origin}
 use Rattle.dd_problem.specs.{pushing.Told.IsToldGoal, Layouts.Layout, Layouts.fits_in, lemmas.Filtered.filter_all}
 use Rattle.dd_problem.specs.lemmas.ValueWires.{GoalWired}
@@ -17,11 +17,7 @@ use Rattle.dd_problem.specs.lemmas.Parted.{reads_inputs, goal_holds, goal_reads,
 use Rattle.dd_problem.specs.lemmas.Reading.{IsLayout, IsWired}
 use Rattle.dd_values.specs.lemmas.Booleans.{not_true}
 
--- a test of a range
-pub all_of_range : (p : ℕ → Bool) (n a : ℕ) → ((k : ℕ) → k < a + n → p k ≡ true) → list_all p (range_with_len a n) ≡ true
-all_of_range p zero a h = refl
-all_of_range p (suc n) a h = and_from _ _ (h a (omega arith)) (all_of_range p n (a + 1) (λ k l. h k (omega arith)))
-
+-- tests of a range
 pub range_at : (p : ℕ → Bool) (n a k : ℕ) → list_all p (range_with_len a n) ≡ true → a ≤ k → k < a + n → p k ≡ true
 range_at p zero a k h low high = absurd (omega arith)
 range_at p (suc n) a k h low high =
@@ -99,7 +95,7 @@ HasReads l always = Unit {0}
 
 goal_is_read : (l : Layout) (x : LocalRule) (g : GoalOf) → IsToldGoal x g → HasReads l g → goal_reads l x.symbols g ≡ true
 goal_is_read l x (breaks y) ok there =
-    all_of_range (λ a. reads_inputs l x.symbols y (cell origin a)) y.nodes 0
+    all_numbers (λ a. reads_inputs l x.symbols y (cell origin a)) 0 y.nodes
     (λ a below. (let node : a < y.nodes = omega arith in place_reads l x.symbols y (cell origin a) ok.0 (sym ok.1.symbols) node (there a node)))
 goal_is_read l x (differ s f g) ok there = refl
 goal_is_read l x always ok there = refl

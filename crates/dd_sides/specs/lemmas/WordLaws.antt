@@ -1,6 +1,6 @@
 -- Lists of symbols for cells: which symbol each cell has, and that the words include every list that the nodes allow.
-use Rattle.std.proofs.Common.{◌≡◌, ◌<◌, ◌+◌, ◌≤◌, ℕ, zero, suc, true, false, List, [], ◌∷◌, map, refl, sym, ap, subst, ◌∙◌, inl, inr, Some, arith}
-use Rattle.std.proofs.lemmas.Bool.{cases_Bool, cases_lt, false≢true}
+use Rattle.std.proofs.Common.{◌≡◌, ◌<◌, ℕ, true, false, List, [], ◌∷◌, map, sym, ap, subst, ◌∙◌, inl, inr, Some}
+use Rattle.std.proofs.lemmas.Bool.{cases_Bool, false≢true}
 use Rattle.std.specs.{Prelude.is_some, Prelude.slice_get, List.Contains, List.range_with_len, Ordering.is_eq}
 use Rattle.dd_lattice.specs.{Order.cell_cmp, declared.position.Cell.Cell, lemmas.InOrderLaws.cells_equal}
 use Rattle.dd_values.specs.lemmas.Members.{Contains-nil, Contains-cons_cases, Contains-first, Contains-later, Contains-map}
@@ -8,7 +8,6 @@ use Rattle.dd_values.specs.lemmas.{Booleans.equal_from, Lists.range_has, Lists.i
 use Rattle.dd_formula.specs.LocalRule.{LocalRule, rule_allows}
 use Rattle.dd_rows.specs.Fillings.{look_of, allowed_symbols, words}
 use Rattle.dd_rows.specs.lemmas.Ready.{number_later, number_here, same_cell}
-use Rattle.dd_rows.specs.lemmas.AdmissibleLaws.{kept_first_if, kept_later_if}
 use Rattle.dd_topology.specs.lemmas.ListLaws.{into_flat_map}
 
 -- which symbol each cell has
@@ -46,9 +45,3 @@ words_have x f (c ∷ cs) ok =
     let choice : Contains (allowed_symbols x c.node) (f c) = in_filter (rule_allows x c.node) (range_with_len 0 x.symbols) (f c) (range_has x.symbols (f c) here.1) here.0 in
     let rest = words_have x f cs (λ d h. ok d (Contains-later c cs d h)) in
     into_flat_map (λ s. map (λ ss. s ∷ ss) (words x cs)) (allowed_symbols x c.node) (f c) (f c ∷ map f cs) choice (Contains-map (λ ss. f c ∷ ss) (words x cs) (map f cs) rest)
-
--- two functions that agree on a list map it to the same list
-pub mapped_alike : {X Y : Type 0} (f g : X → Y) (xs : List X) → ((x : X) → Contains xs x → f x ≡ g x) → map f xs ≡ map g xs
-mapped_alike f g [] same = refl
-mapped_alike {X} {Y} f g (x ∷ xs) same =
-    ap (λ (y : Y). y ∷ map f xs) (same x (Contains-first x xs)) ∙ ap (λ (ys : List Y). g x ∷ ys) (mapped_alike f g xs (λ y h. same y (Contains-later x xs y h)))

@@ -1,18 +1,14 @@
 -- Entries of a trail by place, and the literals that they make false.
 use Rattle.std.proofs.Common.{◌≡◌, ℕ, zero, suc, ◌+◌, ◌<◌, ◌≤◌, true, false, List, [], ◌∷◌, ◌++◌, refl, ap, sym, ◌∙◌, subst, length, get_or, take, eqb, inl, inr, arith}
 use Rattle.std.proofs.lemmas.Bool.{eq-eqb, eqb-true, or_cases, or_left, or_right, false≢true, false_from_ne_true}
-use Rattle.std.proofs.lemmas.List.{take_more, length-take, get_or-take}
+use Rattle.std.proofs.lemmas.List.{take_more, length-take, get_or-take, map-append}
 use Rattle.dd_clause.specs.{declared.clause.Literal.Literal, Clauses.negation}
 use Rattle.dd_derivation.specs.{Derivations.same_literal, Derivations.is_among, Derivations.has_variable, lemmas.Soundness.same_literal-eq}
 use Rattle.dd_derivation.specs.lemmas.Findings.{In, in_here}
 use Rattle.dd_trail.specs.{declared.trail.Entry.Entry, Trails.falses}
 
-pub falses-append : (xs ys : List Entry) → falses (xs ++ ys) ≡ falses xs ++ falses ys
-falses-append [] ys = refl
-falses-append (x ∷ xs) ys = ap (λ (zs : List Literal). negation x.literal ∷ zs) (falses-append xs ys)
-
 pub falses-more : (trail : List Entry) (j : ℕ) (d : Entry) → j < length trail → falses (take (j + 1) trail) ≡ falses (take j trail) ++ negation (get_or trail j d).literal ∷ []
-falses-more trail j d h = ap falses (take_more trail j d h) ∙ falses-append (take j trail) (get_or trail j d ∷ [])
+falses-more trail j d h = ap falses (take_more trail j d h) ∙ map-append (λ (e : Entry). negation e.literal) (take j trail) (get_or trail j d ∷ [])
 
 -- a false literal is the negation of an entry's
 pub in_falses : (trail : List Entry) (x : Literal) → In (falses trail) x → (k : ℕ) × (k < length trail) × ((d : Entry) → negation (get_or trail k d).literal ≡ x)

@@ -1,7 +1,7 @@
 -- Truth values and comparisons.
 use Rattle.std.proofs.Common.{sym, Bool, true, refl, false, ◌≡◌, inl, ◌⊎◌, inr, arith, ℕ, ◌<◌, ◌≤◌, ◌≢◌, None}
 use Rattle.std.proofs.lemmas.Bool.{false≢true}
-use Rattle.std.specs.Prelude.{◌&&◌, ◌||◌, not, Option, cond, is_some}
+use Rattle.std.specs.Prelude.{◌&&◌, ◌||◌, not, if◌then◌else◌, Option, cond, is_some}
 use Rattle.std.specs.{Bool.beq, Bool.nat_lt, Bool.nat_eq, Ordering.ordering_then, Ordering.is_eq}
 use Rattle.std.specs.declared.cmp.Ordering.TheVariants.{Equal, Greater, Less}
 use Rattle.std.specs.declared.cmp.Ordering.{Ordering}
@@ -76,6 +76,11 @@ and_four false b c d = refl
 pub not_not : (b : Bool) → not (not b) ≡ b
 not_not true = refl
 not_not false = refl
+
+-- the value under the opposite sign is the opposite
+pub if_not : (sign b : Bool) → (if not sign then b else not b) ≡ not (if sign then b else not b)
+if_not true b = refl
+if_not false b = sym (not_not b)
 
 pub and_false : (a : Bool) → (a && false) ≡ false
 and_false true = refl

@@ -1,7 +1,7 @@
 -- Lists: members, tests, maps and ranges.
 use Rattle.std.proofs.Common.{suc, arith, ◌∷◌, List, [], zero, ℕ, slice_get, ◌<◌, ◌≡◌, true, get_or, false, inl, Bool, inr, length, ◌≤◌, ap, ◌∙◌, sym, refl, ◌++◌, ◌+◌, map, Some, None, subst, ◌⊎◌, cond}
 use Rattle.std.specs.List.{All, Contains, list_all, flat_map, range_with_len, list_any, filter}
-use Rattle.std.specs.Prelude.{IfSome, is_some, ◌&&◌, ◌||◌, MatchOption, Option}
+use Rattle.std.specs.Prelude.{IfSome, is_some, ◌&&◌, ◌||◌, MatchOption, Option, slice_index}
 use Rattle.std.proofs.lemmas.Bool.{cases_lt, and_parts, false≢true, and_from}
 use Rattle.std.proofs.Math.ListN.{get_or-eq_default}
 use Rattle.dd_values.specs.lemmas.Members.{Contains-nil, Contains-cons_cases, Contains-later, Contains-first}
@@ -15,6 +15,12 @@ pub below_at : (n : ℕ) (ss : List ℕ) → All (λ s. s < n) ss → (i : ℕ) 
 below_at n [] h i = tt
 below_at n (s ∷ ss) h zero = h zero s (omega arith)
 below_at n (s ∷ ss) h (suc i) = below_at n ss (λ k d within. h (suc k) d (omega arith)) i
+
+-- a number of the list, or 0
+pub slice_index_within : (n : ℕ) (xs : List ℕ) (i : ℕ) → All (λ x. x ≤ n) xs → slice_index xs i ≤ n
+slice_index_within n [] i h = omega arith
+slice_index_within n (x ∷ xs) zero h = h zero x (omega arith)
+slice_index_within n (x ∷ xs) (suc i) h = slice_index_within n xs i (λ k d within. h (suc k) d (omega (arith, within)))
 
 pub nothing_past : (row : List Bool) (t : ℕ) → get_or row t false ≡ true → t < length row
 nothing_past row t h = elim (cases_lt t (length row)) [ inl low ↦ low | inr high ↦ absurd (let past = get_or-eq_default row false high in cc) ]
@@ -53,6 +59,11 @@ map_flat_map h f (x ∷ xs) = map-append h (f x) (flat_map f xs) ∙ ap (λ ys. 
 pub map_alike : {X Y : Type 0} (f g : X → Y) → ((x : X) → f x ≡ g x) → (xs : List X) → map f xs ≡ map g xs
 map_alike f g same [] = refl
 map_alike f g same (x ∷ xs) = rw (same x, map_alike f g same xs) refl
+
+-- the same for functions that agree on the members
+pub map_agree : {X Y : Type 0} (f g : X → Y) (xs : List X) → ((x : X) → Contains xs x → f x ≡ g x) → map f xs ≡ map g xs
+map_agree f g [] same = refl
+map_agree f g (x ∷ xs) same = rw (same x (Contains-first x xs), map_agree f g xs (λ y there. same y (Contains-later x xs y there))) refl
 
 pub list_all_agree : {X : Type 0} (p q : X → Bool) → ((x : X) → p x ≡ q x) → (xs : List X) → list_all p xs ≡ list_all q xs
 list_all_agree p q same [] = refl

@@ -1,7 +1,8 @@
-use Rattle.std.proofs.Common.{◌≡◌, ◌<◌, ◌≤◌, ℕ, List, length, take, get_or, ap, sym, ◌∙◌, subst}
+use Rattle.std.proofs.Common.{◌≤◌, ℕ, List, length, take, sym, subst}
 use Rattle.std.proofs.lemmas.List.{take_all, Elements.All-push}
 use Rattle.std.specs.List.{All}
 use Rattle.dd_formula.specs.LocalRule.{LocalRule, IsRule}
+use Rattle.dd_formula.specs.lemmas.CasesLaws.{case_of}
 use Rattle.dd_compile.specs.lemmas.CaseGates.{taken_is}
 use Rattle.dd_compile.proofs.laws.rules_are_kept.Goals as goal
 
@@ -10,10 +11,8 @@ loop-rule-preserved c =
     let cases : List (LocalRule × ℕ) = c.args.cases.now.cases in
     let i = c.loop-rule.rule-index in
     let case : LocalRule × ℕ = c.loop-rule-item.result in
-    let same : c.as_slice-rule-items.result.now ≡ cases = c.as_slice-rule-items.ensures in
-    let is : case ≡ get_or cases i case = c.loop-rule-item.is ∙ ap (λ xs. get_or xs i case) same in
-    let below : i < length cases = subst (λ xs. i < length xs) same c.loop-rule-test.true in
-    subst (All (λ (x : LocalRule × ℕ). IsRule x.0)) (sym (taken_is cases i case below is))
+    let item = case_of cases _ i case c.as_slice-rule-items.ensures c.loop-rule-item.is c.loop-rule-test.true in
+    subst (All (λ (x : LocalRule × ℕ). IsRule x.0)) (sym (taken_is cases i case item.below item.is))
     (All-push (λ (x : LocalRule × ℕ). IsRule x.0) (take i cases) case c.loop-rule.invariant c.nodes-nodes.ensures.kept)
 
 pub returns : goal.returns

@@ -1,6 +1,7 @@
-use Rattle.std.proofs.Common.{◌≡◌, ◌<◌, ◌≤◌, ℕ, length, get_or, ap, ◌∙◌, subst}
+use Rattle.std.proofs.Common.{◌≤◌, ℕ, length, subst}
 use Rattle.dd_lattice.specs.declared.position.Cell.{Cell}
 use Rattle.dd_formula.specs.{LocalRule.LocalRule, declared.automaton.Cases.Cases}
+use Rattle.dd_formula.specs.lemmas.CasesLaws.{case_of}
 use Rattle.dd_circuit.specs.Circuits.{Network, size}
 use Rattle.dd_compile.specs.{Wiring.Wiring, lemmas.Progress.Extends-trans}
 use Rattle.dd_compile.specs.lemmas.CaseRules.{ruling_start, ruling_step, ruling_end, case_node, case_wired, case_few, size_more}
@@ -16,14 +17,12 @@ compile_rule-requires c =
     let signals = c.loop-rule.signals.items in
     let i = c.loop-rule.rule-index in
     let case : LocalRule × ℕ = c.loop-rule-item.result in
-    let same : c.as_slice-rule-items.result.now ≡ cases.cases = c.as_slice-rule-items.ensures in
-    let is : case ≡ get_or cases.cases i case = c.loop-rule-item.is ∙ ap (λ xs. get_or xs i case) same in
-    let below : i < length cases.cases = subst (λ xs. i < length xs) same c.loop-rule-test.true in
+    let item = case_of cases.cases _ i case c.as_slice-rule-items.ensures c.loop-rule-item.is c.loop-rule-test.true in
     record {
-      node = case_node (size start) w cases at c.requires.wired i case below is;
+      node = case_node (size start) w cases at c.requires.wired i case item.below item.is;
       near = c.requires.near;
-      wired = case_wired (size start) (size now) w cases at c.requires.wired i case (size_more w cases at i start now signals case c.loop-rule.invariant below is) below is;
-      few = case_few w cases at i start now signals case c.loop-rule.invariant below is c.requires.few;
+      wired = case_wired (size start) (size now) w cases at c.requires.wired i case (size_more w cases at i start now signals case c.loop-rule.invariant item.below item.is) item.below item.is;
+      few = case_few w cases at i start now signals case c.loop-rule.invariant item.below item.is c.requires.few;
     }
 
 pub loop-rule-init : goal.loop-rule-init
@@ -36,11 +35,9 @@ loop-rule-preserved c =
     let at : Cell = c.args.at.now in
     let i = c.loop-rule.rule-index in
     let case : LocalRule × ℕ = c.loop-rule-item.result in
-    let same : c.as_slice-rule-items.result.now ≡ cases.cases = c.as_slice-rule-items.ensures in
-    let is : case ≡ get_or cases.cases i case = c.loop-rule-item.is ∙ ap (λ xs. get_or xs i case) same in
-    let below : i < length cases.cases = subst (λ xs. i < length xs) same c.loop-rule-test.true in
+    let item = case_of cases.cases _ i case c.as_slice-rule-items.ensures c.loop-rule-item.is c.loop-rule-test.true in
     let e = c.in_ok-signal.ensures in
-    ruling_step w cases at i c.args.circuit.now c.loop-rule.circuit c.loop-rule.signals.items case c.loop-rule.invariant below is
+    ruling_step w cases at i c.args.circuit.now c.loop-rule.circuit c.loop-rule.signals.items case c.loop-rule.invariant item.below item.is
     c.compile_rule.new.circuit c.push.new.self.items c.in_ok-signal.signal e.extends e.signal e.gates e.in_range e.says c.in_ok-push.ensures.items
 
 pub returns : goal.returns

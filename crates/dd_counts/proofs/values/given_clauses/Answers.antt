@@ -1,8 +1,9 @@
-use Rattle.std.proofs.Common.{◌≡◌, ◌<◌, ◌≤◌, ◌+◌, List, ℕ, map, length, take, get_or, ap, ◌∙◌, subst, arith}
+use Rattle.std.proofs.Common.{◌≡◌, ◌≤◌, ◌+◌, List, ℕ, map, length, take, ap, ◌∙◌, subst, arith}
 use Rattle.std.proofs.lemmas.{Grind.common_steps, List.take_all}
 use Rattle.std.specs.List.{range_with_len}
 use Rattle.dd_expansion.specs.Leaves.{clause_count, total}
 use Rattle.dd_formula.specs.{LocalRule.LocalRule, LocalRule.expansion_at, Counts.cut, lemmas.Cuts.total_more, ValueCounts.case_clauses}
+use Rattle.dd_formula.specs.lemmas.CasesLaws.{case_of}
 use Rattle.dd_formula.specs.lemmas.Ranges.{total_push}
 use Rattle.dd_counts.proofs.ValueLaws.{round, by_case}
 use Rattle.dd_counts.proofs.values.given_clauses.Goals as goal
@@ -13,11 +14,9 @@ loop-rule-preserved c =
     let n = c.args.node in
     let i = c.loop-rule.rule-index in
     let case : LocalRule × ℕ = c.loop-rule-item.result in
-    let same : c.as_slice-rule-items.result.now ≡ cases = c.as_slice-rule-items.ensures in
-    let is : case ≡ get_or cases i case = c.loop-rule-item.is ∙ ap (λ xs. get_or xs i case) same in
-    let below : i < length cases = subst (λ xs. i < length xs) same c.loop-rule-test.true in
+    let item = case_of cases _ i case c.as_slice-rule-items.ensures c.loop-rule-item.is c.loop-rule-test.true in
     let more : case_clauses (take (i + 1) cases) n ≡ case_clauses (take i cases) n + clause_count (expansion_at case.0 n) =
-    total_more (λ (x : LocalRule × ℕ). clause_count (expansion_at x.0 n)) cases i case below is in
+    total_more (λ (x : LocalRule × ℕ). clause_count (expansion_at x.0 n)) cases i case item.below item.is in
     record {
       choosing = omega (arith, c.loop-rule.invariant.choosing);
       clauses =

@@ -1,5 +1,5 @@
 use Rattle.std.proofs.Common.{◌≡◌, ap, subst, sym, ◌∙◌, IfOk, ℕ, List, length, arith}
-use Rattle.std.proofs.lemmas.{Grind.common_steps, List.length-map, Result.IfOk-weaker}
+use Rattle.std.proofs.lemmas.{List.length-map, Result.IfOk-weaker}
 use Rattle.dd_fraction.specs.Exact.{Exact, IsLowest}
 use Rattle.dd_simplex.specs.Programs.{LinearProgram, IsBest}
 use Rattle.dd_discharge.specs.{declared.bound.Bound.Bound, Amounts.IsCertifiedBound, Denominators.IsPrintedAs}
@@ -31,12 +31,3 @@ bound_of-requires-clause-some_dual c =
     let taken : length c.as_slice-2.result.now ≡ length s.duals = ap length c.as_slice-2.ensures in
     let some = c.requires.some in
     omega (arith, taken, each, some)
-
-pub returns-clause-err : goal.returns-clause-err
-returns-clause-err c = grind (arith, common_steps)
-
-pub returns-clause-ends : goal.returns-clause-ends
-returns-clause-ends c = grind (arith, common_steps)
-
-pub bound_of-requires-clause-sign : goal.bound_of-requires-clause-sign
-bound_of-requires-clause-sign c = grind (arith, common_steps)

@@ -1,5 +1,5 @@
 use Rattle.std.proofs.Common.{◌≡◌, ◌<◌, ◌≤◌, ap, subst, sym, ◌∙◌, ◌++◌, ◌∷◌, [], List, arith, rules, ℕ, ℤ, pos, get_or, map, length, to_z}
-use Rattle.std.proofs.lemmas.{Grind.common_steps, Grind.elements, Int.ints, Int.to_z_pos, List.length-map}
+use Rattle.std.proofs.lemmas.{Grind.elements, Int.ints, Int.to_z_pos, List.length-map}
 use Rattle.std.specs.Int.{w64}
 use Rattle.dd_simplex.specs.Programs.{cap_row, LinearProgram}
 use Rattle.dd_fraction.specs.Exact.{Exact, whole_of}
@@ -58,9 +58,6 @@ loop-i-preserved c =
           ∙ next_program rows c.args.columns c.loop-i.i r c.loop-i.program cs (to_z w64 r.bound) c.loop-i-test.true c.index-rows-i.is c.loop-i.invariant.program
           (c.in_ok-coefficients.ensures ∙ ap (map whole_of) c.as_slice.ensures) (to_z_pos w64 r.bound (omega (arith, small, same))));
     }
-
-pub returns : goal.returns
-returns c = grind (arith, common_steps)
 
 pub row-requires-clause-bound : goal.row-requires-clause-bound
 row-requires-clause-bound c = grind (arith, elements)

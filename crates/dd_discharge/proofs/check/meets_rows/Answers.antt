@@ -1,5 +1,5 @@
 use Rattle.std.proofs.Common.{◌≡◌, ◌+◌, ◌*◌, ◌<◌, ◌≤◌, ◌^◌, ℕ, ℤ, pos, ◌+ℤ◌, ◌*ℤ◌, ◌≤ℤ◌, ◌<ℤ◌, List, length, slice_index_or, to_z, of_z, sym, ap, subst, ◌∙◌, below_more, arith, rules}
-use Rattle.std.proofs.{lemmas.Grind.common_steps, lemmas.Grind.elements, Math.Nat.mul-le-mul_right}
+use Rattle.std.proofs.{lemmas.Grind.elements, Math.Nat.mul-le-mul_right}
 use Rattle.std.proofs.lemmas.Int.{ints, to_z-of_z, to_z_pos}
 use Rattle.std.specs.Int.{w128}
 use mir.Val.{SFits}
@@ -58,9 +58,6 @@ loop-k-preserved c =
     ∙ side_is rows c.args.columns (pos c.args.held) c.args.amounts.now k c.as_slice.result.now (c.as_slice.ensures ∙ ap (λ (s : Row). s.coefficients) is) (c.requires.rows.sizes k c.loop-k-test.true)) in
     let under = lt_false (to_z w128 (c.args.common * r.bound)) (to_z w128 (of_z w128 c.left_side.result)) c.if-left_side-limit.false in
     below_more _ _ c.loop-k.invariant (omega (arith, ints, under, left, limit))
-
-pub returns-clause-yes : goal.returns-clause-yes
-returns-clause-yes c = grind (arith, common_steps)
 
 pub left_side-requires-clause-units : goal.left_side-requires-clause-units
 left_side-requires-clause-units c = grind (arith, elements)

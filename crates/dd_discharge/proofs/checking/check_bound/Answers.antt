@@ -1,5 +1,4 @@
-use Rattle.std.proofs.Common.{◌≡◌, ◌+◌, ◌*◌, ℕ, List, length, ap, sym, subst, ◌∙◌, arith}
-use Rattle.std.proofs.lemmas.Grind.{common_steps}
+use Rattle.std.proofs.Common.{◌≡◌, ◌+◌, ◌*◌, ℕ, List, length, ap, sym, subst, ◌∙◌}
 use Rattle.dd_rows.specs.{declared.rows.Row.Row, declared.rows.Rows.Rows, Programs.column_count, Programs.IsRowsFault}
 use Rattle.dd_discharge.specs.{declared.bound.Bound.Bound, Amounts.IsCertifiedBound, Amounts.bound_claimed, listing.Tables.AreRowsOf}
 use Rattle.dd_discharge.proofs.{Shapes.program_rows, OneProgram.one_program, OneProgram.never_large}
@@ -28,6 +27,3 @@ returns-clause-no c = λ f h.
     c.is_certified.ensures.no f
     (subst (λ (n : ℕ). IsCertifiedBound c.as_slice.result.now (1 + length vs * n) b) (sym c.len.ensures)
     (subst (λ (rs : List Row). IsCertifiedBound rs (1 + length vs * length p.patterns) b) (sym c.as_slice.ensures) there))
-
-pub returns-clause-yes : goal.returns-clause-yes
-returns-clause-yes c = grind (arith, common_steps)

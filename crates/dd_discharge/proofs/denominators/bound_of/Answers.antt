@@ -1,10 +1,10 @@
-use Rattle.std.proofs.Common.{◌≡◌, ◌≤◌, ◌<◌, ◌^◌, ◌++◌, ap, subst, sym, ◌∙◌, arith, rules, ℕ, List, ℤ, pos, map, drop, Some}
-use Rattle.std.proofs.lemmas.{Grind.common_steps, Int.to_z-of_z, Result.err_from_is_err_and}
+use Rattle.std.proofs.Common.{◌≡◌, ◌≤◌, ◌<◌, ◌++◌, ap, subst, sym, ◌∙◌, arith, rules, map}
+use Rattle.std.proofs.lemmas.{Int.to_z-of_z, Result.err_from_is_err_and}
 use Rattle.std.specs.{Int.w128, Int.RustNames.unsigned_abs, List.All, List.Any}
 use mir.Val.{SFits}
 use Rattle.dd_values.specs.Bounds.{most_number}
 use Rattle.dd_fraction.specs.Exact.{Exact}
-use Rattle.dd_discharge.specs.Denominators.{numerator_over, printed, common_denominator, HasUnprinted}
+use Rattle.dd_discharge.specs.Denominators.{numerator_over, HasUnprinted}
 use Rattle.dd_discharge.proofs.Printing.{Given, small_numerator, small_denominator, unprinted_at, any_back, any_later, tail_is, over_from, printed_as}
 use Rattle.dd_discharge.proofs.SmallBounds.{small_bound}
 use Rattle.dd_discharge.proofs.denominators.bound_of.Goals as goal
@@ -55,39 +55,23 @@ returns-in_err-duals-clause-err c =
     (λ h. unprinted_at (xs ++ ys) n (sym c.in-Some.is ∙ c.common_denominator.ensures) (any_back P xs ys h))
     c.in_err-duals.ensures.err)
 
-pub returns-clause-ok : goal.returns-clause-ok
-returns-clause-ok c =
+pub returns : goal.returns
+returns c =
     let v = c.args.value.now in
     let xs = c.args.columns.now in
     let ys = c.args.duals.now in
     let n = c.in-Some.common in
+    let held = sym c.in-Some-numerator_over.is ∙ c.numerator_over.ensures in
     let num : SFits w128 c.num.result = search rules in
     let den : SFits w128 c.den.result = search rules in
     let g : Given v xs ys n = record { fraction = c.num.ensures.fraction; some = c.requires.some; first = c.requires.first; sign = c.requires.sign; common = sym c.in-Some.is ∙ c.common_denominator.ensures } in
     let num_is : c.unsigned_abs.result ≡ unsigned_abs v.num = c.unsigned_abs.ensures.value ∙ ap unsigned_abs (to_z-of_z w128 c.num.result num ∙ c.num.ensures.value) in
     let den_is : c.unsigned_abs-2.result ≡ v.den = c.unsigned_abs-2.ensures.value ∙ ap unsigned_abs (to_z-of_z w128 c.den.result den ∙ c.den.ensures.value) in
-    printed_as v xs ys n c.in-Some-numerator_over._held c.unsigned_abs.result c.unsigned_abs-2.result c.in_ok-amounts.amounts c.in_ok-duals.duals g
-    (sym c.in-Some-numerator_over.is ∙ c.numerator_over.ensures) num_is den_is
-    (c.in_ok-amounts.ensures.value ∙ ap (map (numerator_over n)) (tail_is xs))
-    (subst (All (λ a. numerator_over n a ≤ most_number)) (tail_is xs) c.in_ok-amounts.ensures.printed)
-    c.in_ok-duals.ensures.value c.in_ok-duals.ensures.printed
-
-pub returns-clause-small : goal.returns-clause-small
-returns-clause-small c =
-    let v = c.args.value.now in
-    let xs = c.args.columns.now in
-    let ys = c.args.duals.now in
-    let n = c.in-Some.common in
-    let num : SFits w128 c.num.result = search rules in
-    let den : SFits w128 c.den.result = search rules in
-    let g : Given v xs ys n = record { fraction = c.num.ensures.fraction; some = c.requires.some; first = c.requires.first; sign = c.requires.sign; common = sym c.in-Some.is ∙ c.common_denominator.ensures } in
-    let num_is : c.unsigned_abs.result ≡ unsigned_abs v.num = c.unsigned_abs.ensures.value ∙ ap unsigned_abs (to_z-of_z w128 c.num.result num ∙ c.num.ensures.value) in
-    let den_is : c.unsigned_abs-2.result ≡ v.den = c.unsigned_abs-2.ensures.value ∙ ap unsigned_abs (to_z-of_z w128 c.den.result den ∙ c.den.ensures.value) in
-    small_bound v xs ys n c.in-Some-numerator_over._held c.unsigned_abs.result c.unsigned_abs-2.result c.in_ok-amounts.amounts c.in_ok-duals.duals g
-    (sym c.in-Some-numerator_over.is ∙ c.numerator_over.ensures) num_is den_is
-    (c.in_ok-amounts.ensures.value ∙ ap (map (numerator_over n)) (tail_is xs))
-    (subst (All (λ a. numerator_over n a ≤ most_number)) (tail_is xs) c.in_ok-amounts.ensures.printed)
-    c.in_ok-duals.ensures.value c.in_ok-duals.ensures.printed c.requires.some_dual
-
-pub returns-in_default-numerator_over-clause-err : goal.returns-in_default-numerator_over-clause-err
-returns-in_default-numerator_over-clause-err c = grind (arith, common_steps)
+    let amounts = c.in_ok-amounts.ensures.value ∙ ap (map (numerator_over n)) (tail_is xs) in
+    let few = subst (All (λ (a : Exact). numerator_over n a ≤ most_number)) (tail_is xs) c.in_ok-amounts.ensures.printed in
+    let duals = c.in_ok-duals.ensures in
+    record {
+      ok = printed_as v xs ys n c.in-Some-numerator_over._held c.unsigned_abs.result c.unsigned_abs-2.result c.in_ok-amounts.amounts c.in_ok-duals.duals g held num_is den_is amounts few duals.value duals.printed;
+      small = small_bound v xs ys n c.in-Some-numerator_over._held c.unsigned_abs.result c.unsigned_abs-2.result c.in_ok-amounts.amounts c.in_ok-duals.duals g held num_is den_is amounts few duals.value duals.printed c.requires.some_dual;
+      err = tt;
+    }

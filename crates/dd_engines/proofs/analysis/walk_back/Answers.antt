@@ -1,5 +1,4 @@
 use Rattle.std.proofs.Common.{◌≡◌, ◌+◌, ◌-◌, ◌<◌, length, false, get_or, refl, arith}
-use Rattle.std.proofs.lemmas.Grind.{common_steps}
 use Rattle.dd_clause.specs.Clauses.{IsLiteralInRange}
 use Rattle.dd_engines.specs.declared.analysis.Entry.{Entry}
 use Rattle.dd_engines.proofs.Analysing.{leads_conflict, leads_past, leads_forced, leads_all, leads_reversed, entry_in_range, marked_clause}
@@ -61,6 +60,3 @@ pub returns : goal.returns
 returns c =
     let end : c.loop-i.i ≡ 0 = omega arith in
     rw c.reverse.ensures.items (leads_all c.args.clauses.now c.args.entries.now c.loop-i.marked _ (rw end at c.loop-i.invariant.leads))
-
-pub bounds-clauses-entry : goal.bounds-clauses-entry
-bounds-clauses-entry c = grind (arith, common_steps)

@@ -1,5 +1,5 @@
 use Rattle.std.proofs.Common.{◌≡◌, ◌+◌, ◌-◌, ◌%◌, ℕ, Bool, false, List, Some, length, get_or, ap, refl, sym, subst, ◌∙◌, arith}
-use Rattle.std.proofs.lemmas.{Grind.common_steps, List.length-set, Option.slice_get-get_or}
+use Rattle.std.proofs.lemmas.{List.length-set, Option.slice_get-get_or}
 use Rattle.dd_clause.specs.declared.clause.Literal.{Literal}
 use Rattle.dd_engines.specs.Walks.{NoneBefore, values_after, made_true}
 use Rattle.dd_engines.proofs.Walking.{FoundClause, found_clause, at_place, rem_within, none_more, none_at_end, reached_more, first_at}
@@ -83,15 +83,3 @@ returns-in-None c =
     let reached : values_after c.args.cnf.now c.loop-k.k ≡ Some values = c.loop-k.invariant.reached ∙ ap (λ (v : List Bool). Some v) (sym same) in
     rw c.into_assignment-in-None.ensures
     (first_at c.args.cnf.now values _ _ _ c.loop-k.k c.args.flips (rw c.clauses-clauses.ensures.value at c.first-2.ensures.walks) long c.in-None.ensures.first (omega arith) reached c.loop-k.invariant.none_before)
-
-pub bounds-clauses-number : goal.bounds-clauses-number
-bounds-clauses-number c = grind (arith, common_steps)
-
-pub returns-then-is_empty : goal.returns-then-is_empty
-returns-then-is_empty c = grind (arith, common_steps)
-
-pub offset_bounds-clauses-number : goal.offset_bounds-clauses-number
-offset_bounds-clauses-number c = grind (arith, common_steps)
-
-pub loop-k-init : goal.loop-k-init
-loop-k-init c = grind (arith, common_steps)

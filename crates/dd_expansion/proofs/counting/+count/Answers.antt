@@ -1,4 +1,4 @@
-use Rattle.std.proofs.{Common.◌<◌, Common.length, Common.arith, Common.ap, lemmas.Grind.common_steps}
+use Rattle.std.proofs.Common.{◌<◌, length, arith, ap}
 use Rattle.std.proofs.lemmas.List.Sums.{get_or-le-sum_by, sum_by_more_le}
 use denote.Param.Weighed.{at_most}
 use Rattle.dd_expansion.specs.{Leaves.clause_count, lemmas.Layers.clause_count_and}
@@ -30,6 +30,3 @@ count_all-overflow_add-result-2 t c =
 
 pub count_all-returns : goal.count_all-returns
 count_all-returns t c = counted c.args.parts.now c.loop-part.part-index c.loop-part.clauses (omega arith) c.loop-part.invariant
-
-pub count_all-loop-part-preserved : goal.count_all-loop-part-preserved
-count_all-loop-part-preserved t c = grind (arith, common_steps)

@@ -1,4 +1,4 @@
-use Rattle.std.proofs.{Common.◌<◌, Common.length, Common.arith, Common.ap, lemmas.Grind.common_steps}
+use Rattle.std.proofs.Common.{◌<◌, length, arith, ap}
 use Rattle.std.proofs.lemmas.List.Sums.{get_or-le-sum_by, sum_by_more_le}
 use denote.Param.Weighed.{at_most}
 use Rattle.dd_expansion.specs.{Leaves.instances, lemmas.Layers.instances_and}
@@ -25,6 +25,3 @@ joined_instances-overflow_add-nodes t c =
 
 pub joined_instances-returns : goal.joined_instances-returns
 joined_instances-returns t c = joined c.args.parts.now c.loop-part.part-index c.loop-part.nodes (omega arith) c.loop-part.invariant
-
-pub joined_instances-loop-part-preserved : goal.joined_instances-loop-part-preserved
-joined_instances-loop-part-preserved t c = grind (arith, common_steps)

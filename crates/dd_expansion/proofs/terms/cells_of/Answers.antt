@@ -1,4 +1,4 @@
-use Rattle.std.proofs.{Common.◌+◌, Common.◌*◌, Common.◌++◌, Common.length, Common.ap, Common.◌∙◌, Common.arith, lemmas.Grind.common_steps}
+use Rattle.std.proofs.Common.{◌+◌, ◌*◌, ◌++◌, length, ap, ◌∙◌, arith}
 use Rattle.dd_expansion.proofs.Unions.{union_more, near_more, union_ordered, near_ordered}
 use Rattle.dd_expansion.proofs.terms.cells_of.Goals as goal
 
@@ -22,9 +22,3 @@ pub returns-clause-near : goal.returns-clause-near
 returns-clause-near c =
     let members = rw c.deref-2.ensures.value at c.in_ok-ordered.ensures.members in
     near_ordered (12 * (length c.args.env.now + 1)) c.loop-ball.cells.items c.in_ok-ordered.ordered.items c.loop-ball.invariant.near members
-
-pub ball_round-requires-clause-fits : goal.ball_round-requires-clause-fits
-ball_round-requires-clause-fits c = grind (arith, common_steps)
-
-pub loop-ball-init : goal.loop-ball-init
-loop-ball-init c = grind (arith, common_steps)

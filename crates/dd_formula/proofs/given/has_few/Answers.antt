@@ -1,4 +1,4 @@
-use Rattle.std.proofs.{Common.◌<◌, Common.◌≤◌, Common.sym, Common.ap, Common.◌∙◌, Common.arith, lemmas.Grind.common_steps}
+use Rattle.std.proofs.Common.{◌<◌, ◌≤◌, sym, ap, ◌∙◌, arith}
 use Rattle.std.proofs.lemmas.Bool.{le-leb, lt-leb}
 use Rattle.std.specs.{Prelude.nat_le, List.list_all}
 use Rattle.dd_formula.specs.{LocalRule.is_near, Automata.counted, lemmas.AutomatonLaws.instances_given, lemmas.AutomatonLaws.counted_given}
@@ -25,6 +25,3 @@ returns-then-instances-gt-MOST_INSTANCES-clause-value c =
     let is = instances_given c.args.cases.now a in
     let many : 20000 < f.instances a = omega (arith, is, c.instances.ensures.count, c.if-instances-gt-MOST_INSTANCES.true) in
     sym (range_fails (λ b. nat_le (f.instances b) 20000) c.args.nodes a c.loop-node-test.true (lt-leb (f.instances a) 20000 many))
-
-pub instances-requires : goal.instances-requires
-instances-requires c = grind (arith, common_steps)

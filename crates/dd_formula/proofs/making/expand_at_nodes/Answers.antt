@@ -1,5 +1,4 @@
 use Rattle.std.proofs.Common.{◌≡◌, ◌<◌, ◌≤◌, ℕ, [], ◌∷◌, add-one, refl, ap, sym, ◌∙◌, subst, arith}
-use Rattle.std.proofs.lemmas.Grind.{common_steps}
 use borrow.Author.Count.{below_more}
 use Rattle.dd_expansion.specs.{Terms.origin_at, Expansion.expansion, Leaves.instances, Limits.IsFormula}
 use Rattle.dd_formula.specs.LocalRule.{local_rule, expansion_at}
@@ -30,9 +29,3 @@ returns-in-Err-Instances-clause-err c =
       exists = subst (λ n. node < n) c.nodes-node-end.ensures.value c.loop-node-test.true;
       many = subst (λ n. 20000 < instances (expansion r.edges n r.formula (origin_at node ∷ []))) c.symbols-symbols.ensures.value many;
     }
-
-pub loop-node-init : goal.loop-node-init
-loop-node-init c = grind (arith, common_steps)
-
-pub returns-clause-ok : goal.returns-clause-ok
-returns-clause-ok c = grind (arith, common_steps)

@@ -1,5 +1,4 @@
-use Rattle.std.proofs.Common.{◌≡◌, true, false, ap, sym, subst, ◌∙◌, ◌⊎◌, map, arith}
-use Rattle.std.proofs.lemmas.Grind.{common_steps}
+use Rattle.std.proofs.Common.{◌≡◌, true, false, ap, sym, subst, ◌∙◌, ◌⊎◌, map}
 use Rattle.std.specs.List.{list_all}
 use Rattle.dd_lattice.specs.InOrder.{in_order}
 use Rattle.dd_topology.specs.Sets.{IsSets}
@@ -32,6 +31,3 @@ returns-in-Err-clause-err c =
     let far : (c.in-Err.fault ≡ Memory) ⊎ ((c.in-Err.fault ≡ Reach) × (list_all (λ e. list_all is_near (leaf_cells e)) (at_nodes (expansion_at r) r.nodes) ≡ false)) =
     subst (λ xs. (c.in-Err.fault ≡ Memory) ⊎ ((c.in-Err.fault ≡ Reach) × (list_all (λ e. list_all is_near (leaf_cells e)) xs ≡ false))) listed c.in-Err.ensures.err in
     refused_from r c.copy.ensures.kept.symbols c.in-Err.fault c.in_ok-expansions.ensures.small far
-
-pub returns-in-Ok-clause-edges : goal.returns-in-Ok-clause-edges
-returns-in-Ok-clause-edges c = grind (arith, common_steps)

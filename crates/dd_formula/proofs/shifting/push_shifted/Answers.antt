@@ -1,5 +1,5 @@
-use Rattle.std.proofs.Common.{◌++◌, ◌∷◌, [], List, map, take, ap, sym, ◌∙◌, arith}
-use Rattle.std.proofs.lemmas.{Grind.common_steps, List.append_assoc}
+use Rattle.std.proofs.Common.{◌++◌, ◌∷◌, [], List, map, take, ap, sym, ◌∙◌}
+use Rattle.std.proofs.lemmas.List.{append_assoc}
 use Rattle.dd_lattice.specs.{Cells.shifted, declared.position.Cell.Cell}
 use Rattle.dd_formula.specs.{LocalRule.is_near, lemmas.AutomatonLaws.passes_at}
 use Rattle.dd_formula.proofs.SeenLaws.{values_more}
@@ -19,6 +19,3 @@ loop-cell-preserved c =
     ∙ (append_assoc c.args.found.now.items before one
     ∙ ap (λ l. c.args.found.now.items ++ l) (ap (λ x. before ++ x ∷ []) c.shifted.ensures
     ∙ sym (values_more made cells c.loop-cell.cell-index c.cell-item.result c.loop-cell-test.true c.cell-item.is))))
-
-pub returns : goal.returns
-returns c = grind (arith, common_steps)

@@ -1,5 +1,5 @@
 use Rattle.std.proofs.Common.{◌≡◌, ℤ, pos, ◌+ℤ◌, ap, ◌∙◌, refl, arith}
-use Rattle.std.proofs.lemmas.{Grind.common_steps, Int.ints}
+use Rattle.std.proofs.lemmas.Int.{ints}
 use mir.Syntax.{w32}
 use mir.Val.{to_z, of_z}
 use Rattle.dd_lattice.specs.Place.{Place, IsCoordinateInRange}
@@ -44,6 +44,3 @@ returns c =
     let y = kept c.coordinate-2.result c.coordinate-2.ensures.near ∙ (c.coordinate-2.ensures.value ∙ ap (λ i. i +ℤ pos c.args.y) (kept c.low.inside.y c.low.invariant.1 ∙ ap (λ (v : Place). v.y) c.low.view_is)) in
     let z = kept c.coordinate-3.result c.coordinate-3.ensures.near ∙ (c.coordinate-3.ensures.value ∙ ap (λ i. i +ℤ pos c.args.z) (kept c.low.inside.z c.low.invariant.2 ∙ ap (λ (v : Place). v.z) c.low.view_is)) in
     rw (x, y, z) refl
-
-pub invariant_of-result : goal.invariant_of-result
-invariant_of-result c = grind (arith, common_steps)

@@ -1,5 +1,5 @@
 use Rattle.std.proofs.Common.{◌≡◌, ◌≤◌, ◌+◌, ◌*◌, pos, ◌-ℤ◌, ◌+ℤ◌, ap, ◌∙◌, arith}
-use Rattle.std.proofs.lemmas.{Grind.common_steps, Int.ints, Result.err_from_is_err_and}
+use Rattle.std.proofs.lemmas.{Int.ints, Result.err_from_is_err_and}
 use Rattle.std.specs.Prelude.{◌≤ℤ◌}
 use Rattle.dd_lattice.specs.{Regions.IsMoved, listing.Growth.along, listing.Growth.IsStretched, listing.Growth.IsExtended}
 use Rattle.dd_lattice.proofs.Sums.{steps_back}
@@ -59,6 +59,3 @@ loop-copies-preserved c =
     (longer_run c.args.axis low high s ps run (omega (arith, ints)) c.loop-copies.invariant.0)
     (run_extended c.args.axis low high s ps run (omega (arith, ints)) short c.loop-copies.invariant.0) c.in_ok-run-2.ensures in
     (rw is at longer, omega arith, room)
-
-pub returns : goal.returns
-returns c = grind (arith, common_steps)

@@ -1,4 +1,4 @@
-use Rattle.std.proofs.{Common.arith, lemmas.Grind.common_steps, lemmas.List.take_rest}
+use Rattle.std.proofs.{Common.arith, lemmas.List.take_rest}
 use Rattle.dd_lattice.specs.Order.{place_cmp}
 use Rattle.dd_lattice.proofs.MergeLaws.{nothing_merged, merged_step, from_left_most, from_right_most, right_follows, nothing_follows}
 use Rattle.dd_lattice.proofs.merging.merged.Goals.{then-loop-i-test+else-j-right, else-loop-i-test}
@@ -30,12 +30,3 @@ returns c =
       | then-loop-i-test+else-j-right w ↦ nothing_follows xs ys made i j c.requires.left c.requires.right c.loop-i.invariant.0 w.if-j-right.false
       | else-loop-i-test w ↦ right_follows xs ys made i j c.requires.left c.requires.right c.loop-i.invariant.0 w.loop-i-test.false
     ])
-
-pub overflow_add-j : goal.overflow_add-j
-overflow_add-j c = grind (arith, common_steps)
-
-pub overflow_add-i : goal.overflow_add-i
-overflow_add-i c = grind (arith, common_steps)
-
-pub loop-i-smaller : goal.loop-i-smaller
-loop-i-smaller c = grind (arith, common_steps)

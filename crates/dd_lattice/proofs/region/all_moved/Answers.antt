@@ -1,4 +1,4 @@
-use Rattle.std.proofs.{Common.◌≡◌, Common.map, Common.take, Common.sym, Common.refl, Common.◌∙◌, Common.arith, lemmas.Grind.common_steps}
+use Rattle.std.proofs.Common.{◌≡◌, map, take, sym, refl, ◌∙◌}
 use Rattle.std.proofs.lemmas.List.{take_all}
 use Rattle.dd_lattice.specs.{Place.moved, lemmas.RangeLaws.outside_if_not_given, lemmas.MoveLaws.moved_region, lemmas.MoveLaws.moved_more}
 use Rattle.std.specs.List.{Contains}
@@ -25,6 +25,3 @@ returns-clause-members c =
     let whole : take c.loop-p.p-index ps ≡ ps = take_all c.loop-p.p-index ps c.loop-p-test.false in
     let made : c.loop-p.members.items ≡ map (λ p. moved p v) ps = rw whole at c.loop-p.invariant.0 in
     rw made (moved_region ps v c.requires (rw made at c.loop-p.invariant.1))
-
-pub returns-clause-list : goal.returns-clause-list
-returns-clause-list c = grind (arith, common_steps)

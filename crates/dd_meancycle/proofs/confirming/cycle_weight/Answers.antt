@@ -1,5 +1,5 @@
 use Rattle.std.proofs.Common.{◌≡◌, ◌<◌, ◌+◌, ◌-◌, ◌%◌, ◌++◌, ◌∷◌, [], ℕ, List, length, take, get_or, Some, arith, refl, ap, sym, subst, ◌∙◌}
-use Rattle.std.proofs.lemmas.{Grind.common_steps, List.take_more, List.take_all}
+use Rattle.std.proofs.lemmas.List.{take_more, take_all}
 use Rattle.dd_transfer.specs.Graphs.{next_of, weight_at}
 use Rattle.dd_meancycle.specs.Means.{IsPath, weight_of}
 use Rattle.dd_meancycle.specs.lemmas.StepLaws.{weight_small, step, path_end, path_push, weight_push}
@@ -20,9 +20,6 @@ loop-state-preserved c =
       sum = (let all = ap (weight_of g) more ∙ weight_push g (take i cycle) s in omega (arith, all, weighs, c.loop-state.invariant.sum));
       small = omega (arith, few, weighs, c.loop-state.invariant.small);
     }
-
-pub overflow_add-weight : goal.overflow_add-weight
-overflow_add-weight c = grind (arith, common_steps)
 
 pub returns : goal.returns
 returns c =

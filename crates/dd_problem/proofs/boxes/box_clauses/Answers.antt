@@ -12,89 +12,65 @@ unwrap-bounds-requires c =
 
 pub inputs_in_turn-requires-clause-ascending : goal.inputs_in_turn-requires-clause-ascending
 inputs_in_turn-requires-clause-ascending c =
-    let first = cells_are c.args.premise.now (goal_of c.args.premise.now c.args.goal.now) c.args.radius c.centred_box.result c.dim.result c.nodes.result c.unwrap-bounds.result c.in_ok-cells.cells.items c.deref.result.now
-    c.symbols-symbols.ensures.kept c.requires.few c.dim.ensures c.centred_box.ensures.value c.unwrap-bounds.ensures c.nodes.ensures.value c.in_ok-cells.ensures c.deref.ensures.value in
-    ascends c.args.premise.now c.args.radius c.deref.result.now c.symbols-symbols.ensures.kept first
+    let x = c.args.premise.now in
+    let g = goal_of x c.args.goal.now in
+    let n = c.args.radius in
+    let kept = c.symbols-symbols.ensures.kept in
+    let first = cells_are x g n c.centred_box.result c.dim.result c.nodes.result c.unwrap-bounds.result c.in_ok-cells.cells.items c.deref.result.now
+    kept c.requires.few c.dim.ensures c.centred_box.ensures.value c.unwrap-bounds.ensures c.nodes.ensures.value c.in_ok-cells.ensures c.deref.ensures.value in
+    ascends x n c.deref.result.now kept first
 
 pub inputs_in_turn-requires-clause-few : goal.inputs_in_turn-requires-clause-few
 inputs_in_turn-requires-clause-few c =
-    let first = cells_are c.args.premise.now (goal_of c.args.premise.now c.args.goal.now) c.args.radius c.centred_box.result c.dim.result c.nodes.result c.unwrap-bounds.result c.in_ok-cells.cells.items c.deref.result.now
-    c.symbols-symbols.ensures.kept c.requires.few c.dim.ensures c.centred_box.ensures.value c.unwrap-bounds.ensures c.nodes.ensures.value c.in_ok-cells.ensures c.deref.ensures.value in
-    inputs_few c.args.premise.now (goal_of c.args.premise.now c.args.goal.now) c.args.radius c.symbols-symbols.result c.deref.result.now c.requires.few c.symbols-symbols.ensures.value first
-
-pub problem-requires-clause-nodes : goal.problem-requires-clause-nodes
-problem-requires-clause-nodes c =
-    let second = cells_are c.args.premise.now (goal_of c.args.premise.now c.args.goal.now) c.args.radius c.centred_box.result c.dim.result c.nodes.result c.unwrap-bounds.result c.in_ok-cells.cells.items c.deref-2.result.now
-    c.symbols-symbols.ensures.kept c.requires.few c.dim.ensures c.centred_box.ensures.value c.unwrap-bounds.ensures c.nodes.ensures.value c.in_ok-cells.ensures c.deref-2.ensures.value in
-    nodes_there c.args.premise.now c.args.radius c.deref-2.result.now second
-
-pub problem-requires-clause-signals : goal.problem-requires-clause-signals
-problem-requires-clause-signals c =
-    let first = cells_are c.args.premise.now (goal_of c.args.premise.now c.args.goal.now) c.args.radius c.centred_box.result c.dim.result c.nodes.result c.unwrap-bounds.result c.in_ok-cells.cells.items c.deref.result.now
-    c.symbols-symbols.ensures.kept c.requires.few c.dim.ensures c.centred_box.ensures.value c.unwrap-bounds.ensures c.nodes.ensures.value c.in_ok-cells.ensures c.deref.ensures.value in
-    let second = cells_are c.args.premise.now (goal_of c.args.premise.now c.args.goal.now) c.args.radius c.centred_box.result c.dim.result c.nodes.result c.unwrap-bounds.result c.in_ok-cells.cells.items c.deref-2.result.now
-    c.symbols-symbols.ensures.kept c.requires.few c.dim.ensures c.centred_box.ensures.value c.unwrap-bounds.ensures c.nodes.ensures.value c.in_ok-cells.ensures c.deref-2.ensures.value in
-    let inputs = inputs_are c.args.premise.now c.args.radius c.symbols-symbols.result c.deref.result.now c.in_ok-inputs.inputs c.in_ok-inputs.ensures c.symbols-symbols.ensures.value first in
-    signals_there c.args.premise.now c.args.radius c.deref-2.result.now c.in_ok-inputs.inputs inputs second
-
-pub problem-requires-clause-near : goal.problem-requires-clause-near
-problem-requires-clause-near c =
-    let second = cells_are c.args.premise.now (goal_of c.args.premise.now c.args.goal.now) c.args.radius c.centred_box.result c.dim.result c.nodes.result c.unwrap-bounds.result c.in_ok-cells.cells.items c.deref-2.result.now
-    c.symbols-symbols.ensures.kept c.requires.few c.dim.ensures c.centred_box.ensures.value c.unwrap-bounds.ensures c.nodes.ensures.value c.in_ok-cells.ensures c.deref-2.ensures.value in
-    box_near c.args.premise.now (goal_of c.args.premise.now c.args.goal.now) c.args.radius c.deref-2.result.now c.symbols-symbols.ensures.kept c.requires.few second
-
-pub problem-requires-clause-all : goal.problem-requires-clause-all
-problem-requires-clause-all c =
-    let first = cells_are c.args.premise.now (goal_of c.args.premise.now c.args.goal.now) c.args.radius c.centred_box.result c.dim.result c.nodes.result c.unwrap-bounds.result c.in_ok-cells.cells.items c.deref.result.now
-    c.symbols-symbols.ensures.kept c.requires.few c.dim.ensures c.centred_box.ensures.value c.unwrap-bounds.ensures c.nodes.ensures.value c.in_ok-cells.ensures c.deref.ensures.value in
     let x = c.args.premise.now in
-    let inputs = inputs_are x c.args.radius c.symbols-symbols.result c.deref.result.now c.in_ok-inputs.inputs c.in_ok-inputs.ensures c.symbols-symbols.ensures.value first in
-    subst (HasAllSymbols x.symbols) (sym inputs) (numbered_full x.symbols (box_cells x c.args.radius) (range_with_len 0 (length (box_cells x c.args.radius))))
+    let g = goal_of x c.args.goal.now in
+    let n = c.args.radius in
+    let kept = c.symbols-symbols.ensures.kept in
+    let first = cells_are x g n c.centred_box.result c.dim.result c.nodes.result c.unwrap-bounds.result c.in_ok-cells.cells.items c.deref.result.now
+    kept c.requires.few c.dim.ensures c.centred_box.ensures.value c.unwrap-bounds.ensures c.nodes.ensures.value c.in_ok-cells.ensures c.deref.ensures.value in
+    inputs_few x g n c.symbols-symbols.result c.deref.result.now c.requires.few c.symbols-symbols.ensures.value first
 
-pub problem-requires-clause-wired : goal.problem-requires-clause-wired
-problem-requires-clause-wired c =
-    let first = cells_are c.args.premise.now (goal_of c.args.premise.now c.args.goal.now) c.args.radius c.centred_box.result c.dim.result c.nodes.result c.unwrap-bounds.result c.in_ok-cells.cells.items c.deref.result.now
-    c.symbols-symbols.ensures.kept c.requires.few c.dim.ensures c.centred_box.ensures.value c.unwrap-bounds.ensures c.nodes.ensures.value c.in_ok-cells.ensures c.deref.ensures.value in
-    let second = cells_are c.args.premise.now (goal_of c.args.premise.now c.args.goal.now) c.args.radius c.centred_box.result c.dim.result c.nodes.result c.unwrap-bounds.result c.in_ok-cells.cells.items c.deref-2.result.now
-    c.symbols-symbols.ensures.kept c.requires.few c.dim.ensures c.centred_box.ensures.value c.unwrap-bounds.ensures c.nodes.ensures.value c.in_ok-cells.ensures c.deref-2.ensures.value in
-    let inputs = inputs_are c.args.premise.now c.args.radius c.symbols-symbols.result c.deref.result.now c.in_ok-inputs.inputs c.in_ok-inputs.ensures c.symbols-symbols.ensures.value first in
-    goal_wired c.args.premise.now (goal_of c.args.premise.now c.args.goal.now) c.args.radius c.deref-2.result.now c.in_ok-inputs.inputs c.symbols-symbols.ensures.kept c.told_goal.ensures c.requires.reaches c.requires.few inputs second
+pub problem-requires : goal.problem-requires
+problem-requires c =
+    let x = c.args.premise.now in
+    let g = goal_of x c.args.goal.now in
+    let n = c.args.radius in
+    let kept = c.symbols-symbols.ensures.kept in
+    let first = cells_are x g n c.centred_box.result c.dim.result c.nodes.result c.unwrap-bounds.result c.in_ok-cells.cells.items c.deref.result.now
+    kept c.requires.few c.dim.ensures c.centred_box.ensures.value c.unwrap-bounds.ensures c.nodes.ensures.value c.in_ok-cells.ensures c.deref.ensures.value in
+    let second = cells_are x g n c.centred_box.result c.dim.result c.nodes.result c.unwrap-bounds.result c.in_ok-cells.cells.items c.deref-2.result.now
+    kept c.requires.few c.dim.ensures c.centred_box.ensures.value c.unwrap-bounds.ensures c.nodes.ensures.value c.in_ok-cells.ensures c.deref-2.ensures.value in
+    let cells = c.deref-2.result.now in
+    let told = c.in_ok-inputs.inputs in
+    let inputs = inputs_are x n c.symbols-symbols.result c.deref.result.now told c.in_ok-inputs.ensures c.symbols-symbols.ensures.value first in
+    record {
+      nodes = nodes_there x n cells second;
+      near = box_near x g n cells kept c.requires.few second;
+      signals = signals_there x n cells told inputs second;
+      all = subst (HasAllSymbols x.symbols) (sym inputs) (numbered_full x.symbols (box_cells x n) (range_with_len 0 (length (box_cells x n))));
+      goal = c.requires.goal;
+      wired = goal_wired x g n cells told kept c.told_goal.ensures c.requires.reaches c.requires.few inputs second;
+      few = variables_few x g n cells told kept c.told_goal.ensures c.requires.reaches c.requires.few inputs second;
+    }
 
-pub problem-requires-clause-few : goal.problem-requires-clause-few
-problem-requires-clause-few c =
-    let first = cells_are c.args.premise.now (goal_of c.args.premise.now c.args.goal.now) c.args.radius c.centred_box.result c.dim.result c.nodes.result c.unwrap-bounds.result c.in_ok-cells.cells.items c.deref.result.now
-    c.symbols-symbols.ensures.kept c.requires.few c.dim.ensures c.centred_box.ensures.value c.unwrap-bounds.ensures c.nodes.ensures.value c.in_ok-cells.ensures c.deref.ensures.value in
-    let second = cells_are c.args.premise.now (goal_of c.args.premise.now c.args.goal.now) c.args.radius c.centred_box.result c.dim.result c.nodes.result c.unwrap-bounds.result c.in_ok-cells.cells.items c.deref-2.result.now
-    c.symbols-symbols.ensures.kept c.requires.few c.dim.ensures c.centred_box.ensures.value c.unwrap-bounds.ensures c.nodes.ensures.value c.in_ok-cells.ensures c.deref-2.ensures.value in
-    let inputs = inputs_are c.args.premise.now c.args.radius c.symbols-symbols.result c.deref.result.now c.in_ok-inputs.inputs c.in_ok-inputs.ensures c.symbols-symbols.ensures.value first in
-    variables_few c.args.premise.now (goal_of c.args.premise.now c.args.goal.now) c.args.radius c.deref-2.result.now c.in_ok-inputs.inputs c.symbols-symbols.ensures.kept c.told_goal.ensures c.requires.reaches c.requires.few inputs second
-
-pub returns-clause-exact : goal.returns-clause-exact
-returns-clause-exact c =
-    let first = cells_are c.args.premise.now (goal_of c.args.premise.now c.args.goal.now) c.args.radius c.centred_box.result c.dim.result c.nodes.result c.unwrap-bounds.result c.in_ok-cells.cells.items c.deref.result.now
-    c.symbols-symbols.ensures.kept c.requires.few c.dim.ensures c.centred_box.ensures.value c.unwrap-bounds.ensures c.nodes.ensures.value c.in_ok-cells.ensures c.deref.ensures.value in
-    let second = cells_are c.args.premise.now (goal_of c.args.premise.now c.args.goal.now) c.args.radius c.centred_box.result c.dim.result c.nodes.result c.unwrap-bounds.result c.in_ok-cells.cells.items c.deref-2.result.now
-    c.symbols-symbols.ensures.kept c.requires.few c.dim.ensures c.centred_box.ensures.value c.unwrap-bounds.ensures c.nodes.ensures.value c.in_ok-cells.ensures c.deref-2.ensures.value in
-    let inputs = inputs_are c.args.premise.now c.args.radius c.symbols-symbols.result c.deref.result.now c.in_ok-inputs.inputs c.in_ok-inputs.ensures c.symbols-symbols.ensures.value first in
-    exactly c.args.premise.now (goal_of c.args.premise.now c.args.goal.now) c.args.radius c.deref-2.result.now c.in_ok-inputs.inputs c.symbols-symbols.ensures.kept c.told_goal.ensures c.requires.reaches c.requires.few inputs second c.problem.result c.problem.ensures
-
-pub returns-clause-shows : goal.returns-clause-shows
-returns-clause-shows c =
-    let first = cells_are c.args.premise.now (goal_of c.args.premise.now c.args.goal.now) c.args.radius c.centred_box.result c.dim.result c.nodes.result c.unwrap-bounds.result c.in_ok-cells.cells.items c.deref.result.now
-    c.symbols-symbols.ensures.kept c.requires.few c.dim.ensures c.centred_box.ensures.value c.unwrap-bounds.ensures c.nodes.ensures.value c.in_ok-cells.ensures c.deref.ensures.value in
-    let second = cells_are c.args.premise.now (goal_of c.args.premise.now c.args.goal.now) c.args.radius c.centred_box.result c.dim.result c.nodes.result c.unwrap-bounds.result c.in_ok-cells.cells.items c.deref-2.result.now
-    c.symbols-symbols.ensures.kept c.requires.few c.dim.ensures c.centred_box.ensures.value c.unwrap-bounds.ensures c.nodes.ensures.value c.in_ok-cells.ensures c.deref-2.ensures.value in
-    let inputs = inputs_are c.args.premise.now c.args.radius c.symbols-symbols.result c.deref.result.now c.in_ok-inputs.inputs c.in_ok-inputs.ensures c.symbols-symbols.ensures.value first in
-    showing c.args.premise.now (goal_of c.args.premise.now c.args.goal.now) c.args.radius c.deref-2.result.now c.in_ok-inputs.inputs c.symbols-symbols.ensures.kept c.told_goal.ensures c.requires.reaches c.requires.few inputs second c.problem.result c.problem.ensures
-
-pub returns-clause-decides : goal.returns-clause-decides
-returns-clause-decides c =
-    let first = cells_are c.args.premise.now (goal_of c.args.premise.now c.args.goal.now) c.args.radius c.centred_box.result c.dim.result c.nodes.result c.unwrap-bounds.result c.in_ok-cells.cells.items c.deref.result.now
-    c.symbols-symbols.ensures.kept c.requires.few c.dim.ensures c.centred_box.ensures.value c.unwrap-bounds.ensures c.nodes.ensures.value c.in_ok-cells.ensures c.deref.ensures.value in
-    let second = cells_are c.args.premise.now (goal_of c.args.premise.now c.args.goal.now) c.args.radius c.centred_box.result c.dim.result c.nodes.result c.unwrap-bounds.result c.in_ok-cells.cells.items c.deref-2.result.now
-    c.symbols-symbols.ensures.kept c.requires.few c.dim.ensures c.centred_box.ensures.value c.unwrap-bounds.ensures c.nodes.ensures.value c.in_ok-cells.ensures c.deref-2.ensures.value in
-    let inputs = inputs_are c.args.premise.now c.args.radius c.symbols-symbols.result c.deref.result.now c.in_ok-inputs.inputs c.in_ok-inputs.ensures c.symbols-symbols.ensures.value first in
-    deciding c.args.premise.now (goal_of c.args.premise.now c.args.goal.now) c.args.radius c.deref-2.result.now c.in_ok-inputs.inputs c.symbols-symbols.ensures.kept c.told_goal.ensures c.requires.reaches c.requires.few inputs second c.problem.result c.problem.ensures
+pub returns : goal.returns
+returns c =
+    let x = c.args.premise.now in
+    let g = goal_of x c.args.goal.now in
+    let n = c.args.radius in
+    let kept = c.symbols-symbols.ensures.kept in
+    let first = cells_are x g n c.centred_box.result c.dim.result c.nodes.result c.unwrap-bounds.result c.in_ok-cells.cells.items c.deref.result.now
+    kept c.requires.few c.dim.ensures c.centred_box.ensures.value c.unwrap-bounds.ensures c.nodes.ensures.value c.in_ok-cells.ensures c.deref.ensures.value in
+    let second = cells_are x g n c.centred_box.result c.dim.result c.nodes.result c.unwrap-bounds.result c.in_ok-cells.cells.items c.deref-2.result.now
+    kept c.requires.few c.dim.ensures c.centred_box.ensures.value c.unwrap-bounds.ensures c.nodes.ensures.value c.in_ok-cells.ensures c.deref-2.ensures.value in
+    let cells = c.deref-2.result.now in
+    let told = c.in_ok-inputs.inputs in
+    let inputs = inputs_are x n c.symbols-symbols.result c.deref.result.now told c.in_ok-inputs.ensures c.symbols-symbols.ensures.value first in
+    record {
+      exact = exactly x g n cells told kept c.told_goal.ensures c.requires.reaches c.requires.few inputs second c.problem.result c.problem.ensures;
+      shows = showing x g n cells told kept c.told_goal.ensures c.requires.reaches c.requires.few inputs second c.problem.result c.problem.ensures;
+      decides = deciding x g n cells told kept c.told_goal.ensures c.requires.reaches c.requires.few inputs second c.problem.result c.problem.ensures;
+    }
 
 pub cells_of-requires : goal.cells_of-requires
 cells_of-requires c = grind (arith, common_steps)

@@ -35,63 +35,38 @@ torus_inputs-requires-clause-cells c =
     cells_are c.args.premise.now (periods_of c.args.periods c.args.shear) c.nodes-nodes.ensures.kept c.requires.periods c.nodes-nodes.result c.fundamental.result
     c.in_ok-cells.cells.items c.deref.result.now c.nodes-nodes.ensures.value c.fundamental.ensures c.in_ok-cells.ensures c.deref.ensures.value
 
-pub problem-requires-clause-nodes : goal.problem-requires-clause-nodes
-problem-requires-clause-nodes c =
-    let cells =
-    cells_are c.args.premise.now (periods_of c.args.periods c.args.shear) c.nodes-nodes.ensures.kept c.requires.periods c.nodes-nodes.result c.fundamental.result
-    c.in_ok-cells.cells.items c.deref-2.result.now c.nodes-nodes.ensures.value c.fundamental.ensures c.in_ok-cells.ensures c.deref-2.ensures.value in
-    nodes_there c.args.premise.now (periods_of c.args.periods c.args.shear) c.nodes-nodes.ensures.kept c.requires.periods c.deref-2.result.now cells
-
-pub problem-requires-clause-near : goal.problem-requires-clause-near
-problem-requires-clause-near c =
-    let cells =
-    cells_are c.args.premise.now (periods_of c.args.periods c.args.shear) c.nodes-nodes.ensures.kept c.requires.periods c.nodes-nodes.result c.fundamental.result
-    c.in_ok-cells.cells.items c.deref-2.result.now c.nodes-nodes.ensures.value c.fundamental.ensures c.in_ok-cells.ensures c.deref-2.ensures.value in
-    torus_near c.args.premise.now (periods_of c.args.periods c.args.shear) c.deref-2.result.now c.nodes-nodes.ensures.kept c.requires.periods cells
-
-pub problem-requires-clause-all : goal.problem-requires-clause-all
-problem-requires-clause-all c =
+pub problem-requires : goal.problem-requires
+problem-requires c =
     let x = c.args.premise.now in
     let p = periods_of c.args.periods c.args.shear in
-    let near = near_cells x (goal_of x c.args.goal.now) (torus_cells x p) in
-    subst (HasAllSymbols x.symbols) (sym c.in_ok-inputs.ensures) (numbered_full x.symbols near (map (number_at (numbered_tile x p)) near))
-
-pub problem-requires-clause-signals : goal.problem-requires-clause-signals
-problem-requires-clause-signals c =
+    let g = goal_of x c.args.goal.now in
+    let kept = c.nodes-nodes.ensures.kept in
+    let places = c.deref-2.result.now in
     let cells =
-    cells_are c.args.premise.now (periods_of c.args.periods c.args.shear) c.nodes-nodes.ensures.kept c.requires.periods c.nodes-nodes.result c.fundamental.result
-    c.in_ok-cells.cells.items c.deref-2.result.now c.nodes-nodes.ensures.value c.fundamental.ensures c.in_ok-cells.ensures c.deref-2.ensures.value in
-    signals_there c.args.premise.now (periods_of c.args.periods c.args.shear) c.nodes-nodes.ensures.kept c.requires.periods (goal_of c.args.premise.now c.args.goal.now) c.told_goal.ensures
-    c.deref-2.result.now c.in_ok-inputs.inputs c.in_ok-inputs.ensures cells
+    cells_are x p kept c.requires.periods c.nodes-nodes.result c.fundamental.result
+    c.in_ok-cells.cells.items places c.nodes-nodes.ensures.value c.fundamental.ensures c.in_ok-cells.ensures c.deref-2.ensures.value in
+    let near = near_cells x g (torus_cells x p) in
+    record {
+      nodes = nodes_there x p kept c.requires.periods places cells;
+      near = torus_near x p places kept c.requires.periods cells;
+      signals = signals_there x p kept c.requires.periods g c.told_goal.ensures places c.in_ok-inputs.inputs c.in_ok-inputs.ensures cells;
+      all = subst (HasAllSymbols x.symbols) (sym c.in_ok-inputs.ensures) (numbered_full x.symbols near (map (number_at (numbered_tile x p)) near));
+      goal = c.requires.goal;
+      wired = goal_wired x p kept c.requires.periods g c.told_goal.ensures places c.in_ok-inputs.inputs c.in_ok-inputs.ensures cells;
+      few = variables_few x p kept c.requires.periods g c.told_goal.ensures places c.in_ok-inputs.inputs c.in_ok-inputs.ensures cells c.requires.few;
+    }
 
-pub problem-requires-clause-wired : goal.problem-requires-clause-wired
-problem-requires-clause-wired c =
+pub returns : goal.returns
+returns c =
+    let x = c.args.premise.now in
+    let p = periods_of c.args.periods c.args.shear in
+    let g = goal_of x c.args.goal.now in
+    let kept = c.nodes-nodes.ensures.kept in
+    let places = c.deref-2.result.now in
     let cells =
-    cells_are c.args.premise.now (periods_of c.args.periods c.args.shear) c.nodes-nodes.ensures.kept c.requires.periods c.nodes-nodes.result c.fundamental.result
-    c.in_ok-cells.cells.items c.deref-2.result.now c.nodes-nodes.ensures.value c.fundamental.ensures c.in_ok-cells.ensures c.deref-2.ensures.value in
-    goal_wired c.args.premise.now (periods_of c.args.periods c.args.shear) c.nodes-nodes.ensures.kept c.requires.periods (goal_of c.args.premise.now c.args.goal.now) c.told_goal.ensures
-    c.deref-2.result.now c.in_ok-inputs.inputs c.in_ok-inputs.ensures cells
-
-pub problem-requires-clause-few : goal.problem-requires-clause-few
-problem-requires-clause-few c =
-    let cells =
-    cells_are c.args.premise.now (periods_of c.args.periods c.args.shear) c.nodes-nodes.ensures.kept c.requires.periods c.nodes-nodes.result c.fundamental.result
-    c.in_ok-cells.cells.items c.deref-2.result.now c.nodes-nodes.ensures.value c.fundamental.ensures c.in_ok-cells.ensures c.deref-2.ensures.value in
-    variables_few c.args.premise.now (periods_of c.args.periods c.args.shear) c.nodes-nodes.ensures.kept c.requires.periods (goal_of c.args.premise.now c.args.goal.now) c.told_goal.ensures
-    c.deref-2.result.now c.in_ok-inputs.inputs c.in_ok-inputs.ensures cells c.requires.few
-
-pub returns-clause-exact : goal.returns-clause-exact
-returns-clause-exact c =
-    let cells =
-    cells_are c.args.premise.now (periods_of c.args.periods c.args.shear) c.nodes-nodes.ensures.kept c.requires.periods c.nodes-nodes.result c.fundamental.result
-    c.in_ok-cells.cells.items c.deref-2.result.now c.nodes-nodes.ensures.value c.fundamental.ensures c.in_ok-cells.ensures c.deref-2.ensures.value in
-    exactly c.args.premise.now (periods_of c.args.periods c.args.shear) c.nodes-nodes.ensures.kept c.requires.periods (goal_of c.args.premise.now c.args.goal.now) c.told_goal.ensures
-    c.deref-2.result.now c.in_ok-inputs.inputs c.in_ok-inputs.ensures cells c.problem.result c.problem.ensures
-
-pub returns-clause-shows : goal.returns-clause-shows
-returns-clause-shows c =
-    let cells =
-    cells_are c.args.premise.now (periods_of c.args.periods c.args.shear) c.nodes-nodes.ensures.kept c.requires.periods c.nodes-nodes.result c.fundamental.result
-    c.in_ok-cells.cells.items c.deref-2.result.now c.nodes-nodes.ensures.value c.fundamental.ensures c.in_ok-cells.ensures c.deref-2.ensures.value in
-    showing c.args.premise.now (periods_of c.args.periods c.args.shear) c.nodes-nodes.ensures.kept c.requires.periods (goal_of c.args.premise.now c.args.goal.now) c.told_goal.ensures
-    c.deref-2.result.now c.in_ok-inputs.inputs c.in_ok-inputs.ensures cells c.problem.result c.problem.ensures
+    cells_are x p kept c.requires.periods c.nodes-nodes.result c.fundamental.result
+    c.in_ok-cells.cells.items places c.nodes-nodes.ensures.value c.fundamental.ensures c.in_ok-cells.ensures c.deref-2.ensures.value in
+    record {
+      exact = exactly x p kept c.requires.periods g c.told_goal.ensures places c.in_ok-inputs.inputs c.in_ok-inputs.ensures cells c.problem.result c.problem.ensures;
+      shows = showing x p kept c.requires.periods g c.told_goal.ensures places c.in_ok-inputs.inputs c.in_ok-inputs.ensures cells c.problem.result c.problem.ensures;
+    }

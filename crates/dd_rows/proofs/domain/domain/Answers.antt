@@ -1,4 +1,4 @@
-use Rattle.std.proofs.{Common.sym, Common.subst, Common.arith, lemmas.Grind.common_steps}
+use Rattle.std.proofs.Common.{sym, subst}
 use Rattle.dd_lattice.specs.{Place.Place, Regions.IsMoved, Regions.LeavesRange}
 use Rattle.dd_boxes.specs.Discharges.{IsVector}
 use Rattle.dd_rows.proofs.{DomainLaws.domain_next, Reach.moved_stays}
@@ -18,6 +18,3 @@ loop-vector-preserved c =
     domain_next c.args.dim c.args.radius c.args.vectors.now c.loop-vector.vector-index c.vector-item.result c.reversed.result c.in_ok-around.around c.in-Ok.moved
     c.loop-vector.all c.in_ok-all-2.all c.loop-vector-test.true c.vector-item.is c.reversed.ensures c.in_ok-around.ensures.members c.in-Ok.ensures.members
     c.loop-vector.invariant c.in_ok-all-2.ensures
-
-pub returns-clause-members : goal.returns-clause-members
-returns-clause-members c = grind (arith, common_steps)

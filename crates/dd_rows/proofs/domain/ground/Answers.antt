@@ -13,30 +13,9 @@ unreachable-requires c =
     let each : All (IsVector d) vs = subst (λ n. All (IsVector n) vs) (sym c.dim-dim.ensures) c.requires.vectors.each in
     grown_stays d c.args.radius c.args.margin vs c.in_ok-near.near c.requires.radius c.requires.margin each c.in_ok-near.ensures.members leaves
 
-pub returns-clause-ground : goal.returns-clause-ground
-returns-clause-ground c =
+pub returns : goal.returns
+returns c =
     let known = grounded c.args.rule.now c.args.radius c.args.margin c.args.vectors.now c.dim-dim.result c.nodes-nodes.result c.in_ok-near.near c.in-Ok.region
     c.list-positions.result.now c.in_ok-cells.cells c.dim-dim.ensures c.nodes-nodes.ensures.value c.in_ok-near.ensures.members c.in-Ok.ensures c.list-positions.ensures.value
     c.in_ok-cells.ensures in
-    known.ground
-
-pub returns-clause-order : goal.returns-clause-order
-returns-clause-order c =
-    let known = grounded c.args.rule.now c.args.radius c.args.margin c.args.vectors.now c.dim-dim.result c.nodes-nodes.result c.in_ok-near.near c.in-Ok.region
-    c.list-positions.result.now c.in_ok-cells.cells c.dim-dim.ensures c.nodes-nodes.ensures.value c.in_ok-near.ensures.members c.in-Ok.ensures c.list-positions.ensures.value
-    c.in_ok-cells.ensures in
-    known.order
-
-pub returns-clause-nodes : goal.returns-clause-nodes
-returns-clause-nodes c =
-    let known = grounded c.args.rule.now c.args.radius c.args.margin c.args.vectors.now c.dim-dim.result c.nodes-nodes.result c.in_ok-near.near c.in-Ok.region
-    c.list-positions.result.now c.in_ok-cells.cells c.dim-dim.ensures c.nodes-nodes.ensures.value c.in_ok-near.ensures.members c.in-Ok.ensures c.list-positions.ensures.value
-    c.in_ok-cells.ensures in
-    known.nodes
-
-pub returns-clause-near : goal.returns-clause-near
-returns-clause-near c =
-    let known = grounded c.args.rule.now c.args.radius c.args.margin c.args.vectors.now c.dim-dim.result c.nodes-nodes.result c.in_ok-near.near c.in-Ok.region
-    c.list-positions.result.now c.in_ok-cells.cells c.dim-dim.ensures c.nodes-nodes.ensures.value c.in_ok-near.ensures.members c.in-Ok.ensures c.list-positions.ensures.value
-    c.in_ok-cells.ensures in
-    known.near
+    record { ground = known.ground; order = known.order; nodes = known.nodes; near = known.near; memory = tt }

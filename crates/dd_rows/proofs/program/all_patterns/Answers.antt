@@ -1,5 +1,4 @@
 use Rattle.std.proofs.Common.{◌≡◌, ◌+◌, ◌*◌, min, ◌∙◌, ap, length, arith}
-use Rattle.std.proofs.lemmas.Grind.{common_steps}
 use Rattle.std.specs.List.{flat_map}
 use Rattle.dd_rows.specs.{Patterns.in_lexicographic_order, listing.Views.patterns_seen, listing.Views.with_patterns}
 use Rattle.dd_rows.proofs.RowLaws.{patterns_next, patterns_grow, columns_large}
@@ -20,6 +19,3 @@ returns-then-saturating_mul-ge-MOST_COLUMNS-clause-err c =
     let wide : c.len-vectors.result * c.len.result ≡ length v.givers * length now = ap (λ n. n * c.len.result) c.len-vectors.ensures ∙ ap (λ n. length v.givers * n) c.len.ensures in
     columns_large (length v.givers) (length now) (length (in_lexicographic_order (flat_map (patterns_seen v) lists))) c.saturating_mul.result
     (c.saturating_mul.ensures ∙ ap (λ n. min n 18446744073709551615) wide) c.if-saturating_mul-ge-MOST_COLUMNS.true (omega (arith, size, grow))
-
-pub loop-symbols-preserved : goal.loop-symbols-preserved
-loop-symbols-preserved c = grind (arith, common_steps)

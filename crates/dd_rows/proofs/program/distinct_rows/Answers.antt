@@ -1,5 +1,5 @@
-use Rattle.std.proofs.Common.{◌<◌, ◌∙◌, length, map, sym, ap, subst, arith}
-use Rattle.std.proofs.lemmas.{Grind.common_steps, List.Elements.All-nil, Result.err_from_is_err_and}
+use Rattle.std.proofs.Common.{◌<◌, ◌∙◌, length, map, sym, ap, subst}
+use Rattle.std.proofs.lemmas.{List.Elements.All-nil, Result.err_from_is_err_and}
 use Rattle.std.specs.Prelude.{replicate, None}
 use Rattle.dd_rows.specs.Programs.{add_row, first_seen, most_rows}
 use Rattle.dd_rows.specs.listing.Sparse.{dense, asked_row, asked_rows, IsSparse, AreSparse}
@@ -74,6 +74,3 @@ loop-symbols-preserved c =
       sparse = with.sparse;
       few = c.in_ok-add_row-2.ensures.few;
     }
-
-pub returns-clause-ok : goal.returns-clause-ok
-returns-clause-ok c = grind (arith, common_steps)

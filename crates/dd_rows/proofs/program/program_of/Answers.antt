@@ -39,8 +39,8 @@ program_shown-requires-clause-nodes c =
     let most = c.nodes.ensures.kept.nodes.1 in
     omega (arith, size, most)
 
-pub returns-clause-ok : goal.returns-clause-ok
-returns-clause-ok c =
+pub returns : goal.returns
+returns c =
     let x = c.args.rule.now in
     let vs = c.args.vectors.now in
     let ws = c.args.weights.now in
@@ -53,22 +53,10 @@ returns-clause-ok c =
     let heaviest : most ≡ x.nodes * greatest ws =
     ap (λ n. n * c.from-2.result) (c.from.ensures ∙ c.nodes.ensures.value) ∙ ap (λ n. x.nodes * n) (c.from-2.ensures ∙ c.greatest_weight.ensures) in
     let few = subst (HasFewFillings x) c.as_slice.ensures c.in_ok-fillings.ensures.few in
-    IfOk-weaker c.program_shown.result (IsProgramShown v ws most lists) (IsProgramOf x ws c.args.radius c.args.margin vs)
-    (program_from x c.args.radius c.args.margin vs cells v are lists listed ws most heaviest c.in_ok-cells.ensures.ground few) c.program_shown.ensures.ok
-
-pub returns-clause-err : goal.returns-clause-err
-returns-clause-err c =
-    let x = c.args.rule.now in
-    let vs = c.args.vectors.now in
-    let ws = c.args.weights.now in
-    let cells = c.in_ok-cells.cells in
-    let v = c.in_ok-views.views in
-    let lists = c.as_slice-3.result.now in
-    let most = c.from.result * c.from-2.result in
-    let are : AreViews x c.args.radius vs cells v = subst (λ cs. AreViews x c.args.radius vs cs v) c.as_slice-2.ensures c.in_ok-views.ensures.views in
-    let listed : lists ≡ fillings x cells = c.as_slice-3.ensures ∙ (c.in_ok-fillings.ensures.ok ∙ ap (fillings x) c.as_slice.ensures) in
-    let heaviest : most ≡ x.nodes * greatest ws =
-    ap (λ n. n * c.from-2.result) (c.from.ensures ∙ c.nodes.ensures.value) ∙ ap (λ n. x.nodes * n) (c.from-2.ensures ∙ c.greatest_weight.ensures) in
-    IfErr-weaker c.program_shown.result (λ fault. OnLarge fault (IsLargeShown v ws most lists)) (IsRowsFault x ws c.args.radius c.args.margin vs)
-    (λ fault large. on_large_weaker fault (IsLargeShown v ws most lists) (IsLargeProgram x ws c.args.radius c.args.margin vs)
-    (large_from x c.args.radius c.args.margin vs cells v are lists listed ws most heaviest c.in_ok-cells.ensures.ground) large) c.program_shown.ensures.err
+    record {
+      ok = IfOk-weaker c.program_shown.result (IsProgramShown v ws most lists) (IsProgramOf x ws c.args.radius c.args.margin vs)
+          (program_from x c.args.radius c.args.margin vs cells v are lists listed ws most heaviest c.in_ok-cells.ensures.ground few) c.program_shown.ensures.ok;
+      err = IfErr-weaker c.program_shown.result (λ fault. OnLarge fault (IsLargeShown v ws most lists)) (IsRowsFault x ws c.args.radius c.args.margin vs)
+          (λ fault large. on_large_weaker fault (IsLargeShown v ws most lists) (IsLargeProgram x ws c.args.radius c.args.margin vs)
+          (large_from x c.args.radius c.args.margin vs cells v are lists listed ws most heaviest c.in_ok-cells.ensures.ground) large) c.program_shown.ensures.err;
+    }

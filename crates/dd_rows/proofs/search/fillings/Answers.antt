@@ -1,5 +1,5 @@
 use Rattle.std.proofs.Common.{◌≡◌, ◌<◌, ◌+◌, ℕ, List, length, sym, ◌∙◌, ap, subst, take, map, get_or, arith}
-use Rattle.std.proofs.lemmas.{Grind.common_steps, List.get_or_default}
+use Rattle.std.proofs.lemmas.List.{get_or_default}
 use Rattle.std.proofs.lemmas.List.FromFn.{get_or-map-range_with_len, length-map-range_with_len}
 use Rattle.std.proofs.lemmas.{Result.err_from_is_err_and, List.Elements.All-filter, List.Elements.All-take}
 use Rattle.std.specs.{Bool.nat_eq, List.range_with_len, List.flat_map}
@@ -75,9 +75,3 @@ loop-k-preserved c =
     let sizes = ap length whole in
     let few = c.in_ok-level.ensures.few in
     (whole, few_next x cells k c.loop-k.invariant.1 (omega (arith, sizes, few)))
-
-pub returns-clause-ok : goal.returns-clause-ok
-returns-clause-ok c = grind (arith, common_steps)
-
-pub next_level-requires : goal.next_level-requires
-next_level-requires c = grind (arith, common_steps)

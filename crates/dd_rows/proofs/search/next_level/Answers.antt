@@ -1,5 +1,5 @@
-use Rattle.std.proofs.Common.{◌<◌, ◌++◌, length, sym, ◌∙◌, ap, get_or, arith}
-use Rattle.std.proofs.lemmas.{Grind.common_steps, Result.err_from_is_err_and}
+use Rattle.std.proofs.Common.{◌<◌, ◌++◌, length, sym, ◌∙◌, ap, get_or}
+use Rattle.std.proofs.lemmas.Result.{err_from_is_err_and}
 use Rattle.std.specs.List.{flat_map}
 use Rattle.dd_rows.specs.{Fillings.most_fillings, listing.Levels.extended, listing.Formulas.are_all_true}
 use Rattle.dd_rows.proofs.Steps.{on_large_weaker, flat_map_large}
@@ -16,9 +16,3 @@ returns-in_err-extend-clause-err c =
     (on_large_weaker c.in_err-extend.field-0.0 (most_fillings < length (c.loop-symbols.next ++ f c.as_slice.result.now)) (most_fillings < length (flat_map f level))
     (flat_map_large f level i most_fillings c.as_slice.result.now c.loop-symbols.next c.loop-symbols-test.true c.loop-symbols.invariant.0 at)
     c.in_err-extend.ensures.err)
-
-pub loop-symbols-preserved : goal.loop-symbols-preserved
-loop-symbols-preserved c = grind (arith, common_steps)
-
-pub returns-clause-ok : goal.returns-clause-ok
-returns-clause-ok c = grind (arith, common_steps)

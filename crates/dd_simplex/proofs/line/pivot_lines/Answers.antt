@@ -1,4 +1,4 @@
-use Rattle.std.proofs.{Common.sym, Common.◌∙◌, Common.arith, lemmas.Grind.common_steps}
+use Rattle.std.proofs.Common.{sym, ◌∙◌}
 use Rattle.dd_simplex.proofs.{IdleLines.back_fractions, IdleLines.pivot_fractions, LineSteps.back_sizes}
 use Rattle.dd_simplex.proofs.line.pivot_lines.Goals as goal
 
@@ -23,24 +23,3 @@ substitute_each-requires-2-clause-pivot c =
     pivot_fractions c.args.lines.now c.in-Some.back.now c.in-Some.leaving.now c.solve.new.self c.args.r c.args.entering c.args.e c.requires.line
     (sym c.split_at_mut-front.ensures.back ∙ c.in-Some.ensures.cases.0) c.requires.fractions c.requires.place c.requires.cell
     (sym c.solve.ensures.fits ∙ c.if-not-solve.false) (c.solve.ensures.value c.if-not-solve.false)
-
-pub returns-clause-fits : goal.returns-clause-fits
-returns-clause-fits c = grind (arith, common_steps)
-
-pub solve-requires-clause-place : goal.solve-requires-clause-place
-solve-requires-clause-place c = grind (arith, common_steps)
-
-pub substitute_each-requires-clause-place : goal.substitute_each-requires-clause-place
-substitute_each-requires-clause-place c = grind (arith, common_steps)
-
-pub substitute_each-requires-2-clause-place : goal.substitute_each-requires-2-clause-place
-substitute_each-requires-2-clause-place c = grind (arith, common_steps)
-
-pub returns-then-not-solve-clause-fits : goal.returns-then-not-solve-clause-fits
-returns-then-not-solve-clause-fits c = grind (arith, common_steps)
-
-pub substitute_each-requires-clause-sizes : goal.substitute_each-requires-clause-sizes
-substitute_each-requires-clause-sizes c = grind (arith, common_steps)
-
-pub returns-then-not-substitute_each-clause-fits : goal.returns-then-not-substitute_each-clause-fits
-returns-then-not-substitute_each-clause-fits c = grind (arith, common_steps)

@@ -1,5 +1,5 @@
 use Rattle.std.proofs.Common.{◌≡◌, ℕ, ◌+◌, ◌<◌, List, length, get_or, sym, ap, subst, ◌∙◌, arith}
-use Rattle.std.proofs.lemmas.{Grind.common_steps, List.get_or_default}
+use Rattle.std.proofs.lemmas.List.{get_or_default}
 use Rattle.dd_fraction.specs.Exact.{Exact, minus}
 use Rattle.dd_simplex.specs.{Programs.zero_of, table.Lines.Table, table.Lines.other_at, table.Values.GiveDuals}
 use Rattle.dd_simplex.proofs.Valuing.{duals_set, duals_skip}
@@ -33,6 +33,3 @@ returns c =
     let others = ap (λ (x : Table). length x.others) c.tableau.view_is in
     let end : c.loop-j.j ≡ length c.args.tableau.now.others = let size = c.tableau.inside.others.ok.0 in omega (arith, others, size, c.len-j-end.ensures, c.loop-j-test.false, c.loop-j.auto.j-end) in
     rw c.from_vec.ensures (subst (λ (k : ℕ). GiveDuals c.args.tableau.now c.args.columns k c.loop-j.duals.items) end c.loop-j.invariant)
-
-pub index-requires : goal.index-requires
-index-requires c = grind (arith, common_steps)

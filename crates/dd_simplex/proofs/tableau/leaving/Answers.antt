@@ -1,5 +1,5 @@
 use Rattle.std.proofs.Common.{◌≡◌, ◌<◌, List, [], length, true, false, sym, ap, subst, ◌∙◌, rules, arith, to_z-of_z}
-use Rattle.std.proofs.lemmas.{Grind.common_steps, List.get_or_default, List.Elements.All-get_or}
+use Rattle.std.proofs.lemmas.List.{get_or_default, Elements.All-get_or}
 use Rattle.std.specs.Int.{w128, RustNames.int_lt}
 use lib.IntN.{pos}
 use mir.Val.{SFits}
@@ -68,9 +68,3 @@ loop-i-preserved c =
           let s = found_first lines e i c.loop-i.least c.in-Some.ratio there over given in
           rw (w.chosen-is, w.least-is) (record { fit = s.fit; chosen = s.chosen; ratio = s.ratio }))
     ]
-
-pub returns-clause-line : goal.returns-clause-line
-returns-clause-line c = grind (arith, common_steps)
-
-pub returns-in_default-clause-line : goal.returns-in_default-clause-line
-returns-in_default-clause-line c = grind (arith, common_steps)

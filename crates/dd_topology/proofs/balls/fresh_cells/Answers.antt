@@ -1,5 +1,4 @@
 use Rattle.std.proofs.Common.{arith, ◌<◌, length, Contains, subst, sym, ◌∙◌}
-use Rattle.std.proofs.lemmas.Grind.{common_steps}
 use Rattle.dd_lattice.specs.{Order.cell_cmp, lemmas.InOrderLaws.cells_equal}
 use Rattle.dd_topology.specs.lemmas.OrderLaws.{has-insert_key}
 use Rattle.dd_topology.proofs.GrowthLaws.{adds_new, adds_known}
@@ -18,6 +17,3 @@ loop-cell-preserved c =
           rw (w.fresh-is, same) (adds_known _ _ _ _ _ x below c.cell-item.is c.loop-cell.invariant (subst (λ l. Contains l x) (sym keys ∙ same) (has-insert_key cell_cmp cells_equal _ x)))
           )
     ]
-
-pub returns-clause-cells : goal.returns-clause-cells
-returns-clause-cells c = grind (arith, common_steps)

@@ -1,4 +1,3 @@
-use Rattle.std.proofs.{Common.arith, lemmas.Grind.common_steps}
 use Rattle.dd_lattice.specs.Place.{place}
 use Rattle.dd_topology.proofs.CoordinateLaws.{apart_x, apart_y, joined_z}
 use Rattle.dd_topology.proofs.balls.is_sum.Goals as goal
@@ -26,9 +25,3 @@ returns c =
     let sum = c.sum.inside in
     rw (← c.p.view_is, ← c.by.view_is, ← c.sum.view_is)
     (joined_z (place p.x p.y p.z) (place by.x by.y by.z) (place sum.x sum.y sum.z) c.p.invariant c.by.invariant c.sum.invariant c.if-p-by.false c.if-p-by-2.false)
-
-pub overflow_add-result : goal.overflow_add-result
-overflow_add-result c = grind (arith, common_steps)
-
-pub overflow_add-p-inside-2 : goal.overflow_add-p-inside-2
-overflow_add-p-inside-2 c = grind (arith, common_steps)

@@ -1,4 +1,4 @@
-use Rattle.std.proofs.{Common.arith, lemmas.Grind.common_steps, lemmas.Result.err_from_is_err_and}
+use Rattle.std.proofs.{Common.arith, lemmas.Result.err_from_is_err_and}
 use Rattle.dd_topology.specs.Balls.{beside}
 use Rattle.dd_topology.proofs.GrowthLaws.{part_out_of_range, end_out_of_range, start_out_of_range}
 use Rattle.dd_topology.proofs.balls.push_neighbours.Goals as goal
@@ -14,9 +14,3 @@ returns-in_err-push_start-clause-fault c =
     let p = err_from_is_err_and c.from_residual-in_err-push_start.result c.from_residual-in_err-push_start.ensures.1 in
     rw (p.1, p.2) (λ range. part_out_of_range (beside c.args.cell.now) c.args.edges.now c.loop-edge.edge-index c.edge-item.result (omega arith) c.edge-item.is
     (start_out_of_range c.args.cell.now c.edge-item.result (c.in_err-push_start.ensures.fault range)))
-
-pub loop-edge-preserved : goal.loop-edge-preserved
-loop-edge-preserved c = grind (arith, common_steps)
-
-pub returns-clause-cells : goal.returns-clause-cells
-returns-clause-cells c = grind (arith, common_steps)

@@ -1,5 +1,5 @@
 use Rattle.std.proofs.Common.{◌≡◌, ◌<◌, ℕ, List, false, arith, map, take, get_or, length, Contains, Bor}
-use Rattle.std.proofs.lemmas.{Grind.common_steps, List.length-map, List.take-map, List.get_or-map}
+use Rattle.std.proofs.lemmas.List.{length-map, take-map, get_or-map}
 use Rattle.std.specs.Prelude.{bytes_eq}
 use Rattle.dd_topology.specs.Builtin.{has_repeat}
 use Rattle.dd_topology.proofs.TableLaws.{not_named}
@@ -15,9 +15,3 @@ pub add_name-requires-clause-new : goal.add_name-requires-clause-new
 add_name-requires-clause-new c =
     let below : c.loop-text.text-index < length c.args.texts.now = omega arith in
     not_before c.args.texts.now c.loop-text.text-index _ c.loop-text.names c.requires.distinct below c.loop-text.invariant
-
-pub add_name-requires-clause-few : goal.add_name-requires-clause-few
-add_name-requires-clause-few c = grind (arith, common_steps)
-
-pub loop-text-preserved : goal.loop-text-preserved
-loop-text-preserved c = grind (arith, common_steps)

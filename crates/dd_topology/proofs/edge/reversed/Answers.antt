@@ -1,4 +1,3 @@
-use Rattle.std.proofs.{Common.arith, lemmas.Grind.common_steps}
 use Rattle.dd_lattice.specs.Place.{IsCoordinateInRange}
 use Rattle.dd_topology.proofs.CoordinateLaws.{difference_of_near}
 use Rattle.dd_topology.proofs.edge.reversed.Goals as goal
@@ -10,6 +9,3 @@ returns c =
     let y : IsCoordinateInRange p.y = c.offset.invariant.1 in
     let z : IsCoordinateInRange p.z = c.offset.invariant.2 in
     rw (← c.offset.view_is) (simp difference_of_near)
-
-pub invariant_of-result : goal.invariant_of-result
-invariant_of-result c = grind (arith, common_steps)

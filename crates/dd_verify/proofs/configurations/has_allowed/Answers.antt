@@ -1,8 +1,8 @@
 use Rattle.std.proofs.Common.{ℕ, ◌<◌, length, get_or, ap, sym, ◌∙◌, arith, refl}
 use Rattle.std.proofs.lemmas.Bool.{false≢true}
 use borrow.Author.Count.{below_more}
-use Rattle.dd_verify.proofs.{Periodics.IsAllowedAt, Periodics.allowed_from_box, Periodics.box_from_allowed, Deciding.nothing_holds}
-use Rattle.dd_question.specs.lemmas.AllowedLaws.{allowed_is}
+use Rattle.dd_question.specs.lemmas.AllowedLaws.{IsAllowedAt, allowed_is, allowed_from_box, box_from_allowed}
+use Rattle.dd_verify.proofs.Deciding.{nothing_holds}
 use Rattle.dd_verify.proofs.configurations.has_allowed.Goals as goal
 
 pub returns-then-not-allows : goal.returns-then-not-allows

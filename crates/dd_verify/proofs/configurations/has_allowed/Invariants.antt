@@ -1,5 +1,5 @@
 use Rattle.std.proofs.Common.{ℕ, ◌<◌}
-use Rattle.dd_verify.proofs.Periodics.{IsAllowedAt}
+use Rattle.dd_question.specs.lemmas.AllowedLaws.{IsAllowedAt}
 use Rattle.dd_verify.proofs.configurations.has_allowed.Given as goal
 
 -- the symbols seen so far are allowed

@@ -14,12 +14,6 @@ loop-clause-preserved c =
       short = All-more P c.args.clauses.now c.loop-clause.clause-index c.clause-item.result (omega arith) c.loop-clause.invariant.short (subst P same c.count_true.ensures.short);
     }
 
-pub returns-clause-counts : goal.returns-clause-counts
-returns-clause-counts c = grind (arith, common_steps)
-
-pub returns-clause-short : goal.returns-clause-short
-returns-clause-short c = grind (arith, common_steps)
-
 pub returns-clause-listed : goal.returns-clause-listed
 returns-clause-listed c =
     let counts = c.loop-clause.counts.items in

@@ -1,5 +1,5 @@
 use Rattle.std.proofs.Common.{◌≡◌, ◌+◌, ◌*◌, ◌∷◌, ◌++◌, [], ◌<◌, ◌∙◌, ℕ, length, take, ap, sym, subst, refl, arith}
-use Rattle.std.proofs.lemmas.{Grind.common_steps, List.take_at, Result.err_from_is_err_and}
+use Rattle.std.proofs.lemmas.{List.take_at, Result.err_from_is_err_and}
 use denote.Param.Weighed.{at_most}
 use Rattle.dd_lattice.specs.declared.position.Cell.{Cell}
 use Rattle.dd_expansion.specs.{declared.expanded.Expanded.Expanded, declared.formulas.Formula.Formula, Leaves.instances}
@@ -228,42 +228,3 @@ expand-returns-in_err-one-in-Iff t c =
     let p = err_from_is_err_and c.from_residual-in_err-one-in-Iff.result c.from_residual-in_err-one-in-Iff.ensures.1 in
     let nodes = nodes_iff es n env c.in-Iff.first c.in-Iff.second in
     rw (p.1, p.2, c.in-Iff.is) (λ few. few_after _ _ 1 _ _ _ c.in_ok-spend-in-Iff.ensures.ok (c.in_err-one-in-Iff.ensures few) nodes)
-
-pub expand_each-returns : goal.expand_each-returns
-expand_each-returns t c = grind (arith, common_steps)
-
-pub expand_all-returns : goal.expand_all-returns
-expand_all-returns t c = grind (arith, common_steps)
-
-pub expand_boxed-returns : goal.expand_boxed-returns
-expand_boxed-returns t c = grind (arith, common_steps)
-
-pub expand-cell-requires-clause-near : goal.expand-cell-requires-clause-near
-expand-cell-requires-clause-near t c = grind (arith, common_steps)
-
-pub expand_over-cells_of-requires-clause-near : goal.expand_over-cells_of-requires-clause-near
-expand_over-cells_of-requires-clause-near t c = grind (arith, common_steps)
-
-pub expand-cell-requires-in-Node-clause-near : goal.expand-cell-requires-in-Node-clause-near
-expand-cell-requires-in-Node-clause-near t c = grind (arith, common_steps)
-
-pub expand-cell-requires-in-NotSymbol-clause-near : goal.expand-cell-requires-in-NotSymbol-clause-near
-expand-cell-requires-in-NotSymbol-clause-near t c = grind (arith, common_steps)
-
-pub expand-cell-requires-in-Adjacent-clause-near : goal.expand-cell-requires-in-Adjacent-clause-near
-expand-cell-requires-in-Adjacent-clause-near t c = grind (arith, common_steps)
-
-pub expand-cell-requires-in-Adjacent-2-clause-near : goal.expand-cell-requires-in-Adjacent-2-clause-near
-expand-cell-requires-in-Adjacent-2-clause-near t c = grind (arith, common_steps)
-
-pub expand-cell-requires-in-Same-2-clause-near : goal.expand-cell-requires-in-Same-2-clause-near
-expand-cell-requires-in-Same-2-clause-near t c = grind (arith, common_steps)
-
-pub expand-cell-requires-in-Place-2-clause-near : goal.expand-cell-requires-in-Place-2-clause-near
-expand-cell-requires-in-Place-2-clause-near t c = grind (arith, common_steps)
-
-pub expand_not-returns : goal.expand_not-returns
-expand_not-returns t c = grind (arith, common_steps)
-
-pub expand-cell-requires-in-NotSame-2-clause-near : goal.expand-cell-requires-in-NotSame-2-clause-near
-expand-cell-requires-in-NotSame-2-clause-near t c = grind (arith, common_steps)

@@ -1,5 +1,4 @@
 use Rattle.std.proofs.Common.{◌≡◌, ◌<◌, ◌+◌, List, ℕ, map, take, ap, sym, ◌∙◌, subst, arith}
-use Rattle.std.proofs.lemmas.Grind.{common_steps}
 use Rattle.std.specs.List.{list_all}
 use Rattle.dd_lattice.specs.declared.position.Cell.{Cell}
 use Rattle.dd_expansion.specs.Leaves.{total}
@@ -89,12 +88,3 @@ instances_from-instances-requires t c =
         below = node_at s c.args.cells.now c.loop-cell.cell-index c.cell-item.result c.requires.cells c.loop-cell-test.true c.cell-item.is;
       },
     )
-
-pub composed_instances-instances-requires : goal.composed_instances-instances-requires
-composed_instances-instances-requires t c = grind (arith, common_steps)
-
-pub composed_instances-instances-requires-2 : goal.composed_instances-instances-requires-2
-composed_instances-instances-requires-2 t c = grind (arith, common_steps)
-
-pub instances_from-returns : goal.instances_from-returns
-instances_from-returns t c = grind (arith, common_steps)

@@ -1,5 +1,5 @@
 use Rattle.std.proofs.Common.{◌≡◌, List, ◌++◌, map, ap, sym, ◌∙◌, subst, arith}
-use Rattle.std.proofs.lemmas.{Grind.common_steps, Bool.leb-true, Result.IfOk-weaker}
+use Rattle.std.proofs.lemmas.{Bool.leb-true, Result.IfOk-weaker}
 use Rattle.std.specs.List.{list_all, flat_map}
 use Rattle.dd_lattice.specs.{Cells.shifted, declared.position.Cell.Cell, InOrder.in_order, lemmas.InOrderLaws.list_all-in_order}
 use Rattle.dd_formula.specs.{LocalRule.is_near, declared.automaton.Automaton.Automaton}
@@ -116,6 +116,3 @@ reads_from-reads-requires t c =
 pub reads_from-push_shifted-requires-clause-by : goal.reads_from-push_shifted-requires-clause-by
 reads_from-push_shifted-requires-clause-by t c =
     leb-true _ _ (passes_at is_near c.args.cells.now c.loop-cell.cell-index c.cell-item.result c.requires.near c.loop-cell-test.true c.cell-item.is)
-
-pub reads_from-returns-clause-list : goal.reads_from-returns-clause-list
-reads_from-returns-clause-list t c = grind (arith, common_steps)

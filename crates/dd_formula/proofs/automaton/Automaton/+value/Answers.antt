@@ -1,5 +1,5 @@
 use Rattle.std.proofs.Common.{◌++◌, ◌∷◌, [], map, take, ap, sym, ◌∙◌, subst, arith}
-use Rattle.std.proofs.lemmas.{Grind.common_steps, Result.IfOk-weaker}
+use Rattle.std.proofs.lemmas.Result.{IfOk-weaker}
 use Rattle.std.specs.List.{list_all}
 use Rattle.dd_lattice.specs.declared.position.Cell.{Cell}
 use Rattle.dd_pattern.specs.Filling.{filling_look}
@@ -77,6 +77,3 @@ values_near-reads-requires t c = record {
   formed = c.requires.formed;
   below = node_at c.requires.setting c.args.cells.now c.loop-cell.cell-index c.cell-item.result c.requires.cells c.loop-cell-test.true c.cell-item.is;
 }
-
-pub composed_value-new-values-requires-clause-as_many : goal.composed_value-new-values-requires-clause-as_many
-composed_value-new-values-requires-clause-as_many t c = grind (arith, common_steps)

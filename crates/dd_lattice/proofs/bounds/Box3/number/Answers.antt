@@ -1,4 +1,4 @@
-use Rattle.std.proofs.{Common.ap, Common.arith, lemmas.Grind.common_steps}
+use Rattle.std.proofs.Common.{ap}
 use Rattle.dd_lattice.specs.lemmas.BoxLaws.{index_below}
 use Rattle.dd_lattice.proofs.bounds.Box3.number.Goals as goal
 
@@ -18,6 +18,3 @@ returns-clause-below c =
       ap (λ v. v.high.x) c.self.view_is,
       ap (λ v. v.high.y) c.self.view_is,
     ) (index_below c.args.self.now c.args.p.now c.requires)
-
-pub overflow_add-result-4 : goal.overflow_add-result-4
-overflow_add-result-4 c = grind (arith, common_steps)

@@ -1,5 +1,5 @@
 use Rattle.std.proofs.Common.{◌≡◌, List, ◌<◌, length, get_or, subst, sym, ap, ◌∙◌, arith}
-use Rattle.std.proofs.lemmas.{Grind.common_steps, List.with_items_is, List.get_or_default}
+use Rattle.std.proofs.lemmas.List.{with_items_is, get_or_default}
 use Rattle.std.specs.{List.slice_set, Vec.with_items}
 use Rattle.dd_fraction.specs.Exact.{Exact, plus, times}
 use Rattle.dd_simplex.specs.Programs.{fraction_at, zero_of}
@@ -33,9 +33,3 @@ returns-clause-value c did =
     c.pivot_objective.ensures.costs did ∙ ap (λ (cs : List Exact). less (fraction_at cs e) (slice_set cs e zero_of) q.cells) c.as_mut_slice-2.ensures.value in
     table_is t e r _ q _ _ _ line (same ∙ new) (pivot ∙ ap (λ (ls : List Line). line_at ls r) (sym same)) (ap (slice_set t.others e) leaving) value (costs ∙ rest)
     ∙ ap (changed_table e r) c.self.view_is
-
-pub returns-clause-fits : goal.returns-clause-fits
-returns-clause-fits c = grind (arith, common_steps)
-
-pub pivot_objective-requires-clause-size : goal.pivot_objective-requires-clause-size
-pivot_objective-requires-clause-size c = grind (arith, common_steps)

@@ -1,5 +1,4 @@
 use Rattle.std.proofs.Common.{◌≡◌, ◌<◌, length, Some, inr, refl, ap, sym, ◌∙◌, subst, arith}
-use Rattle.std.proofs.lemmas.Grind.{common_steps}
 use Rattle.std.specs.List.{All}
 use Rattle.dd_simplex.specs.table.{Lines.Line, Lines.Table, Choices.DoRatiosFit, Steps.DoesEnter, Steps.DoesLeave}
 use Rattle.dd_simplex.proofs.IdleLines.{table_fractions, table_sizes, place_within}
@@ -7,9 +6,6 @@ use Rattle.dd_simplex.proofs.tableau.Tableau.turn.Goals as goal
 
 pub pivot-requires-clause-fractions : goal.pivot-requires-clause-fractions
 pivot-requires-clause-fractions c = table_fractions _ c.requires
-
-pub returns-clause-turned : goal.returns-clause-turned
-returns-clause-turned c = grind (arith, common_steps)
 
 pub pivot-requires-clause-sizes : goal.pivot-requires-clause-sizes
 pivot-requires-clause-sizes c = table_sizes _ c.requires

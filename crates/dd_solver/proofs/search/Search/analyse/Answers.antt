@@ -1,5 +1,5 @@
 use Rattle.std.proofs.Common.{◌≡◌, take, drop, true, [], ◌++◌, length, ap, ◌∙◌, arith}
-use Rattle.std.proofs.lemmas.{Grind.common_steps, List.length-take, List.length-append, List.length-drop}
+use Rattle.std.proofs.lemmas.List.{length-take, length-append, length-drop}
 use Rattle.std.specs.Option.{MatchOption}
 use Rattle.dd_derivation.specs.declared.step.Step.{Step}
 use Rattle.dd_solver.specs.searching.{Reasons.all_known, Analysis.is_rightly_learned, Analysis.Asserts}
@@ -36,18 +36,3 @@ returns-clause-turn c =
     let f : MayDelete now (length i.clauses.now) i.trail.entries s.deletes = rw (c.from_vec-deletes.ensures, ← d) c.in_ok-numbers.ensures in
     let t : MatchOption c.in_ok-learned.learned.turn (s.clause ≡ []) (Asserts i.trail.entries s.clause) = rw e c.in_ok-learned.ensures.turn in
     rw c.in_ok-push_step.ensures.steps (goes_on n i.clauses.now i.steps.items i.trail.entries c.self.invariant.0 s c.in_ok-learned.learned.turn r f t)
-
-pub invariant_of-self : goal.invariant_of-self
-invariant_of-self c = grind (arith, common_steps)
-
-pub invariant_of-self-in_err-push_step : goal.invariant_of-self-in_err-push_step
-invariant_of-self-in_err-push_step c = grind (arith, common_steps)
-
-pub invariant_of-self-in_err-clause : goal.invariant_of-self-in_err-clause
-invariant_of-self-in_err-clause c = grind (arith, common_steps)
-
-pub invariant_of-self-in_err-numbers : goal.invariant_of-self-in_err-numbers
-invariant_of-self-in_err-numbers c = grind (arith, common_steps)
-
-pub invariant_of-self-in_err-add : goal.invariant_of-self-in_err-add
-invariant_of-self-in_err-add c = grind (arith, common_steps)

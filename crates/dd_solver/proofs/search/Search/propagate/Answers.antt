@@ -1,4 +1,4 @@
-use Rattle.std.proofs.{Common.◌≡◌, Common.Some, Common.length, Common.subst, Common.◌∙◌, Common.arith, lemmas.Grind.common_steps}
+use Rattle.std.proofs.Common.{◌≡◌, Some, length, subst, ◌∙◌, arith}
 use Rattle.dd_derivation.specs.{declared.propagation.Finding.TheVariants.Forced, Derivations.hint_finding, Derivations.is_among}
 use Rattle.dd_trail.specs.{declared.trail.Entry.Entry, Trails.IsFull, Trails.falses, Propagation.AreOpenBetween}
 use Rattle.dd_solver.specs.searching.{Reasons.all_known, Search.known_through}
@@ -61,6 +61,3 @@ returns-in-Nothing-clause-conflict c =
     let o : IsFull s.trail.variables s.trail.entries → AreOpenBetween c.new-database.result (falses s.trail.entries) 0 (length c.new-database.result) = rw c.in-Nothing.is at c.in_ok-found.ensures in
     let h = subst (λ (known : Known). IsFull s.trail.variables s.trail.entries → AreOpenBetween known (falses s.trail.entries) 0 (length known)) d o in
     λ full. all_open now p (h full)
-
-pub invariant_of-self-in_err-assign-in-Unit : goal.invariant_of-self-in_err-assign-in-Unit
-invariant_of-self-in_err-assign-in-Unit c = grind (arith, common_steps)

@@ -1,4 +1,4 @@
-use Rattle.std.proofs.{Common.◌∙◌, Common.map, Common.ap, Common.sym, Common.refl, Common.arith, lemmas.Grind.common_steps}
+use Rattle.std.proofs.Common.{◌∙◌, map, ap, sym, refl}
 use Rattle.std.specs.Prelude.{string_bytes}
 use Rattle.dd_topology.specs.lemmas.NamingLaws.{known, unknown, map-insert_key}
 use Rattle.dd_topology.proofs.names.Names.add.Goals as goal
@@ -20,9 +20,3 @@ pub returns-clause-first : goal.returns-clause-first
 returns-clause-first c =
     rw (← c.self.view_is)
     (unknown string_bytes (string_bytes c.args.name) c.self.inside.known.keys (rw c.as_str.ensures.value at (sym c.contains.ensures ∙ c.if-contains.false)))
-
-pub returns-clause-number : goal.returns-clause-number
-returns-clause-number c = grind (arith, common_steps)
-
-pub invariant_of-self-2 : goal.invariant_of-self-2
-invariant_of-self-2 c = grind (arith, common_steps)

@@ -1,5 +1,5 @@
 use Rattle.std.proofs.Common.{◌≡◌, ◌<◌, ◌+◌, ◌*◌, length, false, [], ap, sym, ◌∙◌, arith}
-use Rattle.std.proofs.lemmas.{Grind.common_steps, List.get_or_default}
+use Rattle.std.proofs.lemmas.List.{get_or_default}
 use Rattle.dd_topology.specs.Sets.{allows}
 use Rattle.dd_topology.proofs.SetLaws.{item_at, item_below, length-in_rows}
 use Rattle.dd_topology.proofs.sets.Sets.allows.Goals as goal
@@ -16,6 +16,3 @@ returns-then-symbol-self c =
     c.index.ensures
     ∙ (get_or_default s.allowed.items (a * s.symbols + t) c.index.result.now false within
     ∙ (sym (item_at s.nodes s.symbols a t s.allowed.items [] false below c.if-symbol-self.true) ∙ ap (λ v. allows v a t) c.self.view_is))
-
-pub returns-else-symbol-self : goal.returns-else-symbol-self
-returns-else-symbol-self c = grind (arith, common_steps)

@@ -1,5 +1,5 @@
 use Rattle.std.proofs.Common.{◌≡◌, ◌<◌, arith, ap, sym, ◌∙◌, subst, [], eqb-true}
-use Rattle.std.proofs.lemmas.{Grind.common_steps, List.nil_from_length, Result.err_from_is_err_and}
+use Rattle.std.proofs.lemmas.{List.nil_from_length, Result.err_from_is_err_and}
 use Rattle.std.specs.BTreeSet.{insert_key}
 use Rattle.dd_lattice.specs.{Order.cell_cmp, Place.IsInRange}
 use Rattle.dd_topology.specs.Balls.{IsInBall}
@@ -49,9 +49,3 @@ returns-then-is_empty-clause-cells c = cells_at_last c.listed.result (λ v. v.it
 
 pub returns-then-is_empty-clause-list : goal.returns-then-is_empty-clause-list
 returns-then-is_empty-clause-list c = list_at_last c.listed.result (λ v. v.items) _ _ _ _ _ (at_stop c) c.listed.ensures.cells c.listed.ensures.ascending
-
-pub returns-then-is_empty-clause-fault : goal.returns-then-is_empty-clause-fault
-returns-then-is_empty-clause-fault c = grind (arith, common_steps)
-
-pub returns-clause-fault : goal.returns-clause-fault
-returns-clause-fault c = grind (arith, common_steps)

@@ -1,5 +1,5 @@
-use Rattle.std.proofs.Common.{◌<◌, ◌∙◌, sym, refl, length, Some, None, arith}
-use Rattle.std.proofs.lemmas.{Grind.common_steps, List.length-map, Option.slice_get_read}
+use Rattle.std.proofs.Common.{◌<◌, ◌∙◌, sym, refl, length, Some, None}
+use Rattle.std.proofs.lemmas.{List.length-map, Option.slice_get_read}
 use Rattle.dd_topology.specs.keeping.Kept.{move_of}
 use Rattle.dd_topology.proofs.MoveLaws.{found_by_move}
 use Rattle.dd_topology.proofs.topology.Topology.edge_from.Goals as goal
@@ -16,6 +16,3 @@ pub returns-in-None-clause-edge : goal.returns-in-None-clause-edge
 returns-in-None-clause-edge c =
     let t = c.self.inside in
     rw (← c.self.view_is) (found_by_move t.edges t.moves.keys c.self.invariant.1 c.args.cell.now c.args.label None (sym c.in-None.is ∙ c.get_index_of.ensures.index))
-
-pub index-requires : goal.index-requires
-index-requires c = grind (arith, common_steps)

@@ -1,5 +1,0 @@
-use Rattle.std.proofs.{Common.arith, lemmas.Grind.common_steps}
-use Rattle.dd_discharge.proofs.check.are_duals.Goals as goal
-
-pub loop-j-preserved : goal.loop-j-preserved
-loop-j-preserved c = grind (arith, common_steps)

@@ -1,5 +1,0 @@
-use Rattle.std.proofs.{Common.arith, lemmas.Grind.common_steps}
-use Rattle.dd_formula.proofs.automaton.Cases.nodes.Goals as goal
-
-pub returns-in-len1-up : goal.returns-in-len1-up
-returns-in-len1-up c = grind (arith, common_steps)

@@ -1,5 +1,0 @@
-use Rattle.std.proofs.{Common.arith, lemmas.Grind.common_steps}
-use Rattle.dd_simplex.proofs.line.Line.solve.Goals as goal
-
-pub returns-clause-value : goal.returns-clause-value
-returns-clause-value c = grind (arith, common_steps)
