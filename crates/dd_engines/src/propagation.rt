@@ -1,12 +1,13 @@
 //! Unit propagation from no assumptions: a clause with one literal that is not false makes it true, until a clause
 //! has none. Passes over all clauses go on until one changes nothing. Counts of the literals left bring each new
 //! literal at once to the clauses that it leaves with one. So the second pass already finds nothing, and all takes
-//! linear time.
-ghost use Rattle.std.specs.Prelude.{◌≡◌, [], List, All, length, IfOk, MatchOption};
+//! linear time. Mostly two passes from the last clause back, without counts, find as much: in clauses that are made of
+//! gates, each gate stands before the clauses that use it.
+ghost use Rattle.std.specs.Prelude.{◌≡◌, [], List, All, true, length, IfOk, MatchOption};
 ghost use Rattle.dd_clause.specs.Clauses.{IsClauseInRange};
 ghost use Rattle.dd_clause.specs.declared.clause.Literal.{Literal};
 ghost use Rattle.dd_engines.specs.SingleSteps.{IsSingleStep};
-ghost use Rattle.dd_engines.specs.propagation.Following.{is_false_by, Follows, Looked, Went, Passed};
+ghost use Rattle.dd_engines.specs.propagation.Following.{is_false_by, Follows, IsSettled, Looked, Went, Passed};
 
 use crate::analysis::{Entry, needed_hints};
 use crate::chains::Chains;
@@ -69,6 +70,52 @@ impl Trail {
         }
         Ok(finding)
     }
+
+    /// Gives the literal's variable a value, without an entry.
+    fn set(&mut self, literal: Literal) {
+        let place = (literal.variable as usize).saturating_sub(1);
+        if let Some(value) = self.values.get_mut(place) {
+            *value = Some(literal.positive);
+        }
+    }
+}
+
+/// Looks at each clause, from the last one back, and gives values without entries. Whether none is falsified.
+fn pass_back(trail: &mut Trail, clauses: &[Clause]) -> bool {
+    for number in (0..clauses.len()).rev() {
+        match find(trail, clauses[number].literals()) {
+            Finding::Falsified => return false,
+            Finding::Open => {}
+            Finding::Forced(literal) => trail.set(literal),
+        }
+    }
+    true
+}
+
+/// Whether the values leave each clause as it is.
+fn is_settled(trail: &Trail, clauses: &[Clause]) -> bool
+    ensures { result ≡ true → All (IsSettled trail.now.values.items) clauses.now }
+{
+    for clause in clauses {
+        match find(trail, clause.literals()) {
+            Finding::Falsified => return false,
+            Finding::Open => {}
+            Finding::Forced(_) => return false,
+        }
+    }
+    true
+}
+
+/// Whether two passes back find all that follows, and no conflict. Then no single step refutes the clauses.
+pub fn settles_soon(alloc: Global, cnf: &Cnf) -> Result<bool, AllocError>
+    ensures { IfOk result (λ settles. settles ≡ true → (step : _) → IsSingleStep cnf.now step → ⊥) }
+{
+    let mut trail = Trail::new(alloc, cnf.variables() as usize)?;
+    let clauses = cnf.clauses();
+    if !pass_back(&mut trail, clauses) || !pass_back(&mut trail, clauses) {
+        return Ok(false);
+    }
+    Ok(is_settled(&trail, clauses))
 }
 
 /// How far propagation came.
