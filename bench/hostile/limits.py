@@ -134,7 +134,7 @@ def limit_scripts() -> Iterator[Tuple[str, str]]:
     yield "contains: a YES", f"%limits 8 1 0 {zero} %rule y {far}=0 %contains y x"
     yield (
         "contains: an UNKNOWN after all 288 tori",
-        f"%limits 8 8 0 %rule x (o=1 -> o.rt=1) & {' & '.join(['(o=0 | o=1)'] * 1700)} %rule y o=o.rt %contains y x",
+        f"%limits 8 8 0 %rule x (o=1 -> o.rt=1) & {all_of('(o=0 | o=1)', 1700)} %rule y o=o.rt %contains y x",
     )
     yield "equal: a YES", f"%limits 8 1 0 {zero} %rule y {far}=0 & {all_of('o=0', 6800)} %equal x y"
     yield "empty: a YES", f"%limits 8 1 0 %rule x {far}=1 & {all_of('o=0', 6800)} %empty x"
@@ -158,7 +158,7 @@ def limit_scripts() -> Iterator[Tuple[str, str]]:
     yield "density: 4,096 states, all lengths", register("111000010001")
     sixteen = f"%dim 1 %alphabet {' '.join(SYMBOLS)}"
     either = f"({cell(3)}=a | !{cell(3)}=a)"
-    yield "density: 4,096 states, 65,536 windows, 20,000 parts", f"{sixteen} %rule r {' & '.join([either] * 4999)} %density r []"
+    yield "density: 4,096 states, 65,536 windows, 20,000 parts", f"{sixteen} %rule r {all_of(either, 4999)} %density r []"
     yield "density: 343 states, 117,649 windows", "%alphabet a b c d e f g %rule r o!=o.rt %density r [3]"
     grows = " & ".join(f"(o={old} -> {' | '.join(f'o.rt={new}' for new in SYMBOLS[at + 1 :]) or '!o@o'})" for at, old in enumerate(SYMBOLS))
     yield "density: EMPTY, 4,096 states", f"{sixteen} %rule r {either} & {grows} %density r []"
@@ -175,6 +175,9 @@ def limit_scripts() -> Iterator[Tuple[str, str]]:
     yield "auto: 998 of 16,278 parts", f"{automata} %rule r o=0 %empty r"
     inner = f"%auto f when {all_of('o=0', 9990)} give 1 else 0 %auto g when o=0 give 1 else 0 "
     yield "compose: 996 of 19,989 parts", inner + " ".join(f"%compose {word(number)} g f" for number in range(996)) + " %rule r o=0 %empty r"
+    both = "%limits 0 1 0 " + " ".join(f"%auto {name} when {all_of('o=0', 9000)} give 0 else 1" for name in "fg") + f" %rule x {all_of('o=0', 9000)} "
+    yield "maps: 995 of 18,000 parts, and a fault", both + "%maps f x x " * 995 + "%empty no"
+    yield "conjugate: 995 of 18,000 parts, and a fault", both + "%conjugate f g x x " * 995 + "%empty no"
 
 
 # ---- Scripts of the greatest length
@@ -303,19 +306,23 @@ class Form(NamedTuple):
     besides: int = 0
 
     def head(self, items: int, blanks: int) -> bytes:
-        """What stands before the body. The script's length has five digits."""
-        script = self.script + " " * (10000 - len(self.script) + blanks)
+        """What stands before the body. The script has so many blanks more than the least that are needed."""
+        script = self.script + " " * (self.least() - len(self.script) + blanks)
         before = self.before % (items + self.besides) if "%d" in self.before else self.before
         return f"diddy 1\nscript {len(script)}\n{script}\nquery 1 {before}".encode()
+
+    def least(self) -> int:
+        """The least length of the script: four times as long and longer, it has as many digits."""
+        return 200000 if len(self.script) > 1000 else 1000
 
     def write(self, path: pathlib.Path, size: int) -> None:
         """Writes an output of this length, or a little shorter where blanks in its script don't make up for the rest."""
         after = f"{self.after}end\n".encode()
         room = size - len(self.head(10**9, 0)) - len(after)
-        items = bisect_right(range(room), room, key=self.body.length) - 1
+        items = max(bisect_right(range(room), room, key=self.body.length) - 1, 1)
         rest = size - len(self.head(items, 0)) - self.body.length(items) - len(after)
         with open(path, "wb") as file:
-            file.write(self.head(items, rest if rest < 80000 else 0))
+            file.write(self.head(items, rest if rest < 4 * self.least() else 0))
             for block in self.body.blocks(items):
                 file.write(block)
             file.write(after)
@@ -360,7 +367,7 @@ def both(first: Body, then: str, second: Body) -> Body:
 
 # A box of 4,913 cells, each with the gate "all of" a hundred gates of two equal parts: 402 clauses for each cell behind two for its inputs.
 CELLS, GATES = 17**3, 100
-BOX = f"%dim 3 %limits 8 1 0 %rule x {' & '.join(['(o=0 & o=0)'] * GATES)} %rule y {cell(8)}=0 %contains y x"
+BOX = f"%dim 3 %limits 8 1 0 %rule x {all_of('(o=0 & o=0)', GATES)} %rule y {cell(8)}=0 %contains y x"
 PER_CELL, VARIABLES = 4 * GATES + 2, (GATES + 3) * CELLS
 
 
@@ -398,6 +405,9 @@ def refutations() -> Iterator[Form]:
     yield Form("YES: right steps, and one that deletes them", none, start, deleted, " 0\n" + end, 2)
     yield Form("YES: right steps of 506,039 literals", BOX, "YES 8\nrefutation %d\n", repeated(long_clause()), last_step(), 1)
     yield Form("YES: right steps of 501,025 hints", BOX, "YES 8\nrefutation %d\n", repeated(long_hints()), last_step(), 1)
+    wide, many = f"%dim 1 %limits 0 1 0 %rule x {all_of('o=0', PARTS - 2)} & o=1 %empty x", PARTS - 1
+    last = f"step 0 {many + 4} 3 {many + 2} 2 0 0\n"
+    yield Form("YES: right steps by a clause of 20,000 literals", wide, start, repeated(f"step 3 -1 -2 0 {many + 3} 0 0\n"), last, 1)
     yield Form("YES: empty steps", none, start, repeated("step 0 0 0\n"), "")
     yield Form("YES: one literal again and again", none, "YES 0\nrefutation 1\nstep", repeated(" 3"), " 0 6 0 0\n")
     yield Form("YES: one hint again and again", none, "YES 0\nrefutation 1\nstep 3 0", repeated(" 6"), " 0 0\n")
