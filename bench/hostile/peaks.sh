@@ -61,6 +61,10 @@ script '4,096 states, all lengths' "$(register 111000010001)"
 script '2,048 rows, 193 columns' "$(cat "$root/examples/free-line.diddy")"
 script '54,925 fillings' "$(cat "$root/bench/discharging/fillings.diddy")"
 script '65,535 patterns' "%rule r $(cell 0)=1$(for n in $(seq 15); do printf ' & %s=1' "$(cell "$n")"; done) %forbidden r"
+script '32,768 minimal patterns' "%rule r $(cell 0)=1$(for n in $(seq 15); do printf ' <-> %s=1' "$(cell "$n")"; done) %minimal r"
+zeros=$(printf 'o=0%.0s & ' $(seq 6600))
+script 'an image, 1,900,000 clauses' "%limits 8 1 0 %rule r ${zeros}o=0 %auto f when $(cell 8)=1 give 1 else 0 %maps f r r"
+script 'a torus of 471 cells' '%dim 1 %rule r o=1 %least r [471]'
 script 'the largest output of an example' "$(cat "$root/examples/perfect-codes.diddy")"
 given=/dev/null
 row "\`sample 16384\`" sample 16384

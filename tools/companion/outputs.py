@@ -17,8 +17,9 @@ MOST_NUMBER = 1 << 40
 MOST_CLAUSE = (1 << 64) - 1
 MOST_VARIABLE = 1 << 24
 
-STEP = re.compile(rb"step ((?:-?[1-9][0-9]* )*)0 ((?:[1-9][0-9]* )*)0 ((?:[1-9][0-9]* )*)0\n")
-NUMBERS = re.compile(rb"((?: (?:0|-?[1-9][0-9]*))*)\n")
+# No number of an output has more than twenty digits. Longer ones are left to the reading byte by byte, which stops where they are too large.
+STEP = re.compile(rb"step ((?:-?[1-9][0-9]{0,19} )*)0 ((?:[1-9][0-9]{0,19} )*)0 ((?:[1-9][0-9]{0,19} )*)0\n")
+NUMBERS = re.compile(rb"((?: (?:0|-?[1-9][0-9]{0,19}))*)\n")
 
 Item = TypeVar("Item")
 

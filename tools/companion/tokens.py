@@ -4,6 +4,9 @@ from typing import List, NamedTuple
 
 WORD, NUMBER, SIGN, BAD, END = "word", "number", "sign", "bad", "end"
 
+LONG = 50
+"""How much of a number is read. The numbers of scripts may be as long as scripts are."""
+
 BLANKS = re.compile(rb"(?:[ \t\n\r]+|--[\x00-\x09\x0b-\x7f]*)+")
 TOKEN = re.compile(rb"(?P<word>[a-z]+)|(?P<number>(?:0|-?[1-9][0-9]*)(?![0-9]))|(?P<sign><->|->|!=|[AE%()\[\].=!&|~@:])")
 
@@ -28,8 +31,8 @@ class Token(NamedTuple):
         return self.kind == NUMBER and self.text[0] != "-"
 
     def value(self) -> int:
-        """The number that the token spells."""
-        return int(self.text)
+        """The number that the token spells. If it is very long, another one of its sign that passes each limit as well."""
+        return int(self.text[:LONG])
 
     def shown(self) -> str:
         """How a message names the token."""

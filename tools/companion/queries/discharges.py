@@ -26,11 +26,12 @@ class BestBound(Query):
 
     def names(self) -> Iterator[Fault]:
         yield from super().names()
-        seen = []
+        seen = set()
         for vector in self.body.arguments[3]:
-            if vector.values() in seen:
+            written = tuple(entry.text for entry in vector.entries)
+            if written in seen:
                 yield twice(vector.bracket, "a vector is given twice", "vector")
-            seen.append(vector.values())
+            seen.add(written)
 
     def shapes(self) -> Iterator[Fault]:
         for vector in self.body.arguments[3]:

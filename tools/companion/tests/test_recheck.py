@@ -89,6 +89,13 @@ class NoOutputs(unittest.TestCase):
             wrong = output.replace(old, new)
             self.assertEqual(checked(wrong)[1], f"refused at {wrong.rindex(new) + len(right)}\n", new)
 
+    def test_long_numbers(self) -> None:
+        """Numbers of many digits end where they are too large."""
+        for lines, front in ((("query 1 YES 0", "refutation 1", "step 0 1" + "1" * 100000 + " 0 0"), "step 0 " + "1" * 20),
+                             (("query 1 NO 1", "conf 0 1" + "1" * 100000), "conf 0 " + "1" * 12)):
+            output = whole(DIES, *lines)
+            self.assertEqual(checked(output)[1], f"refused at {output.index(front.encode()) + len(front)}\n")
+
     def test_no_script(self) -> None:
         """An output whose script is refused."""
         self.assertEqual(checked(whole("%rule a o=2\n"))[:2], (2, "refused script 1 unknown 2\n"))

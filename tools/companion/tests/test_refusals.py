@@ -60,6 +60,14 @@ class Refusals(unittest.TestCase):
         self.assertEqual(refusal("%rule a o=0 %rule a b=1")[0], "refused 2 unknown b")
         self.assertEqual(refusal("%rule a Ep[o4] p.up.up.up.up.up.up.up.up.up.up.up.up.up.up.up.up.up=1")[0], "refused 1 size moves")
 
+    def test_long_numbers(self) -> None:
+        """Numbers of many digits, as long as a script may be."""
+        long = "1" * 100000
+        for script, wanted in ((f"%dim {long}", "1 dimension"), (f"%weights 0 {long}", "1 size number"), (f"%rule a o={long}", f"1 unknown {long}"),
+                               (f"%rule a o=0 %discharge a 0 0 [{long} 1] [{long}2 1]", "2 size number"),
+                               (f"%rule a o=0 %discharge a 0 0 [{long} 1] [{long} 1]", "2 twice vector")):
+            self.assertEqual(refusal(script)[0], f"refused {wanted}")
+
     def test_bytes(self) -> None:
         """Bytes that begin no token."""
         self.assertEqual(refusal("%rule a o=0 -- \xe9")[:3], ("refused 1 syntax", 1, 16))
