@@ -223,7 +223,7 @@ def long_scripts() -> Iterator[Tuple[str, Sized]]:
     yield "bytes that begin no token", filled("", "\xff")
     yield "signs that open commands", filled("", "%")
     yield "dim: a long number", filled("%dim 1", "1")
-    yield "nodes: many names", listed("%nodes", lambda number: " " + word(number))
+    yield "nodes: many names", listed("%dim 1 %nodes", lambda number: " " + word(number), " %topology (a aaaaa [0] aaaab)")
     yield "alphabet: many names", listed("%alphabet", lambda number: " " + word(number))
     yield "alphabet: many numbers", listed("%alphabet", lambda number: f" {number}")
     yield "alphabet: one long name", filled("%alphabet a", "a")
