@@ -3,7 +3,7 @@ use Rattle.std.proofs.Common.{◌≡◌, ℕ, zero, suc, ◌+◌, ◌*◌, ◌/�
 use Rattle.std.proofs.{Math.Nat.pow-suc, lemmas.Fmt.decimal_digit, lemmas.Fmt.decimal_step}
 use Rattle.std.specs.Fmt.{decimal}
 
--- a digit more at the front
+-- one more digit is written in front
 pub digit_more : (n rest at : ℕ) (digits : List ℕ) → 10 ≤ rest → rest < 2 ^ 64 → at < length digits → get_or digits at 0 ≡ 48 + rest % 10
     → decimal n ≡ decimal rest ++ drop (at + 1) digits → decimal n ≡ decimal (rest / 10) ++ drop at digits
 digit_more n rest at digits many fits within last whole =
@@ -17,7 +17,7 @@ digit_first n rest at digits few within last whole =
     let one : rest % 10 ≡ rest = omega arith in
     rw (whole, decimal_digit rest few, drop-cons digits at 0 within, add-one at, last, one) refl
 
--- room for the next digit
+-- there is room for one more digit
 pub room_more : (rest at : ℕ) → 10 ≤ rest → rest < 10 ^ (at + 1) → (0 < at) × (rest / 10 < 10 ^ at)
 room_more rest zero many small = absurd (omega (arith, small))
 room_more rest (suc at) many small =

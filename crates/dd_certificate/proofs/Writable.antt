@@ -1,4 +1,4 @@
--- Steps that refute a list of clauses fit in an output: their variables are the list's, and each clause that they use
+-- Steps that refute a list of clauses fit in an output: their variables occur in the list, and each clause that they use
 -- or delete comes before them.
 use Rattle.std.proofs.Common.{◌≡◌, ℕ, zero, suc, ◌+◌, ◌<◌, ◌≤◌, Bool, true, false, not, ◌&&◌, ◌||◌, List, [], ◌∷◌, ◌++◌, length, map, Option, None, Some, is_some, slice_get, All, refl, sym, subst, ◌∙◌, ◌⊎◌, inl, inr, arith, nat_le, length-append}
 use Rattle.std.proofs.lemmas.Bool.{false≢true, leb-true, and_parts, or_cases}
@@ -28,13 +28,13 @@ alive known h (Some c) few is some = numbered known h c few is
 
 -- ---- hints
 
--- a hint that is followed has a clause
+-- a hint that is used is the number of a clause
 hinted : (says : List Literal → Finding) (o : Option (List Literal)) (is_last : Bool) (next : Literal → Bool) →
     follow (option_map_or says o Open) is_last next ≡ true → is_some o ≡ true
 hinted says None is_last next goes_on = absurd (false≢true goes_on)
 hinted says (Some c) is_last next goes_on = refl
 
--- it is the last one, or the hints after it are followed
+-- a used hint is the last one, or it forces a literal and the next hints are used
 followed : (says : Finding) (hints : List ℕ) (next : Literal → Bool) → follow says (is_empty hints) next ≡ true →
     (hints ≡ []) ⊎ ((l : Literal) × (next l ≡ true))
 followed Falsified [] next goes_on = inl refl
@@ -93,7 +93,7 @@ step_fits n known s small few right =
     let rest = and_parts (is_conflict known s.clause s.hints) (are_deletable known s.deletes) parts.1 in
     (clause_fits n s.clause small parts.0, hints_fit known s.clause s.hints few rest.0, deletes_fit known s.deletes few rest.1)
 
--- a step more is known
+-- each step adds one number
 one_more : (known : List (Option (List Literal))) (s : Step) → length (known_after known s.deletes ++ Some s.clause ∷ []) ≡ length known + 1
 one_more known s = length-append (known_after known s.deletes) (Some s.clause ∷ []) ∙ (let same = many_after known s.deletes in omega (arith, same))
 
@@ -120,7 +120,7 @@ some_steps : (n : ℕ) (known : List (Option (List Literal))) (steps : List Step
 some_steps n known [] refuting = absurd (false≢true refuting)
 some_steps n known (s ∷ steps) refuting = omega arith
 
--- an output that can hold the greatest variable and the number of the last step can hold the steps
+-- the steps fit if the variables and the numbers of the clauses do
 pub refuting_writable : (n : ℕ) (clauses : List (List Literal)) (steps : List Step) → refutes n clauses steps ≡ true → n ≤ most_variables →
     length clauses + length steps ≤ most_count → IsWritableRefutation steps
 refuting_writable n clauses steps refuting small few =

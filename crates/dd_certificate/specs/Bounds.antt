@@ -7,7 +7,7 @@ use Rattle.dd_derivation.specs.declared.step.Step.{Step}
 use Rattle.dd_certificate.specs.declared.answer.{Listed.Listed, Starred.Starred, Answer.Answer}
 use Rattle.dd_certificate.specs.declared.answer.Answer.TheVariants as answer
 
--- the greatest number of a clause, and the greatest number of steps
+-- the greatest number that a clause can have, and the most steps that an output can hold
 abbrev pub most_count : ℕ
 most_count = 2 ^ 64 - 1
 
@@ -45,7 +45,7 @@ IsWritableStarred p = IsWritableNumber p.node × All IsWritableKept p.symbols
 abbrev pub IsWritableList : List ℕ → Type 0
 IsWritableList ns = (1 ≤ length ns) × All IsWritableNumber ns
 
--- a single period has no shear
+-- the shear is 0 if there is a single period
 abbrev pub HasShear : List ℕ → ℕ → Type 0
 HasShear periods shear = (shear ≡ 0) ⊎ (2 ≤ length periods)
 

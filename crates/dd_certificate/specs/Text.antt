@@ -40,14 +40,14 @@ fraction_to_end numerator denominator = decimal numerator ++ (codes "/" ++ (deci
 abbrev pub literal_text : Literal → List ℕ
 literal_text l = if l.positive then decimal l.variable else (codes "-" ++ decimal l.variable)
 
--- a word and the space after it
+-- a literal and the space after it
 abbrev pub spaced_literal : Literal → List ℕ
 spaced_literal l = literal_text l ++ codes " "
 
 abbrev pub spaced : ℕ → List ℕ
 spaced n = decimal n ++ codes " "
 
--- lists that end with a 0, and the byte that follows the 0
+-- numbers, the 0 that ends them, and the byte `next`
 abbrev pub numbers_to_zero : ℕ → List ℕ → List ℕ
 numbers_to_zero next ns = flat_map spaced ns ++ (codes "0" ++ next ∷ [])
 
@@ -150,7 +150,7 @@ amounts_and_duals_text amounts duals = numbers_line (codes "amounts") amounts ++
 abbrev pub bound_lines : ℕ → List ℕ → List ℕ → List ℕ
 bound_lines common amounts duals = number_line (codes "denominator ") common ++ amounts_and_duals_text amounts duals
 
--- no weight is less than 0
+-- the configuration, and a refutation of all smaller weights; for 0 there are none
 abbrev pub least_lines : ℕ → List ℕ → List Step → List ℕ
 least_lines weight symbols steps = numbers_line (codes "conf") symbols ++ (if weight == 0 then [] else refutation_text steps)
 

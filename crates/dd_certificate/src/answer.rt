@@ -2,10 +2,10 @@
 use dd_derivation::Step;
 use dd_values::Items;
 
-/// Which of two rules the configuration of a NO obeys while it breaks the other.
+/// Which of the two rules of an equality the configuration of a NO obeys. It breaks the other one.
 #[derive(Clone, Copy, Debug, PartialEq, Eq)]
 pub enum Side {
-    /// The query asks one thing only.
+    /// The query is not about an equality.
     Whole,
     /// The configuration obeys the first rule only.
     Left,
@@ -18,9 +18,9 @@ pub enum Side {
 pub enum Reason {
     /// The search ended at the limits of the script.
     Limits,
-    /// A structure that the answer needs is too large.
+    /// The linear program, or its list of fillings, is too large.
     Large,
-    /// A fraction does not fit in its integers.
+    /// A number is too large for its integer type.
     Overflow,
     /// The pivots of the script are used up.
     Pivots,
@@ -35,20 +35,20 @@ pub struct Listed {
     pub symbols: Items<u64>,
 }
 
-/// A pattern that a rule forbids at a node, from which cells may be left out.
+/// A forbidden pattern at a node, in which some cells may be left open.
 #[derive(Debug, Drop)]
 pub struct Starred {
     /// The node's number, from 0.
     pub node: u64,
     /// The numbers of the symbols, from 0, in the order of the cells that the rule reads at the node, and `None` for a cell that
-    /// is left out.
+    /// is left open.
     pub symbols: Items<Option<u64>>,
 }
 
 /// The answer to a query. Nodes and symbols are given by their numbers, from 0.
 #[derive(Debug, Drop)]
 pub enum Answer {
-    /// The configuration lives in the subshift.
+    /// The configuration is in the subshift.
     Inside,
     /// The rule is false at a cell: its coordinates, and then its node.
     Outside {
@@ -66,9 +66,9 @@ pub enum Answer {
         left_steps: Items<Step>,
         right_steps: Items<Step>,
     },
-    /// The claim does not hold: a configuration with these periods and this shear, as the symbols of one of its boxes
-    /// in the order of the cells. The shear moves along the first axis, once for each period along the second. It is
-    /// 0 if there is only one period.
+    /// The claim does not hold. A configuration with these periods and this shear shows it; `symbols` is one of its boxes, in
+    /// the order of the cells. Each period along the second axis moves it along the first by the shear, which is 0 if there is
+    /// only one period.
     No {
         side: Side,
         periods: Items<u64>,
@@ -79,24 +79,25 @@ pub enum Answer {
     Unknown {
         reason: Reason,
     },
-    /// The patterns that are asked for.
+    /// The patterns that the rule forbids.
     List {
         patterns: Items<Listed>,
     },
-    /// The least mean weight of a position of the strip over the configurations that live in the subshift and have the
-    /// strip's periods, as a fraction, with a cycle of states that has this mean and potentials that no edge undercuts.
+    /// The least mean weight of a position of the strip, as a fraction, over the configurations of the subshift that have the
+    /// strip's periods. The cycle of states has this mean. The potentials show that no cycle has a smaller one.
     Density {
         numerator: u64,
         denominator: u64,
         cycle: Items<u64>,
         potentials: Items<i64>,
     },
-    /// No configuration with the strip's periods lives in the subshift: each edge leads to a smaller rank.
+    /// No configuration of the subshift has the strip's periods. The states have ranks that fall along each edge, so no walk
+    /// goes on forever.
     Empty {
         ranks: Items<u64>,
     },
-    /// A lower bound of the mean weight: the amounts that cells send, and the weights of the patterns' rows that show that
-    /// no amounts give more. Amounts and weights are numerators over the common denominator.
+    /// A lower bound of the mean weight. `amounts` is what cells send. `duals` has one weight for each pattern's row of the
+    /// linear program, and shows that no amounts give a greater bound. Both are numerators over `common`.
     Bound {
         numerator: u64,
         denominator: u64,
@@ -104,7 +105,7 @@ pub enum Answer {
         amounts: Items<u64>,
         duals: Items<u64>,
     },
-    /// The patterns that are asked for, each with no cell that can be left out.
+    /// The minimal forbidden patterns. None of their cells can be left out.
     Minimal {
         patterns: Items<Starred>,
     },
@@ -113,21 +114,22 @@ pub enum Answer {
         radii: Items<u64>,
         steps: Items<Items<Step>>,
     },
-    /// One of the four questions, by its number from 1, does not hold, as a configuration with these periods and this
-    /// shear shows, as in a NO.
+    /// The question with the number `part`, from 1, does not hold. The configuration with these periods and this shear shows
+    /// it, as in a NO.
     Broken {
         part: u64,
         periods: Items<u64>,
         shear: u64,
         symbols: Items<u64>,
     },
-    /// The least weight, a configuration that has it, and steps that refute each smaller one. There are none if it is 0.
+    /// The least weight, a configuration that has it, and steps that refute each smaller one. If the weight is 0, there are no
+    /// steps.
     Least {
         weight: u64,
         symbols: Items<u64>,
         steps: Items<Step>,
     },
-    /// No configuration with the periods lives in the subshift, by steps that refute that there is one.
+    /// No configuration with the periods is in the subshift. The steps refute that there is one.
     Nothing {
         steps: Items<Step>,
     },

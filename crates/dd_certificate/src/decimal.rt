@@ -1,4 +1,4 @@
-//! Numbers in decimal, appended to a text without memory of their own.
+//! Numbers in decimal, appended to a text without an allocation of their own.
 ghost use Rattle.std.specs.Prelude.{◌≡◌, ◌++◌, OnOk};
 ghost use Rattle.std.specs.Fmt.{decimal, signed_decimal};
 

@@ -1,4 +1,4 @@
-//! A refutation is by far the longest part of an output, so the words of each step are appended directly to the one text.
+//! A refutation is by far the longest part of an output, so each step is appended to the output without a text of its own.
 ghost use Rattle.std.specs.Prelude.{◌≡◌, ◌++◌, OnOk};
 ghost use Rattle.std.specs.List.{flat_map};
 ghost use Rattle.dd_certificate.specs.Text.{literal_text, literals_to_zero, numbers_to_zero, refutation_text, step_text};

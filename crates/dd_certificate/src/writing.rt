@@ -132,7 +132,7 @@ fn push_yes_both(text: &mut Vec<u8>, left: u64, right: u64) -> Result<(), AllocE
     Ok(())
 }
 
-/// Appends a shear of at least 1.
+/// Appends a shear, or nothing if it is 0.
 fn push_shear(text: &mut Vec<u8>, shear: u64) -> Result<(), AllocError>
     ensures { OnOk result (text.new.items ≡ text.old.items ++ shear_text shear) }
 {
@@ -317,7 +317,7 @@ fn push_each_refutation(text: &mut Vec<u8>, lists: &[Items<Step>]) -> Result<(),
     Ok(())
 }
 
-/// A weight of 0 has no refutation.
+/// Appends the line of the configuration and, if the weight is not 0, the refutation.
 fn push_least_lines(
     text: &mut Vec<u8>,
     weight: u64,

@@ -1,4 +1,4 @@
-//! The program: its words, standard input and output, its engines, and its status.
+//! The program: its arguments, standard input and output, its engines, and its status.
 #![tactic(auto)]
 
 use dd_engines::{Engine, Propagator, Roster, Walker};
@@ -8,13 +8,13 @@ use std::alloc::AllocError;
 use std::process::ExitCode;
 use std::{env, io};
 
-/// The exit code if the system doesn't give the words: the number after those of `Status`.
+/// The exit code if the arguments can't be read. `Status` uses 0 to 7.
 const NO_WORDS: u8 = 8;
 
-/// How many flips an engine makes for each list of clauses.
+/// The most variables that the walking engine flips each time it is asked.
 const FLIPS: u32 = 10_000;
 
-/// Why the words of the command line are not available.
+/// Why the arguments could not be read.
 enum WordsFault {
     Memory,
     Other,
@@ -30,7 +30,7 @@ impl From<io::Error> for WordsFault {
     }
 }
 
-// The words after the program's name.
+// The arguments after the program's name.
 fn words_of(rt: &HostRuntime) -> Result<Vec<String>, WordsFault> {
     let mut words = Vec::new(rt.alloc());
     for word in env::args(rt)?.skip(1) {
@@ -41,7 +41,7 @@ fn words_of(rt: &HostRuntime) -> Result<Vec<String>, WordsFault> {
     Ok(words)
 }
 
-// Runs the session of these words. The roster has the engine that propagates, and then the one that walks.
+// Runs the session that the arguments ask for. Its roster asks the propagator first, then the walker.
 fn run(rt: &HostRuntime, words: &[String]) -> Result<Status, AllocError> {
     let alloc = rt.alloc();
     let mut engines: Vec<Box<dyn Engine>> = Vec::new(alloc);
@@ -59,7 +59,7 @@ fn main(rt: HostRuntime) -> ExitCode {
         Ok(words) => words,
         Err(WordsFault::Memory) => return ExitCode::from(Status::Memory as u8),
         Err(WordsFault::Other) => {
-            let _ = eprintln!(rt; "no words");
+            let _ = eprintln!(rt; "cannot read the command-line arguments");
             return ExitCode::from(NO_WORDS);
         }
     };

@@ -1,4 +1,4 @@
--- What the queries of a script ask is well formed, as their rules, automata and configurations are the script's.
+-- What a query asks is well formed, since its rules, automata and configurations belong to the script.
 use Rattle.std.proofs.Common.{◌≡◌, ◌<◌, ◌%◌, List, [], get_or, ap, sym, subst, ◌∙◌, Some, None, Option, IfSome, arith}
 use Rattle.std.specs.{List.All, Prelude.unwrap_or, Option.option_and_then}
 use Rattle.std.proofs.lemmas.{List.Elements.All-contains}
@@ -23,7 +23,7 @@ module _ (k : Known) (x : LocalRule) (t : Tile) (rule : IsRuleOf k.setting x) (k
     symbols = subst (λ n. All (λ symbol. symbol < n) t.symbols) (sym rule.symbols) kept.symbols;
   }
 
-  -- the nodes vary fastest
+  -- the symbol at place i of a configuration is at the node i % nodes, which allows it
   member_allowed : HasAllowed x t
   member_allowed = allowed_from_box x t kept.tile
       (λ i within. ap (λ rows. row_allows rows (i % t.nodes) (get_or t.symbols i 0)) rule.allowed ∙ kept.allowed i within)

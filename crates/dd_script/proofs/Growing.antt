@@ -47,7 +47,7 @@ module _ (s : Parts) (is : IsScriptOf s) {R A C : List (List ℕ)} {rs : List Lo
   same_pairs : (old : List Query) → All (IsQueryOf s) old → map (pairs_for grown) old ≡ map (pairs_for s) old
   same_pairs old of = map_alike {P = IsQueryOf s} (pairs_for grown) (pairs_for s) (λ q is. ap (map (pair_of s.known.setting)) (same_query q is.within).2) old of
 
-  -- with more definitions, and with queries that could be asked before
+  -- a script stays sound with more definitions, if its queries could be asked before them
   pub more : All (IsQueryOf s) qs → ps ≡ map (pairs_for s) qs → IsScriptOf grown
   more old pairs = record {
     known = grind arith;

@@ -19,11 +19,11 @@ IsFresh s = (s.rules ≡ []) × (s.automata ≡ []) × (s.configurations ≡ [])
 abbrev pub IsReady : ℕ → Parts → Type 0
 IsReady place s = place ≤ 6 → IsFresh s
 
--- the numbers up to 1,000 are small enough as weights
+-- the default weights 0, 1, .. are at most 1,000
 light_range : (n : ℕ) → n ≤ 1001 → All (λ w. w ≤ 1000) (range_with_len 0 n)
 light_range n le = λ i d lt. omega (arith, le, length-range_with_len 0 n, get_or-range_with_len 0 n i d)
 
--- if neither of two is there, the second isn't
+-- if the first of two options that is there is None, the second is None
 second_none : {X Y : Type 0} (o : Option Y) (f : X → Y) (p : Option X) → option_or o (option_map f p) ≡ None → p ≡ None
 second_none o f p e = grind arith
 
@@ -40,7 +40,7 @@ module _ (d : Draft) (is : IsScriptOf (parts_of d)) where
   pub ready_behind : (c : Command) → IsReady (stage (head_of c)) s → IsReady (next_stage (head_of c)) (behind c)
   ready_behind c ready = grind arith
 
-  -- after the header, more is defined or asked; in the header nothing is defined, and all that is known may change but the names
+  -- a header command may change all that is known but the names; a later one only adds definitions and queries
   pub kept_behind : (c : Command) → IsReady (stage (head_of c)) s → IsSoundMeaning d.context (meaning d.context d.made.automata c) → asked_fault s (meaning d.context d.made.automata c) ≡ None
       → ArePairs d.context.known (parts_in s (meaning d.context d.made.automata c)) (pairs_in s (meaning d.context d.made.automata c)) → HasSets (behind c).known → IsScriptOf (behind c)
   kept_behind (Command.Rule name f) ready sound light pairs has =

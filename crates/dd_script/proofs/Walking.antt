@@ -39,7 +39,7 @@ module _ (d : Draft) (w : Written) (m : Meaning) (none : first_fault (written_fa
 abbrev rest_of : Draft → List Written → Option Located × Parts
 rest_of d ws = (first_from d.context.text d.context.has_topology d.context.number (parts_of d) ws, after_all d.context.text d.context.has_topology d.context.number (parts_of d) ws)
 
--- i commands of the text are read; the first fault of the rest is that of all, and the rest leads to the whole script
+-- i commands are read, without a fault; so the rest has the first fault of the whole text, and leads to the whole script
 pub record Sofar (text : List ℕ) (ws : List Written) (i : ℕ) (d : Draft) : Type 0 where
   pub from : ℕ
   pub left : List (List Lexeme)
@@ -57,7 +57,7 @@ begins text ws d written begun kept =
     subst (Sofar text ws 0) (sym begun)
     (record { from = 0; left = (parts (lexemes_of text)).1; are = written.1.1; fresh = λ header. (refl, refl, refl, refl); script = kept; same_text = refl; leads = refl })
 
--- the command has this stage or a later one, and the others have at least its next stage
+-- the command's stage is at least `from`; the later commands start from the stage after it
 next_one : (text : List ℕ) (from : ℕ) (ps : List (List Lexeme)) (w : Written) (ws : List Written) → AreCommands text from ps (w ∷ ws)
     → (from ≤ stage_of w) × (left : List (List Lexeme)) × AreCommands text (stage_after w) left ws
 next_one text from [] w ws are = absurd are
@@ -70,7 +70,7 @@ module _ (text : List ℕ) (ws : List Written) (i : ℕ) (d : Draft) (w : Writte
   here : (sofar.from ≤ stage_of w) × (left : List (List Lexeme)) × AreCommands text (stage_after w) left (drop (i + 1) ws)
   here = next_one text sofar.from sofar.left w (drop (i + 1) ws) (rw split at sofar.are)
 
-  -- the same, if this is the command's first fault
+  -- `rest_of`, if this is the first fault of the command at i
   abbrev rest_with : Option Fault → Option Located × Parts
   rest_with found =
       let rest = rest_of (with_meaning d (meant d w)) (drop (i + 1) ws) in (option_or (option_map (located d.context.number) found) rest.0, rest.1)

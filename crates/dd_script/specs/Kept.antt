@@ -7,7 +7,7 @@ use Rattle.dd_pairs.specs.Made.{ArePairs}
 use Rattle.dd_script.specs.Parts.{Parts, Query}
 pub use Rattle.dd_script.specs.Questions.{query_excess, parts_for, pairs_for}
 
--- it names what exists, its numbers and vectors are within their bounds, and neither its pairs nor what it asks exceed a limit
+-- it names what exists, its numbers and vectors are within their bounds, and neither its pairs nor its question exceeds a limit
 pub record IsQueryOf (s : Parts) (q : Query) : Type 0 where
   pub within : IsQueryWithin s.known q
   pub pairs : ArePairs s.known (parts_for s q) (pairs_for s q)

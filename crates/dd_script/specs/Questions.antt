@@ -12,7 +12,7 @@ use Rattle.dd_script.specs.Parts.{Parts, LocalRule, Automaton, Query, Pair, Sett
 abbrev pub map_question : Setting → LocalRule → LocalRule → Automaton → Asked
 map_question s x y f = question.box x (goal_of s (image x f y))
 
--- whether two automata map the rules' configurations to each other, and are inverse
+-- whether two automata map the rules' configurations to each other, and are inverse to each other
 abbrev pub conjugacy_question : Setting → LocalRule → LocalRule → Automaton → Automaton → Asked
 conjugacy_question s x y f g =
     question.conjugacy (conjugacy_by x y (pair_of s (image x f y)) (pair_of s (image y g x)) (pair_of s (change x g f)) (pair_of s (change y f g)))
@@ -34,11 +34,11 @@ asked s (Query.Density rule strip) = option_map (λ x. question.density x strip 
 asked s (Query.Least rule periods) = option_map (λ x. question.least x periods s.known.weights) (slice_get s.rules rule)
 asked s (Query.Discharge rule radius margin vectors) = option_map (λ x. question.discharge x radius margin vectors s.known.weights) (slice_get s.rules rule)
 
--- the limit that the question exceeds, searched as far as the script says
+-- the limit that the query's question exceeds, if it is searched up to the script's limits
 abbrev pub query_excess : Parts → Query → Option Excess
 query_excess s q = option_and_then (excess_of s.known.limits) (asked s q)
 
--- the questions that it consists of, and the pairs that they ask about
+-- the box questions of a query, each with the pair of automata that it compares
 abbrev pub parts_for : Parts → Query → List PartOf
 parts_for s q = parts_asked s.rules s.automata q
 

@@ -44,7 +44,7 @@ RefusedAs bytes n (twice text) = HasFault bytes n (twice text)
 RefusedAs bytes n dimension = HasFault bytes n dimension
 RefusedAs bytes n (size l) = HasFault bytes n (size l)
 
--- refused so, or memory ran out
+-- refused so; or memory ran out, and then only the number 0 is promised
 abbrev pub IsRefusedAs : List ℕ → ℕ → ScriptKind → Type 0
 IsRefusedAs bytes n ScriptKind.Syntax = RefusedAs bytes n syntax
 IsRefusedAs bytes n (ScriptKind.Unknown text) = RefusedAs bytes n (unknown (string_bytes text))

@@ -58,14 +58,14 @@ query_in (Meaning.Automaton name automaton) = None
 query_in (Meaning.Configuration name configuration) = None
 query_in (Meaning.Query query) = Some query
 
--- the first limit that the query's pairs or the questions about them exceed, otherwise the limit that what is asked exceeds
+-- the first limit that the query's pairs or the questions about them exceed; otherwise the limit that the query's question exceeds
 abbrev pub query_fault : Parts → Query → Option Fault
 query_fault s q = option_or (earliest (parts_faults s.known (parts_for s q))) (option_map (λ e. Fault.Size (limit_of e)) (query_excess s q))
 
 abbrev pub asked_fault : Parts → Meaning → Option Fault
 asked_fault s m = option_and_then (query_fault s) (query_in m)
 
--- the questions that it consists of, and the pairs that they ask about
+-- the box questions of a query, each with the pair of automata that it compares
 abbrev pub parts_in : Parts → Meaning → List PartOf
 parts_in s m = unwrap_or (option_map (parts_for s) (query_in m)) []
 
@@ -75,8 +75,8 @@ pairs_in s m = map (pair_of s.known.setting) (parts_in s m)
 abbrev pub meaning_at : List ℕ → Bool → ℕ → Parts → Written → Meaning
 meaning_at bytes topology n s w = meaning_of (context bytes topology n s) s.automata w.command
 
--- The first fault of the text; if there is none, the first limit on counts that is exceeded; if there is none, the limit that
--- what is asked exceeds.
+-- The first fault of the command's text; otherwise the first limit on counts that is exceeded; otherwise the limit that the
+-- query's question exceeds.
 abbrev pub fault_of : List ℕ → Bool → ℕ → Parts → Written → Option Fault
 fault_of bytes topology n s w =
     option_or (first_fault (written_faults (context bytes topology n s) w))
@@ -103,7 +103,7 @@ abbrev pub after_all : List ℕ → Bool → ℕ → Parts → List Written → 
 after_all bytes topology n s [] = s
 after_all bytes topology n s (w ∷ ws) = after_all bytes topology (n + 1) (next bytes topology n s w) ws
 
--- whether it is a topology command, by its stage
+-- whether its stage is that of a topology command
 abbrev pub is_topology : Written → Bool
 is_topology w = stage_of w == stage Head.Topology
 

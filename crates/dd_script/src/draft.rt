@@ -30,7 +30,7 @@ pub(crate) struct Draft {
     pub(crate) made: Made,
 }
 
-/// Adds a name that is not in the list. More names than any script contains count as a lack of memory.
+/// Adds a name that is not in the list. A list longer than any script's is reported as out of memory.
 fn add_name(alloc: Global, text: &Text, names: &mut Names, name: Word) -> Result<(), AllocError>
     requires { ¬ Contains names.old (word_text text.now name) }
     ensures { OnOk result (names.new ≡ names.old ++ word_text text.now name ∷ []) }
@@ -65,7 +65,7 @@ impl Draft {
         })
     }
 
-    /// The pairs that a query asks about. It is refused if these, or what it asks, exceed a limit.
+    /// The pairs that a query asks about. The query is refused if one of its pairs or its question exceeds a limit.
     fn weigh(&self, alloc: Global, meaning: &Meaning) -> Result<Items<Pair>, Refusal>
         requires script { IsScriptOf (parts_of self.now) }
         requires sound { IsSoundMeaning self.now.context meaning.now }
@@ -91,7 +91,7 @@ impl Draft {
         }
     }
 
-    /// What the next command means, with the pairs that it asks about; otherwise it is refused for its first fault.
+    /// The meaning of the next command, and the pairs that it asks about. If it has a fault, its first fault.
     pub(crate) fn meaning_of(
         &self,
         alloc: Global,

@@ -14,25 +14,26 @@ pub enum ScriptKind {
     /// It is not well formed.
     #[error("not well formed")]
     Syntax,
-    /// This name refers to nothing.
-    #[error("{0} stands for nothing")]
+    /// This name is unknown.
+    #[error("unknown name {0}")]
     Unknown(String),
-    /// This name is given twice; `vector` for a vector.
+    /// This name is given twice. It is `vector` if a vector is.
     #[error("{0} is given twice")]
     Twice(String),
-    /// Numbers of entries disagree.
-    #[error("numbers of entries do not agree")]
+    /// A dimension or a number of entries is wrong.
+    #[error("wrong dimension or number of entries")]
     Dimension,
     /// This limit is exceeded.
-    #[error("a limit is passed")]
+    #[error("a limit is exceeded")]
     Size(Limit),
     /// Memory ran out. The command's number is then 0.
     #[error("out of memory")]
     Memory,
 }
 
-/// Why a text is not a script: the first command that is not well formed, otherwise the first command with a fault, and its
-/// first fault. Commands are numbered from 1; 0 stands for what comes before the first.
+/// Why a text is not a script. `command` is the first command that is not well formed. If all are, it is the first one with a
+/// fault, and `kind` is that command's first fault. Commands are numbered from 1; 0 stands for what comes before the first, and
+/// for no command if memory ran out.
 #[derive(Debug, Drop, Error)]
 #[error("command {command}: {kind}")]
 pub struct ScriptFault {

@@ -31,7 +31,7 @@ fn has_topology(commands: &[Written]) -> bool
     commands.iter().any(|written| is_topology(written))
 }
 
-/// Why the command with this number is refused, if it has this fault.
+/// The refusal of the command with this number for this fault.
 fn told(alloc: Global, text: &Text, command: u32, fault: Fault) -> Result<ScriptFault, AllocError>
     requires { HasFault text.now command (kind_of text.now fault) }
     ensures { IfOk result (IsScriptRefusal text.now) }
@@ -48,7 +48,7 @@ fn told(alloc: Global, text: &Text, command: u32, fault: Fault) -> Result<Script
     Ok(ScriptFault { command, kind })
 }
 
-/// Reads all commands of a text. Otherwise gives the first command with a fault, and its first fault.
+/// Reads all commands of a text. If one has a fault, the error is the first such command, with its first fault.
 fn walk(alloc: Global, draft: &mut Draft, commands: &[Written]) -> Result<(), ScriptFault>
     requires begun { draft.old ≡ draft_of draft.old.context.text (has_topology commands.now) 1 start }
     requires kept { IsScriptOf start }
@@ -75,7 +75,7 @@ fn walk(alloc: Global, draft: &mut Draft, commands: &[Written]) -> Result<(), Sc
     Ok(())
 }
 
-/// The script that the commands of a text spell. Otherwise the first command with a fault, and its first fault.
+/// The script that the commands of a text spell. If one has a fault, the error is the first such command, with its first fault.
 fn script_of(alloc: Global, text: Text, commands: &[Written]) -> Result<Script, ScriptFault>
     requires written { IsScript text (record { text = text; commands = commands.now }) }
     requires each { All (IsWritten text) commands.now }
@@ -86,7 +86,7 @@ fn script_of(alloc: Global, text: Text, commands: &[Written]) -> Result<Script, 
     match walk(alloc, &mut draft, commands) {
         Ok(()) => Ok(draft.into_script(alloc)?),
         Err(fault) => {
-            // Explicit, since the proof is much longer without it.
+            // Without this explicit drop the proof is much longer.
             drop(draft);
             Err(fault)
         }
@@ -96,8 +96,8 @@ fn script_of(alloc: Global, text: Text, commands: &[Written]) -> Result<Script, 
 /// The script that the bytes spell, or why they spell none.
 ///
 /// # Errors
-/// The first command that is not well formed; otherwise the first command with a fault, and its first fault: a name that refers
-/// to nothing, a repetition, numbers of entries that disagree, or a limit exceeded, in this order. Or memory ran out.
+/// The first command that is not well formed; otherwise the first command with a fault, and its first fault: an unknown name, a
+/// repetition, a wrong dimension or number of entries, or a limit exceeded, in this order. Or memory ran out.
 pub fn parse(alloc: Global, bytes: &[u8]) -> Result<Script, ScriptFault>
     requires { length bytes.now ≤ most_script }
     ensures spelled { IfOk result (Spells bytes.now) }

@@ -12,7 +12,7 @@ use dd_query::Query;
 use dd_question::Question;
 
 /// What a query asks, with the rules, automata, pairs and configurations themselves in place of their indices, and with the
-/// weights where something is weighed.
+/// script's weights if the query weighs configurations.
 pub(crate) fn question_of<'a>(
     known: &'a Known,
     made: &'a Made,

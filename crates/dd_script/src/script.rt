@@ -21,15 +21,15 @@ pub(crate) struct Made {
     pub(crate) pairs: Items<Items<Pair>>,
 }
 
-/// What a script holds.
+/// What is known and made in a script.
 #[derive(Drop)]
 pub(crate) struct Contents {
     pub(crate) known: Known,
     pub(crate) made: Made,
 }
 
-/// A script: what it says of cells, what it defines, and what it asks. Its numbers are in range, its parts agree in dimension,
-/// nodes and symbols, and it exceeds no limit.
+/// A script: its topology, nodes, symbols, weights and limits, what it defines, and what it asks. Its numbers are in range, its
+/// parts agree in dimension, nodes and symbols, and it exceeds no limit.
 ///
 /// It is small: its parts are on the heap.
 #[derive(Drop)]
@@ -52,7 +52,7 @@ impl Model for Script {
     ghost invariant = { λ s. IsScriptOf (parts s.contents.known s.contents.made) };
 }
 
-/// The readers take no memory.
+/// These accessors allocate nothing.
 impl Script {
     ghost use Rattle.std.specs.Prelude.{◌≡◌};
     ghost use Rattle.std.specs.List.{All};
@@ -151,13 +151,13 @@ impl Script {
     }
 }
 
-/// What the queries ask. Takes no memory.
+/// What the queries ask. These methods allocate nothing.
 impl Script {
     ghost use Rattle.std.specs.Prelude.{◌≡◌, Contains};
     ghost use Rattle.dd_script.specs.Asking.{Asks, AreSound};
 
     /// What a query of the script asks, of any kind. It has the rules, automata and configurations themselves in place of their
-    /// indices, the script's weights where something is weighed, and the script's limits.
+    /// indices, the script's limits, and the script's weights if the query weighs configurations.
     pub fn question<'a>(&'a self, query: &'a Query) -> CheckedQuestion<'a>
         requires { Contains self.now.queries query.now }
         ensures asks { Asks self.now query.now result.question }
