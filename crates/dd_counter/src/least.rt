@@ -103,12 +103,12 @@ fn descended(
                 weight = periodic.weight(weights);
                 best = periodic;
                 step = step.saturating_mul(2);
+                continue;
             }
-            Lighter::Nothing(_) => {
-                refuted = below;
-                step = NEAR;
-            }
+            Lighter::Nothing(_) => {}
         }
+        refuted = below;
+        step = NEAR;
     }
     Ok(best)
 }
