@@ -65,6 +65,6 @@ script '32,768 minimal patterns' "%rule r $(cell 0)=1$(for n in $(seq 15); do pr
 zeros=$(printf 'o=0%.0s & ' $(seq 6600))
 script 'an image, 1,900,000 clauses' "%limits 8 1 0 %rule r ${zeros}o=0 %auto f when $(cell 8)=1 give 1 else 0 %maps f r r"
 script 'a torus of 471 cells' '%dim 1 %rule r o=1 %least r [471]'
-script 'the largest output of an example' "$(cat "$root/examples/perfect-codes.diddy")"
+script 'the output of `perfect-codes`' "$(cat "$root/examples/perfect-codes.diddy")"
 given=/dev/null
 row "\`sample 16384\`" sample 16384
