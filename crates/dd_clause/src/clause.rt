@@ -1,4 +1,4 @@
-//! A clause is true if one of its literals is. Most clauses are short, so up to four literals need no memory.
+//! Literals and clauses. Most clauses are short, so a clause of up to four literals takes no memory.
 ghost use Rattle.std.specs.Prelude.{◌≡◌, ◌≤◌, length, IsOk, IfOk};
 ghost use Rattle.dd_clause.specs.Clauses as spec;
 
@@ -25,7 +25,7 @@ impl Literal {
     }
 }
 
-/// A list of literals, one of which has to be true.
+/// A list of literals, at least one of which has to be true.
 #[derive(Debug, Drop)]
 pub struct Clause {
     literals: SmallVec<Literal, 4>,
@@ -41,7 +41,7 @@ impl Model for Clause {
 }
 
 impl Clause {
-    /// The clause of these literals. With at most four literals it takes no memory, so it is always made.
+    /// The clause of these literals. It fails only if memory runs out, so never for at most four literals.
     pub fn from_literals(alloc: Global, literals: &[Literal]) -> Result<Clause, AllocError>
         ensures ok { IfOk result (λ clause. clause ≡ literals.now) }
         ensures short_is_made { length literals.now ≤ 4 → IsOk result }

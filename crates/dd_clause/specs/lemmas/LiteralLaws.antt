@@ -1,4 +1,4 @@
--- Literals and lists of them.
+-- The laws of negation.
 use Rattle.dd_clause.specs.{Clauses.is_true_under, Clauses.negation, declared.clause.Literal.Literal}
 use Rattle.std.proofs.Common.{Bool, ℕ, ◌≡◌}
 use Rattle.std.specs.Prelude.{not}
