@@ -15,6 +15,7 @@ pub any_ok : {T E : Type 0} (answer : Result T E) (P : Type 0) → P → OnOk an
 any_ok (Ok x) P p = p
 any_ok (Err e) P p = tt
 
+-- a property of an option's value may be shown where there is a value
 pub if_some : (P : ℕ → Type 0) (o : Option ℕ) → (is_some o ≡ true → IfSome o P) → IfSome o P
 if_some P None h = tt
 if_some P (Some d) h = h refl
