@@ -5,12 +5,12 @@ ghost use Rattle.dd_outside.specs.declared.faults.ReadAllFault.TheVariants.{Read
 use std::alloc::{AllocError, AllocFailed};
 use thiserror::Error;
 
-/// One read or one write failed.
+/// A read or a write failed.
 #[derive(Clone, Copy, Debug, PartialEq, Eq, Error)]
 #[error("a read or a write failed")]
 pub struct Failed;
 
-/// The sink failed before a piece was written whole.
+/// A write failed before the whole piece was written.
 #[derive(Clone, Copy, Debug, PartialEq, Eq, Error)]
 #[error("a piece was not written whole")]
 pub struct WriteFault;
@@ -18,7 +18,7 @@ pub struct WriteFault;
 /// Why a source was not read to its end.
 #[derive(Clone, Copy, Debug, PartialEq, Eq, Error)]
 pub enum ReadAllFault {
-    /// The source failed.
+    /// A read failed.
     #[error("the source failed")]
     ReadFault,
     /// The source gave more bytes than the limit.

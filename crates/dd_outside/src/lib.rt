@@ -1,4 +1,4 @@
-//! Sources and sinks of bytes that count their faults, and the reading and writing of whole texts.
+//! Sources and sinks of bytes. They count their faults. A source can be read to its end, and a slice written whole.
 #![tactic(auto)]
 
 mod faults;

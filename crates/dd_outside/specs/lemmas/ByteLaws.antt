@@ -1,17 +1,17 @@
--- Lemmas on what calls do to bytes.
+-- Lemmas on what reads and writes do to bytes.
 use Rattle.std.proofs.Common.{◌≡◌, ℕ, ◌+◌, ◌-◌, ◌≤◌, List, ◌++◌, sym, ◌∙◌, ap, subst, length, take, drop, arith, append_assoc, length-append, length-take, take-append-drop}
 use Rattle.std.proofs.{Math.Seq.take-add, lemmas.List.take_rest, lemmas.List.take_at, lemmas.List.drop-drop}
 use Rattle.std.proofs.KnownBytes.{Appends-trans, Appends-kept, Consumes-trans}
 use Rattle.std.specs.{declared.option.Option.Option, Io.KnownBytes.Appends, Io.KnownBytes.Consumes, Io.KnownBytes.Keeps}
 use Rattle.dd_outside.specs.Bytes.{GainsFront, GivesAtMost, ReadsOn}
 
--- the next part of a piece was written
+-- after the first `at` bytes of a piece, the next `n` were written
 pub wrote_more : (a b c : Option (List ℕ)) (piece : List ℕ) (at n : ℕ) → Appends a b (take at piece) → Appends b c (take n (take (length piece - at) (drop at piece))) → Appends a c (take (at + n) piece)
 wrote_more a b c piece at n so_far next =
     let rest : Appends b c (take n (drop at piece)) = rw take_rest at next in
     subst (Appends a c) (sym (take-add at n piece)) (Appends-trans a b c _ _ so_far rest)
 
--- a write failed after a part of a piece
+-- after the first `at` bytes of a piece, a write failed
 pub wrote_front : (a b c : Option (List ℕ)) (piece : List ℕ) (at : ℕ) → Appends a b (take at piece) → Keeps b c → GainsFront a c piece
 wrote_front a b c piece at so_far kept = record {
   gained = take at piece;
@@ -20,7 +20,7 @@ wrote_front a b c piece at so_far kept = record {
   whole = sym (take-append-drop at piece);
 }
 
--- a text after a whole one
+-- one text was written whole, and then a prefix of another
 pub front_after : (a b c : Option (List ℕ)) (before text : List ℕ) → Appends a b before → GainsFront b c text → GainsFront a c (before ++ text)
 front_after a b c before text so_far more = record {
   gained = before ++ more.gained;
@@ -29,7 +29,7 @@ front_after a b c before text so_far more = record {
   whole = ap (λ (l : List ℕ). before ++ l) more.whole ∙ sym (append_assoc before more.gained more.missing);
 }
 
--- after some bytes, at most `room` more were given
+-- after `bytes`, at most `room` more were read
 pub gave_few_more : (a b c : Option (List ℕ)) (bytes : List ℕ) (room limit : ℕ) → Consumes a b bytes → GivesAtMost b c room → length bytes + room ≤ limit → GivesAtMost a c limit
 gave_few_more a b c bytes room limit so_far more fits = record {
   given = bytes ++ more.given;
@@ -37,11 +37,11 @@ gave_few_more a b c bytes room limit so_far more fits = record {
   few = omega (arith, length-append bytes more.given, more.few);
 }
 
--- what one more read adds to the length
+-- the length after one more read
 pub read_on_length : (a b : Option (List ℕ)) (before after : List ℕ) (count : ℕ) → ReadsOn a b before after count → length after ≡ length before + count
 read_on_length a b before after count read = omega (arith, ap length read.appended, length-append before read.given, read.counted)
 
--- what one more read adds to the bytes that the source gave
+-- the bytes read in all, after one more read
 pub read_on_consumes : (a b c : Option (List ℕ)) (before after : List ℕ) (count : ℕ) → Consumes a b before → ReadsOn b c before after count → Consumes a c after
 read_on_consumes a b c before after count so_far read =
     subst (Consumes a c) (sym read.appended) (Consumes-trans a b c _ _ so_far read.consumed)
@@ -49,7 +49,7 @@ read_on_consumes a b c before after count so_far read =
 pub length_take_at_most : (n : ℕ) (l : List ℕ) → length (take n l) ≤ n
 length_take_at_most n l = omega (arith, length-take {A = ℕ})
 
--- the next bytes were copied to the front of a slice
+-- the next `n` bytes were copied to the start of a slice
 pub gave : (bytes copied rest : List ℕ) (at n : ℕ) → copied ≡ take (at + n - at) (drop at bytes) → length copied ≡ n → drop at bytes ≡ take n (copied ++ rest) ++ drop (at + n) bytes
 gave bytes copied rest at n copy long =
     let same : at + n - at ≡ n = omega arith in
