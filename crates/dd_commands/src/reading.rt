@@ -1,4 +1,4 @@
-//! Reading one item, or several in a row, from the front of tokens.
+//! Reading one item, or several one after the other, from the front of a list of tokens.
 ghost use Rattle.std.specs.Prelude.{◌≡◌, ℕ, List};
 ghost use Rattle.dd_written.specs.reading.Readers.{Gives, Reader};
 ghost use Rattle.dd_commands.specs.reading.Forms.{at_most, each_at, some_at, exactly_at};
@@ -17,8 +17,9 @@ pub(crate) struct Source<'a> {
 /// What was read, and the tokens after it.
 pub(crate) type Read<'a, T> = Result<(T, &'a [Lexeme]), ReadFault>;
 
-/// What can be read from the front of tokens.
+/// What can be read from the front of a list of tokens.
 pub(crate) trait FromTokens: Drop {
+    // The reader of this item, for a script of these bytes.
     ghost item: { List ℕ → Reader Self };
 
     fn read<'a>(from: Source, tokens: &'a [Lexeme]) -> Read<'a, Self>
@@ -44,7 +45,7 @@ fn at_most<'a, T: FromTokens>(from: Source, most: usize, tokens: &'a [Lexeme]) -
     Ok((items, rest))
 }
 
-/// All items that stand there.
+/// All items that come next; there may be none.
 pub(crate) fn each<'a, T: FromTokens>(from: Source, tokens: &'a [Lexeme]) -> Read<'a, Items<T>>
     ensures { Gives (λ x. (x.0, x.1.now)) result (each_at (T.item from.entry.bytes.now) tokens.now) }
 {

@@ -1,4 +1,4 @@
-//! Reading a script, command by command.
+//! Reading a script, command by command. A part is what stands between two marks `%`: the tokens of one command.
 ghost use Rattle.std.specs.Prelude.{◌≡◌, [], ◌∷◌, ◌+◌, ◌<◌, ◌≤◌, length, IfOk, All};
 ghost use Rattle.std.specs.List.{prefix_len, list_all};
 ghost use Rattle.dd_values.specs.Bounds.{most_script};
@@ -16,21 +16,21 @@ use dd_values::Items;
 use dd_written::{Lexeme, Mark, ReadFault, Text, formula_is_read, lexemes};
 use std::alloc::Global;
 
-/// A command with its tokens, without its mark.
+/// A command, with its tokens after the `%`.
 #[derive(Debug, Drop)]
 pub struct Written {
     pub tokens: Items<Lexeme>,
     pub command: Command,
 }
 
-/// The syntax tree of a script: its text, and its commands in order. Commands are numbered from 1.
+/// The syntax tree of a script: its text, and its commands in order.
 #[derive(Debug, Drop)]
 pub struct Syntax {
     pub text: Text,
     pub commands: Items<Written>,
 }
 
-/// How many tokens stand before the next mark of a command.
+/// How many tokens stand before the next `%`.
 fn part_length(tokens: &[Lexeme]) -> usize
     ensures value { result ≡ prefix_len is_inside tokens.now }
     ensures within { result ≤ length tokens.now }
@@ -41,7 +41,7 @@ fn part_length(tokens: &[Lexeme]) -> usize
         .count()
 }
 
-/// The part after a mark, and what follows it.
+/// The part after the `%` at the front, and the tokens after this part.
 #[tactic(auto, using(crate::proofs::Parts::cut, crate::proofs::Parts::behind_mark))]
 fn next_part(tokens: &[Lexeme]) -> (&[Lexeme], &[Lexeme])
     requires some { 0 < length tokens.now }
@@ -82,7 +82,7 @@ fn are_whole(part: &[Lexeme]) -> bool
     part.iter().all(|token| !matches!(token, Lexeme::Stray))
 }
 
-/// A command that may stand at this stage or a later one.
+/// Reads a part as a command, whose stage must not be below `from`.
 fn command_from(source: Source, from: u32, part: &[Lexeme]) -> Result<Written, ReadFault>
     ensures { Gives (λ x. x) result (written_of source.entry.bytes.now from part.now) }
 {
@@ -96,6 +96,7 @@ fn command_from(source: Source, from: u32, part: &[Lexeme]) -> Result<Written, R
     Ok(Written { tokens, command })
 }
 
+/// The commands of a script with these bytes and tokens.
 #[tactic(auto, using(crate::proofs::Parts::starts, crate::proofs::Parts::cut, crate::proofs::Parts::something_before))]
 fn commands(alloc: Global, bytes: &[u8], tokens: &[Lexeme]) -> Result<Items<Written>, SyntaxFault>
     requires { length tokens.now ≤ most_script + 1 }
@@ -107,6 +108,7 @@ fn commands(alloc: Global, bytes: &[u8], tokens: &[Lexeme]) -> Result<Items<Writ
     }
     let mut commands = Items::new(alloc);
     let mut number = 0;
+    // the lowest stage of the commands that may come next
     let mut from = 0;
     let mut rest = tokens;
     while !rest.is_empty() {

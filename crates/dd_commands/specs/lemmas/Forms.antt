@@ -1,4 +1,4 @@
--- What is read in a form is written in that form, and the reverse; combinations of forms keep this.
+-- What a form's reader reads is written in that form, and what is so written is read. Combinations of forms keep this.
 use Rattle.std.proofs.Common.{◌≡◌, ℕ, ◌≤◌, ◌<◌, List, [], ◌∷◌, ◌++◌, length, Option, Some, None, refl, sym, ap, ◌∙◌, arith, Bool, true, if◌then◌else◌, is_some, nat_le, flat_map, eqb-true, eq-eqb, leb-true, le-leb, length-append}
 use Rattle.std.proofs.lemmas.{Option.cond_some, Option.some_pair_parts}
 use Rattle.dd_commands.specs.Tree.{Lexeme}
@@ -11,7 +11,7 @@ pub record Reads {X : Type 0} (f : Form X) : Type 0 where
   pub read : (x : X) (rest : List Lexeme) → f.is x → f.ends rest → f.item (f.onto x rest) ≡ Some (x, rest)
   pub last : f.ends []
 
--- if nothing follows
+-- an item that nothing follows is read
 pub read_last : {X : Type 0} {f : Form X} → Reads f → (x : X) (tokens : List Lexeme) → f.is x → tokens ≡ f.onto x [] → f.item tokens ≡ Some (x, [])
 read_last is x tokens right e = rw e (is.read x [] right is.last)
 
@@ -53,7 +53,7 @@ then_reads {X} {Y} {f} {g} is ended are = record {
   last = are.last;
 }
 
--- what is made from other items, and has a text
+-- an item that is made of others, and has a text
 pub text_reads : {X Y : Type 0} {f : Form X} (make : X → Y) (parts : Y → X) (text : Y → List Lexeme) → ((x : X) (rest : List Lexeme) → f.onto x rest ≡ text (make x) ++ rest) → ((y : Y) → make (parts y) ≡ y)
     → ((y : Y) → f.is (parts y)) → ((rest : List Lexeme) → f.ends rest) → Reads f → Reads (by_text text (made make f.item))
 text_reads {X} {Y} {f} make parts text spelt same right free is = record {
@@ -73,7 +73,7 @@ such_reads {X} {f} P test holds told is = record {
   last = is.last;
 }
 
--- ---- one after the other
+-- ---- items one after the other
 
 module _ {X : Type 0} (writes : X → List Lexeme → List Lexeme → Type 0) (item : Reader X) (written : (tokens : List Lexeme) (x : X) (rest : List Lexeme) → item tokens ≡ Some (x, rest) → writes x tokens rest)
     (read : (x : X) (tokens rest : List Lexeme) → writes x tokens rest → item tokens ≡ Some (x, rest)) where
