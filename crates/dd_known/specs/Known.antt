@@ -1,4 +1,4 @@
--- The names and numbers of what is known.
+-- The dimension of what is known, and the names that a word may refer to.
 use Rattle.std.specs.Prelude.{ℕ, List}
 use Rattle.dd_known.specs.Tree.{Role, Known}
 

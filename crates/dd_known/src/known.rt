@@ -7,7 +7,9 @@ use dd_written::Text;
 /// What formulas may refer to. The labels of moves are those of the topology.
 #[derive(Drop)]
 pub struct Setting {
+    /// The names of the nodes, in the order of their numbers.
     pub nodes: Names,
+    /// The names of the symbols, in the order of their numbers.
     pub symbols: Names,
     pub topology: Topology,
     /// Which symbols each node allows.
@@ -20,25 +22,30 @@ pub struct Known {
     pub setting: Setting,
     /// Whether the script has named its nodes.
     pub nodes_are_given: bool,
-    /// The nodes whose symbols the script has restricted.
+    /// The numbers of the nodes whose symbols the script has restricted.
     pub restricted: Items<u32>,
-    /// One for each symbol.
+    /// The weight of each symbol.
     pub weights: Items<u32>,
+    /// The limits of the searches.
     pub limits: Limits,
-    /// The names of the rules, the automata and the configurations. No name is in two of them.
+    /// The names of the rules. No name stands in two of these three lists.
     pub rules: Names,
+    /// The names of the automata.
     pub automata: Names,
+    /// The names of the configurations.
     pub configurations: Names,
 }
 
-/// The context of a command: the text, the command's number, and what is known at this point.
+/// The context of a command.
 #[derive(Drop)]
 pub struct Context {
+    /// The text of the script.
     pub text: Text,
-    /// Whether the script has a topology command.
+    /// Whether the script has a topology command, before this one or after it.
     pub has_topology: bool,
     /// The command's number, from 1.
     pub number: u32,
+    /// What the commands before this one have defined.
     pub known: Known,
 }
 
