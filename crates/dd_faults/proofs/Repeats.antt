@@ -1,4 +1,4 @@
--- The first item that repeats an earlier one, found by going through the items.
+-- The first item that repeats an earlier one, found by a loop over the items.
 use Rattle.std.proofs.Common.{◌≡◌, ℕ, ◌+◌, ◌<◌, List, [], ◌∷◌, ◌++◌, length, drop, slice_index_or, Contains, refl, sym, ◌∙◌, arith}
 use Rattle.std.proofs.lemmas.Grind.{common_steps}
 use Rattle.dd_faults.specs.{Tree.Fault, Repeats.first_repeat, lemmas.Repeats.among, lemmas.Repeats.not_among}

@@ -1,5 +1,6 @@
-//! What is wrong with a well-formed command. Its faults form a list in the order of its text. It is refused for the first fault
-//! of the lowest rank: unknown names, then repetitions, then dimensions, then limits in their order.
+//! The faults of well-formed commands. Those of a command form a list in the order of its text, and each has a rank: unknown
+//! names come first, then repetitions, dimensions, and the limits in their order. A command is refused for its first fault of
+//! the lowest rank.
 #![tactic(auto, using(crate::proofs::Noting::faults))]
 
 mod atoms;

@@ -1,4 +1,4 @@
-//! Names, compared by their texts.
+//! Names and variables, compared by their texts.
 ghost use Rattle.std.specs.Prelude.{◌≡◌, is_some, position, bytes_eq};
 ghost use Rattle.dd_written.specs.Values.{word_text};
 ghost use Rattle.dd_faults.specs.Order.{noted};
@@ -16,7 +16,7 @@ pub(crate) fn is_named(text: &Text, names: &Names, name: Name) -> bool
     names.find(name_text(text, name)).is_some()
 }
 
-/// The index of a name; 0 if it is none of these.
+/// The index of a name among these; 0 if it is none of them.
 pub fn number_in(text: &Text, names: &Names, name: Name) -> u32
     ensures { result ≡ number_in text.now names.now name }
 {
@@ -39,7 +39,7 @@ pub fn place_among(text: &Text, words: &[Word], wanted: &str) -> Option<usize>
         .position(|word| text.part(word.start, word.length) == wanted)
 }
 
-/// Whether a word is a variable.
+/// Whether a word is a variable: `o`, or one in scope.
 pub(crate) fn is_variable(text: &Text, scope: &[Word], word: Word) -> bool
     ensures { result ≡ is_variable text.now scope.now word }
 {

@@ -4,7 +4,7 @@ use Rattle.std.specs.List.{flat_map, list_any, zip}
 use Rattle.dd_query.specs.Tree.{Word, Role, Lists, QueryKind, Request, Context}
 use Rattle.dd_commands.specs.{Table.row, Commands.IsRequest}
 use Rattle.dd_known.specs.{Known.named, Sound.IsSound}
-use Rattle.dd_faults.specs.Commands.{is_far, unless, word_faults, radius_faults, list_faults, has_symbols, request_faults}
+use Rattle.dd_faults.specs.Commands.{is_far, dimension_unless, word_faults, radius_faults, list_faults, has_symbols, request_faults}
 use Rattle.dd_faults.specs.lemmas.Nothing.{both_nil, fits, parts}
 use Rattle.dd_query.specs.{Parts.number_of_word, Parts.word_at, Queries.query_of, Queries.IsQueryWithin}
 use Rattle.dd_query.proofs.{ShapeLaws.value_small, ShapeLaws.strip_is, ShapeLaws.all_close, ShapeLaws.vectors_are, TorusLaws.torus_is}
@@ -31,7 +31,7 @@ module _ (x : Context) (r : Request) where
     radii : flat_map (radius_faults x) r.numbers ≡ []
     radii = (both_nil _ _ (both_nil _ _ none).1).0
 
-    behind : (list_faults x (row k).lists r.vectors ≡ []) × (unless (has_symbols x (row k).symbols) ≡ [])
+    behind : (list_faults x (row k).lists r.vectors ≡ []) × (dimension_unless (has_symbols x (row k).symbols) ≡ [])
     behind = both_nil _ _ (both_nil _ _ (both_nil _ _ none).1).1
 
     lists : list_faults x (row k).lists r.vectors ≡ []

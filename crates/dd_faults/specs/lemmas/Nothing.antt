@@ -1,9 +1,9 @@
--- If there is no fault, no part has one.
+-- If a list of faults is empty, so is each part of it.
 use Rattle.std.proofs.Common.{◌≡◌, ℕ, ◌<◌, Bool, true, false, List, [], ◌∷◌, ◌++◌, length, None, Some, refl, arith}
 use Rattle.std.specs.List.{All, flat_map}
 use Rattle.std.proofs.lemmas.{List.Elements.All-nil, List.Elements.All-cons, Grind.common_steps}
 use Rattle.dd_faults.specs.{Tree.Name, Tree.Limit, Tree.Fault, Order.noted, Order.first_fault, Order.over, Names.missing, Names.number_in}
-use Rattle.dd_faults.specs.Commands.{unless}
+use Rattle.dd_faults.specs.Commands.{dimension_unless}
 
 pub both_nil : {X : Type 0} (xs ys : List X) → xs ++ ys ≡ [] → (xs ≡ []) × (ys ≡ [])
 both_nil [] ys e = (refl, e)
@@ -14,7 +14,7 @@ pub all_where : {X Y : Type 0} (P : X → Type 0) (f : X → List Y) → ((x : X
 all_where P f each [] h = All-nil P
 all_where P f each (x ∷ xs) h = (let parts = both_nil (f x) (flat_map f xs) h in All-cons P x xs (each x parts.0) (all_where P f each xs parts.1))
 
-pub fits : (b : Bool) → unless b ≡ [] → b ≡ true
+pub fits : (b : Bool) → dimension_unless b ≡ [] → b ≡ true
 fits true e = refl
 fits false e = absurd cc
 

@@ -1,4 +1,4 @@
--- What reading commands one by one needs of their shape.
+-- Two shapes of commands, which the checks of `src/` take.
 use Rattle.std.specs.Prelude.{◌≤◌, length}
 use Rattle.dd_faults.specs.Tree.{Command}
 
