@@ -1,4 +1,4 @@
-//! Cellular automata.
+//! Cellular automata, by cases or composed: the cells that they read, their instances and their depth.
 ghost use Rattle.std.specs.Prelude.{◌≡◌, ◌+◌, ◌<◌, true, length, IfOk, MatchOption, map};
 ghost use Rattle.std.specs.List.{list_all, flat_map};
 ghost use Rattle.std.specs.List.Sorted.{IsStrictlySortedBy};
@@ -18,8 +18,9 @@ use std::alloc::{AllocError, Global};
 /// An automaton that gives each cell the symbol of its first case whose rule is true there, else a default symbol.
 #[derive(Debug, Drop)]
 pub struct Cases {
-    /// Rules with the symbols that they give.
+    /// The cases: each is a rule with the symbol that it gives.
     pub cases: Items<(Rule, u32)>,
+    /// The default symbol.
     pub otherwise: u32,
 }
 
@@ -28,7 +29,7 @@ pub struct Cases {
 pub enum Automaton {
     /// Gives each cell a symbol by cases.
     Given(Cases),
-    /// Gives each cell the value of the first on the configuration of the second's values.
+    /// The first automaton applied to the image of the configuration under the second.
     Composed(Boxed<Automaton>, Boxed<Automaton>),
 }
 
@@ -74,17 +75,17 @@ impl Cases {
         }
     }
 
-    /// The instances at a node, cut off. Its contract also says that no rule reads anything too far away.
+    /// The instances at a node, cut off past the limit. The contract also says that no rule reads too far.
     pub(crate) fn instances(&self, node: u32) -> u32
         requires { HasCaseNode self.now node }
         ensures count { result ≡ cut most_instances (case_instances node self.now.cases + 1) }
         ensures near { list_all is_near (cases_reads self.now.cases node) ≡ true }
     {
-        let mut nodes = 1;
+        let mut sum = 1;
         for (rule, _) in self.cases.as_slice() {
-            nodes = plus(MOST_INSTANCES, nodes, rule.expansion(node).instances() + 1);
+            sum = plus(MOST_INSTANCES, sum, rule.expansion(node).instances() + 1);
         }
-        nodes
+        sum
     }
 }
 
@@ -93,7 +94,7 @@ impl Automaton {
     ghost use Rattle.dd_formula.specs.Counts.{cut};
     ghost use Rattle.dd_formula.specs.LocalRule.{most_instances};
 
-    /// An automaton with the same rules and symbols in every part.
+    /// A copy.
     pub fn copy(&self, alloc: Global) -> Result<Automaton, AllocError>
         ensures { IfOk result (λ c. c ≡ self.now) }
     {
@@ -124,7 +125,7 @@ impl Automaton {
         }
     }
 
-    /// The cells that the composition reads at a node.
+    /// The cells that the composition reads at a node, as `reads` gives them.
     #[cycle(reads)]
     pub(crate) fn composed_reads(
         alloc: Global,
@@ -159,9 +160,9 @@ impl Automaton {
         in_order(alloc, &found)
     }
 
-    /// The number of nodes of all expansions that the automaton's value at a node takes, one more for each case and each
-    /// default. A composition counts the outer automaton at the node, and the inner one at the node and at each cell that
-    /// the outer one reads. Past 20,000 it is cut off at 20,001.
+    /// The instances at a node, or 20,001 where there are more than 20,000. An automaton by cases has those of each rule's
+    /// expansion, one more for each case, and one for the default symbol. A composition has those of the outer automaton,
+    /// those of the inner one at the same node, and those of the inner one at each cell that the outer one reads.
     #[cycle(instances)]
     #[tactic(auto, using(std::proofs::lemmas::Grind::common_steps, crate::specs::lemmas::AutomatonLaws::layers))]
     pub fn instances(&self, alloc: Global, node: u32) -> Result<u32, AllocError>
@@ -176,7 +177,7 @@ impl Automaton {
         }
     }
 
-    /// The instances of the composition at a node, cut off.
+    /// The instances of the composition at a node, cut off past the limit.
     #[cycle(instances)]
     pub(crate) fn composed_instances(
         alloc: Global,
@@ -194,7 +195,7 @@ impl Automaton {
         Ok(plus(MOST_INSTANCES, plus(MOST_INSTANCES, first, second), rest))
     }
 
-    /// The sum of the instances at the nodes of the cells, cut off.
+    /// The sum of the instances at the nodes of the cells, cut off past the limit.
     #[cycle(instances)]
     pub(crate) fn instances_from(&self, alloc: Global, cells: &[Cell]) -> Result<u32, AllocError>
         requires { HasCells self.now cells.now }

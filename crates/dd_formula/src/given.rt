@@ -7,7 +7,7 @@ use crate::automaton::{Automaton, Cases};
 use crate::making::MOST_INSTANCES;
 
 impl Automaton {
-    /// The automaton by these cases, over so many nodes. It takes no memory.
+    /// The automaton by these cases, whose rules have so many nodes. It takes no memory.
     ///
     /// # Errors
     /// The cases come back where the automaton has more than 20,000 instances at some node.
@@ -26,7 +26,7 @@ impl Automaton {
     }
 }
 
-/// Whether the automaton by these cases has few instances at each node.
+/// Whether the automaton by these cases keeps the limit of instances at each node.
 fn has_few(cases: &Cases, nodes: u32) -> bool
     requires { HaveNumbers cases.now nodes }
     ensures value { result ≡ is_few nodes (counted (Automaton.Given cases.now)) }

@@ -1,4 +1,5 @@
-//! Rules: formulas over a topology and an alphabet, their truth, and the configurations that live in their subshifts.
+//! Local rules and cellular automata: their truth and their values, the cells that they read, their limits, and which periodic
+//! configurations live in the subshift of a rule.
 #![tactic(auto, using(std::proofs::lemmas::Grind::common_steps))]
 
 mod automaton;

@@ -5,7 +5,7 @@ use crate::rule::Rule;
 use dd_lattice::Cell;
 use dd_pattern::Periodic;
 
-/// A configuration is inside a subshift, or outside of it with a cell at which the rule is false.
+/// Whether a periodic configuration is inside a rule's subshift.
 #[derive(Debug, Clone, Copy, PartialEq, Eq)]
 pub enum Membership {
     /// The rule is true at each cell.
@@ -15,8 +15,8 @@ pub enum Membership {
 }
 
 impl Rule {
-    /// Whether the rule is true everywhere in a configuration, or else the first cell of the fundamental box, in cell
-    /// order, at which it is false. It takes no memory.
+    /// Whether the configuration is inside the rule's subshift: whether the rule is true at each cell. Its fundamental box
+    /// is looked at in cell order. It takes no memory.
     pub fn member(&self, periodic: &Periodic) -> Membership
         requires { Fits self.now periodic.now }
         ensures { IsMembership self.now periodic.now result }

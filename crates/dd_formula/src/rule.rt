@@ -20,8 +20,8 @@ use dd_values::Items;
 use std::alloc::{AllocError, Global};
 use std::marker::Model;
 
-/// A local rule: a configuration satisfies it where its formula is true at every cell. It has 1 to 4 nodes and 1 to 16
-/// symbols; at each node its expansion has at most 20,000 nodes, and it reads nothing more than 16 away along an axis.
+/// A local rule: a configuration satisfies it if the rule's formula is true at every cell. A rule has 1 to 4 nodes and 1 to 16
+/// symbols. At each node it has at most 20,000 instances, and reads no cell that lies more than 16 away along an axis.
 #[derive(Debug, Drop)]
 pub struct Rule {
     dim: u32,
@@ -51,8 +51,8 @@ impl Rule {
     /// The rule of a formula over a topology and the symbols that its nodes allow.
     ///
     /// # Errors
-    /// `Instances` where its expansion at some node has more than 20,000 nodes; else `Reach` where a cell is read that lies
-    /// more than 16 away along an axis; or `Memory`.
+    /// `Instances` where its expansion at some node has more than 20,000 instances; else `Reach` where a cell is read that
+    /// lies more than 16 away along an axis; or `Memory`.
     pub fn new(
         alloc: Global,
         topology: &Topology,
@@ -84,7 +84,7 @@ impl Rule {
         })
     }
 
-    /// A rule with the same formula, topology and alphabets.
+    /// A copy.
     pub fn copy(&self, alloc: Global) -> Result<Rule, AllocError>
         ensures { IfOk result (λ copy. copy ≡ self.now) }
     {
@@ -104,7 +104,7 @@ impl Rule {
         })
     }
 
-    /// The dimension. The readers take no memory.
+    /// The dimension, 1 to 3.
     pub fn dim(&self) -> u32
         ensures { result ≡ self.now.dimension }
     {
@@ -119,7 +119,7 @@ impl Rule {
         self.nodes
     }
 
-    /// The size of the alphabet, 1 to 16. Each symbol that a node allows is one of it.
+    /// The size of the alphabet, 1 to 16. The nodes allow only symbols below it.
     pub fn symbols(&self) -> u32
         ensures value { result ≡ self.now.symbols }
         ensures kept { IsRule self.now }
@@ -144,7 +144,7 @@ impl Rule {
         &self.formula
     }
 
-    /// The formula without variables that says the same at the node's cells. Its cells are counted from their position.
+    /// The rule's formula at a cell with this node, without variables. It counts cells from the position of that cell.
     pub fn expansion(&self, node: u32) -> &Expanded
         requires { node < self.now.nodes }
         ensures value { result.now ≡ expansion_at self.now node }
@@ -165,7 +165,7 @@ impl Rule {
         self.reads[node as usize].as_slice()
     }
 
-    /// The number of clauses of the gates of the expansion at a node.
+    /// How many clauses the gates of the expansion at a node take.
     pub fn clause_count(&self, node: u32) -> u64
         requires { node < self.now.nodes }
         ensures { result ≡ clause_count (expansion_at self.now node) }
@@ -175,7 +175,7 @@ impl Rule {
 }
 
 impl Rule {
-    /// The truth of the expansion under the symbols near a cell.
+    /// The truth of the expansion at a cell's node, under the symbols seen from the cell.
     fn truth_of_expansion<R: Reads>(&self, at: &Cell, read: &R) -> Option<bool>
         requires { at.now.node < self.now.nodes }
         ensures value { let look = seen (R.symbols read.now) at.now.position in
@@ -186,8 +186,8 @@ impl Rule {
         self.expansion(at.node).evaluate(&at.position, read)
     }
 
-    /// Whether the formula is true at a cell; `None` where some cell that the rule reads there has no symbol or leaves
-    /// the range of positions. It takes no memory.
+    /// Whether the formula is true at a cell; `None` where some cell that the rule reads there has no symbol or lies
+    /// outside the range of positions. It takes no memory.
     pub fn truth<R: Reads>(&self, at: &Cell, read: &R) -> Option<bool>
         requires node { at.now.node < self.now.nodes }
         requires symbols { HasSymbolsBelow self.now.symbols (R.symbols read.now) }

@@ -1,4 +1,4 @@
-//! Cells that are counted from another cell.
+//! Cells that are counted from one cell, counted from the origin instead.
 ghost use Rattle.std.specs.Prelude.{◌≡◌, true, ◌++◌, ◌≤◌, map, OnOk};
 ghost use Rattle.std.specs.List.{list_all};
 ghost use Rattle.dd_lattice.specs.Cells.{shifted};
@@ -31,7 +31,7 @@ fn shifted(cell: &Cell, by: &Position) -> Cell
     }
 }
 
-/// Adds the cells, moved by a position.
+/// Appends the cells, moved by a position.
 pub(crate) fn push_shifted(
     found: &mut Vec<Cell>,
     by: &Position,
