@@ -1,10 +1,10 @@
-//! Counts of the clauses of box questions.
+//! How many clauses a box question takes.
 ghost use Rattle.std.specs.Prelude.{◌≡◌, ◌≤◌, ◌^◌, ◌<◌, ℕ, length};
 ghost use Rattle.dd_formula.specs.Counts.{cut, rule_clauses, disallowed, disallowed_pairs, place_clauses, broken_clauses, largest_clauses};
 
 use dd_formula::{Rule, cut_off, plus, power, times};
 
-/// The clauses of the gates of a rule at all its nodes.
+/// How many clauses the gates of the rule take, over all nodes of a position.
 fn rule_clauses(rule: &Rule, limit: u32) -> u32
     requires { limit < 2 ^ 31 }
     ensures { result ≡ cut limit (rule_clauses rule.now) }
@@ -43,7 +43,8 @@ fn disallowed_pairs(rule: &Rule) -> u32
     count
 }
 
-/// How many clauses say that the rule is true at one position, or `limit + 1` where that passes the limit, which is below 2^31.
+/// How many clauses say that each cell of a position has one symbol, which its node allows, and that the rule is true there;
+/// cut off past the limit.
 pub fn place_clauses(rule: &Rule, limit: u32) -> u32
     requires { limit < 2 ^ 31 }
     ensures { result ≡ cut limit (place_clauses rule.now) }
@@ -57,8 +58,7 @@ pub fn place_clauses(rule: &Rule, limit: u32) -> u32
     )
 }
 
-/// How many clauses say that some node of the origin breaks the rule, or `limit + 1` where that passes the limit, which is
-/// below 2^31.
+/// How many clauses say that the rule is false at some node of the origin; cut off past the limit.
 pub fn broken_clauses(rule: &Rule, limit: u32) -> u32
     requires { limit < 2 ^ 31 }
     ensures { result ≡ cut limit (broken_clauses rule.now) }
@@ -66,8 +66,8 @@ pub fn broken_clauses(rule: &Rule, limit: u32) -> u32
     plus(limit, rule_clauses(rule, limit), 1)
 }
 
-/// How many clauses the largest box or torus of a box question has, up to a radius and a period, or `limit + 1` where that
-/// passes the limit, which is below 2^31. The goal's count may be cut off at the same limit.
+/// How many clauses a box question takes on the box of this radius or on the torus of this period, whichever has more
+/// positions; cut off past the limit. `goal` counts the clauses of the goal, and may be cut off past the same limit.
 pub fn question_clauses(premise: &Rule, goal: u32, radius: u32, period: u32, limit: u32) -> u32
     requires radius { radius < 2 ^ 31 }
     requires limit { limit < 2 ^ 31 }

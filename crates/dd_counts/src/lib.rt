@@ -1,4 +1,5 @@
-//! How much work a question takes, each count cut off past a limit.
+//! How much work a question takes: clauses, patterns, and states of a transfer graph. A count is given as `limit + 1` where it
+//! is greater than a limit, which is below 2^31.
 #![tactic(auto)]
 
 mod clauses;
@@ -7,7 +8,7 @@ mod values;
 
 pub use clauses::{broken_clauses, place_clauses, question_clauses};
 pub use rules::{
-    MOST_LONGER_STATES, MOST_PATTERNS, MOST_STATES, least_x, longer_states, patterns, states,
-    window,
+    MOST_LONGER_STATES, MOST_PATTERNS, MOST_STATES, least_x, longer_states, patterns, state_length,
+    states,
 };
 pub use values::differ_clauses;

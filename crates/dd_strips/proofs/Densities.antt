@@ -3,7 +3,7 @@ use Rattle.std.proofs.Common.{◌≡◌, ℕ, suc, ◌+◌, ◌-◌, ◌*◌, �
 use Rattle.std.proofs.{Math.Nat.le_of_mul-le-mul_right, Math.Nat.mul-le-mul_left, lemmas.Int.ints, lemmas.Bool.cases_lt}
 use Rattle.dd_pattern.specs.{Reading.Look, Periods.periods_volume, Tile.Tile, Tile.tile_look}
 use Rattle.dd_formula.specs.LocalRule.{LocalRule, IsRule}
-use Rattle.dd_counts.specs.Rules.{window}
+use Rattle.dd_counts.specs.Rules.{state_length}
 use Rattle.dd_expansion.specs.Limits.{greatest}
 use Rattle.dd_strip.specs.{declared.strip.Strip.Strip, Strips.IsFor, Strips.positions, Strips.IsStrip, Strips.strip_for}
 use Rattle.dd_transfer.specs.Certificates.{AreStripPotentials, IsDensityCertificate, IsEmptyCertificate, potential_of, walk_weight}
@@ -67,12 +67,12 @@ module _ (r : LocalRule) (s : Strip) (rule : IsRule r) (for : IsFor r s) (edges 
       let e = edges look strip.filling.repeats in
       walk_is_heavy r s look e ws m l ps potentials x j (filling_steps r s look rule e x j strip)
 
-  pub fillings_short : (ranks : List ℕ) → IsEmptyCertificate r s ranks → IsShortStrip r s (greatest ranks + window r)
-  fillings_short ranks falls n x look strip = elim (cases_lt n (window r)) [
+  pub fillings_short : (ranks : List ℕ) → IsEmptyCertificate r s ranks → IsShortStrip r s (greatest ranks + state_length r)
+  fillings_short ranks falls n x look strip = elim (cases_lt n (state_length r)) [
     | inl less ↦ omega arith
     | inr more ↦
-        let j = n - window r in
-        let is : n ≡ j + window r = omega arith in
+        let j = n - state_length r in
+        let is : n ≡ j + state_length r = omega arith in
         let e = edges look strip.filling.repeats in
         let short : j ≤ greatest ranks = walk_is_short r s look e ranks falls x j (filling_steps r s look rule e x j (subst (λ (k : ℕ). IsAdmissibleStrip r s x k look) is strip)) in
         omega (arith, short, is)
@@ -95,7 +95,7 @@ module _ (r : LocalRule) (s : Strip) (rule : IsRule r) (for : IsFor r s) (edges 
 
     tile_step : (x : ℤ) → IsStep r (tile_look t) x
     tile_step x = record {
-      has = tile_has r s t for known_tile x (window r + 1);
+      has = tile_has r s t for known_tile x (state_length r + 1);
       kept = record { allowed = λ c inside node. on.allowed c; true_there = λ v a at flat node. on.lives v a flat node };
     }
 
@@ -106,10 +106,10 @@ module _ (r : LocalRule) (s : Strip) (rule : IsRule r) (for : IsFor r s) (edges 
         let n = t.periods.x in
         let walk = walk_weighs r s look tile_edges ws m l ps potentials (pos 0) n (λ i _. tile_step (pos 0 +ℤ pos i)) in
         let back : potential_of ps (state_from r s look (pos 0 +ℤ pos n)) ≡ potential_of ps (state_from r s look (pos 0)) =
-        ap (λ (ds : List ℕ). potential_of ps (number_with_digits r.symbols ds)) (symbols_round r s t for known_tile (pos 0) (window r)) in
-        let weighs : slices_weight s ws look (pos 0 +ℤ pos (window r)) n ≡ tile_weight ws t =
-        ap (λ (z : ℤ). slices_weight s ws look z n) (let e : (pos 0 +ℤ pos (window r)) ≡ pos (window r) = omega (arith, ints) in e) ∙ period_weighs r s t for known_tile ws tile_edges (window r) in
-        let heavy : m * n ≤ l * slices_weight s ws look (pos 0 +ℤ pos (window r)) n = no_rise _ _ (m * n) (l * slices_weight s ws look (pos 0 +ℤ pos (window r)) n) back walk in
+        ap (λ (ds : List ℕ). potential_of ps (number_with_digits r.symbols ds)) (symbols_round r s t for known_tile (pos 0) (state_length r)) in
+        let weighs : slices_weight s ws look (pos 0 +ℤ pos (state_length r)) n ≡ tile_weight ws t =
+        ap (λ (z : ℤ). slices_weight s ws look z n) (let e : (pos 0 +ℤ pos (state_length r)) ≡ pos (state_length r) = omega (arith, ints) in e) ∙ period_weighs r s t for known_tile ws tile_edges (state_length r) in
+        let heavy : m * n ≤ l * slices_weight s ws look (pos 0 +ℤ pos (state_length r)) n = no_rise _ _ (m * n) (l * slices_weight s ws look (pos 0 +ℤ pos (state_length r)) n) back walk in
         subst (λ (w : ℕ). m * n ≤ l * w) weighs heavy
 
     tile_nowhere : (ranks : List ℕ) → IsEmptyCertificate r s ranks → ⊥
@@ -120,7 +120,7 @@ module _ (r : LocalRule) (s : Strip) (rule : IsRule r) (for : IsFor r s) (edges 
   pub nowhere : (ranks : List ℕ) → IsEmptyCertificate r s ranks → LivesNowhere r s
   nowhere ranks falls t on = tile_nowhere t on ranks falls
 
-  pub strip_empty_law : (ranks : List ℕ) → IsEmptyCertificate r s ranks → StripEmpty r s (greatest ranks + window r)
+  pub strip_empty_law : (ranks : List ℕ) → IsEmptyCertificate r s ranks → StripEmpty r s (greatest ranks + state_length r)
   strip_empty_law ranks falls = record { short = fillings_short ranks falls; nowhere = nowhere ranks falls }
 
   -- the closed walk is a configuration with its mean

@@ -7,7 +7,7 @@ use Rattle.std.proofs.lemmas.Nat.{mod-mul-add}
 use Rattle.std.specs.Prelude.{slice_index}
 use Rattle.dd_pattern.specs.{Periods.residue, lemmas.Residues.residue_below}
 use Rattle.dd_formula.specs.LocalRule.{LocalRule}
-use Rattle.dd_counts.specs.Rules.{slices, states, window}
+use Rattle.dd_counts.specs.Rules.{slices, states, state_length}
 use Rattle.dd_strip.specs.{declared.strip.Strip.Strip, Strips.positions}
 use Rattle.dd_transfer.specs.{Windows.IsWindow, Transfers.IsEdge, Certificates.IsWalk, Certificates.IsClosedWalk, Certificates.last_slice}
 use Rattle.dd_strips.proofs.{Residues.residue_next, Modular.mod_of_power}
@@ -66,7 +66,7 @@ module _ (r : LocalRule) (s : Strip) where
   pub follows : (u v : ℕ) → IsJoined r s u v → Follows u v
   follows u v j =
       let m = slices r (positions s) in
-      let w = window r in
+      let w = state_length r in
       let t = j.slice in
       let e = j.edge in
       let one : m ^ 1 ≡ m = power_one m in

@@ -3,14 +3,14 @@ use Rattle.std.specs.Prelude.{ℕ, ◌+◌, ◌*◌, ◌≤◌, ℤ, pos, ◌+�
 use Rattle.std.specs.{Int.int_min, Int.int_max, List.fold}
 use Rattle.dd_pattern.specs.Reading.{Look}
 use Rattle.dd_formula.specs.LocalRule.{LocalRule}
-use Rattle.dd_counts.specs.Rules.{window}
+use Rattle.dd_counts.specs.Rules.{state_length}
 use Rattle.dd_strip.specs.declared.strip.Strip.{Strip}
 use Rattle.dd_strips.specs.Strips.{IsAdmissibleStrip, slices_weight, IsLeastDensity, LivesNowhere}
 
 -- l times the weight of the last j slices of an admissible filling is at least m times j, up to the spread
 abbrev pub IsHeavy : LocalRule → Strip → List ℕ → ℕ → ℕ → ℕ → Type 0
 IsHeavy r s ws m l spread =
-    (j : ℕ) (x : ℤ) (look : Look) → IsAdmissibleStrip r s x (j + window r) look → m * j ≤ l * slices_weight s ws look (x +ℤ pos (window r)) j + spread
+    (j : ℕ) (x : ℤ) (look : Look) → IsAdmissibleStrip r s x (j + state_length r) look → m * j ≤ l * slices_weight s ws look (x +ℤ pos (state_length r)) j + spread
 
 -- the least density of the strip is p / q, and no filling of any length is lighter, up to the spread
 pub record StripLeast (r : LocalRule) (s : Strip) (ws : List ℕ) (p q l m spread : ℕ) : Type 0 where

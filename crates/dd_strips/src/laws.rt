@@ -3,7 +3,7 @@ ghost use Rattle.std.specs.Prelude.{ℕ, ℤ, List, ◌+◌, ◌≡◌};
 ghost use Rattle.std.specs.Int.{IsGcd};
 ghost use Rattle.dd_expansion.specs.Limits.{greatest};
 ghost use Rattle.dd_formula.specs.LocalRule.{LocalRule, IsRule};
-ghost use Rattle.dd_counts.specs.Rules.{window};
+ghost use Rattle.dd_counts.specs.Rules.{state_length};
 ghost use Rattle.dd_strip.specs.Strips.{IsStrip, strip_for};
 ghost use Rattle.dd_transfer.specs.Certificates.{IsDensityCertificate, IsEmptyCertificate};
 ghost use Rattle.dd_strip.specs.declared.strip.Strip.{Strip};
@@ -26,7 +26,7 @@ pub fn strip_least()
 /// greatest rank plus the number of slices of a state, and no configuration lives on it.
 pub fn strip_empty()
     ensures { (r : LocalRule) (periods ranks : List ℕ) → IsRule r → IsStrip r periods →
-        IsEmptyCertificate r (strip_for r periods) ranks → StripEmpty r (strip_for r periods) (greatest ranks + window r) }
+        IsEmptyCertificate r (strip_for r periods) ranks → StripEmpty r (strip_for r periods) (greatest ranks + state_length r) }
 {
     slices_are_walks();
 }

@@ -7,7 +7,7 @@ use Rattle.std.specs.Prelude.{cond, nat_lt, ◌&&◌, slice_index, slice_index_o
 use Rattle.std.specs.List.{All}
 use Rattle.dd_pattern.specs.Weight.{total_weight}
 use Rattle.dd_formula.specs.LocalRule.{LocalRule, IsRule}
-use Rattle.dd_counts.specs.Rules.{slices, states, longer_states, window}
+use Rattle.dd_counts.specs.Rules.{slices, states, longer_states, state_length}
 use Rattle.dd_strip.specs.{declared.strip.Strip.Strip, Strips.IsSized, Strips.IsFor, Strips.cells, Strips.positions, Strips.HasWeights}
 use Rattle.dd_transfer.specs.Graphs.{transfer, target, next_of, window_of}
 use Rattle.dd_transfer.specs.Windows.{AreWindows, IsWindow, digits}
@@ -121,7 +121,7 @@ edge_from r s n m windows weights n_is m_is are u t v e =
     rw (lt-ltb u n state, lt-ltb t m slice, opened) (ap (λ (x : ℕ). Some x) leads)
 
 pub some_states : (r : LocalRule) (s : Strip) (n : ℕ) → IsRule r → n ≡ states r (positions s) → 0 < n
-some_states r s n rule is = omega (arith, is, power_some (slices r (positions s)) (window r) (power_some r.symbols (r.nodes * positions s) rule.symbols.0))
+some_states r s n rule is = omega (arith, is, power_some (slices r (positions s)) (state_length r) (power_some r.symbols (r.nodes * positions s) rule.symbols.0))
 
 -- the parts make the graph of the rule
 pub graph_is : (r : LocalRule) (s : Strip) (ws : List ℕ) (n count : ℕ) (windows : List Bool) (weights : List ℕ) → IsRule r → IsFor r s → HasWeights r ws →
@@ -130,7 +130,7 @@ pub graph_is : (r : LocalRule) (s : Strip) (ws : List ℕ) (n count : ℕ) (wind
 graph_is r s ws n count windows weights rule for has n_is count_is few small are len weigh =
     let b = r.symbols in
     let b_some : 0 < b = rule.symbols.0 in
-    let w = window r in
+    let w = state_length r in
     let w_some : 1 ≤ w = omega arith in
     let c = cells s in
     let m = slices r (positions s) in

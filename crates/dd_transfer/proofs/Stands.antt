@@ -8,7 +8,7 @@ use Rattle.dd_lattice.specs.{declared.position.Cell.Cell, lemmas.InOrderLaws.lis
 use Rattle.dd_topology.specs.Topology.{extent}
 use Rattle.dd_formula.specs.LocalRule.{LocalRule, IsRule, is_near, reads_at, cells_at}
 use Rattle.dd_formula.specs.Reach.{all_cells}
-use Rattle.dd_counts.specs.Rules.{least_x, greatest_x, slice_span, window}
+use Rattle.dd_counts.specs.Rules.{least_x, greatest_x, slice_span, state_length}
 use Rattle.dd_transfer.specs.Windows.{stand}
 use Rattle.dd_values.specs.lemmas.Numbers.{le_from, le_to, along, min_left, min_right, max_left, max_right}
 
@@ -78,7 +78,7 @@ reads_between r a lt =
 
 -- seen from where the rule stands they lie in the window
 pub within_window : (r : LocalRule) (x : ℤ) → between (least_x (pos 0) (all_cells r)) (greatest_x (pos 0) (all_cells r)) (record { position = record { x = x; y = pos 0; z = pos 0 }; node = 0 }) ≡ true →
-    (pos 0 ≤ℤ (x +ℤ stand r)) × (unsigned_abs (x +ℤ stand r) < window r + 1)
+    (pos 0 ≤ℤ (x +ℤ stand r)) × (unsigned_abs (x +ℤ stand r) < state_length r + 1)
 within_window r x h =
     let lo = least_x (pos 0) (all_cells r) in
     let hi = greatest_x (pos 0) (all_cells r) in

@@ -5,7 +5,7 @@ use Rattle.std.specs.List.{fold, range_with_len}
 use Rattle.dd_lattice.specs.{Place.Place, Place.place, Cells.cell, declared.position.Cell.Cell}
 use Rattle.dd_pattern.specs.{Periods.residue, Reading.Look}
 use Rattle.dd_formula.specs.LocalRule.{LocalRule, rule_allows}
-use Rattle.dd_counts.specs.Rules.{window}
+use Rattle.dd_counts.specs.Rules.{state_length}
 use Rattle.dd_strip.specs.{declared.strip.Strip.Strip, Strips.cells}
 use Rattle.dd_transfer.specs.Windows.{cell_at, stand, IsTrueAlong}
 
@@ -44,12 +44,12 @@ slices_from r s look x n = number_with_digits r.symbols (symbols_from s look x n
 
 -- the state of the slices from x on, and the window
 abbrev pub state_from : LocalRule → Strip → Look → ℤ → ℕ
-state_from r s look x = slices_from r s look x (window r)
+state_from r s look x = slices_from r s look x (state_length r)
 
 abbrev pub window_from : LocalRule → Strip → Look → ℤ → ℕ
-window_from r s look x = slices_from r s look x (window r + 1)
+window_from r s look x = slices_from r s look x (state_length r + 1)
 
 -- in the window from x on each symbol is allowed at its node, and the rule is true where what it reads begins in the first slice
 pub record IsKeptFrom (r : LocalRule) (look : Look) (x : ℤ) : Type 0 where
-  pub allowed : (c : Cell) → IsInSlices x (window r + 1) c → c.node < r.nodes → IfSome (look c) (λ d. rule_allows r c.node d ≡ true)
+  pub allowed : (c : Cell) → IsInSlices x (state_length r + 1) c → c.node < r.nodes → IfSome (look c) (λ d. rule_allows r c.node d ≡ true)
   pub true_there : IsTrueAlong r (x +ℤ stand r) look

@@ -5,7 +5,7 @@ use Rattle.dd_lattice.specs.{Place.Place, Place.place, Cells.cell, declared.posi
 use Rattle.dd_pattern.specs.{Reading.Look, Periods.residue}
 use Rattle.dd_expansion.specs.Placed.{is_flat}
 use Rattle.dd_formula.specs.{LocalRule.LocalRule, LocalRule.is_true, Allowed.AreAllowed, Reach.all_cells}
-use Rattle.dd_counts.specs.Rules.{least_x, window}
+use Rattle.dd_counts.specs.Rules.{least_x, state_length}
 use Rattle.dd_strip.specs.{declared.strip.Strip.Strip, Strips.IsFor, Strips.cells}
 
 -- a number's digits in a base, so many of them, the most significant first
@@ -38,7 +38,7 @@ shown_look w = window_look w.strip w.symbols
 
 -- the cells of a window: of one slice more than a state has
 abbrev pub window_cells : LocalRule → Strip → ℕ
-window_cells r s = (window r + 1) * cells s
+window_cells r s = (state_length r + 1) * cells s
 
 -- the symbols of the window of a number, whose first cell is the most significant digit
 abbrev pub numbered_window : LocalRule → Strip → ℕ → Look

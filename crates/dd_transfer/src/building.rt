@@ -13,7 +13,7 @@ use crate::graphs::Graph;
 use crate::placing::formulas;
 use crate::standing::stand;
 use crate::windows::{Window, write_digits};
-use dd_counts::{MOST_LONGER_STATES, MOST_STATES, longer_states, states, window};
+use dd_counts::{MOST_LONGER_STATES, MOST_STATES, longer_states, state_length, states};
 use dd_formula::Rule;
 use dd_pattern::weight_of;
 use dd_strip::Strip;
@@ -103,7 +103,7 @@ fn first_window(alloc: Global, rule: &Rule, strip: Strip) -> Result<Window, Allo
     requires { IsFor rule.now strip }
     ensures { IfOk result (λ w. w ≡ shown strip (digits rule.now.symbols (window_cells rule.now strip) 0)) }
 {
-    let cells = (window(rule) + 1) * strip.cells() as u64;
+    let cells = (state_length(rule) + 1) * strip.cells() as u64;
     let blank = zeros(alloc, cells as usize)?;
     let mut window = Window::new(strip, blank);
     window.write(rule.symbols(), 0);

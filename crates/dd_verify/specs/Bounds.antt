@@ -5,7 +5,7 @@ use Rattle.dd_pattern.specs.Reading.{Look}
 use Rattle.dd_expansion.specs.{Limits.greatest, Placed.is_flat}
 use Rattle.dd_formula.specs.{LocalRule.LocalRule, Living.Obeys}
 use Rattle.dd_boxes.specs.Fillings.{IsConfiguration}
-use Rattle.dd_counts.specs.Rules.{window}
+use Rattle.dd_counts.specs.Rules.{state_length}
 use Rattle.dd_strip.specs.Strips.{strip_for}
 use Rattle.dd_transfer.specs.Certificates.{IsInLowestTerms, walk_weight, IsDensityCertificate, IsEmptyCertificate}
 use Rattle.dd_strips.specs.Claims.{StripLeast, StripEmpty, spread_of}
@@ -36,7 +36,7 @@ pub record IsLeastOnStrip (x : LocalRule) (strip ws : List ℕ) (p q : ℕ) (cyc
 -- what an answer about the least density claims
 pub data StripClaim (x : LocalRule) (strip ws : List ℕ) : Answer → Type 0 where
   claims_least : {p q : ℕ} {cycle : List ℕ} {potentials : List ℤ} → IsLeastOnStrip x strip ws p q cycle potentials → StripClaim x strip ws (answer.Density p q cycle potentials)
-  claims_empty : {ranks : List ℕ} → StripEmpty x (strip_for x strip) (greatest ranks + window x) → StripClaim x strip ws (answer.Empty ranks)
+  claims_empty : {ranks : List ℕ} → StripEmpty x (strip_for x strip) (greatest ranks + state_length x) → StripClaim x strip ws (answer.Empty ranks)
 
 -- ---- discharging: amounts that hold the bound, with duals that show that no amounts hold more
 
