@@ -1,4 +1,4 @@
--- The numbers, the strips and the vectors of queries without a fault.
+-- If a query has no fault, its numbers, its strip and its vectors are within their bounds.
 use Rattle.std.proofs.Common.{◌≡◌, ◌≤◌, ◌+◌, ℕ, zero, suc, false, List, [], ◌∷◌, length, map, get_or, ◌∙◌, arith, rules, slice_get}
 use Rattle.std.proofs.lemmas.{Bool.or_parts, Bool.ltb-false, List.length-map}
 use Rattle.std.proofs.lemmas.List.{Folds.list_all-map, Folds.list_any_none, Sums.list_all-from_AllPass}

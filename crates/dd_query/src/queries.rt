@@ -1,4 +1,4 @@
-//! The queries of a script, and how they are read from their syntax trees.
+//! The queries of a script, and how they are made from their syntax trees.
 ghost use Rattle.std.specs.Prelude.{◌≡◌, ◌≤◌, [], false, length, IfOk, OnOk};
 ghost use Rattle.std.specs.List.{list_any};
 ghost use Rattle.dd_commands.specs.{Table.row, Commands.IsRequest};
@@ -15,8 +15,8 @@ use dd_lattice::Position;
 use dd_values::Items;
 use std::alloc::{AllocError, Global};
 
-/// A query of a script. Rules, automata and configurations are given by index, each kind numbered from 0 in the order of
-/// definition.
+/// A query of a script. Rules are given by their numbers from 0, in the order of their definitions; so are automata, and so are
+/// configurations.
 #[derive(Debug, Drop)]
 pub enum Query {
     /// Whether the configuration lives in the rule's subshift.
@@ -61,21 +61,21 @@ pub enum Query {
     Forbidden {
         rule: u32,
     },
-    /// The smallest patterns that the rule forbids.
+    /// The minimal patterns that the rule forbids.
     Minimal {
         rule: u32,
     },
-    /// The least density over a strip, given by its periods along the second and the third axis; 1 for a missing axis.
+    /// The least density of a strip. It is given by its periods along the second and the third axis, which are 1 for a missing axis.
     Density {
         rule: u32,
         strip: [u32; 2],
     },
-    /// The least weight of a fundamental box over the configurations with these periods; 1 for a missing axis.
+    /// The least weight of a fundamental box of a configuration with these periods, which are 1 for a missing axis.
     Least {
         rule: u32,
         periods: [u32; 3],
     },
-    /// The best discharging bound of a radius and a margin along these vectors.
+    /// The best bound by discharging along these vectors, with a radius and a margin.
     Discharge {
         rule: u32,
         radius: u32,
@@ -115,7 +115,7 @@ fn conjugate(context: &Context, request: &Request) -> Query
     }
 }
 
-/// The query with this syntax tree, of any kind.
+/// The query with this syntax tree, whose numbers and vectors are within their bounds.
 fn asked(alloc: Global, context: &Context, request: &Request) -> Result<Query, AllocError>
     requires within { IsQueryWithin context.now.known (query_of context.now request.now) }
     requires nodes { 1 ≤ length context.now.known.setting.nodes }

@@ -20,7 +20,7 @@ fn coordinate(text: &Text, vector: &Vector, axis: usize) -> i32
     }
 }
 
-/// The position with the entries of a vector as its coordinates; missing ones are 0.
+/// The position whose coordinates are the entries of this vector; missing ones are 0.
 pub fn position_of(text: &Text, vector: &Vector) -> Position
     requires { IsClose text.now vector.now }
     ensures { result ≡ place_of text.now vector.now }
