@@ -1,4 +1,4 @@
--- Configurations without faults.
+-- A configuration without faults has a symbol for each cell of its box, and each symbol is allowed.
 use Rattle.std.proofs.Common.{◌≡◌, ◌<◌, ◌≤◌, ℕ, zero, suc, ◌+◌, ◌*◌, ◌%◌, true, List, [], ◌∷◌, length, map, Option, Some, None, refl, ap, ◌∙◌, arith, slice_index}
 use Rattle.std.proofs.lemmas.{Grind.common_steps, List.Elements.All-from_get_or}
 use Rattle.dd_topology.specs.Sets.{allows}

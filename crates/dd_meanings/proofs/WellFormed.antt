@@ -1,4 +1,4 @@
--- A written formula without a fault means a formula whose indices are in range and that is no deeper.
+-- A written formula without a fault means a formula that is no deeper, and whose numbers are in range.
 use Rattle.std.proofs.Common.{◌≡◌, ◌≤◌, ℕ, ◌+◌, ◌-◌, Bool, true, List, [], ◌∷◌, ◌++◌, length, map, refl, sym, ap, ◌∙◌, subst, inl, inr, arith, nat_lt, max}
 use Rattle.std.specs.List.{list_all, flat_map}
 use Rattle.std.proofs.lemmas.{Bool.and_from, Bool.lt-ltb, Bool.cases_Bool, List.length-map, List.length-append, List.Folds.list_all-map}
@@ -22,14 +22,14 @@ all_without : {X Y F : Type 0} (p : Y → Bool) (h : X → Y) (g : X → List F)
 all_without p h g each xs none = list_all-map p h xs ∙ list_all-from_AllPass (λ x. p (h x)) xs (all_where (λ x. p (h x) ≡ true) g each xs none)
 
 module _ (x : Context) (same : x.known.setting.topology.nodes ≡ length x.known.setting.nodes) (alphabet : x.known.setting.sets.symbols ≡ length x.known.setting.symbols) where
-  -- with this many variables in scope
+  -- the formula's numbers are in range, with this many variables in scope
   abbrev its_fits : Formula → ℕ → Bool
   its_fits = formula_fits x.known.setting.topology x.known.setting.sets.symbols
 
   abbrev symbol : ℕ → Bool
   symbol n = nat_lt n x.known.setting.sets.symbols
 
-  -- its indices are in range, with k variables in scope, and it is at most d deep
+  -- the formula's numbers are in range, with k variables in scope, and it is at most d deep
   abbrev Fine : Formula → ℕ → ℕ → Type 0
   Fine f k d = (its_fits f k ≡ true) × (depth f ≤ d)
 
@@ -95,7 +95,7 @@ module _ (x : Context) (same : x.known.setting.topology.nodes ≡ length x.known
     quantified_is Quantifier.All bs f d fit body = rolled (Formula-F.ForAll bs f) (length scope + 1) (1 + d) (and_from _ _ fit body.0) (omega (arith, body.1))
     quantified_is Quantifier.Exists bs f d fit body = rolled (Formula-F.Exists bs f) (length scope + 1) (1 + d) (and_from _ _ fit body.0) (omega (arith, body.1))
 
-  -- in each scope
+  -- what the written formula means is so in each scope in which it has no fault
   abbrev IsFine : Written → Type 0
   IsFine f = (scope : List Word) → formula_faults x f scope ≡ [] → Fine (formula_of x f scope) (length scope + 1) (written_depth f)
 

@@ -1,4 +1,4 @@
--- The rules and automata of a script.
+-- Rules and automata over the topology and the alphabets of a script.
 use Rattle.std.specs.{Prelude.ℕ, Prelude.◌≡◌, Prelude.List, Prelude.◌++◌, Prelude.length, Prelude.map, List.All}
 use Rattle.dd_expansion.specs.Limits.{IsFormula}
 use Rattle.dd_formula.specs.LocalRule.{LocalRule, local_rule, IsRule}
@@ -10,7 +10,7 @@ use Rattle.dd_meanings.specs.Tree.{Setting}
 abbrev pub script_numbers : Setting → Numbers
 script_numbers s = record { dimension = s.topology.dimension; nodes = s.topology.nodes; symbols = length s.symbols }
 
--- a rule of a formula over the script's topology and alphabet, whose nodes allow the same symbols as the script's
+-- a well-formed rule over the script's topology, symbols and sets
 pub record IsRuleOf (s : Setting) (r : LocalRule) : Type 0 where
   pub rule : IsRule r
   pub dimension : r.dimension ≡ s.topology.dimension

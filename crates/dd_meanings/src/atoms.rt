@@ -1,4 +1,4 @@
-//! Terms, atoms and balls, with indices in place of names.
+//! Terms, atoms and balls, with numbers in place of names. A scope is the list of the bound variables, the outermost first.
 ghost use Rattle.std.specs.Prelude.{◌≡◌, ◌≤◌, [], length, map, IfOk};
 ghost use Rattle.std.specs.List.{flat_map};
 ghost use Rattle.dd_faults.specs.{Names.number_in, Formulas.names_symbol, Formulas.ball_faults};
@@ -14,7 +14,7 @@ use dd_written::{
 };
 use std::alloc::Global;
 
-/// The number of a variable; 0 if the word is none.
+/// The number of a variable: 0 for `o`, and then from 1 in the order of the scope. It is 0 if the word is no variable.
 fn variable(text: &Text, scope: &[Word], word: Word) -> u32
     requires { length scope.now ≤ 64 }
     ensures { result ≡ variable_number text.now scope.now word }
@@ -29,6 +29,7 @@ fn variable(text: &Text, scope: &[Word], word: Word) -> u32
     }
 }
 
+/// The number of a label; 0 if no edge has it.
 fn label(context: &Context, word: Word) -> u32
     ensures { result ≡ label_of context.now word }
 {
@@ -61,7 +62,7 @@ fn symbol(context: &Context, name: Name) -> u32
     number_in(&context.text, &context.known.setting.symbols, name)
 }
 
-/// The right side of `=` and `!=`.
+/// The right side of `=` or `!=`: a symbol by its number, or a term.
 #[derive(Debug, Drop)]
 pub(crate) enum Operand {
     Symbol(u32),
@@ -83,7 +84,7 @@ fn side(alloc: Global, context: &Context, scope: &[Word], side: &Comparand) -> M
     }
 }
 
-/// The formula that a term has the symbol on the right, or that of the term on the right.
+/// The formula that a term has the symbol on the right, or the same symbol as the term on the right.
 fn equal(term: Term, side: Operand) -> Formula
     ensures { result ≡ equal_of term side }
 {
@@ -93,7 +94,7 @@ fn equal(term: Term, side: Operand) -> Formula
     }
 }
 
-/// The formula that a term has a symbol other than the right side.
+/// The formula that a term has another symbol than the one on the right, or than the term on the right.
 fn not_equal(term: Term, side: Operand) -> Formula
     ensures { result ≡ not_equal_of term side }
 {
@@ -103,6 +104,7 @@ fn not_equal(term: Term, side: Operand) -> Formula
     }
 }
 
+/// What an atom means in a scope.
 pub(crate) fn atom(alloc: Global, context: &Context, scope: &[Word], atom: &Atom) -> Made<Formula>
     requires { length scope.now ≤ 64 }
     ensures { IfOk result (λ f. f ≡ atom_of context.now scope.now atom.now) }
@@ -126,6 +128,7 @@ pub(crate) fn atom(alloc: Global, context: &Context, scope: &[Word], atom: &Atom
     }
 }
 
+/// Balls without faults, with numbers in place of names.
 pub(crate) fn balls(
     alloc: Global,
     context: &Context,

@@ -1,4 +1,4 @@
-//! What the commands that define something mean.
+//! What definitions mean: rules, automata and configurations.
 ghost use Rattle.std.specs.Prelude.{◌≡◌, ◌≤◌, [], length, map, IfOk};
 ghost use Rattle.std.specs.List.{All, flat_map};
 ghost use Rattle.dd_written.specs.Formulas.{tree_depth};
@@ -47,7 +47,7 @@ pub(crate) fn rule(alloc: Global, context: &Context, name: Word, formula: &Formu
     }
 }
 
-/// Cases without faults, with their formulas and the indices of their symbols.
+/// Cases without faults: the formula and the number of the symbol of each.
 fn cases_of(alloc: Global, context: &Context, cases: &[Case]) -> Made<Items<(Meant, u32)>>
     requires shallow { All (λ c. tree_depth c.condition ≤ 64) cases.now }
     requires faultless { flat_map (case_faults context.now) cases.now ≡ [] }
@@ -62,7 +62,7 @@ fn cases_of(alloc: Global, context: &Context, cases: &[Case]) -> Made<Items<(Mea
     Ok(made)
 }
 
-/// The automaton with these cases, and with a symbol for cells at which no case is true.
+/// The automaton with these cases, and with a default symbol for cells at which no case is true.
 pub(crate) fn automaton(
     alloc: Global,
     context: &Context,

@@ -1,4 +1,4 @@
-//! Formulas, with indices in place of names.
+//! Formulas, with numbers in place of names.
 ghost use Rattle.std.specs.Prelude.{◌≡◌, ◌+◌, ◌≤◌, [], length, IfOk};
 ghost use Rattle.dd_written.specs.Formulas.{tree_depth};
 ghost use Rattle.dd_faults.specs.Formulas.{formula_faults};
@@ -48,6 +48,7 @@ fn equivalent(alloc: Global, parts: Items<Formula>) -> Made<Formula>
     Ok(whole)
 }
 
+/// A chain of these parts, with this sign between them.
 fn joined(alloc: Global, join: Join, parts: Items<Formula>) -> Made<Formula>
     ensures { IfOk result (λ f. f ≡ joined_of join parts) }
 {

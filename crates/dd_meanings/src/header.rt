@@ -1,4 +1,4 @@
-//! What the commands of the header mean.
+//! What the commands of the header mean. Each has a function of its name, and has no fault.
 ghost use Rattle.std.specs.Prelude.{◌≡◌, ◌≤◌, [], length, map, IfOk};
 ghost use Rattle.dd_commands.specs.declared.command.Command.TheVariants as command;
 ghost use Rattle.dd_known.specs.Sound.{IsSound};
@@ -77,7 +77,7 @@ pub(crate) fn kind(alloc: Global, context: &Context, kind: Kind) -> Resolved
     })
 }
 
-/// The indices of symbols.
+/// The numbers of the symbols with these names.
 pub(crate) fn symbols_of(alloc: Global, context: &Context, names: &[Name]) -> Made<Items<u32>>
     ensures { IfOk result (λ symbols. symbols ≡ map (symbol_of context.now) names.now) }
 {

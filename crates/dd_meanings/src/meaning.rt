@@ -21,14 +21,14 @@ pub enum Meaning {
     },
     /// The names of the symbols.
     Symbols(Names),
-    /// The symbols that a node allows.
+    /// The numbers of a node, and of the symbols that it allows.
     Only {
         node: u32,
         symbols: Items<u32>,
     },
-    /// One for each symbol.
+    /// The weight of each symbol.
     Weights(Items<u32>),
-    /// The greatest radius, period and number of pivots from here on.
+    /// The limits of the searches, for all queries from here on.
     Limits(Limits),
     /// A rule with its name.
     Rule {
