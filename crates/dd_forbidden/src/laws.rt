@@ -3,12 +3,12 @@ ghost use Rattle.std.specs.Prelude.{◌≡◌, ◌<◌, ◌≤◌, ◌^◌, ℕ,
 ghost use Rattle.dd_formula.specs.LocalRule.{LocalRule, IsRule, cells_at};
 ghost use Rattle.dd_forbidden.specs.Breaking.{IsBreaking, BreakingFillings};
 
-/// Does nothing; its contract says that there is one list of all breaking fillings in lexicographic order.
+/// Does nothing; its contract says that two lists of all breaking fillings in lexicographic order are equal.
 pub fn one_list()
     ensures { (r : LocalRule) (a : ℕ) (xs ys : List (List ℕ)) → BreakingFillings r a xs → BreakingFillings r a ys → xs ≡ ys }
 {}
 
-/// Does nothing; its contract says that the list is no longer than the number of all fillings of the cells that are read.
+/// Does nothing; its contract says that there are at most as many breaking fillings as fillings of the cells that are read.
 pub fn short_list()
     ensures { (r : LocalRule) (a : ℕ) (xs : List (List ℕ)) → IsRule r → BreakingFillings r a xs → length xs ≤ r.symbols ^ length (cells_at r a) }
 {}

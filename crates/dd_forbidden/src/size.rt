@@ -1,4 +1,4 @@
-//! Whether the cells that are read have too many fillings.
+//! The limit on the number of fillings.
 ghost use Rattle.std.specs.Prelude.{◌≡◌, ◌<◌};
 ghost use Rattle.dd_forbidden.specs.Breaking.{is_large};
 

@@ -3,7 +3,7 @@
 ghost use Rattle.std.specs.Prelude.{◌≡◌, ◌<◌, ◌++◌, length, map, IfOk, OnOk};
 ghost use Rattle.dd_formula.specs.LocalRule.{cells_at};
 ghost use Rattle.dd_forbidden.specs.listing.Extensions.{AreOf, AreSymbols};
-ghost use Rattle.dd_forbidden.specs.listing.Saying.{SaysKept};
+ghost use Rattle.dd_forbidden.specs.listing.Saying.{SaysRule};
 ghost use Rattle.dd_minimal.specs.Minimal.{words};
 ghost use Rattle.dd_minimal.specs.finding.Outcomes.{known_outcome, outcome_behind, outcomes};
 
@@ -38,7 +38,7 @@ fn fill(
     symbols: &mut Items<u32>,
     table: &mut Items<Outcome>,
 ) -> Result<(), AllocError>
-    requires formula { SaysKept rule.now node formula.now }
+    requires formula { SaysRule rule.now node formula.now }
     requires rest { AreOf rule.now rest.now }
     requires symbols { AreSymbols rule.now symbols.old }
     ensures table { OnOk result (table.new ≡ table.old ++ map (outcome_behind rule.now node rest.now symbols.old) (words rule.now.symbols (length rest.now))) }

@@ -31,7 +31,7 @@ cut_passed l m n le past = omega arith
 pub next_cut : (l old term new sum part whole : ℕ) → old ≡ cut l sum → term ≡ cut l part → new ≡ cut l (old + term) → whole ≡ sum + part → new ≡ cut l whole
 next_cut l old term new sum part whole a b c d = omega arith
 
--- a product or a power of counts that are cut off, itself cut off, is the product or the power of the counts, cut off
+-- ---- a product or a power of counts that are cut off, itself cut off, is the product or the power of the counts, cut off
 
 times_small : (l x y : ℕ) → x ≤ l → cut l (cut l x * y) ≡ cut l (x * y)
 times_small l x y le =

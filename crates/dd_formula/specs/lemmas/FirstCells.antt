@@ -36,7 +36,7 @@ not_both x t tile fits c first lives =
     let node : c.node < x.nodes = subst (λ n. c.node < n) fits.nodes first.within.node in
     false≢true (sym first.here ∙ lives c.position c.node flat node)
 
--- there is at most one first cell at which a rule is false
+-- ---- there is at most one first cell at which a rule is false
 
 cells_total : IsTotalOrder cell_cmp
 cells_total =

@@ -1,4 +1,4 @@
--- What the formula over numbers says, and the nodes of the cells that are read.
+-- A rule's numbered expansion says what the rule says, and the cells that are read have the rule's nodes.
 use Rattle.std.specs.{Prelude.All, List.position_or_len, List.list_all, List.fold, Ordering.is_eq, BTreeSet.insert_key}
 use Rattle.dd_pattern.specs.{Reading.HasSymbolsBelow, Reading.Look, Filling.filling_look, Filling.filled}
 use Rattle.dd_lattice.specs.{Order.cell_cmp, declared.position.Cell.Cell, Cells.shifted, Cells.cell, Place.Place, Place.place}
@@ -8,26 +8,27 @@ use Rattle.std.proofs.lemmas.{Bool.ltb-true, Bool.and_parts, Map.Views.All-inser
 use Rattle.dd_values.specs.lemmas.Lists.{below_at}
 use Rattle.dd_formula.specs.LocalRule.{is_true, LocalRule, cells_at, is_of, IsRule, reads_at}
 use Rattle.dd_expansion.specs.{declared.expanded.Expanded.Expanded, Leaves.holds, Placed.is_flat}
-use Rattle.dd_forbidden.specs.{Breaking.is_true_at_origin, listing.Extensions.AreSymbols, listing.Extensions.AreOf, listing.Saying.SaysKept}
+use Rattle.dd_forbidden.specs.{Breaking.is_true_at_origin, listing.Extensions.AreSymbols, listing.Extensions.AreOf, listing.Saying.SaysRule}
 use mathlib.Core.Path.{fun_ext}
 use Rattle.dd_numbered.specs.{declared.numbered.Numbered.Numbered, Numbered.holds_in, Numbering.read_by, Numbering.by_rank}
 
 pub look_below : (n : ℕ) (cs : List Cell) (ss : List ℕ) → All (λ s. s < n) ss → HasSymbolsBelow n (filling_look (filled cs ss))
 look_below n cs ss below c = below_at n ss below (position_or_len (λ d. is_eq (cell_cmp d c)) cs)
 
+-- the expansion, with its cells counted from a position, is true exactly where the rule is
 abbrev pub SaysTruth : LocalRule → ℕ → Expanded → Type 0
 SaysTruth r a e = (look : Look) → HasSymbolsBelow r.symbols look → (v : Place) → holds e (λ c. look (shifted v c)) ≡ is_true r (cell v a) look
 
-pub kept_here : (r : LocalRule) (a : ℕ) (e : Expanded) (ss : List ℕ) → SaysTruth r a e → AreSymbols r ss → holds e (filling_look (filled (cells_at r a) ss)) ≡ is_true_at_origin r a ss
-kept_here r a e ss truth below =
+pub says_at_origin : (r : LocalRule) (a : ℕ) (e : Expanded) (ss : List ℕ) → SaysTruth r a e → AreSymbols r ss → holds e (filling_look (filled (cells_at r a) ss)) ≡ is_true_at_origin r a ss
+says_at_origin r a e ss truth below =
     let look : Look = filling_look (filled (cells_at r a) ss) in
     let same : (λ (c : Cell). look (shifted (place (pos 0) (pos 0) (pos 0)) c)) ≡ look = fun_ext (λ c. ap look (shifted_by_origin c)) in
     ap (holds e) (sym same) ∙ truth look (look_below r.symbols (cells_at r a) ss below) (place (pos 0) (pos 0) (pos 0))
 
--- the expansion with the places of the cells that are read
-pub says_kept : (r : LocalRule) (a : ℕ) (e : Numbered) (x : Expanded) (cs : List Cell) → SaysTruth r a x → cs ≡ cells_at r a →
-    ((ss : List ℕ) → holds_in e ss ≡ holds x (read_by (by_rank cs) ss)) → SaysKept r a e
-says_kept r a e x cs truth is says ss below = says ss ∙ (ap (λ ds. holds x (filling_look (filled ds ss))) is ∙ kept_here r a x ss truth below)
+-- the numbered formula says what the expansion says, if the numbers are the places of the cells that are read
+pub says_rule : (r : LocalRule) (a : ℕ) (e : Numbered) (x : Expanded) (cs : List Cell) → SaysTruth r a x → cs ≡ cells_at r a →
+    ((ss : List ℕ) → holds_in e ss ≡ holds x (read_by (by_rank cs) ss)) → SaysRule r a e
+says_rule r a e x cs truth is says ss below = says ss ∙ (ap (λ ds. holds x (filling_look (filled ds ss))) is ∙ says_at_origin r a x ss truth below)
 
 pub node_below : (r : LocalRule) (c : Cell) → is_of r c ≡ true → c.node < r.nodes
 node_below r c h = ltb-true c.node r.nodes (and_parts (is_flat r.dimension c.position) _ h).1
