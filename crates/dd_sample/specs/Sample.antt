@@ -2,7 +2,7 @@
 use Rattle.std.specs.Prelude.{◌≡◌, ℕ, ◌*◌, ◌≤◌, List, ◌++◌, codes, Option, Some, None}
 use Rattle.std.specs.{List.repeat, Fmt.decimal}
 
--- There is a sample with this number. The configuration of the last sample has as many symbols as a script allows.
+-- There is a sample with this number. The configuration of the last one has as many symbols as a script allows.
 abbrev pub IsSampleNumber : ℕ → Type 0
 IsSampleNumber number = (1 ≤ number) × (number ≤ 16384)
 
@@ -10,7 +10,7 @@ IsSampleNumber number = (1 ≤ number) × (number ≤ 16384)
 abbrev pub IsWrittenBy : List ℕ → ℕ → Type 0
 IsWrittenBy word number = IsSampleNumber number × (word ≡ decimal number)
 
--- the sample number that the word gives, or none if it gives none
+-- the sample number that the word gives; none if it gives no such number
 abbrev pub IsNumberOf : List ℕ → Option ℕ → Type 0
 IsNumberOf word (Some number) = IsWrittenBy word number
 IsNumberOf word None = (number : ℕ) → ¬ IsWrittenBy word number

@@ -1,4 +1,4 @@
-//! The sample scripts, one for each number. All have the same queries; the number determines the length of the configuration.
+//! The sample scripts, one for each number. All have the same queries. The number gives the height of the one configuration.
 #![tactic(auto)]
 
 mod number;

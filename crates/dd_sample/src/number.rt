@@ -1,4 +1,4 @@
-//! The numbers of samples, as words.
+//! The numbers of samples, read from words.
 ghost use Rattle.std.specs.Prelude.{◌≡◌, ◌⊎◌, ◌↔◌, IsTrue, slice_index};
 ghost use Rattle.dd_sample.specs.Sample.{IsNumberOf};
 

@@ -1,4 +1,5 @@
--- The tokens of a text after another text, of a number before a bracket, and of symbols.
+-- The tokens of a text after another text, of a number before a bracket, and of symbols. Bytes are written by their codes: 10 ends a line,
+-- 32 is a blank, 48 to 57 are the digits, and 93 is the closing bracket.
 use Rattle.std.proofs.Common.{◌≡◌, ℕ, zero, suc, ◌+◌, ◌-◌, ◌*◌, ◌<◌, ◌≤◌, List, [], ◌∷◌, ◌++◌, length, map, true, codes, refl, sym, ap, subst, ◌∙◌, arith}
 use Rattle.std.specs.List.{prefix_len, repeat}
 use Rattle.dd_tokens.specs.declared.{token.Token.Token, token.Tokens.Tokens, piece.Piece.Piece}
@@ -6,7 +7,7 @@ use Rattle.dd_tokens.specs.declared.piece.Piece.TheVariants.{Gap, Cut, Fault}
 use Rattle.dd_tokens.specs.Format.{tokens_after, first, front, with_piece, piece_size, with_front, is_digit}
 use Rattle.dd_tokens.specs.declared.token.TokenKind.TheVariants as token
 
--- ---- shifted by p bytes
+-- ---- tokens p bytes further on, as after a text of p bytes
 
 abbrev pub up_token : ℕ → Token → Token
 up_token p t = record { kind = t.kind; start = p + t.start; length = t.length }
@@ -105,9 +106,11 @@ number_before d ds ys place low high all =
 
 -- ---- symbols
 
+-- the symbols of two rows
 abbrev pub turn : List ℕ
 turn = codes " 1 0 0 1"
 
+-- the tokens of these four symbols, from a position on
 abbrev pub four : ℕ → List Token
 four place = number_token (place + 1) 1 ∷ number_token (place + 3) 1 ∷ number_token (place + 5) 1 ∷ number_token (place + 7) 1 ∷ []
 

@@ -1,4 +1,4 @@
--- What tokens mean to the grammar, if their text follows another one.
+-- The lexemes of tokens whose text follows another text.
 use Rattle.std.proofs.Common.{◌≡◌, ℕ, zero, suc, ◌+◌, List, [], ◌∷◌, ◌++◌, length, map, take, drop, Option, Some, None, refl, ap, ◌∙◌, arith}
 use Rattle.dd_tokens.specs.declared.token.{Token.Token, TokenKind.TokenKind}
 use Rattle.dd_written.specs.declared.lexeme.{Mark.Mark, Word.Word, Number.Number}
@@ -24,7 +24,7 @@ stands_after bytes p xs ys q stands is k =
     let at : q + k ≡ p + (length xs + k) = omega (arith, is) in
     ap (λ (j : ℕ). drop j bytes) at ∙ (stands (length xs + k) ∙ stands_behind xs ys k)
 
--- ---- the same, shifted by p bytes
+-- ---- lexemes p bytes further on
 
 abbrev pub up_word : ℕ → Word → Word
 up_word p w = record { start = p + w.start; length = w.length }

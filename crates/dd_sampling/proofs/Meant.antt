@@ -1,4 +1,4 @@
--- What the rules of a sample mean: their formulas with indices, and then without variables.
+-- What the rules of a sample mean: their formulas with numbers in place of names, and then without variables.
 use Rattle.std.proofs.Common.{◌≡◌, ℕ, ◌+◌, List, [], ◌∷◌, ◌++◌, map, length, ap}
 use Rattle.std.specs.{Prelude.pos, Prelude.negsuc, List.flat_map, Option.option_to_list}
 use Rattle.dd_lattice.specs.{Place.place, Cells.cell, InOrder.in_order, declared.position.Cell.Cell}
@@ -62,9 +62,11 @@ plain_rule f = local_rule square (all_symbols 1 2) f
 
 -- ---- without variables
 
+-- the cell at (x, y)
 abbrev pub at : ℕ → ℕ → Cell
 at x y = cell (place (pos x) (pos y) (pos 0)) 0
 
+-- the neighbours of the origin on the left and below
 abbrev pub left_of : Cell
 left_of = cell (place (negsuc 0) (pos 0) (pos 0)) 0
 

@@ -97,6 +97,7 @@ named bytes names v t is known =
     ap (λ (s : List ℕ). when (not (is_some (number_of names s))) (fault.Unknown (name.Word v))) is
     ∙ ap (λ (b : Bool). when (not b) (fault.Unknown (name.Word v))) known
 
+-- the context of a query, which is the command with this number
 abbrev pub asked_in : List ℕ → ℕ → Context
 asked_in bytes number = standing bytes number names_5 (codes "c" ∷ [])
 
@@ -183,6 +184,7 @@ rules_5 = plain_rule hard_meant ∷ plain_rule row_meant ∷ plain_rule dies_mea
 abbrev pub script : List Tile → List Query → Parts
 script tiles queries = record { known = known names_5 (codes "c" ∷ []); rules = rules_5; automata = []; configurations = tiles; queries = queries; pairs = [] }
 
+-- the limit that a query exceeds
 abbrev pub excess_at : List ℕ → ℕ → ℕ → List Tile → List Query → Word × Request → Option Excess
 excess_at bytes number p tiles queries a = query_excess (script tiles queries) (query_of (asked_in bytes number) (up_request p a.1))
 

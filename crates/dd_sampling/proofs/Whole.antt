@@ -27,17 +27,19 @@ front_tokens = (tokens_of front_text).list
 abbrev pub tail_tokens : List Token
 tail_tokens = (tokens_of tail_text).list
 
--- a sample whose height has these digits
+-- a sample up to its symbols; its height has the digit d, and then the digits ds
 abbrev pub upper : ℕ → List ℕ → ℕ → List ℕ
 upper d ds n = front_text ++ (d ∷ (ds ++ 93 ∷ repeat n turn))
 
+-- the whole sample
 abbrev pub whole : ℕ → List ℕ → ℕ → List ℕ
 whole d ds n = upper d ds n ++ tail_text
 
--- the position at which the symbols begin
+-- the position at which the symbols begin: the front has 181 bytes
 abbrev pub symbols_at : List ℕ → ℕ
 symbols_at ds = 181 + (1 + length ds) + 1
 
+-- the position at which the text after the symbols begins
 abbrev pub tail_at : List ℕ → ℕ → ℕ
 tail_at ds n = symbols_at ds + 8 * n
 
@@ -68,6 +70,7 @@ from_digits d ds n = d ∷ (ds ++ 93 ∷ (repeat n turn ++ tail_text))
 pub regrouped : (d : ℕ) (ds : List ℕ) (n : ℕ) → whole d ds n ≡ front_text ++ from_digits d ds n
 regrouped d ds n = ap (λ (ys : List ℕ). front_text ++ (d ∷ ys)) (append_assoc ds (93 ∷ repeat n turn) tail_text)
 
+-- the tokens from the digits on
 abbrev pub rest_tokens : List ℕ → ℕ → List Token
 rest_tokens ds n = number_token 181 (1 + length ds) ∷ mark_token (181 + (1 + length ds)) ∷ (turn_tokens (symbols_at ds) n ++ map (up_token (tail_at ds n)) tail_tokens)
 

@@ -1,4 +1,5 @@
-//! What holds before a script defines anything, and again for the symbols that nodes allow when it names others.
+//! The defaults: what holds before a script defines anything. Also the sets of symbols that nodes allow, which are made anew when
+//! a script names its nodes or symbols.
 #![tactic(auto)]
 
 mod defaults;
