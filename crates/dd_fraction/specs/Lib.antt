@@ -1,6 +1,6 @@
 -- exact fractions
 pub mod Exact
--- sums, products and quotients whose numbers on the way fit
+-- sums, products and quotients whose intermediate numbers fit
 pub mod Checked
 -- their order
 pub mod Order

@@ -1,4 +1,4 @@
--- The order of exact fractions, by cross products.
+-- The order of exact fractions, by cross products: a / b is at most c / d exactly if a · d is at most c · b.
 use Rattle.std.specs.{declared.cmp.Ordering.Ordering, Ordering.int_cmp}
 use lib.IntN.{pos, ◌*ℤ◌}
 use lib.Signed.{◌≤ℤ◌, ◌<ℤ◌}

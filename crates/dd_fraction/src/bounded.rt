@@ -1,10 +1,11 @@
-//! Sums and products of at most 2^127 - 1 in absolute value. Since -2^127 is left out, each number has an opposite.
+//! Sums and products of at most 2^127 - 1 in absolute value. Since -2^127 is left out, each number has an opposite. A size
+//! is a number without sign.
 ghost use Rattle.std.specs.Prelude.{◌≡◌, ◌*◌, ◌^◌, ◌≤◌, IfSome, true};
 ghost use Rattle.std.specs.Int.RustNames.{unsigned_abs};
 ghost use lib.IntN.{◌*ℤ◌, ◌+ℤ◌};
 ghost use Rattle.dd_fraction.specs.Checked.{is_bounded, bounded, bounded_size};
 
-/// The product, or `None` where it passes 2^127 - 1 in absolute value.
+/// The product, or `None` if it is greater than 2^127 - 1 in absolute value.
 #[inline(always)]
 pub fn product(a: i128, b: i128) -> Option<i128>
     ensures { result ≡ bounded (a *ℤ b) }
@@ -33,7 +34,7 @@ fn wide_product(a: i128, b: i128) -> Option<i128>
     }
 }
 
-/// The sum, or `None` where it passes 2^127 - 1 in absolute value.
+/// The sum, or `None` if it is greater than 2^127 - 1 in absolute value.
 #[inline(always)]
 pub fn sum(a: i128, b: i128) -> Option<i128>
     ensures { result ≡ bounded (a +ℤ b) }
@@ -44,7 +45,7 @@ pub fn sum(a: i128, b: i128) -> Option<i128>
     }
 }
 
-/// The sum of two machine words, which is always bounded. `None` where one of the two is no machine word.
+/// The sum of two machine words, which is always bounded. `None` if one of the two is not a machine word.
 #[inline(always)]
 pub fn word_sum(a: i128, b: i128) -> Option<i128>
     ensures value { IfSome result (λ s. s ≡ a +ℤ b) }
@@ -58,7 +59,7 @@ pub fn word_sum(a: i128, b: i128) -> Option<i128>
     }
 }
 
-/// The product of two sizes, or `None` where it passes 2^127 - 1.
+/// The product of two sizes, or `None` if it is greater than 2^127 - 1.
 #[inline(always)]
 pub fn size_product(a: u128, b: u128) -> Option<u128>
     ensures { result ≡ bounded_size (a * b) }
