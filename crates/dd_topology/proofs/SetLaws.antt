@@ -116,7 +116,7 @@ listed_rows row m symbols long each =
     same_lists row (symbol_row m symbols) (long ∙ sym (length-map-range_with_len (is_listed symbols) 0 m)) (λ t d h.
     get_or_default row t d false h ∙ (each t h ∙ sym (get_or-row_of m symbols t d (omega arith))))
 
--- a row of flat answers was written over in place
+-- one row of the flat list was written over in place
 module _ (n m a k len : ℕ) (xs now row : List Bool) (symbols : List ℕ) (below : a < n) (long : length xs ≡ n * m) (full : length xs ≡ len) (same : now ≡ xs) (size : k ≡ m)
     (is : row ≡ symbol_row (length (take k (drop (a * m) now))) symbols) where
   abbrev over : List Bool

@@ -1,4 +1,4 @@
--- What a topology keeps beside its edges, and how sets are kept.
+-- How topologies and the alphabets of nodes are kept in memory.
 use Rattle.std.specs.Prelude.{ℕ, zero, suc, List, [], ◌∷◌, take, drop}
 use Rattle.dd_topology.specs.declared.{edge.Edge.Edge, topology.Move.Move}
 

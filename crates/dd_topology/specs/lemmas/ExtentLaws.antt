@@ -1,4 +1,4 @@
--- How far a place lies from the origin.
+-- How far places lie from the origin, and the way back from a place.
 use Rattle.std.proofs.{Common.◌+◌, Common.arith, Common.◌≤◌, Common.◌≡◌, lemmas.Int.ints}
 use Rattle.dd_topology.specs.Topology.{extent, reversed}
 use Rattle.dd_lattice.specs.{Place.Place, Place.moved, lemmas.MoveLaws.place_same}

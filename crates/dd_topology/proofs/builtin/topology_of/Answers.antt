@@ -1,5 +1,5 @@
 use Rattle.dd_topology.proofs.TableLaws.{not_twice}
-use Rattle.dd_topology.proofs.builtin.made.Goals as goal
+use Rattle.dd_topology.proofs.builtin.topology_of.Goals as goal
 
 pub unreachable-requires : goal.unreachable-requires
 unreachable-requires c =
