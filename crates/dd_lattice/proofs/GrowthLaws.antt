@@ -223,7 +223,7 @@ axis_more n false false c up h = h
 active_more : (d e axis : ℕ) → d ≤ e → is_active d axis ≡ true → is_active e axis ≡ true
 active_more d e axis h a = grind (arith, nat_tests)
 
--- what is near on fewer axes, and level on the others, is near on more
+-- a position near the list on the first d axes, and at distance 0 on the others, is near it on more axes
 pub near_more : (d e n : ℕ) (ps : List Place) → d ≤ e → (p : Place) → IsNearby d n ps p → IsNearby e n ps p
 near_more d e n ps more p h =
     let v = seen_from h.0 p in (
@@ -259,7 +259,7 @@ far_leaves n (q ∷ ps) some far =
       outside = λ near. c.2 near.0;
     }
 
--- the regions after each run, and the faults of each, for a growth on at least so many axes
+-- the regions after the runs along each axis, and their faults, for a growth on at least that many axes
 pub grown_x : (n : ℕ) (ps run : List Place) → IsRegionOf (IsStretched X (pos 0 -ℤ pos n) (pos n +ℤ pos 1) ps) run → IsRegionOf (IsNearby 1 n ps) run
 grown_x n ps run = region_same _ _ run (near_from_x n ps) (x_from_near n ps)
 

@@ -45,7 +45,7 @@ merged_swap l lr r rr made m = record {
   before_right = m.before_left;
 }
 
--- the members after one position is added to the left list and to the merged one
+-- the members, after one position is added to the left list and to the merged one
 members_push : (l r made : List Place) (x : Place) → ((p : Place) → Contains made p ↔ IsInEither l r p) →
     (p : Place) → Contains (made ++ x ∷ []) p ↔ IsInEither (l ++ x ∷ []) r p
 members_push l r made x same p = (
@@ -65,7 +65,7 @@ members_push l r made x same p = (
   ],
 )
 
--- if a list and one more position come before q, so does all of the longer list
+-- if a list and one more position come before q, the list with that position does too
 before_push : (made : List Place) (x q : Place) → ((p : Place) → Contains made p → place_cmp p q ≡ Less) → place_cmp x q ≡ Less →
     (p : Place) → Contains (made ++ x ∷ []) p → place_cmp p q ≡ Less
 before_push made x q old new p c = elim (Contains-push_cases made x p c) [
@@ -85,7 +85,7 @@ take_left l lr r rr made x m first = record {
   before_right = λ p q c d. before_push made x q (λ z e. m.before_right z q e d) (first q d) p c;
 }
 
--- a position that the right list has too may be added to its part
+-- a position that the left list has too may be added to the part of the right list
 members_both : (l r made : List Place) (x : Place) → Contains l x → ((p : Place) → Contains made p ↔ IsInEither l r p) →
     (p : Place) → Contains made p ↔ IsInEither l (r ++ x ∷ []) p
 members_both l r made x has same p = (

@@ -1,5 +1,5 @@
-//! The growth of a region, axis by axis. Along an axis, the union of n copies in a row and the same n copies moved by n
-//! is a row of 2n copies. So few unions are made however far a region grows.
+//! The growth of a region, axis by axis. Along an axis, a row of n copies and the same row moved by n steps together
+//! make a row of 2n copies. So a region that grows by n takes about log n unions for each axis.
 ghost use Rattle.std.specs.Prelude.{◌≡◌, ◌+◌, ◌*◌, ◌≤◌, ℤ, pos, ◌-ℤ◌, ◌+ℤ◌, ◌≤ℤ◌, MatchResult};
 ghost use Rattle.dd_lattice.specs.Place.{most_coordinate};
 ghost use Rattle.dd_lattice.specs.Regions.{IsRegionOf, IsFaultOf, IsNearby};
@@ -17,6 +17,7 @@ enum Axis {
     Z,
 }
 
+/// The position that is `steps` from the origin along an axis.
 fn along(axis: Axis, steps: i32) -> Position
     requires low { (pos 0 -ℤ pos most_coordinate) ≤ℤ steps }
     requires high { steps ≤ℤ pos most_coordinate }
@@ -90,8 +91,8 @@ fn grown(alloc: Global, region: &Region, dim: u32, by: u32) -> Result<Region, La
 }
 
 impl Region {
-    /// All positions within `by` of a member on each of the first `dim` axes, or `Range` where a coordinate would pass
-    /// 2^20.
+    /// All positions whose distance to some member is at most `by` on each of the first `dim` axes, and 0 on the
+    /// others. `Range` if a coordinate would pass 2^20.
     pub fn grow(&self, alloc: Global, dim: u32, by: u32) -> Result<Region, LatticeFault>
         requires least { 1 ≤ dim }
         requires most { dim ≤ 3 }

@@ -1,4 +1,4 @@
-//! Positions and cells of the lattice Z^d for d = 1, 2, 3, their order, boxes and regions.
+//! Positions and cells of the lattice Z^d for d = 1, 2, 3, their order, and boxes and regions of positions.
 #![tactic(auto, using(std::proofs::lemmas::Grind::common_steps))]
 
 mod bounds;

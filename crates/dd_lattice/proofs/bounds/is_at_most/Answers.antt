@@ -4,8 +4,8 @@ use Rattle.std.specs.Prelude.{int_lt}
 use mir.Syntax.{w32}
 use mir.Val.{to_z, of_z}
 use Rattle.dd_lattice.specs.Place.{Place, IsCoordinateInRange}
-use Rattle.dd_lattice.proofs.bounds.is_below.Goals.{then-q-p-via-then-q-p, then-q-p-via-else-q-p+then-q-p-2, then-q-p-via-else-q-p+else-q-p-2+then-q-p-3}
-use Rattle.dd_lattice.proofs.bounds.is_below.Goals as goal
+use Rattle.dd_lattice.proofs.bounds.is_at_most.Goals.{then-q-p-via-then-q-p, then-q-p-via-else-q-p+then-q-p-2, then-q-p-via-else-q-p+else-q-p-2+then-q-p-3}
+use Rattle.dd_lattice.proofs.bounds.is_at_most.Goals as goal
 
 module _ (p q p' q' : ℤ) (p_near : IsCoordinateInRange p) (q_near : IsCoordinateInRange q) (p_is : p ≡ p') (q_is : q ≡ q') where
   above : int_lt (to_z w32 (of_z w32 q)) (to_z w32 (of_z w32 p)) ≡ true → p' ≤ℤ q' → ⊥
