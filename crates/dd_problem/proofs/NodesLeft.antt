@@ -1,4 +1,4 @@
--- The state while the gates at the nodes of a position are made, each with a literal of its signal.
+-- The loop that makes the gates at the nodes of a position, and a literal of each signal.
 use Rattle.std.proofs.Common.{◌≡◌, ℕ, ◌+◌, ◌<◌, ◌≤◌, List, [], ◌∷◌, ◌++◌, map, length, refl, ap, sym, ◌∙◌, arith, length-append, append_assoc, true}
 use Rattle.std.proofs.lemmas.List.{append-nil, Elements.All-push, Elements.All-weaker}
 use Rattle.std.specs.List.{range_with_len}
@@ -21,7 +21,7 @@ use Rattle.dd_problem.specs.lemmas.Growing.{same_encoding, extended_size, extend
 abbrev pub turned_part : (ℕ → Maker) → ℕ → (Signal → Literal) → Part
 turned_part maker count turn = record { makers = map maker (range_with_len 0 count); tail = λ ss. map turn ss ∷ [] }
 
--- the gates of a rule
+-- the gates of a rule at a node of a position
 abbrev pub node_maker : Wiring → LocalRule → Place → ℕ → Maker
 node_maker w y v a = compiled w v (expansion_at y a)
 

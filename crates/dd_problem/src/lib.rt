@@ -1,4 +1,5 @@
-//! Box questions as clauses.
+//! Box questions as clauses: for a box or a torus, a clause list that is satisfiable exactly if the box or the torus has what the
+//! question asks for. A satisfying assignment of a torus's clauses is read back as a periodic configuration.
 #![tactic(auto)]
 
 mod boxes;

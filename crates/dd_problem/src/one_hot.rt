@@ -12,6 +12,7 @@ use dd_formula::Rule;
 use dd_lattice::Cell;
 use std::alloc::{AllocError, Global};
 
+/// The literal that says that the variable is false.
 fn negative(variable: u32) -> Literal
     ensures { result ≡ literal variable false }
 {
@@ -120,7 +121,8 @@ fn push_cell(
     push_disallowed(alloc, cnf, premise, number, node)
 }
 
-/// Adds the clauses that say that each of the cells has one symbol, which its node allows. If memory runs out, some may have been added.
+/// Adds the clauses that say that each of the cells has one symbol, which its node allows. If memory runs out, some may have
+/// been added.
 pub(crate) fn push_cells(
     alloc: Global,
     cnf: &mut Cnf,

@@ -3,7 +3,7 @@ ghost use Rattle.dd_boxes.specs.Goals.{IsGoalFor, KeepsRule};
 ghost use Rattle.dd_boxes.specs.Views.{goal_of};
 ghost use Rattle.dd_certificate.specs.declared.answer.Answer.{Answer as AnyAnswer};
 ghost use Rattle.dd_formula.specs.LocalRule.{LocalRule};
-ghost use Rattle.dd_problem.specs.pushing.Told.{IsToldGoal};
+ghost use Rattle.dd_problem.specs.pushing.GoalFacts.{HasGoalFacts};
 ghost use Rattle.dd_verify.specs.Certificates.{IsCertificateOf, ClaimOf};
 
 use dd_boxes::Goal;
@@ -18,8 +18,8 @@ use dd_strips::{strip_empty, strip_least};
 
 /// Only looks at the goal's automata. Its contract says that each cell that an automaton reads is a cell of Z^d with one of the
 /// nodes, and that the gates of its value compute the value.
-fn tell_goal(goal: &Goal)
-    ensures { (x : LocalRule) → IsGoalFor x (goal_of x goal.now) → KeepsRule (goal_of x goal.now) → IsToldGoal x (goal_of x goal.now) }
+fn goal_facts(goal: &Goal)
+    ensures { (x : LocalRule) → IsGoalFor x (goal_of x goal.now) → KeepsRule (goal_of x goal.now) → HasGoalFacts x (goal_of x goal.now) }
 {
     match goal {
         Goal::Breaks(_) => {}
@@ -41,7 +41,7 @@ pub fn claims_hold(question: &CheckedQuestion)
     // Laws of what is asked.
     match question.question() {
         Question::Membership { .. } => {}
-        Question::Box { goal, .. } => tell_goal(&goal),
+        Question::Box { goal, .. } => goal_facts(&goal),
         Question::Equality { .. } => {}
         Question::Listing { .. } => listed_break(),
         Question::Smallest { .. } => {
@@ -51,10 +51,10 @@ pub fn claims_hold(question: &CheckedQuestion)
             all_new();
         }
         Question::Conjugacy { conjugacy } => {
-            tell_goal(&conjugacy.image);
-            tell_goal(&conjugacy.image_back);
-            tell_goal(&conjugacy.round);
-            tell_goal(&conjugacy.round_back);
+            goal_facts(&conjugacy.image);
+            goal_facts(&conjugacy.image_back);
+            goal_facts(&conjugacy.round);
+            goal_facts(&conjugacy.round_back);
         }
         Question::Density { .. } => {
             strip_least();

@@ -1,4 +1,4 @@
-use Rattle.dd_verify.proofs.laws.tell_goal.Goals as goal
+use Rattle.dd_verify.proofs.laws.goal_facts.Goals as goal
 
 pub returns-in-Breaks : goal.returns-in-Breaks
 returns-in-Breaks c x = rw c.in-Breaks.is (λ over kept. (kept, over))
