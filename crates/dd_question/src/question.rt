@@ -28,7 +28,7 @@ pub enum Question<'a> {
         rule: &'a Rule,
     },
     /// Which symbols of some of these cells break it there, where none of them can be left out?
-    Smallest {
+    Minimal {
         rule: &'a Rule,
     },
     /// Are two maps between the subshifts of two rules inverse to each other?
