@@ -111,7 +111,7 @@ fn value_of(
     if inputs.len() != circuit.inputs() as usize {
         return Err("a value for each input".into());
     }
-    let values = circuit.value(alloc, inputs)?;
+    let values = circuit.values(alloc, inputs)?;
     let place = signal.variable.checked_sub(1).ok_or("a variable")?;
     let value = values.get(place as usize).copied();
     Ok(value.ok_or("a variable of the circuit")? == signal.positive)
@@ -257,7 +257,7 @@ fn assert_one_gate(
     if circuit.inputs() != 2 {
         return Err("two inputs".into());
     }
-    let values = circuit.value(alloc, &[true, false])?;
+    let values = circuit.values(alloc, &[true, false])?;
     assert_eq!(rt; values.as_slice(), [true, false, false].as_slice());
     Ok(())
 }

@@ -27,7 +27,7 @@ fn a_conjunction_of_two_inputs(rt: HostRuntime) -> Result<(), Fail> {
     let gate = circuit.and(&[plus(1), plus(2)])?;
     let sizes = (circuit.inputs(), circuit.variables(), circuit.gates().len());
     assert_eq!(rt; (gate, sizes), (plus(3), (2, 3, 1)));
-    let values = circuit.value(alloc, &[true, false])?;
+    let values = circuit.values(alloc, &[true, false])?;
     assert_eq!(rt; values.as_slice(), [true, false, false].as_slice());
     Ok(())
 }
@@ -111,7 +111,7 @@ fn gates_of_no_one_and_three_members(rt: HostRuntime) -> Result<(), Fail> {
     let alloc = rt.alloc();
     let circuit = eight_gates(alloc)?;
     for (inputs, gates) in VALUES_OF_GATES {
-        let values = circuit.value(alloc, inputs.as_slice())?;
+        let values = circuit.values(alloc, inputs.as_slice())?;
         assert_eq!(rt; values.len(), 11);
         assert_eq!(rt; &values[3..], gates.as_slice(), "at {inputs:?}");
     }

@@ -63,7 +63,7 @@ fn a_conjunction_of_two_inputs(rt: HostRuntime) -> Result<(), Fail> {
     let cnf = encode(alloc, &circuit)?;
     assert_eq!(rt; cnf.variables(), 3);
     assert_clauses(&rt, alloc, &cnf, &[&[-3, 1], &[-3, 2], &[3, -1, -2]])?;
-    let values = circuit.value(alloc, &[true, false])?;
+    let values = circuit.values(alloc, &[true, false])?;
     assert!(rt; satisfies(&cnf, &Assignment::new(values)));
     Ok(())
 }

@@ -1,6 +1,6 @@
 use Rattle.std.proofs.{Common.◌∙◌, Common.arith, lemmas.Grind.common_steps}
 use Rattle.dd_circuit.specs.lemmas.ValueLaws.{gate_here, values_step, values_done, values_only}
-use Rattle.dd_circuit.proofs.gates.Circuit.value.Goals as goal
+use Rattle.dd_circuit.proofs.gates.Circuit.values.Goals as goal
 
 pub gate_value-value-requires : goal.gate_value-value-requires
 gate_value-value-requires c =
