@@ -1,7 +1,7 @@
 use Rattle.std.proofs.{Common.◌∙◌, Common.arith, lemmas.Grind.common_steps}
 use Rattle.std.specs.Prelude.{not}
 use Rattle.dd_cnf.proofs.GateClauses.{last_in_range}
-use Rattle.dd_cnf.proofs.encoding.push_joint.Goals as goal
+use Rattle.dd_cnf.proofs.encoding.push_and_or.Goals as goal
 
 pub push_clause-requires-2 : goal.push_clause-requires-2
 push_clause-requires-2 c =

@@ -2,7 +2,7 @@ use Rattle.std.proofs.Common.{◌≡◌, ◌∷◌, [], ◌++◌, map, take}
 use Rattle.std.specs.Prelude.{not}
 use Rattle.dd_clause.specs.Clauses.{negation}
 use Rattle.dd_cnf.specs.Encoding.{signed}
-use Rattle.dd_cnf.proofs.encoding.push_joint.Given as goal
+use Rattle.dd_cnf.proofs.encoding.push_and_or.Given as goal
 
 abbrev pub invariant-loop-member : goal.invariant-loop-member
 invariant-loop-member l = record {
