@@ -1,4 +1,4 @@
-//! From a check to all configurations.
+//! From an accepted YES to all configurations.
 ghost use Rattle.std.specs.Prelude.{◌≡◌, ◌↔◌, true, IsTrue, IfOk};
 ghost use Rattle.dd_expansion.specs.Placed.{is_flat};
 ghost use Rattle.dd_checker.specs.Certificates.{HasQuery};
@@ -12,12 +12,14 @@ use dd_pattern::Configuration;
 use dd_script::Script;
 use std::alloc::{AllocError, Global};
 
+/// Whether the script has a query with this number, from 1.
 pub(crate) fn has_query(script: &Script, query: u32) -> bool
     ensures { IsTrue result ↔ HasQuery script.now query }
 {
     1 <= query && query as usize <= script.queries().len()
 }
 
+/// Whether a position is one of Z^d, where d is the dimension of the script: its coordinates along other axes are 0.
 pub(crate) fn is_flat(script: &Script, place: &Position) -> bool
     ensures { result ≡ is_flat script.now.known.setting.topology.dimension place.now }
 {
@@ -31,9 +33,12 @@ fn is_yes(answer: &Answer) -> bool
     matches!(answer, Answer::Yes { .. } | Answer::YesBoth { .. })
 }
 
-/// Whether the answer is YES to the query with this number, from 1, the check accepts it, and `place` is a position of the
-/// script's dimension. Then it excludes the goal from this configuration too: if that obeys the premise everywhere, the goal
-/// does not hold at `place`.
+/// Whether the check accepts this answer, which is YES, to the query with this number, from 1, and `place` is a position of Z^d.
+/// Then the answer excludes the query's goal from this configuration too: if the configuration obeys the premise everywhere, the
+/// goal does not hold at `place`. `Ok(false)` says nothing of the configuration.
+///
+/// # Errors
+/// `AllocError` if memory ran out.
 #[tactic(auto, using(crate::proofs::Whole::exclusion))]
 pub fn excludes<C: Configuration>(
     alloc: Global,

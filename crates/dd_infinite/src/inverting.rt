@@ -1,4 +1,4 @@
-//! From a check of a conjugacy to all configurations.
+//! From an accepted CONJUGATE to all configurations.
 ghost use Rattle.std.specs.Prelude.{◌≡◌, ◌↔◌, true, IsTrue, IfOk};
 ghost use Rattle.dd_checker.specs.Lifted.{whole_look, IsWhole};
 ghost use Rattle.dd_checker.specs.Inverses.{is_conjugate, IsConjugacy, IsConjugacyAt, AreInverseIn};
@@ -12,6 +12,7 @@ use dd_pattern::Configuration;
 use dd_script::{Query, Script};
 use std::alloc::{AllocError, Global};
 
+/// Whether a query is a conjugacy.
 #[tactic(auto, using(dd_checker::specs::Inverses::a_conjugacy))]
 fn is_conjugacy(query: &Query) -> bool
     ensures { IsTrue result ↔ IsConjugacy query.now }
@@ -36,10 +37,14 @@ fn is_conjugate(answer: &Answer) -> bool
     matches!(answer, Answer::Conjugate { .. })
 }
 
-/// Whether the query with this number, from 1, is a conjugacy, the answer a CONJUGATE that the check accepts, and `place` a
-/// position of the script's dimension. Then the two automata are inverse maps for this configuration too. If it obeys the first
-/// rule everywhere, its image under the first automaton has allowed symbols and obeys the second rule at `place`, and the second
+/// Whether the check accepts this answer, which is CONJUGATE, to the query with this number, from 1, which is a conjugacy, and
+/// `place` is a position of Z^d. Then the two automata are inverse maps for this configuration too. If it obeys the first rule
+/// everywhere, its image under the first automaton has allowed symbols and obeys the second rule at `place`, and the second
 /// automaton takes the image back to the configuration's symbols there. The same holds with rules and automata exchanged.
+/// `Ok(false)` says nothing of the configuration.
+///
+/// # Errors
+/// `AllocError` if memory ran out.
 #[tactic(auto, using(crate::proofs::Whole::inversion))]
 pub fn maps_back<C: Configuration>(
     alloc: Global,
