@@ -8,12 +8,14 @@ use Rattle.dd_script.specs.{Parts.Parts, Scripts.Spells}
 use Rattle.dd_answer.specs.Asking.{AsksSomeBoxes}
 use Rattle.dd_session.specs.declared.status.Status.{Status}
 use Rattle.dd_session.specs.declared.status.Status.TheVariants.{Definite, SomeUnknown, Refused, ReadFault, WriteFault, Memory, BadWords, Rejected}
-use Rattle.dd_session.specs.{Output.header, Runs.IsAccepted, Sides.Told}
+use Rattle.dd_session.specs.{Output.header, Runs.IsAccepted, Sides.Change}
 
--- The engines before and after a call: the roster itself, and what is seen of each engine.
+-- The engines before and after a call.
 pub record Engines (E : Type 0) : Type 0 where
+  -- the roster before and after
   pub old : Roster E
   pub new : Roster E
+  -- what is seen of each engine, before and after
   pub before : List Seen
   pub after : List Seen
 
@@ -27,18 +29,18 @@ AreUnasked roster = roster.new ≡ roster.old
 
 -- ---- when the first engine is asked
 
--- The lines before the first answer were written whole.
+-- The header, which is all lines before the first answer, was written whole.
 pub record HeaderTaken (old new : Option (List ℕ)) (bytes : List ℕ) : Type 0 where
   pub more : List ℕ
   pub appends : Appends old new (header bytes ++ more)
 
--- The bytes are a script, and the lines before its first answer were written whole.
+-- The bytes are a script, and the header was written whole.
 pub record Begun (old new : Option (List ℕ)) (bytes : List ℕ) : Type 0 where
   pub script : Parts
   pub spelled : Spells bytes script
   pub taken : HeaderTaken old new bytes
 
--- The source was read to its end, it gave a script, and the lines before its first answer were written whole.
+-- The source was read to its end, it gave a script, and the header was written whole.
 pub record HasBegun (left_old left_new held_old held_new : Option (List ℕ)) : Type 0 where
   pub bytes : List ℕ
   pub read : ReadToEnd left_old left_new bytes
@@ -74,7 +76,7 @@ pub record AsksFirstOver (bytes : List ℕ) (before after : List Seen) : Type 0 
   pub spelled : Spells bytes script
   pub first : AsksSomeBoxes script script.queries → FirstAsked before after
 
--- The source was read to its end, and this holds of its bytes.
+-- The source was read to its end, and the same holds of its bytes.
 pub record AsksFirst (left_old left_new : Option (List ℕ)) (before after : List Seen) : Type 0 where
   pub bytes : List ℕ
   pub read : ReadToEnd left_old left_new bytes
@@ -82,16 +84,16 @@ pub record AsksFirst (left_old left_new : Option (List ℕ)) (before after : Lis
 
 -- ---- what a session does with the engines
 
--- Whatever the words: the roster is kept.
+-- What holds for all words: the roster is kept.
 pub record AreKept {E : Type 0} (roster : Engines E) (status : Status) : Type 0 where
   -- Each sound engine is still there, in order, and no count has fallen.
   pub kept : Kept roster.before roster.after
   -- Where no query is answered, no engine is asked.
   pub unanswered : IsUnanswered status → AreUnasked roster
 
--- With `run`.
-pub record RunConsults {S K E : Type 0} (source : Told S) (sink : Told K) (roster : Engines E) (status : Status) : Type 0 where
-  -- No engine is asked before the lines before the first answer are written whole.
+-- What holds for the word `run`.
+pub record RunConsults {S K E : Type 0} (source : Change S) (sink : Change K) (roster : Engines E) (status : Status) : Type 0 where
+  -- No engine is asked before the header is written whole.
   pub late : AreUnasked roster ⊎ HasBegun source.bytes_old source.bytes_new sink.bytes_old sink.bytes_new
   -- No engine is asked for an input that is refused.
   pub refused : (bytes : List ℕ) → source.bytes_old ≡ Some bytes → ¬ IsAccepted bytes → AreUnasked roster

@@ -29,11 +29,11 @@ abbrev pub accepted_lines : ℕ → List ℕ
 accepted_lines zero = []
 accepted_lines (suc done) = accepted_lines done ++ accepted_line (done + 1)
 
--- for bytes that are no output: so many of them begin one
+-- for bytes that are no output: the first `offset` of them begin one
 abbrev pub offset_line : ℕ → List ℕ
 offset_line offset = codes "refused at " ++ (decimal offset ++ codes "\n")
 
--- for an output whose script is none
+-- for an output whose script is no script
 abbrev pub script_line : ℕ → RefusalKind → List ℕ
 script_line command k = refused_line (codes "refused script") command k
 
@@ -70,12 +70,12 @@ pub record IsOutput (bytes : List ℕ) (o : Output) : Type 0 where
   pub writable : IsWritableOutput o
   pub text_is : bytes ≡ output_text o
 
--- They are, and the output's script is this one.
+-- The bytes are the text of this output, and its script is this one.
 pub record IsCheckable (bytes : List ℕ) (o : Output) (s : Parts) : Type 0 where
   pub output : IsOutput bytes o
   pub spelled : Spells o.script s
 
--- The bytes are no output, or the script in them is none, and this line says so.
+-- The bytes are no output, or the script in them is no script, and this line says so.
 pub data IsRefusedOutput (bytes : List ℕ) (line : List ℕ) : Type 0 where
   malformed : (offset : ℕ) → ¬ IsWellFormed bytes → IsOffset bytes offset → line ≡ offset_line offset → IsRefusedOutput bytes line
   no_script : (o : Output) → IsOutput bytes o → (command : ℕ) (k : RefusalKind) → RefusedAs o.script command k → line ≡ script_line command k
@@ -88,7 +88,7 @@ pub data IsEnding (s : Parts) (answers : List Answer) (done : ℕ) (ending : Lis
   rejected : FirstRejected s answers done → ending ≡ rejected_line (done + 1) → IsEnding s answers done ending
   finished : AllAccepted s answers → done ≡ length answers → ending ≡ checked_line done → IsEnding s answers done ending
 
--- The bytes are such an output, and each of its answers is accepted. `has` says whether some answer is UNKNOWN.
+-- The bytes are an output with a script, and each of its answers is accepted. `has` says whether some answer is UNKNOWN.
 pub record IsAllAccepted (has : Bool) (bytes : List ℕ) : Type 0 where
   pub output : Output
   pub script : Parts
@@ -96,14 +96,14 @@ pub record IsAllAccepted (has : Bool) (bytes : List ℕ) : Type 0 where
   pub accepted : AllAccepted script output.answers
   pub unknown_is : has_unknown output.answers ≡ has
 
--- The bytes are such an output, and after so many accepted queries comes one that is rejected.
+-- The bytes are an output with a script, and after so many accepted queries comes one that is rejected.
 pub record IsRejectedAfter (done : ℕ) (bytes : List ℕ) : Type 0 where
   pub output : Output
   pub script : Parts
   pub checkable : IsCheckable bytes output script
   pub rejected : FirstRejected script output.answers done
 
--- The bytes are such an output, of at most 268,435,456 bytes.
+-- The bytes are an output with a script, and are not too long.
 pub record IsCheckedOutput (bytes : List ℕ) : Type 0 where
   pub short : length bytes ≤ most_checked
   pub output : Output

@@ -1,4 +1,5 @@
--- Right answers to the queries of a script, as they are written: `written` says how much of each, by its number.
+-- Right answers to the queries of a script, as they are written. `written` is the text of an answer with a number, whole or its first
+-- line. `old` and `new` are the bytes held by the sink before and after, where they are known.
 use Rattle.std.specs.Prelude.{◌≡◌, ◌⊎◌, ℕ, List, [], ◌++◌, length, Bool}
 use Rattle.std.specs.{declared.option.Option.Option, Io.KnownBytes.Appends}
 use Rattle.dd_outside.specs.Bytes.{GainsFront}

@@ -66,7 +66,7 @@ fn is_accepted(
     Ok(verdict == Verdict::Accepted)
 }
 
-// Checks one answer and writes its line. True where it is accepted.
+// Checks one answer and writes its line. True if it is accepted.
 fn check_one<K: Sink>(
     alloc: Global,
     script: &Script,
@@ -85,7 +85,7 @@ fn check_one<K: Sink>(
     Ok(accepted)
 }
 
-// Checks the answers in order, and stops at the first that is rejected. True where all are accepted.
+// Checks the answers in order, and stops at the first that is rejected. True if all are accepted.
 fn check_each<K: Sink>(
     alloc: Global,
     script: &Script,
@@ -108,7 +108,8 @@ fn check_each<K: Sink>(
     Ok(true)
 }
 
-/// Checks the answers in order, and stops at the first that is rejected. Where all are accepted, writes how many there are. True then.
+/// Checks the answers in order, and stops at the first that is rejected. If all are accepted, it writes how many there are and returns
+/// true.
 pub(crate) fn check_all<K: Sink>(
     alloc: Global,
     script: &Script,

@@ -12,8 +12,8 @@ use dd_output::one_output;
 use dd_script::Script;
 use dd_spelling::one_script;
 
-/// Does nothing. Its contract says that a check that comes to its end accepts the whole output of a run over a script, with the run's
-/// status, if that output has at most 268,435,456 bytes.
+/// Does nothing. Its contract says that a check accepts the whole output of a run over a script, with the run's status. The output must
+/// have at most `MOST_OUTPUT` bytes, and the check must come to its end.
 pub fn runs_are_accepted(script: &Script)
     ensures accepted { (bytes text : List ℕ) (has : Bool) → IsRunOutput bytes script.now has text → IsAllAccepted has text }
     ensures same_status { (bytes text : List ℕ) (has : Bool) (status : AnyStatus) → IsRunOutput bytes script.now has text → length text ≤ most_checked →

@@ -1,4 +1,4 @@
-//! The texts that a run writes.
+//! The lines for inputs that are refused.
 ghost use Rattle.std.specs.Prelude.{◌≡◌, IfOk, string_bytes, ◌++◌, codes};
 ghost use Rattle.dd_session.specs.Output.{limit_text, IsLineOf, header};
 ghost use Rattle.std.specs.Fmt.{decimal};
@@ -33,7 +33,7 @@ fn limit_text(limit: Limit) -> &'static str
     }
 }
 
-// The line for a refused command: these words, its number, the fault, and a name where the fault has one.
+// The line for a refused command: these words, the command's number, the fault, and the name or the limit that the fault is about.
 fn refused_line(
     alloc: Global,
     words: &str,
@@ -46,7 +46,7 @@ fn refused_line(
     format!(in alloc; "{words} {command} {fault}{name}\n")
 }
 
-/// The line for bytes that are no script. It begins with these words. Want of memory has no line.
+/// The line for bytes that are no script. It begins with these words. There is none where memory ran out.
 pub(crate) fn refused_text(
     alloc: Global,
     words: &str,

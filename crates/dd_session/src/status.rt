@@ -17,6 +17,6 @@ pub enum Status {
     Memory = 5,
     /// The words ask for nothing that a session does.
     BadWords = 6,
-    /// A checked answer is no certificate.
+    /// A check found an answer missing, one too many, or one that is no certificate.
     Rejected = 7,
 }

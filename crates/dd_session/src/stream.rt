@@ -23,6 +23,7 @@ use dd_query::Query;
 use dd_script::Script;
 use std::alloc::{AllocError, Global};
 
+/// Why the writing of answers broke off.
 #[derive(Clone, Copy, Debug, PartialEq, Eq)]
 pub(crate) enum RunFault {
     /// The sink failed.
@@ -73,7 +74,7 @@ fn text_in(alloc: Global, form: Form, number: u32, answer: &Answer) -> Result<Ve
     }
 }
 
-// Writes the answer to the query with this number, in this form. True where it is unknown.
+// Writes the answer to the query with this number, in this form. True if it is UNKNOWN.
 fn write_one<K: Sink>(
     alloc: Global,
     form: Form,
@@ -91,7 +92,7 @@ fn write_one<K: Sink>(
     Ok(is_unknown(answer))
 }
 
-// Answers one query and writes the answer, in this form. True where it is unknown.
+// Answers one query and writes the answer, in this form. True if it is UNKNOWN.
 fn answer_one<K: Sink, E: Engine>(
     alloc: Global,
     script: &Script,
@@ -111,7 +112,7 @@ fn answer_one<K: Sink, E: Engine>(
     write_one(alloc, form, number, &found, sink)
 }
 
-// Answers all queries in order. Each answer is written before the next one is made. True where some answer is unknown.
+// Answers all queries in order. Each answer is written before the next one is made. True if some answer is UNKNOWN.
 #[tactic(auto, using(dd_values::specs::lemmas::Lists::contains_at, crate::proofs::Streamed::answered_next, crate::proofs::Engaging::engaged_next))]
 fn answer_all<K: Sink, E: Engine>(
     alloc: Global,
@@ -138,7 +139,7 @@ fn answer_all<K: Sink, E: Engine>(
     Ok(has_unknown)
 }
 
-/// Answers all queries in order, and writes the answers and the end line. True where some answer is unknown.
+/// Answers all queries in order, and writes the answers and the end line. True if some answer is UNKNOWN.
 pub(crate) fn answer_to_end<K: Sink, E: Engine>(
     alloc: Global,
     script: &Script,
@@ -157,7 +158,8 @@ pub(crate) fn answer_to_end<K: Sink, E: Engine>(
     Ok(has_unknown)
 }
 
-/// Runs an accepted script. True where some answer is unknown. No engine is asked before the header is written whole.
+/// Runs a script. True if some answer is UNKNOWN. No engine is asked before the header, all lines before the first answer, is written
+/// whole.
 pub(crate) fn run_script<K: Sink, E: Engine>(
     alloc: Global,
     bytes: &[u8],

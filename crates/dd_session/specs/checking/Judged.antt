@@ -1,4 +1,4 @@
--- What the check of answers writes, one after the other.
+-- What the check of answers writes, answer by answer.
 use Rattle.std.specs.Prelude.{◌≡◌, ℕ, ◌+◌, max, List, [], ◌++◌, length, Bool, true, false}
 use Rattle.std.specs.{declared.option.Option.Option, Io.KnownBytes.Appends}
 use Rattle.dd_outside.specs.Bytes.{GainsFront}
@@ -46,11 +46,12 @@ pub record AcceptedAll (old new : Option (List ℕ)) (s : Parts) (answers : List
   pub all : AllAccepted s answers
   pub appends : Appends old new (accepted_lines (length answers) ++ checked_line (length answers))
 
--- By whether all are accepted; else there is a first one that is rejected.
+-- What was written before the last line, by whether all are accepted; if not, there is a first one that is rejected.
 abbrev pub EachJudged : Option (List ℕ) → Option (List ℕ) → Parts → List Answer → Bool → Type 0
 EachJudged old new s answers true = AcceptedEach old new s answers
 EachJudged old new s answers false = RejectedHere old new s answers
 
+-- what was written, by whether all are accepted
 abbrev pub AllJudged : Option (List ℕ) → Option (List ℕ) → Parts → List Answer → Bool → Type 0
 AllJudged old new s answers true = AcceptedAll old new s answers
 AllJudged old new s answers false = RejectedHere old new s answers
