@@ -45,8 +45,7 @@ pub record HasRefusedScript (bytes : List ℕ) (fault : ScriptFault) : Type 0 wh
   pub text : bytes ≡ output_text output
   pub refused : IsScriptRefusal output.script fault
 
--- Why bytes have no verdict: they are no output, with the offset at which they stop being one; memory ran out; or their script
--- is refused.
+-- Why bytes have no verdict: they stop being an output at some offset, their script is refused, or memory ran out.
 abbrev pub IsUnchecked : List ℕ → Unchecked → Type 0
 IsUnchecked bytes (unchecked.Output fault) = IsOutputFault bytes fault
 IsUnchecked bytes (unchecked.Script fault) = HasRefusedScript bytes fault

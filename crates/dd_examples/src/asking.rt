@@ -72,7 +72,7 @@ fn rule_of(
     Ok(Rule::new(alloc, topology, &sets, formula)?)
 }
 
-/// The right answer to a question, which must be well formed and within these limits. No engine is asked before the search.
+/// The right answer to a question, which must be well formed and within these limits. The roster has no engine to ask.
 fn answer_to(alloc: Global, question: Question, limits: &Limits) -> Result<Answer, Unasked>
     ensures { IfOk result (λ answer. IsRightTo limits.now (asked_of question.entry) answer) }
 {
@@ -81,7 +81,7 @@ fn answer_to(alloc: Global, question: Question, limits: &Limits) -> Result<Answe
     Ok(respond(alloc, &checked, &mut roster)?)
 }
 
-/// The rule of hard squares.
+/// The rule of hard squares, with all its conditions tested.
 fn tested_squares(alloc: Global) -> Result<Rule, Unasked>
     ensures { IfOk result (λ rule. rule ≡ hard) }
 {

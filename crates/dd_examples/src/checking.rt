@@ -30,7 +30,7 @@ fn is_right(
     requires { before < length script.now.queries }
     ensures { IfOk result (λ right. IsTrue right ↔ IsRight script.now (before + 1) answer.now) }
 {
-    // Read for its fact: so many queries can be counted.
+    // This read brings in what the type guarantees.
     let _queries = script.queries().len();
     let Ok(number) = u32::try_from(before + 1) else {
         return Err(AllocError);
@@ -55,7 +55,7 @@ pub fn are_right(alloc: Global, script: &Script, answers: &[Answer]) -> Result<b
     Ok(all)
 }
 
-/// Whether the answers of an output are right, or why its script isn't one.
+/// Whether the answers of an output are right, or why its script is refused.
 fn judged(alloc: Global, output: &Output) -> Result<bool, ScriptFault>
     requires { IsWritableOutput output.now }
     ensures judged { IfOk result (IsJudged output.now) }

@@ -39,7 +39,7 @@ impl Engine for Guess {
     }
 }
 
-/// An assignment that satisfies the clauses, if all variables false or all variables true do. This is right without a proof
+/// An assignment that satisfies the clauses, if they hold with all variables false or with all true. It is right without a proof
 /// about the engines, since the roster checks what they propose.
 pub fn guessed(alloc: Global, cnf: &Cnf) -> Result<Option<Outcome>, AllocError>
     ensures { IfOk result (λ answer. IfSome answer (IsRightOutcome cnf.now)) }

@@ -31,7 +31,7 @@ fn task_of(rt: &HostRuntime) -> Result<Task, Fault> {
     Task::named(&words)
 }
 
-// What is written.
+// What the task writes.
 fn text_of(rt: &HostRuntime) -> Result<Vec<u8>, Fault> {
     let task = task_of(rt)?;
     let mut source = StdSource::new(rt.stdin());

@@ -11,12 +11,14 @@ use std::{env, io};
 /// The exit code if the arguments can't be read. `Status` uses 0 to 7.
 const NO_WORDS: u8 = 8;
 
-/// The most variables that the walking engine flips each time it is asked.
+/// The most variables that the walker flips each time it is asked.
 const FLIPS: u32 = 10_000;
 
 /// Why the arguments could not be read.
 enum WordsFault {
+    /// Memory ran out.
     Memory,
+    /// Anything else.
     Other,
 }
 

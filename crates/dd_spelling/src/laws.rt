@@ -1,4 +1,4 @@
-//! Bytes determine what they spell.
+//! Laws of the bytes of scripts, as contracts of calls that do nothing.
 ghost use Rattle.std.specs.Prelude.{◌≡◌, ◌≤◌, ◌⊎◌, ℕ, List, length};
 ghost use Rattle.dd_values.specs.Bounds.{most_script};
 ghost use Rattle.dd_script.specs.{Parts.Parts, Scripts.Spells, Scripts.RefusedAs, Scripts.RefusalKind};
@@ -22,7 +22,8 @@ pub fn one_refusal()
     tree_or_fault();
 }
 
-/// Does nothing; its contract says that, of the bytes of an allowed length, exactly those that spell no script are refused.
+/// Does nothing; its contract says that bytes which spell a script are never refused, and that all others of an allowed length
+/// are.
 pub fn spelled_or_refused()
     ensures never_both { (bytes : List ℕ) (s : Parts) (n : ℕ) (k : RefusalKind) → Spells bytes s → RefusedAs bytes n k → ⊥ }
     ensures either { (bytes : List ℕ) → length bytes ≤ most_script → ((s : Parts) × Spells bytes s) ⊎ ((n : ℕ) × (k : RefusalKind) × RefusedAs bytes n k) }
