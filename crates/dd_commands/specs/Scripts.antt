@@ -91,10 +91,10 @@ abbrev pub IsSyntaxFault : List ℕ → ℕ → Type 0
 IsSyntaxFault bytes n = IsBadCommand bytes (lexemes_of bytes) n
 
 -- What a result of `read` says of the bytes. Where memory ran out it says nothing.
-abbrev pub Tells : List ℕ → Result Syntax SyntaxFault → Type 0
-Tells bytes (Ok s) = IsScript bytes s
-Tells bytes (Err (SyntaxFault.At n)) = IsSyntaxFault bytes n
-Tells bytes (Err SyntaxFault.Memory) = Unit {0}
+abbrev pub IsReading : List ℕ → Result Syntax SyntaxFault → Type 0
+IsReading bytes (Ok s) = IsScript bytes s
+IsReading bytes (Err (SyntaxFault.At n)) = IsSyntaxFault bytes n
+IsReading bytes (Err SyntaxFault.Memory) = Unit {0}
 
 -- the command has these tokens in this text
 pub record IsWritten (bytes : List ℕ) (w : Written) : Type 0 where

@@ -4,8 +4,8 @@ ghost use Rattle.std.specs.List.{prefix_len, list_all};
 ghost use Rattle.dd_values.specs.Bounds.{most_script};
 ghost use Rattle.dd_written.specs.reading.Readers.{Gives};
 ghost use Rattle.dd_commands.specs.Heads.{head_of};
-ghost use Rattle.dd_commands.specs.Scripts.{parts, is_whole, IsWritten, Tells};
-ghost use Rattle.dd_commands.specs.reading.Parts.{is_inside, written_of, Told};
+ghost use Rattle.dd_commands.specs.Scripts.{parts, is_whole, IsWritten, IsReading};
+ghost use Rattle.dd_commands.specs.reading.Parts.{is_inside, written_of, IsPartsReading};
 
 use crate::bodies::command;
 use crate::command::Command;
@@ -100,7 +100,7 @@ fn command_from(source: Source, from: u32, part: &[Lexeme]) -> Result<Written, R
 #[tactic(auto, using(crate::proofs::Parts::starts, crate::proofs::Parts::cut, crate::proofs::Parts::something_before))]
 fn commands(alloc: Global, bytes: &[u8], tokens: &[Lexeme]) -> Result<Items<Written>, SyntaxFault>
     requires { length tokens.now ≤ most_script + 1 }
-    ensures { Told bytes.now tokens.now result }
+    ensures { IsPartsReading bytes.now tokens.now result }
 {
     formula_is_read();
     if part_length(tokens) > 0 {
@@ -131,7 +131,7 @@ fn commands(alloc: Global, bytes: &[u8], tokens: &[Lexeme]) -> Result<Items<Writ
 #[tactic(auto, using(crate::proofs::Texts::ascii_text))]
 pub fn read(alloc: Global, bytes: &[u8]) -> Result<Syntax, SyntaxFault>
     requires { length bytes.now ≤ most_script }
-    ensures tells { Tells bytes.now result }
+    ensures tells { IsReading bytes.now result }
     ensures written { IfOk result (λ s. All (IsWritten s.text) s.commands) }
 {
     let lexemes = lexemes(alloc, bytes)?;

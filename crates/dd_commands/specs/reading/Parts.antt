@@ -15,7 +15,7 @@ written_of bytes from part =
     command_of bytes part >>= λ c. if list_all is_whole part && nat_le from (stage (head_of c)) then Some (record { tokens = part; command = c }) else None
 
 -- What the result of reading all parts says of the tokens. Where memory ran out it says nothing.
-abbrev pub Told : List ℕ → List Lexeme → Result (List Written) SyntaxFault → Type 0
-Told bytes tokens (Ok ws) = AreWritten bytes tokens ws
-Told bytes tokens (Err (SyntaxFault.At n)) = IsBadCommand bytes tokens n
-Told bytes tokens (Err SyntaxFault.Memory) = Unit {0}
+abbrev pub IsPartsReading : List ℕ → List Lexeme → Result (List Written) SyntaxFault → Type 0
+IsPartsReading bytes tokens (Ok ws) = AreWritten bytes tokens ws
+IsPartsReading bytes tokens (Err (SyntaxFault.At n)) = IsBadCommand bytes tokens n
+IsPartsReading bytes tokens (Err SyntaxFault.Memory) = Unit {0}
