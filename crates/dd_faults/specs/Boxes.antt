@@ -14,7 +14,7 @@ HasSets k = (1 ≤ length k.setting.nodes) × (length k.setting.sets.allowed ≡
 abbrev pub is_allowed : Context → ℕ → Name → Bool
 is_allowed x a n = option_map_or (λ t. allows x.known.setting.sets a t) (place_of_name x.text x.known.setting.symbols n) false
 
--- the faults of the symbols from the k-th on; the nodes vary fastest
+-- the faults of the symbols from the k-th on; the nodes of a position stand together
 abbrev pub symbol_faults : Context → ℕ → List Name → List Fault
 symbol_faults x k [] = []
 symbol_faults x k (n ∷ ns) = when (not (is_allowed x (k % length x.known.setting.nodes) n)) (Fault.Unknown n) ++ symbol_faults x (k + 1) ns

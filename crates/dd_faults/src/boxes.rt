@@ -22,7 +22,7 @@ fn is_allowed(context: &Context, node: u32, name: Name) -> bool
     symbol.is_some_and(|symbol| setting.sets.allows(node, symbol))
 }
 
-/// Notes each name that names no symbol allowed at its node. The nodes vary fastest.
+/// Notes each name that names no symbol allowed at its node. The nodes of a position stand together.
 fn symbols(context: &Context, written: &[Name], found: &mut Found)
     requires { HasSets context.now.known }
     ensures { found.new ≡ noted found.old (symbol_faults context.now 0 written.now) }

@@ -1,4 +1,4 @@
-//! The faults of commands of the header: those that neither define anything with a name nor ask anything.
+//! The faults of commands of the header, which stands before all definitions and queries.
 ghost use Rattle.std.specs.Prelude.{◌≡◌, IfOk};
 ghost use Rattle.dd_written.specs.Values.{written_value};
 ghost use Rattle.dd_faults.specs.Names.{missing};
