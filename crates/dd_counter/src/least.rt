@@ -1,5 +1,5 @@
-//! The least weight of a configuration on a torus. Each configuration that is found is followed by a search for a lighter one, until
-//! the search is refuted. A search for a much lighter one comes first where the weight is high, so that few searches are needed.
+//! The search for a configuration of least weight on a torus. After each configuration that is found, a lighter one is searched
+//! for, until that is refuted. While the weight is high, much lighter ones are asked for, so that few searches are needed.
 ghost use Rattle.std.specs.Prelude.{◌≡◌, ◌≤◌, ◌*◌, length, All, IfOk};
 ghost use Rattle.dd_values.specs.Bounds.{most_variables, most_weight};
 ghost use Rattle.dd_pattern.specs.Periods.{periods_of, periods_volume};
@@ -22,13 +22,13 @@ use std::alloc::{AllocError, Global};
 /// The least weight of the configurations of given periods that live in a rule's subshift.
 #[derive(Debug, Drop)]
 pub enum LeastWeight {
-    /// The weight, a configuration that has it, and, if it isn't 0, steps that refute every smaller one.
+    /// The weight, and a configuration that has it. If the weight isn't 0, steps that refute that one weighs less.
     Least {
         weight: u64,
         periodic: Periodic,
         steps: Items<Step>,
     },
-    /// Steps that refute that any configuration lives.
+    /// No configuration lives: steps that refute that one does.
     Nothing {
         steps: Items<Step>,
     },
@@ -64,7 +64,7 @@ fn search_below(
         }
         Outcome::Refuted(steps) => {
             let used = trimmed(alloc, &cnf, steps)?;
-            // Read for their bounds alone.
+            // These reads bring in what the types guarantee.
             let _variable = cnf.variables();
             let _number = last_number(&cnf, used.as_slice());
             Ok(Lighter::Nothing(used))
@@ -72,11 +72,11 @@ fn search_below(
     }
 }
 
-/// A weight that is higher than a refuted one by no more than this is lowered by steps of one.
+/// The first step of the descent. The descent ends once the weight is at most this far above a bound below which none is.
 const NEAR: u64 = 32;
 
-/// A configuration of the periods that lives, no heavier than `start`. Its weight is at most `NEAR`, or a search for one that is lighter
-/// by more than `NEAR` was refuted. Each search asks for twice as much less than the one before, and after a refutation for `NEAR` less.
+/// The descent: from `start` to a living configuration that weighs at most `NEAR` more than the least weight. Each search asks for
+/// one that is lighter by more than `step`. A success doubles the step, and a refutation sets it back to `NEAR`.
 fn descended(
     alloc: Global,
     rule: &Rule,
@@ -94,6 +94,7 @@ fn descended(
 {
     let mut best = start;
     let mut weight = best.weight(weights);
+    // No living configuration weighs less than this.
     let mut refuted: u64 = 0;
     let mut step = NEAR;
     while weight.saturating_sub(refuted) > NEAR {

@@ -1,4 +1,4 @@
--- The state of the loops that make the counter.
+-- The loops that make the counter.
 use Rattle.std.proofs.Common.{◌≡◌, ℕ, suc, ◌+◌, ◌<◌, ◌≤◌, List, [], ◌∷◌, ◌++◌, map, length, ap, sym, subst, ◌∙◌, arith, length-append, append_assoc}
 use Rattle.std.proofs.lemmas.{Bool.le-ltb, List.append-nil, List.Elements.All-push, List.Elements.All-weaker}
 use Rattle.std.specs.{Prelude.◌-◌, Prelude.false, Prelude.Some, Prelude.None, Prelude.slice_get, List.All, List.range_with_len}
@@ -71,7 +71,7 @@ left_few make w end start now signals most left within few =
     let e = length-append first.gates rest.gates in
     omega (arith, all, e, few)
 
--- the same for rows
+-- the same for the loop over rows
 pub record RowsLeft (ws : List ℕ) (below k end : ℕ) (start now : ClauseList) (before : List Signal) : Type 0 where
   pub clauses : grown now (rows ws below (end - k) k before now.variables).gates ≡ grown start (rows ws below end 0 [] start.variables).gates
   pub made : (rows ws below (end - k) k before now.variables).signals ≡ (rows ws below end 0 [] start.variables).signals
