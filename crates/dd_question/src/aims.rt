@@ -1,4 +1,4 @@
-//! The goals of box questions: how far they read, and how many clauses they take.
+//! The measures of a goal: how far it reads, and how many clauses it takes.
 ghost use Rattle.std.specs.Prelude.{IfOk};
 ghost use Rattle.dd_formula.specs.Compositions.{HaveNodes};
 ghost use Rattle.dd_boxes.specs.Goals.{breaks, differ, always, IsGoalFor};
@@ -10,16 +10,19 @@ use dd_counts::{broken_clauses, differ_clauses};
 use dd_formula::{Automaton, Rule};
 use std::alloc::{AllocError, Global};
 
-/// The greatest number of clauses of a box question.
+/// How many clauses a box question may take.
 pub const MOST_CLAUSES: u32 = 2_000_000;
 
-/// A goal, by how far it reads and how many clauses it has. The number of clauses is cut off past the limit.
+/// The measures of a goal.
 #[derive(Clone, Copy)]
 pub(crate) struct Aim {
+    /// How far the goal reads from the origin, along an axis.
     pub(crate) radius: u32,
+    /// How many clauses the goal takes, cut off past the limit.
     pub(crate) clauses: u32,
 }
 
+/// The measures of the goal that always holds.
 fn anything() -> Aim
     ensures { IsMeasureOf result always }
 {
@@ -29,6 +32,7 @@ fn anything() -> Aim
     }
 }
 
+/// The measures of the goal that breaks a rule.
 fn breaking(rule: &Rule) -> Aim
     ensures { IsMeasureOf result (breaks rule.now) }
 {
@@ -38,6 +42,7 @@ fn breaking(rule: &Rule) -> Aim
     }
 }
 
+/// The measures of the goal at which two automata differ.
 fn differing(
     alloc: Global,
     premise: &Rule,
@@ -58,7 +63,7 @@ fn differing(
     })
 }
 
-/// A goal of questions about the premise, as it is measured.
+/// The measures of a goal for this premise.
 pub(crate) fn aim_of(alloc: Global, premise: &Rule, goal: &Goal) -> Result<Aim, AllocError>
     requires { IsGoalFor premise.now (goal_of premise.now goal.now) }
     ensures { IfOk result (λ aim. IsMeasureOf aim (goal_of premise.now goal.now)) }

@@ -1,7 +1,5 @@
-//! Questions about rules: whether a configuration lives in a subshift, whether a subshift holds a goal, whether two
-//! are equal, which patterns are forbidden, which of those have no cell too many, whether two maps are inverse to
-//! each other, how light a strip or a torus can be, and what a discharge can show. A check says which of them ask for
-//! too much work.
+//! Questions about rules, one variant of `Question` for each kind. `Question::check` tests whether the parts of a question fit
+//! together, and whether it asks for too much work. What passes is a `CheckedQuestion`.
 #![tactic(auto)]
 
 mod aims;

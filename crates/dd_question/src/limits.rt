@@ -23,7 +23,7 @@ use dd_formula::Rule;
 use dd_values::Limits;
 use std::alloc::{AllocError, Global};
 
-/// Whether the question with this premise and this goal has too many clauses, in the largest box or torus that may be tried.
+/// Whether the box question of this premise and this goal has too many clauses, in the largest box or torus that may be tried.
 fn is_long(alloc: Global, limits: &Limits, premise: &Rule, goal: &Goal) -> Result<bool, AllocError>
     requires limits { AreLimits limits.now }
     requires goal { IsGoalFor premise.now (goal_of premise.now goal.now) }
@@ -35,7 +35,7 @@ fn is_long(alloc: Global, limits: &Limits, premise: &Rule, goal: &Goal) -> Resul
     Ok(clauses > MOST_CLAUSES)
 }
 
-/// Whether one of the four questions has too many clauses.
+/// Whether one of the four box questions has too many clauses.
 fn is_some_long(alloc: Global, limits: &Limits, c: &Conjugacy) -> Result<bool, AllocError>
     requires limits { AreLimits limits.now }
     requires formed { EachPart IsFormedBox (conjugacy_of c.now) }
@@ -48,6 +48,7 @@ fn is_some_long(alloc: Global, limits: &Limits, c: &Conjugacy) -> Result<bool, A
     Ok(image || image_back || round || round_back)
 }
 
+/// Whether the rule has too many patterns at some node.
 fn has_many_patterns(rule: &Rule) -> bool
     ensures { result ≡ has_many_patterns rule.now }
 {
@@ -59,6 +60,7 @@ fn has_many_patterns(rule: &Rule) -> bool
     false
 }
 
+/// Whether the transfer graph over a strip whose slices have so many positions has too many states or windows.
 fn has_many_states(rule: &Rule, volume: u32) -> bool
     ensures { result ≡ has_many_states rule.now volume }
 {
@@ -66,6 +68,7 @@ fn has_many_states(rule: &Rule, volume: u32) -> bool
         || longer_states(rule, volume, MOST_LONGER_STATES) > MOST_LONGER_STATES
 }
 
+/// The number of positions of a slice of the strip.
 fn strip_volume(strip: [u32; 2]) -> u32
     requires second { slice_index strip 0 ≤ 64 }
     requires third { slice_index strip 1 ≤ 64 }
@@ -75,7 +78,7 @@ fn strip_volume(strip: [u32; 2]) -> u32
 }
 
 impl Question<'_> {
-    /// The limit that the work of the question passes, if any, when box questions are searched within these limits.
+    /// The limit on its work that the question passes, if any. Box questions are searched within the given limits.
     ///
     /// # Errors
     /// `AllocError` if memory runs out.

@@ -1,11 +1,11 @@
-//! Questions about rules.
+//! The kinds of questions about rules.
 use crate::conjugacy::Conjugacy;
 use dd_boxes::Goal;
 use dd_formula::Rule;
 use dd_lattice::Position;
 use dd_pattern::Periodic;
 
-/// A question about rules, with what it needs of a configuration, periods, vectors and weights.
+/// A question about rules. The symbol `s` weighs `weights[s]`.
 #[derive(Clone, Copy)]
 pub enum Question<'a> {
     /// Does the configuration live in the rule's subshift?
@@ -23,11 +23,13 @@ pub enum Question<'a> {
         left: &'a Rule,
         right: &'a Rule,
     },
-    /// Which symbols of the cells that the rule reads at a node break it there?
+    /// Which patterns does the rule forbid? A pattern gives symbols to the cells that the rule reads at a node, and the rule is
+    /// false there.
     Listing {
         rule: &'a Rule,
     },
-    /// Which symbols of some of these cells break it there, where none of them can be left out?
+    /// Which minimal patterns forbid the same? Such a pattern gives symbols to some of these cells, none of which can be left
+    /// out. `dd_minimal` says which list of them is the answer.
     Minimal {
         rule: &'a Rule,
     },
@@ -35,20 +37,22 @@ pub enum Question<'a> {
     Conjugacy {
         conjugacy: Conjugacy<'a>,
     },
-    /// What is the least weight per position of the configurations with these periods along the axes after the first?
+    /// What is the least density: the least weight per position of a configuration with these periods along the axes after the
+    /// first?
     Density {
         rule: &'a Rule,
         strip: [u32; 2],
         weights: &'a [u32],
     },
-    /// What is the least weight of a fundamental box with these periods and no shear?
+    /// What is the least weight of the fundamental box, over the configurations with these periods and no shear?
     Least {
         rule: &'a Rule,
         periods: [u32; 3],
         weights: &'a [u32],
     },
-    /// How much does each position hold at least, after each has sent amounts along these vectors? The pattern of
-    /// this radius around a position determines what it sends. The domain is grown by this margin.
+    /// What is the best bound of a discharge: how much does each position hold at least, after each has sent amounts along these
+    /// vectors? What a position sends is determined by the pattern within `radius` around it. The domain of the fillings
+    /// that are looked at is grown by `margin`.
     Discharge {
         rule: &'a Rule,
         radius: u32,
