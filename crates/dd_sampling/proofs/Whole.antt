@@ -1,4 +1,5 @@
--- The tokens of a sample.
+-- The tokens of a sample. Its text is a front, the digits of the height, the symbols, and a tail. Front and tail are the same in all
+-- samples, so their tokens are computed. Those of the digits and of the symbols follow by induction.
 use Rattle.std.proofs.Common.{◌≡◌, ℕ, zero, suc, ◌+◌, ◌*◌, ◌≤◌, List, [], ◌∷◌, ◌++◌, length, map, take, drop, true, codes, refl, sym, ap, ◌∙◌, arith, append_assoc, length-append, append-nil, subst}
 use Rattle.std.proofs.lemmas.{List.map-append, Bool.eq-eqb, Bool.lt-ltb, Bool.and_from}
 use Rattle.std.proofs.lemmas.List.Folds.{list_all-append}

@@ -6,9 +6,13 @@ pub use Rattle.dd_written.specs.lemmas.Options.{bind_some, some_is, nothing_some
 use Rattle.dd_written.specs.lemmas.Many.{many_sound, many_again, few_items, ByText, texts_read, texts_stand}
 use Rattle.dd_commands.specs.reading.Forms.{◌>>=◌, Reader, ReadsAll, Form, by_text, made, both, ◌▸◌, tested, such, at_most, each, some, exactly, alone}
 
+-- the reader of a form reads exactly what is written in it
 pub record Reads {X : Type 0} (f : Form X) : Type 0 where
+  -- an item that was read has this form, and was written so
   pub written : (tokens : List Lexeme) (x : X) (rest : List Lexeme) → f.item tokens ≡ Some (x, rest) → f.is x × (tokens ≡ f.onto x rest)
+  -- an item of this form, written before tokens that may follow it, is read
   pub read : (x : X) (rest : List Lexeme) → f.is x → f.ends rest → f.item (f.onto x rest) ≡ Some (x, rest)
+  -- the tokens may end after an item
   pub last : f.ends []
 
 -- an item that nothing follows is read
