@@ -22,8 +22,8 @@ finding_of is_false [] = Falsified
 finding_of is_false (l ∷ rest) =
     if list_all (same_literal l) rest && not (is_false (negation l)) then Forced l else Open
 
--- what a clause says, given which literals are false: all of its own are false, or the only one that is not false, and is
--- not true yet, has to be true
+-- what a clause says, given which literals are false: all of its literals are false, or only one is not, which has to be
+-- true and isn't yet, or nothing
 abbrev pub finding : (Literal → Bool) → List Literal → Finding
 finding is_false clause = finding_of is_false (filter (λ l. not (is_false l)) clause)
 
@@ -37,10 +37,11 @@ abbrev pub without : List (Option (List Literal)) → ℕ → List (Option (List
 without known zero = known
 without known (suc k) = slice_set known k None
 
--- what the clause of a number says; nothing where there is none
+-- what the clause of a number says: nothing where there is none
 abbrev pub hint_finding : List (Option (List Literal)) → (Literal → Bool) → ℕ → Finding
 hint_finding known is_false h = option_map_or (finding is_false) (clause_of known h) Open
 
+-- what a finding makes of a hint: a conflict, which the last hint alone may end in; one more true literal; or a failure
 abbrev pub follow : Finding → Bool → (Literal → Bool) → Bool
 follow Falsified is_last next = is_last
 follow (Forced l) is_last next = next l
@@ -63,13 +64,14 @@ abbrev pub known_after : List (Option (List Literal)) → List ℕ → List (Opt
 known_after known [] = known
 known_after known (d ∷ ds) = known_after (without known d) ds
 
--- the literals' variables are distinct, and between 1 and n
+-- the literal's variable is one of 1..n
 abbrev pub is_literal_in_range : ℕ → Literal → Bool
 is_literal_in_range n l = nat_le 1 l.variable && nat_le l.variable n
 
 abbrev pub has_variable : ℕ → List Literal → Bool
 has_variable v literals = list_any (λ l. l.variable == v) literals
 
+-- the literals' variables are distinct, and each is one of 1..n
 abbrev pub is_proper : ℕ → List Literal → Bool
 is_proper n [] = true
 is_proper n (l ∷ rest) = (is_literal_in_range n l && not (has_variable l.variable rest)) && is_proper n rest

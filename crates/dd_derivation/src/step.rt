@@ -13,8 +13,8 @@ use dd_values::Items;
 pub struct Step {
     /// The clause that follows.
     pub clause: Clause,
-    /// The numbers, from 1, of the clauses that become unit one after the other when the clause's literals are false. All
-    /// literals of the last one are then false.
+    /// The numbers of clauses that become unit one after the other when the literals of `clause` are false. In the last one
+    /// all literals are then false.
     pub hints: Items<u64>,
     /// The numbers of the clauses that no later step may hint at.
     pub deletes: Items<u64>,

@@ -10,7 +10,7 @@ use Rattle.dd_derivation.specs.declared.propagation.Finding.TheVariants.{Forced,
 use Rattle.dd_derivation.specs.Derivations.{same_literal, is_among, finding_of, finding, clause_of, hint_finding}
 use Rattle.dd_derivation.specs.lemmas.Soundness.{same_literal-eq, same_literal-refl, forced_by}
 
--- the literals are copies of the candidate
+-- the literals are all copies of the candidate; without one there are none
 abbrev pub Sums : Option Literal → List Literal → Type 0
 Sums None left = left ≡ []
 Sums (Some l) left = (rest : List Literal) × (left ≡ l ∷ rest) × (list_all (same_literal l) rest ≡ true)
@@ -24,6 +24,7 @@ open_at p xs ys first l rest f n d =
     let e : filter (λ x. not (p x)) (xs ++ l ∷ ys) ≡ first ∷ (rest ++ l ∷ filter (λ x. not (p x)) ys) = rw (filter-append, f, n) refl in
     rw (e, mixed first l rest (filter (λ x. not (p x)) ys) d) refl
 
+-- a literal that is not false and differs from the first such one leaves the clause open
 pub open_early : (p : Literal → Bool) (clause : List Literal) (i : ℕ) (d first l : Literal) (rest : List Literal) → i < length clause → filter (λ x. not (p x)) (take i clause) ≡ first ∷ rest → get_or clause i d ≡ l → p l ≡ false → same_literal first l ≡ false → finding p clause ≡ Open
 open_early p clause i d first l rest lt f g n s =
     let e : clause ≡ take i clause ++ l ∷ drop (suc i) clause = sym (take-append-drop i clause) ∙ ap (λ (x : List Literal). take i clause ++ x) (drop-cons clause i d lt ∙ ap (λ (x : Literal). x ∷ drop (suc i) clause) g) in
@@ -32,6 +33,7 @@ open_early p clause i d first l rest lt f g n s =
 pub all_sums : (p : Literal → Bool) (clause : List Literal) (i : ℕ) (c : Option Literal) → length clause ≤ i → Sums c (filter (λ x. not (p x)) (take i clause)) → Sums c (filter (λ x. not (p x)) clause)
 all_sums p clause i c h s = subst (λ (x : List Literal). Sums c (filter (λ y. not (p y)) x)) (take_all i clause h) s
 
+-- a clause whose literals are all false but for copies of one forces that one, unless it is true already
 pub forced_end : (p : Literal → Bool) (clause : List Literal) (l : Literal) → Sums (Some l) (filter (λ x. not (p x)) clause) → finding p clause ≡ cond (p (negation l)) Open (Forced l)
 forced_end p clause l s = rw (s.1, s.2) (turned (p (negation l)) (Forced l))
   where
