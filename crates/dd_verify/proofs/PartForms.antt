@@ -50,7 +50,7 @@ module _ (l : Limits) (c : ConjugacyOf) (limits : AreLimits l) (sound : EachPart
   pub broken_fits : IsNo l x g along shear symbols → IsWritable (answer.Broken k along shear symbols)
   broken_fits no_of = ((is.0, part_within c k x g is), no_writable l x g along shear symbols limits (of_part (IsSoundBox l) c k x g sound is).0 no_of side.Whole)
 
-  -- the question with the index k is o
+  -- the answer is a NO to the question with the index k
   pub no_taken : BrokenAt l c k along shear symbols → IsNo l x g along shear symbols
   no_taken told =
       let same : (told.0, told.1) ≡ (x, g) = cc (told.2.1, is.1) in

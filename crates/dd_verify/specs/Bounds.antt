@@ -16,10 +16,8 @@ use Rattle.dd_certificate.specs.declared.answer.{Reason.Reason, Answer.Answer}
 use Rattle.dd_certificate.specs.declared.answer.Reason.TheVariants as reason
 use Rattle.dd_certificate.specs.declared.answer.Answer.TheVariants as answer
 
--- ---- least densities: a closed walk through the strip's transfer graph, with potentials that show that no walk is lighter; or
--- ranks that show that there is no closed walk
-
--- a certificate of the least density, or of there being no configuration
+-- Least densities. A certificate is a closed walk through the strip's transfer graph, with potentials that show that no closed walk
+-- has a smaller mean. Or it is ranks that show that there is no closed walk, and so no configuration.
 pub data IsStripCertificate (x : LocalRule) (strip ws : List ℕ) : Answer → Type 0 where
   strip_least : {p q : ℕ} {cycle : List ℕ} {potentials : List ℤ} → IsDensityCertificate x (strip_for x strip) ws p q cycle potentials →
       IsStripCertificate x strip ws (answer.Density p q cycle potentials)
@@ -38,9 +36,8 @@ pub data StripClaim (x : LocalRule) (strip ws : List ℕ) : Answer → Type 0 wh
   claims_least : {p q : ℕ} {cycle : List ℕ} {potentials : List ℤ} → IsLeastOnStrip x strip ws p q cycle potentials → StripClaim x strip ws (answer.Density p q cycle potentials)
   claims_empty : {ranks : List ℕ} → StripEmpty x (strip_for x strip) (greatest ranks + state_length x) → StripClaim x strip ws (answer.Empty ranks)
 
--- ---- discharging: amounts that hold the bound, with duals that show that no amounts hold more
-
--- a certificate of the bound, or a reason why none is given
+-- Discharging. A certificate is amounts that hold the bound, with duals that show that no amounts hold more; or a reason why no
+-- bound is given.
 pub data IsDischargeCertificate (x : LocalRule) (radius margin : ℕ) (vs : List Place) (ws : List ℕ) : Answer → Type 0 where
   best : {p q n : ℕ} {amounts duals : List ℕ} → IsBoundCertificate x ws radius margin vs (bound_claimed p q n amounts duals) →
       IsDischargeCertificate x radius margin vs ws (answer.Bound p q n amounts duals)

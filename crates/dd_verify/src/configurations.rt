@@ -1,4 +1,4 @@
-//! What periodic configurations show.
+//! Tests of periodic configurations: whether one lives in a subshift, and whether it has a goal at the origin.
 ghost use Rattle.std.specs.Prelude.{◌≡◌, ◌<◌, ◌↔◌, not, IsTrue, IfOk};
 ghost use Rattle.dd_lattice.specs.Cells.{cell};
 ghost use Rattle.dd_pattern.specs.Tile.{tile_look};
@@ -17,7 +17,7 @@ use dd_lattice::{Cell, Position};
 use dd_pattern::Periodic;
 use std::alloc::{AllocError, Global};
 
-/// Whether each symbol of the fundamental box is allowed at its node.
+/// Whether each symbol of the configuration is one that its node allows.
 fn has_allowed(rule: &Rule, periodic: &Periodic) -> bool
     requires { Fits rule.now periodic.now }
     ensures { IsTrue result ↔ HasAllowed rule.now periodic.now }
@@ -32,6 +32,7 @@ fn has_allowed(rule: &Rule, periodic: &Periodic) -> bool
     true
 }
 
+/// Whether the configuration lives in the rule's subshift.
 pub(crate) fn lives(rule: &Rule, periodic: &Periodic) -> bool
     requires { Fits rule.now periodic.now }
     ensures { IsTrue result ↔ Lives rule.now periodic.now }
@@ -46,7 +47,7 @@ pub(crate) fn lives(rule: &Rule, periodic: &Periodic) -> bool
     }
 }
 
-/// Whether the configuration has only allowed symbols and lives in the rule's subshift.
+/// Whether the configuration's symbols are allowed, and it lives in the rule's subshift.
 fn inhabits(rule: &Rule, periodic: &Periodic) -> bool
     requires { Fits rule.now periodic.now }
     ensures { IsTrue result ↔ (HasAllowed rule.now periodic.now × Lives rule.now periodic.now) }
@@ -85,8 +86,8 @@ fn is_broken(rule: &Rule, periodic: &Periodic) -> bool
     false
 }
 
-/// Whether the configuration shows that a rule doesn't follow from the premise: its symbols are allowed, it lives in the
-/// premise's subshift, and some node of the origin breaks `goal`. It takes no memory.
+/// Whether the configuration shows that `goal` doesn't follow from the premise: its symbols are allowed, it lives in the premise's
+/// subshift, and `goal` is false at some node of the origin. It takes no memory.
 pub fn check_periodic(premise: &Rule, goal: &Rule, periodic: &Periodic) -> bool
     requires fits { Fits premise.now periodic.now }
     requires alike { AreAlike premise.now goal.now }
@@ -100,7 +101,8 @@ pub fn check_periodic(premise: &Rule, goal: &Rule, periodic: &Periodic) -> bool
     is_broken(goal, periodic)
 }
 
-/// Whether the configuration shows any kind of goal. The values of automata take memory.
+/// Whether the configuration shows that the goal can be had: its symbols are allowed, it lives in the premise's subshift, and it
+/// has the goal at the origin.
 pub(crate) fn shows(
     alloc: Global,
     premise: &Rule,

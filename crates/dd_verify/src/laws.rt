@@ -1,4 +1,4 @@
-//! What certificates claim, as the contracts of calls that change nothing.
+//! What certificates claim, as the contract of a call that does nothing.
 ghost use Rattle.dd_boxes.specs.Goals.{IsGoalFor, KeepsRule};
 ghost use Rattle.dd_boxes.specs.Views.{goal_of};
 ghost use Rattle.dd_certificate.specs.declared.answer.Answer.{Answer as AnyAnswer};
@@ -16,8 +16,8 @@ use dd_question::{CheckedQuestion, Question};
 use dd_sides::bound_holds;
 use dd_strips::{strip_empty, strip_least};
 
-/// Only looks at the goal's automata. Its contract says that each cell that an automaton reads is a cell of Z^d with one of the
-/// nodes, and that the gates of its value compute the value.
+/// Does nothing. Its contract says that the goal's automata read cells of the lattice, and that the gates of their values compute
+/// the values.
 fn goal_facts(goal: &Goal)
     ensures { (x : LocalRule) → IsGoalFor x (goal_of x goal.now) → KeepsRule (goal_of x goal.now) → HasGoalFacts x (goal_of x goal.now) }
 {
@@ -33,12 +33,12 @@ fn goal_facts(goal: &Goal)
     }
 }
 
-/// Only looks at what is asked; its contract says that what a certificate of the question claims is true. For a bound this
-/// includes boxes of every side, at any position: they weigh at least what the bound says, less what may come in from outside.
+/// Does nothing. Its contract says that what a certificate for the question claims is true. The claim of a bound is about boxes of
+/// every side, at any position: they weigh at least what the bound says, less what may come in from outside.
 pub fn claims_hold(question: &CheckedQuestion)
     ensures { (answer : AnyAnswer) → IsCertificateOf question.now.limits question.now.question answer → ClaimOf question.now.question answer }
 {
-    // Laws of what is asked.
+    // The laws on which the claims about each kind of question rest.
     match question.question() {
         Question::Membership { .. } => {}
         Question::Box { goal, .. } => goal_facts(&goal),
