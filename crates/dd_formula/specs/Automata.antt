@@ -8,7 +8,7 @@ use Rattle.dd_formula.specs.LocalRule.{LocalRule, is_true, reads_at, expansion_a
 use Rattle.dd_formula.specs.declared.automaton.{Automaton.Automaton, Cases.Cases}
 use Rattle.dd_formula.specs.declared.automaton.Automaton.{TheFolds.fold-Automaton, TheOpen.Automaton-F}
 
--- the symbol of the first case whose rule is true at the cell
+-- the symbol of the first case whose rule is true at the cell, else the default symbol
 abbrev pub first_case : List (LocalRule × ℕ) → ℕ → Look → Cell → ℕ
 first_case [] otherwise look at = otherwise
 first_case (case ∷ cases) otherwise look at = cond (is_true case.0 at look) case.1 (first_case cases otherwise look at)
@@ -41,9 +41,11 @@ pub record Counted : Type 0 where
   -- how deep compositions are nested
   pub depth : ℕ
 
+-- the cells that the rules of the cases read at a node
 abbrev pub cases_reads : List (LocalRule × ℕ) → ℕ → List Cell
 cases_reads cases a = flat_map (λ case. reads_at case.0 a) cases
 
+-- the instances of the cases at a node: those of each rule, and one for each case
 abbrev pub case_instances : ℕ → List (LocalRule × ℕ) → ℕ
 case_instances a cases = total (map (λ case. instances (expansion_at case.0 a) + 1) cases)
 
@@ -64,11 +66,11 @@ counted = fold-Automaton Counted counted_step
 abbrev pub cells_of : Automaton → ℕ → List Cell
 cells_of f a = in_order ((counted f).reads a)
 
--- the rule is one of the setting
+-- the rule has the numbers of the setting
 abbrev pub rule_has : CommonNumbers → LocalRule → Bool
 rule_has s r = r.dimension == s.dimension && r.nodes == s.nodes && r.symbols == s.symbols
 
--- each rule is one of the setting, and each symbol that is given is one of the alphabet
+-- each rule has the numbers of the setting, and each symbol that is given is one of the alphabet
 abbrev pub cases_fit : CommonNumbers → List (LocalRule × ℕ) → ℕ → Bool
 cases_fit s cases otherwise = list_all (λ case. rule_has s case.0 && nat_lt case.1 s.symbols) cases && nat_lt otherwise s.symbols
 
@@ -104,6 +106,7 @@ is_short nodes f = list_all (λ a. list_all is_near (f.reads a)) (range_with_len
 abbrev pub is_shallow : Counted → Bool
 is_shallow f = nat_le f.depth most_depth
 
+-- all three limits are kept
 abbrev pub keeps_limits : ℕ → Counted → Bool
 keeps_limits nodes f = is_few nodes f && is_short nodes f && is_shallow f
 

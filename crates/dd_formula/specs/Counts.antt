@@ -38,11 +38,11 @@ place_clauses r = r.nodes * cell_clause_count r.symbols + disallowed_pairs r + r
 abbrev pub broken_clauses : LocalRule → ℕ
 broken_clauses r = rule_clauses r + 1
 
--- the clauses of a question on a region of so many positions, where those of the goal are counted already
+-- the clauses of a question on a region of so many positions; `goal` is the number of those of the goal
 abbrev pub region_clauses : LocalRule → ℕ → ℕ → ℕ
 region_clauses r goal positions = positions * place_clauses r + goal
 
--- how many positions the box of this radius in d dimensions has, or the torus of this period, whichever has more
+-- in d dimensions, the number of positions of the box of this radius or of the torus of this period, whichever is greater
 abbrev pub largest_region : ℕ → ℕ → ℕ → ℕ
 largest_region d radius period = max ((2 * radius + 1) ^ d) (period ^ d)
 

@@ -1,4 +1,4 @@
--- Local rules: a formula over a topology and the alphabets of its nodes.
+-- Local rules: a formula over a topology and the alphabets of its nodes. A look gives symbols to cells, perhaps not to all.
 use Rattle.std.specs.Prelude.{ℕ, zero, suc, Bool, ◌<◌, ◌≤◌, ◌≡◌, true, false, is_some, nat_le, nat_lt, List, [], ◌∷◌, ◌++◌}
 use Rattle.std.specs.List.{list_all}
 use Rattle.dd_lattice.specs.{InOrder.in_order, declared.position.Cell.Cell}
@@ -38,7 +38,7 @@ rule_allows r a s = row_allows r.allowed a s
 abbrev pub is_true : LocalRule → Cell → Look → Bool
 is_true r c look = truth r.edges r.formula (c ∷ []) look
 
--- the cells that the rule reads at a node, relative to the origin
+-- the cells that the rule reads at a node of the origin, perhaps some of them more than once
 abbrev pub reads_at : LocalRule → ℕ → List Cell
 reads_at r a = reads r.edges r.formula (origin_at a ∷ [])
 
@@ -55,7 +55,7 @@ abbrev pub at_nodes : {X : Type 0} → (ℕ → X) → ℕ → List X
 at_nodes f zero = []
 at_nodes f (suc n) = at_nodes f n ++ f n ∷ []
 
--- the same cells in cell order, each once
+-- the cells that the rule reads at a node, in cell order, each once
 abbrev pub cells_at : LocalRule → ℕ → List Cell
 cells_at r a = in_order (reads_at r a)
 
