@@ -9,7 +9,7 @@ impl Cases {
         ensures { CasesArePlaced self.now }
     {
         for (rule, _) in self.cases.as_slice() {
-            // This call brings in a fact: what the rule reads are cells with one of its nodes.
+            // This call brings in a fact: the rule reads cells with its nodes.
             let _nodes = rule.nodes();
         }
     }

@@ -21,7 +21,8 @@ use std::alloc::{AllocError, Global};
 use std::marker::Model;
 
 /// A local rule: a configuration satisfies it if the rule's formula is true at every cell. A rule has 1 to 4 nodes and 1 to 16
-/// symbols. At each node it has at most 20,000 instances, and reads no cell that lies more than 16 away along an axis.
+/// symbols. At each node its expansion is a tree of at most 20,000 constants, leaves and connectives, which are called instances.
+/// It reads no cell that lies more than 16 away along an axis.
 #[derive(Debug, Drop)]
 pub struct Rule {
     dim: u32,

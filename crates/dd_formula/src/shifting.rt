@@ -1,4 +1,4 @@
-//! Cells that are counted from one cell, counted from the origin instead.
+//! Cells, moved by a position.
 ghost use Rattle.std.specs.Prelude.{◌≡◌, true, ◌++◌, ◌≤◌, map, OnOk};
 ghost use Rattle.std.specs.List.{list_all};
 ghost use Rattle.dd_lattice.specs.Cells.{shifted};
