@@ -72,7 +72,7 @@ fn search_below(
     }
 }
 
-/// The first step of the descent. The descent ends once the weight is at most this far above a bound below which none is.
+/// The first step of the descent. The descent ends once the weight is known to be at most this much above the least one.
 const NEAR: u64 = 32;
 
 /// The descent: from `start` to a living configuration that weighs at most `NEAR` more than the least weight. Each search asks for

@@ -86,8 +86,8 @@ fn is_broken(rule: &Rule, periodic: &Periodic) -> bool
     false
 }
 
-/// Whether the configuration shows that `goal` doesn't follow from the premise: its symbols are allowed, it lives in the premise's
-/// subshift, and `goal` is false at some node of the origin. It takes no memory.
+/// Whether the configuration is a witness that `goal` doesn't follow from the premise: its symbols are allowed, it lives in the
+/// premise's subshift, and `goal` is false at some node of the origin. It takes no memory.
 pub fn check_periodic(premise: &Rule, goal: &Rule, periodic: &Periodic) -> bool
     requires fits { Fits premise.now periodic.now }
     requires alike { AreAlike premise.now goal.now }
@@ -101,8 +101,8 @@ pub fn check_periodic(premise: &Rule, goal: &Rule, periodic: &Periodic) -> bool
     is_broken(goal, periodic)
 }
 
-/// Whether the configuration shows that the goal can be had: its symbols are allowed, it lives in the premise's subshift, and it
-/// has the goal at the origin.
+/// Whether the configuration is a witness of the goal: its symbols are allowed, it lives in the premise's subshift, and it has
+/// the goal at the origin.
 pub(crate) fn shows(
     alloc: Global,
     premise: &Rule,

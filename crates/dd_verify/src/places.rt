@@ -62,7 +62,8 @@ fn is_outside(rule: &Rule, periodic: &Periodic, place: &[i64]) -> bool
     }
 }
 
-/// Whether the answer is right: that the configuration lives in the rule's subshift, or the place where it breaks the rule.
+/// Whether the answer is right. It says that the configuration lives in the rule's subshift, or gives the place of the first cell
+/// at which the rule is false.
 #[tactic(auto, using(dd_evidence::specs::Answers::member_outside))]
 fn is_member_certificate(rule: &Rule, periodic: &Periodic, answer: &Answer) -> bool
     requires { Fits rule.now periodic.now }
@@ -75,7 +76,7 @@ fn is_member_certificate(rule: &Rule, periodic: &Periodic, answer: &Answer) -> b
     }
 }
 
-/// Whether the answer is such a certificate, and an output can hold it. An output can hold each of them.
+/// Whether the answer is right, and an output can hold it. An output can hold each right answer.
 pub(crate) fn check_member(rule: &Rule, periodic: &Periodic, answer: &Answer) -> bool
     requires { Fits rule.now periodic.now }
     ensures { IsTrue result ↔ (IsWritable answer.now × IsMemberCertificate rule.now periodic.now answer.now) }
