@@ -2,7 +2,6 @@
 //! together, and whether it asks for too much work. What passes is a `CheckedQuestion`.
 #![tactic(auto)]
 
-mod aims;
 mod checked;
 mod checking;
 mod conjugacy;
@@ -10,15 +9,16 @@ mod excess;
 mod fault;
 mod laws;
 mod limits;
+mod measures;
 mod parts;
 mod question;
 mod tori;
 
-pub use aims::MOST_CLAUSES;
 pub use checked::CheckedQuestion;
 pub use conjugacy::Conjugacy;
 pub use excess::Excess;
 pub use fault::QuestionFault;
 pub use laws::sound_questions;
+pub use measures::MOST_CLAUSES;
 pub use parts::has_allowed;
 pub use question::Question;

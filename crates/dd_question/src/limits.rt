@@ -9,9 +9,9 @@ ghost use Rattle.dd_question.specs.Conjugacies.{EachPart, conjugacy_of, is_some_
 ghost use Rattle.dd_question.specs.Lists.{has_many_patterns};
 ghost use Rattle.dd_question.specs.Densities.{has_many_states, strip_volume};
 
-use crate::aims::{MOST_CLAUSES, aim_of};
 use crate::conjugacy::Conjugacy;
 use crate::excess::Excess;
+use crate::measures::{MOST_CLAUSES, measure_of};
 use crate::question::Question;
 use crate::tori::is_heavy;
 use dd_boxes::Goal;
@@ -29,9 +29,15 @@ fn is_long(alloc: Global, limits: &Limits, premise: &Rule, goal: &Goal) -> Resul
     requires goal { IsGoalFor premise.now (goal_of premise.now goal.now) }
     ensures { IfOk result (λ long. long ≡ is_long limits.now premise.now (goal_of premise.now goal.now)) }
 {
-    let aim = aim_of(alloc, premise, goal)?;
-    let radius = limits.radius.max(aim.radius);
-    let clauses = question_clauses(premise, aim.clauses, radius, limits.period, MOST_CLAUSES);
+    let measure = measure_of(alloc, premise, goal)?;
+    let radius = limits.radius.max(measure.radius);
+    let clauses = question_clauses(
+        premise,
+        measure.clauses,
+        radius,
+        limits.period,
+        MOST_CLAUSES,
+    );
     Ok(clauses > MOST_CLAUSES)
 }
 

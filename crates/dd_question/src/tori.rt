@@ -10,8 +10,8 @@ ghost use Rattle.dd_question.specs.Questions as asked;
 ghost use Rattle.dd_question.specs.Questions.{IsFormed, IsPartFault};
 ghost use Rattle.dd_question.specs.Tori.{positions_in, cells_in, weight_clauses, is_heavy};
 
-use crate::aims::MOST_CLAUSES;
 use crate::fault::QuestionFault;
+use crate::measures::MOST_CLAUSES;
 use crate::parts::has_weights;
 use dd_counts::place_clauses;
 use dd_formula::{Rule, plus, times};

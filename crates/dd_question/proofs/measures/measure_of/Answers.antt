@@ -1,7 +1,7 @@
 use Rattle.std.proofs.Common.{subst, arith}
 use Rattle.dd_formula.specs.declared.automaton.Automaton.{Automaton}
 use Rattle.dd_boxes.specs.{Goals.AreOver, Goals.IsGoalFor, Views.goal_of, Views.numbers_of}
-use Rattle.dd_question.proofs.aims.aim_of.Goals as goal
+use Rattle.dd_question.proofs.measures.measure_of.Goals as goal
 
 pub differing-requires : goal.differing-requires
 differing-requires c =

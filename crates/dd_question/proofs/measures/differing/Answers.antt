@@ -1,7 +1,7 @@
 use Rattle.std.proofs.Common.{◌≡◌, ap, ◌∙◌, arith}
 use Rattle.dd_formula.specs.{declared.automaton.Automaton.Automaton, Counts.cut, Reach.automaton_reach, ValueCounts.differ_clauses}
 use Rattle.dd_boxes.specs.Counts.{most_clauses}
-use Rattle.dd_question.proofs.aims.differing.Goals as goal
+use Rattle.dd_question.proofs.measures.differing.Goals as goal
 
 pub returns : goal.returns
 returns c =
