@@ -11,12 +11,12 @@ left_on active n c = cond active (n - unsigned_abs c) 1
 abbrev pub inner_count : ℕ → ℕ → Place → ℕ
 inner_count d n v = left_on (is_active d 0) n v.x * (left_on (is_active d 1) n v.y * left_on (is_active d 2) n v.z)
 
--- how many receive along v from outside it
+-- how many positions of Side(n) receive along v from outside it
 abbrev pub outer_count : ℕ → ℕ → Place → ℕ
 outer_count d n v = n ^ d - inner_count d n v
 
--- The sum over the vectors of the greatest amount times this number. `amounts` lists one amount for each pattern along the first
--- vector, then along the second, and so on.
+-- The sum, over the vectors, of the greatest amount times this number. `amounts` has one amount for each pattern along the
+-- first vector, then along the second, and so on.
 abbrev pub boundary : ℕ → ℕ → ℕ → List Place → List ℕ → ℕ
 boundary d n patterns [] amounts = 0
 boundary d n patterns (v ∷ vs) amounts = greatest (take patterns amounts) * outer_count d n v + boundary d n patterns vs (drop patterns amounts)

@@ -12,8 +12,8 @@ ghost use Rattle.dd_sides.specs.Sides.{side, IsSide};
 ghost use Rattle.dd_sides.specs.Boundaries.{outer_count};
 ghost use Rattle.dd_sides.specs.Lifted.{HoldsOnSides};
 
-/// Does nothing; its contract describes the box of side n at u. Its positions are those of `Side(n)`, moved by u. A sum over the
-/// box takes each once. The box grown by e has the positions within e of the box.
+/// Does nothing; its contract describes the box of side n at u. Its positions are those of Side(n), the box of side n at the
+/// origin, moved by u. A sum over the box takes each of them once. Grown by e, the box has the positions within e of it.
 #[tactic(auto, using(crate::proofs::SideParts::side_is))]
 pub fn sides_are()
     ensures { (d n : ℕ) (u : Place) → 1 ≤ d → 1 ≤ n → is_flat d u ≡ true → IsSide d n u }
