@@ -15,7 +15,7 @@ use Rattle.dd_trail.proofs.Valued.{valued_of, length_within, full_exactly, false
 abbrev signed : ℕ → Bool → Literal
 signed v p = record { variable = v; positive = p }
 
--- literals of one place are one
+-- literals of one code are the same
 same_code : (x y : Literal) → code x ≡ code y → x ≡ y
 same_code x y e = go x.positive y.positive refl refl e
   where

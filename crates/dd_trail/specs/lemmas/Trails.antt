@@ -47,7 +47,7 @@ in-has_variable (x ∷ xs) v h = elim (or_cases (eqb x.variable v) (has_variable
   | inr a ↦ let r = in-has_variable xs v a in (r.0, or_right _ _ r.1, r.2)
 ]
 
--- no literal of a variable is among those that do not have it
+-- if no literal of a list has the variable, the literal of the variable is not in the list
 pub absent : (xs : List Literal) (x : Literal) (v : ℕ) → x.variable ≡ v → has_variable v xs ≡ false → is_among xs x ≡ false
 absent xs x v q f = false_from_ne_true _ (λ h. false≢true (sym f ∙ subst (λ (w : ℕ). has_variable w xs ≡ true) q (has_variable-in xs x h)))
 
