@@ -14,7 +14,7 @@ use Rattle.dd_expansion.specs.lemmas.{Layers.fits_and, Layers.depth_and, Depths.
 use Rattle.dd_values.specs.lemmas.{Numbers.cond_more, Lists.list_at}
 use Rattle.dd_expansion.specs.declared.formulas.Formula.TheVariants as formula
 
--- each part of a conjunction that fits fits
+-- if a conjunction fits, so does each part
 pub part_fits : (g : Grid) (n : ℕ) (fs : List Formula) (scope i : ℕ) (f : Formula) → formula_fits g n (formula.And fs) scope ≡ true → i < length fs → f ≡ get_or fs i f → formula_fits g n f scope ≡ true
 part_fits g n fs scope i f h within is =
     ap (λ x. formula_fits g n x scope) is ∙ list_at (λ x. formula_fits g n x scope) fs i f (sym (fits_and g n fs scope) ∙ h) within
@@ -32,7 +32,7 @@ quantified_fits g n bs f scope h =
     let opened = ap (λ x. x scope) (fold-roll-Formula (ℕ → Bool) (formula_fits_step g n) (Formula-F.ForAll bs f)) in
     and_parts _ _ (sym opened ∙ (ap (λ x. formula_fits g n x scope) (formula.rolls-ForAll bs f) ∙ h))
 
--- one more variable, at a cell that is near
+-- one more variable, whose cell is near
 pub near_push : (env : List Cell) (c : Cell) → AreNear (12 * length env) env → extent c.position ≤ 12 * (length env + 1) → AreNear (12 * length (env ++ c ∷ [])) (env ++ c ∷ [])
 near_push env c near here =
     let longer : 12 * (length env + 1) ≡ 12 * length (env ++ c ∷ []) = omega (arith, length-append env (c ∷ [])) in

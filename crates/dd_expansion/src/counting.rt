@@ -1,4 +1,4 @@
-//! The number of clauses that an expansion takes.
+//! The number of clauses of an expansion's gates.
 ghost use Rattle.std.specs.Prelude.{◌≡◌, ◌+◌, ◌^◌, ◌<◌, ◌≤◌, length};
 ghost use Rattle.std.specs.List.{sum_by};
 ghost use Rattle.dd_expansion.specs.Leaves.{instances, clause_count};
@@ -6,7 +6,7 @@ ghost use Rattle.dd_expansion.specs.Leaves.{instances, clause_count};
 use crate::expanded::Expanded;
 
 impl Expanded {
-    /// The number of clauses of the gates of this tree.
+    /// The number of clauses of the gates of this expansion. `clause_count` of the specs says how each kind counts.
     #[tactic(auto, using(crate::proofs::Sizes::clauses_few))]
     pub fn clause_count(&self) -> u64
         requires { instances self.now ≤ 2 ^ 32 }
@@ -16,6 +16,7 @@ impl Expanded {
     }
 }
 
+/// The number of clauses, where it fits 64 bits.
 #[cycle(count)]
 #[tactic(auto, using(std::proofs::lemmas::Grind::common_steps, crate::proofs::Sizes::count_layers))]
 fn count(expanded: &Expanded) -> u64

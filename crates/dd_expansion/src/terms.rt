@@ -15,13 +15,13 @@ use dd_lattice::{Cell, LatticeFault, in_order};
 use dd_topology::Topology;
 use std::alloc::Global;
 
-/// The cell at the end of one move; `None` where the move is missing.
+/// The cell at the end of one move; `None` where no edge of the cell's node has the label.
 fn step(topology: &Topology, from: &Cell, label: u32) -> Option<Cell>
     requires near { extent from.now.position + 4 ≤ most_coordinate }
     ensures value { result ≡ step topology.now.edges from.now label }
     ensures near { IfSome result (λ to. extent to.position ≤ extent from.now.position + 4) }
 {
-    // The edges are short.
+    // This read brings in what the type guarantees: no edge leads further than 4 along an axis.
     let _edges = topology.edges();
     topology.step(from, label)
 }
@@ -53,7 +53,7 @@ pub(crate) fn cell_of(topology: &Topology, env: &[Cell], term: &Term) -> Option<
     }
 }
 
-/// The ball of a radius round a cell, in cell order.
+/// The ball of a radius round a cell that is far enough from the border of the range, in cell order.
 fn ball_at(
     alloc: Global,
     topology: &Topology,
@@ -65,7 +65,7 @@ fn ball_at(
     ensures near { IfOk result (λ v. AreNear (extent centre.now.position + 4 * radius) v.items) }
     ensures fault { IfErr result (λ fault. fault ≡ Instances → ⊥) }
 {
-    // The edges are short.
+    // This read brings in what the type guarantees: no edge leads further than 4 along an axis.
     let _edges = topology.edges();
     match topology.ball(alloc, centre, radius) {
         Ok(cells) => Ok(cells),

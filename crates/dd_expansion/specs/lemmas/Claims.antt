@@ -1,4 +1,4 @@
--- Formulas with a claim that is known of each, as the parts of a formula.
+-- The parts of a formula, each with a claim that is known of it.
 use Rattle.dd_expansion.specs.declared.formulas.Formula.{Formula, TheFolds.map-Formula, TheOpen.Formula-F}
 
 abbrev pub Known : (Formula → Type 0) → Type 0
