@@ -1,4 +1,4 @@
-//! Whether two automata give different symbols.
+//! Whether two automata give different symbols at the origin.
 ghost use Rattle.std.specs.Prelude.{◌≡◌, ◌<◌, ◌↔◌, IsTrue, IfOk};
 ghost use Rattle.dd_pattern.specs.Tile.{tile_look};
 ghost use Rattle.dd_expansion.specs.Terms.{origin_at};
@@ -10,7 +10,7 @@ use dd_lattice::{Cell, Position};
 use dd_pattern::Periodic;
 use std::alloc::{AllocError, Global};
 
-/// The symbol that the automaton gives the origin with this node.
+/// The symbol that the automaton gives the cell of this node at the origin.
 fn value_at_origin(
     alloc: Global,
     automaton: &Automaton,
@@ -32,7 +32,7 @@ fn value_at_origin(
     }
 }
 
-/// Whether two automata give different symbols at some node of the origin.
+/// Whether the two automata give some cell at the origin different symbols.
 pub fn differ_at_origin(
     alloc: Global,
     left: &Automaton,

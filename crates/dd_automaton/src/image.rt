@@ -6,8 +6,8 @@ use dd_formula::{Automaton, Cases};
 use dd_pattern::Periodic;
 use std::alloc::{AllocError, Global};
 
-/// The configuration with the automaton's value at every cell, and the same periods and shear. A value may be a symbol
-/// that the cell's node doesn't allow.
+/// The image of the configuration: it has the automaton's value at every cell, and the same periods and shear. A value may
+/// be a symbol that the cell's node doesn't allow.
 pub fn apply(
     alloc: Global,
     automaton: &Automaton,

@@ -1,4 +1,4 @@
-//! Whether the numbers in formulas name what exists.
+//! Whether the numbers in formulas name what exists, and keep within limits.
 ghost use Rattle.std.specs.Prelude.{◌≡◌, ◌+◌, ◌<◌, ◌^◌, ◌↔◌, ◌&&◌, IsTrue, All, length, nat_lt};
 ghost use Rattle.std.specs.List.{list_all};
 ghost use Rattle.dd_expansion.specs.Limits.{term_fits, ball_fits, balls_fit, formula_fits, depth, IsFormula};
@@ -7,18 +7,22 @@ use crate::depth::keeps_depth;
 use dd_expansion::{BallOf, Formula, Term};
 use dd_topology::Topology;
 
-/// The greatest number of moves of a term, and of balls of a quantifier, and the greatest radius of a ball.
+/// The greatest number of moves of a term.
 const MOST_MOVES: usize = 16;
 
+/// The greatest number of balls of a quantifier.
 const MOST_BALLS: usize = 4;
 
+/// The greatest radius of a ball.
 const WIDEST_RADIUS: u32 = 3;
 
 /// What formulas may name: the labels and nodes of a topology, and symbols.
 #[derive(Drop)]
 struct Language<'a> {
     topology: &'a Topology,
+    /// How many labels the topology has.
     labels: u32,
+    /// How many symbols the alphabet has.
     symbols: u32,
     ghost labelled: { length topology.now.labels ≡ labels },
 }
@@ -62,7 +66,8 @@ impl Language<'_> {
         self.term_fits(scope, left) && self.term_fits(scope, right)
     }
 
-    /// Whether the formula fits with so many variables in scope. It doesn't if there would be 2^32 of them.
+    /// Whether the formula fits with `scope` variables in scope. The contract speaks of formulas in which fewer than 2^32
+    /// are in scope at a time.
     #[cycle(fits)]
     #[tactic(auto, using(crate::proofs::Layers::fits_layers, crate::proofs::Layers::depth_layers, crate::proofs::Layers::parts_within))]
     fn fits(&self, scope: u32, formula: &Formula) -> bool
@@ -91,7 +96,7 @@ impl Language<'_> {
         }
     }
 
-    /// The body has one variable more in scope.
+    /// Whether the balls of a quantifier fit, and its body with one variable more in scope.
     #[cycle(fits)]
     fn body_fits(&self, scope: u32, balls: &[BallOf], body: &Formula) -> bool
         ensures { scope + 1 + depth body.now < 2 ^ 32 →
@@ -103,6 +108,7 @@ impl Language<'_> {
         balls_fit(scope, balls) && self.fits(scope + 1, body)
     }
 
+    /// Whether each part fits.
     #[cycle(fits)]
     fn all_fit(&self, scope: u32, parts: &[Formula]) -> bool
         ensures { All (λ f. scope + depth f < 2 ^ 32) parts.now →
@@ -117,11 +123,13 @@ impl Language<'_> {
     }
 }
 
-/// Whether a formula may be made a rule over a topology with so many labels, and so many symbols. It takes no memory.
+/// Whether a rule may be made of the formula, over this topology with `labels` labels and an alphabet of `symbols` symbols:
 /// - It has one free variable, and each variable, label, node and symbol in it exists.
 /// - Its terms have at most 16 moves, and its quantifiers at most 4 balls of a radius of at most 3.
-/// - It is at most 64 deep. A list of two parts or more, an implication, an equivalence, a negation and a quantifier are
-///   one deeper than their deepest part.
+/// - It is at most 64 deep. A negation, an implication, an equivalence, a quantifier, and a conjunction or disjunction of
+///   two parts or more are one deeper than their deepest part.
+///
+/// It allocates no memory.
 pub fn is_formula(topology: &Topology, labels: u32, symbols: u32, formula: &Formula) -> bool
     requires { length topology.now.labels ≡ labels }
     ensures { IsTrue result ↔ IsFormula topology.now symbols formula.now }

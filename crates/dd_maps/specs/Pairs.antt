@@ -17,11 +17,11 @@ guarded_of s y = guarded s y.nodes y.formula
 abbrev pub guarded_depth : SymbolSets → LocalRule → ℕ
 guarded_depth s y = depth (guarded_of s y)
 
--- gives 0 where the rule is true and the symbol is allowed, else 1
+-- the automaton that gives 0 where the rule is true and the symbol is allowed, else 1
 abbrev pub marked : Grid → SymbolSets → LocalRule → Automaton
 marked g s y = by_cases g s ((guarded_of s y, 0) ∷ []) 1
 
--- gives 0 everywhere
+-- the automaton that gives 0 everywhere
 abbrev pub always_zero : Grid → SymbolSets → Automaton
 always_zero g s = by_cases g s [] 0
 
@@ -29,6 +29,6 @@ always_zero g s = by_cases g s [] 0
 abbrev pub own_symbol : ℕ → Formula × ℕ
 own_symbol t = (symbol_is t, t)
 
--- gives each cell its symbol: a case for each symbol from 1 on, else 0
+-- the automaton that gives each cell its symbol: a case for each symbol from 1 on, else 0
 abbrev pub identity : Grid → SymbolSets → Automaton
 identity g s = by_cases g s (map own_symbol (range_with_len 1 (s.symbols - 1))) 0

@@ -1,4 +1,4 @@
--- Why no automaton that marks a rule, and no pair, is made.
+-- Why a rule's marked automaton, or a pair, is not made.
 use Rattle.std.specs.Prelude.{◌<◌, ◌≤◌, ◌≡◌, ◌⊎◌, false}
 use Rattle.dd_topology.specs.{Grid.Grid, Sets.SymbolSets}
 use Rattle.dd_expansion.specs.Limits.{most_nested}
@@ -8,7 +8,7 @@ use Rattle.dd_formula.specs.declared.fault.RuleFault.{RuleFault}
 use Rattle.dd_formula.specs.declared.fault.RuleFault.TheVariants.{Reach, Instances, Depth, Memory}
 use Rattle.dd_maps.specs.Pairs.{guarded_depth, marked}
 
--- the guarded formula is within the limit, which is tested first, or past it
+-- the guarded formula is within the limit on depth, or past it. This is tested first
 abbrev pub PassesGuard : SymbolSets → LocalRule → Type 0
 PassesGuard s y = guarded_depth s y ≤ most_nested
 
@@ -23,7 +23,7 @@ IsMarkedFault g s y Instances = PassesGuard s y × (is_few g.nodes (counted (mar
 IsMarkedFault g s y Reach = ⊥
 IsMarkedFault g s y Memory = Unit {0}
 
--- the guarded formula is within the limit, and the composition with the automaton whose image is asked about has the fault
+-- the guarded formula is within the limit, and the composition of the marked automaton with f has the fault e
 abbrev pub IsLaterFault : Grid → SymbolSets → LocalRule → Automaton → RuleFault → Type 0
 IsLaterFault g s y f e = PassesGuard s y × IsCompositionFault g.nodes (composition (marked g s y) f) e
 

@@ -1,4 +1,4 @@
-//! The guarded formula: a formula is true, and the symbol at its cell is one that the node allows.
+//! The guarded formula of a rule: the rule is true at the cell, and the cell's symbol is one that its node allows.
 ghost use Rattle.std.specs.Prelude.{◌≡◌, ◌<◌, ◌≤◌, length, map, IfOk};
 ghost use Rattle.dd_formula.specs.LocalRule.{IsRule};
 ghost use Rattle.dd_maps.specs.Guarded.{here, symbol_is, guard, allows_all, guarded_nodes};
@@ -9,7 +9,7 @@ use dd_topology::Sets;
 use dd_values::{Boxed, Items};
 use std::alloc::{AllocError, Global};
 
-/// The cell at which a formula stands.
+/// The term that names the cell of which a formula speaks.
 fn here(alloc: Global) -> Term
     ensures { result ≡ here }
 {
@@ -19,7 +19,7 @@ fn here(alloc: Global) -> Term
     }
 }
 
-/// The symbol there is this one. It takes no memory.
+/// The cell's symbol is this one. The formula allocates no memory.
 pub(crate) fn symbol_is(alloc: Global, symbol: u32) -> Formula
     ensures { result ≡ symbol_is symbol }
 {
@@ -27,7 +27,7 @@ pub(crate) fn symbol_is(alloc: Global, symbol: u32) -> Formula
     Formula::Symbol { term, symbol }
 }
 
-/// The cell there doesn't have this node.
+/// The cell doesn't have this node.
 fn other_node(alloc: Global, node: u32) -> Result<Formula, AllocError>
     ensures { IfOk result (λ f. f ≡ Formula.Not (Formula.Node here node)) }
 {
@@ -64,7 +64,7 @@ fn guard(alloc: Global, sets: &Sets, node: u32) -> Result<Formula, AllocError>
     Ok(Formula::Or(parts))
 }
 
-/// A guard for each of the first nodes that doesn't allow some symbol.
+/// The guards of those of the first `nodes` nodes that don't allow every symbol.
 fn guards(alloc: Global, sets: &Sets, nodes: u32) -> Result<Vec<Formula>, AllocError>
     requires { nodes ≤ length sets.now.allowed }
     ensures { IfOk result (λ guards. guards.items ≡ map (guard sets.now) (guarded_nodes sets.now nodes)) }
@@ -78,8 +78,8 @@ fn guards(alloc: Global, sets: &Sets, nodes: u32) -> Result<Vec<Formula>, AllocE
     Ok(guards)
 }
 
-/// The formula that says that the rule is true and the symbol is allowed. Where each node allows every symbol, it is the
-/// rule's own formula.
+/// The guarded formula: the rule's formula, and the guards. Where each node allows every symbol, it is the rule's own
+/// formula.
 pub(crate) fn guarded(alloc: Global, sets: &Sets, rule: &Rule) -> Result<Formula, AllocError>
     requires { rule.now.nodes ≤ length sets.now.allowed }
     ensures value { IfOk result (λ f. f ≡ guarded_of sets.now rule.now) }

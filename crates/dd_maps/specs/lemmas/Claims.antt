@@ -14,7 +14,7 @@ use Rattle.dd_maps.specs.Images.{image, KeepsAt, GivesBackAt, HasSymbolAt, AtEac
 pub rule_over : (g : Grid) (s : SymbolSets) (f : Formula) (y : LocalRule) → IsFormula g s.symbols f → y ≡ local_rule g s f → IsRuleOver g s y
 rule_over g s f y formula made = subst (IsRuleOver g s) (sym made) (record { same = refl; formula = formula })
 
--- a look of symbols below k
+-- a look whose symbols are below k
 pub symbol_at : (k : ℕ) (look : Look) (c : Cell) → HasSymbolsBelow k look → is_some (look c) ≡ true → HasSymbolAt k look c
 symbol_at k look c below some = by (look c) some (below c)
   where
