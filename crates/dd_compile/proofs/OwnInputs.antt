@@ -1,4 +1,4 @@
--- Variables of their own for cells: the loops that list them, and what they are.
+-- The new variables of a template's cells: the loops that list them, and what they are.
 use Rattle.std.proofs.Common.{◌≡◌, ◌<◌, ◌≤◌, ℕ, zero, suc, ◌+◌, ◌-◌, ◌*◌, true, List, [], ◌∷◌, ◌++◌, Some, length, take, drop, get_or, slice_get, refl, ap, sym, ◌∙◌, arith, length-append, append_assoc, append-nil, drop-cons, add-one, eq-eqb}
 use Rattle.std.proofs.lemmas.{Bool.and_from, Bool.le-leb, List.take_more, List.take_all, List.drop_all}
 use Rattle.std.specs.{Prelude.◌==◌, Prelude.nat_le, List.list_all, List.flat_map}

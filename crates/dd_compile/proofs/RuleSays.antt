@@ -18,7 +18,7 @@ use Rattle.dd_compile.specs.Compiling.{Extends, wire_or_zero, certain, is_wire, 
 use Rattle.dd_compile.specs.{RuleSignals.TellsReads, RuleSignals.SaysTruth, lemmas.MadeSays.made_says}
 use Rattle.dd_values.specs.lemmas.Lists.{members_pass}
 
--- whether the rule reads a cell, counted from the origin, at a node
+-- whether the rule reads a cell at a node of the origin
 abbrev pub is_among : List Cell → Cell → Bool
 is_among cs d = list_any (λ x. is_eq (cell_cmp x d)) cs
 

@@ -1,11 +1,11 @@
-//! What the gates of an automaton's value keep.
+//! The law of an automaton's value: its gates say the value wherever they stand in a circuit.
 ghost use Rattle.std.specs.List.{All};
 ghost use Rattle.dd_formula.specs.LocalRule.{IsRule};
 ghost use Rattle.dd_compile.specs.Valued.{SaysNear, SaysItsValue};
 
 use dd_formula::{Automaton, Cases};
 
-/// Reads the rules only for their invariants.
+/// Reads the cases' rules only for their invariants.
 fn rules_are_kept(cases: &Cases)
     ensures { All (λ case. IsRule case.0) cases.now.cases }
 {
@@ -15,7 +15,7 @@ fn rules_are_kept(cases: &Cases)
     }
 }
 
-/// Reads the rules only for their invariants: near the origin the gates of the automaton's value say its value.
+/// The same law, for cells near enough to the origin that compositions of this depth read only cells in range.
 fn says_near(automaton: &Automaton)
     ensures { SaysNear automaton.now }
 {
@@ -29,8 +29,8 @@ fn says_near(automaton: &Automaton)
     }
 }
 
-/// Reads the rules only for their invariants: the gates of the automaton's value are over earlier variables, and
-/// their signals say its value, wherever they stand.
+/// Reads the rules only for their invariants. The contract is the law: after any number of variables, the gates of the
+/// automaton's value are over earlier variables, and their signals say the value.
 pub fn says_its_value(automaton: &Automaton)
     ensures { SaysItsValue automaton.now }
 {

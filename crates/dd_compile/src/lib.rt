@@ -1,4 +1,5 @@
-//! Formulas without variables, rules and values of automata as gates, over the signals that say which symbol a cell has.
+//! Expansions, rules and the values of automata as gates, over signals that say which symbol each cell has. One signal for
+//! each symbol of a cell is the direct encoding of finite domains (Walsh 2000).
 #![tactic(auto)]
 
 mod automata;

@@ -1,4 +1,4 @@
--- Gates over variables of their own, placed over the signals of a circuit.
+-- The gates of a template, placed over the signals of a circuit.
 use Rattle.std.specs.Prelude.{ℕ, ◌+◌, ◌-◌, ◌&&◌, is_some, if◌then◌else◌, Bool, List, [], map, length, Option, Some, None, slice_get}
 use Rattle.std.specs.List.{flat_map}
 use Rattle.dd_lattice.specs.{Place.Place, Place.moved, Place.is_in_range, Cells.shifted, declared.position.Cell.Cell}
@@ -11,11 +11,11 @@ abbrev pub all_of : Option (List Signal) → List Signal
 all_of None = []
 all_of (Some ss) = ss
 
--- a cell that is counted from a place is in the range of positions, and has signals
+-- the cell, relative to v, is in range, and has signals
 abbrev pub is_there : Wiring → Place → Cell → Bool
 is_there w v d = is_in_range (moved d.position v) && is_some (signals_of w (shifted v d))
 
--- the signals of cells that are counted from a place, one cell after the other
+-- the signals of the cells, relative to v, one cell after the other
 abbrev pub signals_there : Wiring → Place → List Cell → List Signal
 signals_there w v cs = flat_map (λ d. all_of (signals_of w (shifted v d))) cs
 
@@ -27,7 +27,8 @@ abbrev pub placed_by : Option Signal → ℕ → Bool → Signal
 placed_by None variable positive = record { variable = variable; positive = positive }
 placed_by (Some input) variable positive = signed positive input
 
--- what stands for a signal: one of these for each of the first variables, and the variables after n for the later ones
+-- The signal that takes the place of a template's signal: one of `inputs` for each of the first variables, and the variables
+-- after n for the later ones.
 abbrev pub placed : List Signal → ℕ → Signal → Signal
 placed inputs n s = placed_by (slice_get inputs (s.variable - 1)) (n + (s.variable - length inputs)) s.positive
 
