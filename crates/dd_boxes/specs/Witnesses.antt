@@ -22,6 +22,6 @@ pub record IsWitness (x : LocalRule) (g : GoalOf) (t : Tile) : Type 0 where
 abbrev pub HasPeriods : Periods → Tile → Type 0
 HasPeriods p t = t.periods ≡ p
 
--- periods that a question may ask for
+-- periods within the limit of questions, in d dimensions
 abbrev pub ArePeriods : ℕ → Periods → Type 0
 ArePeriods d p = AreWithin d greatest_period p

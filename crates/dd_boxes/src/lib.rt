@@ -1,4 +1,5 @@
-//! Box questions: whether a goal can hold at a position of a configuration, and what one box says about it.
+//! Box questions: whether some configuration of a rule, the premise, has a goal at some position, and what one box says
+//! about it.
 #![tactic(auto)]
 
 mod goals;

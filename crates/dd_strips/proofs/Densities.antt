@@ -51,7 +51,7 @@ exactly p q m l n a w some same h =
     let down : q * w ≤ p * (a * n) = le_of_mul-le-mul_right back some in
     omega (arith, up, down)
 
--- a way round that ends as it began does not rise
+-- along a closed walk the potentials do not rise
 no_rise : (a c : ℤ) (m l : ℕ) → c ≡ a → (c +ℤ pos m) ≤ℤ (a +ℤ pos l) → m ≤ l
 no_rise a c m l same h = omega (arith, ints, same, h)
 

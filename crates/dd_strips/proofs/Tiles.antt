@@ -50,7 +50,7 @@ value_at [] k = refl
 value_at (x ∷ xs) zero = refl
 value_at (x ∷ xs) (suc k) = value_at xs k
 
--- where a cell's symbol stands, by its place along each axis
+-- the place of a cell's symbol in the list, from its place along each axis
 abbrev pub spot : Tile → ℕ → ℕ → ℕ → ℕ → ℕ
 spot t x y z a = ((z * t.periods.y + y) * t.periods.x + x) * t.nodes + a
 
