@@ -26,8 +26,8 @@ UnlessNo (No tile) P = Unit {0}
 UnlessNo (Yes n steps) P = P
 UnlessNo Unknown P = P
 
--- The question whether a configuration of x breaks y is decided, and so is the one whether a configuration of y breaks x. This
--- is the join of their answers. If the left answer is NO, the right question is left open.
+-- The answer is the join of two answers. The left one decides whether a configuration of x breaks y, and the right one whether
+-- a configuration of y breaks x. If the left answer is NO, the right one may be any.
 pub record IsEqualDecided (x y : LocalRule) (n p : ℕ) (equality : Equality) : Type 0 where
   pub left : Decision
   pub right : Decision
@@ -42,9 +42,9 @@ HasBothNumbers x y (Same left right) =
 HasBothNumbers x y (Differ side tile) = Unit {0}
 HasBothNumbers x y Open = Unit {0}
 
--- What the question of equality comes to within the limits n and p.
+-- The answer within the limits n on radii and p on periods.
 pub record IsEquality (x y : LocalRule) (n p : ℕ) (equality : Equality) : Type 0 where
-  -- The join of what the two questions come to.
+  -- It is the join of the answers of the two questions.
   pub decided : IsEqualDecided x y n p equality
   -- The evidence of a YES is numbered.
   pub numbered : HasBothNumbers x y equality

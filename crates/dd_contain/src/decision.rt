@@ -1,4 +1,4 @@
-//! What is decided about a box question.
+//! The answer of a box question.
 use dd_derivation::Step;
 use dd_pattern::Periodic;
 use dd_values::Items;
@@ -10,13 +10,13 @@ pub struct Enough {
     pub steps: Items<Step>,
 }
 
-/// The answer of a box question.
+/// The answer of a box question: whether the goal holds in no configuration of the premise.
 #[derive(Debug, Drop)]
 pub enum Decision {
-    /// The least radius that suffices, with steps that refute the clauses of its box.
+    /// It holds in none. Here is the least radius that suffices, with steps that refute the clauses of its box.
     Yes { radius: u32, steps: Items<Step> },
-    /// A configuration of the first periods and shear that has the goal at the origin.
+    /// It holds in some. Here is a configuration, of the first periods and shear, that has it at the origin.
     No { periodic: Periodic },
-    /// Neither within the limits.
+    /// The search found neither within the limits.
     Unknown,
 }

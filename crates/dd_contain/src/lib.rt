@@ -1,4 +1,5 @@
-//! Decides box questions, and the two box questions of an equality.
+//! Decides box questions, and whether two rules allow the same configurations. The search goes through boxes of growing
+//! radius, and then through tori of growing volume.
 #![tactic(auto)]
 
 mod decision;

@@ -1,4 +1,4 @@
-//! What the search asks about boxes and periods.
+//! Box questions as the search asks them: each box and each torus is a list of clauses to be satisfied or refuted.
 ghost use Rattle.std.specs.Prelude.{◌≡◌, ◌↔◌, ◌≤◌, true, IfOk, IfSome};
 ghost use Rattle.dd_boxes.specs.Boxes.{Suffices};
 ghost use Rattle.dd_boxes.specs.Goals.{IsGoalFor};
@@ -24,7 +24,7 @@ use dd_solver::{Style, solve_with, trimmed};
 use dd_values::{Items, Limits};
 use std::alloc::{AllocError, Global};
 
-/// The steps that the refutation uses.
+/// The refutation without the steps that it doesn't use.
 fn evidence(alloc: Global, cnf: &Cnf, steps: Items<Step>) -> Result<Items<Step>, AllocError>
     requires { refutes cnf.now.variables cnf.now.clauses steps ≡ true }
     ensures refuting { IfOk result (λ used. refutes cnf.now.variables cnf.now.clauses used ≡ true) }
@@ -37,8 +37,8 @@ fn evidence(alloc: Global, cnf: &Cnf, steps: Items<Step>) -> Result<Items<Step>,
     Ok(used)
 }
 
-/// Whether the clauses can be satisfied: what an engine of the roster proposes, if that is right; otherwise what the search
-/// finds in this style.
+/// Whether the clauses can be satisfied. It is the proposal of an engine of the roster, if one makes a right proposal.
+/// Otherwise it is what the search finds in this style.
 fn outcome<E: Engine>(
     alloc: Global,
     cnf: &Cnf,
@@ -68,7 +68,7 @@ fn style_of(at: &Periods) -> Style {
     }
 }
 
-/// The style of search for a box. Whether automata agree is a question of their gates more than of the cells.
+/// The style of search for a box. Whether two automata agree depends on their gates more than on the cells.
 fn box_style(goal: &Goal) -> Style {
     match goal {
         Goal::Differ(_, _) => Style::Focused,
@@ -76,7 +76,7 @@ fn box_style(goal: &Goal) -> Style {
     }
 }
 
-/// The question whether a configuration that obeys the premise can have the goal.
+/// The question whether some configuration that obeys the premise has the goal.
 #[derive(Clone, Copy)]
 struct BoxQuestion<'a> {
     alloc: Global,
@@ -134,15 +134,22 @@ impl<'a> Questions for BoxQuestion<'a> {
     }
 }
 
-/// Decides a box question. Boxes have at most the limits' radius, or the goal's least radius if that is greater; periods are at
-/// most the limits'. The answer is YES with the least radius that suffices; otherwise NO with the first periods and shear, by
-/// volume and then in lexicographic order, of a configuration that obeys the premise and has the goal at the origin; otherwise
-/// unknown.
+/// Decides a box question. The radius of boxes is at most that of the limits, or the goal's least radius if that is greater.
+/// Periods are at most that of the limits. The answer is:
+/// - YES, with the least radius that suffices;
+/// - otherwise NO, with a configuration that obeys the premise and has the goal at the origin. Its periods and shear are the
+///   first of all such configurations, by volume and then in lexicographic order;
+/// - otherwise unknown.
 ///
-/// Each list of clauses goes to the roster first, without a copy; if no engine proposes a right answer, the search decides. So
-/// engines change only the time, and which steps or which configuration with those periods is shown. An engine that takes too
-/// much memory may prevent a decision. Each sound engine is kept, in order. On success the first remaining engine was asked, and
-/// only engines that aren't sound were dropped before it.
+/// Each list of clauses goes to the roster first, without a copy. If no engine proposes a right answer, the solver decides.
+/// So engines change only the time, and which steps or which configuration with those periods is shown. An engine that takes
+/// too much memory may prevent a decision.
+///
+/// Each sound engine stays in the roster, in order. On success the first engine that is left was asked, and only engines that
+/// aren't sound were dropped before it.
+///
+/// # Errors
+/// `AllocError` if memory ran out.
 pub fn decide<E: Engine>(
     alloc: Global,
     premise: &Rule,
