@@ -6,7 +6,7 @@ use crate::lexeme::Lexeme;
 use std::alloc::AllocError;
 use thiserror::Error;
 
-/// What was read from the front of some tokens, and the tokens after it.
+/// What some tokens begin with, and the tokens after it.
 pub(crate) type Read<'a, T> = Result<(T, &'a [Lexeme]), ReadFault>;
 
 /// Why nothing was read of the tokens.

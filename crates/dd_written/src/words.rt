@@ -21,7 +21,7 @@ pub fn word_bytes(bytes: &[u8], word: Word) -> &[u8]
     part(bytes, word.start, word.length)
 }
 
-/// Whether the text is the wanted one.
+/// Whether the two texts are the same.
 pub fn same_bytes(text: &[u8], wanted: &[u8]) -> bool
     ensures { result ≡ bytes_eq text.now wanted.now }
 {
