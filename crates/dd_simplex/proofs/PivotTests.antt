@@ -1,4 +1,5 @@
--- The pivot of a table, number by number: its cells and its tests are those of the dictionary that it stands for.
+-- The pivot of a table, number by number: its cells, and the tests whether they fit, are those of the dictionary that the
+-- table stands for.
 use Rattle.std.proofs.Common.{◌≡◌, ◌≢◌, ℕ, ◌+◌, ◌<◌, List, length, take, drop, Bool, true, false, not, ◌&&◌, ◌||◌, cond, Some, None, ⊎_elim, refl, sym, ap, subst, ◌∙◌, arith}
 use Rattle.std.proofs.lemmas.{Bool.cases_eq, List.length-set}
 use Rattle.std.specs.{Bool.nat_eq, List.slice_set, List.list_all}
@@ -29,7 +30,7 @@ less_fraction a q b p o r f =
     let two = IsFraction-minus (times q b) one in
     sum_fraction a (minus (times q b)) p two.above (and_right (does_product_fit q b) (does_sum_fit a (minus (times q b))) f)
 
--- at an emptied place, the difference fits if the product does
+-- at a place that is set to 0, the difference fits if the product does
 emptied_less : (q b : Exact) → 0 < q.den → 0 < b.den → does_product_fit q b ≡ true → does_less_fit zero_of q b ≡ true
 emptied_less q b p r f =
     let g = product_fraction q b p r f in

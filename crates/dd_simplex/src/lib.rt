@@ -1,4 +1,5 @@
-//! Linear programs over exact fractions, maximised by Bland's pivot rule.
+//! Linear programs over exact fractions, maximised by the simplex method with Bland's rule. A column is a variable of the
+//! program, a row is an inequality, and a slack is what a row's left side is below its bound.
 #![tactic(auto, using(std::proofs::lemmas::Grind::common_steps))]
 
 mod fault;

@@ -2,7 +2,7 @@ use Rattle.std.proofs.Common.{◌≡◌, ◌<◌, length, Some, inr, refl, ap, s
 use Rattle.std.specs.List.{All}
 use Rattle.dd_simplex.specs.table.{Lines.Line, Lines.Table, Choices.DoRatiosFit, Steps.DoesEnter, Steps.DoesLeave}
 use Rattle.dd_simplex.proofs.IdleLines.{table_fractions, table_sizes, place_within}
-use Rattle.dd_simplex.proofs.tableau.Tableau.turn.Goals as goal
+use Rattle.dd_simplex.proofs.tableau.Tableau.iterate.Goals as goal
 
 pub pivot-requires-clause-fractions : goal.pivot-requires-clause-fractions
 pivot-requires-clause-fractions c = table_fractions _ c.requires
