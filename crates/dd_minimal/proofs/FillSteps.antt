@@ -72,7 +72,7 @@ part_known r c cs rest o m n s split =
     ∙ map_agree (λ ss. known_outcome r (c ∷ cs) o (s ∷ ss)) (known_outcome r cs (cond (rule_allows r c.node s) o Barred)) (words m n)
     (λ ss at. known_at (rule_allows r c.node s) (are_allowed r cs ss) o)
 
--- ---- what the first symbols settle
+-- ---- what the first symbols settle of the formula
 
 pub all_settled : (r : LocalRule) (a : ℕ) (e : Numbered) (rest : List Cell) (start begun : List ℕ) (truth value : Bool) → SaysRule r a e → AreSymbols r start → begun ≡ start → value ≡ truth → IsSettled e begun value →
     map (known_outcome r rest (of_truth truth)) (words r.symbols (length rest)) ≡ map (outcome_behind r a rest start) (words r.symbols (length rest))

@@ -1,4 +1,4 @@
--- What the formula over numbers says, and the nodes of the cells that are read.
+-- The truth of the formula over a list of symbols, and the nodes of the cells that are read.
 
 -- the truth of the expansion at the origin
 

@@ -14,7 +14,7 @@ pub(crate) enum Outcome {
 }
 
 impl Outcome {
-    /// The outcome of a filling with allowed symbols.
+    /// The outcome of a filling with allowed symbols, from the rule's truth.
     pub(crate) fn of_truth(truth: bool) -> Outcome
         ensures { result ≡ of_truth truth }
     {
@@ -25,6 +25,7 @@ impl Outcome {
         }
     }
 
+    /// Whether the filling is a breaking one.
     pub(crate) fn does_break(self) -> bool
         ensures { result ≡ does_break self }
     {
@@ -34,6 +35,7 @@ impl Outcome {
         }
     }
 
+    /// Whether the rule is true under a filling with allowed symbols.
     pub(crate) fn does_hold(self) -> bool
         ensures { result ≡ does_hold self }
     {

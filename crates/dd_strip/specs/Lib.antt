@@ -1,2 +1,2 @@
--- strips, and which of them a rule may have
+-- strips, and what may be asked about them for a rule
 pub mod Strips

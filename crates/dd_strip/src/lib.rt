@@ -1,4 +1,4 @@
-//! Strips, without their transfer graphs.
+//! Strips: their slices, and which strips may be asked about for a rule.
 #![tactic(auto)]
 
 mod strip;
