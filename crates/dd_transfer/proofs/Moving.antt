@@ -20,7 +20,7 @@ use Rattle.dd_transfer.proofs.{Stands.between, Stands.reads_between, Stands.with
 use Rattle.dd_transfer.proofs.{Numbers.listed-at, Numbers.length-listed, Slicing.given, Slicing.symbol_from, Slicing.symbol_given}
 use Rattle.dd_values.specs.lemmas.Numbers.{plus_zero, le_from, le_to}
 
--- the position x along the first axis
+-- the position that is x along the first axis from the origin
 abbrev pub along : ℤ → Place
 along x = place x (pos 0) (pos 0)
 
@@ -28,7 +28,7 @@ along x = place x (pos 0) (pos 0)
 abbrev pub part : LocalRule → Strip → Look → ℤ → Look
 part r s look x = window_look s (symbols_from s look x (state_length r + 1))
 
--- the cell is one of a window
+-- the cell is in the window
 pub record IsInside (r : LocalRule) (s : Strip) (c : Cell) : Type 0 where
   pub right : pos 0 ≤ℤ c.position.x
   pub within : unsigned_abs c.position.x < state_length r + 1
@@ -61,7 +61,7 @@ module _ (r : LocalRule) (s : Strip) (look : Look) (x : ℤ) (for : IsFor r s) (
       let lt = mul-add-lt (unsigned_abs c.position.x) (cells s) (slice_index_of s c) (state_length r + 1) h.within (slice_below s c for.sized h.node) in
       omega (arith, lt)
 
-  -- a cell's place in the window is that of the cell x further, moved into its slice
+  -- the place of a cell in the window is the place of the cell x further, taken modulo the strip's periods
   cell_there : (c : Cell) → IsInside r s c → cell_from s x (window_index s c) ≡ cell (across s (moved c.position (along x))) c.node
   cell_there c h =
       let n = unsigned_abs c.position.x in
@@ -86,7 +86,7 @@ module _ (r : LocalRule) (s : Strip) (look : Look) (x : ℤ) (for : IsFor r s) (
       let value : Some (symbol_from s look x k) ≡ look (cell_from s x k) = ap (λ (o : Option ℕ). Some (unwrap_or o 0)) g.is ∙ sym g.is in
       rw (le_from (pos 0) c.position.x h.right, lt-ltb _ _ h.node) (at ∙ (value ∙ (ap look (cell_there c h) ∙ sym (repeats (shifted (along x) c)))))
 
-  -- and elsewhere there are none
+  -- elsewhere the window has no symbols
   pub part_inside : (c : Cell) → is_some (part r s look x c) ≡ true → IsInside r s c
   part_inside c h =
       let o = opened (int_le (pos 0) c.position.x && nat_lt c.node s.nodes) (slice_get (symbols_from s look x (state_length r + 1)) (window_index s c)) h in
@@ -103,7 +103,7 @@ module _ (r : LocalRule) (s : Strip) (look : Look) (x : ℤ) (for : IsFor r s) (
       let g = given r look x (state_length r + 1) (shifted (along x) c) has (moved_inside c h) (omega (arith, h.node, for.nodes)) in
       ap is_some (part_same c h ∙ g.is)
 
-  -- what is read where the rule stands is in the window
+  -- what the rule reads at the tested slice is in the window
   read_inside : (v : Place) → v.x ≡ stand r → (d : Cell) → d.node < r.nodes → between (least_x (pos 0) (all_cells r)) (greatest_x (pos 0) (all_cells r)) d ≡ true → IsInside r s (shifted v d)
   read_inside v at d node inside =
       let spot = within_window r d.position.x inside in record {
@@ -127,7 +127,7 @@ module _ (r : LocalRule) (s : Strip) (look : Look) (x : ℤ) (for : IsFor r s) (
   moved_twice : (v : Place) (d : Cell) → shifted (along x) (shifted v d) ≡ shifted (moved v (along x)) d
   moved_twice v d = ap (λ (p : Place). cell p d.node) (place_same _ _ _ _ _ _ (sum_moved d.position.x v.x x) (sum_moved d.position.y v.y (pos 0)) (sum_moved d.position.z v.z (pos 0)))
 
-  -- the rule says the same in the window, where it stands, and x further in the look
+  -- the rule has the same truth at a cell of the tested slice in the window, and at the cell x further in the look
   pub truth_same : IsRule r → (v : Place) (a : ℕ) → v.x ≡ stand r → a < r.nodes → is_true r (cell v a) (part r s look x) ≡ is_true r (cell (moved v (along x)) a) look
   truth_same rule v a at node =
       truth_by_given r a v (moved v (along x)) (part r s look x) look

@@ -1,4 +1,4 @@
--- The numbers of states, slices and windows, and what a graph keeps.
+-- The numbers of states, slices and windows, and why the graph of a rule is a transfer graph.
 use Rattle.std.proofs.Common.{◌≡◌, ℕ, zero, suc, ◌+◌, ◌*◌, ◌/◌, ◌%◌, ◌^◌, ◌<◌, ◌≤◌, Bool, true, false, List, [], ◌∷◌, length, get_or, Option, Some, None, refl, ap, sym, ◌∙◌, subst, arith, inl, inr}
 use Rattle.std.proofs.lemmas.Bool.{cases_lt, lt-ltb, ltb-true, and_parts}
 use Rattle.std.proofs.lemmas.{Nat.mul-add-lt, List.Sums.sum_by-cons}
@@ -35,7 +35,7 @@ one_power : (w : ℕ) → 1 ^ w ≡ 1
 one_power zero = refl
 one_power (suc w) = pow-suc 1 w ∙ (ap (λ (n : ℕ). n * 1) (one_power w) ∙ refl)
 
--- so few cells as 131,072 windows allow
+-- 131,072 windows allow a slice of at most 8 cells, if there are two symbols
 few_cells : (b c w : ℕ) → 2 ≤ b → 1 ≤ w → (b ^ c) ^ (w + 1) ≤ 131072 → c ≤ 8
 few_cells b c w two h small = elim (cases_lt 8 c) [
   | inr le ↦ le
@@ -69,7 +69,7 @@ cells_few s sized = most s.nodes s.y s.z sized.nodes_most sized.y_most sized.z_m
         let two : a * (b * c) ≤ 4 * (b * c) = mul-le-mul_right (b * c) p in
         omega (arith, one, two)
 
--- no walk through each state once is heavy
+-- a walk that passes each state at most once weighs at most 2^25
 light_one : (b c w n x : ℕ) → 1 ≤ b → 1 ≤ w → c ≤ 16384 → n ≡ (b ^ c) ^ w → n ≤ 4096 → (b ^ c) ^ (w + 1) ≤ 131072 → x ≤ 1000 * c → n * x ≤ 2 ^ 25
 light_one b c w n x some h most is few small weight = elim (cases_lt 1 b) [
   | inl two ↦

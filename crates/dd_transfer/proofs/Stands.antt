@@ -34,7 +34,7 @@ all_between from from' lo hi (c ∷ cs) p q =
     let high : c.position.x ≤ℤ hi = along _ _ _ (along _ _ _ (max_right from' c.position.x) (greatest_high (int_max from' c.position.x) cs)) q in
     and_from _ _ (and_from _ _ (le_from _ _ low) (le_from _ _ high)) (all_between (int_min from c.position.x) (int_max from' c.position.x) lo hi cs p q)
 
--- what holds in all lists holds in each
+-- what holds of all lists joined holds of each
 part : (p : Cell → Bool) (f : ℕ → List Cell) (k n a : ℕ) → k ≤ a → a < k + n → list_all p (flat_map f (range_with_len k n)) ≡ true → list_all p (f a) ≡ true
 part p f k zero a le lt h = absurd (omega arith)
 part p f k (suc n) a le lt h =
@@ -76,7 +76,7 @@ reads_between r a lt =
     sym (list_all-in_order (between lo hi) (reads_at r a))
     ∙ part (between lo hi) (cells_at r) 0 r.nodes a (omega arith) (omega arith) (all_between (pos 0) (pos 0) lo hi (all_cells r) (omega (arith, ints)) (omega (arith, ints)))
 
--- seen from where the rule stands they lie in the window
+-- seen from the tested slice they lie in the window
 pub within_window : (r : LocalRule) (x : ℤ) → between (least_x (pos 0) (all_cells r)) (greatest_x (pos 0) (all_cells r)) (record { position = record { x = x; y = pos 0; z = pos 0 }; node = 0 }) ≡ true →
     (pos 0 ≤ℤ (x +ℤ stand r)) × (unsigned_abs (x +ℤ stand r) < state_length r + 1)
 within_window r x h =

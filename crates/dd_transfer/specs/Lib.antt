@@ -10,5 +10,5 @@ pub mod Certificates
 pub mod Slices
 -- how the slices of a look relate to the transfer graph
 pub mod Laws
--- the rule at the places of a window, as the code keeps it
+-- the rule at the cells of the tested slice, as formulas over a window's symbols
 pub mod placing

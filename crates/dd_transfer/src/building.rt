@@ -1,4 +1,4 @@
-//! The transfer graph of a rule over a strip.
+//! How the transfer graph of a rule over a strip is made.
 ghost use Rattle.std.specs.Prelude.{◌≡◌, ◌<◌, ◌≤◌, ℕ, IfOk, IfErr, length, slice_index};
 ghost use Rattle.dd_counts.specs.Rules.{slices, states, longer_states, most_states, most_longer_states};
 ghost use Rattle.dd_pattern.specs.Weight.{AreWeights, total_weight};
@@ -19,12 +19,12 @@ use dd_pattern::weight_of;
 use dd_strip::Strip;
 use std::alloc::{AllocError, Global};
 
-/// The transfer graph of a rule over a strip with these periods in the second and the third axis, with these weights of
-/// the symbols.
+/// The transfer graph of a rule over the strip with the periods `strip` along y and z. The symbol `s` has the weight
+/// `weights[s]`.
 ///
 /// # Errors
-/// `Size` where there are more than 4,096 states or more than 131,072 windows, which are states with one slice more; else
-/// `Memory`.
+/// `Size` if there are more than 4,096 states or more than 131,072 windows. A window is a state with one slice more. Else
+/// `Memory`, if memory runs out.
 pub fn graph(
     alloc: Global,
     rule: &Rule,
@@ -52,7 +52,7 @@ pub fn graph(
     Ok(graph_of(alloc, rule, strip, weights, states, count)?)
 }
 
-/// The transfer graph with so many states and windows.
+/// The transfer graph, which has `most` states and `count` windows.
 fn graph_of(
     alloc: Global,
     rule: &Rule,
@@ -76,7 +76,7 @@ fn graph_of(
     Ok(Graph::new(most, slices, windows, weights))
 }
 
-/// For each window, by its number, whether the rule keeps it.
+/// For each window, by its number, whether the rule keeps it, which makes it an edge.
 fn kept_windows(
     alloc: Global,
     rule: &Rule,
@@ -110,7 +110,7 @@ fn first_window(alloc: Global, rule: &Rule, strip: Strip) -> Result<Window, Allo
     Ok(window)
 }
 
-/// What each slice weighs.
+/// The weight of each slice, by its number.
 fn slice_weights(
     alloc: Global,
     rule: &Rule,
@@ -131,7 +131,7 @@ fn slice_weights(
     Ok(sums)
 }
 
-/// What a slice weighs. The symbols of its cells are written into the list.
+/// The weight of a slice. The symbols of its cells are written into the list.
 fn slice_weight(symbols: &mut [u32], rule: &Rule, strip: Strip, weights: &[u32], slice: u32) -> u64
     requires strip { IsFor rule.now strip }
     requires weights { HasWeights rule.now weights.now }
@@ -142,6 +142,7 @@ fn slice_weight(symbols: &mut [u32], rule: &Rule, strip: Strip, weights: &[u32],
     weight_of(symbols, weights)
 }
 
+/// A list of `count` zeros.
 fn zeros(alloc: Global, count: usize) -> Result<Vec<u32>, AllocError>
     ensures { IfOk result (λ v. length v.items ≡ count) }
 {

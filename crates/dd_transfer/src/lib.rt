@@ -1,4 +1,5 @@
-//! Transfer graphs of strips: states of some slices, and an edge for each slice that may follow one.
+//! Transfer graphs of strips, which are transfer matrices as in Lind and Marcus (1995). A state is a row of slices. It has
+//! an edge for each slice that may follow.
 #![tactic(auto)]
 
 mod building;
