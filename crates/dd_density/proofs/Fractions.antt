@@ -1,4 +1,4 @@
--- Fractions in lowest terms: there is one for two numbers, and it is no greater than they are.
+-- Fractions in lowest terms: two numbers have just one, and its terms are no greater than they are.
 use Rattle.std.proofs.Common.{◌≡◌, ℕ, ◌*◌, ◌/◌, ◌%◌, ◌<◌, ◌≤◌, sym, ap, subst, arith}
 use Rattle.std.specs.Int.{IsGcd}
 use Prim.Native.Nat.{◌∣◌}

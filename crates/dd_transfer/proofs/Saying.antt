@@ -15,7 +15,7 @@ use Rattle.dd_transfer.specs.Windows.{Shown, IsFullWindow, IsTrueAlong, cell_at,
 use Rattle.dd_transfer.specs.placing.Formulas.{Standpoint, standpoint, window_numbers, numbers_near, SaysAt, ArePlaces}
 use Rattle.dd_transfer.proofs.Truths.{window_below, along_from_slice, slice_from_along}
 
--- ---- one place
+-- ---- one cell
 
 symbol_cond : (ss : List ℕ) (b : Bool) (o : Option ℕ) → symbol_with ss (cond b o None) ≡ cond b (symbol_with ss o) None
 symbol_cond ss true o = refl
