@@ -21,9 +21,9 @@ AreOne = (r : LocalRule) (a : ℕ) (ps qs : List (List (Option ℕ))) → IsMini
 pub one_starred : AreOne → (x : LocalRule) (some others : List Starred) → IsStarredList x some → IsStarredList x others → some ≡ others
 one_starred one x some others h k = list_one (IsMinimalList x) starred (one x) x.nodes some others h k
 
--- ---- the numbers of the list
+-- ---- an output can hold the list
 
--- a choice between two lists
+-- the length of a choice between two lists
 either_short : {X : Type 0} (b : Bool) (xs ys : List X) (n : ℕ) → length xs ≤ n → length ys ≤ n → length (cond b xs ys) ≤ n
 either_short true xs ys n h k = h
 either_short false xs ys n h k = k
@@ -32,7 +32,7 @@ either_fits : {X : Type 0} (P : X → Type 0) (b : Bool) (xs ys : List X) → Al
 either_fits P true xs ys h k = h
 either_fits P false xs ys h k = k
 
--- no more patterns than fillings
+-- there are no more patterns than fillings
 listed_short : (thin : List ℕ → List (Option ℕ)) (before : List (List (Option ℕ))) (lists : List (List ℕ)) →
     length (minimal.listed thin before lists) ≤ length lists
 listed_short thin before [] = omega arith
@@ -42,7 +42,7 @@ listed_short thin before (ss ∷ more) =
     either_short (is_covered before ss) (minimal.listed thin before more) (thin ss ∷ minimal.listed thin (before ++ thin ss ∷ []) more) (suc (length more))
     (omega (arith, others)) (omega (arith, later))
 
--- each pattern is what is left of a filling
+-- each pattern is a thinned filling, so what holds of these holds of it
 listed_fit : (P : List (Option ℕ) → Type 0) (thin : List ℕ → List (Option ℕ)) (before : List (List (Option ℕ))) (lists : List (List ℕ)) →
     All (λ ss. P (thin ss)) lists → All P (minimal.listed thin before lists)
 listed_fit P thin before [] h = All-nil P
@@ -112,7 +112,7 @@ none_own n a [] h = refl
 none_own n a (p ∷ ps) h = rw h (none_own n a ps h)
 
 module _ (x : LocalRule) (a : ℕ) where
-  -- none of its patterns is listed before the node is reached
+  -- before the node is reached, none of its patterns is listed
   none_before : (n : ℕ) (patterns : List Starred) → n ≤ a → IsListTo (IsMinimalList x) starred n patterns → patterns_at a patterns ≡ []
   none_before zero patterns le is = ap (patterns_at a) is
   none_before (suc n) patterns le is =
