@@ -10,6 +10,7 @@ use dd_formula::Rule;
 use dd_strips::{strip_empty, strip_least};
 use std::alloc::{AllocError, Global};
 
+/// The answer that a least density gives.
 fn written_density(density: Density) -> Answer
     ensures { result ≡ written_density density }
 {
@@ -29,7 +30,7 @@ fn written_density(density: Density) -> Answer
     }
 }
 
-/// The least density of the configurations on a strip, or that there are none, each with its evidence.
+/// The least density of the configurations that live on a strip, or that there are none. Both come with their evidence.
 pub(crate) fn least(
     alloc: Global,
     rule: &Rule,
