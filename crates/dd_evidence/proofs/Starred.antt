@@ -8,7 +8,7 @@ use Rattle.dd_formula.specs.LocalRule.{LocalRule, IsRule}
 use Rattle.dd_forbidden.specs.Breaking.{IsBreaking}
 use Rattle.dd_minimal.specs.{Patterns.whole, Patterns.is_covered, Minimal.thinned, Minimal.all_break, Minimal.IsMinimalList}
 use Rattle.dd_certificate.specs.declared.answer.Starred.{Starred}
-use Rattle.dd_certificate.specs.Bounds.{IsWritable, IsWritableNumber, IsWritableKept, IsWritableStarred}
+use Rattle.dd_certificate.specs.Bounds.{IsWritable, IsWritableNumber, IsWritableSymbolOrStar, IsWritableStarred}
 use Rattle.dd_question.specs.Lists.{HasFewPatterns}
 use Rattle.dd_evidence.specs.{NodeLists.IsListTo, Lists.starred, Lists.IsStarredList, Lists.patterns_at}
 use Rattle.dd_evidence.proofs.{NodeLists.list_one, NodeLists.list_fits, Lists.AreShort, Lists.AreKnown}
@@ -53,15 +53,15 @@ listed_fit P thin before (ss ∷ more) h =
     (listed_fit P thin before more rest)
     (All-cons P (thin ss) (minimal.listed thin (before ++ thin ss ∷ []) more) first (listed_fit P thin (before ++ thin ss ∷ []) more rest))
 
-kept_fits : (b : Bool) (s : ℕ) → IsWritableNumber s → IsWritableKept (cond b None (Some s))
+kept_fits : (b : Bool) (s : ℕ) → IsWritableNumber s → IsWritableSymbolOrStar (cond b None (Some s))
 kept_fits true s h = tt
 kept_fits false s h = h
 
-thinned_fits : (enough : List (Option ℕ) → Bool) (ss : List ℕ) → All IsWritableNumber ss → All IsWritableKept (thinned enough ss)
-thinned_fits enough [] h = All-nil IsWritableKept
+thinned_fits : (enough : List (Option ℕ) → Bool) (ss : List ℕ) → All IsWritableNumber ss → All IsWritableSymbolOrStar (thinned enough ss)
+thinned_fits enough [] h = All-nil IsWritableSymbolOrStar
 thinned_fits enough (s ∷ ss) h =
     let first = cond (enough (None ∷ whole ss)) None (Some s) in
-    All-cons IsWritableKept first (thinned (λ p. enough (first ∷ p)) ss)
+    All-cons IsWritableSymbolOrStar first (thinned (λ p. enough (first ∷ p)) ss)
     (kept_fits (enough (None ∷ whole ss)) s (All-head IsWritableNumber s ss h))
     (thinned_fits (λ p. enough (first ∷ p)) ss (All-tail IsWritableNumber s ss h))
 

@@ -5,7 +5,7 @@ use Rattle.std.proofs.lemmas.List.{append-nil, Concat.flat_map-cons}
 use Rattle.std.proofs.lemmas.List.Elements.{All-from_recursion, recursion_from_All, All-nil, All-cons}
 use Rattle.std.specs.{Prelude.codes, Prelude.All, Prelude.◌==◌, Prelude.nat_lt, Fmt.decimal, List.AllByRecursion}
 use Rattle.dd_certificate.specs.Text.{line_feed, after_space, spaced_out, shear_text}
-use Rattle.dd_certificate.specs.Bounds.{most_number, IsWritableNumber, HasShear}
+use Rattle.dd_certificate.specs.Bounds.{most_number, IsWritableNumber, IsShearFor}
 use Rattle.dd_output.specs.reading.Stops.{Read, number_at, Entry, item, last, entries_at, choice_at}
 use Rattle.dd_output.specs.reading.Forms.{Form, nothing, number, after}
 use Rattle.dd_output.specs.reading.Periods.{PeriodsEnd, ends, shears, period_of, period_at, shear_of, shear_at, period_entry, periods_of, periods}
@@ -172,7 +172,7 @@ periods_unroll =
 
 -- the periods and the shear, without the space before the first period
 abbrev pub PeriodsFit : List ℕ × ℕ → Type 0
-PeriodsFit x = (length x.0 ≤ 3) × ((1 ≤ length x.0) × All IsWritableNumber x.0) × IsWritableNumber x.1 × HasShear x.0 x.1
+PeriodsFit x = (length x.0 ≤ 3) × ((1 ≤ length x.0) × All IsWritableNumber x.0) × IsWritableNumber x.1 × IsShearFor x.0 x.1
 
 abbrev pub periods_rest : List ℕ × ℕ → List ℕ
 periods_rest x = drop 1 (spaced_out x.0 ++ (shear_text x.1 ++ line_feed))

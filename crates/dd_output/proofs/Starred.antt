@@ -2,8 +2,8 @@
 use Rattle.std.proofs.Common.{◌≡◌, ℕ, ◌≤◌, List, [], ◌∷◌, ◌++◌, length, Option, Some, None, Ok, Err, false, ◌⊎◌, inl, inr, refl, ap, subst, arith}
 use Rattle.std.proofs.lemmas.{Bool.ne_eqb, Fmt.decimal_digit, List.Elements.All-nil}
 use Rattle.std.specs.{Prelude.◌==◌, Prelude.◌||◌, Prelude.All, Prelude.codes, Fmt.decimal}
-use Rattle.dd_certificate.specs.Text.{kept_text, kept_to_end, starred_text}
-use Rattle.dd_certificate.specs.Bounds.{most_number, IsWritableNumber, IsWritableKept, IsWritableStarred}
+use Rattle.dd_certificate.specs.Text.{symbol_or_star_text, symbols_and_stars_to_end, starred_text}
+use Rattle.dd_certificate.specs.Bounds.{most_number, IsWritableNumber, IsWritableSymbolOrStar, IsWritableStarred}
 use Rattle.dd_output.specs.reading.Stops.{Stop, stop, is_digit, number_at, after_at, map_at, Entry, item, last}
 use Rattle.dd_output.specs.reading.Forms.{word, after, forked}
 use Rattle.dd_output.specs.reading.Stars.{end_byte_at, star_of, symbol_of, kept_at, kept_entry, kept}
@@ -50,10 +50,10 @@ byte_reads end other rest C done = record {
 -- ---- a symbol or a star
 
 abbrev KeptIn : ℕ → ℕ → Option ℕ × ℕ → Type 0
-KeptIn end other p = IsWritableKept p.0 × IsEnd end other p.1
+KeptIn end other p = IsWritableSymbolOrStar p.0 × IsEnd end other p.1
 
 abbrev kept_pair : Option ℕ × ℕ → List ℕ
-kept_pair p = kept_text p.0 ++ p.1 ∷ []
+kept_pair p = symbol_or_star_text p.0 ++ p.1 ∷ []
 
 abbrev IsStar : ℕ → ℕ → Option ℕ × ℕ → Type 0
 IsStar end other (None, e) = IsEnd end other e
@@ -64,7 +64,7 @@ IsSymbol end other (None, e) = ⊥
 IsSymbol end other (Some n, e) = (n ≤ most_number) × IsEnd end other e
 
 module _ (end other : ℕ) (rest : List ℕ) (end_is : is_digit end ≡ false) (other_is : is_digit other ≡ false)
-    (C : List ℕ → Type 0) (completed : (x : Option ℕ) → IsWritableKept x → C (kept_text x ++ end ∷ rest)) where
+    (C : List ℕ → Type 0) (completed : (x : Option ℕ) → IsWritableSymbolOrStar x → C (symbol_or_star_text x ++ end ∷ rest)) where
   star_from : (y : Option ℕ × ℕ) → IsStar end other y → (x : ℕ) × (kept_pair y ≡ 42 ∷ x ∷ []) × IsEnd end other x × (star_of x ≡ y)
   star_from (None, e) good = (e, refl, good, refl)
   star_from (Some n, e) good = elim good [ ]
@@ -113,18 +113,18 @@ module _ (end other : ℕ) (rest : List ℕ) (end_is : is_digit end ≡ false) (
 -- ---- a line of them
 
 abbrev pub KeptFit : List (Option ℕ) → Type 0
-KeptFit = LineFits IsWritableKept 1 None
+KeptFit = LineFits IsWritableSymbolOrStar 1 None
 
 abbrev pub kept_rest : List (Option ℕ) → List ℕ
-kept_rest = line_rest kept_text
+kept_rest = line_rest symbol_or_star_text
 
 pub kept_good : Good KeptFit kept_rest kept
 unfolding kept kept_entry
-kept_good = good_line IsWritableKept kept_text (Some 0) (omega arith) (decimal_digit 0 (omega arith)) kept_at kept_reads 1 None (omega arith) tt
+kept_good = good_line IsWritableSymbolOrStar symbol_or_star_text (Some 0) (omega arith) (decimal_digit 0 (omega arith)) kept_at kept_reads 1 None (omega arith) tt
 
 pub kept_unrolls : Unrolls kept_entry
 unfolding kept_entry
-kept_unrolls = line_unrolls IsWritableKept kept_text (Some 0) (omega arith) (decimal_digit 0 (omega arith)) kept_at kept_reads 1 None (omega arith) tt
+kept_unrolls = line_unrolls IsWritableSymbolOrStar symbol_or_star_text (Some 0) (omega arith) (decimal_digit 0 (omega arith)) kept_at kept_reads 1 None (omega arith) tt
 
 -- ---- patterns
 
@@ -134,17 +134,17 @@ StarredFits = ForkFits {A = List (Option ℕ)} {B = Unit {0}} most_number anythi
 abbrev starred_fork : ℕ × Entry (List (Option ℕ)) (Unit {0}) → List ℕ
 starred_fork = fork_text {A = List (Option ℕ)} {B = Unit {0}} (λ _. []) kept_rest
 
-kept_is : (xs : List (Option ℕ)) → 1 ≤ length xs → kept_to_end xs ≡ 32 ∷ kept_rest xs
+kept_is : (xs : List (Option ℕ)) → 1 ≤ length xs → symbols_and_stars_to_end xs ≡ 32 ∷ kept_rest xs
 kept_is [] some = absurd (omega (arith, some))
 kept_is (x ∷ xs) some = refl
 
 starred_to : (x : ℕ × Entry (List (Option ℕ)) (Unit {0})) → StarredFits x → (starred_text (starred_of x) ≡ codes "pattern " ++ starred_fork x) × IsWritableStarred (starred_of x)
 unfolding StarredFits
-starred_to (n, last u) good = (refl, (good.0, All-nil IsWritableKept))
+starred_to (n, last u) good = (refl, (good.0, All-nil IsWritableSymbolOrStar))
 starred_to (n, item xs) good = (ap (λ (l : List ℕ). codes "pattern " ++ (decimal n ++ l)) (kept_is xs good.1.0), (good.0, good.1.2))
 
-starred_parts : (n : ℕ) (xs : List (Option ℕ)) → IsWritableNumber n → All IsWritableKept xs
-    → (x : ℕ × Entry (List (Option ℕ)) (Unit {0})) × (codes "pattern " ++ (decimal n ++ kept_to_end xs) ≡ codes "pattern " ++ starred_fork x) × StarredFits x
+starred_parts : (n : ℕ) (xs : List (Option ℕ)) → IsWritableNumber n → All IsWritableSymbolOrStar xs
+    → (x : ℕ × Entry (List (Option ℕ)) (Unit {0})) × (codes "pattern " ++ (decimal n ++ symbols_and_stars_to_end xs) ≡ codes "pattern " ++ starred_fork x) × StarredFits x
     × (starred_of x ≡ record { node = n; symbols = xs })
 unfolding StarredFits
 starred_parts n [] few all = ((n, last tt), refl, (few, tt), refl)
