@@ -1,3 +1,4 @@
+//! The values of small circuits.
 ghost use Rattle.std.specs.Prelude.{◌≡◌, ◌≤◌, ◌+◌, IfOk};
 ghost use Rattle.dd_circuit.specs.Circuits.{signal_of, opposite, size};
 
@@ -5,6 +6,7 @@ use dd_circuit::{Circuit, Signal};
 use std::alloc::{AllocError, Global};
 use std::test::Fail;
 
+/// The variable, as a signal.
 fn plus(variable: u32) -> Signal
     ensures { result ≡ signal_of variable }
 {
@@ -14,6 +16,7 @@ fn plus(variable: u32) -> Signal
     }
 }
 
+/// The opposite of the variable, as a signal.
 fn minus(variable: u32) -> Signal
     ensures { result ≡ opposite (signal_of variable) }
 {
@@ -68,7 +71,7 @@ const VALUES_OF_GATES: &[([bool; 3], [bool; 8])] = &[
     ),
 ];
 
-/// Conjunctions of none, one and all of the three inputs.
+/// Adds conjunctions of none, one and all of the three inputs.
 fn push_conjunctions(circuit: &mut Circuit) -> Result<(), AllocError>
     requires inputs { 3 ≤ size circuit.old }
     requires few { size circuit.old ≤ 100 }
@@ -81,7 +84,7 @@ fn push_conjunctions(circuit: &mut Circuit) -> Result<(), AllocError>
     Ok(())
 }
 
-/// Disjunctions of none, one and all of the three inputs.
+/// Adds disjunctions of none, one and all of the three inputs.
 fn push_disjunctions(circuit: &mut Circuit) -> Result<(), AllocError>
     requires inputs { 3 ≤ size circuit.old }
     requires few { size circuit.old ≤ 100 }
