@@ -102,7 +102,7 @@ period_first k (item p) good = number_first p 32 good
 period_first k (last (ends n)) good = number_first n 10 good
 period_first k (last (shears n)) good = elim good [ ]
 
--- ---- at each place
+-- ---- at each index
 
 few_to : (k : ℕ) → k < 2 → (e : Entry ℕ PeriodsEnd) → IsPeriod e → Fits k e
 few_to k few (item p) good = (good, omega (arith, few))

@@ -150,7 +150,7 @@ same_reads F t C r G u D law to from done = record {
       record { front = h.front; whole = h.whole; completed = done (h.front ++ s.missing) h.completed; no_more = h.no_more };
 }
 
--- ---- so many
+-- ---- n values, one after the other
 
 split : {A : Type 0} (F : A → Type 0) (t : A → List ℕ) (n : ℕ) (xs : List A) → (length xs ≡ suc n) × AllByRecursion F xs
     → (p : A × List A) × (flat_map t xs ≡ t p.0 ++ flat_map t p.1) × (F p.0 × ((length p.1 ≡ n) × AllByRecursion F p.1)) × (p.0 ∷ p.1 ≡ xs)

@@ -1,4 +1,4 @@
-//! The answers to the four questions of a conjugacy: a refutation for each, or a configuration for one that does not hold.
+//! Reads the answer to the four questions of a conjugacy: a refutation for each, or a configuration for one that doesn't hold.
 ghost use Rattle.std.specs.Prelude.{◌≡◌};
 ghost use Rattle.dd_output.specs.reading.Stops.{Gives, many_at};
 ghost use Rattle.dd_output.specs.reading.Grammar as grammar;
@@ -13,7 +13,7 @@ use dd_derivation::Step;
 use dd_values::Items;
 use std::alloc::Global;
 
-/// A given number of refutations, one after the other.
+/// This many refutations.
 fn refutations_of(
     alloc: Global,
     count: u64,
@@ -31,6 +31,7 @@ fn refutations_of(
     Ok((lists, rest))
 }
 
+/// A `CONJUGATE`.
 #[tactic(auto, unfolding(crate::specs::reading::Grammar::conjugate_row))]
 pub(crate) fn conjugate_of(alloc: Global, bytes: &[u8]) -> Result<(Answer, &[u8]), ReadFault>
     ensures { Gives (λ x. (x.0, x.1.now)) result (grammar.conjugate_row.read bytes.now) }
@@ -41,7 +42,7 @@ pub(crate) fn conjugate_of(alloc: Global, bytes: &[u8]) -> Result<(Answer, &[u8]
     Ok((Answer::Conjugate { radii, steps }, rest))
 }
 
-/// The text after `B`.
+/// A `BROKEN`, after its `B`.
 #[tactic(auto, unfolding(crate::specs::reading::Grammar::broken_row))]
 pub(crate) fn broken_of(alloc: Global, bytes: &[u8]) -> Result<(Answer, &[u8]), ReadFault>
     ensures { Gives (λ x. (x.0, x.1.now)) result (grammar.broken_row.read bytes.now) }

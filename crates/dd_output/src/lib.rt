@@ -1,5 +1,6 @@
-//! Whole outputs, read back. Bytes that are no output are refused at the first byte with which no output continues.
-//! The grammar is a table of lines. Each line has a text that completes it, so the offset is exact.
+//! Reads whole outputs back, and writes them. Bytes that are no output are refused at the first byte with which no output
+//! continues. The grammar is a table with a row for each kind of answer. Wherever reading stops, the grammar has a text that
+//! completes what was read, so no later byte could be the first wrong one.
 #![tactic(auto)]
 
 mod bodies;

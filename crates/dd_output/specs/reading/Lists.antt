@@ -1,4 +1,4 @@
--- Lists in a text: those that a 0 ends, and the numbers that a line ends with.
+-- Readers of lists: those that a 0 ends, and the numbers that a line ends with.
 use Rattle.std.specs.Prelude.{ℕ, ℤ, pos, negsuc, zero, suc, ◌-◌, ◌≤◌, List, [], ◌∷◌, ◌++◌, Bool, true, false, cond, ◌==◌, nat_lt, nat_le, Option, Some, None}
 use Rattle.dd_values.specs.Bounds.{most_variables}
 use Rattle.dd_clause.specs.declared.clause.Literal.{Literal}
@@ -20,7 +20,7 @@ entry_of n = item n.0
 abbrev pub ended : {A : Type 0} → Unit {0} → Entry A (Unit {0})
 ended u = last u
 
--- a variable; at least the end of the list follows
+-- a variable; the end of the list must follow at some time
 abbrev pub variable_at : List ℕ → Read (ℕ × ℕ)
 variable_at bytes = before (48 ∷ 32 ∷ []) (number_at 1 most_variables 32 32 nothing bytes)
 
@@ -43,6 +43,7 @@ numbers_until end = record { read = map_at items_of (entries_at (λ _. number_en
 
 -- ---- numbers that a line ends with: at least `least`, and at most `most` if there is such a bound
 
+-- the number with index k is the last one allowed
 abbrev pub is_last : Option ℕ → ℕ → Bool
 is_last None k = false
 is_last (Some most) k = nat_le most (suc k)
@@ -51,14 +52,15 @@ abbrev pub AtMost : Option ℕ → ℕ → Type 0
 AtMost None n = Unit {0}
 AtMost (Some most) n = n ≤ most
 
--- what can end the number at the place k, from 0: the first of the two completes a line
+-- The bytes that can end the number with index k, from 0. `end_at` is that of the shortest line allowed, `other_at` that of the
+-- longest.
 abbrev pub end_at : ℕ → ℕ → ℕ
 end_at least k = cond (nat_lt (suc k) least) 32 10
 
 abbrev pub other_at : Option ℕ → ℕ → ℕ
 other_at most k = cond (is_last most k) 10 32
 
--- this many zeros, and the line feed after the last
+-- this many zeros at the end of a line
 abbrev pub zeros : ℕ → List ℕ
 zeros zero = []
 zeros (suc zero) = 48 ∷ 10 ∷ []
@@ -76,7 +78,7 @@ line_entry least most k = map_at line_entry_of (number_at 0 most_number (end_at 
 unfoldable pub numbers : ℕ → Option ℕ → Form (List ℕ)
 numbers least most = record { read = map_at line_of (entries_at (line_entry least most) 0); least = zeros least }
 
--- ---- the same with signs
+-- ---- the same for numbers that may have a minus sign
 
 abbrev pub minus_of : ℕ × ℕ → ℤ × ℕ
 minus_of n = (negsuc (n.0 - 1), n.1)
