@@ -17,7 +17,7 @@ use Rattle.dd_meancycle.specs.table.LeastMean.{IsMean, IsLeastMean, IsSmallMean}
 use Rattle.dd_meancycle.specs.lemmas.StepLaws.{step, last_slice, below_states, weight_small}
 use Rattle.dd_meancycle.specs.declared.table.EdgeMean.TheVariants as edge_mean
 
--- one number more
+-- one window more
 pub edges_more : (g : Transfer) (n : ℕ) (edges : List Edge) (o : Option Edge) → AreEdgesTo g n edges → o ≡ edge_at g n → AreEdgesTo g (n + 1) (edges ++ option_to_list o)
 edges_more g n edges None so_far is = record {
   each = λ e c. elim (Contains-append_cases edges [] e c) [
@@ -98,7 +98,7 @@ fit g edges e well are c =
     let product : g.states * e.weight ≡ g.states * weight_at g (e.to % g.slices) = ap (λ (x : ℕ). g.states * x) d.weight_is in
     (d.from_below, d.to_below, omega (arith, d.weight_is, small), omega (arith, product, light))
 
--- a slice's edge is in the list
+-- each edge of the graph is in the list
 pub edge_of : (g : Transfer) (edges : List Edge) (u t v : ℕ) → AreEdges g edges → next_of g u t ≡ Some v →
     Contains edges (record { from = u; to = v; weight = weight_at g t })
 edge_of g edges u t v are h =
@@ -115,7 +115,7 @@ pub same_weight : (g : Transfer) (edges es : List Edge) → IsTransfer g → Are
 same_weight g edges [] well are among = refl
 same_weight g edges (e ∷ es) well are among = omega (arith, (edged g edges e well are among.0).weight_is, same_weight g edges es well are among.1)
 
--- what potentials and ranks say of each path
+-- how much potentials rise, and ranks fall, along a path
 pub path_weighs : (g : Transfer) (m l : ℕ) (ps : List ℤ) → ArePotentials g m l ps → (ss : List ℕ) (u v : ℕ) → IsPath g u ss v →
     ((potential_of ps v -ℤ potential_of ps u) ≤ℤ (pos (l * weight_of g ss) -ℤ pos (m * length ss)))
 path_weighs g m l ps given [] u v walk =
@@ -173,7 +173,7 @@ small_mean g edges (edge_mean.Least m l cycle ps) well are is = λ k d lt.
     omega (arith, same, small, most)
 small_mean g edges (edge_mean.NoCycle rs) well are is = tt
 
--- the numbers as whole numbers
+-- from natural numbers to whole numbers
 signed_at : (ps : List ℕ) (v : ℕ) → potential_of (map pos ps) v ≡ pos (natural ps v)
 signed_at [] v = refl
 signed_at (p ∷ ps) zero = refl

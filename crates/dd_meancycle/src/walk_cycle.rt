@@ -1,14 +1,15 @@
-//! A cycle on a walk of the table's greatest length.
+//! A cycle on a lightest walk of the table's greatest length. Such a walk has as many edges as there are states, so it comes
+//! to some state twice.
 ghost use Rattle.std.specs.Prelude.{◌≡◌, ℕ, ◌+◌, ◌<◌, ◌≤◌, ◌^◌, length, IfOk, replicate, reverse, Some, None, drop};
 ghost use Rattle.std.specs.List.{All, find};
 ghost use Rattle.dd_meancycle.specs.table.Levels.{IsEdgeOf, AreRows, level_weight_at};
-ghost use Rattle.dd_meancycle.specs.table.Rises.{is_back, IsTurn};
+ghost use Rattle.dd_meancycle.specs.table.Rises.{is_back, IsCycleOnWalk};
 
 use crate::edges::Edge;
 use crate::levels::{Level, row_of, weight_at};
 use std::alloc::{AllocError, Global};
 
-/// Whether the edge makes a walk of weight `weight` to the state.
+/// Whether a walk of the level `before`, and then the edge, is a walk of the weight `weight` to the state.
 fn is_back(before: &[Option<u32>], state: u32, weight: u32, edge: &Edge) -> bool
     requires { edge.now.from < length before.now }
     ensures { result ≡ is_back before.now state weight edge.now }
@@ -22,7 +23,7 @@ fn is_back(before: &[Option<u32>], state: u32, weight: u32, edge: &Edge) -> bool
     }
 }
 
-/// The last edge of a least walk of `k + 1` edges to the state.
+/// The last edge of a walk of the weight `weight` to the state that extends a walk of the level `before`.
 fn back_edge(edges: &[Edge], before: &[Option<u32>], state: u32, weight: u32) -> Option<Edge>
     requires edges { All (IsEdgeOf (length before.now)) edges.now }
     ensures { result ≡ find (is_back before.now state weight) edges.now }
@@ -35,12 +36,14 @@ fn back_edge(edges: &[Edge], before: &[Option<u32>], state: u32, weight: u32) ->
     None
 }
 
+/// The edges in the opposite order.
 fn reversed(alloc: Global, path: &[Edge]) -> Result<Vec<Edge>, AllocError>
     ensures { IfOk result (λ v. v.items ≡ reverse path.now) }
 {
     path.iter().rev().copied().collect(alloc)
 }
 
+/// The edges of the backward path from `start` on, as a forward walk.
 fn cycle_from(alloc: Global, path: &[Edge], start: usize) -> Result<Vec<Edge>, AllocError>
     requires { start ≤ length path.now }
     ensures { IfOk result (λ v. v.items ≡ reverse (drop start path.now)) }
@@ -48,8 +51,9 @@ fn cycle_from(alloc: Global, path: &[Edge], start: usize) -> Result<Vec<Edge>, A
     reversed(alloc, &path[start..])
 }
 
-/// A cycle on a least walk of `last` edges to the state.
-pub(crate) fn turn(
+/// A cycle on a lightest walk of `last` edges to the state. It walks back from the state, and stops at the first state that
+/// comes again. `seen` holds the place on the path at which each state came.
+pub(crate) fn cycle_on_walk(
     alloc: Global,
     edges: &[Edge],
     levels: &[Level],
@@ -61,7 +65,7 @@ pub(crate) fn turn(
     requires len { length levels.now ≡ last + 1 }
     requires state { state < last }
     requires few { last < 2 ^ 31 }
-    ensures { IfOk result (λ c. (end : ℕ) → level_weight_at levels.now last state ≡ Some end → IsTurn edges.now last state end c.items) }
+    ensures { IfOk result (λ c. (end : ℕ) → level_weight_at levels.now last state ≡ Some end → IsCycleOnWalk edges.now last state end c.items) }
 {
     let mut path = Vec::new(alloc);
     let Some(end) = weight_at(levels, last, state) else {
@@ -86,6 +90,7 @@ pub(crate) fn turn(
     Ok(path)
 }
 
+/// No state has come yet.
 fn unseen(alloc: Global, states: usize) -> Result<Vec<Option<usize>>, AllocError>
     ensures { IfOk result (λ r. r.items ≡ replicate states None) }
 {

@@ -1,4 +1,4 @@
--- Going back along a least walk until a state comes again.
+-- Walking back along a lightest walk until a state comes again.
 use Rattle.std.proofs.Common.{◌≡◌, ℕ, zero, suc, ◌+◌, ◌-◌, ◌*◌, ◌<◌, ◌≤◌, Bool, true, false, cond, List, [], ◌∷◌, ◌++◌, length, reverse, take, drop, get_or, set, replicate, Option, Some, None, arith, refl, sym, ap, ◌∙◌, subst, inl, inr, take-append-drop, add-one, eqb, ◌≢◌}
 use Rattle.std.proofs.lemmas.Bool.{cases_Bool, cases_lt, cases_eq, eqb-true, eq-eqb, and_parts}
 use Rattle.std.proofs.lemmas.List.{reverse-append, length-reverse, length-append, length-set, length-take, length-drop, take-append-le, take_all, get_or_past, get_or-replicate, length-replicate}
@@ -6,7 +6,7 @@ use Rattle.std.proofs.lemmas.List.Elements.{All-contains}
 use Rattle.std.specs.{Prelude.◌⊎◌, List.Contains, List.All, List.find}
 use Rattle.dd_meancycle.specs.{declared.edges.Edge.Edge, table.Levels.at, table.Levels.row, table.Levels.least, table.Levels.IsEdgeOf}
 use Rattle.dd_meancycle.specs.table.Walks.{IsWalk, AreAmong, edges_weight}
-use Rattle.dd_meancycle.specs.table.Rises.{is_back, arrives, marked, IsTurn}
+use Rattle.dd_meancycle.specs.table.Rises.{is_back, arrives, marked, IsCycleOnWalk}
 use Rattle.dd_meancycle.proofs.LevelLaws.{Arrives, least_from, row_length, at_set_same, at_set_other}
 
 walk_start : (es : List Edge) (u m v : ℕ) → IsWalk u es v → IsWalk m es v → u ≡ m
@@ -82,7 +82,7 @@ trail_start edges n v end seen lt s h = record {
 pub trail_end : (edges : List Edge) (n v end step here weight : ℕ) (path : List Edge) (seen : List (Option ℕ)) → n ≤ step → Trail edges n v end step here weight path seen → ⊥
 trail_end edges n v end step here weight path seen le t = omega (arith, marked_below seen here (omega (arith, t.width, t.in_range)) t.fresh, t.count, t.width)
 
--- the edge back
+-- the edge e leads to the state `here` and ends a walk of this weight
 pub record IsBack (edges : List Edge) (before : List (Option ℕ)) (here weight : ℕ) (e : Edge) : Type 0 where
   pub is_in : Contains edges e
   pub to : e.to ≡ here
@@ -138,7 +138,7 @@ marks_at edges n v end step here weight path seen marks t m y r e = elim (cases_
   | inr other ↦ t.marks y r (sym (at_set_other seen here y (Some (length path)) other) ∙ (ap (λ (x : List (Option ℕ)). at x y) (sym m) ∙ e))
 ]
 
--- one edge more, with the state marked
+-- one edge more, after the state is marked
 pub trail_push : (edges : List Edge) (n v end step here weight : ℕ) (path : List Edge) (seen marks : List (Option ℕ)) (e : Edge) →
     All (IsEdgeOf n) edges → Trail edges n v end step here weight path seen → step < n → marks ≡ set seen here (Some (length path)) →
     IsBack edges (row edges n (n - 1 - step)) here weight e → at marks e.from ≡ None →
@@ -162,11 +162,11 @@ trail_push edges n v end step here weight path seen marks e all t lt m b fresh =
           (omega arith, rw take-append-le q.1);
     }
 
-pub trail_turn : (edges : List Edge) (n v end step here weight : ℕ) (path : List Edge) (seen marks : List (Option ℕ)) (e : Edge) (r : ℕ) →
+pub trail_closes : (edges : List Edge) (n v end step here weight : ℕ) (path : List Edge) (seen marks : List (Option ℕ)) (e : Edge) (r : ℕ) →
     All (IsEdgeOf n) edges → Trail edges n v end step here weight path seen → step < n → marks ≡ set seen here (Some (length path)) →
     IsBack edges (row edges n (n - 1 - step)) here weight e → at marks e.from ≡ Some r →
-    IsTurn edges n v end (reverse (drop r (path ++ e ∷ [])))
-trail_turn edges n v end step here weight path seen marks e r all t lt m b again =
+    IsCycleOnWalk edges n v end (reverse (drop r (path ++ e ∷ [])))
+trail_closes edges n v end step here weight path seen marks e r all t lt m b again =
     let q = marks_at edges n v end step here weight path seen marks t m e.from r again in
     let le : r ≤ length path = q.0 in
     let long : length (path ++ e ∷ []) ≡ length path + 1 = length-append path (e ∷ []) in

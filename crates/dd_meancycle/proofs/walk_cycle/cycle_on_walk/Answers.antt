@@ -3,12 +3,12 @@ use Rattle.std.proofs.lemmas.List.{length-append, length-set, get_or_default, El
 use Rattle.std.specs.List.{All, find}
 use Rattle.dd_meancycle.specs.declared.edges.Edge.{Edge}
 use Rattle.dd_meancycle.specs.table.Levels.{at, row, least, AreRows, IsEdgeOf}
-use Rattle.dd_meancycle.specs.table.Rises.{is_back, IsTurn}
+use Rattle.dd_meancycle.specs.table.Rises.{is_back, IsCycleOnWalk}
 use Rattle.dd_meancycle.proofs.LevelLaws.{row_length}
-use Rattle.dd_meancycle.proofs.TurnLaws.{Trail, IsBack, trail_start, trail_end, trail_push, trail_turn, marks_at, back_found, back_some}
+use Rattle.dd_meancycle.proofs.WalkCycles.{Trail, IsBack, trail_start, trail_end, trail_push, trail_closes, marks_at, back_found, back_some}
 use Rattle.dd_meancycle.proofs.Assembly.{weight_row}
 use Rattle.dd_values.specs.lemmas.Results.{if_ok}
-use Rattle.dd_meancycle.proofs.turning.turn.Goals as goal
+use Rattle.dd_meancycle.proofs.walk_cycle.cycle_on_walk.Goals as goal
 
 pub weight_at-requires-clause-state : goal.weight_at-requires-clause-state
 weight_at-requires-clause-state c =
@@ -78,14 +78,14 @@ returns-in-Some-index c =
     let width : length (set c.loop-step.seen.items c.loop-step.at (Some c.len.result)) ≡ c.args.last = length-set c.loop-step.seen.items c.loop-step.at (Some c.len.result) ∙ c.loop-step.invariant.width in
     let again : at (set c.loop-step.seen.items c.loop-step.at (Some c.len.result)) c.in-Some-back_edge.edge.from ≡ Some c.in-Some-index.start = read_mark (set c.loop-step.seen.items c.loop-step.at (Some c.len.result)) c.in-Some-back_edge.edge.from c.index.result.now (Some c.in-Some-index.start) (omega (arith, e.0, width)) c.index.ensures c.in-Some-index.is in
     let m : set c.loop-step.seen.items c.loop-step.at (Some c.len.result) ≡ set c.loop-step.seen.items c.loop-step.at (Some (length c.loop-step.path.items)) = ap (λ (r : ℕ). set c.loop-step.seen.items c.loop-step.at (Some r)) l in
-    let t = trail_turn c.args.edges.now c.args.last c.args.state c.in-Some.end c.loop-step.step c.loop-step.at c.loop-step.weight c.loop-step.path.items c.loop-step.seen.items _ c.in-Some-back_edge.edge c.in-Some-index.start c.requires.edges c.loop-step.invariant c.loop-step-test.true m b again in
+    let t = trail_closes c.args.edges.now c.args.last c.args.state c.in-Some.end c.loop-step.step c.loop-step.at c.loop-step.weight c.loop-step.path.items c.loop-step.seen.items _ c.in-Some-back_edge.edge c.in-Some-index.start c.requires.edges c.loop-step.invariant c.loop-step-test.true m b again in
     let path : c.as_slice.result.now ≡ c.loop-step.path.items ++ c.in-Some-back_edge.edge ∷ [] = c.as_slice.ensures.value ∙ items in
-    let turn = subst (λ (x : List Edge). IsTurn c.args.edges.now c.args.last c.args.state c.in-Some.end (reverse (drop c.in-Some-index.start x))) (sym path) t in
+    let closed = subst (λ (x : List Edge). IsCycleOnWalk c.args.edges.now c.args.last c.args.state c.in-Some.end (reverse (drop c.in-Some-index.start x))) (sym path) t in
     if_ok c.cycle_from.result _ _
     (λ v is end h.
     let e : c.in-Some.end ≡ end = (let f = c.in-Some.ensures ∙ h in cc) in
-    subst (λ (z : ℕ). IsTurn c.args.edges.now c.args.last c.args.state z v.items) e
-    (subst (λ (x : List Edge). IsTurn c.args.edges.now c.args.last c.args.state c.in-Some.end x) (sym is) turn)) c.cycle_from.ensures
+    subst (λ (z : ℕ). IsCycleOnWalk c.args.edges.now c.args.last c.args.state z v.items) e
+    (subst (λ (x : List Edge). IsCycleOnWalk c.args.edges.now c.args.last c.args.state c.in-Some.end x) (sym is) closed)) c.cycle_from.ensures
 
 pub loop-step-preserved : goal.loop-step-preserved
 loop-step-preserved c =
