@@ -1,7 +1,4 @@
 //! Reads words, numbers and raw bytes. A number has a byte that ends it, so no number's text is a prefix of another's.
-//!
-//! In this crate a function whose name ends with `_of` or `_at` is a reader. It reads the value that the bytes begin with, and
-//! returns it with the bytes that are left. It stops at the first byte that is wrong.
 ghost use Rattle.std.specs.Prelude.{◌≡◌, ◌<◌, ◌≤◌, ◌^◌, ◌-◌, ◌*◌, ◌+◌, true, length, [], IfOk, nat_le};
 ghost use Rattle.dd_output.specs.reading.Stops.{Gives, is_digit, goes_on, starts, word_at, digits_at, number_at, bytes_at, begins};
 

@@ -1,6 +1,9 @@
 //! Reads whole outputs back, and writes them. Bytes that are no output are refused at the first byte with which no output
 //! continues. The grammar is a table with a row for each kind of answer. Wherever reading stops, the grammar has a text that
 //! completes what was read, so no later byte could be the first wrong one.
+//!
+//! A function whose name ends with `_of` or `_at` is a reader. It reads the value that the bytes begin with, and returns it with
+//! the bytes that are left. It stops at the first byte that is wrong.
 #![tactic(auto)]
 
 mod bodies;
