@@ -2,7 +2,7 @@
 //! continues. The grammar is a table with a row for each kind of answer. Wherever reading stops, the grammar has a text that
 //! completes what was read, so no later byte could be the first wrong one.
 //!
-//! A function whose name ends with `_of` or `_at` is a reader. It reads the value that the bytes begin with, and returns it with
+//! A function of bytes whose name ends with `_of` or `_at` is a reader. It reads the value that they begin with, and returns it with
 //! the bytes that are left. It stops at the first byte that is wrong.
 #![tactic(auto)]
 
