@@ -1,5 +1,5 @@
-//! Box questions: whether some configuration of a rule, the premise, has a goal at some position, and what one box says
-//! about it.
+//! Box questions: whether no configuration of a rule, the premise, has a goal at any position, and what one box says about
+//! it.
 #![tactic(auto)]
 
 mod goals;

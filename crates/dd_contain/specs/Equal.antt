@@ -26,8 +26,8 @@ UnlessNo (No tile) P = Unit {0}
 UnlessNo (Yes n steps) P = P
 UnlessNo Unknown P = P
 
--- The answer is the join of two answers. The left one decides whether a configuration of x breaks y, and the right one whether
--- a configuration of y breaks x. If the left answer is NO, the right one may be any.
+-- The answer is the join of two answers. The left one decides whether no configuration of x breaks y, and the right one
+-- whether no configuration of y breaks x. If the left answer is NO, the right one may be any.
 pub record IsEqualDecided (x y : LocalRule) (n p : ℕ) (equality : Equality) : Type 0 where
   pub left : Decision
   pub right : Decision

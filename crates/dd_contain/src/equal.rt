@@ -1,4 +1,4 @@
-//! Whether two rules allow the same configurations. This is two box questions: for each rule, whether one of its
+//! Whether two rules allow the same configurations. This is two box questions: for each rule, whether none of its
 //! configurations breaks the other rule.
 ghost use Rattle.std.specs.Prelude.{◌≡◌, ◌≤◌, IfOk};
 ghost use Rattle.dd_boxes.specs.Goals.{breaks, IsGoalFor};
@@ -68,7 +68,7 @@ fn joined(left: Decision, right: Decision) -> Equality
     }
 }
 
-/// Decides whether two rules allow the same configurations. The left question asks whether a configuration of `left` can break
+/// Decides whether two rules allow the same configurations. The left question asks whether no configuration of `left` breaks
 /// `right`. The right question exchanges the two. Limits and roster are used as in `decide`. The answer is:
 /// - NO, with the left side, if the left answer is NO;
 /// - otherwise NO, with the right side, if the right answer is NO;

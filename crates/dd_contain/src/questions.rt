@@ -76,7 +76,7 @@ fn box_style(goal: &Goal) -> Style {
     }
 }
 
-/// The question whether some configuration that obeys the premise has the goal.
+/// The question whether no configuration that obeys the premise has the goal.
 #[derive(Clone, Copy)]
 struct BoxQuestion<'a> {
     alloc: Global,
