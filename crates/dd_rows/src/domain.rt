@@ -1,4 +1,4 @@
-//! The domain of a discharge, grown by its margin.
+//! The cells whose fillings a discharge looks at: its domain, grown by its margin.
 ghost use Rattle.std.specs.Prelude.{◌≡◌, ◌<◌, ◌≤◌, IfOk, IfErr, [], All};
 ghost use Rattle.std.specs.List.Sorted.{IsStrictlySortedBy};
 ghost use Rattle.dd_values.specs.Bounds.{widest_radius};
@@ -17,7 +17,7 @@ use dd_topology::reversed;
 use dd_values::Items;
 use std::alloc::{AllocError, Global};
 
-/// The positions of the centred box.
+/// The positions of the centred box. It fails only if memory runs out.
 fn box_region(alloc: Global, dim: u32, radius: u32) -> Result<Region, RowsFault>
     requires least { 1 ≤ dim }
     requires most { dim ≤ 3 }
@@ -33,7 +33,8 @@ fn box_region(alloc: Global, dim: u32, radius: u32) -> Result<Region, RowsFault>
     Ok(region)
 }
 
-/// The box of the radius, and this box moved by the opposite of each vector.
+/// The domain: the centred box of the radius, and this box moved by the opposite of each vector. It fails only if memory
+/// runs out.
 fn domain(alloc: Global, dim: u32, radius: u32, vectors: &[Position]) -> Result<Region, RowsFault>
     requires least { 1 ≤ dim }
     requires most { dim ≤ 3 }
@@ -56,7 +57,7 @@ fn domain(alloc: Global, dim: u32, radius: u32, vectors: &[Position]) -> Result<
     Ok(all)
 }
 
-/// The cells of a region, in cell order.
+/// The cells at the positions of a region, in cell order.
 fn cells_on(alloc: Global, nodes: u32, positions: &[Position]) -> Result<Items<Cell>, AllocError>
     ensures { IfOk result (λ cells. cells ≡ cells_on nodes positions.now) }
 {
@@ -72,7 +73,7 @@ fn cells_on(alloc: Global, nodes: u32, positions: &[Position]) -> Result<Items<C
     Ok(cells)
 }
 
-/// The cells of the box of the radius, in cell order.
+/// The cells of the centred box of the radius, in cell order. It fails only if memory runs out.
 pub(crate) fn box_cells(alloc: Global, rule: &Rule, radius: u32) -> Result<Items<Cell>, RowsFault>
     requires { radius ≤ widest_radius }
     ensures cells { IfOk result (λ cells. cells ≡ box_cells rule.now radius) }

@@ -1,5 +1,6 @@
-//! The linear program of a rule along some vectors: the domain on which the rule is discharged, its admissible fillings, and the
-//! patterns and distinct rows that they give.
+//! The linear program of a discharge. Each position has the weight of its symbols, and gives along each of some vectors an
+//! amount that depends on the pattern around it. The program asks how much every position then holds at least. This crate
+//! makes its domain, the admissible fillings of the domain, and the patterns and distinct rows that they show.
 #![tactic(auto, using(std::proofs::lemmas::Grind::common_steps))]
 
 mod domain;

@@ -3,7 +3,7 @@ use Rattle.std.specs.List.{All}
 use Rattle.dd_pattern.specs.Weight.{total_weight}
 use Rattle.dd_rows.specs.listing.Views.{symbols_at}
 use Rattle.dd_rows.proofs.SparseLaws.{seen_known, row_stands}
-use Rattle.dd_rows.proofs.program.asked_row.Goals as goal
+use Rattle.dd_rows.proofs.program.required_row.Goals as goal
 
 pub weight_of-requires-clause-weights : goal.weight_of-requires-clause-weights
 weight_of-requires-clause-weights c =
