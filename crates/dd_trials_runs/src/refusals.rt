@@ -5,7 +5,7 @@ use std::alloc::{AllocError, Global};
 use std::process::Abort;
 use std::test::Fail;
 
-// Asserts that each text is refused, with a line that goes on as given.
+// Asserts that each text is refused, and that the given text follows `refused` in the line.
 fn assert_refused(rt: &impl Abort, alloc: Global, rows: &[(&[u8], &str)]) -> Result<(), Fail> {
     for (text, rest) in rows {
         let (status, output) = run_on(alloc, text)?;
