@@ -1,5 +1,6 @@
-//! Box questions as clauses: for a box or a torus, a clause list that is satisfiable exactly if the box or the torus has what the
-//! question asks for. A satisfying assignment of a torus's clauses is read back as a periodic configuration.
+//! Box questions as clauses. The clauses of a box are satisfiable exactly if it has an admissible filling with the goal at the
+//! origin, and those of a torus exactly if it has a configuration with the goal there. A satisfying assignment of a torus's clauses
+//! is read back as this configuration.
 #![tactic(auto)]
 
 mod boxes;

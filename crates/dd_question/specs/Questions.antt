@@ -20,9 +20,9 @@ use Rattle.dd_question.specs.declared.question.Question.TheVariants as question
 pub data Asked : Type 0 where
   -- does the configuration live in the rule's subshift?
   membership : LocalRule → Tile → Asked
-  -- can a configuration that obeys the rule have the goal?
+  -- does no configuration that obeys the rule have the goal?
   box : LocalRule → GoalOf → Asked
-  -- can a configuration of either rule break the other?
+  -- do the rules allow the same configurations?
   equality : LocalRule → LocalRule → Asked
   -- Which patterns does the rule forbid? A pattern gives symbols to the cells that the rule reads at a node, and the rule is
   -- false there.

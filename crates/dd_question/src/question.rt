@@ -13,12 +13,12 @@ pub enum Question<'a> {
         rule: &'a Rule,
         configuration: &'a Periodic,
     },
-    /// Can a configuration that obeys the premise have the goal?
+    /// Does no configuration that obeys the premise have the goal?
     Box {
         premise: &'a Rule,
         goal: Goal<'a>,
     },
-    /// Can a configuration of either rule break the other?
+    /// Do the rules allow the same configurations? Then no configuration of either rule breaks the other.
     Equality {
         left: &'a Rule,
         right: &'a Rule,
