@@ -35,8 +35,8 @@ pub data IsBoxCertificate (l : Limits) (x : LocalRule) (g : GoalOf) : Answer →
   box_no : {along : List ℕ} {shear : ℕ} {symbols : List ℕ} → IsNo l x g along shear symbols → IsBoxCertificate l x g (answer.No side.Whole along shear symbols)
   box_unknown : IsBoxCertificate l x g (answer.Unknown reason.Limits)
 
--- For equality, the left box question asks for a configuration of x that breaks y, and the right one for a configuration of y
--- that breaks x. YES is a YES to both, and NO is a NO on the side that it names.
+-- For equality, the left box question is whether no configuration of x breaks y, and the right one whether none of y breaks x. YES
+-- is a YES to both, and NO is a NO on the side that it names.
 pub data IsEqualCertificate (l : Limits) (x y : LocalRule) : Answer → Type 0 where
   equal_yes : {n m : ℕ} {steps others : List Step} → IsYes l x (breaks y) n steps → IsYes l y (breaks x) m others → IsEqualCertificate l x y (answer.YesBoth n m steps others)
   left_no : {along : List ℕ} {shear : ℕ} {symbols : List ℕ} → IsNo l x (breaks y) along shear symbols → IsEqualCertificate l x y (answer.No side.Left along shear symbols)
