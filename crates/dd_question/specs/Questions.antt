@@ -28,7 +28,7 @@ pub data Asked : Type 0 where
   -- false there.
   listing : LocalRule → Asked
   -- which minimal patterns forbid the same? they give symbols to some of these cells, none of which can be left out
-  minimal : LocalRule → Asked
+  smallest : LocalRule → Asked
   -- are two maps between the subshifts of two rules inverse to each other?
   conjugacy : ConjugacyOf → Asked
   -- what is the least weight per position of a configuration with these periods along the axes after the first?
@@ -45,7 +45,7 @@ asked_of (question.Membership rule configuration) = membership rule.now configur
 asked_of (question.Box premise goal) = box premise.now (goal_of premise.now goal)
 asked_of (question.Equality left right) = equality left.now right.now
 asked_of (question.Listing rule) = listing rule.now
-asked_of (question.Minimal rule) = minimal rule.now
+asked_of (question.Smallest rule) = smallest rule.now
 asked_of (question.Conjugacy c) = conjugacy (conjugacy_of c)
 asked_of (question.Density rule strip weights) = density rule.now strip weights.now
 asked_of (question.Least rule periods weights) = least rule.now periods weights.now
@@ -57,7 +57,7 @@ is_box_question (membership x t) = false
 is_box_question (box x g) = true
 is_box_question (equality x y) = true
 is_box_question (listing x) = false
-is_box_question (minimal x) = false
+is_box_question (smallest x) = false
 is_box_question (conjugacy c) = true
 is_box_question (density x strip ws) = false
 is_box_question (least x along ws) = false
@@ -69,7 +69,7 @@ IsFormed (membership x t) = IsRule x × IsTile t × Fits x t × HasAllowed x t
 IsFormed (box x g) = IsFormedBox x g
 IsFormed (equality x y) = IsRule x × IsRule y × AreAlike x y
 IsFormed (listing x) = IsRule x
-IsFormed (minimal x) = IsRule x
+IsFormed (smallest x) = IsRule x
 IsFormed (conjugacy c) = EachPart IsFormedBox c
 IsFormed (density x strip ws) = IsRule x × IsStrip x strip × HasWeights x ws
 IsFormed (least x along ws) = IsRule x × AreTorusPeriods x.dimension x.nodes (periods_of along 0) × HasWeights x ws
@@ -101,7 +101,7 @@ excess_of l (membership x t) = None
 excess_of l (box x g) = passed (is_long l x g) excess.Clauses
 excess_of l (equality x y) = passed (is_long l x (breaks y) || is_long l y (breaks x)) excess.Clauses
 excess_of l (listing x) = passed (has_many_patterns x) excess.Patterns
-excess_of l (minimal x) = passed (has_many_patterns x) excess.Patterns
+excess_of l (smallest x) = passed (has_many_patterns x) excess.Patterns
 excess_of l (conjugacy c) = passed (is_some_long l c) excess.Clauses
 excess_of l (density x strip ws) = passed (has_many_states x (strip_volume strip)) excess.States
 excess_of l (least x along ws) = passed (is_heavy x along ws) excess.Clauses
@@ -113,7 +113,7 @@ IsSoundAsked l (membership x t) = IsRule x × IsTile t × Fits x t × HasAllowed
 IsSoundAsked l (box x g) = IsSoundBox l x g
 IsSoundAsked l (equality x y) = IsRule x × IsRule y × IsAskable l x (breaks y) × IsAskable l y (breaks x)
 IsSoundAsked l (listing x) = IsRule x × HasFewPatterns x
-IsSoundAsked l (minimal x) = IsRule x × HasFewPatterns x
+IsSoundAsked l (smallest x) = IsRule x × HasFewPatterns x
 IsSoundAsked l (conjugacy c) = EachPart (IsSoundBox l) c
 IsSoundAsked l (density x strip ws) = IsRule x × IsNarrow x strip ws
 IsSoundAsked l (least x along ws) = IsRule x × IsWeighable x along ws

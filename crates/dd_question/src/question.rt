@@ -30,7 +30,7 @@ pub enum Question<'a> {
     },
     /// Which minimal patterns forbid the same? Such a pattern gives symbols to some of these cells, none of which can be left
     /// out. `dd_minimal` says which list of them is the answer.
-    Minimal {
+    Smallest {
         rule: &'a Rule,
     },
     /// Are two maps between the subshifts of two rules inverse to each other?

@@ -53,7 +53,7 @@ fn by_kind<E: Engine>(
             vectors,
             weights,
         } => discharged(alloc, rule, radius, margin, vectors, weights, limits.pivots),
-        Question::Minimal { rule } => smallest(alloc, rule),
+        Question::Smallest { rule } => smallest(alloc, rule),
         Question::Conjugacy { conjugacy } => conjugate(alloc, &conjugacy, limits, roster),
         Question::Least {
             rule,
