@@ -13,7 +13,7 @@ use Rattle.dd_derivation.specs.Derivations.{same_literal, is_among, has_variable
 use Rattle.dd_derivation.specs.{checking.MarksOf.known_of, lemmas.Soundness.same_literal-eq, lemmas.Soundness.all_false}
 use Rattle.dd_derivation.specs.lemmas.{Falses.same_variable, Findings.In, Findings.forces_from, Numbers.length-before}
 use Rattle.dd_trail.specs.{declared.trail.Entry.Entry, Trails.falses, lemmas.Trails.in-has_variable}
-use Rattle.dd_solver.specs.declared.analysis.Turn.{Turn}
+use Rattle.dd_solver.specs.declared.analysis.Backjump.{Backjump}
 use Rattle.dd_solver.specs.searching.Reasons.{all_known, AreInRange, EntryOk}
 use Rattle.dd_solver.specs.searching.{Analysis.is_rightly_learned, Analysis.Asserts, Deleting.MayDelete}
 use Rattle.dd_solver.specs.searching.Search.{State, after_step, known_through, known, IsSearch, AreAlive, AreOpen, GoesOn}
@@ -81,7 +81,7 @@ module _ (n : ℕ) (cs : List (List Literal)) (steps : List Step) (trail : List 
       }
 
   -- the new step forces a literal, or the steps refute the clauses
-  pub goes_on : (t : Step) (turn : Option Turn) → is_rightly_learned n (known_through (all_known cs) steps) t.clause t.hints ≡ true → MayDelete (known_through (all_known cs) steps) (length cs) trail t.deletes → MatchOption turn (t.clause ≡ []) (Asserts trail t.clause) → GoesOn (record { variables = n; clauses = cs; steps = steps ++ t ∷ []; entries = trail }) turn
+  pub goes_on : (t : Step) (backjump : Option Backjump) → is_rightly_learned n (known_through (all_known cs) steps) t.clause t.hints ≡ true → MayDelete (known_through (all_known cs) steps) (length cs) trail t.deletes → MatchOption backjump (t.clause ≡ []) (Asserts trail t.clause) → GoesOn (record { variables = n; clauses = cs; steps = steps ++ t ∷ []; entries = trail }) backjump
   goes_on t None r m e = refutes_last n (all_known cs) steps t s.derived (right_from n (known_through (all_known cs) steps) t r m.deletable) e
   goes_on t (Some u) r m e =
       let before = known_through (all_known cs) steps in

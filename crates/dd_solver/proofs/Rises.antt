@@ -1,4 +1,4 @@
--- The search ends: the trail's number is below 3 ^ n, and rises at each propagation, decision and return.
+-- The search ends: the trail's number is below 3 ^ n, and rises at each propagation, decision and backjump.
 use Rattle.std.proofs.Common.{◌≡◌, ℕ, zero, suc, ◌-◌, ◌*◌, ◌^◌, ◌<◌, Bool, true, false, List, [], ◌∷◌, ◌++◌, length, refl, sym, arith, take, drop, get_or, take-append-drop, drop-cons, ap, ◌∙◌}
 use Rattle.std.proofs.{lemmas.List.map-append, Math.Nat.pow-succ'}
 use Rattle.std.specs.Option.{is_none}
@@ -53,8 +53,8 @@ push_falls n trail e h =
     let s : length (decisions trail) < n = rw (length-decisions trail) h in
     falls n trail (trail ++ e ∷ []) (rw (decisions-append trail (e ∷ [])) (number_rises n (decisions trail) (is_none e.reason) s))
 
-pub return_falls : (n : ℕ) (trail : List Entry) (p : ℕ) (d e : Entry) → length (take p trail) < n → p < length trail → is_none (get_or trail p d).reason ≡ true → is_none e.reason ≡ false → room n (take p trail ++ e ∷ []) < room n trail
-return_falls n trail p d e l h decided forced =
+pub backjump_falls : (n : ℕ) (trail : List Entry) (p : ℕ) (d e : Entry) → length (take p trail) < n → p < length trail → is_none (get_or trail p d).reason ≡ true → is_none e.reason ≡ false → room n (take p trail ++ e ∷ []) < room n trail
+backjump_falls n trail p d e l h decided forced =
     let front = take p trail in
     let back = drop (suc p) trail in
     let whole : trail ≡ front ++ get_or trail p d ∷ back = sym (take-append-drop p trail) ∙ ap (λ (x : List Entry). front ++ x) (drop-cons trail p d h) in

@@ -11,7 +11,7 @@ use dd_derivation::Step;
 use dd_values::Items;
 use std::alloc::{AllocError, Global};
 
-/// The place among the steps of the clause with this number. The numbers of `clauses` clauses come before those of the steps.
+/// The place among the steps of the one with this number, from 0. `None` if the number is one of the list's `clauses` clauses.
 fn find_place(number: u64, clauses: usize) -> Option<usize>
     ensures { MatchOption result (number ≤ clauses) (λ place. number ≡ clauses + place + 1) }
 {
@@ -62,7 +62,7 @@ fn mark_used(alloc: Global, clauses: usize, steps: &[Step]) -> Result<Vec<bool>,
     Ok(marked)
 }
 
-/// The number of each marked step when only the marked ones are left.
+/// The new number of each marked step, when only the marked ones are left. At other steps it is the last number so far.
 fn find_numbers(alloc: Global, clauses: usize, marked: &[bool]) -> Result<Vec<u64>, AllocError>
     requires { clauses + length marked.now < 2 ^ 64 }
     ensures { IfOk result (λ numbers. numbers.items ≡ numbers_from clauses marked.now) }

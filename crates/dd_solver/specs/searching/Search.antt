@@ -6,7 +6,7 @@ use Rattle.dd_derivation.specs.declared.step.Step.{Step}
 use Rattle.dd_derivation.specs.Derivations.{clause_of, hint_finding, is_among, known_after, is_right, refutes}
 use Rattle.dd_derivation.specs.checking.MarksOf.{known_to}
 use Rattle.dd_trail.specs.{declared.trail.Entry.Entry, Trails.falses}
-use Rattle.dd_solver.specs.declared.analysis.Turn.{Turn}
+use Rattle.dd_solver.specs.declared.analysis.Backjump.{Backjump}
 use Rattle.dd_solver.specs.searching.Reasons.{all_known, AreInRange, IsTrail}
 
 -- the number of variables, the clauses, the steps learned so far, and the trail
@@ -16,7 +16,7 @@ pub record State : Type 0 where
   pub steps : List Step
   pub entries : List Entry
 
--- the clauses after a step
+-- the known clauses after a step
 abbrev pub after_step : List (Option (List Literal)) → Step → List (Option (List Literal))
 after_step before s = known_after before s.deletes ++ Some s.clause ∷ []
 
@@ -33,7 +33,7 @@ abbrev pub is_derived : ℕ → List (Option (List Literal)) → List Step → B
 is_derived n before [] = true
 is_derived n before (s ∷ steps) = is_right n before s && is_derived n (after_step before s) steps
 
--- What the search keeps. The known clauses are in range. Those of the list are known. The trail's entries were
+-- The invariant of the search. The known clauses are in range. Those of the list are known. The trail's entries were
 -- decided, or known clauses force them. The steps are right.
 pub record IsSearch (s : State) : Type 0 where
   pub in_range : AreInRange s.variables (known s)
@@ -54,18 +54,18 @@ AreOpen s = (r : ℕ) → hint_finding (known s) (is_among (falses s.entries)) r
 abbrev pub IsFalsified : State → ℕ → Type 0
 IsFalsified s r = hint_finding (known s) (is_among (falses s.entries)) r ≡ Falsified
 
--- the entry at the turn's place was decided, and the clause of the last number forces the turn's literal before it
-pub record IsForced (s : State) (turn : Turn) : Type 0 where
-  pub within : turn.place < length s.entries
-  pub decided : (d : Entry) → (slice_index_or s.entries turn.place d).reason ≡ None
-  pub forces : hint_finding (known s) (is_among (falses (take turn.place s.entries))) (length s.clauses + length s.steps) ≡ Forced turn.literal
+-- the entry at the backjump's place was decided, and the clause of the last number forces the backjump's literal before it
+pub record IsForced (s : State) (backjump : Backjump) : Type 0 where
+  pub within : backjump.place < length s.entries
+  pub decided : (d : Entry) → (slice_index_or s.entries backjump.place d).reason ≡ None
+  pub forces : hint_finding (known s) (is_among (falses (take backjump.place s.entries))) (length s.clauses + length s.steps) ≡ Forced backjump.literal
 
 -- the last step forces a literal before a decision, or the steps refute the clauses
-abbrev pub GoesOn : State → Option Turn → Type 0
-GoesOn s turn = MatchOption turn (refutes s.variables s.clauses s.steps ≡ true) (IsForced s)
+abbrev pub GoesOn : State → Option Backjump → Type 0
+GoesOn s backjump = MatchOption backjump (refutes s.variables s.clauses s.steps ≡ true) (IsForced s)
 
--- The trail read as a number in base 3, in which the first place weighs most: a propagated place is the digit 2, a
--- decided one 1, a free one 0. It rises at each propagation, decision and return, and is below 3 ^ n.
+-- The trail read as a number of n digits in base 3, the first entry first. A forced entry is the digit 2, a decided one 1,
+-- and a free place 0. The number rises with each propagation, decision and backjump, and is below 3 ^ n.
 abbrev pub digit : Bool → ℕ
 digit is_decided = if is_decided then 1 else 2
 
@@ -77,6 +77,6 @@ trail_number (suc n) (d ∷ ds) = digit d * 3 ^ n + trail_number n ds
 abbrev pub decisions : List Entry → List Bool
 decisions trail = map (λ e. is_none e.reason) trail
 
--- how far the trail's number is from its bound
+-- how far the trail's number is from its bound 3 ^ n
 abbrev pub left : State → ℕ
 left s = 3 ^ s.variables - trail_number s.variables (decisions s.entries)
