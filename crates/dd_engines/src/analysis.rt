@@ -26,7 +26,7 @@ fn mark(marked: &mut [bool], literals: &[Literal])
     }
 }
 
-/// Walks back over the entries from the conflict, and marks the variables whose values it needs.
+/// Walks back over the entries from the conflict, and marks the variables whose values it needs. Returns the hints.
 fn walk_back(
     alloc: Global,
     clauses: &[Clause],

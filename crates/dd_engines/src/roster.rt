@@ -17,7 +17,7 @@ pub struct Roster<E = Box<dyn Engine>> {
     engines: Vec<E>,
 }
 
-/// What one asking showed.
+/// What asking one engine showed.
 pub enum Asked {
     /// It proposed this, and it is right.
     Right(Outcome),

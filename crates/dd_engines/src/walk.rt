@@ -1,6 +1,6 @@
-//! A walk through assignments, starting with all variables false: each flip makes a literal of the first clause
-//! without a true literal true. Counts of true literals, and chains of where each literal stands, keep the cost of a
-//! flip to what it changes. If the walk goes round, it ends: no new assignment would come.
+//! A walk through assignments, starting with all variables false. Each flip takes the first clause without a true literal,
+//! and makes one of its literals true. Counts of true literals, and the chains of the clauses of each literal, keep the cost
+//! of a flip to what it changes. If the walk goes round, it ends: no new assignment would come.
 ghost use Rattle.std.specs.Prelude.{◌≡◌, ◌+◌, false, length, replicate, IfOk, MatchOption};
 ghost use Rattle.dd_clause.specs.Clauses.{IsLiteralInRange, is_true_under};
 ghost use Rattle.dd_values.specs.Variables.{true_variables};
@@ -25,6 +25,7 @@ struct Walk {
 }
 
 impl Walk {
+    /// The start of the walk, with all variables false.
     fn new(alloc: Global, cnf: &Cnf) -> Result<Walk, AllocError>
         ensures start { IfOk result (λ walk. walk.values.items ≡ replicate cnf.now.variables false) }
         ensures landmark { IfOk result (λ walk. walk.landmark.values.items ≡ replicate cnf.now.variables false) }
@@ -50,7 +51,7 @@ impl Walk {
         Assignment::new(values)
     }
 
-    /// The first clause without a true literal.
+    /// The number, from 0, of the first clause without a true literal.
     #[tactic(auto, using(crate::proofs::Walking::looked_walks))]
     fn first(&mut self, clauses: &[Clause]) -> Option<usize>
         requires { Walks clauses.now self.old.values.items self.old.truths.counts.items self.old.truths.marks.items self.old.truths.first_block }
@@ -95,7 +96,7 @@ pub fn first_found(
 {
     let clauses = cnf.clauses();
     let mut walk = Walk::new(alloc, cnf)?;
-    let mut turn = Some(1);
+    let mut period = Some(1);
     for k in 0..flips {
         let Some(number) = walk.first(clauses) else {
             return Ok(Some(walk.into_assignment()));
@@ -104,11 +105,11 @@ pub fn first_found(
         if literals.is_empty() {
             return Ok(None);
         }
-        if walk.landmark.is_back(k, turn) {
+        if walk.landmark.is_back(k, period) {
             return Ok(None);
         }
         walk.landmark.renew(k, walk.values.as_slice());
-        turn = walk.landmark.turn_with(k, turn, literals.len(), flips);
+        period = walk.landmark.period_with(k, period, literals.len(), flips);
         walk.flip(clauses, chains, literals[k as usize % literals.len()]);
     }
     match walk.first(clauses) {

@@ -1,6 +1,5 @@
-//! The engine that walks: it tries the assignments of one walk, and keeps only the memory for the next one. A step
-//! takes a clause that is not satisfied and makes one of its literals true (Papadimitriou 1991, Selman, Kautz and
-//! Cohen 1994), here without randomness.
+//! The engine that walks: it tries the assignments of one walk. A flip takes a clause that is not satisfied and makes one
+//! of its literals true (Papadimitriou 1991, Selman, Kautz and Cohen 1994), here without randomness.
 ghost use Rattle.std.specs.Prelude.{◌≡◌, ◌-◌, ◌^◌, ◌≤◌, true, IfOk, OnErr};
 ghost use Rattle.dd_engines.specs.Proposals.{IsRight, GivenAfter};
 ghost use Rattle.dd_engines.specs.Rounds.{RisesByOne};
@@ -21,6 +20,7 @@ use std::alloc::{AllocError, Global};
 pub struct Walker {
     flips: u32,
     tally: Tally,
+    /// The last chains. Their memory is used again.
     room: Option<Chains>,
 }
 

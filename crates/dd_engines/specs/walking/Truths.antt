@@ -13,12 +13,12 @@ true_count values clause = count_by (is_true_under (true_variables values)) clau
 abbrev pub times_in : Literal → List Literal → ℕ
 times_in l clause = count_by (same_literal l) clause
 
--- the numbers, from first on, of the clauses that have the literal, once for each time
-abbrev pub standing : Literal → ℕ → List (List Literal) → List ℕ
-standing l first [] = []
-standing l first (c ∷ cs) = replicate (times_in l c) first ++ standing l (first + 1) cs
+-- the numbers, from `first` on, of the clauses that have the literal, each as often as it has the literal
+abbrev pub occurrences : Literal → ℕ → List (List Literal) → List ℕ
+occurrences l first [] = []
+occurrences l first (c ∷ cs) = replicate (times_in l c) first ++ occurrences l (first + 1) cs
 
--- the place of a literal's chain: each variable has two
+-- the place of a literal among all literals, two for each variable
 abbrev pub place_of : Literal → ℕ
 place_of l = 2 * (l.variable - 1) + (if l.positive then 1 else 0)
 
