@@ -6,7 +6,7 @@ ghost use Rattle.dd_answer.specs.Asking.{AsksBoxes};
 ghost use Rattle.dd_answer.specs.Right.{IsAnswerTo};
 
 use dd_certificate::Answer;
-use dd_engines::{Engine, Roster};
+use dd_engines::{Engine, Roster, kept_is_reflexive};
 use dd_query::Query;
 use dd_respond::respond;
 use dd_script::Script;
@@ -25,6 +25,9 @@ pub fn answer<E: Engine>(
     ensures answer { IfOk result (IsAnswerTo script.now query.now) }
     ensures engines { AreEngaged (AsksBoxes script.now query.now) (roster_seen E.asked E.given E.sound roster.old) (roster_seen E.asked E.given E.sound roster.new) result }
 {
-    let question = script.question(query);
+    // A law: a roster that is not asked stays as it is.
+    kept_is_reflexive();
+    let pairs = script.pairs(alloc, query)?;
+    let question = script.question(query, pairs.as_slice());
     respond(alloc, &question, roster)
 }

@@ -11,8 +11,8 @@ use Rattle.dd_maps.specs.lemmas.PairLaws.{image_differs, identity_differs}
 use Rattle.dd_maps.specs.lemmas.Claims.{symbol_at, image_keeps, gives_back}
 use Rattle.dd_boxes.specs.Boxes.{HoldsNowhere}
 use Rattle.dd_meanings.specs.Made.{IsRuleOf, IsAutomatonOf}
-use Rattle.dd_pairs.specs.{Parts.image, Parts.change, Parts.pair_of, Parts.goal_of, Queries.of_four}
-use Rattle.dd_pairs.specs.lemmas.{PartLaws.rule_over, PartLaws.automaton_over, QueryLaws.item_at}
+use Rattle.dd_pairs.specs.{Comparisons.image, Comparisons.change, Comparisons.pair_of, Comparisons.goal_of, Queries.of_four}
+use Rattle.dd_pairs.specs.lemmas.{ComparisonLaws.rule_over, ComparisonLaws.automaton_over, QueryLaws.item_at}
 use Rattle.dd_certificate.specs.declared.answer.Answer.{Answer}
 use Rattle.dd_query.specs.declared.queries.Query.{Query}
 use Rattle.dd_script.specs.{Parts.Parts, Kept.IsScriptOf, Questions.query_at, Questions.conjugacy_question}

@@ -25,7 +25,8 @@ pub fn check_answer(
     let number = query as usize - 1;
     let asked = &queries[number];
     query_certified(script, asked);
-    let question = script.question(asked);
+    let pairs = script.pairs(alloc, asked)?;
+    let question = script.question(asked, pairs.as_slice());
     let accepted = check_question(alloc, &question, answer)?;
     if accepted {
         Ok(Verdict::Accepted)

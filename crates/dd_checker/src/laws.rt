@@ -9,18 +9,27 @@ ghost use Rattle.dd_checker.specs.Inverses.{is_conjugate, IsConjugacyAt, AreInve
 
 use dd_certificate::Answer;
 use dd_lattice::Position;
+use dd_pairs::asks_pairs;
 use dd_pattern::Configuration;
 use dd_query::Query;
 use dd_script::Script;
-use dd_verify::claims_hold;
+use dd_verify::{claims_hold, claims_hold_for_goals};
 
 /// Only looks at what the query asks; its contract says that what a certificate of the query claims is true.
 pub(crate) fn query_certified(script: &Script, query: &Query)
     requires { Contains script.now.queries query.now }
     ensures { (answer : AnyAnswer) → IsCertificateFor script.now query.now answer → ClaimFor script.now query.now answer }
 {
-    let question = script.question(query);
-    claims_hold(&question);
+    if asks_pairs(query) {
+        // The pairs aren't at hand. The facts about their automata were found when the script was read.
+        claims_hold_for_goals();
+        script.sound_questions();
+        // This read brings in what the type guarantees.
+        let _limits = script.limits();
+    } else {
+        let question = script.question(query, &[]);
+        claims_hold(&question);
+    }
 }
 
 /// Only looks at what the script's queries ask; its contract says that what a certificate claims is true. For a bound this
@@ -75,6 +84,6 @@ pub fn conjugate_at<C: Configuration>(
         (whole_look script.now.known.setting.topology.dimension (C.nodes _configuration.now) (C.symbol_of _configuration.now)) _place.now }
 {
     certified(script);
-    // Read for what a script keeps.
+    // This read brings in what the type guarantees.
     let _dimension = script.dim();
 }

@@ -3,7 +3,7 @@ use Rattle.std.specs.Prelude.{◌≡◌, List, [], ◌∷◌}
 use Rattle.dd_boxes.specs.{declared.goals.Goal.Goal, Views.goal_of}
 use Rattle.dd_formula.specs.LocalRule.{LocalRule}
 use Rattle.dd_question.specs.{Conjugacies.ConjugacyOf, Conjugacies.conjugacy_of, declared.conjugacy.Conjugacy.Conjugacy}
-use Rattle.dd_pairs.specs.{declared.pair.Pair.Pair, Parts.difference}
+use Rattle.dd_pairs.specs.{declared.pair.Pair.Pair, Comparisons.difference}
 
 -- the goal stands for the difference, whatever rule the question is about
 abbrev pub IsDifferenceOf : Pair → Goal → Type 0

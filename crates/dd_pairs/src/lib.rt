@@ -1,10 +1,11 @@
-//! Pairs of automata. Queries about images and conjugacies ask where the two automata of a pair differ. Pairs are made once,
-//! when a query is read. The query is refused if they are too large or would take too much work.
+//! Pairs of automata. Queries about images and conjugacies ask where the two automata of a pair differ. The pairs are made when a
+//! query is read, which is refused if they are too large or would take too much work. They are made again when it is answered or
+//! checked.
 #![tactic(auto)]
 
+mod comparisons;
 mod pair;
 mod pairs;
-mod parts;
 
 pub use pair::{Pair, conjugacy, limit_of};
-pub use pairs::{kept_for, pairs_of};
+pub use pairs::{asks_pairs, pairs_of};

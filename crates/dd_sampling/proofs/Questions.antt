@@ -182,7 +182,7 @@ rules_5 = plain_rule hard_meant ∷ plain_rule row_meant ∷ plain_rule dies_mea
 
 -- the script with these queries
 abbrev pub script : List Tile → List Query → Parts
-script tiles queries = record { known = known names_5 (codes "c" ∷ []); rules = rules_5; automata = []; configurations = tiles; queries = queries; pairs = [] }
+script tiles queries = record { known = known names_5 (codes "c" ∷ []); rules = rules_5; automata = []; configurations = tiles; queries = queries }
 
 -- the limit that a query exceeds
 abbrev pub excess_at : List ℕ → ℕ → ℕ → List Tile → List Query → Word × Request → Option Excess

@@ -2,11 +2,12 @@
 use Rattle.std.specs.{Prelude.ℕ, Prelude.◌-◌, Prelude.List, Prelude.Option, Prelude.option_map, List.slice_get, Option.option_and_then}
 use Rattle.dd_boxes.specs.{Goals.breaks, Goals.differ, Goals.always, Views.numbers_of}
 use Rattle.dd_question.specs.{Questions.Asked, Questions.excess_of, declared.excess.Excess.Excess}
-use Rattle.dd_pairs.specs.{Parts.PartOf, Parts.image, Parts.change, Parts.pair_of, Parts.goal_of, Goals.conjugacy_by}
+use Rattle.dd_pairs.specs.{Comparisons.ComparisonOf, Comparisons.image, Comparisons.change, Comparisons.pair_of, Comparisons.goal_of, Goals.conjugacy_by}
 use Rattle.dd_question.specs.Questions as question
 pub use Rattle.dd_pairs.specs.Queries.{of_both, of_three, of_four}
-use Rattle.dd_pairs.specs.Queries.{parts_asked, pairs_of}
-use Rattle.dd_script.specs.Parts.{Parts, LocalRule, Automaton, Query, Pair, Setting}
+use Rattle.dd_pairs.specs.Queries.{comparisons_asked, pairs_of}
+use Rattle.dd_pairs.specs.declared.pair.Pair.{Pair}
+use Rattle.dd_script.specs.Parts.{Parts, LocalRule, Automaton, Query, Setting}
 
 -- whether the automaton maps configurations of the first rule to configurations of the second
 abbrev pub map_question : Setting → LocalRule → LocalRule → Automaton → Asked
@@ -38,9 +39,9 @@ asked s (Query.Discharge rule radius margin vectors) = option_map (λ x. questio
 abbrev pub query_excess : Parts → Query → Option Excess
 query_excess s q = option_and_then (excess_of s.known.limits) (asked s q)
 
--- the box questions of a query, each with the pair of automata that it compares
-abbrev pub parts_for : Parts → Query → List PartOf
-parts_for s q = parts_asked s.rules s.automata q
+-- the comparisons that a query consists of, and the pairs of automata that it asks about
+abbrev pub comparisons_for : Parts → Query → List ComparisonOf
+comparisons_for s q = comparisons_asked s.rules s.automata q
 
 abbrev pub pairs_for : Parts → Query → List Pair
 pairs_for s q = pairs_of s.known.setting s.rules s.automata q

@@ -32,7 +32,12 @@ fn has_topology(commands: &[Written]) -> bool
 }
 
 /// The refusal of the command with this number for this fault.
-fn told(alloc: Global, text: &Text, command: u32, fault: Fault) -> Result<ScriptFault, AllocError>
+fn refusal_for(
+    alloc: Global,
+    text: &Text,
+    command: u32,
+    fault: Fault,
+) -> Result<ScriptFault, AllocError>
     requires { HasFault text.now command (kind_of text.now fault) }
     ensures { IfOk result (IsScriptRefusal text.now) }
 {
@@ -60,15 +65,15 @@ fn walk(alloc: Global, draft: &mut Draft, commands: &[Written]) -> Result<(), Sc
 {
     for written in commands {
         match draft.meaning_of(alloc, written) {
-            Ok((meaning, pairs)) => {
-                draft.add(alloc, meaning, pairs)?;
+            Ok(meaning) => {
+                draft.add(alloc, meaning)?;
                 // This read brings in what the type guarantees.
                 let _symbols = draft.context.known.setting.sets.symbols();
             }
             Err(Refusal::Memory) => return Err(ScriptFault::from(AllocError)),
             Err(Refusal::At(fault)) => {
                 let context = &draft.context;
-                return Err(told(alloc, &context.text, context.number, fault)?);
+                return Err(refusal_for(alloc, &context.text, context.number, fault)?);
             }
         }
     }

@@ -60,7 +60,9 @@ fn first_of(
 /// The value at the origin of the first automaton in the script's first box question.
 fn first_value(alloc: Global, script: &Script, filling: &Filling) -> Result<Option<u32>, Fail> {
     for query in script.queries() {
-        if let Question::Box { premise, goal } = script.question(query).question() {
+        let pairs = script.pairs(alloc, query)?;
+        let question = script.question(query, pairs.as_slice());
+        if let Question::Box { premise, goal } = question.question() {
             return first_of(alloc, premise, &goal, filling);
         }
     }

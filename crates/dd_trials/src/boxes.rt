@@ -213,7 +213,9 @@ fn compared_query(
     radius: u32,
 ) -> Result<([u32; 8], [u32; 8]), Fail> {
     for query in script.queries() {
-        if let Question::Box { premise, goal } = script.question(query).question() {
+        let pairs = script.pairs(alloc, query)?;
+        let question = script.question(query, pairs.as_slice());
+        if let Question::Box { premise, goal } = question.question() {
             return compared(alloc, premise, &goal, radius);
         }
     }

@@ -60,7 +60,9 @@ fn assert_image(
     second: &[u32],
 ) -> Result<(), Fail> {
     for query in script.queries() {
-        if let Question::Box { goal, .. } = script.question(query).question() {
+        let pairs = script.pairs(alloc, query)?;
+        let question = script.question(query, pairs.as_slice());
+        if let Question::Box { goal, .. } = question.question() {
             return assert_images(rt, alloc, script, &goal, first, second);
         }
     }
@@ -76,7 +78,9 @@ fn assert_rounds(
     rounds: (&[u32], &[u32]),
 ) -> Result<(), Fail> {
     for query in script.queries() {
-        if let Question::Conjugacy { conjugacy } = script.question(query).question() {
+        let pairs = script.pairs(alloc, query)?;
+        let question = script.question(query, pairs.as_slice());
+        if let Question::Conjugacy { conjugacy } = question.question() {
             let Conjugacy {
                 round,
                 round_back,

@@ -10,3 +10,5 @@ pub mod Bounds
 pub mod Tori
 -- when the numbers of an answer give a configuration
 pub mod Given
+-- the facts about the goals of a question
+pub mod GoalFacts

@@ -1,10 +1,13 @@
-//! What certificates claim, as the contract of a call that does nothing.
+//! What certificates claim, as the contracts of calls that do nothing.
 ghost use Rattle.dd_boxes.specs.Goals.{IsGoalFor, KeepsRule};
 ghost use Rattle.dd_boxes.specs.Views.{goal_of};
 ghost use Rattle.dd_certificate.specs.declared.answer.Answer.{Answer as AnyAnswer};
 ghost use Rattle.dd_formula.specs.LocalRule.{LocalRule};
 ghost use Rattle.dd_problem.specs.pushing.GoalFacts.{HasGoalFacts};
+ghost use Rattle.dd_question.specs.Questions.{Asked, IsSoundAsked};
+ghost use Rattle.dd_values.specs.declared.limits.Limits.{Limits as AnyLimits};
 ghost use Rattle.dd_verify.specs.Certificates.{IsCertificateOf, ClaimOf};
+ghost use Rattle.dd_verify.specs.GoalFacts.{HaveGoalFacts};
 
 use dd_boxes::Goal;
 use dd_compile::says_its_value;
@@ -67,3 +70,9 @@ pub fn claims_hold(question: &CheckedQuestion)
         }
     }
 }
+
+/// Does nothing. Its contract says of box questions and conjugacies what that of `claims_hold` says. It needs no goals, only the facts
+/// about them.
+pub fn claims_hold_for_goals()
+    ensures { (l : AnyLimits) (k : Asked) (answer : AnyAnswer) → IsSoundAsked l k → HaveGoalFacts k → IsCertificateOf l k answer → ClaimOf k answer }
+{}

@@ -19,4 +19,4 @@ mod witnesses;
 
 pub use answering::check_question;
 pub use configurations::check_periodic;
-pub use laws::claims_hold;
+pub use laws::{claims_hold, claims_hold_for_goals};

@@ -1,4 +1,4 @@
--- Parts made of a script's rules and automata: they are as dd_maps needs them, and the goal of each fits its premise.
+-- Comparisons of a script's rules and automata: dd_maps takes them, and the goal of each fits its premise.
 use Rattle.std.proofs.Common.{◌≡◌, ℕ, List, Bool, refl, sym, subst, ◌∙◌}
 use Rattle.dd_topology.specs.declared.edge.Edge.{Edge}
 use Rattle.dd_boxes.specs.{Goals.IsGoalFor, Views.numbers_of}
@@ -8,7 +8,7 @@ use Rattle.dd_maps.specs.Pairs.{IsRuleOver}
 use Rattle.dd_meanings.specs.Made.{IsRuleOf, IsAutomatonOf}
 use Rattle.dd_question.specs.Questions.{box, IsFormed}
 use Rattle.dd_pairs.specs.declared.pair.Pair.{Pair}
-use Rattle.dd_pairs.specs.Parts.{PartOf, image, change, premise, pair_of, goal_of, IsPartOf, IsPair, difference}
+use Rattle.dd_pairs.specs.Comparisons.{ComparisonOf, image, change, premise, pair_of, goal_of, IsComparisonOf, IsPair, difference}
 
 -- a rule is given by its fields
 with_parts : (r : LocalRule) (d n k : ℕ) (allowed : List (List Bool)) (es : List Edge) → r.dimension ≡ d → r.nodes ≡ n → r.symbols ≡ k → r.allowed ≡ allowed → r.edges ≡ es
@@ -29,14 +29,14 @@ module _ (s : Setting) (sound : IsSetting s) where
   same_numbers : (r : LocalRule) → IsRuleOf s r → numbers_over s.topology s.sets ≡ numbers_of r
   same_numbers r of = rw (of.dimension, of.nodes, of.symbols, sound.alphabet) refl
 
-  pub is_rule : (p : PartOf) → IsPartOf s p → IsRuleOf s (premise p)
+  pub is_rule : (c : ComparisonOf) → IsComparisonOf s c → IsRuleOf s (premise c)
   is_rule (image x f y) of = of.0
   is_rule (change x f g) of = of.0
 
   -- two automata over the script's numbers are a goal that fits the premise
-  pub is_goal : (p : PartOf) (q : Pair) → IsPartOf s p → IsPair s q → IsGoalFor (premise p) (difference (premise p) q)
-  is_goal p q of pair =
-      let same = same_numbers (premise p) (is_rule p of) in
+  pub is_goal : (c : ComparisonOf) (q : Pair) → IsComparisonOf s c → IsPair s q → IsGoalFor (premise c) (difference (premise c) q)
+  is_goal c q of pair =
+      let same = same_numbers (premise c) (is_rule c of) in
       record {
         dimension = refl;
         nodes = refl;
@@ -45,6 +45,6 @@ module _ (s : Setting) (sound : IsSetting s) where
         right = subst (λ n. IsAutomaton n q.right) same pair.right;
       }
 
-  -- the question of the part is well formed
-  pub part_fits : (p : PartOf) → IsPartOf s p → IsPair s (pair_of s p) → IsFormed (box (premise p) (goal_of s p))
-  part_fits p of pair = ((is_rule p of).rule, is_goal p (pair_of s p) of pair, tt)
+  -- the question of the comparison is well formed
+  pub comparison_fits : (c : ComparisonOf) → IsComparisonOf s c → IsPair s (pair_of s c) → IsFormed (box (premise c) (goal_of s c))
+  comparison_fits c of pair = ((is_rule c of).rule, is_goal c (pair_of s c) of pair, tt)
