@@ -146,18 +146,18 @@ asking_row_hard p = question_written p row_hard ∷ asking_hard_row p
 questions_none : (bytes : List ℕ) (p : ℕ) (tiles : List Tile) → Stands bytes p tail_text → NoneFrom bytes 8 tiles (map (question_written p) questions)
 questions_none bytes p tiles stands =
     let seven : NoneFrom bytes 14 tiles (asking_discharge p) =
-    λ qs. question_more bytes 14 p tiles qs discharge_dom [] (no_excess _ _ (discharge_faultless bytes p stands) (discharge_few bytes p stands tiles qs.0)) (λ rs. refl) in
+    λ qs. question_more bytes 14 p tiles qs discharge_dom [] (no_excess _ _ (discharge_faultless bytes p stands) (discharge_few bytes p stands tiles qs)) (λ rs. refl) in
     let six : NoneFrom bytes 13 tiles (asking_density p) =
-    λ qs. question_more bytes 13 p tiles qs density_dom (asking_discharge p) (no_excess _ _ (density_faultless bytes p stands) (density_few bytes p stands tiles qs.0)) seven in
+    λ qs. question_more bytes 13 p tiles qs density_dom (asking_discharge p) (no_excess _ _ (density_faultless bytes p stands) (density_few bytes p stands tiles qs)) seven in
     let five : NoneFrom bytes 12 tiles (asking_zero_dies p) =
-    λ qs. question_more bytes 12 p tiles qs zero_dies (asking_density p) (no_excess _ _ (zero_dies_faultless bytes p stands) (zero_dies_few bytes p stands tiles qs.0)) six in
+    λ qs. question_more bytes 12 p tiles qs zero_dies (asking_density p) (no_excess _ _ (zero_dies_faultless bytes p stands) (zero_dies_few bytes p stands tiles qs)) six in
     let four : NoneFrom bytes 11 tiles (asking_equal p) =
-    λ qs. question_more bytes 11 p tiles qs hard_equals_row (asking_zero_dies p) (no_excess _ _ (equal_faultless bytes p stands) (equal_few bytes p stands tiles qs.0)) five in
+    λ qs. question_more bytes 11 p tiles qs hard_equals_row (asking_zero_dies p) (no_excess _ _ (equal_faultless bytes p stands) (equal_few bytes p stands tiles qs)) five in
     let three : NoneFrom bytes 10 tiles (asking_hard_row p) =
-    λ qs. question_more bytes 10 p tiles qs hard_row (asking_equal p) (no_excess _ _ (hard_row_faultless bytes p stands) (hard_row_few bytes p stands tiles qs.0)) four in
+    λ qs. question_more bytes 10 p tiles qs hard_row (asking_equal p) (no_excess _ _ (hard_row_faultless bytes p stands) (hard_row_few bytes p stands tiles qs)) four in
     let two : NoneFrom bytes 9 tiles (asking_row_hard p) =
-    λ qs. question_more bytes 9 p tiles qs row_hard (asking_hard_row p) (no_excess _ _ (row_hard_faultless bytes p stands) (row_hard_few bytes p stands tiles qs.0)) three in
-    λ qs. question_more bytes 8 p tiles qs member_hard (asking_row_hard p) (no_excess _ _ (member_faultless bytes p stands) (member_few bytes p stands tiles qs.0)) two
+    λ qs. question_more bytes 9 p tiles qs row_hard (asking_hard_row p) (no_excess _ _ (row_hard_faultless bytes p stands) (row_hard_few bytes p stands tiles qs)) three in
+    λ qs. question_more bytes 8 p tiles qs member_hard (asking_row_hard p) (no_excess _ _ (member_faultless bytes p stands) (member_few bytes p stands tiles qs)) two
 
 -- ---- all of them
 
