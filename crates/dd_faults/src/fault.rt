@@ -35,7 +35,7 @@ pub enum Limit {
     Radius,
     /// A quantifier ranges over at most `MOST_BALLS` balls.
     Balls,
-    /// A rule's expansion at a node of the lattice is a tree of at most 20,000 nodes.
+    /// A rule's expansion at a node of the lattice has at most 20,000 parts.
     Instances,
     /// A rule reads at most 16 away along each axis.
     Reach,
