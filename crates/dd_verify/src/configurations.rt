@@ -15,22 +15,8 @@ use dd_boxes::Goal;
 use dd_formula::{Membership, Rule};
 use dd_lattice::{Cell, Position};
 use dd_pattern::Periodic;
+use dd_question::has_allowed;
 use std::alloc::{AllocError, Global};
-
-/// Whether each symbol of the configuration is one that its node allows.
-fn has_allowed(rule: &Rule, periodic: &Periodic) -> bool
-    requires { Fits rule.now periodic.now }
-    ensures { IsTrue result ↔ HasAllowed rule.now periodic.now }
-{
-    let symbols = periodic.symbols();
-    for number in 0..symbols.len() {
-        let cell = periodic.cell_at(number);
-        if !rule.allows(cell.node, symbols[number]) {
-            return false;
-        }
-    }
-    true
-}
 
 /// Whether the configuration lives in the rule's subshift.
 pub(crate) fn lives(rule: &Rule, periodic: &Periodic) -> bool
