@@ -44,8 +44,9 @@ pub fn push_clause(alloc: Global, cnf: &mut Cnf, literals: &[Literal]) -> Result
     cnf.push(Clause::from_literals(alloc, literals)?)
 }
 
-/// Adds the clauses of a gate `And` or `Or`. If `gate` is positive, it is true exactly if all members are true. If it is negative,
-/// it is true exactly if all members are false: so its variable is true exactly if some member is.
+/// Adds the clauses of a gate `And` or `Or`. The literal `gate` is positive for `And`, and negative for `Or`. For `And` the
+/// clauses say that `gate` is true exactly if all members are true. For `Or` they say that `gate` is true exactly if all members
+/// are false, so that the variable of `gate` is true exactly if some member is.
 fn push_and_or(
     alloc: Global,
     cnf: &mut Cnf,
@@ -100,6 +101,7 @@ pub fn push_gate(alloc: Global, cnf: &mut Cnf, variable: u32, gate: &Gate) -> Re
     ensures ok { OnOk result (cnf.new.clauses
         ≡ cnf.old.clauses ++ spec.gate_clauses variable gate.now) }
 {
+    // the literal that the gate is true
     let is_true = Literal {
         variable,
         positive: true,
@@ -134,8 +136,8 @@ pub fn push_gates(
     Ok(())
 }
 
-/// The clauses of a circuit, over its variables (Tseitin 1968). They are satisfied exactly by the values of the circuit, for any
-/// values of its inputs. Fails only if memory runs out.
+/// The clauses of a circuit, over its variables (Tseitin 1968). Any values of the inputs can be extended to a satisfying
+/// assignment in exactly one way: by the values of the gates. Fails only if memory runs out.
 pub fn encode(alloc: Global, circuit: &Circuit) -> Result<Cnf, AllocError>
     ensures exact { IfOk result (λ cnf. cnf ≡ spec.encoded circuit.now) }
     ensures models { IfOk result (λ cnf. HasValuesAsModels circuit.now cnf) }

@@ -45,7 +45,7 @@ impl Chains {
         }
     }
 
-    /// Makes the chains of a clause list, in place of the earlier ones, in their memory.
+    /// Replaces the chains by those of a clause list. The memory is used again.
     fn list(&mut self, cnf: &Cnf) -> Result<(), AllocError>
         ensures { OnOk result (IsListingOf self.new cnf.now.variables cnf.now.clauses) }
     {

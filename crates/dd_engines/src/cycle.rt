@@ -1,8 +1,10 @@
-//! Whether a walk goes round: it is back at earlier values, and its flips pick the same literals again. One earlier
+//! Whether a walk is in a cycle: it is back at earlier values, and its flips pick the same literals again. One earlier
 //! assignment is kept, the landmark. It is replaced each time that the number of flips has doubled (Brent 1980). A count says
-//! in how many variables the present assignment differs from it. A period is a multiple of the length of each clause that was
-//! taken since the landmark. If the number of flips since is a multiple of a period, the flips pick the same literals again.
-//! The lengths of other clauses don't matter.
+//! in how many variables the present assignment differs from it.
+//!
+//! The number of a flip, modulo the length of the clause that it takes, picks the literal. Here a period is a common multiple
+//! of the lengths of the clauses taken since the landmark; it isn't the length of the cycle. If the number of flips since the
+//! landmark is a multiple of a period, the flips pick the same literals again. The lengths of other clauses don't matter.
 ghost use Rattle.std.specs.Prelude.{◌≡◌, ◌*◌, ◌<◌, ◌%◌, true, false, not, length, replicate, slice_set, slice_index_or, IfOk, IfSome};
 ghost use Rattle.dd_engines.specs.walking.Cycles.{IsCounted, IsBack, IsSameOrNew, IsPeriodWith};
 
@@ -33,7 +35,8 @@ impl Landmark {
         })
     }
 
-    /// Counts anew in how many variables the assignments differ, as the value at this place is about to change.
+    /// Adjusts the count of variables in which the assignments differ. The value at this place is about to change: `values`
+    /// are those before.
     pub fn count(&mut self, values: &[bool], place: usize)
         requires within { place < length values.now }
         requires counted { IsCounted self.old values.now }
@@ -48,7 +51,8 @@ impl Landmark {
         }
     }
 
-    /// Whether the walk, after `k` flips, is back in the state that it had at the landmark. `period` is a period, if one is known.
+    /// Whether the walk, after `k` flips, is known to be back in the state that it had at the landmark. `period` is a period of
+    /// the flips since, if one is known.
     pub fn is_back(&self, k: u32, period: Option<u32>) -> bool
         requires { IfSome period (λ t. 0 < t) }
         ensures { result ≡ true → IsBack self.now period k }
@@ -72,8 +76,9 @@ impl Landmark {
         }
     }
 
-    /// A period after flip number `k`, from 0, which takes a clause of this length. `period` is one before this flip. `None` if no
-    /// period is known, or the next is greater than `most`.
+    /// A period of the flips from the landmark to flip number `k`, from 0, which takes a clause of this length. `period` is a
+    /// period of those without flip `k`, if one is known. It isn't used if flip `k` is the first since the landmark. `None` if
+    /// a period was needed and not known, or the new one is greater than `most`: a walk of `most` flips has no use for it.
     pub fn period_with(&self, k: u32, period: Option<u32>, length: usize, most: u32) -> Option<u32>
         requires { IfSome period (λ t. 0 < t) }
         ensures { IfSome result (IsPeriodWith self.now.flips k period length) }

@@ -1,9 +1,12 @@
-//! Unit propagation from no assumptions: a clause with one literal that is not false makes it true, until a clause
-//! has none. Passes over all clauses go on until one changes nothing. A count for each clause says how many of its literals
-//! are not false. When a literal becomes false, each clause that is left with one literal gets a look at once. So the
-//! second pass finds nothing new, and the whole takes linear time. Before this, two passes from the last clause back are
-//! tried without counts. Mostly they find as much: in clauses that are made of gates, each gate stands before the clauses
-//! that use it.
+//! Unit propagation from no assumptions: if all literals of a clause but one are false, the clause makes this one true. It ends
+//! with a conflict, a clause of which all literals are false, or when a pass over all clauses changes nothing.
+//!
+//! A count for each clause says how many of its literals are not false. When a literal becomes false, each clause that is left
+//! with one literal is looked at next. So the second pass finds nothing new, and the whole takes linear time.
+//!
+//! Before this, two passes without counts are tried, from the last clause to the first. Mostly they find as much. For in clauses
+//! that are made of gates, those of a gate stand before the clauses that use the gate. So these passes go from the uses of a
+//! gate to the gate.
 ghost use Rattle.std.specs.Prelude.{◌≡◌, [], List, All, true, length, IfOk, MatchOption};
 ghost use Rattle.dd_clause.specs.Clauses.{IsClauseInRange};
 ghost use Rattle.dd_clause.specs.declared.clause.Literal.{Literal};
@@ -51,7 +54,8 @@ impl Trail {
         })
     }
 
-    /// Looks at a clause, and adds the literal that it makes true, if there is one.
+    /// Looks at a clause, and adds the literal that it makes true, if there is one. Returns what the look finds: the clause
+    /// forces a literal, all its literals are false, or it is open, where neither holds.
     fn look(&mut self, clauses: &[Clause], number: usize) -> Result<Finding, AllocError>
         requires in_range { All (IsClauseInRange (length self.old.values.items)) clauses.now }
         requires follows { Follows clauses.now self.old.entries.items self.old.values.items }
@@ -82,7 +86,7 @@ impl Trail {
     }
 }
 
-/// Looks at each clause, from the last one back, and gives values without entries. Returns whether no clause is falsified.
+/// Looks at each clause, from the last to the first, and gives values without entries. Returns whether no clause is falsified.
 fn pass_back(trail: &mut Trail, clauses: &[Clause]) -> bool {
     for number in (0..clauses.len()).rev() {
         match find(trail, clauses[number].literals()) {
@@ -108,7 +112,8 @@ fn is_settled(trail: &Trail, clauses: &[Clause]) -> bool
     true
 }
 
-/// Whether two passes back find all that follows, and no conflict. If so, no single step refutes the clauses.
+/// Whether two passes from the last clause to the first find all that follows, and no conflict. If so, no single step refutes
+/// the clauses.
 pub fn settles_soon(alloc: Global, cnf: &Cnf) -> Result<bool, AllocError>
     ensures { IfOk result (λ settles. settles ≡ true → (step : _) → IsSingleStep cnf.now step → ⊥) }
 {
@@ -122,7 +127,7 @@ pub fn settles_soon(alloc: Global, cnf: &Cnf) -> Result<bool, AllocError>
 
 /// How far propagation came.
 enum Progress {
-    /// The clause with this number, from 0, has no literal left.
+    /// All literals of the clause with this number, from 0, are false.
     Conflict(usize),
     /// More literals became true.
     More,
@@ -130,7 +135,7 @@ enum Progress {
     Settled,
 }
 
-/// How many literals each clause has left.
+/// How many literals each clause has left, that is, literals that are not false.
 #[derive(Drop)]
 struct Counts<'a> {
     chains: &'a Chains,
@@ -162,6 +167,7 @@ impl<'a> Counts<'a> {
     /// Counts a literal that became false, once for each clause that has it. Clauses that are left with one literal wait.
     fn falsify(&mut self, literal: Literal) -> Result<(), AllocError> {
         let mut at = self.chains.first(literal);
+        // A chain has at most as many links as there are in all.
         for _ in 0..self.chains.links.len() {
             let Some(link) = self.chains.link(at) else {
                 break;

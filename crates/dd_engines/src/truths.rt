@@ -1,6 +1,7 @@
 //! How many literals of each clause are true, and where to look for the first clause that has none. The clauses are
-//! in blocks of 32, by their numbers. A block has a mark if one of its clauses may have no true literal. The mark is made
-//! when a clause loses its last true literal, and removed when a look at the block finds no such clause.
+//! in blocks of 32, by their numbers. A block has a mark if one of its clauses may have no true literal. At the start each
+//! block has a mark. A mark is made when a clause loses its last true literal, and removed when a search of the block finds no
+//! such clause.
 ghost use Rattle.std.specs.Prelude.{◌≡◌, ◌^◌, ◌*◌, ◌<◌, ◌+◌, ◌≤◌, length, map, slice_set, slice_index_or, All, IfOk, MatchOption};
 ghost use Rattle.dd_clause.specs.Clauses.{IsClauseInRange};
 ghost use Rattle.dd_engines.specs.walking.Truths.{IsListed, NoneWithin, IsFirstIn, NoneIsNone, IsFirstNone, changed, more, less, true_count};
@@ -122,7 +123,7 @@ impl Truths {
     }
 }
 
-/// The number of the first clause in the block with a count of 0.
+/// In this block, the number of the first clause whose count is 0.
 #[tactic(auto, using(crate::proofs::Counting::some_at))]
 fn first_in_block(counts: &[usize], block: usize) -> Option<usize>
     requires { 32 * block ≤ length counts.now }
@@ -138,13 +139,13 @@ fn first_in_block(counts: &[usize], block: usize) -> Option<usize>
     None
 }
 
-/// How many of the literals the values make true. The length of the list fits in a count.
+/// How many of the literals the values make true. The contract also says that the list is shorter than 2^64.
 fn count_true(literals: &[Literal], values: &[bool]) -> usize
     requires { IsClauseInRange (length values.now) literals.now }
     ensures value { result ≡ true_count values.now literals.now }
     ensures short { length literals.now < 2 ^ 64 }
 {
-    // This read brings in what the type guarantees.
+    // This read brings in what the type guarantees: the length fits in 64 bits.
     let _length = literals.len();
     let mut count = 0;
     for literal in literals {

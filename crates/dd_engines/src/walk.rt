@@ -1,6 +1,7 @@
 //! A walk through assignments, starting with all variables false. Each flip takes the first clause without a true literal,
-//! and makes one of its literals true. Counts of true literals, and the chains of the clauses of each literal, keep the cost
-//! of a flip to what it changes. If the walk goes round, it ends: no new assignment would come.
+//! and makes one of its literals true. A count for each clause says how many of its literals are true. A chain for each
+//! literal lists the clauses that have it. So a flip visits only the clauses of the literal and of its negation. If the walk
+//! has come into a cycle, it ends: no new assignment would follow.
 ghost use Rattle.std.specs.Prelude.{◌≡◌, ◌+◌, false, length, replicate, IfOk, MatchOption};
 ghost use Rattle.dd_clause.specs.Clauses.{IsLiteralInRange, is_true_under};
 ghost use Rattle.dd_values.specs.Variables.{true_variables};
@@ -16,7 +17,8 @@ use crate::truths::Truths;
 use dd_clause::{Assignment, Clause, Cnf, Literal};
 use std::alloc::{AllocError, Global};
 
-/// Where the walk stands: the values of the variables, and what follows from them for the clauses.
+/// Where the walk stands: the values of the variables, how many literals of each clause they make true, and an earlier
+/// assignment, by which a cycle is noticed.
 #[derive(Drop)]
 struct Walk {
     values: Vec<bool>,
@@ -96,6 +98,7 @@ pub fn first_found(
 {
     let clauses = cnf.clauses();
     let mut walk = Walk::new(alloc, cnf)?;
+    // No clause was taken yet, so 1 is a period, as the module `cycle` defines it.
     let mut period = Some(1);
     for k in 0..flips {
         let Some(number) = walk.first(clauses) else {

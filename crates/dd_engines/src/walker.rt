@@ -14,8 +14,9 @@ use dd_clause::Cnf;
 use std::alloc::{AllocError, Global};
 
 /// Proposes the first satisfying assignment on a walk of a limited number of flips, starting with all variables
-/// false. Flip number k, from 0, takes the first clause without a true literal and makes its literal number k modulo
-/// its length true. If none of these assignments satisfies, or the clause taken is empty, it proposes nothing.
+/// false. Flip number k, from 0, takes the first clause without a true literal. It makes one literal of this clause true:
+/// the one at place `k % n`, from 0, where n is the length of the clause. If none of these assignments satisfies, or a
+/// clause taken is empty, the engine proposes nothing.
 #[derive(Drop)]
 pub struct Walker {
     flips: u32,

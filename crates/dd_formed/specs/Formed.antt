@@ -3,7 +3,7 @@ use Rattle.std.specs.Prelude.{◌≡◌, Option, MatchOption}
 use Rattle.dd_formula.specs.{Automata.CommonNumbers, Automata.IsAutomaton, declared.automaton.Automaton.Automaton}
 use Rattle.dd_formed.specs.declared.automata.CommonNumbers.{CommonNumbers as Given}
 
--- the numbers of contracts, from those of the code
+-- the numbers as definitions hold them, from the record of the code
 abbrev pub numbers_of : Given → CommonNumbers
 numbers_of n = record { dimension = n.dimension; nodes = n.nodes; symbols = n.symbols }
 

@@ -1,5 +1,6 @@
-//! Whether automata are well formed. The test copies the automaton, from its rules upwards. The call that makes a part
-//! tests the part, so there is a copy exactly where the automaton is well formed.
+//! Whether automata are well formed. The test copies the automaton, from its rules upwards. The calls that make the parts of
+//! the copy, `Automaton::given` and `Automaton::composed`, test the limits, and refuse a part that exceeds one. So there is a
+//! copy exactly where the automaton is well formed.
 ghost use Rattle.std.specs.Prelude.{◌≡◌, ◌≢◌, ◌↔◌, ◌&&◌, IsTrue, IfOk, None, nat_lt};
 ghost use Rattle.std.specs.List.{list_all};
 ghost use Rattle.dd_formula.specs.Automata.{IsAutomaton, cases_fit, rule_has};
@@ -29,7 +30,7 @@ fn has_numbers(rule: &Rule, numbers: CommonNumbers) -> bool
         && rule.symbols() == numbers.symbols
 }
 
-/// Whether the case's rule has the numbers, and its symbol is one of the alphabet.
+/// Whether the case's rule has the numbers, and the symbol that the case gives is one of the alphabet.
 fn case_fits(case: &(Rule, u32), numbers: CommonNumbers) -> bool
     ensures { result ≡ (rule_has (numbers_of numbers) case.now.0 && nat_lt case.now.1 numbers.symbols) }
 {
@@ -42,7 +43,7 @@ fn all_cases_fit(cases: &[(Rule, u32)], numbers: CommonNumbers) -> bool
     cases.iter().all(|case| case_fits(case, numbers))
 }
 
-/// Whether all cases fit, and the symbol given otherwise is one of the alphabet.
+/// Whether all cases fit, and the default symbol, for cells where no rule is true, is one of the alphabet.
 fn cases_fit(cases: &Cases, numbers: CommonNumbers) -> bool
     ensures { result ≡ cases_fit (numbers_of numbers) cases.now.cases cases.now.otherwise }
 {
@@ -77,6 +78,7 @@ fn given(
     if !cases_fit(cases, numbers) {
         return Ok(None);
     }
+    // This call needs no memory. It fails only where there are too many instances.
     match Automaton::given(copy_of(alloc, cases)?, numbers.nodes) {
         Ok(automaton) => Ok(Some(automaton)),
         Err(_) => Ok(None),
@@ -134,8 +136,9 @@ fn checked_copy(
 }
 
 /// Whether the automaton is well formed over these numbers:
-/// - There is at least one node. Each rule has the numbers, and each symbol given is one of the alphabet.
-/// - Each part has at most 20,000 instances at each node.
+/// - There is at least one node. Each rule has these numbers, and each symbol that a case gives, or that is given by default,
+///   is one of the alphabet.
+/// - Each part has at most 20,000 instances at each node, as `Automaton::instances` counts them.
 /// - Each part reads nothing further than 16 away along an axis, and nests compositions at most 64 deep.
 ///
 /// The parts are the automaton itself and, in a composition, the parts of both automata.

@@ -1,4 +1,5 @@
-//! Whether formulas are within the limit on depth.
+//! Whether formulas are within the limit on depth. The depth of a formula is the greatest number of connectives and
+//! quantifiers round an atom, where a conjunction or disjunction of fewer than two parts counts for none.
 ghost use Rattle.std.specs.Prelude.{◌≡◌, ◌≤◌, ◌↔◌, IsTrue, nat_le, map};
 ghost use Rattle.std.specs.List.{list_all};
 ghost use Rattle.dd_expansion.specs.Limits.{depth, list_depth, most_nested};
@@ -8,7 +9,7 @@ use dd_expansion::Formula;
 /// The greatest depth of a rule's formula.
 const MOST_NESTED: u32 = 64;
 
-/// Whether the formula is at most 64 deep, as each rule's is. It allocates no memory.
+/// Whether the formula is at most 64 deep. The formula of each rule is. The test allocates no memory.
 pub fn keeps_depth(formula: &Formula) -> bool
     ensures { IsTrue result ↔ (depth formula.now ≤ most_nested) }
 {

@@ -1,4 +1,5 @@
-//! Whether the numbers in formulas name what exists, and keep within limits.
+//! Whether the numbers in formulas name what exists, and terms and balls keep within their limits. The depth has a module of
+//! its own. Here `scope` is a count: the variables in scope have the numbers below it, and number 0 is the free one.
 ghost use Rattle.std.specs.Prelude.{◌≡◌, ◌+◌, ◌<◌, ◌^◌, ◌↔◌, ◌&&◌, IsTrue, All, length, nat_lt};
 ghost use Rattle.std.specs.List.{list_all};
 ghost use Rattle.dd_expansion.specs.Limits.{term_fits, ball_fits, balls_fit, formula_fits, depth, IsFormula};
@@ -7,10 +8,11 @@ use crate::depth::keeps_depth;
 use dd_expansion::{BallOf, Formula, Term};
 use dd_topology::Topology;
 
-/// The greatest number of moves of a term.
+/// The greatest number of moves of a term. A term names a cell: moves, each by its label, lead there from the cell of a
+/// variable.
 const MOST_MOVES: usize = 16;
 
-/// The greatest number of balls of a quantifier.
+/// The greatest number of balls of a quantifier, which ranges over their union.
 const MOST_BALLS: usize = 4;
 
 /// The greatest radius of a ball.
@@ -20,7 +22,7 @@ const WIDEST_RADIUS: u32 = 3;
 #[derive(Drop)]
 struct Language<'a> {
     topology: &'a Topology,
-    /// How many labels the topology has.
+    /// How many labels the topology has. `Topology` has no method for it.
     labels: u32,
     /// How many symbols the alphabet has.
     symbols: u32,
@@ -33,6 +35,7 @@ fn are_below(numbers: &[u32], limit: u32) -> bool
     numbers.iter().all(|&number| number < limit)
 }
 
+/// Whether the ball is round a variable in scope, and not too wide.
 fn ball_fits(scope: u32, ball: &BallOf) -> bool
     ensures { result ≡ ball_fits scope ball.now }
 {
@@ -52,6 +55,7 @@ fn balls_fit(scope: u32, balls: &[BallOf]) -> bool
 }
 
 impl Language<'_> {
+    /// Whether the term's variable is in scope, its moves are few enough, and their labels exist.
     fn term_fits(&self, scope: u32, term: &Term) -> bool
         ensures { result ≡ term_fits self.now.topology.now scope term.now }
     {
@@ -66,8 +70,9 @@ impl Language<'_> {
         self.term_fits(scope, left) && self.term_fits(scope, right)
     }
 
-    /// Whether the formula fits with `scope` variables in scope. The contract speaks of formulas in which fewer than 2^32
-    /// are in scope at a time.
+    /// Whether the formula fits with `scope` variables in scope: each variable, label, node and symbol in it exists, and terms
+    /// and balls are within their limits. The contract says nothing of formulas whose depth, added to `scope`, is 2^32 or more:
+    /// there the count of variables in scope could overflow.
     #[cycle(fits)]
     #[tactic(auto, using(crate::proofs::Layers::fits_layers, crate::proofs::Layers::depth_layers, crate::proofs::Layers::parts_within))]
     fn fits(&self, scope: u32, formula: &Formula) -> bool
@@ -102,6 +107,7 @@ impl Language<'_> {
         ensures { scope + 1 + depth body.now < 2 ^ 32 →
             result ≡ (balls_fit scope balls.now && formula_fits self.now.topology.now self.now.symbols body.now (scope + 1)) }
     {
+        // The count would overflow. The contract says nothing of this case.
         if scope == u32::MAX {
             return false;
         }
@@ -129,7 +135,7 @@ impl Language<'_> {
 /// - It is at most 64 deep. A negation, an implication, an equivalence, a quantifier, and a conjunction or disjunction of
 ///   two parts or more are one deeper than their deepest part.
 ///
-/// It allocates no memory.
+/// The test allocates no memory.
 pub fn is_formula(topology: &Topology, labels: u32, symbols: u32, formula: &Formula) -> bool
     requires { length topology.now.labels ≡ labels }
     ensures { IsTrue result ↔ IsFormula topology.now symbols formula.now }

@@ -95,7 +95,7 @@ gate_law set g (Or members) =
     and_or_law set (literal g false) members ∙ rw (all_opposing set members) (beq-not (set g) (list_any (signal_value set) members))
 gate_law set g (Iff a b) = iff_law set (literal g true) (literal_of a) (literal_of b)
 
--- and the clauses of gates, exactly if all their variables do
+-- the clauses of several gates are satisfied exactly if each gate's variable has the gate's value
 pub gates_law : (set : ℕ → Bool) (n : ℕ) (gs : List Gate) → is_satisfied set (gates_clauses n gs) ≡ agrees set n gs
 gates_law set n [] = refl
 gates_law set n (g ∷ gs) =

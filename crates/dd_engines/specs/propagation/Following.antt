@@ -26,7 +26,7 @@ unknown_count (Some value) = 0
 abbrev pub unknowns : List (Option Bool) → ℕ
 unknowns values = sum_by unknown_count values
 
--- the clauses by number, all of them alive
+-- the clauses by number, none of them deleted
 abbrev pub alive : List (List Literal) → List (Option (List Literal))
 alive clauses = map (λ c. Some c) clauses
 
@@ -65,7 +65,7 @@ Conflicts clauses entries number = IsTrail clauses entries × IsFalsified clause
 abbrev pub IsSettled : List (Option Bool) → List Literal → Type 0
 IsSettled values clause = finding (is_false_by values) clause ≡ Open
 
--- one more value follows
+-- at least one more value follows
 pub record FollowsMore (clauses : List (List Literal)) (values : List (Option Bool)) (new_entries : List Entry) (new_values : List (Option Bool)) : Type 0 where
   pub follows : Follows clauses new_entries new_values
   pub fewer : unknowns new_values < unknowns values

@@ -19,7 +19,7 @@ chain_of links at = along at links at
 abbrev pub AreLinked : List Link → Type 0
 AreLinked links = (k : ℕ) (link : Link) → slice_get links k ≡ Some link → link.next ≤ k
 
--- the links lead back, and each chain begins at one of them
+-- the links lead back, and each chain is empty or begins at one of them
 pub record IsLinked (chains : Chains) : Type 0 where
   pub back : AreLinked chains.links.items
   pub firsts : All (λ at. at ≤ length chains.links.items) chains.firsts.items

@@ -1,4 +1,4 @@
--- When a walk is found to go round.
+-- When a walk is found to be in a cycle.
 use Rattle.std.specs.Prelude.{◌≡◌, ℕ, ◌+◌, ◌-◌, ◌%◌, ◌<◌, ◌≤◌, ◌⊎◌, if◌then◌else◌, Bool, List, [], ◌∷◌, Option, Some, length, IsSomeAnd}
 use Rattle.std.specs.Bool.{beq}
 use Rattle.dd_clause.specs.{declared.clause.Literal.Literal, Clauses.ClauseList}
@@ -10,11 +10,11 @@ differences [] ys = 0
 differences (x ∷ xs) [] = 0
 differences (x ∷ xs) (y ∷ ys) = (if beq x y then 0 else 1) + differences xs ys
 
--- the number is a multiple of the length of each clause that is taken by a flip from number `from` to before number `to`
+-- the number is a positive common multiple of the lengths of the clauses that flips take, from flip `from` to the one before `to`
 abbrev pub IsPeriod : ClauseList → ℕ → ℕ → ℕ → Type 0
 IsPeriod cnf from to period = (0 < period) × ((i : ℕ) (values : List Bool) (clause : List Literal) → from ≤ i → i < to → values_after cnf i ≡ Some values → first_unsatisfied values cnf.clauses ≡ Some clause → 0 < length clause → period % length clause ≡ 0)
 
--- the next period is a multiple of this length, and of the earlier period unless flip number k is the first
+-- the next period is a multiple of this length, and of the earlier period unless flip number k is the first since the landmark
 abbrev pub IsPeriodWith : ℕ → ℕ → Option ℕ → ℕ → ℕ → Type 0
 IsPeriodWith from k period length next = (0 < next) × (0 < length → next % length ≡ 0) × ((from ≡ k) ⊎ IsSomeAnd period (λ t. next % t ≡ 0))
 
