@@ -11,7 +11,7 @@ earliest_front : (xs ys : List Fault) (f : Fault) → earliest xs ≡ Some f →
 earliest_front [] ys f is = absurd cc
 earliest_front (x ∷ xs) ys f is = is
 
--- what is refused for a fault is refused for it even if others follow
+-- what is refused for its first fault is refused for that one even if others follow
 pub refuses_front : (e : Refusal) (xs ys : List Fault) → Refuses e (earliest xs) → Refuses e (earliest (xs ++ ys))
 refuses_front Refusal.Memory xs ys h = tt
 refuses_front (Refusal.At f) xs ys h = earliest_front xs ys f h

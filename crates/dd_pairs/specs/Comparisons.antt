@@ -1,4 +1,4 @@
--- Comparisons: the questions about pairs that queries consist of.
+-- Comparisons: what a query about an image or a conjugacy consists of. Each becomes a question about one pair of automata.
 use Rattle.dd_boxes.specs.{Goals.GoalOf, Goals.differ, Views.numbers_of}
 use Rattle.dd_known.specs.declared.known.Setting.{Setting}
 use Rattle.dd_formula.specs.{LocalRule.LocalRule, Automata.IsAutomaton, ByCases.numbers_over, Values.IsPlaced, declared.automaton.Automaton.Automaton}
@@ -8,11 +8,11 @@ use Rattle.dd_maps.specs.Pairs.{marked, always_zero, identity}
 use Rattle.dd_meanings.specs.Made.{IsRuleOf, IsAutomatonOf}
 use Rattle.dd_pairs.specs.declared.pair.Pair.{Pair}
 
--- a question about the configurations that obey a rule
+-- a question about the configurations that obey a rule, the premise
 pub data ComparisonOf : Type 0 where
-  -- can the image under the automaton break the second rule?
+  -- can the image of a configuration under the automaton break the second rule?
   image : LocalRule → Automaton → LocalRule → ComparisonOf
-  -- can the first automaton, after the second one, give another configuration?
+  -- can the first automaton after the second change a configuration?
   change : LocalRule → Automaton → Automaton → ComparisonOf
 
 -- the rule that the configurations obey
@@ -20,34 +20,35 @@ abbrev pub premise : ComparisonOf → LocalRule
 premise (image x f y) = x
 premise (change x f g) = x
 
--- its rules and automata are those of the script
+-- the comparison's rules and automata have the script's topology, nodes and symbols
 abbrev pub IsComparisonOf : Setting → ComparisonOf → Type 0
 IsComparisonOf s (image x f y) = IsRuleOf s x × IsAutomatonOf s f × IsRuleOf s y
 IsComparisonOf s (change x f g) = IsRuleOf s x × IsAutomatonOf s f × IsAutomatonOf s g
 
--- The pair differs at a cell exactly if the answer there is yes. For an image, `marked` of the second rule gives something other
--- than 0 on the automaton's values. For a change, one automaton after the other gives another symbol than the cell has.
+-- The two automata differ at a cell exactly if the answer there is yes. For an image, the left one is `marked` of the second rule
+-- after the automaton: it gives 0 where the image is allowed and obeys the rule, else 1. For a change, the left one is the first
+-- automaton after the second.
 abbrev pub pair_of : Setting → ComparisonOf → Pair
 pair_of s (image x f y) = record { left = Composed (marked s.topology s.sets y) f; right = always_zero s.topology s.sets }
 pair_of s (change x f g) = record { left = Composed f g; right = identity s.topology s.sets }
 
--- an automaton reads cells of the lattice, and the gates of its value compute the value
+-- the automaton reads only cells of the lattice, and the gates compiled for its value compute that value
 pub record HasGates (f : Automaton) : Type 0 where
   pub placed : IsPlaced f
   pub says : SaysItsValue f
 
--- both automata of a pair do
+-- `HasGates` of both automata of a pair
 pub record HaveGates (p : Pair) : Type 0 where
   pub left : HasGates p.left
   pub right : HasGates p.right
 
--- both automata are well formed over the script's numbers, and as `HasGates` says
+-- both automata are well formed, with the script's dimension and numbers of nodes and symbols, and have gates as above
 pub record IsPair (s : Setting) (p : Pair) : Type 0 where
   pub left : IsAutomaton (numbers_over s.topology s.sets) p.left
   pub right : IsAutomaton (numbers_over s.topology s.sets) p.right
   pub gates : HaveGates p
 
--- the two automata differ, in questions about a rule
+-- the goal that the two automata differ, in a question about a rule
 abbrev pub difference : LocalRule → Pair → GoalOf
 difference x p = differ (numbers_of x) p.left p.right
 

@@ -10,22 +10,22 @@ use Rattle.dd_meanings.specs.Definitions.{count_faults}
 use Rattle.dd_question.specs.{Boxes.is_long, declared.excess.Excess.Excess}
 use Rattle.dd_pairs.specs.Comparisons.{ComparisonOf, image, change, premise, pair_of, goal_of}
 
--- an excess, as one of the script limits
+-- the limit that a question exceeds, as one of the limits on scripts
 abbrev pub limit_of : Excess → Limit
 limit_of Excess.Clauses = Limit.Clauses
 limit_of Excess.Patterns = Limit.Patterns
 limit_of Excess.States = Limit.States
 
--- the formula that says that the second rule holds and the symbol is allowed may be too deep
+-- for an image: the formula that the second rule holds and the symbol is allowed may be too deep
 abbrev pub guard_faults : Setting → ComparisonOf → List Fault
 guard_faults s (image x f y) = over (nat_lt most_nested (guarded_depth s.sets y)) Limit.Depth
 guard_faults s (change x f g) = []
 
--- then the counts of the composition
+-- then the counts of the left automaton, a composition, may exceed their limits
 abbrev pub pair_faults : Setting → ComparisonOf → List Fault
 pair_faults s c = guard_faults s c ++ count_faults s.topology.nodes (counted (pair_of s c).left)
 
--- then the clauses of the question
+-- then the question may take too many clauses
 abbrev pub comparison_faults : Known → ComparisonOf → List Fault
 comparison_faults k c = pair_faults k.setting c ++ over (is_long k.limits (premise c) (goal_of k.setting c)) Limit.Clauses
 

@@ -5,7 +5,7 @@ use Rattle.dd_formula.specs.LocalRule.{LocalRule}
 use Rattle.dd_question.specs.{Conjugacies.ConjugacyOf, Conjugacies.conjugacy_of, declared.conjugacy.Conjugacy.Conjugacy}
 use Rattle.dd_pairs.specs.{declared.pair.Pair.Pair, Comparisons.difference}
 
--- the goal stands for the difference, whatever rule the question is about
+-- the goal says that the automata of the pair differ, whatever rule the question is about
 abbrev pub IsDifferenceOf : Pair → Goal → Type 0
 IsDifferenceOf p g = (x : LocalRule) → goal_of x g ≡ difference x p
 

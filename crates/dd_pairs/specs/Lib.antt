@@ -1,8 +1,8 @@
--- the questions about pairs that queries consist of
+-- comparisons: what a query about an image or a conjugacy consists of
 pub mod Comparisons
 -- the limits that pairs and the questions about them exceed
 pub mod Faults
--- what is made from values of the program
+-- what the program makes from comparisons
 pub mod Made
 -- the goal that the automata of a pair differ
 pub mod Goals

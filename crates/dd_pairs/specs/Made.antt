@@ -1,4 +1,4 @@
--- What is made from comparisons that are values of the program.
+-- What the program makes from comparisons.
 use Rattle.std.specs.{Prelude.◌≡◌, Prelude.List, Prelude.[], Prelude.map, Prelude.Result, Prelude.MatchResult, List.All}
 use Rattle.dd_known.specs.declared.known.{Setting.Setting, Known.Known}
 use Rattle.dd_faults.specs.{declared.fault.Fault.Fault, declared.fault.Refusal.Refusal, Order.Refuses}
@@ -11,13 +11,13 @@ abbrev pub comparison_of : Comparison → ComparisonOf
 comparison_of (comparison.Image premise map target) = image premise.now map.now target.now
 comparison_of (comparison.Change premise outer inner) = change premise.now outer.now inner.now
 
--- the pair of a comparison, which has none of these faults
+-- this is the pair of the comparison; it is well formed, and there are no faults
 pub record IsMade (s : Setting) (c : ComparisonOf) (faults : List Fault) (made : Pair) : Type 0 where
   pub is : made ≡ pair_of s c
   pub formed : IsPair s (pair_of s c)
   pub faultless : faults ≡ []
 
--- the pair is made, or refused for the first fault
+-- the pair is made, or refused for the first of these faults
 abbrev pub Makes : Setting → ComparisonOf → List Fault → Result Pair Refusal → Type 0
 Makes s c faults result = MatchResult result (IsMade s c faults) (λ e. Refuses e (earliest faults))
 
@@ -26,7 +26,7 @@ pub record HavePairs (k : Known) (cs : List ComparisonOf) : Type 0 where
   pub formed : All (λ c. IsPair k.setting (pair_of k.setting c)) cs
   pub faultless : faults_in_order k cs ≡ []
 
--- these are the pairs of comparisons
+-- these are the pairs of the comparisons, and none exceeds a limit
 pub record ArePairs (k : Known) (cs : List ComparisonOf) (made : List Pair) : Type 0 where
   pub are : made ≡ map (pair_of k.setting) cs
   pub sound : HavePairs k cs

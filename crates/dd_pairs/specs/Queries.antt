@@ -44,11 +44,11 @@ comparisons_asked rs fs (Query.Density rule strip) = []
 comparisons_asked rs fs (Query.Least rule periods) = []
 comparisons_asked rs fs (Query.Discharge rule radius margin vectors) = []
 
--- the pairs that it asks about
+-- the pairs that the query asks about
 abbrev pub pairs_of : Setting → List LocalRule → List Automaton → Query → List Pair
 pairs_of s rs fs q = map (pair_of s) (comparisons_asked rs fs q)
 
--- whether it asks about pairs
+-- whether the query asks about pairs
 abbrev pub asks_pairs : Query → Bool
 asks_pairs (Query.Maps f x y) = true
 asks_pairs (Query.Conjugate f g x y) = true

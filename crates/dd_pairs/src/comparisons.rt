@@ -1,16 +1,16 @@
-//! Comparisons: the questions about pairs that queries consist of.
+//! Comparisons. A query about an image or a conjugacy consists of them, and each becomes a question about one pair of automata.
 use dd_formula::{Automaton, Rule};
 
-/// A question about the configurations that obey a premise.
+/// A question about the configurations that obey a rule, the premise.
 #[derive(Clone, Copy)]
 pub(crate) enum Comparison<'a> {
-    /// Can the image under the map break the target?
+    /// Can the image of a configuration under the map break the target?
     Image {
         premise: &'a Rule,
         map: &'a Automaton,
         target: &'a Rule,
     },
-    /// Can the image under `inner` have an image under `outer` that isn't the configuration?
+    /// Can `outer` after `inner` change a configuration?
     Change {
         premise: &'a Rule,
         outer: &'a Automaton,

@@ -1,6 +1,6 @@
-//! Pairs of automata. Queries about images and conjugacies ask where the two automata of a pair differ. The pairs are made when a
-//! query is read, which is refused if they are too large or would take too much work. They are made again when it is answered or
-//! checked.
+//! Pairs of automata. Each question of a query about an image or a conjugacy asks whether the two automata of a pair can differ.
+//! The pairs are made when the query is read. The query is refused if a pair is too large, or the question about it is too long.
+//! The pairs are made again when the query is answered or checked.
 #![tactic(auto)]
 
 mod comparisons;

@@ -8,14 +8,15 @@ use dd_faults::Limit;
 use dd_formula::{Automaton, Rule};
 use dd_question::{Conjugacy, Excess, Question};
 
-/// Two automata. The question is whether they differ somewhere.
+/// Two automata. The question is whether they can differ.
 #[derive(Debug, Drop)]
 pub struct Pair {
     pub left: Automaton,
     pub right: Automaton,
 }
 
-/// Does nothing. Its contract says that the automaton reads cells of the lattice, and that the gates of its value compute the value.
+/// Does nothing. Its contract says that the automaton reads only cells of the lattice, and that the gates compiled for its value
+/// compute that value.
 fn has_gates(automaton: &Automaton)
     ensures { HasGates automaton.now }
 {
@@ -33,7 +34,7 @@ impl Pair {
         ensures value { result ≡ record { left = left; right = right } }
         ensures gates { HaveGates result }
     {
-        // Laws of the two automata.
+        // Both calls bring in laws of the automata.
         has_gates(&left);
         has_gates(&right);
         Pair { left, right }
@@ -74,7 +75,7 @@ pub fn conjugacy<'a>(from: &'a Rule, to: &'a Rule, pairs: &'a [Pair]) -> Conjuga
     }
 }
 
-/// The script limit that a question exceeds.
+/// The limit that a question exceeds, as one of the limits on scripts.
 pub fn limit_of(excess: Excess) -> Limit
     ensures { result ≡ limit_of excess }
 {

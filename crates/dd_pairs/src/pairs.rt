@@ -45,7 +45,8 @@ fn pair(alloc: Global, setting: &Setting, comparison: Comparison) -> Result<Pair
     }
 }
 
-/// The pair that a comparison asks about. Otherwise the first limit that its automata exceed, or the one on clauses.
+/// The pair that a comparison asks about. Otherwise the first limit that its automata exceed; if they exceed none, the limit on
+/// clauses, which the question exceeds.
 fn tested(alloc: Global, known: &Known, comparison: Comparison) -> Result<Pair, Refusal>
     requires sound { IsSound known.now }
     requires two { 2 ≤ length known.now.setting.symbols }
@@ -74,11 +75,12 @@ fn made(alloc: Global, known: &Known, comparisons: &[Comparison]) -> Result<Item
     Ok(pairs)
 }
 
-/// The pairs that a query about these rules and automata asks about, in the order of its questions. There may be none.
+/// The pairs that a query asks about, in the order of its questions. There are none unless it is about an image or a conjugacy.
+/// The query's numbers are indices into `rules` and `automata`.
 ///
 /// # Errors
-/// The first limit that one of its questions exceeds, in order: its pair is too large, or else it takes too many clauses. Or
-/// memory ran out.
+/// The first question that exceeds a limit is refused: its pair is too large; otherwise it takes too many clauses. Or memory ran
+/// out.
 pub fn pairs_of(
     alloc: Global,
     known: &Known,

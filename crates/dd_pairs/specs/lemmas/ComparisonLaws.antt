@@ -1,4 +1,4 @@
--- Comparisons of a script's rules and automata: dd_maps takes them, and the goal of each fits its premise.
+-- Comparisons of a script's rules and automata: `dd_maps` accepts these, and the goal of each comparison fits its premise.
 use Rattle.std.proofs.Common.{◌≡◌, ℕ, List, Bool, refl, sym, subst, ◌∙◌}
 use Rattle.dd_topology.specs.declared.edge.Edge.{Edge}
 use Rattle.dd_boxes.specs.{Goals.IsGoalFor, Views.numbers_of}

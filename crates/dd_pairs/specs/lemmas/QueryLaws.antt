@@ -1,4 +1,4 @@
--- The comparisons of a script's queries are of the script's rules and automata.
+-- The comparisons of a script's queries are about rules and automata of the script.
 use Rattle.std.proofs.Common.{◌≡◌, ℕ, List, [], ◌∷◌, map, false, Option, Some, None, IfSome, refl, arith}
 use Rattle.std.proofs.lemmas.{Grind.common_steps, Option.gets, List.Elements.All-nil, List.Elements.All-cons}
 use Rattle.std.specs.{List.All, List.slice_get, Prelude.unwrap_or}
@@ -9,7 +9,7 @@ use Rattle.dd_query.specs.declared.queries.Query.{Query}
 use Rattle.dd_pairs.specs.Comparisons.{image, change, IsComparisonOf}
 use Rattle.dd_pairs.specs.Queries.{of_three, of_four, map_comparisons, conjugate_comparisons, comparisons_asked, asks_pairs}
 
--- what holds of each named item holds of the item with this index
+-- what holds of each named item holds of the item with this index, if there is one
 pub item_at : {X : Type 0} {P : X → Type 0} {names : List (List ℕ)} {xs : List X} → AreNamed P names xs → (n : ℕ) → IfSome (slice_get xs n) P
 item_at are n = grind (arith, common_steps, gets, are.each n)
 
