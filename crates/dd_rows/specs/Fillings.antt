@@ -6,7 +6,7 @@ use Rattle.dd_pattern.specs.{Reading.Look, Filling.filled, Filling.filling_look}
 use Rattle.dd_formula.specs.LocalRule.{LocalRule, rule_allows, is_true}
 use Rattle.dd_boxes.specs.Fillings.{place_fits}
 
--- the cells' symbols, in the order of the cells
+-- the filling that gives the symbols ss to the cells cs, in order
 abbrev pub look_of : List Cell → List ℕ → Look
 look_of cs ss = filling_look (filled cs ss)
 
@@ -19,11 +19,11 @@ abbrev pub words : LocalRule → List Cell → List (List ℕ)
 words x [] = [] ∷ []
 words x (c ∷ cs) = flat_map (λ s. map (λ ss. s ∷ ss) (words x cs)) (allowed_symbols x c.node)
 
--- whether the rule is true at the cell c, if all cells that it reads there have symbols
+-- whether the rule is true at the cell c, if c and all cells that the rule reads there have symbols
 abbrev pub is_true_if_it_fits : LocalRule → Look → Cell → Bool
 is_true_if_it_fits x look c = not (place_fits x look c) || is_true x c look
 
--- Whether this holds at each of the cells. At any other cell, the cell itself has no symbol.
+-- Whether this holds at each of the cells. It holds at any other cell, since that cell has no symbol itself.
 abbrev pub is_admissible : LocalRule → List Cell → List ℕ → Bool
 is_admissible x cs ss = list_all (is_true_if_it_fits x (look_of cs ss)) cs
 

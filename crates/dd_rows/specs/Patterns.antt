@@ -10,15 +10,15 @@ pub use Rattle.dd_boxes.specs.Boxes.{origin}
 use Rattle.dd_boxes.specs.Cells.{box_cells}
 use Rattle.dd_rows.specs.Fillings.{look_of, fillings}
 
--- the symbols of the box when it is moved to the position p
+-- the pattern around the position p: the symbols of the box moved to p
 abbrev pub pattern_at : List Cell → Look → Place → List ℕ
 pattern_at box look p = map (λ c. unwrap_or (look (shifted p c)) 0) box
 
--- the patterns around the positions from which the origin receives; along the vector v this is -v
+-- The patterns around the positions from which the origin receives. Along the vector v it receives from -v.
 abbrev pub givers : List Cell → List Place → Look → List (List ℕ)
 givers box vs look = map (λ v. pattern_at box look (reversed v)) vs
 
--- the pattern around the origin, and these
+-- the pattern around the origin, then those around the positions from which it receives
 abbrev pub patterns_in : List Cell → List Place → Look → List (List ℕ)
 patterns_in box vs look = pattern_at box look origin ∷ givers box vs look
 

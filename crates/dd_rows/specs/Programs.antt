@@ -1,6 +1,6 @@
--- The program of a rule along some vectors: how much each position holds at least, after each has given along each vector
--- an amount that its pattern determines. Column 0 is how much each position holds at least. Then there is a column for each
--- vector and each pattern: the amount.
+-- The program of a rule along some vectors. Each position gives along each vector an amount that its pattern determines.
+-- Column 0 is how much each position then holds at least. After it there is a column for each vector and each pattern: the
+-- amount that is given along this vector by this pattern.
 use Rattle.std.specs.Prelude.{ℕ, ◌+◌, ◌*◌, ◌<◌, ◌≤◌, ◌≡◌, ◌⊎◌, Bool, ◌&&◌, cond, pos, ◌-ℤ◌, ℤ, List, [], ◌∷◌, ◌++◌, map, length, replicate, unwrap_or}
 use Rattle.std.specs.{Bool.nat_eq, Ordering.int_eq, List.fold, List.flat_map, List.list_any, List.range_with_len}
 use Rattle.std.specs.Cmp.Lexicographic.{pointwise}
@@ -17,12 +17,13 @@ use Rattle.dd_boxes.specs.{Cells.box_cells, Boxes.origin}
 abbrev pub one_at : ℕ → ℕ → ℤ
 one_at k n = pos (cond (nat_eq k n) 1 0)
 
--- 1 for column 0. Then, for each vector and pattern, 1 if the origin gives by this pattern, less 1 if it receives by it.
+-- 1 for column 0. Then, for each vector and pattern, 1 if the origin gives by this pattern, less 1 if it receives by it. The
+-- origin gives by the pattern `out` along every vector. `ins` has, for each vector, the pattern by which it receives.
 abbrev pub coefficients : List (List ℕ) → List ℕ → List (List ℕ) → List ℤ
 coefficients ps out ins =
     pos 1 ∷ flat_map (λ q. map (λ k. one_at k (pattern_number ps out) -ℤ one_at k (pattern_number ps q)) (range_with_len 0 (length ps))) ins
 
--- the weight of the origin's position
+-- the weight of the origin, over all its nodes
 abbrev pub origin_weight : LocalRule → List ℕ → Look → ℕ
 origin_weight x ws look = total_weight ws (map (λ a. unwrap_or (look (cell origin a)) 0) (range_with_len 0 x.nodes))
 
@@ -32,7 +33,7 @@ row_of x ws radius vs ps look =
     let box = box_cells x radius in
     record { coefficients = coefficients ps (pattern_at box look origin) (givers box vs look); bound = origin_weight x ws look }
 
--- no position holds more than the heaviest can
+-- the first row: column 0 is at most the greatest weight that a position can have
 abbrev pub greatest_weight_row : LocalRule → List ℕ → List Place → List (List ℕ) → Row
 greatest_weight_row x ws vs ps = record { coefficients = pos 1 ∷ replicate (length vs * length ps) (pos 0); bound = x.nodes * greatest ws }
 

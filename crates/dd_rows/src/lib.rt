@@ -1,6 +1,7 @@
-//! The linear program of a discharge. Each position has the weight of its symbols, and gives along each of some vectors an
-//! amount that depends on the pattern around it. The program asks how much every position then holds at least. This crate
-//! makes its domain, the admissible fillings of the domain, and the patterns and distinct rows that they show.
+//! The linear program of a discharge. Each position first holds the weight of its symbols. Along each of some vectors it gives
+//! an amount that depends on the pattern around it. The program seeks amounts with which the least that any position then
+//! holds is as great as possible. This crate makes the program. It lists the cells around the origin that matter, and their
+//! admissible fillings. From these come the patterns that they show, and the distinct rows that they require.
 #![tactic(auto, using(std::proofs::lemmas::Grind::common_steps))]
 
 mod domain;

@@ -12,7 +12,7 @@ use dd_numbered::{Numbered, Numbers, rank};
 use dd_values::Items;
 use std::alloc::{AllocError, Global};
 
-/// Numbers the cells around the position `at` by their indices in `cells`, which is in cell order.
+/// Gives numbers to cells that are named relative to the position `at`: their indices in `cells`, which is in cell order.
 #[derive(Drop)]
 struct Near<'a> {
     cells: &'a [Cell],

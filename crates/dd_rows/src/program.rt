@@ -51,7 +51,7 @@ fn add_patterns(
     Ok(())
 }
 
-/// The patterns that the fillings show. It stops once there are too many columns.
+/// The patterns that the fillings show. The call stops once there are too many columns.
 fn all_patterns(
     alloc: Global,
     fillings: &[Items<u32>],
@@ -113,8 +113,8 @@ fn add_row(rows: &mut IndexSet<SparseRow>, row: SparseRow) -> Result<(), RowsFau
     Ok(())
 }
 
-/// The distinct rows that the fillings require. The first row says that no position holds more than the heaviest can. It
-/// stops once there are too many rows.
+/// The distinct rows that the fillings require, after a first row. This says that column 0 is at most `heaviest`, the greatest
+/// weight that a position can have. The call stops once there are too many rows.
 fn distinct_rows(
     alloc: Global,
     fillings: &[Items<u32>],
@@ -200,7 +200,7 @@ fn program_listed(
     })
 }
 
-/// The same program, made from the fillings whose views show something new.
+/// The same program, made faster: repeated fillings are left out first.
 fn program_shown(
     alloc: Global,
     fillings: &[Items<u32>],

@@ -19,7 +19,7 @@ fn symbol_at(symbols: &[u32], number: usize) -> u32
     }
 }
 
-/// Whether the two fillings have the same symbols at these numbers.
+/// Whether the two fillings have the same symbols at the cells with these numbers.
 fn are_same(one: &[u32], other: &[u32], numbers: &[usize]) -> bool
     ensures { IsTrue result → symbols_at one.now numbers.now ≡ symbols_at other.now numbers.now }
 {
@@ -33,7 +33,7 @@ fn are_same(one: &[u32], other: &[u32], numbers: &[usize]) -> bool
     true
 }
 
-/// Whether the two fillings have the same symbols at the numbers of each list.
+/// Whether the two fillings have the same symbols at the cells with the numbers of each list.
 fn are_all_same(one: &[u32], other: &[u32], lists: &[Items<usize>]) -> bool
     ensures { IsTrue result → map (symbols_at one.now) lists.now ≡ map (symbols_at other.now) lists.now }
 {
@@ -58,7 +58,7 @@ fn show_alike(one: &[u32], other: &[u32], views: &Views) -> bool
     are_all_same(one, other, views.givers.as_slice())
 }
 
-/// Whether the views show the same in the last of the fillings.
+/// Whether the views show the same in the last of the fillings `shown` as in the filling `symbols`.
 fn ends_alike(shown: &[Items<u32>], symbols: &[u32], views: &Views) -> bool
     ensures { IsTrue result → EndsAlike views.now shown.now symbols.now }
 {

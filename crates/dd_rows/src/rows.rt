@@ -2,7 +2,8 @@
 use dd_values::Items;
 
 /// A row: the sum of coefficient times column is at most the bound. Column 0 is how much each position holds at least. Then
-/// there is a column for each vector and pattern: the amount given along the vector. They are listed vector by vector.
+/// there is a column for each vector and pattern: the amount that a position with this pattern around it gives along the
+/// vector. These columns are listed vector by vector.
 #[derive(Debug, Drop)]
 pub struct Row {
     pub coefficients: Items<i64>,

@@ -31,8 +31,8 @@ fn write_symbol(longer: &mut Vec<u32>, symbol: u32) -> Result<(), AllocError>
     Ok(())
 }
 
-/// Appends to `next` the symbols with one more, for each symbol that the node allows and with which the formulas are true.
-/// The lists are first written to `longer`.
+/// Appends to `next` the list `symbols` with one more symbol at its end, for each such symbol that the node allows and with
+/// which the formulas are true. Each list is first written to `longer`.
 fn extend(
     alloc: Global,
     rule: &Rule,
@@ -110,7 +110,7 @@ fn last_numbers(alloc: Global, rule: &Rule, cells: &[Cell]) -> Result<Vec<usize>
     Ok(numbers)
 }
 
-/// The greatest among the number of the cell and those of the cells that the rule reads there.
+/// The last number of one cell.
 fn last_number(rule: &Rule, cells: &[Cell], cell: &Cell) -> usize
     requires ascending { IsStrictlySortedBy cell_cmp cells.now }
     requires node { cell.now.node < rule.now.nodes }
@@ -143,7 +143,7 @@ pub(crate) fn number_of_read(cells: &[Cell], cell: &Cell, read: &Cell) -> usize
     }
 }
 
-/// So many empty lists.
+/// A list of `count` empty lists.
 fn empty_lists(alloc: Global, count: usize) -> Result<Vec<Items<Cell>>, AllocError>
     ensures { IfOk result (λ lists. lists.items ≡ map (chosen [] []) (range_with_len 0 count)) }
 {
@@ -154,7 +154,7 @@ fn empty_lists(alloc: Global, count: usize) -> Result<Vec<Items<Cell>>, AllocErr
     Ok(lists)
 }
 
-/// For each number `k` below the length of the list, the cells `i` with `numbers[i] == k`.
+/// For each number `k` below the length of the list, the cells `cells[i]` with `numbers[i] == k`.
 fn places_by_number(
     alloc: Global,
     numbers: &[usize],

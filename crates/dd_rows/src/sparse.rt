@@ -1,4 +1,5 @@
-//! Rows in a sparse form. Along each vector at most two of a row's coefficients are not 0, so few numbers tell rows apart.
+//! Rows in a sparse form. Along each vector at most two of a row's coefficients are not 0, so a few numbers
+//! describe a row.
 ghost use Rattle.std.specs.Prelude.{◌≡◌, ◌++◌, ◌∷◌, [], pos, None, replicate, length, map, IfOk, OnOk};
 ghost use Rattle.dd_pattern.specs.Weight.{total_weight};
 ghost use Rattle.dd_rows.specs.Patterns.{pattern_number};
@@ -11,7 +12,7 @@ use crate::views::Views;
 use dd_values::Items;
 use std::alloc::{AllocError, Global};
 
-/// The numbers of two different patterns: that by which the origin gives along a vector, and that by which it receives.
+/// The numbers of two different patterns: the one by which the origin gives along a vector, and the one by which it receives.
 #[derive(Clone, Copy, PartialEq, Eq, Hash)]
 pub(crate) struct Exchange {
     gives: usize,
@@ -36,7 +37,7 @@ fn exchange_between(gives: usize, receives: usize) -> Option<Exchange>
     }
 }
 
-/// The number of the pattern that the filling shows at these numbers. The pattern is written to `seen`.
+/// The number of the pattern that the filling shows at the cells with these numbers. The pattern is written to `seen`.
 fn number_seen(
     symbols: &[u32],
     numbers: &[usize],
@@ -68,7 +69,7 @@ pub(crate) fn exchanges(
     Ok(list)
 }
 
-/// The coefficient of the pattern with this number along the vector of the exchange.
+/// The coefficient of the pattern with the number `pattern`, along the vector of the exchange.
 fn entry(exchange: &Option<Exchange>, pattern: usize) -> i64
     ensures { result ≡ entry exchange.now pattern }
 {

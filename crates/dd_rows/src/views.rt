@@ -25,7 +25,7 @@ const ORIGIN: Position = Position { x: 0, y: 0, z: 0 };
 /// The numbers of the cells that a row reads. A list of such numbers is a view: it shows a part of a filling.
 #[derive(Drop)]
 pub(crate) struct Views {
-    /// The cells of the origin's position.
+    /// The cells at the origin, one for each node.
     pub(crate) centre: Items<usize>,
     /// The cells of the box around the origin.
     pub(crate) origin: Items<usize>,
@@ -33,7 +33,7 @@ pub(crate) struct Views {
     pub(crate) givers: Items<Items<usize>>,
 }
 
-/// The numbers of the cells of the box around the position `at`.
+/// The numbers of the cells of the box around the position `at`. `boxed` lists the cells of the box around the origin.
 fn view(
     alloc: Global,
     cells: &[Cell],
@@ -73,7 +73,7 @@ fn givers(
     Ok(givers)
 }
 
-/// The numbers of the cells of the origin's position.
+/// The numbers of the cells at the origin.
 fn centre(alloc: Global, cells: &[Cell], nodes: u32) -> Result<Items<usize>, AllocError>
     requires ascending { IsStrictlySortedBy cell_cmp cells.now }
     ensures { IfOk result (λ numbers. numbers ≡ centre_of cells.now nodes) }

@@ -6,7 +6,7 @@ use Rattle.dd_numbered.specs.{declared.numbered.Numbered.Numbered, Numbered.hold
 use Rattle.dd_formula.specs.LocalRule.{LocalRule, is_true}
 use Rattle.dd_rows.specs.Fillings.{look_of}
 
--- the number of a cell that is given relative to v; none past the range of positions
+-- the number of a cell that is named relative to v; there is none past the range of positions
 abbrev pub ranks_near : List Cell → Place → Numbering
 ranks_near cs v = seen (by_rank cs) v
 

@@ -19,7 +19,7 @@ AreInRange cs = All (λ c. IsInRange c.position) cs
 abbrev pub last_number : LocalRule → List Cell → Cell → ℕ
 last_number x cs c = greatest (rank cs c ∷ map (λ d. rank cs (shifted c.position d)) (cells_at x c.node))
 
--- the cells at which the rule can be tested once the cell with the number k has a symbol, and not before
+-- the cells at which the rule can first be tested once the cell with the number k has a symbol
 abbrev pub settled : LocalRule → List Cell → ℕ → List Cell
 settled x cs k = filter (λ c. nat_eq (last_number x cs c) k) cs
 
@@ -36,14 +36,14 @@ is_true_if_given x look c = not (is_given x c look) || is_true x c look
 abbrev pub are_true : LocalRule → List Cell → List Cell → List ℕ → Bool
 are_true x cs places ss = list_all (is_true_if_given x (look_of cs ss)) places
 
--- the lists of the symbols ss and one more below n, for each that the node allows and with which the test is passed
+-- ss with one more symbol at its end, for each symbol below n that the node a allows and with which the list passes the test
 abbrev pub extended_below : LocalRule → (List ℕ → Bool) → ℕ → List ℕ → ℕ → List (List ℕ)
 extended_below x test a ss n = filter test (map (λ s. ss ++ s ∷ []) (filter (rule_allows x a) (range_with_len 0 n)))
 
 abbrev pub extended : LocalRule → (List ℕ → Bool) → ℕ → List ℕ → List (List ℕ)
 extended x test a ss = extended_below x test a ss x.symbols
 
--- lists of symbols of the alphabet, one for each of the cells
+-- a list of n symbols of the alphabet
 pub record IsWord (x : LocalRule) (n : ℕ) (ss : List ℕ) : Type 0 where
   pub size : length ss ≡ n
   pub below : All (λ s. s < x.symbols) ss

@@ -10,7 +10,7 @@ use Rattle.dd_rows.specs.listing.Views.{symbols_at}
 abbrev pub exchange_of : ℕ → ℕ → Option Exchange
 exchange_of gives receives = cond (nat_eq gives receives) None (Some (record { gives = gives; receives = receives }))
 
--- the coefficient of the pattern with the number k
+-- the coefficient of the pattern with the number k, along the vector of the exchange
 abbrev pub entry : Option Exchange → ℕ → ℤ
 entry None k = pos 0
 entry (Some e) k = one_at k e.gives -ℤ one_at k e.receives
@@ -22,7 +22,7 @@ entries patterns e = map (entry e) (range_with_len 0 patterns)
 abbrev pub dense : ℕ → SparseRow → Row
 dense patterns r = record { coefficients = pos 1 ∷ flat_map (entries patterns) r.exchanges.items; bound = r.bound }
 
--- two different numbers of patterns, or none
+-- The numbers of two different patterns, or none. A pattern that isn't in the list has the length of the list as its number.
 abbrev pub IsExchange : ℕ → Option Exchange → Type 0
 IsExchange patterns None = Unit {0}
 IsExchange patterns (Some e) = (e.gives ≤ patterns) × (e.receives ≤ patterns) × (e.gives ≡ e.receives → ⊥)

@@ -8,7 +8,7 @@ use Rattle.dd_rows.specs.declared.views.Views.{Views}
 use Rattle.dd_boxes.specs.{Cells.box_cells, Boxes.origin}
 use Rattle.dd_numbered.specs.Numbering.{rank}
 
--- the view of the box around p
+-- the view of the box around p, where `box` lists the cells of the box around the origin
 abbrev pub view_of : List Cell → List Cell → Place → List ℕ
 view_of cs box p = map (λ c. rank cs (shifted p c)) box
 
@@ -16,7 +16,7 @@ view_of cs box p = map (λ c. rank cs (shifted p c)) box
 abbrev pub givers_of : List Cell → List Cell → List Place → List (List ℕ)
 givers_of cs box vs = map (λ v. view_of cs box (reversed v)) vs
 
--- the numbers of the cells of the origin's position
+-- the numbers of the cells at the origin
 abbrev pub centre_of : List Cell → ℕ → List ℕ
 centre_of cs nodes = map (λ a. rank cs (cell origin a)) (range_with_len 0 nodes)
 
