@@ -4,7 +4,7 @@ use Rattle.std.specs.Prelude.{◌≡◌, ℕ, ◌-◌, ◌^◌, ◌≤◌, ◌<�
 use Rattle.std.specs.{declared.option.Option.Option, Io.KnownBytes.Appends, Io.KnownBytes.Consumes, Io.KnownBytes.IsAtEnd}
 use Rattle.std.proofs.Common.{arith}
 
--- A prefix of the text was written.
+-- A prefix of the text was written: `gained`. The rest is `missing`.
 pub record GainsFront (old new : Option (List ℕ)) (text : List ℕ) : Type 0 where
   pub gained : List ℕ
   pub missing : List ℕ

@@ -22,7 +22,7 @@ source_failing source = source.plan.failing.items
 abbrev pub source_calls : MemorySource → ℕ
 source_calls source = source.plan.calls
 
--- How many of them failed.
+-- How many calls of the source failed.
 abbrev pub source_faults : MemorySource → ℕ
 source_faults source = capped source.plan.faults
 
@@ -46,6 +46,6 @@ sink_failing sink = sink.plan.failing.items
 abbrev pub sink_calls : MemorySink → ℕ
 sink_calls sink = sink.plan.calls
 
--- How many of them failed.
+-- How many calls of the sink failed.
 abbrev pub sink_faults : MemorySink → ℕ
 sink_faults sink = capped sink.plan.faults

@@ -1,4 +1,4 @@
-//! Why a read or a write failed.
+//! The errors of reads and writes.
 ghost use Rattle.std.specs.Prelude.{◌≡◌};
 ghost use Rattle.dd_outside.specs.declared.faults.ReadAllFault.TheVariants.{ReadFault, Memory};
 

@@ -6,14 +6,14 @@ use crate::sink::Sink;
 use crate::source::Source;
 use std::alloc::{AllocError, Global};
 
-// Which calls are to fail, and what has happened so far.
+// Which calls are to fail, how many were made, and how many failed.
 #[derive(Drop)]
 struct Plan {
     // The numbers of the calls that are to fail.
     failing: Vec<u64>,
     // How many calls were made.
     calls: u64,
-    // How many calls failed.
+    // How many calls failed. Both counts stop at 2^64 - 1.
     faults: u64,
 }
 
@@ -85,7 +85,8 @@ impl MemorySource {
     }
 }
 
-// Copies the bytes from `at` on, at most `step` of them, to the start of `into`, and moves `at` past them.
+// Copies the bytes from `at` on, at most `step` of them, to the start of `into`. Moves `at` past them, and returns how many
+// they are.
 pub(crate) fn give(bytes: &[u8], at: &mut usize, step: usize, into: &mut [u8]) -> usize
     requires in_range { at.old ≤ length bytes.now }
     requires moves { 0 < step }
@@ -182,7 +183,8 @@ impl MemorySink {
     }
 }
 
-// Copies a prefix of the piece, at most `step` bytes, to `room` after the first `taken` bytes, and counts it in `taken`.
+// Copies a prefix of the piece, at most `step` bytes, to `room` after the first `taken` bytes. Adds its length to `taken`, and
+// returns it.
 fn take_in(room: &mut [u8], taken: &mut usize, step: usize, piece: &[u8]) -> usize
     requires { taken.old ≤ length room.old }
     ensures count { result ≡ min step (min (length piece.now) (length room.old - taken.old)) }

@@ -33,7 +33,7 @@ pub trait Sink {
 /// Writes a whole piece, in as many writes as it takes. An empty piece makes no write.
 ///
 /// # Errors
-/// `WriteFault` if a write failed. A prefix of the piece, which may be empty, was written before.
+/// `WriteFault` if a write failed. By then a prefix of the piece was written, which may be empty.
 pub fn write_whole<K: Sink>(sink: &mut K, piece: &[u8]) -> Result<(), WriteFault>
     ensures whole { OnOk result (Appends (K.held sink.old) (K.held sink.new) piece.now) }
     ensures front { OnErr result (GainsFront (K.held sink.old) (K.held sink.new) piece.now) }

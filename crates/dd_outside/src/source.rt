@@ -40,7 +40,7 @@ fn buffer_of(alloc: Global, size: usize) -> Result<Vec<u8>, AllocError>
     vec![in alloc; 0; size]
 }
 
-// Reads once into `buffer`, and appends what was read to `bytes`.
+// Reads once into `buffer`, appends what was read to `bytes`, and returns how many bytes were read.
 fn read_on<S: Source>(
     source: &mut S,
     buffer: &mut [u8],
@@ -65,7 +65,7 @@ fn read_on<S: Source>(
 /// # Errors
 /// - `ReadFault` if a read failed. The bytes read before are lost.
 /// - `TooLong` if the source gave more bytes than the limit.
-/// - `Memory` if memory ran out. This may come before either of the other two is found.
+/// - `Memory` if memory ran out. Then it stays open whether the source would have given one of the other two.
 pub fn read_all<S: Source>(
     alloc: Global,
     source: &mut S,
@@ -75,7 +75,7 @@ pub fn read_all<S: Source>(
     ensures bytes { IfOk result (λ bytes. ReadToEnd (S.left source.old) (S.left source.new) bytes.items) }
     ensures fits { IfOk result (λ bytes. length bytes.items ≤ limit) }
 
-    // Unless memory runs out, `TooLong` comes exactly if the source gives more bytes than the limit.
+    // Unless memory runs out, the result is `TooLong` exactly if the source gives more bytes than the limit.
     ensures too_long { IsErrOf result ReadAllFault.TooLong → GivesMore (S.left source.old) (S.left source.new) limit }
     ensures stopped { IsErrOf result ReadAllFault.ReadFault → GivesAtMost (S.left source.old) (S.left source.new) limit }
     ensures refused { OnErr result (GivesAtMost (S.left source.old) (S.left source.new) (limit + 1)) }

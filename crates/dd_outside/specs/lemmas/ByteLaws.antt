@@ -29,7 +29,7 @@ front_after a b c before text so_far more = record {
   whole = ap (λ (l : List ℕ). before ++ l) more.whole ∙ sym (append_assoc before more.gained more.missing);
 }
 
--- after `bytes`, at most `room` more were read
+-- after `bytes`, at most `room` more were read, so at most `limit` in all
 pub gave_few_more : (a b c : Option (List ℕ)) (bytes : List ℕ) (room limit : ℕ) → Consumes a b bytes → GivesAtMost b c room → length bytes + room ≤ limit → GivesAtMost a c limit
 gave_few_more a b c bytes room limit so_far more fits = record {
   given = bytes ++ more.given;
@@ -49,7 +49,7 @@ read_on_consumes a b c before after count so_far read =
 pub length_take_at_most : (n : ℕ) (l : List ℕ) → length (take n l) ≤ n
 length_take_at_most n l = omega (arith, length-take {A = ℕ})
 
--- the next `n` bytes were copied to the start of a slice
+-- the next `n` bytes were copied to the start of a slice whose other bytes are `rest`
 pub gave : (bytes copied rest : List ℕ) (at n : ℕ) → copied ≡ take (at + n - at) (drop at bytes) → length copied ≡ n → drop at bytes ≡ take n (copied ++ rest) ++ drop (at + n) bytes
 gave bytes copied rest at n copy long =
     let same : at + n - at ≡ n = omega arith in
