@@ -1,4 +1,5 @@
--- The output that the bytes are the text of. If there is none, how many of them some output begins with.
+-- The output whose text the bytes are, or their offset if there is none. The offset is the length of their longest prefix with
+-- which an output begins.
 use Rattle.std.specs.Prelude.{◌≡◌, ℕ, ◌<◌, ◌≤◌, List, ◌++◌, length, take, Result, Ok, Err}
 use Rattle.dd_output.specs.declared.{output.Output.Output, fault.CertificateFault.CertificateFault}
 use Rattle.dd_output.specs.{Outputs.output_text, Outputs.IsWritableOutput, Outputs.IsWellFormed, reading.Whole.completion}
@@ -15,7 +16,8 @@ abbrev pub IsOutputFault : List ℕ → CertificateFault → Type 0
 IsOutputFault bytes faults.Memory = Unit {0}
 IsOutputFault bytes (faults.Malformed offset) = (IsWellFormed bytes → ⊥) × IsOffset bytes offset
 
--- The only output with this text. If there is none, the offset of the bytes, or that memory ran out.
+-- What reading the bytes gives: the only output with this text, or a fault. A fault is the offset of the bytes if there is no
+-- output, or that memory ran out.
 abbrev pub ReadsOutput : List ℕ → Result Output CertificateFault → Type 0
 ReadsOutput bytes (Ok o) = IsWritableOutput o × (bytes ≡ output_text o)
 ReadsOutput bytes (Err fault) = IsOutputFault bytes fault

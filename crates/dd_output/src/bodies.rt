@@ -1,4 +1,5 @@
-//! Reads the lines of an answer, without the query's number.
+//! Reads the lines of an answer, without the query's number. A `YES` is an answer whose text begins with this word, and so for the
+//! other kinds.
 ghost use Rattle.std.specs.Prelude.{◌≡◌, ◌≤◌, IfOk};
 ghost use Rattle.dd_certificate.specs.Bounds.{most_number};
 ghost use Rattle.dd_output.specs.reading.Stops.{Gives, number_at, many_at, copies};
@@ -298,7 +299,7 @@ fn bound_of(alloc: Global, bytes: &[u8]) -> Result<(Answer, &[u8]), ReadFault>
     ))
 }
 
-// ---- any answer
+// ---- OUT, IN and any answer
 
 /// An `OUT`.
 #[tactic(auto, unfolding(crate::specs::reading::Grammar::outside_row))]

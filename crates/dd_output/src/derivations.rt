@@ -12,7 +12,7 @@ use dd_derivation::Step;
 use dd_values::Items;
 use std::alloc::Global;
 
-/// Where the lists of a step are gathered before each is copied at its length. All steps share these buffers.
+/// Buffers for the lists of a step. Each list is gathered here, and then copied to a list of its own. All steps share the buffers.
 #[derive(Drop)]
 struct Buffers {
     literals: Vec<Literal>,

@@ -5,7 +5,7 @@ ghost use Rattle.dd_output.specs.declared.fault.ReadFault.TheVariants.{Memory};
 use std::alloc::{AllocError, AllocFailed};
 use thiserror::Error;
 
-/// Why an output could not be read.
+/// Why a whole output could not be read.
 #[derive(Clone, Copy, Debug, PartialEq, Eq, Error)]
 pub enum CertificateFault {
     /// The bytes are no output. Some output begins with this many of them, and none with one more.

@@ -17,7 +17,7 @@ pub fn read_again()
     ensures { (o : Output) (read : Result Output CertificateFault) → IsWritableOutput o → ReadsOutput (output_text o) read → (read ≡ Ok o) ⊎ (read ≡ Err faults.Memory) }
 {}
 
-/// Does nothing. Its contract says that at most one offset fits the bytes: `Malformed` has no choice.
+/// Does nothing. Its contract says that at most one offset fits the bytes, so they determine that of `Malformed`.
 pub fn one_offset()
     ensures { (bytes : List ℕ) (m n : ℕ) → IsOffset bytes m → IsOffset bytes n → m ≡ n }
 {}

@@ -4,10 +4,10 @@ ghost use Rattle.dd_output.specs.reading.Stops.{Gives, is_digit, goes_on, starts
 
 use crate::fault::ReadFault;
 
-/// A number below this one fits in 64 bits with one more digit.
+/// A number below this one still fits in 64 bits with one more digit.
 const SHORT: u64 = 1 << 60;
 
-/// Whether the bytes begin with this one.
+/// Whether the first of the bytes is this one.
 pub(crate) fn begins(bytes: &[u8], first: u8) -> bool
     ensures { result ≡ begins first bytes.now }
 {
@@ -73,8 +73,8 @@ fn starts(low: u64, bound: u64, byte: u8) -> bool
     is_digit(byte) && (low <= u64::from(byte - b'0') && u64::from(byte - b'0') <= bound)
 }
 
-/// The number with this first digit, the byte that ends it, and the bytes after that. `end` and `other` are the bytes that can
-/// end it.
+/// The rest of a number whose first digit was read before. Returns the whole number, the byte that ends it, and the bytes after
+/// that. `end` and `other` are the bytes that can end it.
 fn digits_at(
     bytes: &[u8],
     bound: u64,

@@ -110,8 +110,8 @@ pub(crate) fn numbers_until<'a>(
     }
 }
 
-/// The byte that ends the number with this index, from 0, in a line of as few numbers as allowed, `least`: a space, or a line feed
-/// after the last one.
+/// The byte that ends the number with this index, from 0, in the shortest line allowed. That line has `least` numbers. The byte is a
+/// space, or a line feed after the last one.
 pub(crate) fn end_at(least: u64, index: u64) -> u8
     ensures { result ≡ end_at least index }
 {
@@ -122,7 +122,8 @@ pub(crate) fn end_at(least: u64, index: u64) -> u8
     }
 }
 
-/// The byte that ends it in a line of as many numbers as allowed: a space, or a line feed after the last one.
+/// The byte that ends the number with this index, from 0, in the longest line allowed. That line has `most` numbers, or has no end if
+/// `most` is `None`. The byte is a space, or a line feed after the last one.
 pub(crate) fn other_at(most: Option<u64>, index: u64) -> u8
     ensures { result ≡ other_at most index }
 {

@@ -26,7 +26,7 @@ use std::alloc::Global;
 /// The greatest length of an output that is read, in bytes.
 pub const MOST_OUTPUT: usize = 268_435_456;
 
-/// The words before the answer to the query with this index, from 0.
+/// The text before an answer: `query`, a space, the query's number, and a space. The number is the index plus 1.
 fn query_word(alloc: Global, index: u64) -> Result<Vec<u8>, ReadFault>
     requires { index < most_commands }
     ensures value { IfOk result (λ word. word.items ≡ query_text index) }
@@ -39,7 +39,8 @@ fn query_word(alloc: Global, index: u64) -> Result<Vec<u8>, ReadFault>
     Ok(word)
 }
 
-/// An answer, or nothing at the end. The query with this index is one that an output may have.
+/// The answer to the query with this index, from 0, or `None` for the end. The index is below the most queries that an output may
+/// have.
 #[tactic(auto, unfolding(crate::specs::reading::Whole::open_entry))]
 fn open_entry(alloc: Global, index: u64, bytes: &[u8]) -> Result<(Option<Answer>, &[u8]), ReadFault>
     requires { index < most_commands }
@@ -56,7 +57,7 @@ fn open_entry(alloc: Global, index: u64, bytes: &[u8]) -> Result<(Option<Answer>
     }
 }
 
-/// An answer, or nothing at the end. After the last query that an output may have, only the end can follow.
+/// The same for any index. After the last query that an output may have, only the end can follow.
 #[tactic(auto, unfolding(crate::specs::reading::Whole::answer_entry))]
 fn answer_entry(
     alloc: Global,
@@ -119,7 +120,7 @@ fn output_of(alloc: Global, bytes: &[u8]) -> Result<(Output, &[u8]), ReadFault>
     Ok((Output { script, answers }, rest))
 }
 
-/// An output that is all of the bytes.
+/// An output. No bytes may be left after it.
 #[tactic(auto, unfolding(crate::specs::reading::Whole::all_at))]
 fn all_of(alloc: Global, bytes: &[u8]) -> Result<Output, ReadFault>
     ensures { Gives (λ x. x) result (all_at bytes.now) }

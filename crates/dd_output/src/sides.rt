@@ -1,4 +1,5 @@
-//! Reads the periods of a configuration, the shear that may follow two or three of them, and the side before them.
+//! Reads the periods of a configuration, the shear that may follow two or three of them, and the side that may come before them.
+//! The side says which of the two rules of an equality the configuration obeys.
 ghost use Rattle.std.specs.Prelude.{◌≡◌};
 ghost use Rattle.dd_output.specs.reading.Stops.{Gives};
 ghost use Rattle.dd_output.specs.reading.Periods.{period_at, shear_at, period_entry, periods};
@@ -11,7 +12,7 @@ use dd_certificate::Side;
 use dd_values::{Items, MOST_NUMBER};
 use std::alloc::Global;
 
-/// An entry of the periods' line: what follows a space.
+/// An entry of the line of periods, with what comes after it.
 #[derive(Clone, Copy, Debug)]
 pub(crate) enum PeriodEntry {
     /// A period, and a space after it.
@@ -34,7 +35,7 @@ fn period_at(bytes: &[u8]) -> Result<(PeriodEntry, &[u8]), ReadFault>
     }
 }
 
-/// The shear, with its word before it.
+/// The shear, after the word `shear`.
 fn shear_at(bytes: &[u8]) -> Result<(PeriodEntry, &[u8]), ReadFault>
     ensures { Gives (λ x. (period_seen x.0, x.1.now)) result (shear_at bytes.now) }
 {
@@ -82,7 +83,7 @@ pub(crate) fn periods_of(alloc: Global, bytes: &[u8]) -> Result<(Items<u64>, u64
     }
 }
 
-/// The side, if there is one, and then the periods and the shear.
+/// The side, and then the periods and the shear. The side is `Whole` if none is written.
 #[tactic(auto, unfolding(crate::specs::reading::Grammar::side_and_periods))]
 pub(crate) fn side_and_periods_of(
     alloc: Global,

@@ -1,4 +1,4 @@
-//! Reads patterns from which cells may be left out. Each is a line, with a star for each cell that is left out.
+//! Reads patterns from which cells may be left out. Each pattern is a line, with a star for each cell that is left out.
 ghost use Rattle.std.specs.Prelude.{◌≡◌, ◌-◌, [], None, suc};
 ghost use Rattle.dd_certificate.specs.Bounds.{most_number};
 ghost use Rattle.dd_output.specs.reading.Stops.{Gives, number_at, many_at, copies};
@@ -128,7 +128,7 @@ fn patterns_of(
     Ok((patterns, rest))
 }
 
-/// A `MINIMAL`.
+/// A `MINIMAL` answer.
 #[tactic(auto, unfolding(crate::specs::reading::Grammar::minimal_row))]
 pub(crate) fn minimal_of(alloc: Global, bytes: &[u8]) -> Result<(Answer, &[u8]), ReadFault>
     ensures { Gives (λ x. (x.0, x.1.now)) result (grammar.minimal_row.read bytes.now) }

@@ -109,14 +109,14 @@ right_and_refutations = both (number 0 most_number 10) (both refutation refutati
 unfoldable pub yes_row : Form Answer
 yes_row = mapped yes_of (after (codes "YES ") (forked most_number refutation right_and_refutations))
 
--- after `NO`
+-- `NO`, after these two letters
 unfoldable pub no_row : Form Answer
 no_row = mapped no_of (after (codes " ") (both side_and_periods (after (codes "conf ") (numbers 1 None))))
 
 unfoldable pub unknown_row : Form Answer
 unknown_row = mapped unknown_of (after (codes "UNKNOWN ") reason_word)
 
--- after the `L` of `LIST`
+-- `LIST`, after its `L`
 unfoldable pub list_row : Form Answer
 list_row = mapped list_of (after (codes "IST ") (counted 0 most_number pattern))
 
@@ -132,7 +132,7 @@ empty_row = mapped empty_of (after (codes "EMPTY\nranks ") (numbers 1 None))
 unfoldable pub amounts_and_duals : Form (List ℕ × List ℕ)
 amounts_and_duals = after (codes "amounts") (both amounts (after (codes "duals ") (numbers 1 None)))
 
--- after the `B` of `BOUND`
+-- `BOUND`, after its `B`
 unfoldable pub bound_row : Form Answer
 bound_row = mapped bound_of (after (codes "OUND ") (both fraction (after (codes "denominator ") (both (number 1 most_number 10) amounts_and_duals))))
 
@@ -158,7 +158,7 @@ conjugate_row = mapped conjugate_of (after (codes "CONJUGATE ") (both (numbers 4
 abbrev pub broken_of : ℕ × ((List ℕ × ℕ) × List ℕ) → Answer
 broken_of x = answer.Broken x.0 x.1.0.0 x.1.0.1 x.1.1
 
--- after the `B` of `BROKEN`
+-- `BROKEN`, after its `B`
 unfoldable pub broken_row : Form Answer
 broken_row = mapped broken_of (after (codes "ROKEN ") (both (number 1 4 32) (both periods (after (codes "conf ") (numbers 1 None)))))
 
@@ -174,7 +174,7 @@ some_weight = both (number 1 most_number 10) (both (after (codes "conf ") (numbe
 abbrev pub least_of : ℕ × (List ℕ × List Step) → Answer
 least_of x = answer.Least x.0 x.1.0 x.1.1
 
--- after the `L` of `LEAST`
+-- `LEAST`, after its `L`
 unfoldable pub least_row : Form Answer
 least_row = mapped least_of (after (codes "EAST ") (either 48 zero_weight some_weight))
 

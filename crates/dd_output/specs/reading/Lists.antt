@@ -20,7 +20,7 @@ entry_of n = item n.0
 abbrev pub ended : {A : Type 0} → Unit {0} → Entry A (Unit {0})
 ended u = last u
 
--- a variable; the end of the list must follow at some time
+-- a variable; the text that completes it ends the list
 abbrev pub variable_at : List ℕ → Read (ℕ × ℕ)
 variable_at bytes = before (48 ∷ 32 ∷ []) (number_at 1 most_variables 32 32 nothing bytes)
 

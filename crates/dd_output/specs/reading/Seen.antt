@@ -1,4 +1,4 @@
--- What the values that the code returns stand for.
+-- Which entries of the grammar the values that the code returns stand for.
 use Rattle.std.specs.Prelude.{ℕ, ℤ, Option, Some, None, Bool, cond}
 use Rattle.dd_clause.specs.declared.clause.Literal.{Literal}
 use Rattle.dd_certificate.specs.declared.answer.Answer.{Answer}

@@ -19,7 +19,7 @@ abbrev pub ◌>>=◌ : {A B : Type 0} → Result A Stop → (A → Result B Stop
 (Ok x) >>= f = f x
 (Err s) >>= f = Err s
 
--- a reader that this text has to follow: if it stops, the text is missing too
+-- a reader after which this text has to come: if it stops, the text is missing too
 abbrev pub before : {A : Type 0} → List ℕ → Result A Stop → Result A Stop
 before text (Ok x) = Ok x
 before text (Err s) = Err (stop s.left (s.missing ++ text))
@@ -29,7 +29,7 @@ abbrev pub StoppedAt : {A : Type 0} → ℕ → Result A Stop → Type 0
 StoppedAt count (Ok x) = ⊥
 StoppedAt count (Err s) = length s.left ≡ count
 
--- memory ran out, or reading stops there
+-- memory ran out, or reading stops with as many bytes left as the fault says
 abbrev pub Fails : {A : Type 0} → ReadFault → Result A Stop → Type 0
 Fails faults.Memory read = Unit {0}
 Fails (faults.Stopped count) read = StoppedAt count read
@@ -39,7 +39,7 @@ abbrev pub Gives : {X A : Type 0} → (X → A) → Result X ReadFault → Resul
 Gives view (Ok x) read = read ≡ Ok (view x)
 Gives view (Err e) read = Fails e read
 
--- this word
+-- the word w
 abbrev pub word_at : List ℕ → List ℕ → Read (Unit {0})
 word_at [] bytes = Ok (tt, bytes)
 word_at (w ∷ word) [] = Err (stop [] (w ∷ word))
@@ -53,7 +53,8 @@ is_digit b = nat_le 48 b && nat_le b 57
 abbrev pub goes_on : ℕ → ℕ → ℕ → Bool
 goes_on bound n b = is_digit b && (nat_lt 0 n && nat_le (n * 10 + (b - 48)) bound)
 
--- The number whose digits so far have the value n, and the byte that ends it. `after` is the least text that follows a number.
+-- The number whose digits so far have the value n, and the byte that ends it: one of `end` and `other`. `after` gives the least text
+-- that has to follow a number and its end.
 abbrev pub digits_at : ℕ → ℕ → ℕ → (ℕ → List ℕ) → ℕ → List ℕ → Read (ℕ × ℕ)
 digits_at bound end other after n [] = Err (stop [] (end ∷ after n))
 digits_at bound end other after n (b ∷ bytes) =
@@ -115,7 +116,7 @@ abbrev pub until_at : {A B : Type 0} → (ℕ → List ℕ → Read (Entry A B))
 until_at entry k zero bytes = Err (stop bytes [])
 until_at entry k (suc fuel) bytes = entry k bytes >>= next_at (until_at entry (suc k) fuel)
 
--- the same without a limit: there are no more entries than bytes
+-- the same without `fuel`: there are no more entries than bytes
 abbrev pub entries_at : {A B : Type 0} → (ℕ → List ℕ → Read (Entry A B)) → ℕ → List ℕ → Read (List A × B)
 entries_at entry k bytes = until_at entry k (suc (length bytes)) bytes
 

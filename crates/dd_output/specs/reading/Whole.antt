@@ -14,13 +14,13 @@ answer_entry_of a = item a
 abbrev pub query_text : ℕ → List ℕ
 query_text k = codes "query " ++ (decimal (suc k) ++ codes " ")
 
--- An answer or the end, where an output may have one more query. 113 is the q of `query`.
+-- The answer with index k, from 0, or the end, for an index that an output may have. 113 is the q of `query`.
 unfoldable pub open_entry : ℕ → List ℕ → Read (Entry Answer (Unit {0}))
 open_entry k = choice_at 113
     (map_at answer_entry_of (after_at (query_text k) (codes "IN\n" ++ end_line) (λ bytes. before end_line (answer_form.read bytes))))
     (map_at ended (word_at end_line))
 
--- the answer with index k, from 0, or the end
+-- the same for any index: after the last one that an output may have, only the end can follow
 unfoldable pub answer_entry : ℕ → List ℕ → Read (Entry Answer (Unit {0}))
 answer_entry k bytes = cond (nat_lt k most_commands) (open_entry k bytes) (map_at ended (word_at end_line) bytes)
 
@@ -43,7 +43,7 @@ head_text = codes "diddy 1\nscript "
 unfoldable pub output_at : List ℕ → Read Output
 output_at = map_at output_of (after_at head_text (48 ∷ 10 ∷ 10 ∷ end_line) (then_at script_at (λ _. answers_at)))
 
--- an output that is all of the bytes
+-- an output with no bytes left after it
 unfoldable pub all_at : List ℕ → Result Output Stop
 all_at bytes = output_at bytes >>= λ x. cond (length x.1 == 0) (Ok x.0) (Err (stop x.1 []))
 
@@ -51,6 +51,6 @@ abbrev pub missing_of : Result Output Stop → List ℕ
 missing_of (Ok o) = []
 missing_of (Err s) = s.missing
 
--- A text that completes what can be read of these bytes: the whole is a well-formed output.
+-- A text that completes what can be read of these bytes to a well-formed output.
 abbrev pub completion : List ℕ → List ℕ
 completion bytes = missing_of (all_at bytes)
