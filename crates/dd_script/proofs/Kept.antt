@@ -23,11 +23,11 @@ last_of_header = stage Head.Limits
 abbrev pub IsReady : ℕ → Parts → Type 0
 IsReady place s = place ≤ last_of_header → IsFresh s
 
--- the default weights 0, 1, .. are at most 1,000
+-- the default weights 0, 1, .. are at most 1,000, as there are at most 1,001 of them
 light_range : (n : ℕ) → n ≤ 1001 → All (λ w. w ≤ 1000) (range_with_len 0 n)
 light_range n le = λ i d lt. omega (arith, le, length-range_with_len 0 n, get_or-range_with_len 0 n i d)
 
--- if the first of two options that is there is None, the second is None
+-- if neither of two options is there, the second is not there
 second_none : {X Y : Type 0} (o : Option Y) (f : X → Y) (p : Option X) → option_or o (option_map f p) ≡ None → p ≡ None
 second_none o f p e = grind arith
 

@@ -35,11 +35,11 @@ module _ (d : Draft) (w : Written) (m : Meaning) (none : first_fault (written_fa
 
 -- ---- the commands
 
--- the first fault from here on, and the script that the remaining commands lead to
+-- the first fault of the remaining commands, and the script that they lead to
 abbrev rest_of : Draft → List Written → Option Located × Parts
 rest_of d ws = (first_from d.context.text d.context.has_topology d.context.number (parts_of d) ws, after_all d.context.text d.context.has_topology d.context.number (parts_of d) ws)
 
--- i commands are read, without a fault; so the rest has the first fault of the whole text, and leads to the whole script
+-- i commands are read, without a fault; so the first fault of the rest is that of the whole text, and the rest leads to the script
 pub record Sofar (text : List ℕ) (ws : List Written) (i : ℕ) (d : Draft) : Type 0 where
   pub from : ℕ
   pub left : List (List Lexeme)
@@ -70,7 +70,7 @@ module _ (text : List ℕ) (ws : List Written) (i : ℕ) (d : Draft) (w : Writte
   here : (sofar.from ≤ stage_of w) × (left : List (List Lexeme)) × AreCommands text (stage_after w) left (drop (i + 1) ws)
   here = next_one text sofar.from sofar.left w (drop (i + 1) ws) (rw split at sofar.are)
 
-  -- `rest_of`, if this is the first fault of the command at i
+  -- `rest_of` before the command at i, if that command has this first fault
   abbrev rest_with : Option Fault → Option Located × Parts
   rest_with found =
       let rest = rest_of (with_meaning d (meant d w)) (drop (i + 1) ws) in (option_or (option_map (located d.context.number) found) rest.0, rest.1)

@@ -7,10 +7,11 @@ use Rattle.dd_script.specs.Walk.{with, context, asked_fault, comparisons_in, mea
 use Rattle.dd_meanings.specs.Sound.{IsSoundMeaning}
 use Rattle.dd_pairs.specs.Made.{HavePairs}
 
+-- the script after the commands read so far
 abbrev pub parts_of : Draft → Parts
 parts_of d = parts d.context.known d.made
 
--- the draft at the command with the number n
+-- the draft before the command with the number n
 abbrev pub draft_of : List ℕ → Bool → ℕ → Parts → Draft
 draft_of text topology n s =
     record {
@@ -35,7 +36,7 @@ pub record Means (d : Draft) (w : Written) (m : Meaning) : Type 0 where
   pub pairs : HavePairs d.context.known (comparisons_in (parts_of d) m)
   pub counted : d.context.number ≤ most_commands
 
--- the command that is not well formed, or memory ran out
+-- the fault names the command that is not well formed, or says that memory ran out
 abbrev pub IsUnread : SyntaxFault → ScriptFault → Type 0
 IsUnread SyntaxFault.Memory e = e ≡ record { command = 0; kind = ScriptKind.Memory }
 IsUnread (SyntaxFault.At n) e = e ≡ record { command = n; kind = ScriptKind.Syntax }

@@ -7,12 +7,13 @@ use Rattle.dd_pairs.specs.Made.{HavePairs}
 use Rattle.dd_script.specs.Parts.{Parts, Query}
 pub use Rattle.dd_script.specs.Questions.{query_excess, comparisons_for}
 
--- it names what exists, its numbers and vectors are within their bounds, and neither its pairs nor its question exceeds a limit
+-- the query names what exists; its numbers and vectors are within their bounds; neither its pairs nor its question exceeds a limit
 pub record IsQueryOf (s : Parts) (q : Query) : Type 0 where
   pub within : IsQueryWithin s.known q
   pub pairs : HavePairs s.known (comparisons_for s q)
   pub within_limits : query_excess s q ≡ None
 
+-- what holds of a script with these parts
 pub record IsScriptOf (s : Parts) : Type 0 where
   -- the numbers of nodes and symbols, the weights and the limits are in range and agree
   pub known : IsSound s.known

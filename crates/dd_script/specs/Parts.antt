@@ -6,8 +6,8 @@ pub use Rattle.dd_known.specs.declared.{known.Setting.Setting, known.Known.Known
 pub use Rattle.dd_query.specs.declared.queries.Query.{Query}
 use Rattle.dd_script.specs.declared.script.Made.{Made}
 
--- What a script says of cells and names; its rules, automata and configurations, in the order of their definitions; and its queries
--- in order.
+-- A script, as a value of specs. `known` holds what it says of cells, and its names, weights and limits. The rules, automata and
+-- configurations are in the order of their definitions, and the queries in the order in which they are asked.
 pub record Parts : Type 0 where
   pub known : Known
   pub rules : List LocalRule

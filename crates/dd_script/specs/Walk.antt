@@ -45,7 +45,7 @@ with bytes s (Meaning.Query query) = record s { queries = s.queries ++ query ∷
 abbrev pub context : List ℕ → Bool → ℕ → Parts → Context
 context bytes topology n s = record { text = bytes; has_topology = topology; number = n; known = s.known }
 
--- the query, if it is one
+-- the query, if the command is one
 abbrev pub query_in : Meaning → Option Query
 query_in (Meaning.Topology g) = None
 query_in (Meaning.Nodes nodes given g) = None
@@ -58,27 +58,30 @@ query_in (Meaning.Automaton name automaton) = None
 query_in (Meaning.Configuration name configuration) = None
 query_in (Meaning.Query query) = Some query
 
--- the first limit that the query's pairs or the questions about them exceed; otherwise the limit that its own question exceeds
+-- the first limit that the query's pairs or the questions about them exceed; otherwise the limit that the query's own question
+-- exceeds
 abbrev pub query_fault : Parts → Query → Option Fault
 query_fault s q = option_or (earliest (faults_in_order s.known (comparisons_for s q))) (option_map (λ e. Fault.Size (limit_of e)) (query_excess s q))
 
+-- the same for a command, if it is a query
 abbrev pub asked_fault : Parts → Meaning → Option Fault
 asked_fault s m = option_and_then (query_fault s) (query_in m)
 
--- the comparisons that it consists of, if it is a query
+-- the comparisons that the command consists of, if it is a query
 abbrev pub comparisons_in : Parts → Meaning → List ComparisonOf
 comparisons_in s m = unwrap_or (option_map (comparisons_for s) (query_in m)) []
 
 abbrev pub meaning_at : List ℕ → Bool → ℕ → Parts → Written → Meaning
 meaning_at bytes topology n s w = meaning_of (context bytes topology n s) s.automata w.command
 
--- The first fault of the command's text; otherwise the first limit on counts that is exceeded; otherwise the limit that the
--- query's question exceeds.
+-- The first fault of the command's text; otherwise the first limit on counts that is exceeded; otherwise, for a query, the limit
+-- that what it asks exceeds.
 abbrev pub fault_of : List ℕ → Bool → ℕ → Parts → Written → Option Fault
 fault_of bytes topology n s w =
     option_or (first_fault (written_faults (context bytes topology n s) w))
     (option_or (first_fault (counted_sizes (context bytes topology n s) s.automata w.command)) (asked_fault s (meaning_at bytes topology n s w)))
 
+-- the script after this command
 abbrev pub next : List ℕ → Bool → ℕ → Parts → Written → Parts
 next bytes topology n s w = with bytes s (meaning_at bytes topology n s w)
 
@@ -100,7 +103,7 @@ abbrev pub after_all : List ℕ → Bool → ℕ → Parts → List Written → 
 after_all bytes topology n s [] = s
 after_all bytes topology n s (w ∷ ws) = after_all bytes topology (n + 1) (next bytes topology n s w) ws
 
--- whether its stage is that of a topology command
+-- whether the command gives a topology: then it has the stage of a topology command
 abbrev pub is_topology : Written → Bool
 is_topology w = stage_of w == stage Head.Topology
 

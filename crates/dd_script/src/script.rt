@@ -11,7 +11,7 @@ use dd_values::{Boxed, Items, Limits};
 use std::alloc::{AllocError, Global};
 use std::marker::Model;
 
-/// What the commands after the header define and ask, in order.
+/// What the commands define and ask, in order.
 #[derive(Drop)]
 pub(crate) struct Made {
     pub(crate) rules: Items<Rule>,
@@ -20,7 +20,7 @@ pub(crate) struct Made {
     pub(crate) queries: Items<Query>,
 }
 
-/// All that a script says: of cells and names, and what it defines and asks.
+/// All that a script says. `known` holds what it says of cells, and its names, weights and limits; `made` what it defines and asks.
 #[derive(Drop)]
 pub(crate) struct Contents {
     pub(crate) known: Known,
@@ -28,9 +28,9 @@ pub(crate) struct Contents {
 }
 
 /// A script: its topology, nodes, symbols, weights and limits, what it defines, and what it asks. Its numbers are in range. What it
-/// defines has its dimension, nodes and symbols. It exceeds no limit.
+/// defines has the script's dimension, nodes and symbols. The script exceeds no limit.
 ///
-/// It is small: what it holds is on the heap.
+/// A value of this type is small: its contents are on the heap.
 #[derive(Drop)]
 pub struct Script {
     pub(crate) contents: Boxed<Contents>,
@@ -106,7 +106,7 @@ impl Script {
         self.contents.get().known.weights.as_slice()
     }
 
-    /// The limits of the search for its answers.
+    /// The limits of the search for answers.
     pub fn limits(&self) -> &Limits
         ensures value { result.now ≡ self.now.known.limits }
         ensures kept { IsScriptOf self.now }
@@ -176,8 +176,8 @@ impl Script {
         }
     }
 
-    /// What a query of the script asks, of any kind. The rules, automata and configurations stand in place of their indices; `pairs`
-    /// are the query's. It has the script's limits, and the script's weights if it weighs configurations. It takes no memory.
+    /// What a query of the script asks, with rules, automata and configurations in place of their indices. `pairs` are those of the
+    /// query. The question has the script's limits; if it weighs configurations, it has the script's weights. Nothing is allocated.
     pub fn question<'a>(&'a self, query: &'a Query, pairs: &'a [Pair]) -> CheckedQuestion<'a>
         requires query { Contains self.now.queries query.now }
         requires pairs { pairs.now ≡ pairs_for self.now query.now }
@@ -190,12 +190,12 @@ impl Script {
         CheckedQuestion::known(question, *self.limits())
     }
 
-    /// Does nothing; its contract says that what the queries ask is sound.
+    /// Does nothing. Its contract says that what the queries ask is well formed and exceeds no limit.
     pub fn sound_questions(&self)
         ensures { AreSound self.now }
     {
         sound_questions();
-        // This read brings in what the type guarantees.
+        // This call brings in the invariant of the type.
         let _limits = self.limits();
     }
 }
