@@ -1,5 +1,5 @@
 -- What certifies a bound, in whole numbers over a common denominator. Column 0 of a program is what each position holds at
--- least, and each other column is an amount. Duals show that no other amounts hold more.
+-- least, and each other column is an amount. The duals show that no other amounts hold more.
 use Rattle.std.specs.Prelude.{ℕ, zero, suc, ◌+◌, ◌*◌, ◌/◌, ◌%◌, ◌<◌, ◌≤◌, ◌≡◌, ℤ, pos, ◌+ℤ◌, ◌*ℤ◌, ◌≤ℤ◌, List, [], length, slice_index, slice_index_or}
 use Rattle.dd_fraction.specs.Exact.{IsLowest}
 use Rattle.dd_rows.specs.declared.rows.Row.{Row}
@@ -43,7 +43,7 @@ pub record AreDualsOver (rows : List Row) (columns common : ℕ) (duals : List �
   pub first : pos common ≤ℤ column_sum rows duals 0
   pub others : (j : ℕ) → 1 ≤ j → j < columns → pos 0 ≤ℤ column_sum rows duals j
 
--- the bound over the common denominator
+-- the numerator of the bound over the common denominator
 abbrev pub held_over : Bound → ℕ
 held_over b = b.numerator * (b.common / b.denominator)
 
@@ -57,7 +57,7 @@ pub record IsCertifiedBound (rows : List Row) (columns : ℕ) (b : Bound) : Type
   pub duals : AreDualsOver rows columns b.common b.duals
   pub equal : dual_worth rows b.duals ≡ pos (held_over b)
 
--- no amounts over any common denominator hold more than p / q
+-- no amounts that meet the rows hold more than p / q, whatever their common denominator
 abbrev pub HoldAtMost : List Row → ℕ → ℕ → ℕ → Type 0
 HoldAtMost rows columns p q =
     (common : ℕ) (held : ℤ) (amounts : List ℕ) → 1 ≤ common → MeetRows rows columns common held amounts → (held *ℤ pos q) ≤ℤ pos (p * common)

@@ -19,7 +19,7 @@ row_of_fractions r = record { coefficients = map whole_of r.coefficients; bound 
 abbrev pub in_fractions : ℕ → List Row → LinearProgram
 in_fractions columns rows = record { columns = columns; rows = map row_of_fractions rows }
 
--- the run ends, and b is its result
+-- the run ends, and b is its result, over the least common denominator
 pub record EndsWith (p : LinearProgram) (pivots : ℕ) (b : Bound) : Type 0 where
   pub value : Exact
   pub columns : List Exact
@@ -42,7 +42,7 @@ GivesNone p pivots fault.Overflow = RunOverflows p pivots ⊎ EndsUnprinted p pi
 GivesNone p pivots fault.Pivots = RunPivots p pivots
 GivesNone p pivots fault.Memory = Unit {0}
 
--- the linear program of a rule's program along so many vectors
+-- the linear program of a rule's program along this number of vectors
 abbrev pub linear_program : ℕ → Rows → LinearProgram
 linear_program vectors p = in_fractions (column_count vectors (length p.patterns)) p.rows
 

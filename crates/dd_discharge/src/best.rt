@@ -25,7 +25,7 @@ fn fractions(alloc: Global, numbers: &[i64]) -> Result<Vec<Fraction>, AllocError
     Ok(fractions)
 }
 
-/// The linear program of the rows. The first row is its cap.
+/// The linear program of the rows. The first row, which bounds column 0 alone, becomes its cap.
 fn linear_program(alloc: Global, rows: &[Row], columns: u32) -> Result<Program, AllocError>
     requires { AreRowsOf columns rows.now }
     ensures { IfOk result (λ program. program ≡ in_fractions columns rows.now) }
@@ -39,7 +39,7 @@ fn linear_program(alloc: Global, rows: &[Row], columns: u32) -> Result<Program, 
     Ok(program)
 }
 
-/// The bound with which the run of the rows ends. It is certified for the rows.
+/// The bound with which the simplex run of the rows ends. It is certified for the rows.
 pub(crate) fn best_of(
     alloc: Global,
     rows: &[Row],
@@ -54,7 +54,7 @@ pub(crate) fn best_of(
 {
     let program = linear_program(alloc, rows, columns)?;
     let solved = maximise(alloc, &program, pivots)?;
-    // This read brings in what the type guarantees.
+    // This call tells the proof what the type `Fraction` guarantees.
     let _denominator = solved.value.den();
     bound_of(
         alloc,

@@ -1,5 +1,6 @@
 //! The check of a claimed bound by sums of whole numbers over the common denominator. With coefficients from -1 to 1, and at
-//! most 2,048 rows and 256 columns, no sum passes 2^92. What is held is the bound over the common denominator.
+//! most 2,048 rows and 256 columns, no sum passes 2^92. `held` is what each position holds at least: the numerator of the
+//! bound over the common denominator.
 ghost use Rattle.std.specs.Prelude.{◌≡◌, ℕ, ◌+◌, ◌*◌, ◌<◌, ◌≤◌, ◌^◌, pos, ◌-ℤ◌, ◌*ℤ◌, ◌≤ℤ◌, length, slice_index_or, unsigned_abs, true, false};
 ghost use Rattle.std.specs.List.{All};
 ghost use Rattle.dd_values.specs.Bounds.{most_number};
@@ -36,7 +37,7 @@ fn value_of(held: u128, amounts: &[u64], column: usize) -> u128
     }
 }
 
-/// The left side of a row.
+/// The left side of a row: the sum of coefficient times the value of the column.
 fn left_side(coefficients: &[i64], held: u128, amounts: &[u64]) -> i128
     requires held { held ≤ 2 ^ 80 }
     requires size { length coefficients.now ≡ 1 + length amounts.now }
@@ -65,7 +66,7 @@ fn sum_in_column(rows: &[Row], columns: usize, duals: &[u64], column: usize) -> 
     sum
 }
 
-/// The sum of dual times right side.
+/// What the duals are worth: the sum of dual times right side.
 fn worth(rows: &[Row], columns: usize, duals: &[u64]) -> u128
     requires rows { AreRowsOf columns rows.now }
     requires duals { length duals.now ≡ length rows.now }

@@ -38,7 +38,7 @@ pub fn check_bound(
     ensures no { IfOk result (λ accepted. accepted ≡ false → IsBoundCertificate rule.now weights.now radius margin vectors.now
         (bound_claimed claimed.now.numerator claimed.now.denominator claimed.now.common claimed.now.amounts.now claimed.now.duals.now) → ⊥) }
 {
-    // This read brings in what the type guarantees.
+    // This call tells the proof what the type `Rule` guarantees.
     let _nodes = rule.nodes();
     let program = match program_of(alloc, rule, weights, radius, margin, vectors) {
         Ok(program) => program,

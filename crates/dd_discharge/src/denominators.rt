@@ -26,7 +26,7 @@ fn printed(number: u128) -> Option<u64>
     }
 }
 
-/// The least common multiple of a denominator and that of the fraction, if it can be printed.
+/// The least common multiple of `common` and the denominator of the fraction, if it can be printed.
 fn joined(common: u64, fraction: &Fraction) -> Option<u64>
     requires { 0 < common }
     ensures { result ≡ printed (joined_denominator common fraction.now) }
@@ -40,7 +40,7 @@ fn joined(common: u64, fraction: &Fraction) -> Option<u64>
     printed(multiple)
 }
 
-/// The least common multiple of a denominator and those of the fractions, if it can be printed.
+/// The least common multiple of `common` and the denominators of the fractions, if it can be printed.
 fn joined_all(common: u64, fractions: &[Fraction]) -> Option<u64>
     requires above { 0 < common }
     requires below { common ≤ most_number }

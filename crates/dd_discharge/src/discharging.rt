@@ -14,9 +14,9 @@ use dd_lattice::Position;
 use dd_rows::program_of;
 use std::alloc::Global;
 
-/// The greatest number that every position can hold at least, after each has given along each vector an amount that its
-/// pattern determines. With it come such amounts, and duals that show that no amounts do better. They are the result of the
-/// rule's program, which `dd_simplex` maximises in at most `pivots` pivots.
+/// The best bound. Each position gives along each vector an amount that its pattern determines. The bound is the greatest
+/// number that every position can then be made to hold at least. With it come such amounts, and duals that show that no
+/// amounts do better. `dd_simplex` finds them: it maximises the rule's program in at most `pivots` pivots.
 ///
 /// # Errors
 /// - `Large` if the program passes a limit on its size.
@@ -42,7 +42,7 @@ pub fn discharge(
     ensures small { IfOk result IsSmallBound }
     ensures err { IfErr result (IsDischargeFault rule.now weights.now radius margin vectors.now pivots) }
 {
-    // This read brings in what the type guarantees.
+    // This call tells the proof what the type `Rule` guarantees.
     let _nodes = rule.nodes();
     let program = program_of(alloc, rule, weights, radius, margin, vectors)?;
     let columns = 1 + vectors.len() * program.patterns.len();
