@@ -21,7 +21,7 @@ most_commands = 1000
 abbrev pub most_weight : ℕ
 most_weight = 1000
 
--- the greatest radius of a ball, the greatest radius of a discharge, and its greatest margin
+-- the greatest radius of a ball in a formula, and the greatest radius and margin of a discharge
 abbrev pub widest_radius : ℕ
 widest_radius = 3
 

@@ -15,7 +15,7 @@ pub const MOST_COMMANDS: u32 = 1000;
 /// The greatest weight of a symbol.
 pub const MOST_WEIGHT: u32 = 1000;
 
-/// The greatest radius of a ball, the greatest radius of a discharge, and its greatest margin.
+/// The greatest radius of a ball in a formula, and the greatest radius and margin of a discharge.
 pub const WIDEST_RADIUS: u32 = 3;
 
 /// The highest limit that a script may set on the radius of a box.

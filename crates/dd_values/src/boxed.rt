@@ -1,4 +1,4 @@
-//! A `Box` for public fields. Contracts see the value in it, and no address.
+//! A `Box` for public fields: contracts see its value, and not its address.
 ghost use Rattle.std.specs.Prelude.{◌≡◌, IfOk};
 
 use std::alloc::{AllocError, Global};

@@ -7,11 +7,12 @@ use crate::bounds::{GREATEST_PERIOD, GREATEST_RADIUS, MOST_PIVOTS};
 /// The limits on the work for one answer. Beyond them the answer is UNKNOWN.
 #[derive(Clone, Copy, Debug, PartialEq, Eq)]
 pub struct Limits {
-    /// The greatest radius of a box. The least radius of a goal is tried even if it is greater.
+    /// The greatest radius of a box round the origin. The least box that holds all cells that the goal reads is tried
+    /// even if its radius is greater.
     pub radius: u32,
     /// The greatest period of a torus along each axis.
     pub period: u32,
-    /// The greatest number of pivots for the linear program of a discharge.
+    /// The greatest number of simplex pivots for the linear program of a discharging bound.
     pub pivots: u32,
 }
 

@@ -64,7 +64,7 @@ pub map_alike : {X Y : Type 0} (f g : X → Y) → ((x : X) → f x ≡ g x) →
 map_alike f g same [] = refl
 map_alike f g same (x ∷ xs) = rw (same x, map_alike f g same xs) refl
 
--- the same for functions that agree on the members
+-- functions that agree on the members map the list alike
 pub map_agree : {X Y : Type 0} (f g : X → Y) (xs : List X) → ((x : X) → Contains xs x → f x ≡ g x) → map f xs ≡ map g xs
 map_agree f g [] same = refl
 map_agree f g (x ∷ xs) same = rw (same x (Contains-first x xs), map_agree f g xs (λ y there. same y (Contains-later x xs y there))) refl
@@ -103,14 +103,14 @@ pub all_flat_map : {X Y : Type 0} (P : Y → Type 0) (Q : X → Type 0) (f : X �
 all_flat_map P Q f h [] all = All-nil P
 all_flat_map P Q f h (x ∷ xs) all = All-append P (f x) (flat_map f xs) (h x (all_first Q x xs all)) (all_flat_map P Q f h xs (all_rest Q x xs all))
 
--- a range with one more number
+-- one more number in the range adds its items at the end
 pub range_more : {X : Type 0} (f : ℕ → List X) (k n : ℕ) → flat_map f (range_with_len k (suc n)) ≡ flat_map f (range_with_len k n) ++ f (k + n)
 range_more f k zero = append-nil (f k) ∙ ap f (omega arith)
 range_more f k (suc n) =
     ap (λ xs. f k ++ xs) (range_more f (k + 1) n ∙ ap (λ i. flat_map f (range_with_len (k + 1) n) ++ f i) (omega arith))
     ∙ sym (append_assoc (f k) (flat_map f (range_with_len (k + 1) n)) (f (k + suc n)))
 
--- all but the first number; [] has none
+-- all but the first number; [] for []
 abbrev pub tail_of : List ℕ → List ℕ
 tail_of [] = []
 tail_of (x ∷ xs) = xs
@@ -120,7 +120,7 @@ abbrev pub head_of : List ℕ → ℕ
 head_of [] = 0
 head_of (x ∷ xs) = x
 
--- two equal lists are equal without their last items
+-- two equal lists stay equal when their last items are removed
 pub same_start : (xs ys : List ℕ) (s t : ℕ) → xs ++ s ∷ [] ≡ ys ++ t ∷ [] → ys ≡ xs
 same_start [] [] s t h = refl
 same_start [] (y ∷ ys) s t h = absurd (let n = ap length h in let m = length-append ys (t ∷ []) in omega (arith, n, m))
@@ -130,7 +130,7 @@ same_start (x ∷ xs) (y ∷ ys) s t h =
     let first : x ≡ y = ap head_of h in
     ap (λ z. z ∷ ys) (sym first) ∙ ap (λ zs. x ∷ zs) rest
 
--- what is left when the last item s is removed
+-- zs is xs with s at its end: when its last item is removed, xs is left
 pub taken_off : (xs ys zs : List ℕ) (s : ℕ) (o : Option ℕ) → zs ≡ xs ++ s ∷ [] → MatchOption o ((zs ≡ []) × (ys ≡ [])) (λ last. zs ≡ ys ++ last ∷ []) → ys ≡ xs
 taken_off xs ys zs s None is h = absurd (let n = ap length (sym is ∙ h.0) in let m = length-append xs (s ∷ []) in omega (arith, n, m))
 taken_off xs ys zs s (Some last) is h = same_start xs ys s last (sym is ∙ h)
@@ -154,7 +154,7 @@ pub record IsOfPart {X Y : Type 0} (f : X → List Y) (xs : List X) (y : Y) : Ty
   pub listed : Contains xs part
   pub within : Contains (f part) y
 
--- each member of a flat_map comes from such an x
+-- each member y of a flat_map is in f(x) for some member x of the list
 pub of_part : {X Y : Type 0} (f : X → List Y) (xs : List X) (y : Y) → Contains (flat_map f xs) y → IsOfPart f xs y
 of_part f [] y c = absurd (Contains-nil y c)
 of_part f (x ∷ xs) y c = elim (Contains-append_cases (f x) (flat_map f xs) y c) [

@@ -56,7 +56,7 @@ cmp_less x y h = sym (int_cmp_is x y Less h)
 pub cmp_equal : (x y : ℤ) → x ≡ y → int_cmp x y ≡ Equal
 cmp_equal x y h = sym (int_cmp_is x y Equal h)
 
--- what is subtracted first and then added changes nothing
+-- subtracting b and then adding it changes nothing
 pub taken_back : (a b : ℤ) → ((a +ℤ (pos 0 -ℤ b)) +ℤ b) ≡ a
 taken_back a b = omega (arith, ints)
 
