@@ -248,7 +248,7 @@ far_coordinate : (x : ℤ) (n : ℕ) → 1048576 < n → (c : ℤ) × IsUpTo n (
 far_coordinate (pos a) n far = (pos a +ℤ pos n, record { low = omega (arith, ints); high = omega (arith, ints) }, λ near. absurd (let high = near.1 in omega (arith, ints)))
 far_coordinate (negsuc a) n far = (negsuc a -ℤ pos n, record { low = omega (arith, ints); high = omega (arith, ints) }, λ near. absurd (let low = near.0 in omega (arith, ints)))
 
--- past 2^20 some position near a member is out of range
+-- if n is over 2^20, some position within n of a member is out of range
 pub far_leaves : (n : ℕ) (ps : List Place) → (ps ≡ [] → ⊥) → 1048576 < n → LeavesRange (IsNearby 1 n ps)
 far_leaves n [] some far = absurd (some refl)
 far_leaves n (q ∷ ps) some far =

@@ -34,7 +34,7 @@ swap_either : (left right : List Place) (p : Place) → IsInEither left right p 
 swap_either left right p (inl c) = inr c
 swap_either left right p (inr c) = inl c
 
--- the two lists change places
+-- the same with the two lists exchanged
 merged_swap : (l lr r rr made : List Place) → IsMerged l lr r rr made → IsMerged r rr l lr made
 merged_swap l lr r rr made m = record {
   ascending = m.ascending;
@@ -85,7 +85,7 @@ take_left l lr r rr made x m first = record {
   before_right = λ p q c d. before_push made x q (λ z e. m.before_right z q e d) (first q d) p c;
 }
 
--- a position that the left list has too may be added to the part of the right list
+-- the members, after a position that the left list has too is added to the right list
 members_both : (l r made : List Place) (x : Place) → Contains l x → ((p : Place) → Contains made p ↔ IsInEither l r p) →
     (p : Place) → Contains made p ↔ IsInEither l (r ++ x ∷ []) p
 members_both l r made x has same p = (
@@ -200,7 +200,7 @@ region_from xs ys made left right up same = record {
   members = same;
 }
 
--- at the end of one list the rest of the other follows
+-- once the right list is at its end, the rest of the left list follows
 left_follows : (xs ys made : List Place) (i j : ℕ) → IsRegion xs → IsRegion ys → IsMerged (take i xs) (drop i xs) (take j ys) (drop j ys) made → length ys ≤ j →
     IsRegionOf (IsInEither xs ys) (made ++ drop i xs)
 left_follows xs ys made i j left right m all =

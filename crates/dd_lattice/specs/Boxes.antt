@@ -54,7 +54,7 @@ pub record IsInSide (d n : ℕ) (p : Place) : Type 0 where
   pub on_y : OnAxis (is_active d 1) (IsAmong n) p.y
   pub on_z : OnAxis (is_active d 2) (IsAmong n) p.z
 
--- the greatest coordinate of B(n) on an axis
+-- the greatest coordinate of B(n) on an axis, which is active or not
 abbrev pub spread : Bool → ℕ → ℕ
 spread active n = cond active n 0
 

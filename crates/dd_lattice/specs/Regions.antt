@@ -19,7 +19,7 @@ pub record IsRegionOf (S : PlaceSet) (ps : List Place) : Type 0 where
   pub region : IsRegion ps
   pub members : (p : Place) → Contains ps p ↔ S p
 
--- S is a set of things that have positions; some member's position is out of range
+-- some member of S, a set of things that have positions, has its position out of range
 pub record LeavesRangeAt {X : Type 0} (position : X → Place) (S : X → Type 0) : Type 0 where
   pub at : X
   pub member : S at

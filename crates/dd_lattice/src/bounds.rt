@@ -1,4 +1,4 @@
-//! Boxes of positions. A box's positions are numbered from 0 in cell order.
+//! Boxes of positions. A box's positions are numbered from 0 in cell order: by z, then y, then x.
 ghost use Rattle.std.specs.Prelude.{◌≡◌, ℕ, ◌+◌, ◌*◌, ◌<◌, ◌≤◌, ℤ, pos, ◌+ℤ◌, ◌-ℤ◌, ◌≤ℤ◌, IsTrue, ◌↔◌, MatchOption, IfSome, unsigned_abs, nat_le, nat_lt, if◌then◌else◌};
 ghost use Rattle.dd_lattice.specs.Place.{Place, IsCoordinateInRange, IsInRange, place, most_coordinate};
 ghost use Rattle.dd_lattice.specs.Boxes.{IsAtMostOnEachAxis, IsBox, IsWithin, IsCentred, centred, spread, gap, most_gap, volume, index_in, place_in};
@@ -6,7 +6,7 @@ ghost use Rattle.dd_lattice.specs.Boxes.{IsAtMostOnEachAxis, IsBox, IsWithin, Is
 use crate::position::{MOST_COORDINATE, Position};
 use std::marker::Model;
 
-/// All positions between `low` and `high`, both included, on each axis. On each axis `low` is at most `high`.
+/// A box of Z^3: all positions from `low` to `high`, both included, on each axis. On each axis `low` is at most `high`.
 #[derive(Debug, Clone, Copy, PartialEq, Eq)]
 pub struct Box3 {
     pub low: Position,
@@ -25,7 +25,7 @@ impl Model for Box3 {
     ghost inverse = { λ b. record { low = b.low; high = b.high } };
 }
 
-/// The greatest coordinate of a centred box on an axis.
+/// The greatest coordinate of a centred box on an axis. The axes are numbered from 0.
 fn spread(axis: u32, dim: u32, radius: i32) -> i32
     requires { pos 0 ≤ℤ radius }
     ensures value { result ≡ pos (spread (nat_lt axis dim) (unsigned_abs radius)) }
@@ -35,7 +35,7 @@ fn spread(axis: u32, dim: u32, radius: i32) -> i32
     if axis < dim { radius } else { 0 }
 }
 
-/// The centred box of a radius that is in range.
+/// The centred box of a radius that is at most 2^20. See `centred_box`.
 fn around_origin(dim: u32, radius: u32) -> Box3
     requires { radius ≤ most_coordinate }
     ensures { result ≡ centred dim radius }
@@ -67,7 +67,7 @@ pub fn centred_box(dim: u32, radius: u32) -> Option<Box3>
     Some(around_origin(dim, radius))
 }
 
-/// The number of steps from one position up to another, on each axis.
+/// A number of steps on each axis.
 #[derive(Clone, Copy)]
 struct Steps {
     x: u64,
@@ -85,6 +85,7 @@ fn is_at_most(p: &Position, q: &Position) -> bool
     true
 }
 
+/// How many steps lead from `from` up to `to` on each axis.
 fn steps_between(from: &Position, to: &Position) -> Steps
     requires { IsAtMostOnEachAxis from.now to.now }
     ensures x { result.x ≡ gap from.now.x to.now.x }
@@ -131,7 +132,7 @@ impl Box3 {
         (there.z * (all.y + 1) + there.y) * (all.x + 1) + there.x
     }
 
-    /// The position of a number below the volume.
+    /// The position with this number, which is below the volume.
     fn place(&self, index: u64) -> Position
         requires { index < volume self.now }
         ensures { result ≡ place_in self.now index }

@@ -1,5 +1,6 @@
-//! The growth of a region, axis by axis. Along an axis, a row of n copies and the same row moved by n steps together
-//! make a row of 2n copies. So a region that grows by n takes about log n unions for each axis.
+//! The growth of a region, axis by axis. A run of n copies is the region's copies at n successive steps along an axis. A
+//! run of n copies and its own copy n steps on make a run of 2n copies. So growth by n takes about log n unions on each
+//! axis.
 ghost use Rattle.std.specs.Prelude.{◌≡◌, ◌+◌, ◌*◌, ◌≤◌, ℤ, pos, ◌-ℤ◌, ◌+ℤ◌, ◌≤ℤ◌, MatchResult};
 ghost use Rattle.dd_lattice.specs.Place.{most_coordinate};
 ghost use Rattle.dd_lattice.specs.Regions.{IsRegionOf, IsFaultOf, IsNearby};
@@ -42,7 +43,7 @@ fn along(axis: Axis, steps: i32) -> Position
     }
 }
 
-/// The union of the region moved along an axis by each number of steps from `-by` to `by`.
+/// The union of the region's copies that are moved along an axis by each number of steps from `-by` to `by`.
 fn stretched(alloc: Global, region: &Region, axis: Axis, by: u32) -> Result<Region, LatticeFault>
     requires { by ≤ most_coordinate }
     ensures { let stretched = IsStretched axis (pos 0 -ℤ pos by) (pos by +ℤ pos 1) region.now in
@@ -59,7 +60,7 @@ fn stretched(alloc: Global, region: &Region, axis: Axis, by: u32) -> Result<Regi
     Ok(run)
 }
 
-/// The union of the region and its copy moved along an axis.
+/// The union of the region and its copy that is moved by `by` steps along an axis.
 fn extended(alloc: Global, region: &Region, axis: Axis, by: u32) -> Result<Region, LatticeFault>
     requires { by ≤ most_coordinate }
     ensures { let extended = IsExtended axis (pos by) region.now in
@@ -70,7 +71,7 @@ fn extended(alloc: Global, region: &Region, axis: Axis, by: u32) -> Result<Regio
     Ok(whole)
 }
 
-/// The growth of a region on its first `dim` axes.
+/// The region grown by `by` along each of the first `dim` axes.
 fn grown(alloc: Global, region: &Region, dim: u32, by: u32) -> Result<Region, LatticeFault>
     requires least { 1 ≤ dim }
     requires most { dim ≤ 3 }

@@ -87,7 +87,7 @@ impl PartialOrd for Position {
     }
 }
 
-/// A cell of the lattice: a position and the number of a node.
+/// A cell of the lattice: a position and one of its nodes, which are numbered from 0.
 #[derive(Debug, Clone, Copy, PartialEq, Eq)]
 pub struct Cell {
     pub position: Position,

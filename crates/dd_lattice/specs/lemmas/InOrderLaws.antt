@@ -1,4 +1,4 @@
--- The ordered form of a list has the same cells.
+-- The ordered form of a list, `in_order`, has the same cells as the list.
 use Rattle.std.proofs.Common.{◌≡◌, List, [], ◌∷◌, Bool, true, false, refl, ap, sym, ◌∙◌, rules, ◌↔◌, ◌⊎◌, inl, inr, subst, arith, get_or, ◌<◌, take, length, ℕ}
 use Rattle.std.proofs.lemmas.Map.{Lookups.exact_signed, Lookups.exact_unsigned, Keys.Less-from_sorted}
 use Rattle.std.proofs.lemmas.List.{get_or_default, get_or-take, length-take}
@@ -111,7 +111,7 @@ fold_members (c ∷ cs) ks q =
       ],
     )
 
--- a list in cell order has the cells of the list
+-- the ordered form of a list has the same cells as the list
 pub in_order_members : (cs : List Cell) → HaveSameCells (in_order cs) cs
 in_order_members cs q = (
   λ h. elim ((fold_members cs [] q).0 h) [ inl c ↦ c | inr none ↦ absurd (Contains-nil q none) ],

@@ -1,4 +1,4 @@
--- A region stretched along an axis: the union of its copies that are moved along the axis by each number of steps between two bounds.
+-- A region stretched along an axis: the union of its copies that are moved along it by each number of steps between two bounds.
 use Rattle.std.specs.{Prelude.◌≡◌, Prelude.ℤ, Prelude.pos, Prelude.◌≤ℤ◌, Prelude.◌<ℤ◌, Prelude.◌⊎◌, Prelude.List, List.Contains}
 use Rattle.dd_lattice.specs.{Place.Place, Place.place, Place.moved, Regions.PlaceSet, Regions.IsMoved, declared.growing.Axis.Axis}
 use Rattle.dd_lattice.specs.declared.growing.Axis.TheVariants.{X, Y, Z}
