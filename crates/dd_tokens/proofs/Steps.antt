@@ -19,6 +19,7 @@ next piece position (b ∷ bytes) is some within =
     rw (← is) (ap (with_piece piece position)
     (ap (λ (k : ℕ). tokens_after k position (b ∷ bytes)) (sym n) ∙ over (piece_size piece) position (b ∷ bytes) within))
 
+-- a token moves from the front of what is left to the end of the list
 pub cut_off : (kind : TokenKind) (n position : ℕ) (bytes rest : List ℕ) (list new : List Token) → Cut kind n ≡ first bytes → IsPieceWithin (Cut kind n) (length bytes) → rest ≡ drop n bytes
     → new ≡ list ++ record { kind = kind; start = position; length = n } ∷ []
     → with_front new (tokens_after 0 (position + n) rest) ≡ with_front list (tokens_after 0 position bytes)

@@ -43,17 +43,18 @@ is_two_byte_mark b bytes = (b == 45 && starts (λ c. c == 62) bytes) || (b == 33
 abbrev pub is_three_byte_mark : ℕ → List ℕ → Bool
 is_three_byte_mark b bytes = b == 60 && starts (λ c. c == 45) bytes && starts (λ c. c == 62) (drop 1 bytes)
 
--- A comment extends to the line feed or to the end. A byte over 127 in it is a fault. The bytes are those after its first hyphen.
+-- The piece that is a comment, from the bytes after its first hyphen. It extends to the next line feed or to the end. A byte
+-- over 127 in it is a fault.
 abbrev pub comment : List ℕ → Piece
 comment bytes =
     if starts (λ b. nat_le 128 b) (drop (prefix_len is_comment bytes) bytes) then Fault (1 + prefix_len is_comment bytes)
     else Gap (1 + prefix_len is_comment bytes)
 
--- A number is digits, and only the number 0 begins with the digit 0. It begins with b.
+-- The piece that is a number, from its first digit b and the bytes after that. Only the number 0 begins with the digit 0.
 abbrev pub number : ℕ → List ℕ → Piece
 number b bytes = if b == 48 && starts is_digit bytes then Fault 0 else Cut Number (1 + prefix_len is_digit bytes)
 
--- what the byte b begins, if these bytes follow it
+-- the piece that the byte b begins, if these bytes follow it
 abbrev pub front : ℕ → List ℕ → Piece
 front b bytes =
     if is_blank b then Gap 1
@@ -66,7 +67,7 @@ front b bytes =
     else (if b == 45 && starts_positive bytes then Cut Negative (1 + prefix_len is_digit bytes)
     else Fault 0)))))))
 
--- what the bytes begin with
+-- the piece at the front of the bytes
 abbrev pub first : List ℕ → Piece
 first [] = Fault 0
 first (b ∷ bytes) = front b bytes
@@ -77,17 +78,18 @@ piece_size (Gap n) = n
 piece_size (Cut kind n) = n
 piece_size (Fault n) = 0
 
--- A blank, a comment or a token has at least one byte and at most `room`. A byte that isn't allowed is one of `room` bytes.
+-- The piece lies within the first `room` bytes: a blank, a comment or a token has one byte at least, and a byte that isn't
+-- allowed is among them.
 abbrev pub IsPieceWithin : Piece → ℕ → Type 0
 IsPieceWithin (Gap n) room = (0 < n) × (n ≤ room)
 IsPieceWithin (Cut kind n) room = (0 < n) × (n ≤ room)
 IsPieceWithin (Fault n) room = n < room
 
--- these tokens, followed by the others
+-- the tokens in the list, followed by the others
 abbrev pub with_front : List Token → Tokens → Tokens
 with_front list others = record { list = list ++ others.list; stop = others.stop }
 
--- the tokens from a position on: that of the piece there, if it is one, and then those of the rest
+-- The tokens from a position on, given the piece there and the tokens after it. None follow a byte that isn't allowed.
 abbrev pub with_piece : Piece → ℕ → Tokens → Tokens
 with_piece (Gap n) position rest = rest
 with_piece (Cut kind n) position rest = with_front (record { kind = kind; start = position; length = n } ∷ []) rest

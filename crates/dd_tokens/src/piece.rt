@@ -1,4 +1,4 @@
-//! What some bytes begin with: a blank, a comment, a token, or a byte that isn't allowed.
+//! The piece at the front of some bytes: a blank, a comment, a token, or bytes up to one that isn't allowed.
 ghost use Rattle.std.specs.Prelude.{◌≡◌, ◌≤◌, ◌<◌, ◌+◌, length};
 ghost use Rattle.std.specs.List.{prefix_len};
 ghost use Rattle.dd_values.specs.Bounds.{most_script};
@@ -6,14 +6,14 @@ ghost use Rattle.dd_tokens.specs.Format.{is_letter, is_digit, is_comment, is_two
 
 use crate::token::TokenKind;
 
-/// What some bytes begin with.
+/// The piece at the front of some bytes.
 #[derive(Clone, Copy, Debug, PartialEq, Eq)]
 pub enum Piece {
     /// A blank (space, tab, line feed or carriage return) or a comment, of this many bytes.
     Gap(u32),
     /// A token of this many bytes.
     Cut(TokenKind, u32),
-    /// This many bytes, and then one that isn't allowed.
+    /// A byte that isn't allowed, after this many others.
     Fault(u32),
 }
 
@@ -60,7 +60,7 @@ fn comment_bytes(bytes: &[u8]) -> usize
     bytes.iter().take_while(|byte| is_comment(**byte)).count()
 }
 
-/// A comment. The bytes are those after its first hyphen.
+/// The piece that is a comment. The bytes are those after its first hyphen.
 fn comment(bytes: &[u8]) -> Piece
     requires { length bytes.now ≤ most_script }
     ensures value { result ≡ comment bytes.now }
@@ -74,21 +74,21 @@ fn comment(bytes: &[u8]) -> Piece
     }
 }
 
-/// The bytes begin with a digit other than 0.
+/// Whether the bytes begin with a digit other than 0.
 fn starts_positive(bytes: &[u8]) -> bool
     ensures { result ≡ starts_positive bytes.now }
 {
     matches!(bytes, [b'1'..=b'9', ..])
 }
 
-/// The byte begins a mark of two bytes, `->` or `!=`, if these bytes follow it.
+/// Whether the byte begins a mark of two bytes, `->` or `!=`. The bytes `after` follow it.
 fn is_two_byte_mark(byte: u8, after: &[u8]) -> bool
     ensures { result ≡ is_two_byte_mark byte after.now }
 {
     (byte == b'-' && matches!(after, [b'>', ..])) || (byte == b'!' && matches!(after, [b'=', ..]))
 }
 
-/// What a byte begins, if these bytes follow it.
+/// The piece that a byte begins. The bytes `after` follow it.
 fn front(byte: u8, after: &[u8]) -> Piece
     requires { length after.now ≤ most_script }
     ensures value { result ≡ front byte after.now }
@@ -125,7 +125,7 @@ fn front(byte: u8, after: &[u8]) -> Piece
     Piece::Fault(0)
 }
 
-/// What the bytes begin with. There is at least one byte.
+/// The piece at the front of the bytes. There is at least one byte.
 pub fn first(bytes: &[u8]) -> Piece
     requires some { 0 < length bytes.now }
     requires few { length bytes.now ≤ most_script }

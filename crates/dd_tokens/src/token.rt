@@ -24,10 +24,10 @@ pub struct Token {
     pub length: u32,
 }
 
-/// The tokens that some bytes begin with, in order, and the position at which these stop.
+/// The tokens at the front of some bytes, in order, and the position at which they stop.
 #[derive(Debug, Drop)]
 pub struct Tokens {
     pub list: Items<Token>,
-    /// The position of the first byte that is in no token, no blank and no comment. The number of bytes if there is none.
+    /// The position of the first byte that isn't allowed, or the number of bytes if there is none.
     pub stop: u32,
 }
