@@ -49,6 +49,7 @@ cases_reads cases a = flat_map (λ case. reads_at case.0 a) cases
 abbrev pub case_instances : ℕ → List (LocalRule × ℕ) → ℕ
 case_instances a cases = total (map (λ case. instances (expansion_at case.0 a) + 1) cases)
 
+-- what is counted of an automaton, from what is counted of its parts
 abbrev pub counted_step : Automaton-F Counted → Counted
 counted_step (Automaton-F.Given c) =
     record { reads = cases_reads c.cases; instances = λ a. case_instances a c.cases + 1; depth = 0 }
@@ -98,7 +99,7 @@ IsNodesOf f r = MatchOption r (has_rules f ≡ false) (λ n. (s : CommonNumbers)
 abbrev pub is_few : ℕ → Counted → Bool
 is_few nodes f = list_all (λ a. nat_le (f.instances a) most_instances) (range_with_len 0 nodes)
 
--- the limit of reach is kept there
+-- the limit of reach is kept at each node below this number
 abbrev pub is_short : ℕ → Counted → Bool
 is_short nodes f = list_all (λ a. list_all is_near (f.reads a)) (range_with_len 0 nodes)
 
@@ -106,7 +107,7 @@ is_short nodes f = list_all (λ a. list_all is_near (f.reads a)) (range_with_len
 abbrev pub is_shallow : Counted → Bool
 is_shallow f = nat_le f.depth most_depth
 
--- all three limits are kept
+-- the limits of instances, reach and depth are kept
 abbrev pub keeps_limits : ℕ → Counted → Bool
 keeps_limits nodes f = is_few nodes f && is_short nodes f && is_shallow f
 

@@ -5,18 +5,18 @@ use Rattle.dd_formula.specs.declared.{automaton.Automaton.Automaton, automaton.C
 use Rattle.dd_formula.specs.declared.fault.RuleFault.TheVariants.{Reach, Instances, Depth, Memory}
 use Rattle.dd_formula.specs.declared.automaton.Automaton.TheVariants as v
 
--- both are well formed in one setting
+-- both automata are well formed in one setting
 pub record AreAutomata (f g : Automaton) : Type 0 where
   pub setting : CommonNumbers
   pub outer : IsAutomaton setting f
   pub inner : IsAutomaton setting g
 
--- in some setting with at least so many nodes, both are well formed
+-- both are well formed in one setting that has at least so many nodes
 pub record HaveNodes (f g : Automaton) (nodes : ℕ) : Type 0 where
   pub both : AreAutomata f g
   pub few : nodes ≤ both.setting.nodes
 
--- what holds of each setting in which both are well formed
+-- P holds of each setting in which both are well formed
 abbrev pub OverBoth : Automaton → Automaton → (CommonNumbers → Type 0) → Type 0
 OverBoth f g P = (s : CommonNumbers) → IsAutomaton s f → IsAutomaton s g → P s
 
@@ -34,11 +34,11 @@ pub record StandFor (s : CommonNumbers) (f : Counted) (nodes : ℕ) : Type 0 whe
 abbrev pub PassesInstances : ℕ → Counted → Type 0
 PassesInstances n f = is_few n f ≡ true
 
--- and that of reach
+-- it keeps the limits of instances and of reach
 abbrev pub PassesReach : ℕ → Counted → Type 0
 PassesReach n f = PassesInstances n f × (is_short n f ≡ true)
 
--- and that of depth
+-- it keeps all three limits
 abbrev pub PassesDepth : ℕ → Counted → Type 0
 PassesDepth n f = PassesReach n f × (is_shallow f ≡ true)
 

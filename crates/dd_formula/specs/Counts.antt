@@ -20,12 +20,12 @@ rule_clauses r = over_nodes (λ a. clause_count (expansion_at r a)) r.nodes
 abbrev pub disallowed : LocalRule → ℕ → List ℕ
 disallowed r a = filter (λ s. not (rule_allows r a s)) (range_with_len 0 r.symbols)
 
--- how many pairs of a node and a symbol that it doesn't allow there are
+-- the number of pairs of a node and a symbol that the node doesn't allow
 abbrev pub disallowed_pairs : LocalRule → ℕ
 disallowed_pairs r = over_nodes (λ a. length (disallowed r a)) r.nodes
 
--- the clauses of a cell over s symbols: one that it has a symbol, one that the rule is true there, and one for each pair of
--- symbols that it doesn't have both
+-- The clauses of a cell over s symbols. One says that it has a symbol, and one that the rule is true there. For each pair of
+-- symbols, one says that it doesn't have both.
 abbrev pub cell_clause_count : ℕ → ℕ
 cell_clause_count s = 2 + s * (s - 1) / 2
 
@@ -38,7 +38,7 @@ place_clauses r = r.nodes * cell_clause_count r.symbols + disallowed_pairs r + r
 abbrev pub broken_clauses : LocalRule → ℕ
 broken_clauses r = rule_clauses r + 1
 
--- the clauses of a question on a region of so many positions; `goal` is the number of those of the goal
+-- the clauses of a question on a region of so many positions; `goal` is the number of clauses of its goal
 abbrev pub region_clauses : LocalRule → ℕ → ℕ → ℕ
 region_clauses r goal positions = positions * place_clauses r + goal
 
@@ -46,6 +46,6 @@ region_clauses r goal positions = positions * place_clauses r + goal
 abbrev pub largest_region : ℕ → ℕ → ℕ → ℕ
 largest_region d radius period = max ((2 * radius + 1) ^ d) (period ^ d)
 
--- the clauses of a question on the larger of the two
+-- the clauses of a question on the larger of that box and that torus
 abbrev pub largest_clauses : LocalRule → ℕ → ℕ → ℕ → ℕ
 largest_clauses r goal radius period = region_clauses r goal (largest_region r.dimension radius period)

@@ -1,4 +1,4 @@
--- Local rules: a formula over a topology and the alphabets of its nodes. A look gives symbols to cells, perhaps not to all.
+-- Local rules: a formula over a topology and the alphabets of its nodes. A look-up (`Look`) gives symbols to cells, perhaps not to all.
 use Rattle.std.specs.Prelude.{ℕ, zero, suc, Bool, ◌<◌, ◌≤◌, ◌≡◌, true, false, is_some, nat_le, nat_lt, List, [], ◌∷◌, ◌++◌}
 use Rattle.std.specs.List.{list_all}
 use Rattle.dd_lattice.specs.{InOrder.in_order, declared.position.Cell.Cell}
@@ -63,7 +63,7 @@ cells_at r a = in_order (reads_at r a)
 abbrev pub most_instances : ℕ
 most_instances = 20000
 
--- each cell that is read lies at most so far from the origin, along each axis
+-- each cell that is read at the origin lies at most so far away, along each axis
 abbrev pub most_reach : ℕ
 most_reach = 16
 

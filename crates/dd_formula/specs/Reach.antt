@@ -5,11 +5,11 @@ use Rattle.dd_topology.specs.Topology.{extent}
 use Rattle.dd_expansion.specs.Limits.{greatest}
 use Rattle.dd_formula.specs.{LocalRule.LocalRule, LocalRule.cells_at, Automata.cells_of, declared.automaton.Automaton.Automaton}
 
--- how far the cell lies from the origin along an axis
+-- the greatest distance of the cell from the origin along an axis
 abbrev pub cell_extent : Cell → ℕ
 cell_extent c = extent c.position
 
--- how far the farthest cell lies from the origin; 0 where there is no cell
+-- the greatest of these distances; 0 if there is no cell
 abbrev pub farthest : List Cell → ℕ
 farthest cs = greatest (map cell_extent cs)
 

@@ -10,7 +10,7 @@ use Rattle.dd_formula.specs.declared.automaton.{Automaton.Automaton, Cases.Cases
 abbrev pub are_given : Look → Place → List Cell → Bool
 are_given look v ds = list_all (λ d. is_some (seen look v d)) ds
 
--- the same for the cells that the automaton reads at a cell
+-- each cell that the automaton reads at the cell c lies in the range of positions and has a symbol
 abbrev pub is_read : Automaton → Cell → Look → Bool
 is_read f c look = are_given look c.position ((counted f).reads c.node)
 
@@ -21,7 +21,7 @@ pub record HasLook (f : Automaton) (c : Cell) (look : Look) : Type 0 where
   pub below : c.node < setting.nodes
   pub symbols : HasSymbolsBelow setting.symbols look
 
--- in some such setting the cases fit, and each cell that they read at the cell has a symbol
+-- in some such setting the cases fit, and each cell that they read there has a symbol
 pub record HasCasesLook (cases : Cases) (c : Cell) (look : Look) : Type 0 where
   pub setting : CommonNumbers
   pub fit : cases_fit setting cases.cases cases.otherwise ≡ true

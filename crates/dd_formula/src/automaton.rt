@@ -51,6 +51,7 @@ impl Cases {
         })
     }
 
+    /// The cells that the rules of the cases read at a node, in cell order, each once.
     fn reads(&self, alloc: Global, node: u32) -> Result<Vec<Cell>, AllocError>
         requires { HasCaseNode self.now node }
         ensures list { IfOk result (λ v. v.items ≡ in_order (cases_reads self.now.cases node)) }
@@ -65,6 +66,7 @@ impl Cases {
         in_order(alloc, &found)
     }
 
+    /// The number of nodes of the rules, or `None` if there is no case.
     fn nodes(&self) -> Option<u32>
         ensures { MatchOption result (length self.now.cases ≡ 0)
             (λ n. (s : CommonNumbers) → cases_fit s self.now.cases self.now.otherwise ≡ true → s.nodes ≡ n) }
@@ -75,7 +77,7 @@ impl Cases {
         }
     }
 
-    /// The instances at a node, cut off past the limit. The contract also says that no rule reads too far.
+    /// The number of instances at a node, cut off past the limit. The contract also says that no rule reads too far.
     pub(crate) fn instances(&self, node: u32) -> u32
         requires { HasCaseNode self.now node }
         ensures count { result ≡ cut most_instances (case_instances node self.now.cases + 1) }
@@ -108,7 +110,7 @@ impl Automaton {
         }
     }
 
-    /// The cells that the automaton reads at a node, counted from the origin, in cell order, each once.
+    /// The cells that the automaton reads at this node of the origin, in cell order, each once.
     #[cycle(reads)]
     #[tactic(auto, using(std::proofs::lemmas::Grind::common_steps, crate::specs::lemmas::AutomatonLaws::layers))]
     pub fn reads(&self, alloc: Global, node: u32) -> Result<Vec<Cell>, AllocError>
@@ -125,7 +127,7 @@ impl Automaton {
         }
     }
 
-    /// The cells that the composition reads at a node, as `reads` gives them.
+    /// The cells that the composition reads at this node of the origin, in cell order, each once.
     #[cycle(reads)]
     pub(crate) fn composed_reads(
         alloc: Global,
@@ -160,9 +162,10 @@ impl Automaton {
         in_order(alloc, &found)
     }
 
-    /// The instances at a node, or 20,001 where there are more than 20,000. An automaton by cases has those of each rule's
-    /// expansion, one more for each case, and one for the default symbol. A composition has those of the outer automaton,
-    /// those of the inner one at the same node, and those of the inner one at each cell that the outer one reads.
+    /// The number of instances at a node, or 20,001 if there are more than 20,000. An automaton by cases has the instances of
+    /// each rule's expansion, one more for each case, and one for the default symbol. A composition has the instances of the
+    /// outer automaton, those of the inner one at the same node, and those of the inner one at each cell that the outer one
+    /// reads.
     #[cycle(instances)]
     #[tactic(auto, using(std::proofs::lemmas::Grind::common_steps, crate::specs::lemmas::AutomatonLaws::layers))]
     pub fn instances(&self, alloc: Global, node: u32) -> Result<u32, AllocError>
@@ -177,7 +180,7 @@ impl Automaton {
         }
     }
 
-    /// The instances of the composition at a node, cut off past the limit.
+    /// The number of instances of the composition at a node, cut off past the limit.
     #[cycle(instances)]
     pub(crate) fn composed_instances(
         alloc: Global,
@@ -195,7 +198,7 @@ impl Automaton {
         Ok(plus(MOST_INSTANCES, plus(MOST_INSTANCES, first, second), rest))
     }
 
-    /// The sum of the instances at the nodes of the cells, cut off past the limit.
+    /// The sum, over the cells, of the numbers of instances at their nodes; cut off past the limit.
     #[cycle(instances)]
     pub(crate) fn instances_from(&self, alloc: Global, cells: &[Cell]) -> Result<u32, AllocError>
         requires { HasCells self.now cells.now }

@@ -1,4 +1,4 @@
-//! Compositions of automata, and the tests of their limits.
+//! Compositions of automata, and the tests of their limits: instances, reach and depth.
 ghost use Rattle.std.specs.Prelude.{◌≡◌, true, IfOk, IfErr, OnOk};
 ghost use Rattle.dd_formula.specs.Automata.{CommonNumbers, IsAutomaton, is_few, is_short, is_shallow};
 ghost use Rattle.dd_formula.specs.Compositions.{AreAutomata, HaveNodes, OverBoth, StandFor, PassesDepth, IsCompositionFault, composition};
@@ -37,7 +37,7 @@ impl Automaton {
     }
 }
 
-/// The composition. Where there is no memory for it, both automata come back.
+/// The composition. If memory for it runs out, both automata come back.
 fn joined(
     alloc: Global,
     outer: Automaton,
@@ -75,7 +75,7 @@ fn tested(alloc: Global, outer: &Automaton, inner: &Automaton) -> Result<(), Rul
     Ok(())
 }
 
-/// How many nodes need a test: those of the rules, or one where there is no rule, since then all nodes are alike.
+/// How many nodes need a test: as many as the rules have. Without any rule all nodes are alike, and one is enough.
 fn node_count(outer: &Automaton, inner: &Automaton) -> u32
     ensures { OverBoth outer.now inner.now (λ s. StandFor s (composition outer.now inner.now) result) }
 {
@@ -88,6 +88,7 @@ fn node_count(outer: &Automaton, inner: &Automaton) -> u32
     }
 }
 
+/// Whether the composition has at most `MOST_INSTANCES` instances at each of these nodes.
 fn has_few(
     alloc: Global,
     outer: &Automaton,
@@ -105,6 +106,7 @@ fn has_few(
     Ok(true)
 }
 
+/// Whether the composition reads no cell beyond the limit of reach, at each of these nodes.
 fn has_short(
     alloc: Global,
     outer: &Automaton,
@@ -123,6 +125,7 @@ fn has_short(
     Ok(true)
 }
 
+/// Whether the composition is nested at most `MOST_DEPTH` deep.
 fn is_shallow(outer: &Automaton, inner: &Automaton) -> bool
     requires { AreAutomata outer.now inner.now }
     ensures { result ≡ is_shallow (composition outer.now inner.now) }

@@ -1,5 +1,5 @@
-//! Local rules and cellular automata: their truth and their values, the cells that they read, their limits, and which periodic
-//! configurations live in the subshift of a rule.
+//! Local rules and cellular automata: the truth of a rule, the values of an automaton, the cells that they read, and their
+//! limits. The crate also tests whether a periodic configuration is in the subshift of a rule.
 #![tactic(auto, using(std::proofs::lemmas::Grind::common_steps))]
 
 mod automaton;

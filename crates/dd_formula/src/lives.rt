@@ -10,13 +10,13 @@ use dd_pattern::Periodic;
 pub enum Membership {
     /// The rule is true at each cell.
     Inside,
-    /// The first cell of the fundamental box, in cell order, at which the rule is false.
+    /// The rule is false at this cell of the fundamental box, and at no cell of the box before it in cell order.
     Outside(Cell),
 }
 
 impl Rule {
-    /// Whether the configuration is inside the rule's subshift: whether the rule is true at each cell. Its fundamental box
-    /// is looked at in cell order. It takes no memory.
+    /// Whether the configuration is inside the rule's subshift: whether the rule is true at each cell. The cells of its
+    /// fundamental box are tested in cell order. It allocates nothing.
     pub fn member(&self, periodic: &Periodic) -> Membership
         requires { Fits self.now periodic.now }
         ensures { IsMembership self.now periodic.now result }

@@ -16,13 +16,13 @@ use dd_topology::{Edge, Sets, Topology};
 use dd_values::Items;
 use std::alloc::{AllocError, Global};
 
-/// How many instances a rule or an automaton may have at a node. The instances of an expansion are the nodes of its tree:
-/// the constants, the leaves and the connectives.
+/// How many instances a rule or an automaton may have at a node. The instances of an expansion are its constants, leaves and
+/// connectives.
 pub(crate) const MOST_INSTANCES: u32 = 20_000;
-/// How far a cell that is read may lie from the origin, along each axis.
+/// How far from the origin a cell that is read may lie, along each axis.
 const MOST_REACH: u32 = 16;
 
-/// What a rule keeps beside its formula and the numbers of its topology.
+/// What a rule keeps beside its formula, its dimension and its number of nodes.
 #[derive(Drop)]
 pub(crate) struct Parts {
     pub(crate) sets: Sets,
@@ -31,7 +31,7 @@ pub(crate) struct Parts {
     pub(crate) reads: Items<Items<Cell>>,
 }
 
-/// The parts of the rule of a formula, unless it passes a limit.
+/// The parts of the rule of a formula, unless the rule passes a limit.
 pub(crate) fn parts_of(
     alloc: Global,
     topology: &Topology,
@@ -85,12 +85,14 @@ fn expand_at_nodes(
     Ok(expansions)
 }
 
+/// Whether the cell lies within the limit of reach.
 fn is_near(cell: &Cell) -> bool
     ensures { result ≡ is_near cell.now }
 {
     extent(&cell.position) <= MOST_REACH
 }
 
+/// Whether each of the cells lies within the limit of reach.
 pub(crate) fn are_near(cells: &[Cell]) -> bool
     ensures { result ≡ list_all is_near cells.now }
 {

@@ -1,4 +1,4 @@
-//! Rules: a formula over a topology and an alphabet, with its expansion and its reads at each node.
+//! Rules. A rule has a formula over a topology and an alphabet. For each node it keeps the expansion and the cells that it reads.
 ghost use Rattle.std.specs.Prelude.{◌≡◌, ◌<◌, ◌≤◌, length, IfOk, IfErr, OnOk, if◌then◌else◌, Some, None};
 ghost use Rattle.dd_lattice.specs.Place.{Place};
 ghost use Rattle.dd_lattice.specs.Cells.{shifted, cell as at_node};
@@ -20,9 +20,10 @@ use dd_values::Items;
 use std::alloc::{AllocError, Global};
 use std::marker::Model;
 
-/// A local rule: a configuration satisfies it if the rule's formula is true at every cell. A rule has 1 to 4 nodes and 1 to 16
-/// symbols. At each node its expansion is a tree of at most 20,000 constants, leaves and connectives, which are called instances.
-/// It reads no cell that lies more than 16 away along an axis.
+/// A local rule: a configuration satisfies it if the rule's formula is true at every cell. A cell is a position with one of 1 to
+/// 4 nodes, and has one of 1 to 16 symbols. At each node the rule has an expansion: its formula without variables. This is a tree
+/// of at most 20,000 constants, leaves and connectives, which are called instances. The rule reads no cell that lies more than 16
+/// away along an axis.
 #[derive(Debug, Drop)]
 pub struct Rule {
     dim: u32,
@@ -145,7 +146,7 @@ impl Rule {
         &self.formula
     }
 
-    /// The rule's formula at a cell with this node, without variables. It counts cells from the position of that cell.
+    /// The rule's formula at a cell with this node, without variables. Its leaves give cells relative to that cell's position.
     pub fn expansion(&self, node: u32) -> &Expanded
         requires { node < self.now.nodes }
         ensures value { result.now ≡ expansion_at self.now node }
@@ -157,7 +158,7 @@ impl Rule {
         &self.expansions[node as usize]
     }
 
-    /// The cells that the rule reads at a node, counted from the origin, in cell order.
+    /// The cells that the rule reads at this node of the origin, in cell order, each once.
     pub fn reads(&self, node: u32) -> &[Cell]
         requires { node < self.now.nodes }
         ensures value { result.now ≡ cells_at self.now node }
@@ -166,7 +167,7 @@ impl Rule {
         self.reads[node as usize].as_slice()
     }
 
-    /// How many clauses the gates of the expansion at a node take.
+    /// The number of clauses that encode the gates of the expansion at a node.
     pub fn clause_count(&self, node: u32) -> u64
         requires { node < self.now.nodes }
         ensures { result ≡ clause_count (expansion_at self.now node) }
@@ -176,7 +177,7 @@ impl Rule {
 }
 
 impl Rule {
-    /// The truth of the expansion at a cell's node, under the symbols seen from the cell.
+    /// The truth of the expansion at a cell; `None` where some cell of its leaves has no symbol or lies out of range.
     fn truth_of_expansion<R: Reads>(&self, at: &Cell, read: &R) -> Option<bool>
         requires { at.now.node < self.now.nodes }
         ensures value { let look = seen (R.symbols read.now) at.now.position in
@@ -188,7 +189,7 @@ impl Rule {
     }
 
     /// Whether the formula is true at a cell; `None` where some cell that the rule reads there has no symbol or lies
-    /// outside the range of positions. It takes no memory.
+    /// outside the range of positions. It allocates nothing.
     pub fn truth<R: Reads>(&self, at: &Cell, read: &R) -> Option<bool>
         requires node { at.now.node < self.now.nodes }
         requires symbols { HasSymbolsBelow self.now.symbols (R.symbols read.now) }

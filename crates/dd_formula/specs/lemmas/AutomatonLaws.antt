@@ -35,7 +35,7 @@ checks n = fold-Automaton Checked (limits_step n)
 checks_composed : (n : ℕ) (f g : Automaton) → checks n (v.Composed f g) ≡ limits_step n (Automaton-F.Composed (checks n f) (checks n g))
 checks_composed n f g = ap (checks n) (sym (v.rolls-Composed f g)) ∙ fold-roll-Automaton Checked (limits_step n) (Automaton-F.Composed f g)
 
--- beside the limits, `checks` carries what is counted
+-- beside the limits, `checks` has the same counts as `counted`
 abbrev CountsThose : ℕ → Automaton → Type 0
 CountsThose n f = (checks n f).counts ≡ counted f
 

@@ -20,7 +20,7 @@ max_within a b k = grind (arith, nat_tests)
 none_far : (k : ℕ) → nat_le 0 k ≡ true
 none_far k = grind (arith, nat_tests)
 
--- the farthest of cells lies within k exactly where all do
+-- the farthest cell of a list lies within k exactly if all of them do
 all_within : (k : ℕ) (cs : List Cell) → nat_le (farthest cs) k ≡ list_all (is_within k) cs
 all_within k [] = none_far k
 all_within k (c ∷ cs) = max_within (extent c.position) (farthest cs) k ∙ ap (λ b. is_within k c && b) (all_within k cs)

@@ -196,7 +196,7 @@ placed_composed f g outer inner s formed a below =
     ∙ list_all-weaker (is_cell_of s) (λ c. list_all (is_cell_of s) (there c))
     (λ c here. let node = ltb-true c.node s.nodes (and_parts (is_flat s.dimension c.position) (nat_lt c.node s.nodes) here).1 in moved_placed s c ((counted g).reads c.node) here (inner s second c.node node)) reads first)
 
--- an option with a value is equal to its equals by the test too
+-- options that are equal, and have a value, pass the test for equality
 pub equal_to_some : (a b : Option ℕ) → a ≡ b → is_some a ≡ true → are_equal a b ≡ true
 equal_to_some None b e h = absurd (cc)
 equal_to_some (Some x) b e h = subst (λ o. are_equal (Some x) o ≡ true) e (equal_values x x refl)

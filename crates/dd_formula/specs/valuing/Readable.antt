@@ -12,7 +12,7 @@ pub record IsReadable (f : Automaton) (a : ℕ) (look : Look) : Type 0 where
   pub has : HasLook f (origin_at a) look
   pub given : is_read f (origin_at a) look ≡ true
 
--- so can the composition of two automata
+-- the composition of two automata can be evaluated at a node of the origin
 pub record AreReadable (f g : Automaton) (a : ℕ) (look : Look) : Type 0 where
   pub setting : CommonNumbers
   pub outer : IsAutomaton setting f
