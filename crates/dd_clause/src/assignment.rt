@@ -37,7 +37,7 @@ impl Assignment {
     }
 }
 
-/// Whether a literal of the clause agrees with the values.
+/// Whether some literal of the clause is true under the values.
 fn has_true_literal(literals: &[Literal], values: &[bool]) -> bool
     requires { IsClauseInRange (length values.now) literals.now }
     ensures { result ≡ is_clause_true (true_variables values.now) literals.now }
@@ -51,7 +51,7 @@ fn has_true_literal(literals: &[Literal], values: &[bool]) -> bool
     false
 }
 
-/// Whether the assignment has one value for each variable, and makes each clause true. It takes no memory.
+/// Whether the assignment has one value for each variable, and makes each clause true. It allocates nothing.
 pub fn satisfies(cnf: &Cnf, assignment: &Assignment) -> bool
     ensures { IsTrue result ↔
         (length assignment.now ≡ cnf.now.variables

@@ -1,4 +1,4 @@
-//! Literals and clauses. Most clauses are short, so a clause of up to four literals takes no memory.
+//! Literals and clauses. Most clauses are short, so a clause of up to four literals needs no allocation.
 ghost use Rattle.std.specs.Prelude.{◌≡◌, ◌≤◌, length, IsOk, IfOk};
 ghost use Rattle.dd_clause.specs.Clauses as spec;
 
@@ -6,10 +6,12 @@ use smallvec::SmallVec;
 use std::alloc::{AllocError, Global};
 use std::marker::Model;
 
-/// A variable, numbered from 1, or its negation.
+/// A variable, or its negation.
 #[derive(Clone, Copy, Debug, Default, PartialEq, Eq)]
 pub struct Literal {
+    /// The number of the variable, from 1.
     pub variable: u32,
+    /// True for the variable itself, false for its negation.
     pub positive: bool,
 }
 

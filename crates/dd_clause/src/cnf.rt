@@ -7,7 +7,7 @@ use crate::clause::Clause;
 use std::alloc::{AllocError, Global};
 use std::marker::Model;
 
-/// A list of clauses over the variables 1 to `variables`, which is at most 2^24.
+/// A list of clauses over the variables 1 to `variables`. There are at most 2^24 variables.
 #[derive(Debug, Drop)]
 pub struct Cnf {
     variables: u32,
@@ -27,7 +27,7 @@ impl Model for Cnf {
 }
 
 impl Cnf {
-    /// The empty list over this many variables. It takes no memory.
+    /// The empty list over this many variables. It allocates nothing.
     pub fn new(alloc: Global, variables: u32) -> Cnf
         requires { variables ≤ most_variables }
         ensures variables { result.variables ≡ variables }
