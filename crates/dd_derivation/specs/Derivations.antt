@@ -16,14 +16,14 @@ same_literal a b = (a.variable == b.variable) && beq a.positive b.positive
 abbrev pub is_among : List Literal → Literal → Bool
 is_among literals l = list_any (same_literal l) literals
 
--- what a clause says, from those of its literals that are not false
+-- what a clause says; the list holds those of its literals that are not false
 abbrev pub finding_of : (Literal → Bool) → List Literal → Finding
 finding_of is_false [] = Falsified
 finding_of is_false (l ∷ rest) =
     if list_all (same_literal l) rest && not (is_false (negation l)) then Forced l else Open
 
--- what a clause says, given which literals are false: all of its literals are false, or only one is not, which has to be
--- true and isn't yet, or nothing
+-- What a clause says, given which literals are false. `Falsified`: all of its literals are false. `Forced`: all but one are
+-- false, and that one is not true yet. `Open`: neither.
 abbrev pub finding : (Literal → Bool) → List Literal → Finding
 finding is_false clause = finding_of is_false (filter (λ l. not (is_false l)) clause)
 
@@ -37,24 +37,25 @@ abbrev pub without : List (Option (List Literal)) → ℕ → List (Option (List
 without known zero = known
 without known (suc k) = slice_set known k None
 
--- what the clause of a number says: nothing where there is none
+-- what the clause of a number says; `Open` if there is no such clause
 abbrev pub hint_finding : List (Option (List Literal)) → (Literal → Bool) → ℕ → Finding
 hint_finding known is_false h = option_map_or (finding is_false) (clause_of known h) Open
 
--- what a finding makes of a hint: a conflict, which the last hint alone may end in; one more true literal; or a failure
+-- Whether the hints lead to a conflict, from what the first of them finds. A falsified clause has to be that of the last hint.
+-- After a forced literal, `next` tells for the other hints. An open clause is a failure.
 abbrev pub follow : Finding → Bool → (Literal → Bool) → Bool
 follow Falsified is_last next = is_last
 follow (Forced l) is_last next = next l
 follow Open is_last next = false
 
--- each hint but the last makes a literal true, and all literals of the last one's clause are false
+-- each hint but the last forces a literal, which is true from then on, and the clause of the last one is falsified
 abbrev pub is_conflict : List (Option (List Literal)) → List Literal → List ℕ → Bool
 is_conflict known falses [] = false
 is_conflict known falses (h ∷ hints) =
     follow (hint_finding known (is_among falses) h) (is_empty hints)
     (λ l. is_conflict known (negation l ∷ falses) hints)
 
--- each number has a clause when it is deleted
+-- the numbers can be deleted one after the other: each has a clause when its turn comes
 abbrev pub are_deletable : List (Option (List Literal)) → List ℕ → Bool
 are_deletable known [] = true
 are_deletable known (d ∷ ds) = is_some (clause_of known d) && are_deletable (without known d) ds
@@ -76,7 +77,8 @@ abbrev pub is_proper : ℕ → List Literal → Bool
 is_proper n [] = true
 is_proper n (l ∷ rest) = (is_literal_in_range n l && not (has_variable l.variable rest)) && is_proper n rest
 
--- with the literals of the step's clause false, its hints end in a conflict, so the clause follows
+-- The step is right. Its clause is proper. With the literals of its clause false, its hints end in a conflict, so the clause
+-- follows. The clauses that it deletes exist.
 abbrev pub is_right : ℕ → List (Option (List Literal)) → Step → Bool
 is_right n known s = is_proper n s.clause && (is_conflict known s.clause s.hints && are_deletable known s.deletes)
 
@@ -95,11 +97,11 @@ refutes n clauses steps = refutes_from n (map (λ c. Some c) clauses) steps
 abbrev pub IsRefuting : ClauseList → List Step → Type 0
 IsRefuting cnf steps = refutes cnf.variables cnf.clauses steps ≡ true
 
--- the clauses of the list, and then the steps'
+-- the clauses of the list, and then those of the steps
 abbrev pub clauses_before : List (List Literal) → List Step → List (List Literal)
 clauses_before clauses steps = clauses ++ map (λ s. s.clause) steps
 
--- the clauses without those that the steps delete
+-- the clauses without those that the steps delete; no clause of a step is added
 abbrev pub known_after_steps : List (Option (List Literal)) → List Step → List (Option (List Literal))
 known_after_steps known [] = known
 known_after_steps known (s ∷ steps) = known_after_steps (known_after known s.deletes) steps

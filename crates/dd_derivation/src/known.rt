@@ -1,5 +1,5 @@
 //! The clauses that a step may hint at: those of the list and of earlier steps, without the deleted ones. A clause is alive
-//! until it is deleted. One truth value for each clause says whether it is, so deleting a clause writes one value.
+//! until it is deleted. A list of truth values says which clauses are alive, so a deletion writes one value.
 ghost use Rattle.std.specs.Prelude.{◌≡◌, ℕ, ◌+◌, ◌≤◌, List, length, true, false, slice_index_or};
 ghost use Rattle.std.specs.Option.{option_copied};
 ghost use Rattle.dd_clause.specs.declared.clause.Literal.{Literal};
@@ -10,7 +10,7 @@ use crate::step::Step;
 use dd_clause::{Clause, Literal};
 use std::marker::Model;
 
-/// The clauses of a list and then those of steps, numbered from 1. Known are those that are alive.
+/// The clauses of a list and then those of steps, numbered from 1. A clause is known if it is alive.
 #[derive(Drop)]
 pub struct Known<'a> {
     clauses: &'a [Clause],
@@ -64,8 +64,8 @@ impl<'a> Known<'a> {
     }
 }
 
-/// Deletes the clauses of these numbers, one after the other. It stops and returns false at the first number that is not
-/// from 1 to `count`, or whose clause is deleted already.
+/// Deletes the clauses of these numbers, one after the other. There are `count` clauses: those of the list and of earlier steps.
+/// It stops and returns false at the first number that is not from 1 to `count`, or whose clause is deleted already.
 pub fn delete_all(alive: &mut [bool], count: usize, numbers: &[u64]) -> bool
     requires { count ≤ length alive.old }
     ensures value { (cs : List (List Literal)) → length cs ≡ count →
@@ -91,7 +91,7 @@ pub fn delete_all(alive: &mut [bool], count: usize, numbers: &[u64]) -> bool
     true
 }
 
-/// Deletes the clauses of these numbers. A number without a clause is skipped.
+/// Deletes the clauses of these numbers, and checks nothing. A number without a clause is skipped.
 pub fn delete_named(alive: &mut [bool], numbers: &[u64])
     ensures { (cs : List (List Literal)) →
         known_of cs alive.new ≡ spec.known_after (known_of cs alive.old) numbers.now }

@@ -10,7 +10,7 @@ use Rattle.dd_derivation.specs.declared.propagation.Finding.TheVariants.{Forced,
 use Rattle.dd_derivation.specs.Derivations.{same_literal, is_among, finding_of, finding, clause_of, hint_finding}
 use Rattle.dd_derivation.specs.lemmas.Soundness.{same_literal-eq, same_literal-refl, forced_by}
 
--- the literals are all copies of the candidate; without one there are none
+-- the literals are the candidate and copies of it; there are none if there is no candidate
 abbrev pub Sums : Option Literal → List Literal → Type 0
 Sums None left = left ≡ []
 Sums (Some l) left = (rest : List Literal) × (left ≡ l ∷ rest) × (list_all (same_literal l) rest ≡ true)
@@ -41,7 +41,7 @@ forced_end p clause l s = rw (s.1, s.2) (turned (p (negation l)) (Forced l))
     turned true f = refl
     turned false f = refl
 
--- two tests that agree find the same
+-- two tests that call the same literals false find the same
 pub finding-congr : (p q : Literal → Bool) (clause : List Literal) → ((l : Literal) → p l ≡ q l) → finding p clause ≡ finding q clause
 finding-congr p q clause e = of_same (filter (λ x. not (p x)) clause) ∙ ap (finding_of q) (same_kept clause)
   where
@@ -93,7 +93,7 @@ of_left p (y ∷ xs) x h = elim (cases_Bool (p y)) [
   ]
 ]
 
--- the clause has this one literal that is not false, and it is not true
+-- this is the only literal of the clause that is not false, and it is not true
 pub record Forces (p : Literal → Bool) (c : List Literal) (l : Literal) : Type 0 where
   pub member : In c l
   pub others : (x : Literal) → In c x → (x ≡ l) ⊎ (p x ≡ true)
