@@ -1,5 +1,5 @@
--- What a certificate of a query about images or a conjugacy claims is true. The pairs that it asks about aren't at hand, but the facts
--- about their automata were found when the script was read.
+-- What a certificate of a query about an image or a conjugacy claims is true. The script doesn't keep the query's pairs, but the facts
+-- about their automata were proved when the script was read.
 use Rattle.std.proofs.Common.{◌≡◌, true, List, [], Some, None, Option, subst, arith}
 use Rattle.std.proofs.lemmas.{List.Elements.All-contains}
 use Rattle.std.specs.{List.All, List.Contains, Prelude.unwrap_or, Prelude.slice_get}
@@ -31,7 +31,7 @@ module _ (s : Parts) where
     right_says = pair.gates.right.says;
   }
 
-  -- the facts about the goals of what is asked, if it is sound
+  -- if what is asked is sound, the facts about its goals hold
   abbrev FactsIfSound : Asked → Type 0
   FactsIfSound k = IsSoundAsked s.known.limits k → HaveGoalFacts k
 
