@@ -56,8 +56,9 @@ text_step (Formula-F.Chain j fs) = separated_by (sign j) fs
 abbrev pub text : Formula → List Lexeme
 text = fold-Formula (List Lexeme) text_step
 
--- The places where a formula may stand, from the tightest: 0 after `!` or a quantifier and as a part of `&`, 1 as a part of `|`,
--- 2 as a part of `->`, 3 as a part of `<->`, and 4 in parentheses or alone. A chain may stand at its rank and at looser places.
+-- The places where a formula may stand are numbered from the tightest: 0 after `!` or a quantifier and as a part of `&`, 1 as a
+-- part of `|`, 2 as a part of `->`, 3 as a part of `<->`, and 4 in parentheses or alone. The rank of a sign is the tightest
+-- place at which its chain may stand.
 abbrev pub join_rank : Join → ℕ
 join_rank Join.And = 1
 join_rank Join.Or = 2
@@ -75,7 +76,7 @@ stands_step (Formula-F.Chain j fs) place = nat_le (join_rank j) place && nat_le 
 abbrev pub stands : Formula → ℕ → Bool
 stands = fold-Formula (ℕ → Bool) stands_step
 
--- How many of the signs between n parts stand above part i. Those of `&` count as one, and so do those of `|`. The others group:
+-- How many of the signs between n parts stand above part i in the tree. All `&` count as one, and so do all `|`. The others group:
 -- `a -> b -> c` is `a -> (b -> c)`; `a <-> b <-> c` is `(a <-> b) <-> c`.
 abbrev pub signs_over : Join → ℕ → ℕ → ℕ
 signs_over Join.And n i = 1
@@ -99,7 +100,7 @@ tree_depth_step (Formula-F.Chain j ds) = chain_depth j (length ds) 0 ds
 abbrev pub tree_depth : Formula → ℕ
 tree_depth = fold-Formula ℕ tree_depth_step
 
--- a depth, cut off just over 64
+-- a depth, cut off at 65
 abbrev pub cut_depth : ℕ → ℕ
 cut_depth n = min n 65
 

@@ -35,7 +35,7 @@ lexeme_of bytes t = elim t.kind as (λ kind. Lexeme) [
   | TokenKind.Mark ↦ marked (mark_at (take t.length (drop t.start bytes)))
 ]
 
--- nothing if all bytes are allowed, and else `Stray`
+-- no lexeme if all bytes are allowed, and otherwise `Stray`
 abbrev pub stray : List ℕ → List Lexeme
 stray bytes = if (tokens_of bytes).stop == length bytes && list_all is_ascii bytes then [] else Lexeme.Stray ∷ []
 

@@ -1,5 +1,5 @@
-//! Reads formulas from left to right, by recursive descent. Each function reads what the tokens begin with, and returns it with
-//! the tokens after it.
+//! Reads formulas from left to right, by recursive descent. Each reader takes an item from the front of the tokens, and returns
+//! it with the tokens after it.
 ghost use Rattle.std.specs.Prelude.{◌≡◌, Some};
 ghost use Rattle.dd_written.specs.reading.Readers.{Gives};
 ghost use Rattle.dd_written.specs.reading.Atoms.{name_at, moves_at, term_at, comparand_at, relation_at, atom_at, balls_at, quantifier_at};
@@ -12,7 +12,7 @@ use crate::tree::{Atom, Ball, Comparand, Formula, Join, Name, Quantifier, Relati
 use dd_values::{Boxed, Items};
 use std::alloc::Global;
 
-/// The name that the tokens begin with, and the tokens after it.
+/// The name at the front of the tokens, and the tokens after it.
 ///
 /// # Errors
 /// The tokens don't begin with a name.
@@ -94,7 +94,7 @@ fn atom(alloc: Global, tokens: &[Lexeme]) -> Read<'_, Formula>
     Ok((Formula::Atom(Atom { term, relation }), rest))
 }
 
-/// The balls of a quantifier. There may be none here.
+/// The balls of a quantifier. There may be none; `quantifier` asks for one or more.
 fn balls(alloc: Global, tokens: &[Lexeme]) -> Read<'_, Items<Ball>>
     ensures { Gives (λ x. (x.0, x.1.now)) result (Some (balls_at tokens.now)) }
 {
@@ -129,7 +129,7 @@ fn quantifier(alloc: Global, tokens: &[Lexeme]) -> Read<'_, (Word, Items<Ball>)>
     }
 }
 
-/// Whether the sign of such a chain comes next.
+/// Whether this sign comes next.
 fn begins(join: Join, tokens: &[Lexeme]) -> bool
     ensures { result ≡ begins join tokens.now }
 {
@@ -141,8 +141,8 @@ fn begins(join: Join, tokens: &[Lexeme]) -> bool
     }
 }
 
-/// A formula that isn't a chain: an atom, or one that begins with `!`, `A`, `E` or `(`. At most `budget` of these are nested in each
-/// other.
+/// A formula that isn't a chain: an atom, or one that begins with `!`, `A`, `E` or `(`. These four may be nested in each other
+/// at most `budget` deep.
 #[cycle(read)]
 fn unary(alloc: Global, budget: u32, tokens: &[Lexeme]) -> Read<'_, Formula>
     ensures { Gives (λ x. (x.0, x.1.now)) result (unary_at budget tokens.now) }
@@ -153,7 +153,7 @@ fn unary(alloc: Global, budget: u32, tokens: &[Lexeme]) -> Read<'_, Formula>
     nested(alloc, budget - 1, tokens)
 }
 
-/// The same, with one level more than `budget`.
+/// The same as `unary`, with one level more than `budget`.
 #[cycle(read)]
 fn nested(alloc: Global, budget: u32, tokens: &[Lexeme]) -> Read<'_, Formula>
     ensures { Gives (λ x. (x.0, x.1.now)) result (nested_at (unary_at budget) tokens.now) }
@@ -194,7 +194,7 @@ fn quantified(alloc: Global, budget: u32, kind: Quantifier, tokens: &[Lexeme]) -
     Ok((formula, rest))
 }
 
-/// A part of a chain with this sign. It may be a chain with a sign that binds tighter.
+/// A part of a chain with this sign. It may itself be a chain with a sign that binds tighter.
 #[cycle(read)]
 fn part(alloc: Global, budget: u32, join: Join, tokens: &[Lexeme]) -> Read<'_, Formula>
     ensures { Gives (λ x. (x.0, x.1.now)) result (part_at join (unary_at budget) tokens.now) }
@@ -229,7 +229,7 @@ fn chain(alloc: Global, budget: u32, join: Join, tokens: &[Lexeme]) -> Read<'_, 
     Ok((Formula::Chain { join, parts }, rest))
 }
 
-/// The longest formula that the tokens begin with, and the tokens after it.
+/// The longest formula at the front of the tokens, and the tokens after it.
 ///
 /// # Errors
 /// The tokens don't begin with a formula, the longest one is deeper than 64, or memory ran out.

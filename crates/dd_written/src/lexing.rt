@@ -47,7 +47,7 @@ fn mark(written: &[u8]) -> Option<Mark>
     }
 }
 
-/// The lexeme of a token of these bytes. `Stray` stands for a mark with an unknown text, and `tokens` cuts no such mark.
+/// The lexeme of a token of these bytes. A mark with an unknown text would be `Stray`, but `tokens` cuts no such mark.
 fn lexeme(bytes: &[u8], token: Token) -> Lexeme
     ensures { result ≡ lexeme_of bytes.now token }
 {
@@ -77,8 +77,8 @@ fn is_ascii(bytes: &[u8]) -> bool
     bytes.iter().all(|byte| byte.is_ascii())
 }
 
-/// The lexemes of at most 1,048,576 bytes, up to the first byte that isn't allowed. If there is one, `Stray` follows.
-/// Fails only if memory runs out.
+/// The lexemes of some bytes, up to the first byte that isn't allowed. If there is one, `Stray` follows. There are at most
+/// 1,048,576 bytes. Fails only if memory runs out.
 pub fn lexemes(alloc: Global, bytes: &[u8]) -> Result<Items<Lexeme>, AllocError>
     requires { length bytes.now ≤ most_script }
     ensures value { IfOk result (λ lexemes. lexemes ≡ lexemes_of bytes.now) }

@@ -5,9 +5,9 @@ use dd_values::{Boxed, Items};
 /// A name: a word or a number.
 #[derive(Clone, Copy, Debug, PartialEq, Eq)]
 pub enum Name {
-    /// As `hard`.
+    /// For instance `hard`.
     Word(Word),
-    /// As `0`.
+    /// For instance `0`.
     Number(Number),
 }
 
@@ -19,7 +19,7 @@ pub struct Term {
     pub moves: Items<Word>,
 }
 
-/// The right side of `=` or `!=`.
+/// The right side of `=` or `!=`: what the symbol of a term is compared with.
 #[derive(Debug, Drop)]
 pub enum Comparand {
     /// A variable with its moves, or a word that names a symbol.
@@ -37,7 +37,7 @@ pub enum Relation {
     NotEqual(Comparand),
     /// `~ term`: it is adjacent to the cell of the term.
     Adjacent(Term),
-    /// `@ term`: it is the cell of the term.
+    /// `@ term`: it is the same cell as that of the term.
     Same(Term),
     /// `: name`: its node has this name.
     AtNode(Name),
@@ -66,7 +66,7 @@ pub enum Quantifier {
     Exists,
 }
 
-/// The sign between the parts of a chain. The first one here binds tightest, and the last one loosest.
+/// The sign between the parts of a chain. These are in order: the first binds tightest, the last loosest.
 #[derive(Clone, Copy, Debug, PartialEq, Eq)]
 pub enum Join {
     /// `&`
@@ -79,7 +79,7 @@ pub enum Join {
     Iff,
 }
 
-/// The syntax tree of a formula, with its parentheses.
+/// The syntax tree of a formula. It keeps the parentheses.
 #[derive(Debug, Drop)]
 pub enum Formula {
     /// An atom.

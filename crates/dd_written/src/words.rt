@@ -1,4 +1,4 @@
-//! The text of words.
+//! Parts of a text, and the bytes of words.
 ghost use Rattle.std.specs.Prelude.{◌≡◌, bytes_eq, take, drop};
 ghost use Rattle.dd_written.specs.Values.{word_text};
 

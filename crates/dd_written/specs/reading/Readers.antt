@@ -2,7 +2,7 @@
 use Rattle.std.specs.Prelude.{◌≡◌, ℕ, zero, suc, List, [], ◌∷◌, ◌++◌, Bool, Option, Some, None, Result, Ok, Err, if◌then◌else◌}
 use Rattle.dd_written.specs.Tree.{ReadFault, Lexeme}
 
--- What the tokens begin with, and the tokens after it. `None` if they begin with nothing of this kind.
+-- Takes an item from the front of the tokens, and gives it with the tokens after it. `None` if the tokens begin with no such item.
 abbrev pub Reader : Type 0 → Type 0
 Reader X = List Lexeme → Option (X × List Lexeme)
 
@@ -11,7 +11,7 @@ abbrev pub ◌>>=◌ : {A B : Type 0} → Option A → (A → Option B) → Opti
 (Some x) >>= f = f x
 None >>= f = None
 
--- the fault is that memory ran out, or the reader reads nothing
+-- a function may fail with this fault: memory ran out, or the reader reads nothing
 abbrev pub Fails : {Y : Type 0} → ReadFault → Option Y → Type 0
 Fails ReadFault.Memory read = Unit {0}
 Fails ReadFault.Syntax read = read ≡ None
