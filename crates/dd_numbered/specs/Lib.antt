@@ -1,4 +1,4 @@
--- Numbers of cells: the indices of their symbols in a list.
+-- Numberings of cells: the indices of their symbols in a list.
 pub mod Numbering
 -- Formulas over a list of symbols: their truth, and how expansions become such formulas.
 pub mod Numbered

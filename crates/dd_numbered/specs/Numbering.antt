@@ -1,4 +1,4 @@
--- Numbers of cells: the number of a cell is the index of its symbol in a list.
+-- Numberings of cells. The number of a cell is the index of its symbol in a list.
 use Rattle.std.specs.{Prelude.ℕ, Prelude.Option, Prelude.Some, Prelude.None, Prelude.List, Prelude.slice_get, List.position_or_len}
 use Rattle.std.specs.Ordering.{is_eq}
 use Rattle.dd_lattice.specs.{Order.cell_cmp, declared.position.Cell.Cell}
@@ -8,7 +8,7 @@ use Rattle.dd_pattern.specs.Reading.{Look}
 abbrev pub Numbering : Type 0
 Numbering = Cell → Option ℕ
 
--- the symbol at a number, if there is one
+-- the symbol of the list at a number, if there is one
 abbrev pub symbol_with : List ℕ → Option ℕ → Option ℕ
 symbol_with ss None = None
 symbol_with ss (Some k) = slice_get ss k

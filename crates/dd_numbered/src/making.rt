@@ -11,8 +11,8 @@ use dd_values::{Boxed, Items};
 use std::alloc::{AllocError, Global};
 
 impl Numbered {
-    /// The expansion with a number in place of each cell. The result is true of a list of symbols exactly if the
-    /// expansion is true when each cell has the symbol at its number. A leaf whose cell has no number becomes false.
+    /// The expansion with a number in place of each cell. The result is true of a list of symbols exactly if the expansion
+    /// is true when each cell has the symbol at its number. A leaf whose cell has no number becomes the constant false.
     pub fn new<N: Numbers>(
         alloc: Global,
         expanded: &Expanded,

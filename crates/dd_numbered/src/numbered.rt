@@ -2,14 +2,14 @@
 
 use dd_values::{Boxed, Items};
 
-/// A formula over a list of symbols. It says of their numbers what an expansion says of cells.
+/// A formula over a list of symbols. It speaks of indices of the list as an expansion speaks of cells.
 #[derive(Debug, Drop)]
 pub enum Numbered {
     /// True or false.
     Constant(bool),
     /// The list has this symbol at the index `number`.
     Leaf { number: usize, symbol: u32 },
-    /// The part is false.
+    /// The inner formula is false.
     Not(Boxed<Numbered>),
     /// All parts are true. With no parts it is true.
     And(Items<Numbered>),

@@ -1,10 +1,10 @@
-//! Numbers of cells, which say where the symbols of cells stand in a list.
+//! Numberings of cells. The number of a cell is the index of its symbol in a list.
 ghost use Rattle.std.specs.Prelude.{◌≡◌, ℕ, Option};
 ghost use Rattle.dd_lattice.specs.declared.position.Cell.{Cell};
 
 use dd_lattice;
 
-/// Gives numbers to some cells, possibly to all. The number of a cell is the index of its symbol in a list.
+/// A numbering of some cells, possibly of all.
 pub trait Numbers {
     /// The number of each cell of Z^3, or none.
     ghost numbering: { Self → Cell → Option ℕ };

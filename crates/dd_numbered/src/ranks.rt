@@ -7,8 +7,8 @@ ghost use Rattle.dd_numbered.specs.Numbering.{rank};
 use crate::numbers::Numbers;
 use dd_lattice::Cell;
 
-/// Cells in cell order. The number of each is its place among them. The number of any other cell is their count, which
-/// is past the end of a list with one symbol for each.
+/// Cells in cell order. The number of each is its place among them. Every other cell has their count as its number. A list
+/// with one symbol for each of them ends before that index.
 #[derive(Drop)]
 pub struct Ranks<'a> {
     /// The cells, strictly ascending in cell order.

@@ -6,8 +6,8 @@ ghost use Rattle.dd_numbered.specs.settling.Parts.{AreAllSettled, IsAnySettled, 
 use crate::numbered::Numbered;
 
 impl Numbered {
-    /// The formula's truth whatever symbols follow, if Kleene's tables settle it. Else `None`, even where no further
-    /// symbols could change the truth. It allocates nothing.
+    /// The formula's truth whatever symbols follow these, if Kleene's truth tables settle it. Else `None`, perhaps although
+    /// no further symbols could change the truth. It allocates nothing.
     #[cycle(settled)]
     pub fn settled(&self, symbols: &[u32]) -> Option<bool>
         ensures { IfSome result (IsSettled self.now symbols.now) }

@@ -48,7 +48,7 @@ pub fn all_true(parts: &[Numbered], symbols: &[u32]) -> bool
     true
 }
 
-/// Whether some of the formulas is true of the symbols.
+/// Whether at least one of the formulas is true of the symbols.
 #[cycle(truth)]
 fn some_true(parts: &[Numbered], symbols: &[u32]) -> bool
     ensures { result ≡ list_any (λ e. holds_in e symbols.now) parts.now }

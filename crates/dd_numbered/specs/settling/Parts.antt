@@ -3,14 +3,14 @@ use Rattle.std.specs.{Prelude.ℕ, Prelude.◌≡◌, Prelude.◌++◌, Prelude.
 use Rattle.dd_expansion.specs.Truth.{is_symbol}
 use Rattle.dd_numbered.specs.{declared.numbered.Numbered.Numbered, Numbered.holds_in}
 
--- whether the list has the symbol s at the number k is b, whatever symbols follow
+-- whatever symbols follow, b says whether the list has the symbol s at the index k
 abbrev pub IsLeafSettled : ℕ → ℕ → List ℕ → Bool → Type 0
 IsLeafSettled s k ss b = (more : List ℕ) → is_symbol s (slice_get (ss ++ more) k) ≡ b
 
--- whether all formulas are true is b, whatever symbols follow
+-- whatever symbols follow, b says whether all of the formulas are true
 abbrev pub AreAllSettled : List Numbered → List ℕ → Bool → Type 0
 AreAllSettled es ss b = (more : List ℕ) → list_all (λ e. holds_in e (ss ++ more)) es ≡ b
 
--- whether some formula is true is b, whatever symbols follow
+-- whatever symbols follow, b says whether some formula is true
 abbrev pub IsAnySettled : List Numbered → List ℕ → Bool → Type 0
 IsAnySettled es ss b = (more : List ℕ) → list_any (λ e. holds_in e (ss ++ more)) es ≡ b
