@@ -28,7 +28,7 @@ is_in_grown d n e u p =
 abbrev pub one_only : Place → Place → ℕ
 one_only q p = cond (int_eq p.x q.x && int_eq p.y q.y && int_eq p.z q.z) 1 0
 
--- what these tests and sums mean
+-- what is_in_box, box_sum and is_in_grown mean
 pub record IsSide (d n : ℕ) (u : Place) : Type 0 where
   -- the positions of the box are those of Side(n), moved by u
   pub positions : (p : Place) → (is_in_box (side d n) u p ≡ true) ↔ IsInSide d n (seen_from u p)
@@ -41,7 +41,7 @@ pub record IsSide (d n : ℕ) (u : Place) : Type 0 where
 abbrev pub is_grown_cell : LocalRule → ℕ → ℕ → Place → Cell → Bool
 is_grown_cell x n e u c = is_in_grown x.dimension n e u c.position && nat_lt c.node x.nodes
 
--- exactly these cells have symbols, and the symbols are allowed
+-- exactly the cells of the grown box have symbols, and the symbols are allowed
 pub record IsSideFilling (x : LocalRule) (n e : ℕ) (u : Place) (look : Look) : Type 0 where
   pub domain : (c : Cell) → is_some (look c) ≡ is_grown_cell x n e u c
   pub allowed : AreAllowed x look
