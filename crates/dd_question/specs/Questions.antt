@@ -20,14 +20,15 @@ use Rattle.dd_question.specs.declared.question.Question.TheVariants as question
 pub data Asked : Type 0 where
   -- does the configuration live in the rule's subshift?
   membership : LocalRule → Tile → Asked
-  -- does no configuration that obeys the rule have the goal?
+  -- the box question: does no configuration that obeys the rule have the goal at any position?
   box : LocalRule → GoalOf → Asked
   -- do the rules allow the same configurations?
   equality : LocalRule → LocalRule → Asked
   -- Which patterns does the rule forbid? A pattern gives symbols to the cells that the rule reads at a node, and the rule is
   -- false there.
   listing : LocalRule → Asked
-  -- which minimal patterns forbid the same? they give symbols to some of these cells, none of which can be left out
+  -- Which minimal patterns forbid what the rule forbids? A minimal pattern gives symbols to some of the cells that the rule
+  -- reads at a node. None of them can be left out.
   smallest : LocalRule → Asked
   -- are two maps between the subshifts of two rules inverse to each other?
   conjugacy : ConjugacyOf → Asked
@@ -35,11 +36,12 @@ pub data Asked : Type 0 where
   density : LocalRule → List ℕ → List ℕ → Asked
   -- what is the least weight of the fundamental box, over the configurations with these periods and no shear?
   least : LocalRule → List ℕ → List ℕ → Asked
-  -- How much does each position hold at least, after each has sent amounts along these vectors? The pattern of this radius
-  -- around a position determines what it sends. The domain of the fillings that are looked at is grown by this margin.
+  -- How much does each position hold at least, after each has sent amounts along these vectors? The pattern around
+  -- a position determines what it sends; the first number is its radius. The second number is the margin: the fillings that
+  -- are looked at reach farther by it.
   discharge : LocalRule → ℕ → ℕ → List Place → List ℕ → Asked
 
--- the question that a value of the program is
+-- the question that a value of the code stands for
 abbrev pub asked_of : Question → Asked
 asked_of (question.Membership rule configuration) = membership rule.now configuration.now
 asked_of (question.Box premise goal) = box premise.now (goal_of premise.now goal)
@@ -91,11 +93,11 @@ pub data IsPartFault : Asked → QuestionFault → Type 0 where
       IsPartFault (discharge x radius margin vs ws) f
   memory_fault : {a : Asked} → IsPartFault a fault.Memory
 
--- the limit, where it is passed
+-- the limit e, if b says that it is passed
 abbrev pub passed : Bool → Excess → Option Excess
 passed b e = if b then Some e else None
 
--- the limit on its work that it passes, if any
+-- the limit on its work that the question passes, if any
 abbrev pub excess_of : Limits → Asked → Option Excess
 excess_of l (membership x t) = None
 excess_of l (box x g) = passed (is_long l x g) excess.Clauses

@@ -14,9 +14,9 @@ positions_in along = periods_volume (periods_of along 0)
 abbrev pub cells_in : LocalRule → List ℕ → ℕ
 cells_in x along = positions_in along * x.nodes
 
--- How many clauses it takes to ask for a weight. There are the clauses of the torus, and one more. For each cell, and each weight
--- below the greatest that the fundamental box can have, there are those of an And gate of two members for each symbol, and those
--- of an Or gate over all of these.
+-- How many clauses it takes to ask for a weight. There are the clauses of the torus, and one more. Then there are the
+-- clauses of some gates. For each cell, and each weight below the greatest that the fundamental box can have, these are an And
+-- gate of two members for each symbol, and an Or gate over all of these.
 abbrev pub weight_clauses : LocalRule → List ℕ → List ℕ → ℕ
 weight_clauses x along ws =
     question_clauses x always (positions_in along) + cells_in x along * (cells_in x along * greatest ws * suc (4 * length ws)) + 1

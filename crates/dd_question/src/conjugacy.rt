@@ -12,17 +12,17 @@ use dd_formula::Rule;
 /// anywhere.
 #[derive(Clone, Copy)]
 pub struct Conjugacy<'a> {
-    /// The first subshift.
+    /// The rule of the first subshift.
     pub from: &'a Rule,
-    /// The second subshift.
+    /// The rule of the second subshift.
     pub to: &'a Rule,
-    /// In the first, the map doesn't lead into the second.
+    /// The goal for the first: the map leads out of the second.
     pub image: Goal<'a>,
-    /// In the second, the map back doesn't lead into the first.
+    /// The goal for the second: the map back leads out of the first.
     pub image_back: Goal<'a>,
-    /// In the first, the map and then the map back change something.
+    /// The goal for the first: the map and then the map back change something.
     pub round: Goal<'a>,
-    /// In the second, the map back and then the map change something.
+    /// The goal for the second: the map back and then the map change something.
     pub round_back: Goal<'a>,
 }
 

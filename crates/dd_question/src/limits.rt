@@ -41,7 +41,7 @@ fn is_long(alloc: Global, limits: &Limits, premise: &Rule, goal: &Goal) -> Resul
     Ok(clauses > MOST_CLAUSES)
 }
 
-/// Whether one of the four box questions has too many clauses.
+/// Whether one of the four box questions of a conjugacy has too many clauses.
 fn is_some_long(alloc: Global, limits: &Limits, c: &Conjugacy) -> Result<bool, AllocError>
     requires limits { AreLimits limits.now }
     requires formed { EachPart IsFormedBox (conjugacy_of c.now) }
@@ -54,7 +54,7 @@ fn is_some_long(alloc: Global, limits: &Limits, c: &Conjugacy) -> Result<bool, A
     Ok(image || image_back || round || round_back)
 }
 
-/// Whether the rule has too many patterns at some node.
+/// Whether, at some node, the cells that the rule reads have too many fillings.
 fn has_many_patterns(rule: &Rule) -> bool
     ensures { result ≡ has_many_patterns rule.now }
 {
@@ -66,7 +66,7 @@ fn has_many_patterns(rule: &Rule) -> bool
     false
 }
 
-/// Whether the transfer graph over a strip whose slices have so many positions has too many states or windows.
+/// Whether the transfer graph over a strip has too many states or windows, where each slice has `volume` positions.
 fn has_many_states(rule: &Rule, volume: u32) -> bool
     ensures { result ≡ has_many_states rule.now volume }
 {

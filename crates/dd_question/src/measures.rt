@@ -63,7 +63,7 @@ fn differing(
     })
 }
 
-/// The measure of a goal for this premise.
+/// The measure of a goal that fits this premise.
 pub(crate) fn measure_of(alloc: Global, premise: &Rule, goal: &Goal) -> Result<Measure, AllocError>
     requires { IsGoalFor premise.now (goal_of premise.now goal.now) }
     ensures { IfOk result (λ measure. IsMeasureOf measure (goal_of premise.now goal.now)) }

@@ -70,7 +70,7 @@ pub(crate) fn check_member(rule: &Rule, configuration: &Periodic) -> Result<(), 
     ensures ok { OnOk result (IsFormed (asked.membership rule.now configuration.now)) }
     ensures fault { IfErr result (IsPartFault (asked.membership rule.now configuration.now)) }
 {
-    // These reads bring in what the types guarantee.
+    // These calls tell the proof what the types guarantee.
     let _nodes = rule.nodes();
     let _symbols = configuration.symbols();
     if !fits(rule, configuration) {
@@ -131,7 +131,7 @@ pub(crate) fn check_box(alloc: Global, premise: &Rule, goal: &Goal) -> Result<()
     ensures ok { OnOk result (IsFormed (asked.box premise.now (goal_of premise.now goal.now))) }
     ensures fault { IfErr result (IsPartFault (asked.box premise.now (goal_of premise.now goal.now))) }
 {
-    // This read brings in what the type guarantees.
+    // This call tells the proof what the type guarantees.
     let _nodes = premise.nodes();
     if !is_goal_for(alloc, premise, goal)? {
         return Err(QuestionFault::Goal);
@@ -177,7 +177,7 @@ fn is_strip(rule: &Rule, periods: [u32; 2]) -> bool
         && (3 <= dimension || z == 1)
 }
 
-/// Whether no weight passes the limit.
+/// Whether each weight is at most 1,000.
 fn are_light(weights: &[u32]) -> bool
     ensures { IsTrue result ↔ All (λ w. w ≤ most_weight) weights.now }
 {
@@ -202,7 +202,7 @@ pub(crate) fn check_density(
     ensures ok { OnOk result (IsFormed (asked.density rule.now strip weights.now)) }
     ensures fault { IfErr result (IsPartFault (asked.density rule.now strip weights.now)) }
 {
-    // This read brings in what the type guarantees.
+    // This call tells the proof what the type guarantees.
     let _nodes = rule.nodes();
     if !is_strip(rule, strip) {
         return Err(QuestionFault::Strip);
@@ -220,7 +220,7 @@ fn is_flat(dimension: u32, vector: &Position) -> bool
     (1 < dimension || vector.y == 0) && (2 < dimension || vector.z == 0)
 }
 
-/// Whether the vector keeps the limit of length.
+/// Whether the vector is at most 4 long along each axis.
 fn is_near(vector: &Position) -> bool
     ensures { IsTrue result ↔ IsNear vector.now }
 {
@@ -253,7 +253,7 @@ fn are_apart(vectors: &[Position]) -> bool
     }
 }
 
-/// Whether amounts may be sent along each of the vectors.
+/// Whether each of the vectors is one along which amounts may be sent.
 fn are_short(dimension: u32, vectors: &[Position]) -> bool
     ensures { IsTrue result ↔ All (IsVector dimension) vectors.now }
 {
@@ -288,7 +288,7 @@ pub(crate) fn check_discharge(
     ensures ok { OnOk result (IsFormed (asked.discharge rule.now radius margin vectors.now weights.now)) }
     ensures fault { IfErr result (IsPartFault (asked.discharge rule.now radius margin vectors.now weights.now)) }
 {
-    // This read brings in what the type guarantees.
+    // This call tells the proof what the type guarantees.
     let _nodes = rule.nodes();
     if radius > WIDEST_RADIUS {
         return Err(QuestionFault::Radius);

@@ -5,7 +5,7 @@ use dd_formula::Rule;
 use dd_lattice::Position;
 use dd_pattern::Periodic;
 
-/// A question about rules. The symbol `s` weighs `weights[s]`.
+/// A question about rules. In its `weights`, the symbol `s` weighs `weights[s]`.
 #[derive(Clone, Copy)]
 pub enum Question<'a> {
     /// Does the configuration live in the rule's subshift?
@@ -13,7 +13,7 @@ pub enum Question<'a> {
         rule: &'a Rule,
         configuration: &'a Periodic,
     },
-    /// Does no configuration that obeys the premise have the goal?
+    /// The box question: does no configuration that obeys the premise have the goal at any position?
     Box {
         premise: &'a Rule,
         goal: Goal<'a>,
@@ -28,8 +28,8 @@ pub enum Question<'a> {
     Listing {
         rule: &'a Rule,
     },
-    /// Which minimal patterns forbid the same? Such a pattern gives symbols to some of these cells, none of which can be left
-    /// out. `dd_minimal` says which list of them is the answer.
+    /// Which minimal patterns forbid what the rule forbids? A minimal pattern gives symbols to some of the cells that the rule
+    /// reads at a node. None of them can be left out. `dd_minimal` says which list of them is the answer.
     Smallest {
         rule: &'a Rule,
     },
@@ -37,8 +37,8 @@ pub enum Question<'a> {
     Conjugacy {
         conjugacy: Conjugacy<'a>,
     },
-    /// What is the least density: the least weight per position of a configuration with these periods along the axes after the
-    /// first?
+    /// What is the least density: the least weight per position of a configuration on the strip? `strip` holds its periods along
+    /// the second and the third axis.
     Density {
         rule: &'a Rule,
         strip: [u32; 2],
@@ -51,8 +51,8 @@ pub enum Question<'a> {
         weights: &'a [u32],
     },
     /// What is the best bound of a discharge: how much does each position hold at least, after each has sent amounts along these
-    /// vectors? What a position sends is determined by the pattern within `radius` around it. The domain of the fillings
-    /// that are looked at is grown by `margin`.
+    /// vectors? The pattern within `radius` around a position determines what it sends. The fillings that are looked at reach
+    /// farther by `margin`.
     Discharge {
         rule: &'a Rule,
         radius: u32,

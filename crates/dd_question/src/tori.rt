@@ -28,7 +28,7 @@ fn positions_in(limit: u32, periods: [u32; 3]) -> u32
     times(limit, times(limit, z, y), x)
 }
 
-/// The number of cells of the fundamental box, cut off in the same way.
+/// The number of cells of the fundamental box, or `limit + 1` where it is greater than the limit.
 fn cells_in(limit: u32, rule: &Rule, periods: [u32; 3]) -> u32
     requires { limit < 2 ^ 31 }
     ensures { result ≡ cut limit (cells_in rule.now periods) }
@@ -61,7 +61,7 @@ pub(crate) fn check_least(
     ensures ok { OnOk result (IsFormed (asked.least rule.now periods weights.now)) }
     ensures fault { IfErr result (IsPartFault (asked.least rule.now periods weights.now)) }
 {
-    // This read brings in what the type guarantees.
+    // This call tells the proof what the type guarantees.
     let _nodes = rule.nodes();
     if !is_torus(rule, periods) {
         return Err(QuestionFault::Periods);
@@ -97,7 +97,7 @@ fn weight_clauses(rule: &Rule, periods: [u32; 3], weights: &[u32]) -> u32
     plus(MOST_CLAUSES, plus(MOST_CLAUSES, torus, gates), 1)
 }
 
-/// Whether these clauses are more than 2,000,000.
+/// Whether a question for a least weight takes more than 2,000,000 clauses.
 pub(crate) fn is_heavy(rule: &Rule, periods: [u32; 3], weights: &[u32]) -> bool
     requires { length weights.now ≡ rule.now.symbols }
     ensures { result ≡ is_heavy rule.now periods weights.now }
