@@ -1,4 +1,4 @@
--- Lists that are made node by node. At each node there is a list of items, as IsHere says, and each item has an entry.
+-- Lists that are made node by node. `IsHere a` says which list of items belongs to the node a. Each item has an entry.
 use Rattle.std.specs.Prelude.{ℕ, zero, suc, ◌≡◌, List, [], ◌++◌, map}
 
 -- the list is one that satisfies IsBefore, followed by the entries of the node n

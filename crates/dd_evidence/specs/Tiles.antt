@@ -3,12 +3,12 @@ use Rattle.std.specs.Prelude.{ℕ, ◌≡◌, List, [], ◌∷◌, length, take,
 use Rattle.dd_pattern.specs.{declared.periods.Periods.Periods, Tile.Tile, Tile.tile}
 use Rattle.dd_formula.specs.LocalRule.{LocalRule}
 
--- the periods that an answer writes; 1 along an axis for which it writes none
+-- the periods that are read back from an answer; 1 along an axis for which it writes none
 abbrev pub given_periods : List ℕ → ℕ → Periods
 given_periods along shear =
     record { x = slice_index_or along 0 1; y = slice_index_or along 1 1; z = slice_index_or along 2 1; shear = shear }
 
--- the configuration that an answer writes
+-- the configuration that is read back from an answer
 abbrev pub given_tile : LocalRule → List ℕ → ℕ → List ℕ → Tile
 given_tile x along shear symbols = tile x.dimension (given_periods along shear) x.nodes symbols
 

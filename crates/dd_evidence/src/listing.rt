@@ -1,4 +1,4 @@
-//! The list of the patterns that a rule forbids.
+//! The list of all the patterns that a rule forbids.
 ghost use Rattle.std.specs.Prelude.{◌≡◌, ◌<◌, IfOk, OnOk};
 ghost use Rattle.dd_question.specs.Lists.{HasFewPatterns};
 ghost use Rattle.dd_forbidden.specs.Breaking.{AreBreakingFillings, BreakingFillings};
@@ -40,7 +40,7 @@ fn breaking(alloc: Global, rule: &Rule, node: u32) -> Result<Vec<Filling>, Alloc
     }
 }
 
-/// Appends the patterns of one node.
+/// Appends the patterns that the rule forbids at the node.
 fn push_node(
     alloc: Global,
     rule: &Rule,

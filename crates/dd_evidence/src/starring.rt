@@ -1,4 +1,5 @@
-//! The list of the minimal patterns that a rule forbids. A starred pattern has a star, `None`, for each cell left out.
+//! The list of the minimal patterns that a rule forbids. A starred pattern has a star, `None`, for each cell that it leaves
+//! out.
 ghost use Rattle.std.specs.Prelude.{◌≡◌, ◌<◌, IfOk, OnOk};
 ghost use Rattle.dd_question.specs.Lists.{HasFewPatterns};
 ghost use Rattle.dd_minimal.specs.Minimal.{AreMinimal, IsMinimalList};
@@ -12,7 +13,7 @@ use dd_minimal::{Partial, minimal};
 use dd_values::Items;
 use std::alloc::{AllocError, Global};
 
-/// The symbol of a cell, or `None` if the pattern leaves the cell out.
+/// The symbol of a cell as an answer writes it, or `None` if the pattern leaves the cell out.
 fn kept(symbol: Option<u32>) -> Option<u64>
     ensures { result ≡ symbol }
 {
@@ -49,7 +50,7 @@ fn minimal_at(alloc: Global, rule: &Rule, node: u32) -> Result<Vec<Partial>, All
     }
 }
 
-/// Appends the patterns of one node.
+/// Appends the minimal patterns of the node.
 fn push_starred(
     alloc: Global,
     rule: &Rule,
