@@ -12,7 +12,7 @@ most_patterns = 65536
 abbrev pub most_states : ℕ
 most_states = 4096
 
--- a transfer graph may have at most so many windows, which are its longer states, of one slice more
+-- a transfer graph may have at most so many windows; a window is a longer state, with one slice more
 abbrev pub most_longer_states : ℕ
 most_longer_states = 131072
 
@@ -28,7 +28,7 @@ least_x from cs = fold (λ x c. int_min x c.position.x) from cs
 abbrev pub greatest_x : ℤ → List Cell → ℤ
 greatest_x from cs = fold (λ x c. int_max x c.position.x) from cs
 
--- the number of slices from the first to the last that the rule reads at a cell, the cell's own slice included
+-- the number of slices from the first to the last that the rule reads at a cell; the cell's own slice is among them
 abbrev pub slice_span : LocalRule → ℕ
 slice_span r = unsigned_abs (greatest_x (pos 0) (all_cells r) -ℤ least_x (pos 0) (all_cells r)) + 1
 
@@ -36,7 +36,7 @@ slice_span r = unsigned_abs (greatest_x (pos 0) (all_cells r) -ℤ least_x (pos 
 abbrev pub state_length : LocalRule → ℕ
 state_length r = max 1 (slice_span r - 1)
 
--- the number of fillings of a slice with so many positions
+-- the number of fillings of one slice, which has `volume` positions
 abbrev pub slices : LocalRule → ℕ → ℕ
 slices r volume = r.symbols ^ (r.nodes * volume)
 

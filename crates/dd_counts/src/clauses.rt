@@ -1,10 +1,10 @@
-//! How many clauses a box question takes.
+//! How many clauses a box question takes. Such a question asks whether no configuration of a rule, the premise, has a goal.
 ghost use Rattle.std.specs.Prelude.{◌≡◌, ◌≤◌, ◌^◌, ◌<◌, ℕ, length};
 ghost use Rattle.dd_formula.specs.Counts.{cut, rule_clauses, disallowed, disallowed_pairs, place_clauses, broken_clauses, largest_clauses};
 
 use dd_formula::{Rule, cut_off, plus, power, times};
 
-/// How many clauses the gates of the rule take, over all nodes of a position.
+/// How many clauses the gates of the rule take, over all nodes of a position; cut off past the limit.
 fn rule_clauses(rule: &Rule, limit: u32) -> u32
     requires { limit < 2 ^ 31 }
     ensures { result ≡ cut limit (rule_clauses rule.now) }
@@ -31,7 +31,7 @@ fn disallowed_at(rule: &Rule, node: u32) -> u32
     count
 }
 
-/// How many pairs of a node and a symbol that it doesn't allow there are.
+/// The number of pairs of a node and a symbol that the node doesn't allow.
 fn disallowed_pairs(rule: &Rule) -> u32
     ensures count { result ≡ disallowed_pairs rule.now }
     ensures few { result ≤ 64 }
@@ -43,8 +43,8 @@ fn disallowed_pairs(rule: &Rule) -> u32
     count
 }
 
-/// How many clauses say that each cell of a position has one symbol, which its node allows, and that the rule is true there;
-/// cut off past the limit.
+/// How many clauses a position takes; cut off past the limit. They say of each of its cells that it has exactly one symbol, that
+/// its node allows the symbol, and that the rule is true there.
 pub fn place_clauses(rule: &Rule, limit: u32) -> u32
     requires { limit < 2 ^ 31 }
     ensures { result ≡ cut limit (place_clauses rule.now) }
@@ -66,8 +66,9 @@ pub fn broken_clauses(rule: &Rule, limit: u32) -> u32
     plus(limit, rule_clauses(rule, limit), 1)
 }
 
-/// How many clauses a box question takes on the box of this radius or on the torus of this period, whichever has more
-/// positions; cut off past the limit. `goal` counts the clauses of the goal, and may be cut off past the same limit.
+/// How many clauses a box question takes; cut off past the limit. Its region is the box of this radius, or the torus with this
+/// period along each axis if that has more positions. `goal` is the number of clauses of the goal. It may be cut off past the
+/// same limit.
 pub fn question_clauses(premise: &Rule, goal: u32, radius: u32, period: u32, limit: u32) -> u32
     requires radius { radius < 2 ^ 31 }
     requires limit { limit < 2 ^ 31 }

@@ -1,5 +1,5 @@
-//! How much work a question takes: clauses, patterns, and states of a transfer graph. A count is given as `limit + 1` where it
-//! is greater than a limit, which is below 2^31.
+//! How much work a question takes: the numbers of its clauses, its patterns, and the states of its transfer graph. A call with a
+//! `limit` cuts its count off: it gives `limit + 1` if the count is greater. Each limit is below 2^31.
 #![tactic(auto)]
 
 mod clauses;

@@ -1,5 +1,6 @@
-//! How many patterns a rule has at a node, how many states its transfer graph has over a strip, and the limits on both. In a
-//! transfer graph over a strip, a state is a filling of `state_length` slices in a row, and a window is one of one slice more.
+//! How many patterns a rule has at a node, how many states its transfer graph has over a strip, and the limits on both. A
+//! pattern is a filling of the cells that the rule reads at the node. A slice of a strip has the cells of one `x`. A state is
+//! a filling of `state_length` successive slices. A window is a filling of one slice more.
 ghost use Rattle.std.specs.Prelude.{◌≡◌, ◌^◌, ◌<◌, ◌≤◌};
 ghost use Rattle.dd_formula.specs.Counts.{cut};
 ghost use Rattle.dd_counts.specs.Rules.{pattern_count, least_x, greatest_x, slice_span, state_length, slices, states, longer_states};
@@ -13,10 +14,10 @@ pub const MOST_PATTERNS: u32 = 65_536;
 /// How many states a transfer graph may have.
 pub const MOST_STATES: u32 = 4_096;
 
-/// How many windows a transfer graph may have. They are its longer states, of one slice more.
+/// How many windows a transfer graph may have. A window is a longer state: it has one slice more.
 pub const MOST_LONGER_STATES: u32 = 131_072;
 
-/// The number of fillings of the cells that the rule reads at a node; cut off past the limit.
+/// The number of patterns at a node: fillings of the cells that the rule reads there. It is cut off past the limit.
 pub fn patterns(rule: &Rule, node: u32, limit: u32) -> u32
     requires node { node < rule.now.nodes }
     requires limit { limit < 2 ^ 31 }
@@ -53,7 +54,7 @@ fn greatest_x(from: i32, cells: &[Cell]) -> i32
     greatest
 }
 
-/// The number of slices from the first to the last that the rule reads at a cell, the cell's own slice included.
+/// The number of slices from the first to the last that the rule reads at a cell. The cell's own slice is among them.
 fn span(rule: &Rule) -> u64
     ensures value { result ≡ slice_span rule.now }
     ensures small { result ≤ 2 ^ 32 }
@@ -75,7 +76,7 @@ pub fn state_length(rule: &Rule) -> u64
     (span(rule) - 1).max(1)
 }
 
-/// The number of fillings of a slice with so many positions; cut off past the limit.
+/// The number of fillings of one slice, which has `volume` positions; cut off past the limit.
 fn slices(rule: &Rule, volume: u32, limit: u32) -> u32
     requires { limit < 2 ^ 31 }
     ensures { result ≡ cut limit (slices rule.now volume) }
@@ -83,7 +84,7 @@ fn slices(rule: &Rule, volume: u32, limit: u32) -> u32
     power(limit, rule.symbols(), rule.nodes() as u64 * volume as u64)
 }
 
-/// The number of states of the rule's transfer graph over a strip whose slices have so many positions; cut off past the limit.
+/// The number of states of the rule's transfer graph over a strip whose slices have `volume` positions; cut off past the limit.
 pub fn states(rule: &Rule, volume: u32, limit: u32) -> u32
     requires { limit < 2 ^ 31 }
     ensures { result ≡ cut limit (states rule.now volume) }

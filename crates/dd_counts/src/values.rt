@@ -10,16 +10,18 @@ use dd_formula::{Automaton, Cases, cut_off, plus};
 use dd_lattice::Cell;
 use std::alloc::{AllocError, Global};
 
-/// How many clauses the value of an automaton by cases takes at a node, over so many symbols; cut off past the limit.
+/// How many clauses the value of an automaton by cases takes at a node, over an alphabet of `symbols` symbols; cut off past the
+/// limit.
 fn given_clauses(cases: &Cases, node: u32, symbols: u32, limit: u32) -> u32
     requires node { HasCaseNode cases.now node }
     requires limit { limit < 2 ^ 31 }
     ensures { result ≡ cut limit (given_clauses symbols cases.now node) }
 {
-    // Without a case: a clause of the default's gate, one for the default in the gate of its symbol, and one of each symbol's gate.
+    // Without cases, the default's gate has one clause. The gate of each symbol has one too, and that of the default symbol one
+    // more.
     let mut clauses = plus(limit, 2, symbols);
-    // A case adds those of the gate that says that it is the first: 2 for the first case, and one more for each further one. It
-    // adds one to the default's gate and one to the gate of its symbol.
+    // Each case has a gate that says that it is the first true one. It has 2 clauses for the first case, 3 for the second, and so
+    // on. The case also adds one clause to the default's gate, and one to the gate of its symbol.
     let mut choosing = 4;
     for (rule, _) in cases.cases.as_slice() {
         let gates = cut_off(limit, rule.clause_count(node));
@@ -29,7 +31,7 @@ fn given_clauses(cases: &Cases, node: u32, symbols: u32, limit: u32) -> u32
     clauses
 }
 
-/// How many clauses the value of an automaton takes at a node, over so many symbols; cut off past the limit.
+/// How many clauses the value of an automaton takes at a node, over an alphabet of `symbols` symbols; cut off past the limit.
 #[cycle(value_clauses)]
 fn value_clauses(
     alloc: Global,
@@ -77,8 +79,8 @@ fn value_clauses_from(
     Ok(sum)
 }
 
-/// How many clauses say that two automata differ at a node: those of both values, of a gate over two signals for each symbol,
-/// and of a gate over all of these; cut off past the limit.
+/// How many clauses say that two automata differ at a node; cut off past the limit. They are the clauses of both values, of a
+/// gate over two signals for each symbol, and of a gate over all these gates.
 fn differ_at(
     alloc: Global,
     first: &Automaton,

@@ -1,2 +1,2 @@
--- strips, and what may be asked about them for a rule
+-- strips, and which of them a question about a rule may name
 pub mod Strips

@@ -1,4 +1,4 @@
--- Strips: they have a slice at each x, and periods along y and z.
+-- Strips. A strip has a slice at each x, and periods along y and z.
 use Rattle.std.specs.Prelude.{◌≡◌, ◌⊎◌, ℕ, ◌*◌, ◌<◌, ◌≤◌, List, length, slice_index}
 use Rattle.std.specs.List.{All}
 use Rattle.dd_values.specs.Bounds.{most_weight}
@@ -34,9 +34,9 @@ pub record IsFor (r : LocalRule) (s : Strip) : Type 0 where
   pub y_unused : r.dimension < 2 → s.y ≡ 1
   pub z_unused : r.dimension < 3 → s.z ≡ 1
 
--- ---- what may be asked of a rule
+-- ---- which strips and weights a question about a rule may name
 
--- the periods along y and z are from 1 to 64, and 1 past the rule's dimension
+-- the list has the periods along y and z; they are from 1 to 64, and 1 along each axis past the rule's dimension
 pub record IsStrip (r : LocalRule) (periods : List ℕ) : Type 0 where
   pub y_some : 0 < slice_index periods 0
   pub z_some : 0 < slice_index periods 1

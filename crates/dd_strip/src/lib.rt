@@ -1,4 +1,4 @@
-//! Strips: their slices, and which strips may be asked about for a rule.
+//! Strips, their slices, and which strips a question about a rule may name.
 #![tactic(auto)]
 
 mod strip;

@@ -3,7 +3,7 @@ ghost use Rattle.std.specs.Prelude.{◌≡◌, ◌≤◌};
 ghost use Rattle.dd_strip.specs.Strips.{IsSized, cells, positions};
 
 /// A strip: the cells whose `y` and `z` are at least 0 and less than the period of that axis. It has no end along x. A
-/// slice has the cells of one `x`. Calls need periods from 1 to 64, and 1 to 4 nodes.
+/// slice has the cells of one `x`. The calls need periods from 1 to 64, and 1 to 4 nodes.
 #[derive(Debug, Clone, Copy)]
 pub struct Strip {
     /// The period along y.
