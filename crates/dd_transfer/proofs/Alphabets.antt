@@ -45,7 +45,7 @@ allowed_by_all r w full all k lt =
     let some : 0 < r.nodes = omega (arith, full.strip_for.sized.nodes_some, full.strip_for.nodes) in
     all (k % r.nodes) (mod_below k r.nodes some) (get_or w.symbols k 0) (full.known k 0 lt)
 
--- each place is that of a cell
+-- the cell at the place k of a window
 abbrev pub cell_of : Strip → ℕ → Cell
 cell_of s k = cell_at s (pos (k / cells s)) (k % cells s)
 

@@ -21,7 +21,7 @@ use Rattle.dd_transfer.proofs.Slicing.{given, symbols_joined, slices_joined, sli
 use Rattle.dd_transfer.proofs.Moving.{along, part, IsInside, part_same, part_inside, moved_inside, truth_same}
 use Rattle.dd_values.specs.lemmas.{Numbers.plus_zero, Numbers.le_from, Results.if_some}
 
--- moved back by x and forth again
+-- x is subtracted and added again
 back_and_there : (x c : ℤ) → ((c -ℤ x) +ℤ x) ≡ c
 back_and_there x c = omega (arith, ints)
 

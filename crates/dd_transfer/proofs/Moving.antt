@@ -61,7 +61,7 @@ module _ (r : LocalRule) (s : Strip) (look : Look) (x : ℤ) (for : IsFor r s) (
       let lt = mul-add-lt (unsigned_abs c.position.x) (cells s) (slice_index_of s c) (state_length r + 1) h.within (slice_below s c for.sized h.node) in
       omega (arith, lt)
 
-  -- the place of a cell in the window is the place of the cell x further, taken modulo the strip's periods
+  -- the cell c of the window is, in the look, the cell x further than c, modulo the strip's periods
   cell_there : (c : Cell) → IsInside r s c → cell_from s x (window_index s c) ≡ cell (across s (moved c.position (along x))) c.node
   cell_there c h =
       let n = unsigned_abs c.position.x in

@@ -49,7 +49,7 @@ index_of_cell s x i sized h =
     let k = i / s.nodes in
     rw (residue_small (k / s.y) s.z p.z, residue_small (k % s.y) s.y p.y, div-add-mod' k s.y, div-add-mod' i s.nodes)
 
--- a sum modulo n is that of the summand modulo n
+-- a sum modulo n stays the same if a summand is taken modulo n
 pub residue_moved : (d v : ℤ) (n : ℕ) → 0 < n → residue (d +ℤ v) n ≡ residue (d +ℤ pos (residue v n)) n
 residue_moved d v n some =
     let m = meets v n some in

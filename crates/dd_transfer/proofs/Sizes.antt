@@ -1,4 +1,4 @@
--- The numbers of states, slices and windows, and why the graph of a rule is a transfer graph.
+-- The numbers of states, slices and windows, and why the graph of a rule has the properties of a transfer graph.
 use Rattle.std.proofs.Common.{◌≡◌, ℕ, zero, suc, ◌+◌, ◌*◌, ◌/◌, ◌%◌, ◌^◌, ◌<◌, ◌≤◌, Bool, true, false, List, [], ◌∷◌, length, get_or, Option, Some, None, refl, ap, sym, ◌∙◌, subst, arith, inl, inr}
 use Rattle.std.proofs.lemmas.Bool.{cases_lt, lt-ltb, ltb-true, and_parts}
 use Rattle.std.proofs.lemmas.{Nat.mul-add-lt, List.Sums.sum_by-cons}

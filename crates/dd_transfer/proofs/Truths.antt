@@ -44,7 +44,7 @@ along_from_slice r w x for h v a at flat below =
     truth_into r w for.sized v a
     ∙ (ap (λ c. is_true r c (shown_look w)) (sym (cell_at_index w.strip v.x (cell v a) for.sized node)) ∙ here)
 
--- and each cell of the slice is one of these
+-- if the rule is true at every cell with this x, it is true at each cell of the slice
 pub slice_from_along : (r : LocalRule) (w : Shown) (x : ℤ) → IsFor r w.strip → IsTrueAlong r x (shown_look w) → (k : ℕ) → k < cells w.strip → is_true r (cell_at w.strip x k) (shown_look w) ≡ true
 slice_from_along r w x for h k lt =
     let p = parts_of w.strip k for.sized lt in

@@ -21,7 +21,7 @@ abbrev pub walk_weight : LocalRule → Strip → List ℕ → List ℕ → ℕ
 walk_weight r s weights [] = 0
 walk_weight r s weights (w ∷ ws) = slice_weight r s weights (last_slice r s w) + walk_weight r s weights ws
 
--- each state has an edge to the next, and the last one to the first
+-- there is a state, each has an edge to the next, and the last one has an edge to the first
 pub record IsClosedWalk (r : LocalRule) (s : Strip) (walk : List ℕ) : Type 0 where
   pub last : ℕ
   pub closed : IsWalk r s last walk last
@@ -37,7 +37,7 @@ pub record IsInLowestTerms (n d a b : ℕ) : Type 0 where
 abbrev pub potential_of : List ℤ → ℕ → ℤ
 potential_of ps u = slice_index_or ps u (pos 0)
 
--- a potential for each state; along each edge it rises by at most l times the edge's weight, less m
+-- a potential for each state; along an edge of weight w it rises by at most l * w - m
 pub record AreStripPotentials (r : LocalRule) (s : Strip) (weights : List ℕ) (m l : ℕ) (ps : List ℤ) : Type 0 where
   pub each : length ps ≡ states r (positions s)
   pub rise : (u t v : ℕ) → IsEdge r s u t v → (potential_of ps v -ℤ potential_of ps u) ≤ℤ (pos (l * slice_weight r s weights t) -ℤ pos m)

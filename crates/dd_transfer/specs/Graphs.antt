@@ -3,8 +3,8 @@
 use Rattle.std.specs.Prelude.{◌≡◌, ℕ, ◌+◌, ◌*◌, ◌%◌, ◌<◌, ◌≤◌, ◌^◌, Bool, false, ◌&&◌, cond, nat_lt, List, length, slice_index, slice_index_or, Option, Some, None}
 use Rattle.dd_counts.specs.Rules.{most_states, most_longer_states}
 
--- Slices are numbered, and so are rows of slices, whose first slice is the most significant digit. A window is a state with
--- one slice more.
+-- Slices are numbered, and so are rows of slices. The first slice of a row is the most significant digit. A window is a
+-- state with one slice more.
 pub record Transfer : Type 0 where
   pub states : ℕ
   pub slices : ℕ
@@ -21,11 +21,11 @@ transfer states slices windows weights = record { states = states; slices = slic
 abbrev pub window_of : Transfer → ℕ → ℕ → ℕ
 window_of g u t = u * g.slices + t
 
--- where a window leads if it is an edge: to its state without the first slice
+-- the state to which a window leads if it is an edge: the window without its first slice
 abbrev pub target : Transfer → ℕ → Option ℕ
 target g number = cond (slice_index_or g.windows number false) (Some (number % g.states)) None
 
--- where the edge from the state u by the slice t leads, if there is one
+-- the state to which the edge from the state u by the slice t leads, if there is one
 abbrev pub next_of : Transfer → ℕ → ℕ → Option ℕ
 next_of g u t = cond (nat_lt u g.states && nat_lt t g.slices) (target g (window_of g u t)) None
 

@@ -29,7 +29,7 @@ pub record IsGraphOf (r : LocalRule) (s : Strip) (weights : List ℕ) (g : Trans
   pub few : IsFew r s
   pub kept : IsTransfer g
 
--- the fault is a reason why the graph isn't made
+-- what a fault says: `Size`, that the strip is too large; `Memory`, that it is not
 abbrev pub IsTransferFault : LocalRule → Strip → TransferFault → Type 0
 IsTransferFault r s Size = IsTooLarge r s
 IsTransferFault r s Memory = IsFew r s

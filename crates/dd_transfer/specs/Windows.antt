@@ -41,7 +41,7 @@ shown_look w = window_look w.strip w.symbols
 abbrev pub window_cells : LocalRule → Strip → ℕ
 window_cells r s = (state_length r + 1) * cells s
 
--- the look of the window with a number: its symbols are the digits, the most significant at the first cell
+-- the look of the window with this number: its symbols are the number's digits, the most significant at the first cell
 abbrev pub numbered_window : LocalRule → Strip → ℕ → Look
 numbered_window r s number = window_look s (digits r.symbols (window_cells r s) number)
 
@@ -49,11 +49,13 @@ numbered_window r s number = window_look s (digits r.symbols (window_cells r s) 
 abbrev pub IsTrueAlong : LocalRule → ℤ → Look → Type 0
 IsTrueAlong r x look = (v : Place) (a : ℕ) → v.x ≡ x → is_flat r.dimension v ≡ true → a < r.nodes → is_true r (cell v a) look ≡ true
 
--- the x of the tested slice of a window: what the rule reads at the cells of this slice begins in the first slice
+-- the x of the tested slice of a window: the least x from 0 on such that the rule, at cells with this x, reads no cell to the
+-- left of the window
 abbrev pub stand : LocalRule → ℤ
 stand r = pos 0 -ℤ least_x (pos 0) (all_cells r)
 
--- the rule keeps a look: each symbol is allowed at its node, and the rule is true at each cell of the tested slice
+-- the rule keeps the look of a window: each symbol is allowed at its node, and the rule is true at each cell of the tested
+-- slice
 pub record IsKept (r : LocalRule) (look : Look) : Type 0 where
   pub allowed : AreAllowed r look
   pub true_there : IsTrueAlong r (stand r) look
@@ -62,7 +64,7 @@ pub record IsKept (r : LocalRule) (look : Look) : Type 0 where
 abbrev pub IsWindow : LocalRule → Strip → ℕ → Type 0
 IsWindow r s number = IsKept r (numbered_window r s number)
 
--- a window of the rule: its strip is one of the rule, and each of its cells has a symbol of the alphabet
+-- a window of the rule: its strip is one for the rule, and each of its cells has a symbol of the alphabet
 pub record IsFullWindow (r : LocalRule) (w : Shown) : Type 0 where
   pub strip_for : IsFor r w.strip
   pub cells_are : length w.symbols ≡ window_cells r w.strip

@@ -1,4 +1,4 @@
-//! How the transfer graph of a rule over a strip is made.
+//! Builds the transfer graph of a rule over a strip.
 ghost use Rattle.std.specs.Prelude.{◌≡◌, ◌<◌, ◌≤◌, ℕ, IfOk, IfErr, length, slice_index};
 ghost use Rattle.dd_counts.specs.Rules.{slices, states, longer_states, most_states, most_longer_states};
 ghost use Rattle.dd_pattern.specs.Weight.{AreWeights, total_weight};
@@ -52,7 +52,7 @@ pub fn graph(
     Ok(graph_of(alloc, rule, strip, weights, states, count)?)
 }
 
-/// The transfer graph, which has `most` states and `count` windows.
+/// The transfer graph. `most` is the number of its states, and `count` the number of its windows.
 fn graph_of(
     alloc: Global,
     rule: &Rule,
@@ -76,7 +76,7 @@ fn graph_of(
     Ok(Graph::new(most, slices, windows, weights))
 }
 
-/// For each window, by its number, whether the rule keeps it, which makes it an edge.
+/// For each window, by its number, whether the rule keeps it.
 fn kept_windows(
     alloc: Global,
     rule: &Rule,
@@ -131,7 +131,7 @@ fn slice_weights(
     Ok(sums)
 }
 
-/// The weight of a slice. The symbols of its cells are written into the list.
+/// The weight of a slice. Its symbols are written into `symbols`.
 fn slice_weight(symbols: &mut [u32], rule: &Rule, strip: Strip, weights: &[u32], slice: u32) -> u64
     requires strip { IsFor rule.now strip }
     requires weights { HasWeights rule.now weights.now }

@@ -63,7 +63,7 @@ pub(crate) fn cell_at(strip: &Strip, x: i32, number: u32) -> Cell
     }
 }
 
-/// The position with these coordinates, which are in range.
+/// The position with these coordinates.
 fn position_of(x: i32, y: u32, z: u32) -> Position
     requires x_some { pos 0 ≤ℤ x }
     requires x_small { x ≤ℤ pos 16 }
@@ -88,7 +88,7 @@ fn residue(x: i32, n: u32) -> u32
     x.rem_euclid(n as i32) as u32
 }
 
-/// The number of an entry in a table that is listed row by row. Rows and columns are counted from 0.
+/// The index of an entry of a table in the list of its entries, row by row. Rows and columns are counted from 0.
 fn entry(row: u32, width: u32, column: u32) -> u32
     requires { row * width + column ≤ 16384 }
     ensures { result ≡ row * width + column }

@@ -1,4 +1,4 @@
-//! Whether the rule keeps a window, which makes the window an edge.
+//! Whether the rule keeps a window. The windows that it keeps are the edges of the transfer graph.
 ghost use Rattle.std.specs.Prelude.{◌≡◌, ◌<◌, ◌↔◌, IsTrue};
 ghost use Rattle.dd_formula.specs.Allowed.{AreAllowed};
 ghost use Rattle.dd_transfer.specs.Windows.{IsFullWindow, IsKept, shown_look};
@@ -33,7 +33,7 @@ pub(crate) fn allows_all(rule: &Rule) -> bool
     true
 }
 
-/// Whether each symbol of the window is one that its node allows. There is nothing to look at if each node allows all.
+/// Whether each symbol of the window is one that its node allows. No symbol is looked at if each node allows all symbols.
 fn are_allowed(rule: &Rule, allows_all: bool, window: &Window) -> bool
     requires window { IsFullWindow rule.now window.now }
     requires all { IsTrue allows_all → AllowsAll rule.now }

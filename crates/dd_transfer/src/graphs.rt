@@ -1,12 +1,12 @@
-//! Transfer graphs: which windows are edges, and the weight of each slice.
+//! Transfer graphs: which windows are edges, and the weight of each slice. A window is a state with one slice more.
 ghost use Rattle.std.specs.Prelude.{◌≡◌, ◌<◌, ◌*◌, length};
 ghost use Rattle.dd_transfer.specs.Graphs.{transfer, IsTransfer, next_of, target, weight_at, window_of};
 
 use std::marker::Model;
 
-/// The transfer graph of a strip. A slice, here, is the symbols of all cells at one x. A state is a row of slices. Slices
-/// and states are numbers whose digits are these symbols and slices, the first one the most significant. The edge by a
-/// slice leads from a state to the state without its first slice and with this slice at the end.
+/// The transfer graph of a strip. A slice is the symbols of all cells at one x, and a state is a row of slices. Both are
+/// numbered. The digits of a slice's number are its symbols, and those of a state's number are its slices. The first digit
+/// is the most significant. The edge by a slice drops the first slice of a state and appends this slice.
 #[derive(Debug, Drop)]
 pub struct Graph {
     states: u32,
@@ -47,7 +47,7 @@ impl Graph {
         self.states
     }
 
-    /// The number of slices, at least 1. Times the number of states it is at most 131,072.
+    /// The number of different slices, at least 1. Times the number of states, it is at most 131,072.
     pub fn slices(&self) -> u32
         ensures value { result ≡ self.now.slices }
         ensures kept { IsTransfer self.now }
@@ -55,7 +55,7 @@ impl Graph {
         self.slices
     }
 
-    /// The state to which a window leads if it is an edge. Else `None`.
+    /// The state to which a window leads, or `None` if the window is not an edge.
     fn target(&self, window: u32) -> Option<u32>
         requires { window < self.now.states * self.now.slices }
         ensures { result ≡ target self.now window }
@@ -67,7 +67,7 @@ impl Graph {
         }
     }
 
-    /// The state to which the edge from a state by a slice leads. `None` exactly if there is no such edge.
+    /// The state to which the edge from `state` by `slice` leads. `None` exactly if there is no such edge.
     pub fn next(&self, state: u32, slice: u32) -> Option<u32>
         ensures value { result ≡ next_of self.now state slice }
         ensures kept { IsTransfer self.now }

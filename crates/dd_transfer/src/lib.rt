@@ -1,5 +1,5 @@
-//! Transfer graphs of strips, which are transfer matrices as in Lind and Marcus (1995). A state is a row of slices. It has
-//! an edge for each slice that may follow.
+//! Transfer graphs of strips: the transfer matrices of Lind and Marcus (1995), as graphs. A slice is the symbols of all cells
+//! at one x. A state is a row of slices, and has an edge for each slice that may follow.
 #![tactic(auto)]
 
 mod building;

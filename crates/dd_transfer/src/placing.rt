@@ -15,7 +15,8 @@ use dd_values::Items;
 use std::alloc::{AllocError, Global};
 use std::marker::Model;
 
-/// Numbers cells that are given relative to the position `at`: each has its place among the symbols of a window.
+/// A numbering of cells that are given relative to the position `at`. A cell's number is its place among the symbols of a
+/// window.
 #[derive(Debug, Drop)]
 struct Near {
     strip: Strip,
@@ -34,7 +35,7 @@ impl Model for Near {
 }
 
 impl Near {
-    /// The numbers of cells relative to a position.
+    /// The numbering relative to the position `at`.
     fn new(strip: Strip, at: Position) -> Near
         requires { IsSized strip }
         ensures { result ≡ standpoint strip at }
@@ -43,7 +44,7 @@ impl Near {
     }
 }
 
-/// The number of the cell at the sum of two positions. The sum may be out of range.
+/// The number of a cell of the node `node` at the sum of two positions. The sum may lie outside the range of positions.
 fn number_at(strip: Strip, position: &Position, by: &Position, node: u32) -> Option<usize>
     requires { IsSized strip }
     ensures { result ≡ window_numbers strip (cell (moved position.now by.now) node) }
@@ -74,7 +75,7 @@ fn formula_at(alloc: Global, rule: &Rule, strip: Strip, at: &Cell) -> Result<Num
     Numbered::new(alloc, rule.expansion(at.node), &near)
 }
 
-/// The rule at each cell of the tested slice, in cell order. The slice is at this `x`.
+/// The rule at each cell of the tested slice, in cell order. `x` is the x of this slice.
 pub(crate) fn formulas(
     alloc: Global,
     rule: &Rule,

@@ -1,4 +1,4 @@
-//! Which slice of a window is tested: at each cell of it the rule must be true.
+//! The tested slice of a window. The rule must be true at each of its cells.
 ghost use Rattle.std.specs.Prelude.{◌≡◌, pos, ◌≤ℤ◌};
 ghost use Rattle.dd_counts.specs.Rules.{least_x};
 ghost use Rattle.dd_formula.specs.LocalRule.{IsRule};
@@ -20,7 +20,8 @@ fn least_read(rule: &Rule) -> i32
     least
 }
 
-/// The x of the tested slice. What the rule reads at the cells of this slice begins in the window's first slice.
+/// The x of the tested slice. It is the least x from 0 on such that the rule, at cells with this x, reads no cell to the left
+/// of the window.
 pub(crate) fn stand(rule: &Rule) -> i32
     ensures value { result ≡ stand rule.now }
     ensures some { pos 0 ≤ℤ result }

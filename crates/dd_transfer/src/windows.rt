@@ -1,4 +1,4 @@
-//! Windows: the symbols of some slices of a strip. Cells are read modulo the strip's periods.
+//! Windows: the symbols of a row of slices of a strip. The coordinates y and z are read modulo the strip's periods.
 ghost use Rattle.std.specs.Prelude.{◌≡◌, ℕ, ◌<◌, ◌+◌, length};
 ghost use Rattle.dd_strip.specs.Strips.{IsSized};
 ghost use Rattle.dd_transfer.specs.Windows.{shown, digits};
@@ -6,8 +6,8 @@ ghost use Rattle.dd_transfer.specs.Windows.{shown, digits};
 use dd_strip::Strip;
 use std::marker::Model;
 
-/// A window: the symbols of the cells of slices at x = 0, 1 and so on. They are listed slice by slice, and in a slice in
-/// cell order.
+/// A window: the symbols of the slices at x = 0, 1 and so on. They are listed slice by slice, and within a slice in cell
+/// order.
 #[derive(Debug, Drop)]
 pub(crate) struct Window {
     strip: Strip,

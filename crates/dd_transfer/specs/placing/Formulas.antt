@@ -7,7 +7,7 @@ use Rattle.dd_formula.specs.LocalRule.{LocalRule, is_true, rule_allows}
 use Rattle.dd_strip.specs.{declared.strip.Strip.Strip, Strips.cells}
 use Rattle.dd_transfer.specs.Windows.{cell_at, stand, window_index, window_look}
 
--- the place of a cell among a window's symbols
+-- the place of a cell among a window's symbols; none to the left of the window, or if there is no such node
 abbrev pub window_numbers : Strip → Numbering
 window_numbers s c = cond (int_le (pos 0) c.position.x && nat_lt c.node s.nodes) (Some (window_index s c)) None
 
@@ -16,11 +16,11 @@ pub record Standpoint : Type 0 where
   pub strip : Strip
   pub at : Place
 
--- the strip s, and the position v
+-- the standpoint at the position v in the strip s
 abbrev pub standpoint : Strip → Place → Standpoint
 standpoint s v = record { strip = s; at = v }
 
--- the place of a cell that is given relative to that position
+-- the place of a cell that is given relative to the standpoint's position
 abbrev pub numbers_near : Standpoint → Numbering
 numbers_near p c = window_numbers p.strip (shifted p.at c)
 
