@@ -9,7 +9,7 @@ use Rattle.dd_meancycle.specs.Means.{IsCycle, IsLeastMeanCycle, IsAcyclic, ArePo
 use Rattle.dd_meancycle.specs.table.{Lists.AreEdges, Lists.ArePotentialsAlong, Lists.AreRanksAlong, Rises.IsReduced}
 use Rattle.dd_meancycle.proofs.EdgeLaws.{edge_of, cycle_least, no_cycle}
 
--- what holds of all items up to the end of a list holds of all its items
+-- what holds of the first i items of a list, where i is at least its length, holds of all its items
 pub all_taken : {X : Type 0} (P : X → Type 0) (xs : List X) (i : ℕ) → length xs ≤ i → All P (take i xs) → All P xs
 all_taken P xs i le all = subst (All P) (take_all i xs le) all
 
@@ -36,7 +36,7 @@ confirmed_is g edges cycle ps whole mean are is_cycle weight len short reduced e
       least = cycle_least g mean.weight mean.length ps pot;
     }
 
--- ranks that fall along each edge of the list
+-- ranks that fall along each edge of the list show that there is no cycle
 pub ranks_are : (g : Transfer) (edges : List Edge) (ranks : List ℕ) → AreEdges g edges → length ranks ≡ g.states → AreRanksAlong ranks edges → IsAcyclic g ranks
 ranks_are g edges ranks are each fallen =
     let fall : AreRanks g ranks = λ u t v h.

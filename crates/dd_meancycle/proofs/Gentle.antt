@@ -83,7 +83,7 @@ gentlest_more levels last i (Some o) (Some h) r old steep small is = elim is [
       })
 ]
 
--- by the greatest common divisor
+-- a mean is reduced by the greatest common divisor of its numbers
 pub is_reduced : (w l g : ℕ) → IsGcd w l g → 0 < l → 0 < g → IsReduced (record { weight = w; length = l }) (record { weight = w / g; length = l / g })
 is_reduced w l g is pos g_pos =
     let wm : w % g ≡ 0 = mod-eq-zero_of_dvd g is.0 in

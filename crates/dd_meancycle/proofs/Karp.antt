@@ -32,7 +32,7 @@ walk_upper edges n k (x ∷ es) u v a all among walk is =
     let e : k + suc (length es) ≡ suc k + length es = omega arith in
     rw e (at_most_more _ (r.value + edges_weight es) (a + (x.weight + edges_weight es)) (omega (arith, r.below)) rest)
 
--- no rise of v has a mean above m / l
+-- no rise of v to the weight `end` has a mean above m / l
 abbrev pub IsAbove : List Edge → ℕ → ℕ → ℕ → ℕ → ℕ → Type 0
 IsAbove edges n v end m l = (k before : ℕ) → k < n → least edges n k v ≡ Some before → end * l ≤ before * l + m * (n - k)
 

@@ -22,7 +22,7 @@ pub record IsCycle (g : Transfer) (states : List ℕ) : Type 0 where
   pub closed : IsPath g last states last
   pub turns : 0 < length states
 
--- along each edge the potential rises by at most l times its weight less m
+-- along an edge of weight w the potential rises by at most l * w - m
 abbrev pub ArePotentials : Transfer → ℕ → ℕ → List ℤ → Type 0
 ArePotentials g m l ps = (u t v : ℕ) → next_of g u t ≡ Some v → (potential_of ps v -ℤ potential_of ps u) ≤ℤ (pos (l * weight_at g t) -ℤ pos m)
 
@@ -48,6 +48,7 @@ pub record IsAcyclic (g : Transfer) (ranks : List ℕ) : Type 0 where
   pub ranks_fall : AreRanks g ranks
   pub none : (states : List ℕ) → IsCycle g states → ⊥
 
+-- what `least_mean` gives: a cycle of least mean with potentials, or ranks
 abbrev pub IsMeanOf : Transfer → Mean → Type 0
 IsMeanOf g (Least m l cycle ps) = IsLeastMeanCycle g m l cycle ps
 IsMeanOf g (NoCycle ranks) = IsAcyclic g ranks

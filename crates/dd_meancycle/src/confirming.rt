@@ -14,7 +14,7 @@ use crate::rises::{Ratio, reduced};
 use dd_transfer::Graph;
 use dd_values::MOST_NUMBER;
 
-/// Whether an edge leads from one state to another. Its slice can only be the last slice of the other state.
+/// Whether an edge leads from `from` to `to`. It can only be the edge by the last slice of `to`.
 fn leads(graph: &Graph, from: u32, to: u32) -> bool
     ensures value { IsTrue result ↔ (next_of graph.now from (to % graph.now.slices) ≡ Some to) }
     ensures kept { IsTransfer graph.now }
@@ -56,7 +56,7 @@ fn is_small_rise(from: i64, to: i64, length: u64, weight: u32, mean_weight: u64)
     true
 }
 
-/// Whether the potential rises along the edge by at most the mean's length times the edge's weight, less the mean's weight.
+/// Whether the potential rises along the edge by at most `mean.length * weight - mean.weight`, where `weight` is the edge's.
 fn is_potential_along(edge: &Edge, potentials: &[i64], mean: Ratio) -> bool
     requires { IsEdgeOf (length potentials.now) edge.now }
     ensures { IsTrue result → (potential_of potentials.now edge.now.to -ℤ potential_of potentials.now edge.now.from) ≤ℤ (pos (mean.length * edge.now.weight) -ℤ pos mean.weight) }
@@ -66,7 +66,7 @@ fn is_potential_along(edge: &Edge, potentials: &[i64], mean: Ratio) -> bool
     is_small_rise(from, to, mean.length, edge.weight, mean.weight)
 }
 
-/// Whether this holds along each edge.
+/// Whether the potential rises by at most so much along each edge.
 fn are_potentials_along(edges: &[Edge], potentials: &[i64], mean: Ratio) -> bool
     requires { All (IsEdgeOf (length potentials.now)) edges.now }
     ensures { IsTrue result → ArePotentialsAlong mean.weight mean.length potentials.now edges.now }

@@ -15,7 +15,7 @@ pub(crate) struct Edge {
     pub weight: u32,
 }
 
-/// The edge that the window of this number is, or `None` if it is not an edge.
+/// The window of this number as an edge, or `None` if it is not an edge.
 fn edge_at(graph: &Graph, number: u32) -> Option<Edge>
     requires { number < graph.now.states * graph.now.slices }
     ensures { result ≡ edge_at graph.now number }

@@ -16,7 +16,8 @@ use dd_transfer::Graph;
 use dd_values::Items;
 use std::alloc::{AllocError, Global};
 
-/// A cycle of least mean, with potentials that show it; or ranks that fall along each edge, so that there is no cycle.
+/// A cycle of least mean, with potentials that show that it is least; or ranks that fall along each edge, so that there is no
+/// cycle.
 #[derive(Debug, Drop)]
 pub enum Mean {
     /// The mean is `numerator / denominator` in lowest terms. The cycle is given by its states, at most as many as the graph
@@ -53,7 +54,7 @@ fn signed(alloc: Global, potentials: &[u64]) -> Result<Vec<i64>, AllocError>
     Ok(numbers)
 }
 
-/// The same mean, with the cycle given by its states.
+/// The same mean, with the cycle given by its states, and potentials with a sign.
 fn in_states(alloc: Global, mean: EdgeMean) -> Result<Mean, AllocError>
     requires { IsSmallMean mean }
     ensures { IfOk result (λ m. IsInStates mean m) }

@@ -1,4 +1,4 @@
-//! The least weights of walks by their length: the table of Karp (1978), for walks that start at any state.
+//! The table of Karp (1978): the least weights of walks of each length. The walks start at any state.
 ghost use Rattle.std.specs.Prelude.{◌≡◌, ℕ, ◌+◌, ◌<◌, ◌^◌, length, IfOk, slice_index_or, replicate, vec_len, Some, None, []};
 ghost use Rattle.std.specs.List.{fold, All};
 ghost use Rattle.dd_meancycle.specs.table.Levels.{level, relaxed, lowered, IsRowUpTo, IsEdgeOf, AreRows, level_weight_at};
@@ -21,7 +21,7 @@ impl Model for Level {
     ghost view = { λ l. l.least.items };
 }
 
-/// The smaller of the best weight so far and another one.
+/// The smaller of the best weight so far and the weight `here`.
 fn lower(best: Option<u32>, here: u32) -> u32
     ensures { Some result ≡ lowered best here }
 {
@@ -31,7 +31,8 @@ fn lower(best: Option<u32>, here: u32) -> u32
     }
 }
 
-/// Relaxes the edge: a walk of the previous level, and then the edge, may be the lightest walk to the edge's target.
+/// Relaxes the edge. The lightest walk of the previous level to the edge's source, followed by the edge, is a walk to the
+/// edge's target. Its weight replaces the target's entry in `row`, if it is smaller.
 fn relax(previous: &[Option<u32>], row: &mut [Option<u32>], edge: &Edge)
     requires from { edge.now.from < length previous.now }
     requires to { edge.now.to < length row.old }

@@ -1,5 +1,5 @@
-//! The least mean of the cycles of a transfer graph. It is shown by a cycle and potentials, or by ranks if there is no cycle.
-//! A cycle is a closed walk, and its mean is its weight over its number of edges.
+//! The least mean of the cycles of a transfer graph. A cycle is a closed walk, and its mean is its weight divided by its
+//! number of edges. A cycle and potentials show the least mean. If there is no cycle, ranks show this.
 #![tactic(auto, using(std::proofs::lemmas::Grind::common_steps))]
 
 mod confirming;

@@ -1,5 +1,5 @@
-//! Ranks for a graph without a cycle, after A. B. Kahn (1962): a state is removed once no edge leads to it any more. The
-//! result is checked afterwards, so no contract says what it is.
+//! Ranks for a graph without a cycle, after A. B. Kahn (1962): a state is removed, with its edges, once no edge leads to it
+//! any more. The result is checked afterwards, so no contract says what it is.
 
 use crate::edges::Edge;
 use dd_values::Items;

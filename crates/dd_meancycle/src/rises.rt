@@ -1,6 +1,6 @@
 //! What is read off the table of least weights: the least mean, potentials and ranks. A rise of a state goes from its entry in
-//! some level `k` to its entry in the level `last`, and its mean is the difference over `last - k`. The least mean of a cycle
-//! is the least, over the states, of the greatest mean of a rise (Karp 1978).
+//! some level `k` below `last` to its entry in the level `last`. Its mean is the difference of the two, divided by
+//! `last - k`. Take the greatest mean of a rise of each state: the least of these is the least mean of a cycle (Karp 1978).
 ghost use Rattle.std.specs.Prelude.{◌≡◌, ℕ, ◌-◌, ◌*◌, ◌<◌, ◌≤◌, ◌^◌, length, IfOk, slice_index_or, MatchOption, ⊤, Option, None};
 ghost use Rattle.std.specs.Int.{IsGcd};
 ghost use Rattle.dd_meancycle.specs.table.Levels.{level_weight_at};
@@ -35,7 +35,7 @@ fn steepest(levels: &[Level], last: usize, state: u32) -> Option<Ratio>
     Some(best)
 }
 
-/// The greater one of the mean `best` and the mean of the rise from `before` to `end` over `run` edges.
+/// The greater of two means: `best`, and that of the rise from `before` to `end` over `run` edges.
 fn steeper(best: Ratio, end: u32, before: Option<u32>, run: u64) -> Ratio
     requires run { run < 2 ^ 31 }
     requires weight { best.weight < 2 ^ 32 }
@@ -74,7 +74,7 @@ fn potential(levels: &[Level], last: usize, state: u32, mean: Ratio) -> u64
     best
 }
 
-/// The smaller one of `best` and the number for the entry `before`, which is `run` levels below the last.
+/// The smaller of `best` and `mean.length * before + mean.weight * run`. The entry `before` is `run` levels below the last.
 fn lesser(best: u64, before: Option<u32>, mean: Ratio, run: u64) -> u64
     requires run { run < 2 ^ 31 }
     requires weight { mean.weight < 2 ^ 32 }
@@ -92,7 +92,7 @@ pub(crate) struct Steep {
     pub mean: Ratio,
 }
 
-/// The one of `best` and the state `state`, whose greatest mean is `here`, that has the smaller greatest mean.
+/// Of `best` and the state `state`, the one with the smaller greatest mean of a rise. That of `state` is `here`.
 fn gentler(best: Option<Steep>, state: u32, here: Option<Ratio>) -> Option<Steep>
     requires best { MatchOption best ⊤ (λ b. (b.mean.weight < 2 ^ 32) × (b.mean.length < 2 ^ 31)) }
     requires here { MatchOption here ⊤ (λ h. (h.weight < 2 ^ 32) × (h.length < 2 ^ 31)) }
@@ -109,7 +109,7 @@ fn gentler(best: Option<Steep>, state: u32, here: Option<Ratio>) -> Option<Steep
     }
 }
 
-/// The state whose greatest mean of a rise is least, or `None` if no walk has `last` edges.
+/// The state whose greatest mean of a rise is the least of all states, or `None` if no walk has `last` edges.
 pub(crate) fn gentlest(levels: &[Level], last: usize, states: u32) -> Option<Steep>
     requires last { 0 < last }
     requires few { last < 2 ^ 31 }

@@ -1,6 +1,6 @@
-//! The search for a cycle of least mean and potentials (after E. Lawler, 1976). With the mean of the last cycle found,
+//! The search for a cycle of least mean and for potentials (after E. Lawler, 1976). With the mean of the last cycle found,
 //! potentials are lowered along the edges until none can be lowered. If that does not end, there is a cycle with a smaller
-//! mean, and the search goes on with it. The result is checked afterwards, so no contract says what it is.
+//! mean, and the search goes on with that cycle. The result is checked afterwards, so no contract says what it is.
 
 use crate::edges::Edge;
 use crate::rises::{Ratio, reduced};
@@ -144,7 +144,7 @@ fn cycle_through(
     Ok((states, slope_of(weight, length)))
 }
 
-/// The mean in lowest terms, as the exact check uses it.
+/// The mean `weight / length` in lowest terms, as the exact check uses it. `STEEPEST` if the length is 0.
 fn slope_of(weight: u64, length: u64) -> Slope {
     if length == 0 {
         return STEEPEST;
@@ -156,7 +156,7 @@ fn slope_of(weight: u64, length: u64) -> Slope {
     }
 }
 
-/// A number with a sign. The weight and the length of a cycle always fit.
+/// The number as one with a sign. The weight and the length of a cycle always fit.
 fn signed(number: u64) -> i64 {
     i64::try_from(number).unwrap_or(i64::MAX)
 }
@@ -167,7 +167,7 @@ fn reversed(alloc: Global, states: &[u32]) -> Result<Items<u32>, AllocError> {
     Ok(Items::from_vec(states))
 }
 
-/// A cycle and potentials that should show the least mean.
+/// A cycle and potentials that should show the least mean. They do not if the search gave up.
 pub(crate) fn sought(alloc: Global, states: u32, edges: &[Edge]) -> Result<Found, AllocError> {
     let count = states as usize;
     let mut potentials = vec![in alloc; 0i64; count]?;

@@ -1,4 +1,4 @@
-//! The least mean by the table of least weights of walks by their length (Karp 1978).
+//! The least mean, from a table of the least weights of walks of each length (Karp 1978).
 ghost use Rattle.std.specs.Prelude.{◌≡◌, ◌+◌, ◌<◌, ◌^◌, length, IfOk};
 ghost use Rattle.std.specs.List.{All};
 ghost use Rattle.dd_meancycle.specs.table.Levels.{IsEdgeOf, AreRows};
@@ -35,7 +35,7 @@ pub(crate) fn table_mean(alloc: Global, states: u32, edges: &[Edge]) -> Result<E
     mean_of(alloc, states, edges, levels.as_slice())
 }
 
-/// The same from the levels of the table.
+/// A cycle of least mean, or ranks, from the levels of the table. A level is a row of the table.
 fn mean_of(
     alloc: Global,
     states: u32,

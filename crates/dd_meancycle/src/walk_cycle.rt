@@ -9,7 +9,7 @@ use crate::edges::Edge;
 use crate::levels::{Level, row_of, weight_at};
 use std::alloc::{AllocError, Global};
 
-/// Whether a walk of the level `before`, and then the edge, is a walk of the weight `weight` to the state.
+/// Whether a lightest walk of the level `before`, followed by the edge, leads to the state and has the weight `weight`.
 fn is_back(before: &[Option<u32>], state: u32, weight: u32, edge: &Edge) -> bool
     requires { edge.now.from < length before.now }
     ensures { result ≡ is_back before.now state weight edge.now }
@@ -23,7 +23,7 @@ fn is_back(before: &[Option<u32>], state: u32, weight: u32, edge: &Edge) -> bool
     }
 }
 
-/// The last edge of a walk of the weight `weight` to the state that extends a walk of the level `before`.
+/// An edge that, after a lightest walk of the level `before`, leads to the state with the weight `weight`.
 fn back_edge(edges: &[Edge], before: &[Option<u32>], state: u32, weight: u32) -> Option<Edge>
     requires edges { All (IsEdgeOf (length before.now)) edges.now }
     ensures { result ≡ find (is_back before.now state weight) edges.now }
@@ -51,8 +51,8 @@ fn cycle_from(alloc: Global, path: &[Edge], start: usize) -> Result<Vec<Edge>, A
     reversed(alloc, &path[start..])
 }
 
-/// A cycle on a lightest walk of `last` edges to the state. It walks back from the state, and stops at the first state that
-/// comes again. `seen` holds the place on the path at which each state came.
+/// A cycle on a lightest walk of `last` edges to the state. The walk is followed back from the state, up to the first state
+/// that comes again. `seen` holds the place on the path at which each state came.
 pub(crate) fn cycle_on_walk(
     alloc: Global,
     edges: &[Edge],
@@ -90,7 +90,7 @@ pub(crate) fn cycle_on_walk(
     Ok(path)
 }
 
-/// No state has come yet.
+/// The list `seen` before any state has come.
 fn unseen(alloc: Global, states: usize) -> Result<Vec<Option<usize>>, AllocError>
     ensures { IfOk result (λ r. r.items ≡ replicate states None) }
 {

@@ -3,28 +3,29 @@ use Rattle.std.specs.Prelude.{◌≡◌, ℕ, zero, suc, ◌+◌, ◌*◌, ◌<�
 use Rattle.std.specs.List.{fold}
 use Rattle.dd_meancycle.specs.declared.edges.Edge.{Edge}
 
--- the entry for the state v
+-- the entry of a row for the state v
 abbrev pub at : List (Option ℕ) → ℕ → Option ℕ
 at row v = slice_index_or row v None
 
--- an entry after another walk of the weight x
+-- an entry, once another walk of the weight x is known
 abbrev pub lowered : Option ℕ → ℕ → Option ℕ
 lowered None x = Some x
 lowered (Some y) x = Some (min y x)
 
+-- the row after the edge e extends a walk of the given weight, if there is one
 abbrev pub lower_at : Option ℕ → List (Option ℕ) → Edge → List (Option ℕ)
 lower_at None row e = row
 lower_at (Some a) row e = slice_set row e.to (lowered (at row e.to) (a + e.weight))
 
--- the row after the edge e is relaxed, where `previous` is the row of the walks that are one edge shorter
+-- the row after the edge e is relaxed; `previous` is the row of the walks that are one edge shorter
 abbrev pub relaxed : List (Option ℕ) → List (Option ℕ) → Edge → List (Option ℕ)
 relaxed previous row e = lower_at (at previous e.from) row e
 
--- the row after the previous one
+-- the next row of the table
 abbrev pub level : List Edge → List (Option ℕ) → List (Option ℕ)
 level edges previous = fold (relaxed previous) (replicate (length previous) None) edges
 
--- the row of walks of so many edges, over n states
+-- the row of walks of k edges, over n states
 abbrev pub row : List Edge → ℕ → ℕ → List (Option ℕ)
 row edges n zero = replicate n (Some 0)
 row edges n (suc k) = level edges (row edges n k)
@@ -33,10 +34,11 @@ row edges n (suc k) = level edges (row edges n k)
 abbrev pub least : List Edge → ℕ → ℕ → ℕ → Option ℕ
 least edges n k v = at (row edges n k) v
 
--- the levels are the rows of the table, from the first
+-- the levels are the first rows of the table
 abbrev pub AreRows : List Edge → ℕ → List (List (Option ℕ)) → Type 0
 AreRows edges n levels = (k : ℕ) → k < length levels → slice_index_or levels k [] ≡ row edges n k
 
+-- the entry for the state v in the level k
 abbrev pub level_weight_at : List (List (Option ℕ)) → ℕ → ℕ → Option ℕ
 level_weight_at levels k v = at (slice_index_or levels k []) v
 
