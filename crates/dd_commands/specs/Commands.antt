@@ -22,7 +22,7 @@ is_plain_entry (Entry.Negative n) = false
 abbrev pub is_plain : Vector → Bool
 is_plain v = list_all is_plain_entry v.entries
 
--- the shear of a configuration: a second vector, if there is one
+-- the text of the shear of a configuration, which is a second vector after the periods; nothing if there is none
 abbrev pub second_vector_text : Option Vector → List Lexeme
 second_vector_text None = []
 second_vector_text (Some v) = vector_text v
@@ -36,7 +36,7 @@ edge_text e = Lexeme.Mark Mark.Open ∷ Lexeme.Word e.label ∷ name_lexeme e.fr
 
 -- ---- cases
 
--- the tokens begin with this word, and the rest follows it
+-- the tokens are a word with the wanted text, and then the rest
 abbrev pub BeginsWith : List ℕ → List ℕ → List Lexeme → List Lexeme → Type 0
 BeginsWith bytes wanted tokens rest = (w : Word) × (word_text bytes w ≡ wanted) × (tokens ≡ Lexeme.Word w ∷ rest)
 
@@ -59,7 +59,7 @@ pub record AreCases (bytes : List ℕ) (cases : List Case) (default : Name) (tok
 abbrev pub IsOnePlain : List Vector → Type 0
 IsOnePlain vs = (v : Vector) × (vs ≡ v ∷ []) × (is_plain v ≡ true)
 
--- the vectors at the end of a query
+-- the vectors that a query may have at its end
 abbrev pub AreLists : Lists → List Vector → Type 0
 AreLists Lists.None vs = vs ≡ []
 AreLists Lists.Strip vs = IsOnePlain vs
@@ -77,7 +77,7 @@ request_text r = map Lexeme.Word r.words ++ (map Lexeme.Number r.numbers ++ flat
 
 -- ---- commands
 
--- the tokens after the first word of a command, which are its body
+-- the tokens are the body of the command: all that follows its first word
 abbrev pub IsBody : List ℕ → Command → List Lexeme → Type 0
 IsBody bytes (Command.Dimension n) tokens = tokens ≡ Lexeme.Number n ∷ []
 IsBody bytes (Command.Nodes names) tokens = (1 ≤ length names) × (tokens ≡ map name_lexeme names)
@@ -95,6 +95,6 @@ IsBody bytes (Command.Configuration name periods shear symbols) tokens =
     × (tokens ≡ Lexeme.Word name ∷ vector_text periods ++ (second_vector_text shear ++ map name_lexeme symbols))
 IsBody bytes (Command.Query r) tokens = IsRequest r × (tokens ≡ request_text r)
 
--- the tokens of a command, after its `%`
+-- the tokens are this command, without its `%`
 abbrev pub IsCommand : List ℕ → Command → List Lexeme → Type 0
 IsCommand bytes c tokens = (rest : List Lexeme) × BeginsWith bytes (head_text (head_of c)) tokens rest × IsBody bytes c rest

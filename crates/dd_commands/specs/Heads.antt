@@ -13,7 +13,7 @@ pub record HeadRow : Type 0 where
 abbrev pub entry : List ℕ → ℕ → Bool → HeadRow
 entry word stage once = record { word = word; stage = stage; once = once }
 
--- the row of a head; the header of a script is its commands of a stage below 7
+-- The row of a head. Commands of a stage below 7 are the header of a script; the others are its definitions and queries.
 abbrev pub head_row : Head → HeadRow
 head_row Head.Dimension = entry (codes "dim") 0 true
 head_row Head.Nodes = entry (codes "nodes") 1 true

@@ -1,11 +1,11 @@
--- Scripts: their commands in order, or the first command that is not well formed.
+-- Scripts: their commands in order. Also which command is the first that is not well formed.
 use Rattle.std.specs.Prelude.{◌≡◌, ℕ, zero, suc, ◌≤◌, List, [], ◌∷◌, Bool, true, false, if◌then◌else◌, Result, Ok, Err}
 use Rattle.std.specs.List.{list_all}
 use Rattle.dd_commands.specs.Tree.{Mark, Lexeme, Written, Syntax, SyntaxFault}
 use Rattle.dd_commands.specs.{Heads.head_of, Heads.stage, Heads.next_stage, Commands.IsCommand}
 use Rattle.dd_written.specs.Lexemes.{lexemes_of}
 
--- the mark before each command
+-- whether the mark is `%`, which stands before each command
 abbrev pub is_percent_mark : Mark → Bool
 is_percent_mark Mark.Percent = true
 is_percent_mark Mark.All = false
@@ -49,25 +49,25 @@ is_whole Lexeme.Stray = false
 abbrev pub stage_of : Written → ℕ
 stage_of w = stage (head_of w.command)
 
--- the lowest stage of the command after this one
+-- the lowest stage that the next command may have
 abbrev pub stage_after : Written → ℕ
 stage_after w = next_stage (head_of w.command)
 
--- the part is this command, and its stage is not below `from`
+-- the part is this command, and its stage is `from` at least
 pub record MayStand (bytes : List ℕ) (from : ℕ) (part : List Lexeme) (w : Written) : Type 0 where
   pub tokens : w.tokens ≡ part
   pub whole : list_all is_whole part ≡ true
   pub is : IsCommand bytes w.command part
   pub ordered : from ≤ stage_of w
 
--- the parts are these commands, the first of which has no stage below `from`
+-- The parts are these commands. Each has a stage that may follow the one before; that of the first is `from` at least.
 abbrev pub AreCommands : List ℕ → ℕ → List (List Lexeme) → List Written → Type 0
 AreCommands bytes from [] [] = Unit {0}
 AreCommands bytes from [] (w ∷ ws) = ⊥
 AreCommands bytes from (p ∷ ps) [] = ⊥
 AreCommands bytes from (p ∷ ps) (w ∷ ws) = MayStand bytes from p w × AreCommands bytes (stage_after w) ps ws
 
--- the first part that is no command, or comes after one of a higher stage, has this index from 0
+-- The index, from 0, of the first bad part. A part is bad if it is no command, or its stage is below the lowest that may follow.
 abbrev pub IsFirstBad : List ℕ → ℕ → List (List Lexeme) → ℕ → Type 0
 IsFirstBad bytes from [] place = ⊥
 IsFirstBad bytes from (p ∷ ps) zero = (w : Written) → MayStand bytes from p w → ⊥
@@ -77,7 +77,7 @@ IsFirstBad bytes from (p ∷ ps) (suc place) = (w : Written) × MayStand bytes f
 abbrev pub AreWritten : List ℕ → List Lexeme → List Written → Type 0
 AreWritten bytes tokens ws = ((parts tokens).0 ≡ []) × AreCommands bytes 0 (parts tokens).1 ws
 
--- the number, from 1, of the first part that is bad so; 0 if something stands before the first `%`
+-- the number, from 1, of the first bad part; 0 if some token stands before the first `%`
 abbrev pub IsBadCommand : List ℕ → List Lexeme → ℕ → Type 0
 IsBadCommand bytes tokens zero = (parts tokens).0 ≡ [] → ⊥
 IsBadCommand bytes tokens (suc place) = ((parts tokens).0 ≡ []) × IsFirstBad bytes 0 (parts tokens).1 place
@@ -96,6 +96,6 @@ IsReading bytes (Ok s) = IsScript bytes s
 IsReading bytes (Err (SyntaxFault.At n)) = IsSyntaxFault bytes n
 IsReading bytes (Err SyntaxFault.Memory) = Unit {0}
 
--- the command has these tokens in this text
+-- the command is written in this text by the tokens beside it
 pub record IsWritten (bytes : List ℕ) (w : Written) : Type 0 where
   pub is : IsCommand bytes w.command w.tokens

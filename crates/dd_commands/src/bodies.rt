@@ -49,6 +49,7 @@ fn topology<'a>(from: Source, tokens: &'a [Lexeme]) -> Read<'a, Command>
     }
 }
 
+/// The body of `limits`: three numbers.
 fn limits<'a>(from: Source, tokens: &'a [Lexeme]) -> Read<'a, Command>
     ensures { Gives (λ x. (x.0, x.1.now)) result (body from.entry.bytes.now Head.Limits tokens.now) }
 {
@@ -63,6 +64,7 @@ fn limits<'a>(from: Source, tokens: &'a [Lexeme]) -> Read<'a, Command>
     Ok((limits, rest))
 }
 
+/// The body of `auto`: a name, cases, and the default symbol after `else`.
 fn automaton<'a>(from: Source, tokens: &'a [Lexeme]) -> Read<'a, Command>
     ensures { Gives (λ x. (x.0, x.1.now)) result (body from.entry.bytes.now Head.Automaton tokens.now) }
 {
@@ -78,6 +80,7 @@ fn automaton<'a>(from: Source, tokens: &'a [Lexeme]) -> Read<'a, Command>
     Ok((automaton, rest))
 }
 
+/// The body of `conf`: a name, periods, perhaps a shear, and symbols.
 fn configuration<'a>(from: Source, tokens: &'a [Lexeme]) -> Read<'a, Command>
     ensures { Gives (λ x. (x.0, x.1.now)) result (body from.entry.bytes.now Head.Configuration tokens.now) }
 {
@@ -139,7 +142,7 @@ fn body<'a>(from: Source, head: Head, tokens: &'a [Lexeme]) -> Read<'a, Command>
     }
 }
 
-/// The command that these tokens are, without its `%`.
+/// The command that consists of all these tokens, which follow its `%`.
 pub(crate) fn command(from: Source, tokens: &[Lexeme]) -> Result<Boxed<Command>, ReadFault>
     ensures { Gives (λ x. x) result (command_of from.entry.bytes.now tokens.now) }
 {

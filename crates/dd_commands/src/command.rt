@@ -13,7 +13,7 @@ pub enum Entry {
     Negative(Number),
 }
 
-/// A vector: integers in brackets, as `[3 -1]`. It may have no entry.
+/// A vector: integers in brackets, such as `[3 -1]`. It may have no entries.
 #[derive(Debug, Drop)]
 pub struct Vector {
     pub entries: Items<Entry>,
@@ -35,7 +35,7 @@ pub struct Case {
     pub symbol: Name,
 }
 
-/// The syntax tree of a query. The row of its kind says how many words, numbers and vectors there are.
+/// The syntax tree of a query, without its first word. The row of its kind says which words, numbers and vectors it has.
 #[derive(Debug, Drop)]
 pub struct Request {
     pub kind: QueryKind,
@@ -64,7 +64,7 @@ pub enum Command {
     Topology {
         kind: Kind,
     },
-    /// `topology (label from [offset] to) ..`: a topology given by its edges.
+    /// `topology (label from [offset] to) ..`: a topology given by its edges. The head is `Topology` here too.
     Edges {
         edges: Items<Edge>,
     },
@@ -77,13 +77,13 @@ pub enum Command {
     Weights {
         weights: Items<Number>,
     },
-    /// `limits radius period pivots`: the limits of the searches.
+    /// `limits radius period pivots`: how far the searches go, and how many pivots a linear program may take.
     Limits {
         radius: Number,
         period: Number,
         pivots: Number,
     },
-    /// `rule name formula`: a name for a rule.
+    /// `rule name formula`: a rule with its name.
     Rule {
         name: Word,
         formula: Formula,
@@ -108,6 +108,6 @@ pub enum Command {
         shear: Option<Vector>,
         symbols: Items<Name>,
     },
-    /// A query about the rules, automata and configurations that were defined.
+    /// A query about rules, automata and configurations that are defined before it.
     Query(Request),
 }

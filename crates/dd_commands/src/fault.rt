@@ -8,7 +8,7 @@ use thiserror::Error;
 /// Why a script has no syntax tree.
 #[derive(Clone, Copy, Debug, PartialEq, Eq, Error)]
 pub enum SyntaxFault {
-    /// The number, from 1, of the first command that is not well formed. It is 0 if something stands before the first command.
+    /// The number, from 1, of the first command that is not well formed. It is 0 if some token stands before the first `%`.
     #[error("command {command} is not well formed")]
     At { command: u32 },
     /// Memory ran out.

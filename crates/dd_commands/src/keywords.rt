@@ -15,7 +15,7 @@ use dd_written::{Lexeme, ReadFault, Word, same_bytes, word_bytes};
 #[derive(Clone, Copy)]
 pub(crate) struct HeadRow {
     pub(crate) word: &'static [u8],
-    /// The stage. No command may follow one of a higher stage.
+    /// The stage orders the commands: none may follow one of a higher stage.
     pub(crate) stage: u32,
     /// Whether a script may have this command only once.
     pub(crate) once: bool,
@@ -62,7 +62,7 @@ impl Head {
     }
 }
 
-/// The kind of query whose first word is written so.
+/// The kind of query with this first word.
 fn query_kind(written: &[u8]) -> Option<QueryKind>
     ensures { result ≡ one_of kind_word query_kinds written.now }
 {
@@ -72,7 +72,7 @@ fn query_kind(written: &[u8]) -> Option<QueryKind>
         .find(|kind| same_bytes(written, kind.row().word))
 }
 
-/// The head whose first word is written so, among all commands but queries.
+/// The head with this first word, if it is not that of a query.
 fn other_head(written: &[u8]) -> Option<Head>
     ensures { result ≡ one_of head_text other_heads written.now }
 {
@@ -82,7 +82,7 @@ fn other_head(written: &[u8]) -> Option<Head>
         .find(|head| same_bytes(written, head.row().word))
 }
 
-/// The head whose first word is written so.
+/// The head with this first word.
 #[tactic(auto, using(crate::specs::lemmas::Words::either_head))]
 fn head(written: &[u8]) -> Option<Head>
     ensures { result ≡ one_of head_text heads written.now }
@@ -104,6 +104,7 @@ impl FromTokens for Head {
     }
 }
 
+/// The name of a built-in topology.
 fn kind_text(kind: Kind) -> &'static [u8]
     ensures { result.now ≡ kind_text kind }
 {
@@ -137,7 +138,7 @@ impl FromTokens for Kind {
     }
 }
 
-/// Reads one word, which must have this text.
+/// The next word, which must have this text.
 pub(crate) fn wanted<'a>(from: Source, text: &[u8], tokens: &'a [Lexeme]) -> Read<'a, Word>
     ensures { Gives (λ x. (x.0, x.1.now)) result ((wanted from.entry.bytes.now text.now).item tokens.now) }
 {

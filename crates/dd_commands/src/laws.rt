@@ -1,4 +1,5 @@
-//! Laws of syntax trees and syntax faults, as contracts of calls that do nothing.
+//! Laws of syntax trees and syntax faults, as contracts of calls that do nothing. The syntax fault of some bytes is the number of
+//! the first command that is not well formed.
 #![tactic(auto, using(crate::proofs::OneTree::one_tree, crate::proofs::OneTree::one_fault, crate::proofs::OneTree::tree_or_fault))]
 
 ghost use Rattle.std.specs.Prelude.{◌≡◌, ℕ, List};
@@ -13,7 +14,7 @@ pub fn one_tree()
     formula_is_read();
 }
 
-/// Does nothing; its contract says that at most one command is the first that is not well formed.
+/// Does nothing; its contract says that bytes have at most one syntax fault.
 pub fn one_fault()
     ensures { (bytes : List ℕ) (m n : ℕ) → IsSyntaxFault bytes m → IsSyntaxFault bytes n → m ≡ n }
 {

@@ -1,4 +1,4 @@
-//! Reading one item, or several one after the other, from the front of a list of tokens.
+//! Reading items from the front of a list of tokens: one, or several in a row.
 ghost use Rattle.std.specs.Prelude.{◌≡◌, ℕ, List};
 ghost use Rattle.dd_written.specs.reading.Readers.{Gives, Reader};
 ghost use Rattle.dd_commands.specs.reading.Forms.{at_most, each_at, some_at, exactly_at};
@@ -7,14 +7,14 @@ use dd_values::Items;
 use dd_written::{Lexeme, ReadFault};
 use std::alloc::Global;
 
-/// The bytes of a script, and the allocator for what is read of them.
+/// The bytes of a script, and the allocator for what is read from them.
 #[derive(Clone, Copy)]
 pub(crate) struct Source<'a> {
     pub(crate) alloc: Global,
     pub(crate) bytes: &'a [u8],
 }
 
-/// What was read, and the tokens after it.
+/// The item that was read, and the tokens after it.
 pub(crate) type Read<'a, T> = Result<(T, &'a [Lexeme]), ReadFault>;
 
 /// What can be read from the front of a list of tokens.

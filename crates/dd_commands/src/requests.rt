@@ -1,4 +1,4 @@
-//! Reading queries, by the rows of their kinds.
+//! Reading queries, each by the row of its kind.
 ghost use Rattle.std.specs.Prelude.{◌≡◌};
 ghost use Rattle.dd_written.specs.reading.Readers.{Gives};
 ghost use Rattle.dd_commands.specs.declared.head.Head.TheVariants as head;

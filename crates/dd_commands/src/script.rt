@@ -1,4 +1,4 @@
-//! Reading a script, command by command. A part is what stands between two marks `%`: the tokens of one command.
+//! Reading a script, command by command. A part is the tokens of one command: what stands after its `%`, up to the next.
 ghost use Rattle.std.specs.Prelude.{◌≡◌, [], ◌∷◌, ◌+◌, ◌<◌, ◌≤◌, length, IfOk, All};
 ghost use Rattle.std.specs.List.{prefix_len, list_all};
 ghost use Rattle.dd_values.specs.Bounds.{most_script};
@@ -16,7 +16,7 @@ use dd_values::Items;
 use dd_written::{Lexeme, Mark, ReadFault, Text, formula_is_read, lexemes};
 use std::alloc::Global;
 
-/// A command, with its tokens after the `%`.
+/// A command, and the tokens after its `%`.
 #[derive(Debug, Drop)]
 pub struct Written {
     pub tokens: Items<Lexeme>,
@@ -41,7 +41,7 @@ fn part_length(tokens: &[Lexeme]) -> usize
         .count()
 }
 
-/// The part after the `%` at the front, and the tokens after this part.
+/// The part after the `%` at the front, and the tokens left after that part.
 #[tactic(auto, using(crate::proofs::Parts::cut, crate::proofs::Parts::behind_mark))]
 fn next_part(tokens: &[Lexeme]) -> (&[Lexeme], &[Lexeme])
     requires some { 0 < length tokens.now }
@@ -55,6 +55,7 @@ fn next_part(tokens: &[Lexeme]) -> (&[Lexeme], &[Lexeme])
 }
 
 impl Command {
+    /// The head of this command.
     fn head(&self) -> Head
         ensures { result ≡ head_of self.now }
     {
@@ -75,14 +76,14 @@ impl Command {
     }
 }
 
-/// Whether no token is stray.
+/// Whether no token of the part is `Stray`.
 fn are_whole(part: &[Lexeme]) -> bool
     ensures { result ≡ list_all is_whole part.now }
 {
     part.iter().all(|token| !matches!(token, Lexeme::Stray))
 }
 
-/// Reads a part as a command, whose stage must not be below `from`.
+/// The command that the part is. Its stage must be `from` at least.
 fn command_from(source: Source, from: u32, part: &[Lexeme]) -> Result<Written, ReadFault>
     ensures { Gives (λ x. x) result (written_of source.entry.bytes.now from part.now) }
 {
@@ -127,7 +128,7 @@ fn commands(alloc: Global, bytes: &[u8], tokens: &[Lexeme]) -> Result<Items<Writ
     Ok(commands)
 }
 
-/// The syntax tree of a script of at most `MOST_SCRIPT` bytes, or the first command that is not well formed.
+/// The syntax tree of a script of at most `MOST_SCRIPT` bytes, or the number of the first command that is not well formed.
 #[tactic(auto, using(crate::proofs::Texts::ascii_text))]
 pub fn read(alloc: Global, bytes: &[u8]) -> Result<Syntax, SyntaxFault>
     requires { length bytes.now ≤ most_script }

@@ -15,7 +15,7 @@ pub enum Role {
     Configuration,
 }
 
-/// Which vectors stand at the end of a query.
+/// Which vectors, written as lists of integers, stand at the end of a query.
 #[derive(Clone, Copy, Debug, PartialEq, Eq)]
 pub enum Lists {
     /// No vector.
@@ -28,7 +28,7 @@ pub enum Lists {
     Vectors,
 }
 
-/// The kinds of queries. In their forms X and Y are rules, f and g automata, c is a configuration, r and m are numbers.
+/// The kinds of queries, each with its form: X and Y are rules, f and g automata, c is a configuration, r and m are numbers.
 #[derive(Clone, Copy, Debug, PartialEq, Eq)]
 pub enum QueryKind {
     /// `member c X`: does the configuration obey the rule?
@@ -49,9 +49,9 @@ pub enum QueryKind {
     Forbidden,
     /// `minimal X`: which minimal patterns does the rule forbid?
     Minimal,
-    /// `density X [5]`: what is the least density of a strip with these periods?
+    /// `density X [5]`: what is the least density that the rule allows on a strip with these periods?
     Density,
-    /// `least X [3 3]`: what is the least weight of a configuration with these periods?
+    /// `least X [3 3]`: what is the least weight of a configuration that obeys the rule and has these periods?
     Least,
     /// `discharge X r m [1 0] ..`: what is the best bound by discharging, with radius r, margin m and these vectors?
     Discharge,
@@ -68,10 +68,11 @@ pub struct QueryRow {
     pub numbers: usize,
     /// Which vectors follow the numbers.
     pub lists: Lists,
-    /// How many symbols the alphabet must have at least.
+    /// The least number of symbols that the alphabet must have.
     pub symbols: u32,
 }
 
+/// The row with these contents.
 fn entry(
     word: &'static [u8],
     names: &'static [Role],

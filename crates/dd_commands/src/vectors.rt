@@ -93,6 +93,7 @@ impl FromTokens for Edge {
     }
 }
 
+/// Whether a vector has no negative number.
 fn is_plain(vector: &Vector) -> bool
     ensures { result ≡ is_plain vector.now }
 {
@@ -113,7 +114,7 @@ pub(crate) fn plain<'a>(from: Source, tokens: &'a [Lexeme]) -> Read<'a, Vector>
     Ok((vector, rest))
 }
 
-/// The shear of a configuration: a vector without negative numbers, if one comes next.
+/// The shear of a configuration, if a vector without negative numbers comes next; otherwise none, and nothing is read.
 pub(crate) fn shear<'a>(from: Source, tokens: &'a [Lexeme]) -> Read<'a, Option<Vector>>
     ensures { Gives (λ x. (x.0, x.1.now)) result (shear.item tokens.now) }
 {

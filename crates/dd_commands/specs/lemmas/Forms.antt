@@ -1,4 +1,4 @@
--- What a form's reader reads is written in that form, and what is so written is read. Combinations of forms keep this.
+-- What the reader of a form reads is written in that form, and what is written in the form is read. Combinations of forms keep this.
 use Rattle.std.proofs.Common.{◌≡◌, ℕ, ◌≤◌, ◌<◌, List, [], ◌∷◌, ◌++◌, length, Option, Some, None, refl, sym, ap, ◌∙◌, arith, Bool, true, if◌then◌else◌, is_some, nat_le, flat_map, eqb-true, eq-eqb, leb-true, le-leb, length-append}
 use Rattle.std.proofs.lemmas.{Option.cond_some, Option.some_pair_parts}
 use Rattle.dd_commands.specs.Tree.{Lexeme}

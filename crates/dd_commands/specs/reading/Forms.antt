@@ -1,5 +1,5 @@
--- Forms: how items of a kind are written and how they are read; and combinations of forms. A reader that has a form of the same name
--- ends in `_at`: `each_at` is the reader of `each`.
+-- Forms, and combinations of them. A form says how items of a kind are written, and how they are read. Where a form and a reader
+-- go together, the reader's name ends in `_at`: `each_at` reads what `each` describes.
 use Rattle.std.specs.Prelude.{◌≡◌, ℕ, ◌≤◌, List, [], ◌∷◌, ◌++◌, length, ◌==◌, nat_le, Bool, Option, Some, None, is_some, if◌then◌else◌}
 use Rattle.dd_commands.specs.Tree.{Lexeme}
 pub use Rattle.dd_written.specs.reading.Readers.{◌>>=◌, Reader, many, ReadsAll}
@@ -10,7 +10,7 @@ pub record Form (X : Type 0) : Type 1 where
   pub onto : X → List Lexeme → List Lexeme
   -- which items have this form
   pub is : X → Type 0
-  -- which tokens may follow an item
+  -- which tokens may follow an item, so that its reader stops there
   pub ends : List Lexeme → Type 0
   -- the reader of an item
   pub item : Reader X
@@ -23,7 +23,7 @@ by_text text item = record { onto = λ x rest. text x ++ rest; is = λ x. Unit {
 abbrev pub single : {X : Type 0} → (X → Lexeme) → Reader X → Form X
 single lexeme item = by_text (λ x. lexeme x ∷ []) item
 
--- reads an item and makes something of it
+-- reads an item, and gives what `make` makes of it
 abbrev pub made : {X Y : Type 0} → (X → Y) → Reader X → Reader Y
 made make item tokens = item tokens >>= λ x. Some (make x.0, x.1)
 
@@ -69,7 +69,7 @@ exactly_at n item = tested (λ xs. length xs == n) (at_most item n)
 abbrev pub exactly : {X : Type 0} → ℕ → (List X → List Lexeme) → Reader X → Form (List X)
 exactly n texts item = record { onto = λ xs rest. texts xs ++ rest; is = λ xs. length xs ≡ n; ends = λ rest. Unit {0}; item = exactly_at n item }
 
--- the item, if no token is left
+-- the item, if no token is left after it
 abbrev pub alone : {X : Type 0} → X → List Lexeme → Option X
 alone x [] = Some x
 alone x (t ∷ tokens) = None
