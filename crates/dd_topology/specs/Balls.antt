@@ -10,7 +10,7 @@ use Rattle.dd_topology.specs.{declared.edge.Edge.Edge, Topology.Leads, Topology.
 abbrev pub CellSet : Type 1
 CellSet = Cell → Type 0
 
--- the cells that an edge joins to a, in either direction
+-- b is adjacent to a: some edge joins them, in either direction
 abbrev pub IsAdjacent : List Edge → Cell → CellSet
 IsAdjacent es a b = (e : Edge) × Contains es e × (Leads e a b ⊎ Leads e b a)
 
@@ -33,7 +33,7 @@ CellsLeaveRange S = LeavesRangeAt (λ (c : Cell). c.position) S
 abbrev pub IsCellFaultOf : CellSet → LatticeFault → Type 0
 IsCellFaultOf S = IsFaultAt (λ (c : Cell). c.position) S
 
--- adjacency as a test: `leads` is that of `Leads`, and `is_adjacent` that of `IsAdjacent`
+-- tests: `leads` decides `Leads`, and `is_adjacent` decides `IsAdjacent`
 abbrev pub same_place : Place → Place → Bool
 same_place p q = int_eq p.x q.x && int_eq p.y q.y && int_eq p.z q.z
 

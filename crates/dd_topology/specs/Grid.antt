@@ -16,14 +16,14 @@ pub record Grid : Type 0 where
 abbrev pub grid : ℕ → ℕ → List (List ℕ) → List Edge → Grid
 grid d nodes labels edges = record { dimension = d; nodes = nodes; labels = labels; edges = edges }
 
--- how far an edge may lead along the axis 0, 1 or 2 in dimension d: not at all along an axis past d
+-- how far an edge may lead along the axis 0, 1 or 2 in dimension d: 4, but not at all from axis d on
 abbrev pub edge_reach : ℕ → ℕ → ℕ
 edge_reach d axis = cond (nat_lt axis d) 4 0
 
 abbrev pub is_offset : ℕ → Place → Bool
 is_offset d p = nat_le (unsigned_abs p.x) (edge_reach d 0) && nat_le (unsigned_abs p.y) (edge_reach d 1) && nat_le (unsigned_abs p.z) (edge_reach d 2)
 
--- the edge fits a topology of dimension d with so many nodes and labels
+-- the edge fits a topology of dimension d with these numbers of nodes and labels
 abbrev pub is_edge : ℕ → ℕ → ℕ → Edge → Bool
 is_edge d nodes labels e = nat_lt e.label labels && nat_lt e.from nodes && nat_lt e.to nodes && is_offset d e.offset
 
@@ -47,7 +47,7 @@ pub record IsFirstTwice (edges : List Edge) (label : ℕ) : Type 0 where
   pub repeats : list_any (starts_alike edge) (take at edges) ≡ true
   pub first : AreSingle (take at edges)
 
--- why no topology was made of the edges
+-- why no topology was made of the edges; `Memory` says nothing of them
 abbrev pub IsTopologyFault : List Edge → TopologyFault → Type 0
 IsTopologyFault edges (Twice label) = IsFirstTwice edges label
 IsTopologyFault edges Memory = Unit {0}

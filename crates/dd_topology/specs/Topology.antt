@@ -44,7 +44,7 @@ starts_alike e f = e.label == f.label && e.from == f.from
 abbrev pub AreSingle : List Edge → Type 0
 AreSingle es = AllPairs (λ e f. starts_alike e f ≡ false) es
 
--- the greatest absolute value of a coordinate
+-- how far a position lies from the origin: the greatest absolute value of its coordinates
 abbrev pub extent : Place → ℕ
 extent p = max (unsigned_abs p.x) (max (unsigned_abs p.y) (unsigned_abs p.z))
 

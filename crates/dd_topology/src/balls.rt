@@ -29,7 +29,7 @@ impl Topology {
     /// edge in either direction.
     ///
     /// # Errors
-    /// `Range` where the absolute value of a coordinate of one of these cells exceeds 2^20; or `Memory`.
+    /// `Range` if a coordinate of one of these cells exceeds 2^20 in absolute value; or `Memory`.
     pub fn ball(&self, alloc: Global, centre: &Cell, radius: u32) -> Result<Vec<Cell>, LatticeFault>
         ensures cells { IfOk result (λ v. IsCellListOf (IsInBall self.now.edges centre.now radius) v.items) }
         ensures list { IfOk result (λ v. v.items ≡ in_order (ball self.now.edges centre.now radius)) }
@@ -39,7 +39,7 @@ impl Topology {
         self.ball_within(alloc, centre, radius, &mut found)
     }
 
-    /// The ball, by rounds that gather its cells in `found`, which is empty at first.
+    /// The ball. `found` is empty at first, and gathers the cells of the ball round by round.
     fn ball_within(
         &self,
         alloc: Global,

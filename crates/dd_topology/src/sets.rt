@@ -5,7 +5,7 @@ ghost use Rattle.dd_topology.specs.Sets.{all_symbols, restricted, allows, symbol
 use std::alloc::{AllocError, Global};
 use std::marker::Model;
 
-/// The symbols that each node allows. Each node allows at least one.
+/// The sets of symbols that the nodes allow, one set for each node. No set is empty.
 #[derive(Debug, Drop)]
 pub struct Sets {
     nodes: u32,

@@ -26,7 +26,8 @@ pub(crate) struct Move {
     from: u32,
 }
 
-/// A topology. No label has two edges from one node, and no edge leads further than 4 along an axis.
+/// A topology: a dimension, the nodes of each position, labels, and edges. No label has two edges from one node, and no
+/// edge leads further than 4 along an axis.
 #[derive(Drop)]
 pub struct Topology {
     /// The dimension: 1, 2 or 3.
@@ -36,7 +37,7 @@ pub struct Topology {
     /// The names of the labels.
     labels: Names,
     edges: Items<Edge>,
-    /// The moves of the edges, in the edges' order: the place of a move is the place of its edge.
+    /// The moves of the edges. Each move has the index that its edge has in `edges`.
     moves: IndexSet<Move>,
 }
 
@@ -74,11 +75,12 @@ fn moves_of(alloc: Global, edges: &[Edge]) -> Result<IndexSet<Move>, TopologyFau
 }
 
 impl Topology {
-    /// The topology of dimension `dim` with `nodes` nodes at each position, and with these labels and edges.
+    /// The topology of dimension `dim` with `nodes` nodes at each position, and with these labels and edges. Each edge
+    /// has a label and nodes that exist. It leads at most 4 along each of the first `dim` axes, and not at all along others.
     ///
     /// # Errors
     /// `Twice` if two edges have the same label and first node. It holds the label of the first edge that repeats an
-    /// earlier one in both. Or `Memory`.
+    /// earlier one in both. Or `Memory` if memory ran out.
     pub fn from_edges(
         alloc: Global,
         dim: u32,
