@@ -10,7 +10,7 @@ use Rattle.dd_pattern.specs.{declared.periods.Periods.Periods, Periods.periods_c
 use Rattle.dd_pattern.specs.listing.Adding.{IsAdded, HasShear, IsPeriodUpTo, HasBox, most_along}
 use Rattle.dd_pattern.specs.lemmas.PeriodsLaws.{made_periods, periods_same, periods_equal}
 
--- what was added in two steps
+-- two steps add what is P and then what is Q, which together is R
 pub added_more : (a b c : List Periods) (P Q R : Periods → Type 0) → IsAdded a b P → IsAdded b c Q → ((q : Periods) → R q → P q ⊎ Q q) →
     ((q : Periods) → P q → R q) → ((q : Periods) → Q q → R q) → IsAdded a c R
 added_more a b c P Q R first second split from_first from_second q = (
@@ -27,7 +27,7 @@ added_more a b c P Q R first second split from_first from_second q = (
 last_or_before : (n i : ℕ) → n ≤ i + 1 → (n ≤ i) ⊎ (n ≡ i + 1)
 last_or_before n i h = elim (eq-or-lt_of_le h) [ inl last ↦ inr last | inr low ↦ inl (omega arith) ]
 
--- the last shear alone
+-- q has these x, y and z, and the shear s
 record HasOnly (x y z s : ℕ) (q : Periods) : Type 0 where
   at_x : q.x ≡ x
   at_y : q.y ≡ y
@@ -106,7 +106,7 @@ level_more F f at a b c i before one =
     (λ q h. record { rest = h.rest; some = h.some; most = (let low = h.most in omega arith) })
     (λ q h. (let is = at (i + 1) q h in record { rest = subst (λ k. F k q) (sym is) h; some = omega (arith, is); most = omega (arith, is) }))
 
--- what it says of a period that it is at most most_along
+-- a period k that is at most most_along is 1 on an unused axis, and at most n
 pub along_bound : (d axis n k : ℕ) → 1 ≤ k → k ≤ most_along d axis n → (d ≤ axis → k ≡ 1) × (1 ≤ n → k ≤ n)
 along_bound d axis n k some most =
     cond_both (is_active d axis) n 1 (λ m. k ≤ m → (d ≤ axis → k ≡ 1) × (1 ≤ n → k ≤ n)) (λ used low. (λ idle. absurd (let active = ltb-true axis d used in omega arith), λ _. low))

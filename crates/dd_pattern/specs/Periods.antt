@@ -57,6 +57,6 @@ pub record AreWithin (d n : ℕ) (p : Periods) : Type 0 where
   pub y_most : p.y ≤ n
   pub z_most : p.z ≤ n
 
--- the list has exactly these periods
+-- the list has exactly the periods in d dimensions that are at most n along each axis
 abbrev pub AreAllWithin : ℕ → ℕ → List Periods → Type 0
 AreAllWithin d n ps = (p : Periods) → Contains ps p ↔ AreWithin d n p

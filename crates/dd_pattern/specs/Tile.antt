@@ -33,13 +33,13 @@ pub record IsPeriodic (t : Tile) : Type 0 where
   pub tile : IsTile t
   pub small : length t.symbols ≤ most_symbols
 
--- the number of the cell's symbol in the list. Positions are listed by z, then y, then x, and the nodes of a position follow each other
+-- the index of the cell's symbol in the list. Positions are listed by z, then y, then x, and the nodes of a position follow each other
 abbrev pub tile_index : Tile → Cell → ℕ
 tile_index t c =
     let p = t.periods in
     ((residue c.position.z p.z * p.y + residue c.position.y p.y) * p.x + residue (unsheared p c.position) p.x) * t.nodes + c.node
 
--- each cell has the symbol of the same node at its position modulo the periods
+-- each cell has the symbol of the same node at its position modulo the periods; a node that is none of the tile's has none
 abbrev pub tile_look : Tile → Look
 tile_look t c = cond (nat_lt c.node t.nodes) (slice_get t.symbols (tile_index t c)) None
 
@@ -48,7 +48,7 @@ pub record IsInBox (t : Tile) (c : Cell) : Type 0 where
   pub base : base_of t.periods c.position ≡ c.position
   pub node : c.node < t.nodes
 
--- the cell of the fundamental box whose symbol has the number i in the list
+-- the cell of the fundamental box whose symbol has the index i in the list
 abbrev pub cell_in : Tile → ℕ → Cell
 cell_in t i =
     let p = t.periods in
@@ -65,7 +65,7 @@ pub record Times : Type 0 where
   pub second : ℕ
   pub third : ℕ
 
--- the position after that
+-- the position v after these vectors are added
 abbrev pub with_vectors : Periods → Times → Place → Place
 with_vectors p n v = place (v.x +ℤ pos (n.first * p.x + n.second * p.shear)) (v.y +ℤ pos (n.second * p.y)) (v.z +ℤ pos (n.third * p.z))
 

@@ -34,7 +34,7 @@ impl Model for Periodic {
     ghost invariant = { λ p. IsPeriodic (record { dimension = p.dim; periods = p.periods; nodes = p.nodes; symbols = p.symbols.items }) };
 }
 
-/// The number of an entry in a table that is listed row by row. Rows and columns are counted from 0.
+/// The index of an entry in a table that is listed row by row. Rows and columns are counted from 0.
 fn entry(row: usize, width: u32, column: u32) -> usize
     requires { row * width + column < 2 ^ 64 }
     ensures { result ≡ row * width + column }
@@ -66,7 +66,7 @@ fn has_size(periods: &Periods, nodes: u32, count: usize) -> bool
     table_size(periods, nodes) == count as u128
 }
 
-/// Whether the periods of unused axes are 1, and whether the shear is less than the first period, and 0 in one dimension.
+/// Whether the periods of unused axes are 1, the shear is less than the first period, and it is 0 in one dimension.
 fn fit_dimension(dim: u32, periods: &Periods) -> bool
     ensures { IsTrue result ↔ ((dim < 2 → periods.now.y ≡ 1) × (dim < 3 → periods.now.z ≡ 1)
         × (periods.now.shear < periods.now.x) × (dim < 2 → periods.now.shear ≡ 0)) }
@@ -93,7 +93,7 @@ impl Periodic {
     /// - `dim` isn't 1, 2 or 3, or there is no node.
     /// - A period is 0, or that of an unused axis isn't 1.
     /// - The shear isn't less than the first period, or isn't 0 in one dimension.
-    /// - The number of symbols isn't the product of the periods and of `nodes`, or passes 65,536.
+    /// - The number of symbols isn't the product of `nodes` and the three periods, or passes 65,536.
     pub fn new(
         dim: u32,
         periods: [u32; 3],
@@ -159,7 +159,7 @@ impl Periodic {
         self.symbols.as_slice()
     }
 
-    /// The sum of the weights of the fundamental box, where the symbol `s` has the weight `weights[s]`.
+    /// The sum of the weights of the symbols of the fundamental box, where the symbol `s` has the weight `weights[s]`.
     pub fn weight(&self, weights: &[u32]) -> u64
         requires { AreWeights weights.now self.now.symbols }
         ensures { result ≡ total_weight weights.now self.now.symbols }
@@ -184,7 +184,7 @@ impl Periodic {
         }
     }
 
-    /// The number of the cell's symbol in the list.
+    /// The index of the cell's symbol in the list of symbols.
     fn index(&self, cell: &Cell) -> usize
         requires { cell.now.node < self.now.nodes }
         ensures value { result ≡ tile_index self.now cell.now }
@@ -198,7 +198,7 @@ impl Periodic {
 }
 
 impl Periodic {
-    /// The cell of the fundamental box whose symbol has this number in the list.
+    /// The cell of the fundamental box whose symbol has the index `number` in the list of symbols.
     #[tactic(auto, using(crate::specs::lemmas::BoxLaws::in_box, crate::specs::lemmas::BoxLaws::index_of_cell))]
     pub fn cell_at(&self, number: usize) -> Cell
         requires { number < length self.now.symbols }

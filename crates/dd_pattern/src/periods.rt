@@ -38,7 +38,7 @@ impl Periods {
         listed(alloc, &found)
     }
 
-    /// The number of positions of the fundamental box.
+    /// The number of positions of the fundamental box, `x * y * z`.
     fn volume(&self) -> u128
         ensures { result ≡ periods_volume self.now }
     {
@@ -99,7 +99,7 @@ fn add_shears(
     Ok(())
 }
 
-/// Adds the periods with these `x` and `y`, every `z` up to `high`, and every shear.
+/// Adds the periods with these `x` and `y`, every `z` from 1 to `high`, and every shear.
 fn add_row(
     found: &mut BTreeSet<Periods>,
     dim: u32,
@@ -115,7 +115,7 @@ fn add_row(
     Ok(())
 }
 
-/// Adds the periods with this `x`, every `y` and `z` up to `most`, and every shear.
+/// Adds the periods with this `x`, every `y` and `z` from 1 to `most` on active axes, and every shear.
 fn add_plane(found: &mut BTreeSet<Periods>, dim: u32, most: u32, x: u32) -> Result<(), AllocError>
     ensures { OnOk result (IsAdded found.old.keys found.new.keys (HasPlane dim most x)) }
 {
@@ -153,7 +153,7 @@ pub(crate) fn quotient(x: i32, n: u32) -> i32
     x.div_euclid(n as i32)
 }
 
-/// The coordinate along x after the second period vector has been subtracted so many times.
+/// The coordinate `x` of a position after `(shear, y, 0)` has been subtracted `times` times.
 pub(crate) fn unsheared(x: i32, times: i32, shear: u32) -> i64
     requires near { IsCoordinateInRange x }
     requires times { unsigned_abs times ≤ most_coordinate + 1 }

@@ -8,7 +8,7 @@ use Rattle.dd_pattern.specs.Periods.{residue, quotient}
 pub le-self_mul : (a n : ℕ) → 0 < n → a ≤ a * n
 le-self_mul a n h = let one : a * 1 ≤ a * n = mul-le-mul_left a h in omega arith
 
--- z with enough multiples of n added
+-- adding n to z often enough gives a natural number m
 raised : (z : ℤ) (n : ℕ) → 0 < n → (m : ℕ) × (z +ℤ pos (unsigned_abs z * n) ≡ pos m)
 raised z n h =
     let big : unsigned_abs z ≤ unsigned_abs z * n = le-self_mul (unsigned_abs z) n h in
@@ -23,7 +23,7 @@ residue_below x n h = let p = raised x n h in rw (residue_is x n (unsigned_abs x
 pub residue_small : (k n : ℕ) → k < n → residue (pos k) n ≡ k
 residue_small k n h = mod-eq_of_lt h
 
--- x and its residue meet if n is added to each some number of times
+-- x and its residue become equal if n is added to each a number of times
 pub record Met (x : ℤ) (n : ℕ) : Type 0 where
   pub times : ℕ
   pub times' : ℕ
@@ -33,7 +33,7 @@ pub record Met (x : ℤ) (n : ℕ) : Type 0 where
 split_table : (j b n k : ℕ) → k ≡ j + b + 1 → k * n ≡ j * n + b * n + n
 split_table j b n k e = rw e (omega arith)
 
--- x plus k times n is the natural m
+-- the quotient of x by n, if x plus k times n is the natural number m
 quotient_is : (x : ℤ) (n k m : ℕ) → 0 < n → x +ℤ pos (k * n) ≡ pos m → quotient x n +ℤ pos k ≡ pos (m / n)
 quotient_is (pos a) n k m h e =
     let sum : m ≡ a + k * n = omega (arith, ints) in

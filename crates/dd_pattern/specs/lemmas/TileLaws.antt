@@ -51,7 +51,7 @@ moved_congruent p c v w h = record {
       place_same _ _ _ _ _ _ (omega (arith, ints, on_x)) (omega (arith, ints, on_y)) (omega (arith, ints, on_z));
 }
 
--- moves from c by a position and by its base lead to the same base
+-- c moved by a position and c moved by its base have the same base
 pub base_moved : (d : ℕ) (p : Periods) → ArePeriodsIn d p → (c v : Place) → base_of p (moved c v) ≡ base_of p (moved c (base_of p v))
 base_moved d p ok c v = base_congruent d p ok (moved c v) (moved c (base_of p v)) (moved_congruent p c v (base_of p v) (congruent_base d p ok v))
 

@@ -1,4 +1,4 @@
--- Sets of periods, as nested loops over x, y, z and the shear add to them.
+-- What nested loops over x, y, z and the shear add to a set of periods.
 use Rattle.std.specs.{Prelude.ℕ, Prelude.◌<◌, Prelude.◌≤◌, Prelude.◌≡◌, Prelude.◌↔◌, Prelude.◌⊎◌, Prelude.List, Prelude.cond, List.Contains}
 use Rattle.dd_lattice.specs.Boxes.{is_active}
 use Rattle.dd_pattern.specs.declared.periods.Periods.{Periods}
@@ -32,6 +32,6 @@ HasRow d n x y = IsPeriodUpTo (HasShear (most_along d 1 x) x y) (λ q. q.z) n
 abbrev pub HasPlane : ℕ → ℕ → ℕ → Periods → Type 0
 HasPlane d n x = IsPeriodUpTo (HasRow d (most_along d 2 n) x) (λ q. q.y) (most_along d 1 n)
 
--- the same with an x from 1 to k
+-- q has an x from 1 to k, and y and z from 1 to n, as far as their axes are active
 abbrev pub HasBox : ℕ → ℕ → ℕ → Periods → Type 0
 HasBox d n k = IsPeriodUpTo (HasPlane d n) (λ q. q.x) k
