@@ -37,6 +37,7 @@ all_made (m ∷ ms) n =
 abbrev pub then_gate : ℕ → List Gate → Gate → Made
 then_gate n gates g = made_of (signal_of (n + length gates + 1)) (gates ++ g ∷ [])
 
+-- the gates of an expansion, from those of its parts
 abbrev pub made_step : (Cell → ℕ → Signal) → Expanded-F Maker → Maker
 made_step wires (Expanded-F.Constant b) n = then_gate n [] (if b then And [] else Or [])
 made_step wires (Expanded-F.Leaf c s) n = made_of (wires c s) []
@@ -48,7 +49,7 @@ made_step wires (Expanded-F.Iff f g) n =
     let right = g (n + length left.gates) in
     then_gate n (left.gates ++ right.gates) (Iff left.signal right.signal)
 
--- the gates of an expansion, over a signal for each leaf, by its cell and its symbol
+-- the gates of an expansion; `wires` gives the signal of each leaf, by its cell and its symbol
 abbrev pub made : (Cell → ℕ → Signal) → Expanded → Maker
 made wires = fold-Expanded Maker (made_step wires)
 
@@ -60,7 +61,7 @@ gate_count_step (Expanded-F.And fs) = total fs + 1
 gate_count_step (Expanded-F.Or fs) = total fs + 1
 gate_count_step (Expanded-F.Iff f g) = (f + g) + 1
 
--- the number of gates that are added
+-- the number of gates that are added for an expansion
 abbrev pub gate_count : Expanded → ℕ
 gate_count = fold-Expanded ℕ gate_count_step
 
@@ -87,12 +88,12 @@ are_wired n wires = leaves_pass (λ c s. is_wire n (wires c s))
 abbrev pub all_wired : ℕ → Wires → List Expanded → Bool
 all_wired n wires es = list_all (are_wired n wires) es
 
--- the wire; a signal of the variable 0, which no circuit has, where there is none
+-- the wire, or, if there is none, a signal of the variable 0, which no circuit has
 abbrev pub wire_or_zero : Option Signal → Signal
 wire_or_zero None = signal_of 0
 wire_or_zero (Some s) = s
 
--- the wires, for expansions of which each leaf has one
+-- the wires as signals, for expansions each leaf of which has a wire
 abbrev pub certain : Wires → Cell → ℕ → Signal
 certain wires c s = wire_or_zero (wires c s)
 

@@ -24,7 +24,7 @@ abbrev pub choices : List Signal → List Signal → List Gate
 choices before [] = And (map opposite before) ∷ []
 choices before (l ∷ ls) = And (l ∷ map opposite before) ∷ choices (before ++ l ∷ []) ls
 
--- the symbol that each choice gives: those of the cases, then the one given otherwise
+-- the symbol that each choice gives: the symbols of the cases, and then the one for the last choice
 abbrev pub given_symbols : List (LocalRule × ℕ) → ℕ → List ℕ
 given_symbols cases otherwise = map (λ case. case.1) cases ++ otherwise ∷ []
 
@@ -86,6 +86,6 @@ gated_step k (Automaton-F.Composed f g) =
       made = λ w at. composed_made (in_order (f.counts.reads at.node)) f.made g.made w at;
     }
 
--- the value of an automaton over an alphabet of k symbols
+-- the gates of the value of an automaton over an alphabet of k symbols
 abbrev pub value_made : ℕ → Automaton → ValueMaker
 value_made k f = (fold-Automaton Gated (gated_step k) f).made

@@ -1,4 +1,5 @@
--- The signals of the cells that an automaton reads, and what the signals of its value say.
+-- The signals of the cells that an automaton reads, and what the signals of its value say. Common numbers are the dimension, the
+-- number of nodes and the size of the alphabet that several rules or automata share.
 use Rattle.std.specs.Prelude.{ℕ, ◌≡◌, ◌<◌, ◌==◌, Bool, true, List, Some, length, map, slice_get}
 use Rattle.std.specs.List.{Contains, list_all}
 use Rattle.dd_lattice.specs.{Cells.shifted, declared.position.Cell.Cell}

@@ -26,8 +26,8 @@ SaysNear f =
     (s : CommonNumbers) → IsAutomaton s f → (w : Wiring) (at : Cell) (n : ℕ) → at.node < s.nodes → extent at.position + 16 * (counted f).depth + 16 ≤ most_coordinate →
     are_wired_there n s.symbols w ((counted f).reads at.node) at ≡ true → IsMadeValue n s.symbols f w at (value_made s.symbols f w at n)
 
--- the gates of the automaton's value are as `IsMadeValue` says, if each cell that it reads has its signals. A depth of at
--- most 64 and a reach of at most 16 make 2048 far enough from the border of the range
+-- The gates of the automaton's value are as `IsMadeValue` says, if each cell that it reads has its signals. Depths are at most 64,
+-- and reaches at most 16, so 2048 is far enough from the border of the range.
 abbrev pub SaysItsValue : Automaton → Type 0
 SaysItsValue f =
     (s : CommonNumbers) → IsAutomaton s f → (w : Wiring) (at : Cell) (n : ℕ) → at.node < s.nodes → extent at.position ≤ most_coordinate - 2048 →

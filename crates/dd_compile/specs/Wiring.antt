@@ -9,6 +9,7 @@ pub record Wiring : Type 0 where
   pub cells : List Cell
   pub signals : List (List Signal)
 
+-- the cells ascend, and each has its list
 pub record IsWiring (w : Wiring) : Type 0 where
   pub ascending : IsStrictlySortedBy cell_cmp w.cells
   pub as_many : length w.signals ≡ length w.cells
@@ -27,7 +28,7 @@ signal_for (Some ss) s = slice_get ss s
 abbrev pub signals_of : Wiring → Cell → Option (List Signal)
 signals_of w c = slice_get w.signals (position_or_len (λ d. is_eq (cell_cmp d c)) w.cells)
 
--- the wire of the symbol s: the signal with the number s of them
+-- the wire of a cell and the symbol s: the signal with the number s, from 0, among those of the cell
 abbrev pub wire_of : Wiring → Cell → ℕ → Option Signal
 wire_of w c s = signal_for (signals_of w c) s
 

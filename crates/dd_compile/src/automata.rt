@@ -54,14 +54,14 @@ pub fn compile_value(
     compile_near(circuit, alloc, automaton, symbols, at, inputs)
 }
 
-/// Does nothing. Its contract is a law: the automaton's value has at most as many gates as clauses.
+/// Does nothing. Its contract is a law: the automaton's value has at most as many gates as `value_clauses` counts clauses.
 pub fn value_gates(_automaton: &Automaton, _symbols: u32)
     ensures { (w : Wiring) (at : Cell) (n : ℕ) →
         length (value_made _symbols _automaton.now w at n).gates ≤ value_clauses _symbols _automaton.now at.node }
 {}
 
-/// The same as `compile_value`, for a cell near enough to the origin that compositions of this depth read only cells in
-/// range.
+/// The same as `compile_value`, for any cell that is near enough to the origin: compositions of the automaton's depth read
+/// only cells in range there.
 #[cycle(compile_near)]
 fn compile_near(
     circuit: &mut Circuit,

@@ -49,6 +49,7 @@ pub fn is_wired(circuit: &Circuit, expanded: &Expanded, at: &Position, inputs: &
     }
 }
 
+/// The same for several expansions.
 #[cycle(wired)]
 fn are_wired(circuit: &Circuit, parts: &[Expanded], at: &Position, inputs: &Inputs) -> bool
     ensures { result ≡ all_wired (size circuit.now) (wires_near inputs.now at.now) parts.now }

@@ -100,6 +100,7 @@ fn is_signal(signal: &Signal, variables: u32) -> bool
     1 <= signal.variable && signal.variable <= variables
 }
 
+/// The same for each of the signals.
 fn are_signals(signals: &[Signal], variables: u32) -> bool
     ensures { result ≡ list_all (is_signal variables) signals.now }
 {

@@ -35,6 +35,7 @@ fn is_cell_wired(
     }
 }
 
+/// The same for each of the cells.
 fn are_cells_wired(
     circuit: &Circuit,
     symbols: u32,

@@ -131,8 +131,8 @@ fn signals_there(
     Ok(signals)
 }
 
-/// The signal that takes the place of a template's signal. For a template's input it is one of `inputs`. For the variables
-/// of the template's gates these are the variables after the first `before`.
+/// The signal that takes the place of a template's signal. One of `inputs` takes the place of each input of the template. The
+/// variables after the first `before` take the places of the variables of its gates, in order.
 fn placed(signal: Signal, inputs: &[Signal], before: u32) -> Signal
     requires signal { IsSignal most_variables signal }
     requires before { before ≤ most_variables }
@@ -171,7 +171,7 @@ fn place_all(
     Ok(())
 }
 
-/// Adds the gate that takes the place of a template's gate. `members` is room for its members.
+/// Adds the gate that takes the place of a template's gate. `members` is a buffer for its members.
 fn place_gate(
     circuit: &mut Circuit,
     gate: &Gate,

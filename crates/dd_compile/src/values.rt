@@ -1,5 +1,6 @@
-//! The gates of the value at a cell of an automaton by cases, in three steps: the rules of the cases; the choices, one of
-//! which is true, for the first case whose rule is true or for none; and the symbols that the choices give.
+//! The gates of the value of an automaton by cases at a cell. They are added in three steps. The gates of the cases' rules come
+//! first. Then comes a gate for each choice: the first case whose rule is true, or the last choice if no rule is true. Exactly
+//! one choice is true. Then comes a gate for each symbol, which says that a choice that gives this symbol is true.
 ghost use Rattle.std.specs.Prelude.{◌≡◌, ◌≤◌, ◌+◌, ◌-◌, ◌++◌, [], true, All, IfOk, length};
 ghost use Rattle.dd_lattice.specs.Place.{most_coordinate};
 ghost use Rattle.dd_values.specs.Bounds.{most_variables};
@@ -94,7 +95,7 @@ fn choose(circuit: &mut Circuit, alloc: Global, rules: &[Signal]) -> Result<Vec<
     Ok(chosen)
 }
 
-/// The symbol that each choice gives: those of the cases, then the one given otherwise.
+/// The symbol that each choice gives: the symbols of the cases, and then the one for the last choice.
 fn given_symbols(alloc: Global, cases: &Cases) -> Result<Vec<u32>, AllocError>
     ensures { IfOk result (λ v. v.items ≡ given_symbols cases.now.cases cases.now.otherwise) }
 {
@@ -106,7 +107,7 @@ fn given_symbols(alloc: Global, cases: &Cases) -> Result<Vec<u32>, AllocError>
     Ok(symbols)
 }
 
-/// The choices that give the symbol.
+/// The choices that give the symbol, as their signals.
 fn giving(
     alloc: Global,
     given: &[u32],

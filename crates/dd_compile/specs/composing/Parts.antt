@@ -16,8 +16,8 @@ pub record HaveSymbols (f g : Automaton) (k a : ℕ) : Type 0 where
   pub below : a < setting.nodes
   pub all : setting.symbols ≡ k
 
--- the automaton is well formed over some common numbers, of which k is the size of the alphabet, and these are cells of that
--- dimension with nodes below that number
+-- the automaton is well formed over some common numbers, of which k is the size of the alphabet, and these are cells of their
+-- dimension with some of their nodes
 pub record HasSymbolsAt (f : Automaton) (k : ℕ) (cs : List Cell) : Type 0 where
   pub setting : CommonNumbers
   pub formed : IsAutomaton setting f

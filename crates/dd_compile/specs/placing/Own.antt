@@ -29,7 +29,7 @@ own_count r a = length (cells_at r a) * r.symbols
 abbrev pub own_made : LocalRule → ℕ → Made
 own_made r a = compiled (own_inputs r a) origin (expansion_at r a) (own_count r a)
 
--- the circuit has only these gates, and the signal is theirs
+-- the circuit has exactly the gates of the template of the rule r at the node a, and the signal is theirs
 pub record IsTemplate (r : LocalRule) (a : ℕ) (circuit : Network) (s : Signal) : Type 0 where
   pub exists : a < r.nodes
   pub kept : IsRule r

@@ -27,8 +27,8 @@ abbrev pub placed_by : Option Signal → ℕ → Bool → Signal
 placed_by None variable positive = record { variable = variable; positive = positive }
 placed_by (Some input) variable positive = signed positive input
 
--- The signal that takes the place of a template's signal: one of `inputs` for each of the first variables, and the variables
--- after n for the later ones.
+-- The signal that takes the place of a template's signal. One of `inputs` takes the place of each of the template's first
+-- variables, which are its inputs. The variables after n take the places of the later ones.
 abbrev pub placed : List Signal → ℕ → Signal → Signal
 placed inputs n s = placed_by (slice_get inputs (s.variable - 1)) (n + (s.variable - length inputs)) s.positive
 
