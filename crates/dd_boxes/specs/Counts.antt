@@ -14,7 +14,7 @@ goal_clauses always = 0
 abbrev pub question_clauses : LocalRule → GoalOf → ℕ → ℕ
 question_clauses x g positions = region_clauses x (goal_clauses g) positions
 
--- the greatest number of clauses that may be made
+-- the greatest number of clauses that a question may have
 abbrev pub most_clauses : ℕ
 most_clauses = 2000000
 

@@ -16,6 +16,7 @@ abbrev pub Admissible : LocalRule → Look → Type 0
 Admissible x look =
     (v : Place) (a : ℕ) → is_flat x.dimension v ≡ true → a < x.nodes → place_fits x look (cell v a) ≡ true → is_true x (cell v a) look ≡ true
 
+-- the coordinate is at most n in absolute value
 abbrev pub is_up_to : ℕ → ℤ → Bool
 is_up_to n c = nat_le (unsigned_abs c) n
 

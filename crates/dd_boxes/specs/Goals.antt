@@ -39,7 +39,7 @@ IsGoalFor x (breaks y) = AreAlike x y
 IsGoalFor x (differ s f g) = AreOver x s f g
 IsGoalFor x always = Unit {0}
 
--- the rule of a goal, if it has one, has what holds of every rule
+-- the rule of a goal, if it has one, has the invariant of rules
 abbrev pub KeepsRule : GoalOf → Type 0
 KeepsRule (breaks y) = IsRule y
 KeepsRule (differ s f g) = Unit {0}

@@ -1,4 +1,4 @@
--- The goal of contracts, from one of the code, in questions about a rule x.
+-- Goals as contracts see them, from those of the code, in questions about a rule x.
 use Rattle.dd_formula.specs.{LocalRule.LocalRule, Automata.CommonNumbers}
 use Rattle.dd_boxes.specs.{Goals.GoalOf, Goals.breaks, Goals.differ, Goals.always, Goals.IsGoalFor, declared.goals.Goal.Goal}
 use Rattle.dd_boxes.specs.declared.goals.Goal.TheVariants.{Breaks, Differ, Always}

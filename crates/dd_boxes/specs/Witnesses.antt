@@ -19,6 +19,7 @@ pub record IsWitness (x : LocalRule) (g : GoalOf) (t : Tile) : Type 0 where
   pub lives : Lives x t
   pub goal : HasGoal g (tile_look t) origin
 
+-- the configuration has these periods, with their shear
 abbrev pub HasPeriods : Periods → Tile → Type 0
 HasPeriods p t = t.periods ≡ p
 

@@ -19,13 +19,13 @@ pub enum Goal<'a> {
     Always,
 }
 
-/// Reads the goal's rule, if it has one, only for its invariants.
+/// Brings in the invariant of the goal's rule, if it has one, and does nothing else.
 pub fn keeps_rule(goal: &Goal)
     ensures { (x : LocalRule) → KeepsRule (goal_of x goal.now) }
 {
     match goal {
         Goal::Breaks(rule) => {
-            // This call brings in a fact: what a rule keeps.
+            // This call brings in a fact: the rule's invariant.
             let _nodes = rule.nodes();
         }
         Goal::Differ(_, _) => {}
@@ -41,7 +41,7 @@ pub fn least_radius(alloc: Global, goal: &Goal) -> Result<u32, AllocError>
     match goal {
         Goal::Breaks(rule) => Ok(rule.reach()),
         Goal::Differ(left, right) => {
-            // These calls bring in facts: each automaton keeps to its nodes.
+            // These calls bring in facts: each automaton reads only cells of Z^d with its own nodes.
             left.reads_are_placed();
             right.reads_are_placed();
             let left_radius = left.reach(alloc)?;
