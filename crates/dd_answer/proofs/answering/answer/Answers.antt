@@ -24,7 +24,7 @@ returns-clause-engines g c = record {
       c.respond.ensures.engines.asked;
 }
 
--- no engine was asked
+-- memory ran out before an engine was asked
 pub returns-in_err-pairs-clause-engines : goal.returns-in_err-pairs-clause-engines
 returns-in_err-pairs-clause-engines g c =
     let p = err_from_is_err_and c.from_residual.result c.from_residual.ensures.1 in
