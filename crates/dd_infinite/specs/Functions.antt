@@ -1,4 +1,5 @@
--- Configurations as functions on all cells of Z^d; and when an accepted answer excludes a goal from them, or maps them back.
+-- Configurations as functions on all cells of Z^d. When an accepted answer excludes a goal from them, or shows that an automaton maps
+-- their images back.
 use Rattle.std.specs.Prelude.{ℕ, ◌≡◌, ◌+◌, ◌%◌, true, pos, cond, unsigned_abs, slice_index}
 use Rattle.dd_lattice.specs.{Place.Place, Place.place, declared.position.Cell.Cell}
 use Rattle.dd_topology.specs.Balls.{same_place}
@@ -17,23 +18,23 @@ spike c = cond (same_place c.position (place (pos 0) (pos 0) (pos 0))) 1 0
 abbrev pub checkerboard : Cell → ℕ
 checkerboard c = (unsigned_abs c.position.x + unsigned_abs c.position.y + unsigned_abs c.position.z) % 2
 
--- the symbols of a fundamental box, repeated by the periods
+-- the symbols of a fundamental box, repeated along its periods
 abbrev pub tiled : Tile → Cell → ℕ
 tiled t c = slice_index t.symbols (tile_index t c)
 
--- the script has one node, which allows the symbols of the spike and of the checkerboard
+-- the script has one node, which allows all symbols of the spike and of the checkerboard
 pub record IsForBoth (s : Parts) : Type 0 where
   pub spike : IsWhole s 1 spike
   pub checkerboard : IsWhole s 1 checkerboard
 
--- the answer to the query with this number is YES and a certificate, and the position is one of Z^d
+-- there is a query with this number, from 1; the answer is YES and a certificate of it; v is a position of Z^d
 pub record IsExclusion (s : Parts) (number : ℕ) (a : Answer) (v : Place) : Type 0 where
   pub query : HasQuery s number
   pub position : is_flat s.known.setting.topology.dimension v ≡ true
   pub yes : is_yes a ≡ true
   pub certificate : IsCertificate s number a
 
--- the query with this number is a conjugacy, its answer is CONJUGATE and a certificate, and the position is one of Z^d
+-- The query with this number, from 1, asks about a conjugacy. The answer is CONJUGATE and a certificate of it. v is a position of Z^d.
 pub record IsInversion (s : Parts) (number : ℕ) (a : Answer) (v : Place) : Type 0 where
   pub query : HasQuery s number
   pub conjugacy : IsConjugacyAt s number

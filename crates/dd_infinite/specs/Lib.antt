@@ -1,2 +1,2 @@
--- configurations as functions, and when an accepted answer excludes a goal from them, or maps them back
+-- configurations as functions, and when an accepted answer excludes a goal from them, or shows that their images are mapped back
 pub mod Functions

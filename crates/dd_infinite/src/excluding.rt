@@ -1,4 +1,4 @@
-//! From an accepted YES to all configurations.
+//! What an accepted YES says of any configuration.
 ghost use Rattle.std.specs.Prelude.{◌≡◌, ◌↔◌, true, IsTrue, IfOk};
 ghost use Rattle.dd_expansion.specs.Placed.{is_flat};
 ghost use Rattle.dd_checker.specs.Certificates.{HasQuery};
@@ -19,7 +19,7 @@ pub(crate) fn has_query(script: &Script, query: u32) -> bool
     1 <= query && query as usize <= script.queries().len()
 }
 
-/// Whether a position is one of Z^d, where d is the dimension of the script: its coordinates along other axes are 0.
+/// Whether a position belongs to Z^d, where d is the script's dimension: its coordinates along further axes are 0.
 pub(crate) fn is_flat(script: &Script, place: &Position) -> bool
     ensures { result ≡ is_flat script.now.known.setting.topology.dimension place.now }
 {
@@ -33,9 +33,13 @@ fn is_yes(answer: &Answer) -> bool
     matches!(answer, Answer::Yes { .. } | Answer::YesBoth { .. })
 }
 
-/// Whether the check accepts this answer, which is YES, to the query with this number, from 1, and `place` is a position of Z^d.
-/// Then the answer excludes the query's goal from this configuration too: if the configuration obeys the premise everywhere, the
-/// goal does not hold at `place`. `Ok(false)` says nothing of the configuration.
+/// Whether the answer excludes the query's goal at the position `place` of this configuration. This is so exactly if:
+/// - the script has a query with the number `query`, from 1;
+/// - `place` is a position of Z^d;
+/// - the answer is YES, and the check accepts it for this query.
+///
+/// Then, if the configuration obeys the premise everywhere, the goal does not hold at `place`. For an equality this holds of both
+/// its box questions. `Ok(false)` says nothing of the configuration.
 ///
 /// # Errors
 /// `AllocError` if memory ran out.

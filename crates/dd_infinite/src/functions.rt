@@ -1,4 +1,4 @@
-//! Configurations that are functions on all cells, and those of a script.
+//! Two configurations that are functions on all cells, and the configurations of a script.
 ghost use Rattle.std.specs.Prelude.{◌≡◌, ◌↔◌, IsTrue, IfSome, slice_get};
 ghost use Rattle.std.specs.Option.{option_copied};
 ghost use Rattle.dd_checker.specs.Lifted.{IsWhole};
@@ -46,8 +46,8 @@ impl Configuration for Checkerboard {
     }
 }
 
-/// Whether positions have one node, which allows the symbols 0 and 1. Then `Spike` and `Checkerboard` have an allowed symbol at
-/// each cell.
+/// Whether each position has a single node, which allows the symbols 0 and 1. Then `Spike` and `Checkerboard` have an allowed
+/// symbol at each cell.
 #[tactic(auto, using(crate::proofs::Whole::for_both, crate::proofs::Whole::has_rows, crate::proofs::Whole::one_node, crate::proofs::Whole::both_allowed))]
 pub fn allows_both(script: &Script) -> bool
     ensures { IsTrue result ↔ IsForBoth script.now }
@@ -70,7 +70,7 @@ pub fn configuration(script: &Script, number: usize) -> Option<&Periodic>
     let configurations = script.configurations();
     if number < configurations.len() {
         let configuration = &configurations[number];
-        // This read brings in what the type guarantees.
+        // This call brings in the invariant of the type.
         let _symbols = configuration.symbols();
         Some(configuration)
     } else {
