@@ -14,7 +14,7 @@ use Rattle.dd_certificate.specs.declared.answer.Reason.TheVariants as reason
 use Rattle.dd_certificate.specs.declared.answer.Answer.TheVariants as answer
 
 -- n is at least the goal's least radius, and at most the greater of that and the limit. The steps refute the clauses that ask
--- for an admissible filling of B(n) with the goal at the origin.
+-- for an admissible filling of the box B(n) with the goal at the origin.
 pub record IsYes (l : Limits) (x : LocalRule) (g : GoalOf) (n : ℕ) (steps : List Step) : Type 0 where
   pub least : ℕ
   pub is_least : IsLeastRadius g least

@@ -47,7 +47,7 @@ pub data ConjugacyClaim (c : ConjugacyOf) : Answer → Type 0 where
       ConjugacyClaim c (answer.Broken k along shear symbols)
   says_no_more : {r : Reason} → ConjugacyClaim c (answer.Unknown r)
 
--- the cells that the rule reads at a node, counted from v, have these symbols
+-- the cells that the rule reads at the node a, placed relative to v, have these symbols
 abbrev pub AreReadAt : LocalRule → Look → Place → ℕ → List ℕ → Type 0
 AreReadAt x look v a ss = map (λ c. look (shifted v c)) (cells_at x a) ≡ map Some ss
 
@@ -56,11 +56,11 @@ abbrev pub TellsBreaking : LocalRule → List Listed → Type 0
 TellsBreaking x patterns = (look : Look) (v : Place) (a : ℕ) (ss : List ℕ) → a < x.nodes → AreReadAt x look v a ss →
     are_allowed x (cells_at x a) ss ≡ true → (is_true x (cell v a) look ≡ false) ↔ Contains patterns (listed a ss)
 
--- lists of forbidden patterns
+-- what a list of forbidden patterns claims
 pub data ListClaim (x : LocalRule) : Answer → Type 0 where
   says_list : {patterns : List Listed} → TellsBreaking x patterns → ListClaim x (answer.List patterns)
 
--- where the cells that are read have allowed symbols, the rule is false exactly if the symbols agree with a pattern
+-- where the cells that are read have allowed symbols, the rule is false exactly if the symbols agree with one of the patterns ps
 abbrev pub TellsCovered : LocalRule → ℕ → List (List (Option ℕ)) → Type 0
 TellsCovered x a ps = (look : Look) (v : Place) (ss : List ℕ) → AreReadAt x look v a ss → are_allowed x (cells_at x a) ss ≡ true →
     (is_true x (cell v a) look ≡ false) ↔ (is_covered ps ss ≡ true)
@@ -73,7 +73,7 @@ pub record SayMinimal (x : LocalRule) (a : ℕ) (ps : List (List (Option ℕ))) 
   -- each pattern has a breaking filling that agrees with no earlier pattern
   pub new : AreNew x a [] ps
 
--- lists of minimal patterns, each with its node
+-- what a list of minimal patterns claims: each has a node of the rule, and each node has the patterns that SayMinimal describes
 pub data MinimalClaim (x : LocalRule) : Answer → Type 0 where
   says_minimal : {patterns : List Starred} → All (λ p. p.node < x.nodes) patterns → ((a : ℕ) → a < x.nodes → SayMinimal x a (patterns_at a patterns)) →
       MinimalClaim x (answer.Minimal patterns)

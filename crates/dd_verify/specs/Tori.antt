@@ -17,11 +17,12 @@ pub record HasWeight (x : LocalRule) (along ws : List ℕ) (w : ℕ) (symbols : 
   pub lives : IsWitness x always (torus_tile x along symbols)
   pub weighs : total_weight ws symbols ≡ w
 
--- the steps refute the clauses that ask for a living configuration that weighs less than w; for w = 0 there is nothing to refute
+-- The steps refute the clauses that ask for a configuration in the rule's subshift that weighs less than w. For w = 0 there is
+-- nothing to refute.
 abbrev pub IsBoundedBy : LocalRule → List ℕ → List ℕ → ℕ → List Step → Type 0
 IsBoundedBy x along ws w steps = 0 < w → IsRefuting (weight_problem x (periods_of along 0) ws w) steps
 
--- a living configuration, with steps that refute that one weighs less; or steps that refute that one lives
+-- a configuration in the rule's subshift, with steps that refute that any weighs less; or steps that refute that there is one
 pub data IsTorusCertificate (x : LocalRule) (along ws : List ℕ) : Answer → Type 0 where
   torus_least : {w : ℕ} {symbols : List ℕ} {steps : List Step} → HasWeight x along ws w symbols → IsBoundedBy x along ws w steps →
       IsTorusCertificate x along ws (answer.Least w symbols steps)

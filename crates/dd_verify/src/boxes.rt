@@ -1,4 +1,5 @@
-//! The check of answers to box questions, and to whether two rules allow the same configurations, which is two box questions.
+//! The check of answers to box questions and to equality questions. An equality question asks whether two rules allow the same
+//! configurations; it is two box questions.
 ghost use Rattle.std.specs.Prelude.{◌≡◌, ◌↔◌, IsTrue, IfOk};
 ghost use Rattle.dd_boxes.specs.Goals.{breaks};
 ghost use Rattle.dd_boxes.specs.Views.{goal_of};
@@ -24,7 +25,7 @@ pub(crate) fn is_limits(reason: Reason) -> bool
     matches!(reason, Reason::Limits)
 }
 
-/// Whether the answer is one to a single box question.
+/// Whether the side is that of an answer to a single box question.
 fn is_whole(side: Side) -> bool
     ensures { IsTrue result ↔ (side ≡ Side.Whole) }
 {
@@ -44,7 +45,7 @@ pub(crate) fn check_box(
     requires askable { IsAskable limits.now premise.now (goal_of premise.now goal.now) }
     ensures { IfOk result (λ accepted. IsTrue accepted ↔ (IsWritable answer.now × IsBoxCertificate limits.now premise.now (goal_of premise.now goal.now) answer.now)) }
 {
-    // This read brings in what the type guarantees.
+    // This call tells the proof what the type guarantees.
     let _symbols = premise.symbols();
     match answer {
         Answer::Yes { radius, steps } => {
@@ -91,7 +92,7 @@ fn check_side(
     ensures { IfOk result (λ accepted. IsTrue accepted ↔
         (IsWritable (answer.No side periods.now shear symbols.now) × IsEqualCertificate limits.now left.now right.now (answer.No side periods.now shear symbols.now))) }
 {
-    // These reads bring in what the types guarantee.
+    // These calls tell the proof what the types guarantee.
     let _left = left.symbols();
     let _right = right.symbols();
     match side {
@@ -125,7 +126,7 @@ fn check_both(
     ensures { IfOk result (λ accepted. IsTrue accepted ↔ (IsWritable (answer.YesBoth left_radius right_radius left_steps.now right_steps.now)
         × IsEqualCertificate limits.now left.now right.now (answer.YesBoth left_radius right_radius left_steps.now right_steps.now))) }
 {
-    // These reads bring in what the types guarantee.
+    // These calls tell the proof what the types guarantee.
     let _left = left.symbols();
     let _right = right.symbols();
     let goal = Goal::Breaks(right);
@@ -136,7 +137,7 @@ fn check_both(
     check_yes(alloc, right, &goal, limits, right_radius, right_steps)
 }
 
-/// Whether the answer is a certificate for whether two rules allow the same configurations, and an output can hold it.
+/// Whether the answer is a certificate for the equality question about two rules, and an output can hold it.
 #[tactic(auto, using(crate::specs::Evidence::equal_unknown))]
 pub(crate) fn check_equal(
     alloc: Global,
@@ -150,7 +151,7 @@ pub(crate) fn check_equal(
     requires right { IsAskable limits.now right.now (breaks left.now) }
     ensures { IfOk result (λ accepted. IsTrue accepted ↔ (IsWritable answer.now × IsEqualCertificate limits.now left.now right.now answer.now)) }
 {
-    // These reads bring in what the types guarantee.
+    // These calls tell the proof what the types guarantee.
     let _left = left.symbols();
     let _right = right.symbols();
     match answer {

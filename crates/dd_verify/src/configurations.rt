@@ -1,4 +1,4 @@
-//! Tests of periodic configurations: whether one lives in a subshift, and whether it has a goal at the origin.
+//! Tests of periodic configurations: whether one lives in a subshift, and whether a goal holds at its origin.
 ghost use Rattle.std.specs.Prelude.{◌≡◌, ◌<◌, ◌↔◌, not, IsTrue, IfOk};
 ghost use Rattle.dd_lattice.specs.Cells.{cell};
 ghost use Rattle.dd_pattern.specs.Tile.{tile_look};
@@ -26,7 +26,7 @@ pub(crate) fn lives(rule: &Rule, periodic: &Periodic) -> bool
     match rule.member(periodic) {
         Membership::Inside => true,
         Membership::Outside(_) => {
-            // This read brings in what the type guarantees.
+            // This call tells the proof what the type guarantees.
             let _symbols = periodic.symbols();
             false
         }
@@ -50,7 +50,7 @@ fn is_broken_at(rule: &Rule, node: u32, periodic: &Periodic) -> bool
     requires fits { Fits rule.now periodic.now }
     ensures { result ≡ not (is_true rule.now (cell origin node) (tile_look periodic.now)) }
 {
-    // This read brings in what the type guarantees.
+    // This call tells the proof what the type guarantees.
     let _symbols = periodic.symbols();
     let position = Position { x: 0, y: 0, z: 0 };
     match rule.truth(&Cell { position, node }, periodic) {
@@ -79,7 +79,7 @@ pub fn check_periodic(premise: &Rule, goal: &Rule, periodic: &Periodic) -> bool
     requires alike { AreAlike premise.now goal.now }
     ensures { IsTrue result ↔ IsWitness premise.now (breaks goal.now) periodic.now }
 {
-    // This read brings in what the type guarantees.
+    // This call tells the proof what the type guarantees.
     let _symbols = periodic.symbols();
     if !inhabits(premise, periodic) {
         return false;
@@ -99,7 +99,7 @@ pub(crate) fn shows(
     requires goal { IsGoalFor premise.now (goal_of premise.now goal.now) }
     ensures { IfOk result (λ shown. IsTrue shown ↔ IsWitness premise.now (goal_of premise.now goal.now) periodic.now) }
 {
-    // This read brings in what the type guarantees.
+    // This call tells the proof what the type guarantees.
     let _symbols = periodic.symbols();
     match goal {
         Goal::Breaks(rule) => Ok(check_periodic(premise, rule, periodic)),

@@ -1,4 +1,5 @@
-//! The check of answers to whether two maps are inverse to each other, which is four box questions.
+//! The check of answers to conjugacy questions. Such a question asks whether two maps are inverse to each other; it is four box
+//! questions.
 ghost use Rattle.std.specs.Prelude.{[], ◌<◌, ◌↔◌, length, slice_index_or, IsTrue, IfOk};
 ghost use Rattle.dd_boxes.specs.Views.{goal_of};
 ghost use Rattle.dd_certificate.specs.declared.answer.Answer.TheVariants as answer;
@@ -22,7 +23,7 @@ use std::alloc::{AllocError, Global};
 /// How many box questions make up a conjugacy.
 const PARTS: usize = 4;
 
-/// Whether the radius and the steps with this index, from 0, are a YES to the box question.
+/// Whether the radius and the steps at the index `number`, counted from 0, are a YES to the box question.
 fn check_at(
     alloc: Global,
     premise: &Rule,
@@ -92,7 +93,7 @@ fn check_part(
     }
 }
 
-/// Whether the answer is a certificate for whether two maps are inverse to each other, and an output can hold it.
+/// Whether the answer is a certificate for the conjugacy question, and an output can hold it.
 #[tactic(auto, using(crate::specs::Evidence::conjugacy_unknown))]
 pub(crate) fn check_conjugacy(
     alloc: Global,

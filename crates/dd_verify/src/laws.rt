@@ -19,8 +19,8 @@ use dd_question::{CheckedQuestion, Question};
 use dd_sides::bound_holds;
 use dd_strips::{strip_empty, strip_least};
 
-/// Does nothing. Its contract says that the goal's automata read cells of the lattice, and that the gates of their values compute
-/// the values.
+/// Does nothing. Its contract says that the goal's automata read cells of the lattice, and that the gates for their values
+/// compute these values.
 fn goal_facts(goal: &Goal)
     ensures { (x : LocalRule) → IsGoalFor x (goal_of x goal.now) → KeepsRule (goal_of x goal.now) → HasGoalFacts x (goal_of x goal.now) }
 {
@@ -71,8 +71,8 @@ pub fn claims_hold(question: &CheckedQuestion)
     }
 }
 
-/// Does nothing. Its contract says of box questions and conjugacies what that of `claims_hold` says. It needs no goals, only the facts
-/// about them.
+/// Does nothing. For box questions and conjugacies, its contract says the same as that of `claims_hold`. It takes no goals of the
+/// code, only the facts about them.
 pub fn claims_hold_for_goals()
     ensures { (l : AnyLimits) (k : Asked) (answer : AnyAnswer) → IsSoundAsked l k → HaveGoalFacts k → IsCertificateOf l k answer → ClaimOf k answer }
 {}

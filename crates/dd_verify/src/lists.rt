@@ -51,7 +51,7 @@ pub(crate) fn check_list(alloc: Global, rule: &Rule, answer: &Answer) -> Result<
 {
     // Law: an output can hold this list.
     lists_fit();
-    // This read brings in what the type guarantees.
+    // This call tells the proof what the type guarantees.
     let _nodes = rule.nodes();
     match answer {
         Answer::List { patterns } => is_list(alloc, rule, patterns.as_slice()),

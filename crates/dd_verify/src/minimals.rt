@@ -51,7 +51,7 @@ pub(crate) fn check_minimal(alloc: Global, rule: &Rule, answer: &Answer) -> Resu
 {
     // Law: an output can hold this list.
     starred_fit();
-    // This read brings in what the type guarantees.
+    // This call tells the proof what the type guarantees.
     let _nodes = rule.nodes();
     match answer {
         Answer::Minimal { patterns } => is_minimal(alloc, rule, patterns.as_slice()),

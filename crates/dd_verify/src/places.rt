@@ -53,7 +53,7 @@ fn is_outside(rule: &Rule, periodic: &Periodic, place: &[i64]) -> bool
     requires { Fits rule.now periodic.now }
     ensures { IsTrue result ↔ IsOutside rule.now periodic.now place.now }
 {
-    // These reads bring in what the types guarantee.
+    // These calls tell the proof what the types guarantee.
     let _nodes = rule.nodes();
     let _symbols = periodic.symbols();
     match rule.member(periodic) {
@@ -83,7 +83,7 @@ pub(crate) fn check_member(rule: &Rule, periodic: &Periodic, answer: &Answer) ->
 {
     // Law: an output can hold the place of the first cell at which a rule is false.
     places_fit();
-    // These reads bring in what the types guarantee.
+    // These calls tell the proof what the types guarantee.
     let _nodes = rule.nodes();
     let _symbols = periodic.symbols();
     is_member_certificate(rule, periodic, answer)

@@ -36,15 +36,15 @@ fn refutes(
     // Law: an output can hold a refutation of so few clauses.
     refutations_fit();
     let cnf = box_clauses(alloc, premise, goal, radius)?;
-    // These reads bring in what the types guarantee.
+    // These calls tell the proof what the types guarantee.
     let _variable = cnf.variables();
     let _number = last_number(&cnf, steps);
     let mut marks = Marks::new(alloc, &cnf, steps)?;
     Ok(check_refutation(&cnf, steps, &mut marks))
 }
 
-/// Whether the radius is within the limits, and the steps refute the clauses of the box of this radius. The radius is at least
-/// the goal's least one, and at most the greater of that and the limit.
+/// Whether the radius is within the limits, and the steps refute the clauses of the box of this radius. The radius must be at
+/// least the goal's least radius, and at most the greater of this and the limit.
 pub(crate) fn check_yes(
     alloc: Global,
     premise: &Rule,
@@ -57,7 +57,7 @@ pub(crate) fn check_yes(
     ensures exact { IfOk result (λ accepted. IsTrue accepted ↔ IsYes limits.now premise.now (goal_of premise.now goal.now) radius steps.now) }
     ensures writable { IfOk result (λ accepted. IsTrue accepted → IsWritableRefutation steps.now) }
 {
-    // This read brings in what the type guarantees.
+    // This call tells the proof what the type guarantees.
     let _symbols = premise.symbols();
     let least = least_radius(alloc, goal)?;
     let most = limits.radius.max(least);

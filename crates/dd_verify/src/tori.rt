@@ -1,4 +1,4 @@
-//! The check of a least weight on a torus: a configuration that has it, and steps that refute that one weighs less.
+//! The check of a least weight on a torus: a configuration has this weight, and steps refute that any weighs less.
 ghost use Rattle.std.specs.Prelude.{◌≡◌, ◌≤◌, ◌<◌, ◌↔◌, length, IsTrue, IfOk, MatchOption};
 ghost use Rattle.dd_pattern.specs.Periods.{periods_of};
 ghost use Rattle.dd_pattern.specs.Tile.{IsTile};
@@ -82,8 +82,8 @@ fn has_weight(
     }
 }
 
-/// Whether the steps refute the clauses that ask for a living configuration; if `below` is at least 1, for one that weighs less
-/// than that.
+/// Whether the steps refute the clauses that ask for a configuration that lives in the rule's subshift. If `below` is at least
+/// 1, the clauses also ask that it weighs less than `below`.
 fn refutes_below(
     alloc: Global,
     rule: &Rule,
@@ -101,14 +101,15 @@ fn refutes_below(
     // Law: an output can hold a refutation of so few clauses.
     refutations_fit();
     let cnf = weight_clauses(alloc, rule, periods, weights, below)?;
-    // These reads bring in what the types guarantee.
+    // These calls tell the proof what the types guarantee.
     let _variable = cnf.variables();
     let _number = last_number(&cnf, steps);
     let mut marks = Marks::new(alloc, &cnf, steps)?;
     Ok(check_refutation(&cnf, steps, &mut marks))
 }
 
-/// Whether the steps refute that a living configuration weighs less than `weight`. If that is 0, there must be no steps.
+/// Whether the steps refute that a configuration in the rule's subshift weighs less than `weight`. If `weight` is 0, there must
+/// be no steps.
 fn bounds(
     alloc: Global,
     rule: &Rule,
@@ -142,7 +143,7 @@ fn is_least(
     ensures { IfOk result (λ accepted. IsTrue accepted ↔ (IsWritable (answer.Least weight symbols.now steps.now)
         × IsTorusCertificate rule.now periods weights.now (answer.Least weight symbols.now steps.now))) }
 {
-    // This read brings in what the type guarantees.
+    // This call tells the proof what the type guarantees.
     let _nodes = rule.nodes();
     if !has_weight(alloc, rule, periods, weights, weight, symbols)? {
         return Ok(false);

@@ -80,7 +80,7 @@ fn given(
     ensures { IfOk result (λ found. MatchOption found (IsGiven premise.now most periods.now shear symbols.now → ⊥)
         (λ periodic. (periodic ≡ given_tile premise.now periods.now shear symbols.now) × IsGiven premise.now most periods.now shear symbols.now)) }
 {
-    // This read brings in what the type guarantees.
+    // This call tells the proof what the type guarantees.
     let nodes = premise.nodes();
     if !are_periods(premise.dim(), most, periods, shear) {
         return Ok(None);
