@@ -14,7 +14,7 @@ holds_step (Expanded-F.And es) look = list_all (λ e. e look) es
 holds_step (Expanded-F.Or es) look = list_any (λ e. e look) es
 holds_step (Expanded-F.Iff e f) look = beq (e look) (f look)
 
--- the truth under the symbols of cells
+-- the truth of an expansion, with the symbols that the look-up gives
 abbrev pub holds : Expanded → Look → Bool
 holds = fold-Expanded (Look → Bool) holds_step
 
@@ -74,8 +74,8 @@ clause_count_step (Expanded-F.And es) = total es + (length es + 1)
 clause_count_step (Expanded-F.Or es) = total es + (length es + 1)
 clause_count_step (Expanded-F.Iff e f) = (e + f) + 4
 
--- the number of clauses of its gates. A constant is a gate without parts. An `And` or `Or` of k parts has k + 1 clauses,
--- and an `Iff` has 4. A `Not` or a leaf has none
+-- the number of clauses of its gates. A constant has 1, an `And` or `Or` of k parts has k + 1, and an `Iff` has 4. A `Not`
+-- or a leaf has none
 abbrev pub clause_count : Expanded → ℕ
 clause_count = fold-Expanded ℕ clause_count_step
 

@@ -1,6 +1,6 @@
 -- terms and balls
 pub mod Terms
--- truth under symbols
+-- the truth of a formula, when cells have symbols
 pub mod Truth
 -- the cells at which a formula looks
 pub mod Reads
@@ -12,7 +12,7 @@ pub mod Leaves
 pub mod Limits
 -- cells of Z^d
 pub mod Placed
--- what private functions require and keep
+-- definitions for private functions: atoms, budgets, and nearness to the origin
 pub mod expanding
 -- lemmas on these definitions, with their proofs
 pub mod lemmas

@@ -1,4 +1,4 @@
--- Well-formed formulas: their numbers exist, and they keep within limits.
+-- Well-formed formulas: each variable, label, node and symbol that they number exists, and they keep within limits.
 use Rattle.std.specs.Prelude.{ℕ, ◌+◌, ◌≤◌, ◌≡◌, ◌&&◌, Bool, true, List, [], ◌∷◌, cond, max, length, nat_lt, nat_le}
 use Rattle.std.specs.List.{list_all}
 use Rattle.dd_values.specs.Bounds.{widest_radius}
@@ -22,7 +22,7 @@ most_nested = 64
 abbrev pub term_fits : Grid → ℕ → Term → Bool
 term_fits g scope t = nat_lt t.variable scope && nat_le (length t.moves) most_moves && list_all (λ l. nat_lt l (length g.labels)) t.moves
 
--- a ball, and the balls of a quantifier, round variables in scope
+-- the ball, and all balls of a quantifier, are round variables in scope and within their limits
 abbrev pub ball_fits : ℕ → BallOf → Bool
 ball_fits scope b = nat_lt b.variable scope && nat_le b.radius widest_radius
 
@@ -45,7 +45,7 @@ formula_fits_step g n (Formula-F.Iff f h) scope = f scope && h scope
 formula_fits_step g n (Formula-F.ForAll bs f) scope = balls_fit scope bs && f (scope + 1)
 formula_fits_step g n (Formula-F.Exists bs f) scope = balls_fit scope bs && f (scope + 1)
 
--- with so many variables in scope, each variable, label, node and symbol of the formula exists, and terms and balls are
+-- with a given number of variables in scope, each variable, label, node and symbol of the formula exists, and terms and balls are
 -- within their limits
 abbrev pub formula_fits : Grid → ℕ → Formula → ℕ → Bool
 formula_fits g n = fold-Formula (ℕ → Bool) (formula_fits_step g n)

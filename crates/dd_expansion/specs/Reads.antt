@@ -13,7 +13,7 @@ both_cells None d = []
 both_cells (Some c) None = []
 both_cells (Some c) (Some d) = c ∷ d ∷ []
 
--- the cells that are read, for each environment
+-- for each environment, the cells that are read
 abbrev pub Reading : Type 0
 Reading = List Cell → List Cell
 
@@ -33,6 +33,6 @@ reads_step es (Formula-F.Iff f g) env = f env ++ g env
 reads_step es (Formula-F.ForAll bs f) env = flat_map (λ c. f (env ++ c ∷ [])) (balls_of es env bs)
 reads_step es (Formula-F.Exists bs f) env = flat_map (λ c. f (env ++ c ∷ [])) (balls_of es env bs)
 
--- the cells of the terms whose symbols are asked for, each as often as it is
+-- the cells of the terms whose symbols are asked for, with repeats
 abbrev pub reads : List Edge → Formula → Reading
 reads es = fold-Formula Reading (reads_step es)

@@ -1,4 +1,5 @@
--- The truth of a formula, by recursion on the formula (Tarski 1933). A symbol may be missing at a cell.
+-- The truth of a formula, by recursion on the formula (Tarski 1933). A cell may have no symbol: then
+-- no symbol is the one at the cell, and it has the same symbol as no cell, not even as itself.
 use Rattle.std.specs.Prelude.{ℕ, ◌==◌, ◌||◌, not, Bool, false, List, [], ◌∷◌, ◌++◌, Option, Some, None}
 use Rattle.std.specs.{Bool.beq, List.list_all, List.list_any}
 use Rattle.dd_lattice.specs.declared.position.Cell.{Cell}

@@ -1,4 +1,4 @@
-//! The expansions of atoms. Each takes its instances from a budget.
+//! The expansions of atoms. Each takes its instances from a budget: one for itself, and one for each part at any depth.
 ghost use Rattle.std.specs.Prelude.{◌≡◌, ◌+◌, ◌<◌, ◌==◌, IfOk, OnOk, IfErr};
 ghost use Rattle.dd_topology.specs.Balls.{is_adjacent};
 ghost use Rattle.dd_expansion.specs.Terms.{same_cell};
@@ -53,7 +53,7 @@ pub(crate) fn negated(
     Ok(Expanded::Not(Boxed::new(alloc, part)?))
 }
 
-/// The symbol at the cell is this one. Here and below, the atom is false where a cell is missing.
+/// The symbol at the cell is this one. This atom and those below are the constant false where a cell is missing.
 pub(crate) fn symbol_at(
     symbol: u32,
     cell: Option<Cell>,
@@ -116,7 +116,8 @@ fn both_have(
     Ok(Expanded::And(parts))
 }
 
-/// The two cells have the same one of so many symbols: a disjunction over the symbols.
+/// The two cells have the same symbol: a disjunction over all symbols. Each takes three instances, a conjunction and two
+/// leaves.
 fn equal_at(
     alloc: Global,
     symbols: u32,

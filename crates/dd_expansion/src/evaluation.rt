@@ -8,8 +8,8 @@ use dd_lattice::{Cell, Position, shift};
 use dd_pattern::Reads;
 
 impl Expanded {
-    /// The truth at the position `at`: each leaf is moved by it, and `read` gives the symbol there. `None` where some leaf's
-    /// cell has no symbol or is out of range.
+    /// The truth value at the position `at`: each leaf's cell is moved by it, and `read` gives the symbol there. `None` where
+    /// some cell so moved has no symbol or is out of range.
     #[cycle(evaluate)]
     #[tactic(auto, using(crate::specs::lemmas::Layers::holds_layers))]
     pub fn evaluate<R: Reads>(&self, at: &Position, read: &R) -> Option<bool>

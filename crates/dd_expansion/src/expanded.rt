@@ -6,7 +6,8 @@ use dd_lattice::Cell;
 use dd_values::{Boxed, Items};
 use std::alloc::{AllocError, Global};
 
-/// A formula without variables, as a tree. It has a truth at each position: a leaf's cell is taken relative to it.
+/// A formula without variables, as a tree. It has a truth value at each position: the cells of its leaves are relative to
+/// the position.
 #[derive(Debug, Drop)]
 pub enum Expanded {
     /// True everywhere, or false everywhere.
@@ -45,7 +46,7 @@ impl Expanded {
         }
     }
 
-    /// The number of instances: this expansion, its parts, their parts, and so on down to constants and leaves.
+    /// The number of instances. They are this expansion, its parts, their parts, and so on down to constants and leaves.
     #[cycle(instances)]
     #[tactic(auto, using(std::proofs::lemmas::Grind::common_steps, crate::proofs::Sizes::instance_layers))]
     pub fn instances(&self) -> u32

@@ -26,7 +26,7 @@ use std::alloc::{AllocError, Global};
 
 /// Where a formula is expanded.
 ///
-/// At most 65 variables are in scope: the free one, and one for each quantifier of a formula of depth 64. A variable's cell
+/// At most 65 variables are in scope: the free one, and those of at most 64 nested quantifiers. A bound variable's cell
 /// lies at most 12 further from the origin, along each axis, than that of some variable before it: a ball has a radius of
 /// at most 3, and an edge leads at most 4.
 #[derive(Clone, Copy)]
@@ -207,7 +207,7 @@ impl<'a> Scope<'a> {
         self.expand_each(&cells, body, budget)
     }
 
-    /// The expansions of a body, one for each of the cells as that of one more variable.
+    /// The expansions of a body, one for each of the cells. The cell becomes that of one more variable.
     #[cycle(expand)]
     fn expand_each(
         &self,

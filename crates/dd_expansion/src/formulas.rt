@@ -8,8 +8,8 @@ use std::alloc::{AllocError, Global};
 /// A term names a cell: start at the cell of a variable, and make the moves one after the other. The term has no cell if
 /// one of the moves is missing.
 ///
-/// Variables are numbered. Number 0 is the free variable, the cell of which the formula speaks. The number of a bound
-/// variable is the number of variables in scope at its quantifier.
+/// Variables are numbered from the outside in (de Bruijn levels). Number 0 is the free variable, the cell of which the
+/// formula speaks. The number of a bound variable is the number of variables in scope just outside its quantifier.
 #[derive(Debug, Drop)]
 pub struct Term {
     pub variable: u32,
@@ -52,7 +52,7 @@ pub enum Formula {
         left: Term,
         right: Term,
     },
-    /// The two terms name the same cell.
+    /// The two terms name the same cell: the same position and node.
     Place {
         left: Term,
         right: Term,
@@ -175,7 +175,7 @@ fn copy_terms(alloc: Global, left: &Term, right: &Term) -> Result<(Term, Term), 
     Ok((left, right))
 }
 
-/// Both, or the fault of the second.
+/// Both boxes, or the fault of the second one.
 fn paired(
     left: Boxed<Formula>,
     right: Result<Boxed<Formula>, AllocError>,

@@ -1,4 +1,5 @@
-//! The cells of terms, and the cells of balls round the cells of variables.
+//! The cells of terms, and the cells of balls round the cells of variables. The environment `env` lists the cells of the
+//! variables in scope. Each lies near enough to the origin that no coordinate here passes 2^20; `Scope` says why.
 ghost use Rattle.std.specs.Prelude.{◌≡◌, ◌+◌, ◌*◌, ◌≤◌, true, length, slice_get, IfOk, IfErr, IfSome};
 ghost use Rattle.dd_lattice.specs.Place.{most_coordinate};
 ghost use Rattle.dd_lattice.specs.InOrder.{in_order};
@@ -53,7 +54,7 @@ pub(crate) fn cell_of(topology: &Topology, env: &[Cell], term: &Term) -> Option<
     }
 }
 
-/// The ball of a radius round a cell that is far enough from the border of the range, in cell order.
+/// The ball of a radius round a cell, in cell order. The cell is so far within the range that the ball is in range too.
 fn ball_at(
     alloc: Global,
     topology: &Topology,
