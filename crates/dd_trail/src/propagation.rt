@@ -1,4 +1,4 @@
-//! The looks of unit propagation at clauses, for one that is falsified or forces a literal.
+//! Unit propagation looks at clauses, in search of one that is falsified or forces a literal.
 ghost use Rattle.std.specs.Prelude.{◌≡◌};
 ghost use Rattle.dd_derivation.specs.declared.propagation.Finding.TheVariants.{Open};
 ghost use Rattle.dd_derivation.specs.Derivations.{hint_finding, is_among};
@@ -15,13 +15,13 @@ use dd_derivation::{Finding, find};
 pub enum Scan {
     /// All literals of the clause of this number are false.
     Conflict(u64),
-    /// All literals of the clause of this number are false but this one, which has no value.
+    /// All literals of the clause of this number are false, except this one. Its variable has no value.
     Unit(u64, Literal),
     /// No such clause was found.
     Nothing,
 }
 
-/// Looks at the clause of this number. It finds nothing if there is none.
+/// Looks at the clause of this number. Finds nothing if there is no such clause.
 pub fn look_at(database: &Database, trail: &Trail, number: u64) -> Scan
     ensures { Says database.now (falses trail.now.entries) (hint_finding database.now (is_among (falses trail.now.entries)) number ≡ Open) result }
 {

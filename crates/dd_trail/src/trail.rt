@@ -1,6 +1,8 @@
 //! The literals that are true, in the order in which they became so. One truth value for each literal says whether it is
-//! false, so asking takes constant time. No contract rests on the spots and the places of decisions, and no invariant says
-//! that they are within their lists. The tests for this below never fail.
+//! false, so asking takes constant time.
+//!
+//! The reason, the level and the place of a variable are meant for variables with a value. No contract rests on them, and no
+//! invariant says that their indices are within the lists. So the code tests these indices. The tests never fail.
 ghost use Rattle.std.specs.Prelude.{◌≡◌, ℕ, ◌+◌, ◌<◌, ◌≤◌, ◌^◌, ◌++◌, ◌∷◌, [], true, false, length, take, slice_set, ◌-◌, IfOk, OnOk, OnErr, MatchOption, IsTrue, ◌↔◌};
 ghost use Rattle.dd_clause.specs.Clauses.{IsLiteralInRange};
 ghost use Rattle.dd_values.specs.Variables.{true_variables};
@@ -22,7 +24,7 @@ pub struct Entry {
     pub reason: Option<u64>,
 }
 
-/// The place of a variable's entry on the trail, and the number of decisions up to there.
+/// The place of a variable's entry on the trail, and its decision level: the number of decisions on the trail up to it.
 #[derive(Clone, Copy)]
 struct Spot {
     place: usize,
@@ -68,7 +70,7 @@ fn set_spot(spots: &mut Vec<Spot>, variable: u32, spot: Spot) {
     }
 }
 
-/// Notes the place of an entry if it was decided.
+/// Adds the place of an entry to the places of decisions, if the entry was decided.
 fn note_decision(places: &mut Vec<usize>, entry: Entry, place: usize) -> Result<(), AllocError> {
     if entry.reason.is_none() {
         places.push(place)?;
@@ -109,7 +111,7 @@ impl Trail {
         self.entries.as_slice()
     }
 
-    /// Makes a literal true whose variable has no value.
+    /// Makes a literal true. Its variable has no value before.
     pub fn assign(&mut self, entry: Entry) -> Result<(), AllocError>
         requires in_range { IsLiteralInRange self.old.variables entry.literal }
         requires fresh { has_variable entry.literal.variable (falses self.old.entries) ≡ false }
@@ -153,7 +155,7 @@ impl Trail {
         self.entries.len() == self.variables
     }
 
-    /// Whether there is a variable of this number, and it has no value.
+    /// Whether this is the number of a variable without a value.
     pub(crate) fn is_free(&self, variable: usize) -> bool
         ensures { IsTrue result ↔ IsFree self.now.variables self.now.entries variable }
     {
@@ -189,7 +191,7 @@ impl Trail {
         Ok(Assignment::new(values))
     }
 
-    /// The number of the clause that forced the variable's value. `None` if it was decided.
+    /// The number of the clause that forced the variable's value. `None` if the value was decided.
     pub fn reason(&self, variable: u32) -> Option<u64> {
         let place = self.place(variable);
         if place < self.entries.len() {
@@ -207,7 +209,7 @@ impl Trail {
         0
     }
 
-    /// Whether the variable's entry stands before each decision, so that clauses alone give it its value.
+    /// Whether the variable's entry stands before the first decision, so that clauses alone force its value.
     pub fn is_fixed(&self, variable: u32) -> bool {
         match self.decision_places.first() {
             None => true,
@@ -215,7 +217,7 @@ impl Trail {
         }
     }
 
-    /// Whether the variable got its value since the last decision.
+    /// Whether the variable got its value by the last decision or since.
     pub fn is_latest(&self, variable: u32) -> bool {
         match self.decision_places.last() {
             None => true,

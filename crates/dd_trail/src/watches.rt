@@ -1,8 +1,11 @@
 //! Two watched literals (Moskewicz, Madigan, Zhao, Zhang and Malik 2001). A clause needs no look while the two literals
 //! that it watches are not false. So when a literal becomes false, only the clauses that watch it are looked at, and
 //! nothing is undone when the search goes back. Each clause that is found this way is tested exactly, so no contract rests
-//! on the watches: one that is missed only costs time. No invariant says that the places kept here are within their lists.
-//! The tests for this below never fail.
+//! on the watches: a clause that they miss only costs time. No invariant says that the places kept here are within their
+//! lists. So the code tests them. The tests never fail.
+//!
+//! A watcher is a clause in the list of a literal that it watches. To pass a watcher is to look at its clause, which then stays
+//! in the list or moves to that of another literal.
 ghost use Rattle.std.specs.Prelude.{◌≡◌, ◌<◌, ◌^◌, length, IfOk, MatchOption, ⊤};
 ghost use Rattle.dd_trail.specs.Trails.{falses, IsFull};
 ghost use Rattle.dd_trail.specs.Propagation.{Says, AreOpenBetween};
@@ -56,7 +59,7 @@ const END: Code = Code { index: 0 };
 struct Watcher {
     /// The place of its first literal in `Watches::literals`.
     clause: u32,
-    /// Another of its literals. While this one is true, the clause needs no look.
+    /// Another literal of the clause. While that one is true, the clause needs no look.
     other: Code,
 }
 
@@ -65,7 +68,7 @@ struct Watcher {
 pub struct Watches {
     /// For each literal the clauses that watch it.
     lists: Vec<Vec<Watcher>>,
-    /// Room for one of these lists while its watchers are passed.
+    /// Holds one of these lists while its watchers are passed.
     passed: Vec<Watcher>,
     /// The literals of all clauses, those of each with the watched ones first and an end mark last.
     literals: Vec<Code>,
@@ -75,9 +78,9 @@ pub struct Watches {
     count: u32,
     /// How many entries of the trail are read.
     read: usize,
-    /// How many watchers are passed in the list of the next entry's negation.
+    /// How many watchers are passed already in the list of the negation of the next entry's literal.
     at: usize,
-    /// How many clauses, from the first on, were looked at since they were added.
+    /// How many clauses, from the first on, were looked at once since they were added.
     scanned: u64,
     /// Whether there are watchers of deleted clauses.
     has_deleted: bool,
@@ -86,11 +89,11 @@ pub struct Watches {
 /// What a look at a clause finds after one of its watched literals became false.
 #[derive(Clone, Copy)]
 enum Look {
-    /// It goes on watching this literal, since the other watched one, given here, is true.
+    /// The clause goes on watching the literal that became false. The other literal that it watches, given here, is true.
     Stays(Code),
-    /// It watches the first of these literals instead. The second is the other watched one.
+    /// The clause watches the first of these literals instead. The second is the other one that it watches.
     Moves(Code, Code),
-    /// All of its literals but the other watched one are false.
+    /// All literals of the clause are false, but maybe the other one that it watches, and that one is not true.
     AllFalse,
 }
 
@@ -142,9 +145,9 @@ fn rewatch(denied: &[bool], literals: &mut [Code], clause: u32, became_false: Co
     }
 }
 
-/// Passes the watchers of a literal that became false, from the one at `from` on. A clause that watches another literal now
-/// goes to that one's list, and the last watcher of this list takes its place here. Stops at a clause that may be falsified or
-/// force a literal, and returns the place of its watcher.
+/// Passes the watchers of a literal that became false, from the one at `from` on. A clause that now watches another literal
+/// moves to that literal's list, and the last watcher of this list takes its place here. Stops at a clause that may be falsified
+/// or force a literal, and returns the place of its watcher.
 fn pass_from(
     denied: &[bool],
     literals: &mut [Code],
@@ -218,7 +221,7 @@ impl Watches {
         self.watch_first(start, end)
     }
 
-    /// Lets the clause from `start` to before `end`, with its end mark last, watch its first two literals, if it has two.
+    /// Lets a clause watch its first two literals, if it has two. Its literals and end mark stand from `start` to before `end`.
     fn watch_first(&mut self, start: usize, end: usize) -> Result<(), AllocError> {
         let clause = u32::try_from(start).unwrap_or(0);
         if end <= self.literals.len() && start < end && end - start > 2 {
@@ -248,7 +251,7 @@ impl Watches {
         }
     }
 
-    /// Drops the literals of the clauses that are not alive, and their watchers.
+    /// Drops the literals and the watchers of the clauses that are not alive. The others watch their first two literals anew.
     fn drop_deleted(&mut self, alive: &[bool]) -> Result<(), AllocError> {
         for list in self.lists.iter_mut() {
             list.clear();
@@ -275,14 +278,14 @@ impl Watches {
         Ok(())
     }
 
-    /// Notes that the clauses of these numbers, if any, are deleted. They are dropped at the next cut.
+    /// Notes that the clauses of these numbers, if any, are deleted. The next call of `cut` drops them.
     pub fn note_deleted(&mut self, numbers: &[u64]) {
         if !numbers.is_empty() {
             self.has_deleted = true;
         }
     }
 
-    /// Notes that the trail was cut to this length, and drops deleted clauses. The clause of number k is alive if `alive[k - 1]`
+    /// Notes that the trail is cut to this length, and drops deleted clauses. The clause of number k is alive if `alive[k - 1]`
     /// is true.
     pub fn cut(&mut self, length: usize, alive: &[bool]) -> Result<(), AllocError> {
         if length <= self.read {
@@ -304,7 +307,7 @@ impl Watches {
         0
     }
 
-    /// Takes a literal's list out to be passed, or puts it back.
+    /// Exchanges a literal's list with `passed`: takes the list out to be passed, or puts it back.
     fn exchange(&mut self, literal: Code) {
         let list = literal.index();
         if list < self.lists.len() {
@@ -335,13 +338,13 @@ impl Watches {
         Ok(clause)
     }
 
-    /// Reads the trail on until a clause is falsified or forces a literal. Each entry made a literal false, whose watchers are
-    /// passed.
+    /// Reads the trail on, until a clause is falsified or forces a literal. Each entry makes the negation of its literal false, so
+    /// the watchers of the negation are passed.
     fn read(&mut self, database: &Database, trail: &Trail) -> Result<Scan, AllocError>
         ensures { IfOk result (Says database.now (falses trail.now.entries) ⊤) }
     {
         let entries = trail.entries();
-        // This many rounds are never made. A `loop` would need a proof that it ends, and nothing is known of the places.
+        // The loop ends long before its bound. A `loop` would need a proof that it ends, and nothing is proved of the places.
         for _ in 0..u64::MAX {
             let read = self.read;
             if read >= entries.len() {
@@ -363,7 +366,8 @@ impl Watches {
     }
 
     /// Looks for a clause that is falsified or forces a literal. Each new clause is looked at once, as it may have only one
-    /// literal and so no watches. If each variable has a value, all clauses are looked at once more.
+    /// literal, and then it watches none. If each variable has a value, all clauses are looked at once more: the contract rests
+    /// on this.
     pub fn find(&mut self, database: &Database, trail: &Trail) -> Result<Scan, AllocError>
         requires { trail.now.variables < 2 ^ 32 }
         ensures { IfOk result (Says database.now (falses trail.now.entries) (IsFull trail.now.variables trail.now.entries → AreOpenBetween database.now (falses trail.now.entries) 0 (length database.now))) }
