@@ -2,7 +2,7 @@
 pub mod Tree
 -- the limits on what a script may write
 pub mod Limits
--- the dimension of what is known, and the names that a word may refer to
+-- the dimension of what is known, and the names that a word of a query may be
 pub mod Known
 -- what always holds of what a script has defined
 pub mod Sound

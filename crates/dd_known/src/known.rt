@@ -4,7 +4,7 @@ use dd_topology::{Names, Sets, Topology};
 use dd_values::{Items, Limits};
 use dd_written::Text;
 
-/// What formulas may refer to. The labels of moves are those of the topology.
+/// What formulas may refer to. The topology also gives the labels of moves.
 #[derive(Drop)]
 pub struct Setting {
     /// The names of the nodes, in the order of their numbers.
@@ -28,7 +28,7 @@ pub struct Known {
     pub weights: Items<u32>,
     /// The limits of the searches.
     pub limits: Limits,
-    /// The names of the rules. No name stands in two of these three lists.
+    /// The names of the rules. Rules, automata and configurations have no name in common.
     pub rules: Names,
     /// The names of the automata.
     pub automata: Names,
@@ -41,7 +41,7 @@ pub struct Known {
 pub struct Context {
     /// The text of the script.
     pub text: Text,
-    /// Whether the script has a topology command, before this one or after it.
+    /// Whether the script has a `topology` command anywhere, before this command or after it.
     pub has_topology: bool,
     /// The command's number, from 1.
     pub number: u32,
@@ -53,7 +53,7 @@ impl Known {
     ghost use Rattle.std.specs.Prelude.{◌≡◌};
     ghost use Rattle.dd_known.specs.Known.{named};
 
-    /// The names that a word with this role may refer to.
+    /// The names that a word with this role may be: those of all rules, all automata or all configurations.
     pub fn named(&self, role: Role) -> &Names
         ensures { result.now ≡ named self.now role }
     {

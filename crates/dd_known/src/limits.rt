@@ -36,5 +36,5 @@ pub const FARTHEST: u32 = 4;
 /// The greatest period of a strip.
 pub const LONGEST_STRIP: u32 = 64;
 
-/// More than the names, edges, vectors or symbols of any script.
+/// More names, edges, vectors or symbols than any script has.
 pub const TOO_MANY: usize = 4_000_000;
