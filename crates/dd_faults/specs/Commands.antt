@@ -33,7 +33,7 @@ is_restricted x n = option_map_or (λ a. list_any (λ b. b == a) x.known.restric
 abbrev pub weight_faults : Context → Number → List Fault
 weight_faults x n = over (nat_lt most_weight (written_value x.text n)) Limit.Weight
 
--- some number is not what `limits` may set
+-- `limits` may not set these numbers: one of them exceeds its limit, or the period is 0
 abbrev pub passes_limits : ℕ → ℕ → ℕ → Bool
 passes_limits radius period pivots = nat_lt greatest_radius radius || nat_lt period 1 || nat_lt greatest_period period || nat_lt most_pivots pivots
 
@@ -111,6 +111,6 @@ faults_of x (Command.Configuration called periods shear symbols) =
     named_again x.text x.known called ++ (symbol_faults x 0 symbols ++ box_faults x periods shear (length symbols))
 faults_of x (Command.Query r) = request_faults x r
 
--- the faults of a command with its number and its tokens
+-- the faults of a command, first those of its number and of its tokens
 abbrev pub written_faults : Context → Written → List Fault
 written_faults x w = over (nat_lt most_commands x.number) Limit.Commands ++ (flat_map (token_faults x.text) w.tokens ++ faults_of x w.command)

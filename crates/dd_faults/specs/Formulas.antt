@@ -35,7 +35,7 @@ atom_faults x scope a = term_faults x scope a.term ++ relation_faults x scope a.
 abbrev pub ball_faults : Context → List Word → Ball → List Fault
 ball_faults x scope b = unknown_variable x.text scope b.centre ++ over (nat_lt widest_radius (written_value x.text b.radius)) Limit.Radius
 
--- the variable of a quantifier is in scope in its body, but not in its balls
+-- the faults of a variable, which must be new, and of the balls, in which it is not in scope
 abbrev pub quantifier_faults : Context → List Word → Word → List Ball → List Fault
 quantifier_faults x scope w balls =
     when (is_variable x.text scope w) (Fault.Twice (Name.Word w)) ++ (over (nat_lt most_balls (length balls)) Limit.Balls ++ flat_map (ball_faults x scope) balls)

@@ -14,7 +14,7 @@ pub mod Numbers
 pub mod Boxes
 -- the faults of commands
 pub mod Commands
--- two shapes of commands, for the checks of `src/`
+-- two properties of commands, for contracts in `src/`
 pub mod walk
 -- lemmas on these definitions, for other crates
 pub mod lemmas

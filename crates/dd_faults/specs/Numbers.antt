@@ -5,7 +5,7 @@ use Rattle.dd_known.specs.Limits.{most_letters, greatest_number, farthest}
 use Rattle.dd_faults.specs.{Tree.Number, Tree.Lexeme, Tree.Entry, Tree.Vector, Tree.Limit, Tree.Fault, Order.when, Order.over}
 use Rattle.dd_written.specs.Values.{written_value}
 
--- some number does not fit, unless this holds
+-- the fault that some number does not fit, unless it does
 abbrev pub dimension_unless : Bool → List Fault
 dimension_unless fits = when (not fits) Fault.Dimension
 

@@ -38,12 +38,12 @@ abbrev pub better : Option Fault → Fault → Option Fault
 better None f = Some f
 better (Some g) f = if nat_lt (fault_rank f) (fault_rank g) then Some f else Some g
 
--- the first of the lowest rank, of a fault found before and these after it
+-- the first of the lowest rank, among the fault found before and these after it
 abbrev pub noted : Option Fault → List Fault → Option Fault
 noted found [] = found
 noted found (f ∷ fs) = noted (better found f) fs
 
--- the first fault of the lowest rank
+-- the first of the faults of the lowest rank
 abbrev pub first_fault : List Fault → Option Fault
 first_fault fs = noted None fs
 
@@ -51,7 +51,7 @@ first_fault fs = noted None fs
 abbrev pub when : Bool → Fault → List Fault
 when holds f = if holds then f ∷ [] else []
 
--- this limit alone, if it is exceeded
+-- the fault of this limit alone, if it is exceeded
 abbrev pub over : Bool → Limit → List Fault
 over passed l = when passed (Fault.Size l)
 

@@ -1,4 +1,5 @@
-//! The faults of terms, of atoms, and of what stands before the body of a quantifier. A scope is the list of the bound variables.
+//! The faults of terms, of atoms, and of what stands before the body of a quantifier. A scope is the list of the bound variables,
+//! the outermost first.
 ghost use Rattle.std.specs.Prelude.{◌≡◌};
 ghost use Rattle.dd_faults.specs.Order.{noted};
 ghost use Rattle.dd_faults.specs.Formulas.{unknown_label, term_faults, names_symbol, side_faults, atom_faults, ball_faults, quantifier_faults};
@@ -10,7 +11,7 @@ use dd_known::{Context, MOST_BALLS, MOST_MOVES};
 use dd_values::WIDEST_RADIUS;
 use dd_written::{Atom, Ball, Comparand, Name, Relation, Term, Word, name_text, number_value};
 
-/// Notes a label of a move that no edge has.
+/// Notes the label of a move if no edge has it.
 impl Notes<Word> for Context {
     ghost faults = { unknown_label };
 
@@ -66,7 +67,7 @@ pub(crate) fn atom(context: &Context, scope: &[Word], atom: &Atom, found: &mut F
     }
 }
 
-/// The context of a part of a formula: that of its command, and its scope.
+/// The context of a part of a formula: the context of its command, and the variables in scope.
 #[derive(Clone, Copy)]
 pub(crate) struct Scope<'a>(pub(crate) &'a Context, pub(crate) &'a [Word]);
 

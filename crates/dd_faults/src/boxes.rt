@@ -22,7 +22,8 @@ fn is_allowed(context: &Context, node: u32, name: Name) -> bool
     symbol.is_some_and(|symbol| setting.sets.allows(node, symbol))
 }
 
-/// Notes each name that names no symbol allowed at its node. The nodes of a position stand together.
+/// Notes each name that doesn't name a symbol allowed at its node. The symbols of a position stand together, in the order of its
+/// nodes.
 fn symbols(context: &Context, written: &[Name], found: &mut Found)
     requires { HasSets context.now.known }
     ensures { found.new ≡ noted found.old (symbol_faults context.now 0 written.now) }
@@ -78,7 +79,7 @@ impl<'a> Notes<Vector> for Torus<'a> {
     }
 }
 
-/// The entry for an axis, cut off at `u32::MAX`; 1 if there is none.
+/// The period along an axis, cut off at `u32::MAX`; 1 if there is no entry for the axis.
 pub fn period_at(text: &Text, periods: &Vector, axis: usize) -> u32
     ensures { result ≡ min (period_at text.now periods.now axis) 4294967295 }
 {
@@ -96,7 +97,7 @@ pub fn shear_of(text: &Text, shear: &Option<Vector>) -> u32
     entries.get(0).map_or(0, |entry| entry_value(text, *entry))
 }
 
-/// Whether no shear is given, or one number where there are two axes or more.
+/// Whether the shear fits: none is given, or it is one number and there are two axes or more.
 fn shear_fits(dimension: u32, shear: &Option<Vector>) -> bool
     ensures { result ≡ shear_fits dimension shear.now }
 {
@@ -104,8 +105,8 @@ fn shear_fits(dimension: u32, shear: &Option<Vector>) -> bool
     shear.is_none_or(|entries| dimension >= 2 && has_entries(1, entries))
 }
 
-/// Whether there is a period for each axis, the shear fits, and there is a symbol for each cell of the fundamental box. So few
-/// symbols can't equal a number of cells that was cut off.
+/// Whether there is a period for each axis, the shear fits, and there is a symbol for each cell of the fundamental box. There are
+/// too few symbols to equal a number of cells that was cut off.
 fn box_fits(context: &Context, periods: &Vector, shear: &Option<Vector>, count: usize) -> bool
     requires { count < 4294967295 }
     ensures { result ≡ box_fits context.now periods.now shear.now count }
@@ -118,8 +119,8 @@ fn box_fits(context: &Context, periods: &Vector, shear: &Option<Vector>, count: 
     cells_of(context, periods) as usize == count
 }
 
-/// Notes the faults of the symbols, periods and shear of a configuration. For more symbols than any script has it fails as if
-/// memory ran out.
+/// Notes the faults of the symbols, periods and shear of a configuration. If there are more symbols than any script has, it fails
+/// as if memory ran out.
 pub(crate) fn configuration(
     context: &Context,
     periods: &Vector,

@@ -1,4 +1,4 @@
-//! The first fault of a command of any kind.
+//! The faults of commands of any kind, and the fault for which a command is refused.
 ghost use Rattle.std.specs.Prelude.{◌≡◌, OnOk};
 ghost use Rattle.dd_commands.specs.Scripts.{IsWritten};
 ghost use Rattle.dd_faults.specs.{Order.noted, Order.first_fault, Order.Accepts, Commands.faults_of, Commands.written_faults};
@@ -111,7 +111,7 @@ fn note_command(alloc: Global, context: &Context, command: &Command, found: &mut
     Ok(())
 }
 
-/// Accepts a command without faults. Any other is refused for its first fault of the lowest rank.
+/// Accepts a command without faults. Any other is refused for the first of its faults of the lowest rank.
 pub fn check(alloc: Global, context: &Context, written: &Written) -> Result<(), Refusal>
     requires written { IsWritten context.now.text written.now }
     requires sound { IsSound context.now.known }

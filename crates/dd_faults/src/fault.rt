@@ -1,4 +1,4 @@
-//! Faults and their order.
+//! Faults and their ranks.
 ghost use Rattle.std.specs.Prelude.{◌≡◌};
 ghost use Rattle.dd_faults.specs.declared.fault.Refusal.TheVariants.{Memory};
 ghost use Rattle.dd_faults.specs.Order.{fault_rank, when, over, noted};
@@ -35,18 +35,18 @@ pub enum Limit {
     Radius,
     /// A quantifier ranges over at most `MOST_BALLS` balls.
     Balls,
-    /// A rule's expansion at a node of the lattice has at most 20,000 parts.
+    /// At each node, a rule or an automaton has at most 20,000 instances: the constants, leaves and connectives of its expansions.
     Instances,
-    /// A rule reads at most 16 away along each axis.
+    /// A rule or an automaton reads at most 16 away along each axis.
     Reach,
-    /// Compositions are nested at most 64 deep.
+    /// Compositions are nested at most 64 deep. So is the formula that a query about images or a conjugacy makes of its target.
     Depth,
     /// A configuration has at most `MOST_IN_BOX` symbols, and its shear is less than its first period. A torus has at most
     /// `MOST_IN_BOX` cells, and no period 0. A strip's periods are 1 to `LONGEST_STRIP`.
     Periods,
     /// A discharge has at most `MOST_VECTORS` vectors, with entries of at most `FARTHEST` in absolute value.
     Vectors,
-    /// The reads of a rule whose patterns are listed have at most `MOST_PATTERNS` fillings at each node.
+    /// If a query asks for a rule's forbidden patterns, the rule's reads have at most `MOST_PATTERNS` fillings at each node.
     Patterns,
     /// A strip has at most `MOST_STATES` states, and at most `MOST_LONGER_STATES` states with one slice more.
     States,
@@ -57,11 +57,11 @@ pub enum Limit {
 /// What is wrong with a well-formed command.
 #[derive(Clone, Copy, Debug, PartialEq, Eq)]
 pub enum Fault {
-    /// A name refers to nothing.
+    /// A name refers to nothing, or to a symbol that its node doesn't allow.
     Unknown(Name),
-    /// A name is given twice.
+    /// A name is given a second time where it may stand only once.
     Twice(Name),
-    /// A vector is given twice.
+    /// A vector of a discharge is given twice.
     TwiceVector,
     /// The dimension, or a number of nodes, symbols or entries, does not fit.
     Dimension,
@@ -69,16 +69,16 @@ pub enum Fault {
     Size(Limit),
 }
 
-/// The first fault of the lowest rank so far.
+/// Of the faults noted so far, the first of the lowest rank.
 pub(crate) type Found = Option<Fault>;
 
-/// Fails only if memory ran out.
+/// The result of noting faults. It fails only if memory ran out.
 pub(crate) type Done = Result<(), AllocError>;
 
 /// Why a command is refused.
 #[derive(Clone, Copy, Debug, PartialEq, Eq, Error)]
 pub enum Refusal {
-    /// The first fault of the command.
+    /// The fault for which it is refused.
     #[error("a command has a fault")]
     At(Fault),
     /// Memory ran out.
@@ -117,7 +117,7 @@ pub(crate) fn note_if(found: &mut Found, holds: bool, fault: Fault)
     }
 }
 
-/// Notes that a limit is exceeded, if `passed`.
+/// Notes that a limit is exceeded, if `passed` says so.
 pub(crate) fn note_over(found: &mut Found, passed: bool, limit: Limit)
     ensures { found.new ≡ noted found.old (over passed limit) }
 {

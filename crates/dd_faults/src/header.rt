@@ -57,7 +57,7 @@ pub(crate) fn is_restricted(context: &Context, node: Name) -> bool
     number.is_some_and(|number| known.restricted.as_slice().contains(&number))
 }
 
-/// Whether some number is not what `limits` may set.
+/// Whether `limits` may not set these numbers: one of them exceeds its limit, or the period is 0.
 pub(crate) fn passes_limits(text: &Text, radius: Number, period: Number, pivots: Number) -> bool
     ensures { result ≡ passes_limits (written_value text.now radius) (written_value text.now period) (written_value text.now pivots) }
 {

@@ -1,6 +1,6 @@
-//! The faults of well-formed commands. Those of a command form a list in the order of its text, and each has a rank: unknown
-//! names come first, then repetitions, dimensions, and the limits in their order. A command is refused for its first fault of
-//! the lowest rank.
+//! The faults of well-formed commands. The faults of a command form a list, in the order of its text. Each has a rank: unknown
+//! names come first, then repetitions, then dimensions, then the limits in their order. Among the faults of the lowest rank, a
+//! command is refused for the first.
 #![tactic(auto, using(crate::proofs::Noting::faults))]
 
 mod atoms;

@@ -9,21 +9,21 @@ use dd_known::Known;
 use dd_topology::Names;
 use dd_written::{Name, Text, Word, name_text};
 
-/// Whether a name is one of these.
+/// Whether a name is in the list `names`.
 pub(crate) fn is_named(text: &Text, names: &Names, name: Name) -> bool
     ensures { result ≡ is_some (place_of_name text.now names.now name) }
 {
     names.find(name_text(text, name)).is_some()
 }
 
-/// The index of a name among these; 0 if it is none of them.
+/// The index of a name in the list `names`; 0 if it isn't there.
 pub fn number_in(text: &Text, names: &Names, name: Name) -> u32
     ensures { result ≡ number_in text.now names.now name }
 {
     names.find(name_text(text, name)).unwrap_or(0)
 }
 
-/// Notes a name that is none of these.
+/// Notes a name that isn't in the list `names`.
 pub(crate) fn note_missing(text: &Text, names: &Names, name: Name, found: &mut Found)
     ensures { found.new ≡ noted found.old (missing text.now names.now name) }
 {

@@ -1,4 +1,4 @@
-//! The faults of tokens, of numbers, and of vectors but those of tori.
+//! The faults of tokens, of numbers, and of the vectors of strips and discharges.
 ghost use Rattle.std.specs.Prelude.{◌≡◌, ◌≤◌, false, min, nat_lt, unsigned_abs};
 ghost use Rattle.std.specs.List.{list_any};
 ghost use Rattle.dd_known.specs.Limits.{farthest};
@@ -13,7 +13,7 @@ use dd_known::{Context, FARTHEST, GREATEST_NUMBER, LONGEST_STRIP, MOST_LETTERS};
 use dd_values::{MOST_WEIGHT, WIDEST_RADIUS};
 use dd_written::{Lexeme, Number, Text, number_value};
 
-/// Notes that some number does not fit, unless `fits`.
+/// Notes the fault `Dimension`, unless `fits`.
 pub(crate) fn note_dimension_unless(found: &mut Found, fits: bool)
     ensures { found.new ≡ noted found.old (dimension_unless fits) }
 {
@@ -44,7 +44,7 @@ pub(crate) fn entry_value(text: &Text, entry: Entry) -> u32
     number_value(text, number)
 }
 
-/// The value, with its sign, of an entry of at most `FARTHEST` in absolute value.
+/// The value of an entry, with its sign. It is at most `FARTHEST` in absolute value.
 pub fn signed_value(text: &Text, entry: Entry) -> i32
     requires { nat_lt farthest (entry_value text.now entry) ≡ false }
     ensures value { result ≡ signed_value text.now entry }
@@ -56,7 +56,7 @@ pub fn signed_value(text: &Text, entry: Entry) -> i32
     }
 }
 
-/// Whether a vector has as many entries as this dimension.
+/// Whether a vector has `dimension` entries.
 pub(crate) fn has_entries(dimension: u32, vector: &Vector) -> bool
     ensures { result ≡ has_entries dimension vector.now }
 {
@@ -71,7 +71,8 @@ pub(crate) fn is_far(text: &Text, vector: &Vector) -> bool
     entries.any(|entry| entry_value(text, *entry) > FARTHEST)
 }
 
-/// The context of the numbers of a query, and of the periods of strips.
+/// The context in which radii, margins and periods of strips have faults. In a plain `Context`, numbers are weights, and vectors
+/// are those of a discharge.
 #[derive(Clone, Copy)]
 pub(crate) struct Asked<'a>(pub(crate) &'a Context);
 
@@ -95,7 +96,7 @@ impl Notes<Number> for Context {
     }
 }
 
-/// Whether some entry can't be a period of a strip.
+/// Whether some entry can't be a period of a strip: it is 0 or too large.
 fn is_no_strip(text: &Text, vector: &Vector) -> bool
     ensures { result ≡ list_any (is_no_strip text.now) vector.now.entries }
 {

@@ -1,4 +1,4 @@
-//! The faults of queries, by the rows of their kinds.
+//! The faults of queries, each by the row of its kind.
 ghost use Rattle.std.specs.{Prelude.◌≡◌, Prelude.OnOk, List.flat_map, List.zip};
 ghost use Rattle.dd_faults.specs.{Order.noted, Commands.word_faults, Commands.request_faults};
 

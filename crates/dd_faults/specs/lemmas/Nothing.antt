@@ -34,7 +34,7 @@ pub some_stays : (g : Fault) (fs : List Fault) → noted (Some g) fs ≡ None �
 some_stays g [] e = absurd cc
 some_stays g (f ∷ fs) e = grind (arith, some_stays f fs, some_stays g fs)
 
--- if there is no first fault, there is none
+-- if there is no first fault, there is no fault
 pub none_first : (fs : List Fault) → first_fault fs ≡ None → fs ≡ []
 none_first [] e = refl
 none_first (f ∷ fs) e = absurd (some_stays f fs e)
