@@ -1,4 +1,4 @@
--- the answers that the public calls give
+-- the answers that `least_density` gives
 pub mod Densities
 -- certificates and answers over a given transfer graph
 pub mod graphs

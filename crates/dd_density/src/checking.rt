@@ -9,7 +9,8 @@ use dd_formula::Rule;
 use std::alloc::{AllocError, Global};
 
 /// Whether a walk and potentials certify that `numerator / denominator`, in lowest terms, is the least density of the
-/// strip with the periods `strip` along y and z. The walk is a list of states, and there is a potential for each state.
+/// strip with the periods `strip` along y and z. The walk is a list of states of the transfer graph. Each state of the graph
+/// has a potential.
 /// The symbol `s` has the weight `weights[s]`.
 pub fn check_density(
     alloc: Global,
@@ -31,7 +32,8 @@ pub fn check_density(
     Ok(is_shown(&graph, volume, numerator, denominator, walk, potentials))
 }
 
-/// Whether there is a rank for each state, and it falls along each edge. Then no configuration lives on the strip.
+/// Whether there is a rank for each state of the transfer graph, and it falls along each edge. Then no configuration lives on
+/// the strip.
 pub fn check_empty(
     alloc: Global,
     rule: &Rule,

@@ -13,9 +13,9 @@ use dd_meancycle::{Mean, least_mean};
 use dd_values::Items;
 use std::alloc::{AllocError, Global};
 
-/// The least density of the configurations that live on the strip with the periods `strip` along y and z. They also have
-/// a period along x. `Empty` if there are none. The symbol `s` has the weight `weights[s]`. Each number of the answer is
-/// at most 2^40 in absolute value. The walk has at most as many states as the transfer graph.
+/// The least density of the configurations that live on the strip with the periods `strip` along y and z. Along x they may
+/// have any period. The answer is `Empty` if there are none. The symbol `s` has the weight `weights[s]`. Each number of the
+/// answer is at most 2^40 in absolute value. The walk has at most as many states as the transfer graph.
 pub fn least_density(
     alloc: Global,
     rule: &Rule,
@@ -45,7 +45,7 @@ fn widened(alloc: Global, numbers: &[u32]) -> Result<Items<u64>, AllocError>
     Ok(Items::from_vec(wide))
 }
 
-/// The density of a least mean, where a slice has `volume` positions.
+/// The density of a least mean, where a slice has `volume` positions. `Empty` if there is no cycle.
 fn density_of(alloc: Global, mean: Mean, volume: u32) -> Result<Density, AllocError>
     requires { IsMeanOver volume mean }
     ensures { IfOk result (IsOfMean volume mean) }

@@ -3,7 +3,7 @@ ghost use Rattle.std.specs.Prelude.{◌<◌};
 ghost use Rattle.std.specs.Int.{IsGcd};
 ghost use Rattle.dd_transfer.specs.Certificates.{IsInLowestTerms};
 
-/// A fraction.
+/// A fraction, in lowest terms or not.
 #[derive(Clone, Copy, Debug)]
 pub(crate) struct Ratio {
     pub numerator: u128,

@@ -3,8 +3,8 @@ use Rattle.std.specs.Prelude.{◌≡◌, ℕ, ◌*◌, ◌<◌, ℤ, pos, ◌-�
 use Rattle.dd_transfer.specs.{Graphs.Transfer, Graphs.next_of, Graphs.weight_at, Certificates.IsInLowestTerms, Certificates.potential_of}
 use Rattle.dd_meancycle.specs.Means.{IsCycle, ArePotentials, AreRanks, weight_of}
 
--- The walk is closed, and its mean is m / l in lowest terms. The density p / q, in lowest terms, is m / l over the number of
--- positions of a slice. The potentials are right for m / l.
+-- The walk is closed, and its mean is m / l in lowest terms. The density p / q, in lowest terms, is m / l divided by the
+-- number of positions of a slice, which is `volume`. The potentials are right for m / l.
 pub record IsShown (g : Transfer) (volume p q : ℕ) (walk : List ℕ) (ps : List ℤ) : Type 0 where
   pub m : ℕ
   pub l : ℕ
@@ -14,12 +14,12 @@ pub record IsShown (g : Transfer) (volume p q : ℕ) (walk : List ℕ) (ps : Lis
   pub each : length ps ≡ g.states
   pub potentials : ArePotentials g m l ps
 
--- there is a rank for each state, and it falls along each edge
+-- the ranks are right: there is one for each state, and it falls along each edge
 pub record AreFallen (g : Transfer) (ranks : List ℕ) : Type 0 where
   pub each : length ranks ≡ g.states
   pub fall : AreRanks g ranks
 
--- along the edge from u by t, if there is one, the potential rises by at most l times the edge's weight, less m
+-- along the edge from u by t, if there is one, the potential rises by at most l * w - m, where w is the edge's weight
 abbrev pub IsRiseAlong : Transfer → ℕ → ℕ → List ℤ → ℕ → ℕ → Type 0
 IsRiseAlong g m l ps u t = (v : ℕ) → next_of g u t ≡ Some v → (potential_of ps v -ℤ potential_of ps u) ≤ℤ (pos (l * weight_at g t) -ℤ pos m)
 
