@@ -162,7 +162,7 @@ module _ (r : LocalRule) (s : Strip) (walk : List ℕ) (rule : IsRule r) (for : 
         positive : {t : ℕ} (m n : ℕ) → t < m → 0 < m ^ n
         positive m n lt = one-le-pow n m (omega arith)
 
-    -- so the window after y is that of the edge from the state at y + W
+    -- so the window from y + 1 on is that of an edge of the walk: the edge from the state at y + W, where W is `state_length`
     window_there : (y : ℤ) → IsWindow r s (window_from r s (tile_look (tile_of r s walk)) (y +ℤ pos 1))
     window_there y =
         let look = tile_look (tile_of r s walk) in

@@ -16,7 +16,7 @@ use Rattle.dd_strips.specs.{Strips.slices_weight, Claims.least_potential, Claims
 use Rattle.dd_strips.proofs.Extremes.{lowest_least, highest_greatest}
 use Rattle.dd_values.specs.lemmas.Numbers.{plus_zero}
 
--- the window from x on is there, and obeys the rule
+-- each cell of the window from x on has a symbol, and the rule keeps the window
 pub record IsStep (r : LocalRule) (look : Look) (x : ℤ) : Type 0 where
   pub has : HasSlices r look x (state_length r + 1)
   pub kept : IsKeptFrom r look x
@@ -34,14 +34,14 @@ turned x i w = omega (arith, ints)
 last_in : (x c : ℤ) (w : ℕ) → (x +ℤ pos w) ≤ℤ c → c <ℤ ((x +ℤ pos w) +ℤ pos 1) → (x ≤ℤ c) × (c <ℤ (x +ℤ pos (w + 1)))
 last_in x c w p q = (omega (arith, ints), omega (arith, ints))
 
--- one edge more
+-- the rise along a walk with one more edge
 risen : (a b c : ℤ) (m i l w v : ℕ) → (b +ℤ pos (m * i)) ≤ℤ (a +ℤ pos (l * w)) → (c -ℤ b) ≤ℤ (pos (l * v) -ℤ pos m) → (c +ℤ pos (m * suc i)) ≤ℤ (a +ℤ pos (l * (w + v)))
 risen a b c m i l w v p q =
     let more : m * suc i ≡ m + m * i = omega arith in
     let both : l * (w + v) ≡ l * w + l * v = omega arith in
     rw (more, both) (omega (arith, ints, p, q))
 
--- a rise between bounds
+-- a rise between two potentials, which lie between `low` and `high`
 bounded : (a c low high : ℤ) (m l : ℕ) → (c +ℤ pos m) ≤ℤ (a +ℤ pos l) → low ≤ℤ c → a ≤ℤ high → m ≤ l + unsigned_abs (high -ℤ low)
 bounded a c low high m l p q s = omega (arith, ints)
 
@@ -104,7 +104,7 @@ module _ (r : LocalRule) (s : Strip) (look : Look) (edges : AreEdgesOf r s look)
         some_state : (u n : ℕ) → u < n → 0 < n
         some_state u n h = omega arith
 
-  -- ranks
+  -- ranks fall along each step
   module _ (ranks : List ℕ) (falls : IsEmptyCertificate r s ranks) where
     walk_falls : (x : ℤ) (j : ℕ) → AreSteps r look x j → slice_index ranks (state_from r s look (x +ℤ pos j)) + j ≤ slice_index ranks (state_from r s look x)
     walk_falls x zero steps = let same = ap (λ (z : ℤ). slice_index ranks (state_from r s look z)) (plus_zero x) in omega (arith, same)

@@ -7,13 +7,13 @@ use Rattle.dd_counts.specs.Rules.{state_length}
 use Rattle.dd_strip.specs.declared.strip.Strip.{Strip}
 use Rattle.dd_strips.specs.Strips.{IsAdmissibleStrip, slices_weight, IsLeastDensity, LivesNowhere}
 
--- in each admissible filling of j slices and those of a state, l times the weight of the last j slices is at least m times j,
--- less the spread
+-- take an admissible filling of the slices of a state and j more; l times the weight of these j slices is at least
+-- m * j - spread
 abbrev pub IsHeavy : LocalRule → Strip → List ℕ → ℕ → ℕ → ℕ → Type 0
 IsHeavy r s ws m l spread =
     (j : ℕ) (x : ℤ) (look : Look) → IsAdmissibleStrip r s x (j + state_length r) look → m * j ≤ l * slices_weight s ws look (x +ℤ pos (state_length r)) j + spread
 
--- the least density of the strip is p / q, and no filling of any length is lighter, up to the spread
+-- the least density of the strip is p / q, and admissible fillings of every length are heavy
 pub record StripLeast (r : LocalRule) (s : Strip) (ws : List ℕ) (p q l m spread : ℕ) : Type 0 where
   pub density : IsLeastDensity r s ws p q
   pub heavy : IsHeavy r s ws m l spread

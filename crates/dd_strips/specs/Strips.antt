@@ -11,14 +11,14 @@ use Rattle.dd_transfer.specs.Slices.{RepeatsAcross, symbols_from}
 abbrev pub is_slice_cell : LocalRule → ℤ → ℕ → Cell → Bool
 is_slice_cell r x k c = int_le x c.position.x && int_lt c.position.x (x +ℤ pos k) && nat_lt c.node r.nodes
 
--- a filling of k slices of the strip from x on: exactly their cells have symbols, and these are allowed; coordinates
--- along the axes after the first are read modulo the strip's periods
+-- A filling of k slices of the strip from x on: exactly their cells have symbols, and these are allowed. It repeats with the
+-- strip's periods along the axes after the first.
 pub record IsStripFilling (r : LocalRule) (s : Strip) (x : ℤ) (k : ℕ) (look : Look) : Type 0 where
   pub domain : (c : Cell) → is_some (look c) ≡ is_slice_cell r x k c
   pub repeats : RepeatsAcross s look
   pub allowed : AreAllowed r look
 
--- an admissible filling: the rule is true at each cell that lies in it with all cells that the rule reads there
+-- an admissible filling: the rule is true at each cell that lies in it together with all cells that the rule reads there
 pub record IsAdmissibleStrip (r : LocalRule) (s : Strip) (x : ℤ) (k : ℕ) (look : Look) : Type 0 where
   pub filling : IsStripFilling r s x k look
   pub admissible : Admissible r look
