@@ -18,13 +18,13 @@ stands_behind (x ∷ xs) ys k =
     let one_on : suc (length xs) + k ≡ suc (length xs + k) = omega arith in
     ap (λ (j : ℕ). drop j (x ∷ (xs ++ ys))) one_on ∙ stands_behind xs ys k
 
--- if xs and then ys stand at p, ys stands after xs
+-- if xs followed by ys stands at p, ys stands after xs
 pub stands_after : (bytes : List ℕ) (p : ℕ) (xs ys : List ℕ) (q : ℕ) → Stands bytes p (xs ++ ys) → q ≡ p + length xs → Stands bytes q ys
 stands_after bytes p xs ys q stands is k =
     let at : q + k ≡ p + (length xs + k) = omega (arith, is) in
     ap (λ (j : ℕ). drop j bytes) at ∙ (stands (length xs + k) ∙ stands_behind xs ys k)
 
--- ---- lexemes p bytes further on
+-- ---- lexemes moved p bytes further on
 
 abbrev pub up_word : ℕ → Word → Word
 up_word p w = record { start = p + w.start; length = w.length }

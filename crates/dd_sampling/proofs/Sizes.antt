@@ -69,7 +69,8 @@ dom_few = rule_faultless dom_counts refl
 
 -- ---- questions
 
--- whether a question has too many clauses, by the counts of its premise and of its goal's rule
+-- whether a question has too many clauses, by its premise, the clauses of the premise and of the goal's rule, and the cells that
+-- the goal's rule reads
 abbrev long_by : LocalRule → ℕ → ℕ → List Cell → Bool
 long_by x clauses goal cells =
     nat_lt most_clauses (largest_region x.dimension (max 3 (farthest (in_order cells ++ []))) 3 * (x.nodes * cell_clause_count x.symbols + disallowed_pairs x + (clauses + 0)) + (goal + 0 + 1))

@@ -29,7 +29,7 @@ use Rattle.dd_commands.specs.declared.command.Entry.TheVariants as entry
 use Rattle.dd_faults.specs.declared.fault.Fault.TheVariants as fault
 use Rattle.dd_meanings.specs.declared.meaning.Meaning.TheVariants as meaning
 
--- ---- one command more
+-- ---- one more command
 
 no_fault : (fs gs : List Fault) → fs ≡ [] → gs ≡ [] → option_or (first_fault fs) (option_or (first_fault gs) None) ≡ None
 no_fault fs gs first second = rw (first, second) refl
@@ -78,7 +78,7 @@ limits_none more = refl
 limits_next : (more : List ℕ) → next (front_text ++ more) false 1 start limits_written ≡ state [] [] [] [] []
 limits_next more = refl
 
--- the rules, from each of them on
+-- the rule commands, from each of them to the last
 abbrev from_dom : List Written → List Written
 from_dom ws = rule_written 150 155 3 dom_text dom ∷ ws
 
@@ -124,7 +124,7 @@ question_more bytes n p tiles qs a ws none rest =
 abbrev NoneFrom : List ℕ → ℕ → List Tile → List Written → Type 0
 NoneFrom bytes n tiles ws = (qs : List Query) → first_from bytes false n (state names_5 rules_5 (codes "c" ∷ []) tiles qs) ws ≡ None
 
--- the queries, from each of them on
+-- the query commands, from each of them to the last
 abbrev asking_discharge : ℕ → List Written
 asking_discharge p = question_written p discharge_dom ∷ []
 
@@ -159,7 +159,7 @@ questions_none bytes p tiles stands =
     λ qs. question_more bytes 9 p tiles qs row_hard (asking_hard_row p) (no_excess _ _ (row_hard_faultless bytes p stands) (row_hard_few bytes p stands tiles qs)) three in
     λ qs. question_more bytes 8 p tiles qs member_hard (asking_row_hard p) (no_excess _ _ (member_faultless bytes p stands) (member_few bytes p stands tiles qs)) two
 
--- ---- all of them
+-- ---- all commands
 
 abbrev tile : List ℕ → List ℕ → ℕ → Tile
 tile more ds k =

@@ -28,7 +28,7 @@ front_tokens = (tokens_of front_text).list
 abbrev pub tail_tokens : List Token
 tail_tokens = (tokens_of tail_text).list
 
--- a sample up to its symbols; its height has the digit d, and then the digits ds
+-- a sample up to the end of its symbols, which are n turns; its height is written by the digit d and then the digits ds
 abbrev pub upper : ℕ → List ℕ → ℕ → List ℕ
 upper d ds n = front_text ++ (d ∷ (ds ++ 93 ∷ repeat n turn))
 
@@ -97,7 +97,7 @@ cut d ds n low high digits =
     ∙ (ap (λ (ts : Tokens). with_front front_tokens (with_front (number_token 181 (1 + length ds) ∷ mark_token (181 + (1 + length ds)) ∷ []) ts))
     (turns n (symbols_at ds) queries_text ∙ ap (with_front (turn_tokens (symbols_at ds) n)) (tail_cut (tail_at ds n))))))
 
--- ---- as the grammar sees them
+-- ---- the tokens as lexemes
 
 abbrev pub front_lexemes : List Lexeme
 front_lexemes = map (lexeme_of front_text) front_tokens
@@ -156,7 +156,7 @@ whole_length d ds n =
     let last : length tail_text ≡ 152 = refl in
     length-append (upper d ds n) tail_text ∙ omega (arith, upper_length d ds n, last)
 
--- ---- its bytes are ASCII
+-- ---- the bytes of a sample are ASCII
 
 ascii_digits : (ds : List ℕ) → AreDigits ds → list_all is_ascii ds ≡ true
 ascii_digits [] digits = refl
