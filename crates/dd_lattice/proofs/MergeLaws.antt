@@ -10,7 +10,7 @@ use Rattle.dd_lattice.specs.listing.Merge.{next_position, from_left, from_right}
 use Rattle.dd_lattice.specs.lemmas.InOrderLaws.{places_equal, place_total}
 use Rattle.dd_values.specs.lemmas.Members.{All-from_contains, Contains-first, Contains-later, Contains-cons_cases, Contains-nil, sorted_append, sorted_push, sorted_first, sorted_rest}
 
--- the walk has merged the parts that it took, which come before the parts that are left
+-- the walk has merged the parts of both lists that it took; they come before what is left of either list
 pub record IsMerged (left left_rest right right_rest made : List Place) : Type 0 where
   pub ascending : IsStrictlySortedBy place_cmp made
   pub left_ascending : IsStrictlySortedBy place_cmp left_rest
