@@ -45,7 +45,7 @@ some_fails {X} p (x ∷ xs) h = by_head (p x) refl h (some_fails p xs)
     by_head true e is rest = let other = rest is in (other.0, Contains-append_right (x ∷ []) xs other.0 other.1, other.2)
     by_head false e is rest = (x, Contains-first x xs, e)
 
--- one round
+-- one round: the neighbours of the frontier are added, and the fresh cells are the next frontier
 pub grown_more : (es : List Edge) (c : Cell) (r : ℕ) (found frontier now fresh : List Cell) → IsGrown es c r found frontier → are_in_range (flat_map (neighbours es) frontier) ≡ true →
     AddsCells found (flat_map (neighbours es) frontier) now fresh → IsGrown es c (r + 1) now fresh
 grown_more es c r found frontier now fresh grown near adds = rw add-one (record {
