@@ -10,7 +10,7 @@ use Rattle.dd_pattern.specs.{declared.periods.Periods.Periods, Periods.periods_c
 use Rattle.dd_pattern.specs.listing.Adding.{IsAdded, HasShear, IsPeriodUpTo, HasBox, most_along}
 use Rattle.dd_pattern.specs.lemmas.PeriodsLaws.{made_periods, periods_same, periods_equal}
 
--- two steps add what is P and then what is Q, which together is R
+-- if one step adds all of P, the next all of Q, and R is P or Q, then both add all of R
 pub added_more : (a b c : List Periods) (P Q R : Periods → Type 0) → IsAdded a b P → IsAdded b c Q → ((q : Periods) → R q → P q ⊎ Q q) →
     ((q : Periods) → P q → R q) → ((q : Periods) → Q q → R q) → IsAdded a c R
 added_more a b c P Q R first second split from_first from_second q = (
