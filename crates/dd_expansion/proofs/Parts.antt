@@ -86,7 +86,7 @@ pub few_for_all : {X : Type 0} (cost : X → ℕ) (xs : List X) (i : ℕ) (x : X
     before < 1 + sum_by cost xs
 few_for_all cost xs i x left first before within is paid gate few = omega (arith, sum_by_more_le cost xs i x within, ap cost is, paid, gate, few)
 
--- if f of the value is made in place of the value, it is paid alike
+-- if f of the value is made in place of the value, the cost is the same
 pub paid_as : {S T : Type 0} (f : S → T) (before after cost : ℕ) (value : S) (r : Result S ExpansionFault) (r' : Result T ExpansionFault) → IfOk r (λ x. r' ≡ Ok (f x)) → IfErr r (λ e. r' ≡ Err e) → IsPaid before after value cost r →
     IsPaid before after (f value) cost r'
 paid_as f before after cost value (Ok x) r' made fault paid = subst (IsPaid before after (f value) cost) (sym made) (ap f paid.0, paid.1)
