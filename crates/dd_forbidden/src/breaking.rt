@@ -11,9 +11,9 @@ use dd_pattern::Filling;
 use dd_values::Items;
 use std::alloc::Global;
 
-/// The breaking fillings of the rule at a node of the origin. Such a filling gives the cells that the rule reads there symbols
-/// that their nodes allow, and the rule is false under it. They are in the lexicographic order of their symbols, each once. A
-/// rule that reads nothing and is false has one, the empty filling.
+/// The breaking fillings of the rule at a node of the origin. A breaking filling gives each cell that the rule reads there a
+/// symbol that the cell's node allows, and the rule is false under these symbols. The fillings are in the lexicographic order of
+/// their symbols, each once. A rule that reads nothing and is false has one, the empty filling.
 ///
 /// # Errors
 /// `Size` where the cells that are read have more than 65,536 fillings with the whole alphabet; else `Memory`.

@@ -1,4 +1,5 @@
-//! The breaking fillings of a rule at a node: fillings of the cells that it reads there, under which it is false.
+//! The breaking fillings of a rule at a node: fillings of the cells that it reads there, with allowed symbols, under which it is
+//! false.
 #![tactic(auto)]
 
 mod breaking;

@@ -15,7 +15,8 @@ use dd_pattern::Filling;
 use dd_values::Items;
 use std::alloc::{AllocError, Global};
 
-/// Appends the breaking fillings whose first symbols are these. `rest` are the cells that have no symbol yet.
+/// Appends the breaking fillings that begin with `symbols`. `cells` are all cells that the rule reads at the node, and `rest` are
+/// those that have no symbol yet. `formula` is the rule's expansion over the symbols of these cells.
 pub(crate) fn extend(
     alloc: Global,
     rule: &Rule,
@@ -53,7 +54,7 @@ pub(crate) fn extend(
     Ok(())
 }
 
-/// Appends all fillings whose first symbols are these, whether the rule is true under them or not.
+/// Appends all fillings with allowed symbols that begin with `symbols`, whether the rule is true under them or not.
 fn complete(
     alloc: Global,
     rule: &Rule,

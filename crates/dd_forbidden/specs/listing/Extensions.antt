@@ -1,4 +1,4 @@
--- The breaking fillings whose first symbols are given.
+-- The breaking fillings that begin with given symbols.
 use Rattle.std.specs.Prelude.{ℕ, ◌<◌, cond, List, [], ◌∷◌, ◌++◌, All}
 use Rattle.std.specs.List.{flat_map, range_with_len}
 use Rattle.dd_lattice.specs.declared.position.Cell.{Cell}
@@ -13,12 +13,12 @@ AreSymbols r ss = All (λ s. s < r.symbols) ss
 abbrev pub AreOf : LocalRule → List Cell → Type 0
 AreOf r cs = All (λ c. c.node < r.nodes) cs
 
--- the breaking fillings whose first symbols are these, in lexicographic order; the listed cells have no symbol yet
+-- the breaking fillings that begin with the symbols ss, in lexicographic order; the cells of the list have no symbol yet
 abbrev pub extensions : LocalRule → ℕ → List Cell → List ℕ → List (List ℕ)
 extensions r a [] ss = cond (is_true_at_origin r a ss) [] (ss ∷ [])
 extensions r a (c ∷ cs) ss = flat_map (λ s. cond (rule_allows r c.node s) (extensions r a cs (ss ++ s ∷ [])) []) (range_with_len 0 r.symbols)
 
--- all fillings whose first symbols are these, whether the rule is true under them or not
+-- all fillings with allowed symbols that begin with ss, whether the rule is true under them or not
 abbrev pub completions : LocalRule → List Cell → List ℕ → List (List ℕ)
 completions r [] ss = ss ∷ []
 completions r (c ∷ cs) ss = flat_map (λ s. cond (rule_allows r c.node s) (completions r cs (ss ++ s ∷ [])) []) (range_with_len 0 r.symbols)
