@@ -7,15 +7,15 @@ use Rattle.dd_commands.specs.Table.{row}
 use Rattle.dd_known.specs.{Known.named, Limits.longest_strip}
 use Rattle.dd_faults.specs.{Names.number_in, Commands.period_at}
 
--- the number of what a word names, among all things of its role
+-- a word names a rule, an automaton or a configuration, as its role says: the number of that one among its kind
 abbrev pub number_of_word : Context → Role × Word → ℕ
 number_of_word x w = number_in x.text (named x.known w.0) (Name.Word w.1)
 
--- the number of what the word at this place names; its role stands in the table of queries
+-- the same for the word at this index; its role stands in the table of queries
 abbrev pub word_at : Context → Request → ℕ → ℕ
 word_at x r place = slice_index (map (number_of_word x) (zip (row r.kind).names r.words)) place
 
--- the value of the number at this place; 0 if there is none
+-- the value of the number at this index; 0 if there is none
 abbrev pub value_at : Context → Request → ℕ → ℕ
 value_at x r place = option_map_or (written_value x.text) (slice_get r.numbers place) 0
 
@@ -24,7 +24,7 @@ abbrev pub strip_periods : List ℕ → List Vector → List ℕ
 strip_periods bytes [] = 1 ∷ 1 ∷ []
 strip_periods bytes (v ∷ vs) = period_at bytes v 0 ∷ period_at bytes v 1 ∷ []
 
--- the periods of a torus; 1 for a missing axis
+-- the periods of a torus along the three axes; 1 for a missing axis
 abbrev pub torus_periods : List ℕ → List Vector → List ℕ
 torus_periods bytes [] = 1 ∷ 1 ∷ 1 ∷ []
 torus_periods bytes (v ∷ vs) = period_at bytes v 0 ∷ period_at bytes v 1 ∷ period_at bytes v 2 ∷ []

@@ -3,7 +3,7 @@ use Rattle.std.specs.{Prelude.◌≡◌, Prelude.ℕ, Prelude.List, Prelude.fals
 use Rattle.dd_lattice.specs.Place.{Place, place}
 use Rattle.dd_faults.specs.{Tree.Vector, Commands.signed_value, Commands.is_far}
 
--- the value of the entry for an axis; 0 if there is none
+-- the coordinate along an axis: the value of the entry for it, or 0 if there is none
 abbrev pub coordinate : List ℕ → Vector → ℕ → ℤ
 coordinate bytes v axis = option_map_or (signed_value bytes) (slice_get v.entries axis) (pos 0)
 

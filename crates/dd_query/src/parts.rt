@@ -16,7 +16,8 @@ use dd_values::Items;
 use dd_written::{Name, Text, number_value};
 use std::alloc::{AllocError, Global};
 
-/// The number of what the word at `place` names, among all things of its role; 0 if there is no such word.
+/// The word at the index `place` names a rule, an automaton or a configuration. This is the number of that one among its kind; 0
+/// if there is no such word.
 pub(crate) fn word_at(context: &Context, request: &Request, place: usize) -> u32
     ensures { result ≡ word_at context.now request.now place }
 {
@@ -27,7 +28,7 @@ pub(crate) fn word_at(context: &Context, request: &Request, place: usize) -> u32
     number_in(&context.text, context.known.named(*role), Name::Word(*word))
 }
 
-/// The value of the number at `place`, cut off at `u32::MAX`; 0 if there is no such number.
+/// The value of the number at the index `place`, cut off at `u32::MAX`; 0 if there is no such number.
 pub(crate) fn value_at(context: &Context, request: &Request, place: usize) -> u32
     ensures { result ≡ min (value_at context.now request.now place) 4294967295 }
 {
@@ -65,7 +66,7 @@ pub(crate) fn torus_of(context: &Context, vectors: &[Vector]) -> [u32; 3]
     }
 }
 
-/// The positions whose coordinates are the entries of these vectors.
+/// For each vector, the position whose coordinates are its entries.
 pub(crate) fn positions(
     alloc: Global,
     text: &Text,

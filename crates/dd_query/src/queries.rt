@@ -15,11 +15,11 @@ use dd_lattice::Position;
 use dd_values::Items;
 use std::alloc::{AllocError, Global};
 
-/// A query of a script. Rules are given by their numbers from 0, in the order of their definitions; so are automata, and so are
-/// configurations.
+/// A query of a script. Rules are given by their numbers: they are counted from 0, in the order of their definitions. Automata are
+/// counted likewise, and so are configurations.
 #[derive(Debug, Drop)]
 pub enum Query {
-    /// Whether the configuration lives in the rule's subshift.
+    /// Whether the configuration is in the rule's subshift.
     Member {
         configuration: u32,
         rule: u32,
@@ -50,7 +50,7 @@ pub enum Query {
         from: u32,
         to: u32,
     },
-    /// Whether `there` maps the subshift of `from` onto that of `to`, and `back` is its inverse.
+    /// Whether `there` maps the subshift of `from` onto that of `to`, with `back` as its inverse.
     Conjugate {
         there: u32,
         back: u32,
@@ -65,17 +65,19 @@ pub enum Query {
     Minimal {
         rule: u32,
     },
-    /// The least density of a strip. It is given by its periods along the second and the third axis, which are 1 for a missing axis.
+    /// The least density that the rule allows on a strip. `strip` has its periods along the second and the third axis; along a
+    /// missing axis the period is 1.
     Density {
         rule: u32,
         strip: [u32; 2],
     },
-    /// The least weight of a fundamental box of a configuration with these periods, which are 1 for a missing axis.
+    /// The least weight of a fundamental box, over the configurations of the rule's subshift that have these periods. Along a
+    /// missing axis the period is 1.
     Least {
         rule: u32,
         periods: [u32; 3],
     },
-    /// The best bound by discharging along these vectors, with a radius and a margin.
+    /// The best lower bound on the rule's density by discharging along these vectors, with a radius and a margin.
     Discharge {
         rule: u32,
         radius: u32,
