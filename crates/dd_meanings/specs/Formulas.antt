@@ -8,7 +8,7 @@ use Rattle.dd_expansion.specs.declared.formulas.Formula.TheOpen.{Formula-F}
 use Rattle.dd_faults.specs.{Names.number_in, Names.variable_of, Formulas.names_symbol}
 use Rattle.dd_meanings.specs.declared.atoms.Operand.{Operand}
 
--- the number of a variable; 0 if the word is none
+-- the number of a variable; 0 if the word is no variable
 abbrev pub variable_number : List ℕ → List Word → Word → ℕ
 variable_number bytes scope w = unwrap_or (variable_of bytes scope w) 0
 
@@ -31,7 +31,7 @@ abbrev pub not_equal_of : Term → Operand → Formula
 not_equal_of t (Operand.Symbol n) = roll-Formula (Formula-F.NotSymbol t n)
 not_equal_of t (Operand.Term u) = roll-Formula (Formula-F.NotSame t u)
 
--- what an atom says of its term
+-- what an atom says of its term; `@` gives `Place`, for `Same` compares symbols
 abbrev pub said_of : Context → List Word → Term → Relation → Formula
 said_of x scope t (Relation.Equal r) = equal_of t (side_of x scope r)
 said_of x scope t (Relation.NotEqual r) = not_equal_of t (side_of x scope r)
@@ -45,13 +45,13 @@ atom_of x scope a = said_of x scope (term_of x scope a.term) a.relation
 abbrev pub ball_of : Context → List Word → Ball → BallOf
 ball_of x scope b = record { variable = variable_number x.text scope b.centre; radius = written_value x.text b.radius }
 
--- `->` groups to the right
+-- a chain of `->`, which groups to the right
 abbrev pub implied_of : List Formula → Formula
 implied_of [] = roll-Formula (Formula-F.And [])
 implied_of (f ∷ []) = f
 implied_of (f ∷ g ∷ gs) = roll-Formula (Formula-F.Implies f (implied_of (g ∷ gs)))
 
--- `<->` groups to the left: joins what is joined so far with the parts after it
+-- joins what is joined so far with the parts after it, since `<->` groups to the left
 abbrev pub iff_behind : Formula → List Formula → Formula
 iff_behind f [] = f
 iff_behind f (g ∷ gs) = iff_behind (roll-Formula (Formula-F.Iff f g)) gs

@@ -1,12 +1,12 @@
 -- the types of syntax trees, of what is known and of faults
 pub mod Tree
--- what each command means, and the limits that its counts exceed
+-- what each command means, and the limits that a rule or an automaton exceeds by its counts
 pub mod Meanings
 -- rules and automata over the topology and the alphabets of a script
 pub mod Made
 -- what always holds of a meaning
 pub mod Sound
--- what commands define, and the limits that its counts exceed
+-- what definitions mean, and the limits that counts exceed
 pub mod Definitions
 -- formulas, with numbers in place of names
 pub mod Formulas

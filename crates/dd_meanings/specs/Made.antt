@@ -38,7 +38,7 @@ pub record IsAutomatonOf (s : Setting) (f : Automaton) : Type 0 where
   pub automaton : IsAutomaton (script_numbers s) f
   pub rules : All (IsMadeOver s) (rules_in f)
 
--- there is one item for each name, and each item satisfies P
+-- there are as many items as names, and P holds of each item
 pub record AreNamed {X : Type 0} (P : X → Type 0) (names : List (List ℕ)) (xs : List X) : Type 0 where
   pub named : length xs ≡ length names
   pub each : All P xs

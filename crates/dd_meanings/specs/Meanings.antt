@@ -1,4 +1,4 @@
--- What each command means, and the limits that its counts exceed.
+-- What each command means, and the limits that a rule or an automaton exceeds by its counts.
 use Rattle.std.specs.Prelude.{List, [], length, map, true, false, if◌then◌else◌}
 use Rattle.dd_meanings.specs.Tree.{Kind, Command, Fault, Context}
 use Rattle.dd_topology.specs.Builtin.{grid_of}
@@ -14,7 +14,7 @@ use Rattle.dd_meanings.specs.Definitions.{symbol_of, rule_of, automaton_of, comp
 abbrev pub kind_meaning : Context → Kind → Meaning
 kind_meaning x k = if x.known.nodes_are_given then Meaning.Topology (grid_of k) else Meaning.Nodes (kind_names k) false (grid_of k)
 
--- what a command means after these automata were defined
+-- what a command means, if these automata were defined before it
 abbrev pub meaning : Context → List Automaton → Command → Meaning
 meaning x automata (Command.Dimension n) = Meaning.Topology (default_grid (written_value x.text n) (length x.known.setting.nodes))
 meaning x automata (Command.Nodes names) = Meaning.Nodes (map (name_text x.text) names) true (default_grid (dimension_of x.known) (length names))

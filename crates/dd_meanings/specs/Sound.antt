@@ -18,7 +18,7 @@ pub record AreNames (most : ℕ) (names : List (List ℕ)) : Type 0 where
   pub few : length names ≤ most
   pub distinct : AreDistinct names
 
--- one of the nodes, and one symbol or more
+-- the number of a node, and the numbers of one symbol or more
 pub record IsSymbolRestriction (s : Setting) (node : ℕ) (symbols : List ℕ) : Type 0 where
   pub exists : node < length s.nodes
   pub some : 1 ≤ length symbols
@@ -36,7 +36,7 @@ pub record IsConfigurationOf (s : Setting) (t : Tile) : Type 0 where
   pub dimension : t.dimension ≡ s.topology.dimension
   pub nodes : t.nodes ≡ s.topology.nodes
   pub symbols : All (λ symbol. symbol < length s.symbols) t.symbols
-  -- the nodes vary fastest
+  -- in the order of the cells the node varies fastest, so cell i has the node i % t.nodes
   pub allowed : (i : ℕ) → i < length t.symbols → allows s.sets (i % t.nodes) (slice_index t.symbols i) ≡ true
 
 abbrev pub IsSoundMeaning : Context → Meaning → Type 0

@@ -11,7 +11,7 @@ use Rattle.dd_query.specs.Vectors.{place_of}
 abbrev pub plain_kind : ℕ → Kind
 plain_kind d = if d == 1 then Kind.Line else (if d == 3 then Kind.Cube else Kind.Square)
 
--- The topology if none is given. One node has the built-in topology of the dimension. More nodes have no edges.
+-- The topology if the script gives none. One node has the built-in topology of the dimension. More nodes have no edges.
 abbrev pub default_grid : ℕ → ℕ → Grid
 default_grid d nodes = if nodes == 1 then grid_of (plain_kind d) else grid d nodes [] []
 

@@ -37,6 +37,7 @@ fn label(context: &Context, word: Word) -> u32
     context.known.setting.topology.label(text).unwrap_or(0)
 }
 
+/// The numbers of labels.
 fn labels(alloc: Global, context: &Context, moves: &[Word]) -> Made<Items<u32>>
     ensures { IfOk result (λ labels. labels ≡ map (label_of context.now) moves.now) }
 {
@@ -47,6 +48,7 @@ fn labels(alloc: Global, context: &Context, moves: &[Word]) -> Made<Items<u32>>
     Ok(Items::from_vec(labels))
 }
 
+/// What a term means in a scope.
 fn term(alloc: Global, context: &Context, scope: &[Word], term: &Written) -> Made<Term>
     requires { length scope.now ≤ 64 }
     ensures { IfOk result (λ t. t ≡ term_of context.now scope.now term.now) }
@@ -56,6 +58,7 @@ fn term(alloc: Global, context: &Context, scope: &[Word], term: &Written) -> Mad
     Ok(Term { variable, moves })
 }
 
+/// The number of the symbol with this name; 0 if there is none.
 fn symbol(context: &Context, name: Name) -> u32
     ensures { result ≡ number_in context.now.text context.now.known.setting.symbols name }
 {
@@ -69,6 +72,7 @@ pub(crate) enum Operand {
     Term(Term),
 }
 
+/// What the right side of `=` or `!=` means in a scope.
 fn side(alloc: Global, context: &Context, scope: &[Word], side: &Comparand) -> Made<Operand>
     requires { length scope.now ≤ 64 }
     ensures { IfOk result (λ s. s ≡ side_of context.now scope.now side.now) }
@@ -84,7 +88,7 @@ fn side(alloc: Global, context: &Context, scope: &[Word], side: &Comparand) -> M
     }
 }
 
-/// The formula that a term has the symbol on the right, or the same symbol as the term on the right.
+/// The formula that the cell of a term has the symbol on the right, or the same symbol as the cell of the term on the right.
 fn equal(term: Term, side: Operand) -> Formula
     ensures { result ≡ equal_of term side }
 {
@@ -94,7 +98,7 @@ fn equal(term: Term, side: Operand) -> Formula
     }
 }
 
-/// The formula that a term has another symbol than the one on the right, or than the term on the right.
+/// The formula that the cell of a term has another symbol than the one on the right, or than the cell of the term on the right.
 fn not_equal(term: Term, side: Operand) -> Formula
     ensures { result ≡ not_equal_of term side }
 {
@@ -104,7 +108,7 @@ fn not_equal(term: Term, side: Operand) -> Formula
     }
 }
 
-/// What an atom means in a scope.
+/// What an atom means in a scope. `@` gives `Formula::Place`, for `Formula::Same` compares symbols.
 pub(crate) fn atom(alloc: Global, context: &Context, scope: &[Word], atom: &Atom) -> Made<Formula>
     requires { length scope.now ≤ 64 }
     ensures { IfOk result (λ f. f ≡ atom_of context.now scope.now atom.now) }

@@ -1,4 +1,5 @@
-//! What the commands of the header mean. Each has a function of its name, and has no fault.
+//! What the commands of the header mean, if they have no fault. Each has its function; `kind` is that of a built-in topology. For a
+//! topology given by edges, see `topologies`.
 ghost use Rattle.std.specs.Prelude.{◌≡◌, ◌≤◌, [], length, map, IfOk};
 ghost use Rattle.dd_commands.specs.declared.command.Command.TheVariants as command;
 ghost use Rattle.dd_known.specs.Sound.{IsSound};
@@ -77,7 +78,7 @@ pub(crate) fn kind(alloc: Global, context: &Context, kind: Kind) -> Resolved
     })
 }
 
-/// The numbers of the symbols with these names.
+/// The numbers of the symbols with these names; 0 for a name that no symbol has.
 pub(crate) fn symbols_of(alloc: Global, context: &Context, names: &[Name]) -> Made<Items<u32>>
     ensures { IfOk result (λ symbols. symbols ≡ map (symbol_of context.now) names.now) }
 {

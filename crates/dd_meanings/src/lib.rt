@@ -1,5 +1,6 @@
 //! What commands without faults mean. The header gives topologies, names, sets of symbols, weights and limits. Then come rules,
-//! automata, configurations and queries. A rule or an automaton is refused here if its counts exceed a limit.
+//! automata, configurations and queries. A rule or an automaton is refused here if it has too many instances, reads too far or is
+//! too deep.
 #![tactic(auto, using(crate::proofs::Nothing::parts))]
 
 mod atoms;

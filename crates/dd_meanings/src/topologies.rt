@@ -1,4 +1,4 @@
-//! The topologies of scripts: the one of a dimension, the built-in ones, and those given by edges.
+//! The topologies of scripts: the default of a dimension, the built-in ones, and those given by edges.
 ghost use Rattle.std.specs.Prelude.{◌≡◌, ◌≤◌, [], length, map, IfOk};
 ghost use Rattle.std.specs.List.{flat_map};
 ghost use Rattle.dd_topology.specs.Grid.{grid};
@@ -30,7 +30,7 @@ fn plain_kind(dimension: u32) -> Kind
     }
 }
 
-/// The topology if none is given. One node has the built-in topology of the dimension. More nodes have no edges.
+/// The topology if the script gives none. One node has the built-in topology of the dimension. More nodes have no edges.
 pub(crate) fn default_topology(alloc: Global, dimension: u32, nodes: u32) -> Made<Topology>
     requires dimension { (1 ≤ dimension) × (dimension ≤ 3) }
     requires nodes { 1 ≤ nodes }
@@ -100,7 +100,7 @@ fn edges_of(
     Ok(edges)
 }
 
-/// The topology given by edges. Its labels are numbered in order of first occurrence.
+/// What a topology given by edges means. Its labels are numbered in order of first occurrence.
 pub(crate) fn edges(alloc: Global, context: &Context, edges: &[Written]) -> Resolved
     requires sound { IsSound context.now.known }
     requires faultless { faults_of context.now (command.Edges edges.now) ≡ [] }
