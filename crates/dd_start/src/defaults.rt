@@ -16,7 +16,7 @@ const RADIUS_AT_START: u32 = 4;
 /// The greatest period of a search, if the script sets none.
 const PERIOD_AT_START: u32 = 4;
 
-/// The greatest number of pivots, if the script sets none.
+/// The greatest number of pivots of a linear program, if the script sets none.
 const PIVOTS_AT_START: u32 = 10_000;
 
 /// The defaults: the square topology with the node 0, and the symbols 0 and 1, which weigh 0 and 1.
@@ -52,14 +52,14 @@ pub fn start(alloc: Global) -> Result<Known, AllocError>
     })
 }
 
-/// The numbers from 0 on, below `count`, in order.
+/// The numbers below `count`, from 0 on, in order.
 pub fn numbers_below(alloc: Global, count: u32) -> Result<Vec<u32>, AllocError>
     ensures { IfOk result (λ numbers. numbers.items ≡ range_with_len 0 count) }
 {
     (0..count).collect(alloc)
 }
 
-/// Lets each node allow each symbol again.
+/// Lets each node allow each symbol, as at first. No node is restricted after that.
 pub fn allow_all(alloc: Global, known: &mut Known) -> Result<(), AllocError>
     requires nodes { 1 ≤ length known.old.setting.nodes }
     requires symbols { 1 ≤ length known.old.setting.symbols }

@@ -1,5 +1,5 @@
-//! The defaults: what holds before a script defines anything. Also the sets of symbols that nodes allow, which are made anew when
-//! a script names its nodes or symbols.
+//! The defaults: what is known before a script defines anything. Also the sets of symbols that nodes allow. These are made anew
+//! when a script names its nodes or symbols.
 #![tactic(auto)]
 
 mod defaults;
