@@ -20,7 +20,7 @@ use Rattle.dd_problem.specs.pushing.Pushed.{are_both_wired, is_wired_at, is_goal
 use Rattle.dd_problem.specs.lemmas.{RangesLeft.row_within, Reading.IsLayout, Wiring.HasReads}
 use Rattle.dd_values.specs.lemmas.Booleans.{same_bool}
 
--- at the leaves that pass p, counted from v, the wires are the layout's inputs
+-- at the cells that pass p, relative to v, the wires are the layout's inputs
 abbrev pub Gives : Wiring → Layout → ℕ → (Cell → Bool) → Place → Type 0
 Gives w l m p v = (c : Cell) (s : ℕ) → p c ≡ true → s < m → wires_near w v c s ≡ cond (l.has (shifted v c)) (Some (wire l m v c s)) None
 

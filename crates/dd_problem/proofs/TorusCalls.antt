@@ -1,4 +1,4 @@
--- What the calls return of which `torus_clauses` is made.
+-- What is returned by the calls of which `torus_clauses` is made.
 use Rattle.std.proofs.Common.{◌≡◌, ℕ, ◌+◌, ◌*◌, ◌≤◌, ◌<◌, ◌^◌, true, List, map, length, refl, ap, sym, subst, ◌∙◌, arith}
 use Rattle.std.proofs.lemmas.{Nat.mul-le, List.Elements.All-map, List.Elements.All-weaker}
 use Rattle.std.proofs.lemmas.{List.FromFn.length-range_with_len, Result.IfOk-weaker}

@@ -6,6 +6,7 @@ use Rattle.dd_cnf.specs.Encoding.{gates_clauses}
 use Rattle.dd_compile.specs.Compiling.{Maker}
 use Rattle.dd_problem.specs.Clauses.{Part, part_gates, part_clauses}
 
+-- a circuit, and clauses over its variables
 pub record Encoding : Type 0 where
   pub circuit : Network
   pub clauses : List (List Literal)

@@ -8,7 +8,7 @@ use Rattle.dd_boxes.specs.{Cells.box_cells, Cells.cells_on, Fillings.is_box_cell
 use Rattle.dd_compile.specs.Wiring.{Wiring}
 use Rattle.dd_problem.specs.pushing.Numbered.{in_turn}
 
--- which cells have inputs, and which
+-- which cells have inputs, the numbers of these cells, and their inputs
 pub record Layout : Type 0 where
   -- whether a cell has inputs
   pub has : Cell → Bool

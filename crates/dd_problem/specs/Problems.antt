@@ -11,7 +11,7 @@ use Rattle.dd_boxes.specs.{Goals.GoalOf, Goals.breaks, Goals.differ, Goals.alway
 use Rattle.dd_problem.specs.{Layouts.Layout, Layouts.fits_in, Layouts.box_layout, pushing.Near.torus_layout, Differing.differ_made}
 use Rattle.dd_problem.specs.Clauses.{input, cell_clauses, Part, part_gates, part_clauses, units, some_true, some_false}
 
--- the signal that says that the cell c, counted from v, has the symbol s of m symbols
+-- the signal that says that the cell c, relative to v, has the symbol s of m symbols
 abbrev pub wire : Layout → ℕ → Place → Cell → ℕ → Signal
 wire l m v c s = signal_of (input m (l.index (shifted v c)) s)
 

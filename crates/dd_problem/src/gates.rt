@@ -59,7 +59,7 @@ fn push_if_wired(
     ensures inputs { encoder.new.circuit.inputs ≡ encoder.old.circuit.inputs }
     ensures ok { OnOk result (encoder.new ≡ with_parts encoder.old (wired_parts inputs.now encoder.old.circuit.inputs rule.now (cell.now ∷ []))) }
 {
-    // This call brings in a fact: the rule keeps its limits.
+    // This call brings in a fact: the rule's invariant.
     let _nodes = rule.nodes();
     if !reads_are_wired(encoder.circuit(), rule, cell, inputs) {
         return Ok(());

@@ -22,7 +22,7 @@ fn negative(variable: u32) -> Literal
     }
 }
 
-/// Adds the clauses that say that `first` isn't true together with a variable from `from` to before `end`.
+/// Adds the clauses that say that `first` isn't true together with any of the variables from `from` to `end - 1`.
 fn push_pairs_of(
     alloc: Global,
     cnf: &mut Cnf,
@@ -43,7 +43,7 @@ fn push_pairs_of(
     Ok(())
 }
 
-/// Adds the clauses that say that no two of the variables from `from` to before `end` are true.
+/// Adds the clauses that say that no two of the variables from `from` to `end - 1` are true.
 fn push_pairs(alloc: Global, cnf: &mut Cnf, from: u32, end: u32) -> Result<(), AllocError>
     requires first { 1 ≤ from }
     requires order { from ≤ end }
@@ -57,7 +57,7 @@ fn push_pairs(alloc: Global, cnf: &mut Cnf, from: u32, end: u32) -> Result<(), A
     Ok(())
 }
 
-/// Adds the clause that says that some variable from `from` to before `end` is true.
+/// Adds the clause that says that some variable from `from` to `end - 1` is true.
 fn push_some(alloc: Global, cnf: &mut Cnf, from: u32, end: u32) -> Result<(), AllocError>
     requires first { 1 ≤ from }
     requires order { from ≤ end }

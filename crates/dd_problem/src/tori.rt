@@ -34,7 +34,7 @@ use dd_lattice::{Box3, Cell, Position, centred_box, shift};
 use dd_pattern::{Configuration, Periodic, Periods};
 use std::alloc::{AllocError, Global};
 
-/// The fundamental box: along each axis its coordinates run from 0 to the period less 1.
+/// The fundamental box: along each axis its coordinates run from 0 to the period minus 1.
 fn fundamental(periods: &Periods) -> Box3
     requires x { (1 ≤ periods.now.x) × (periods.now.x ≤ 65536) }
     requires y { (1 ≤ periods.now.y) × (periods.now.y ≤ 65536) }
@@ -115,7 +115,8 @@ fn near_cells(
     Ok(once_each(found))
 }
 
-/// Inputs for the cells: each cell has the signals of the number that `numbers` gives it.
+/// Inputs for the cells: each cell has the signals of the number that `numbers` gives it. `numbers` is a configuration with
+/// numbers in place of symbols.
 fn inputs_by_number(
     alloc: Global,
     cells: &[Cell],
@@ -135,7 +136,7 @@ fn inputs_by_number(
     Ok(inputs)
 }
 
-/// The numbers from 0 to `count` less 1.
+/// The numbers from 0 to `count - 1`.
 fn counted(alloc: Global, count: u32) -> Result<Vec<u32>, AllocError>
     ensures { IfOk result (λ v. v.items ≡ range_with_len 0 count) }
 {
@@ -146,7 +147,8 @@ fn counted(alloc: Global, count: u32) -> Result<Vec<u32>, AllocError>
     Ok(numbers)
 }
 
-/// The configuration of these periods in which each cell of the fundamental box has its number, from 0 in cell order.
+/// The configuration of these periods in which each cell of the fundamental box has its number, from 0 in cell order, in place of
+/// a symbol.
 fn numbering(alloc: Global, premise: &Rule, periods: &Periods) -> Result<Periodic, AllocError>
     requires { AreTorusPeriods premise.now.dimension premise.now.nodes periods.now }
     ensures { IfOk result (λ t. t ≡ numbered_tile premise.now periods.now) }

@@ -13,14 +13,14 @@ use dd_formula::Rule;
 use dd_pattern::Periodic;
 use std::alloc::{AllocError, Global};
 
-/// Whether the input has a value, and the value is true.
+/// Whether the input has a value, and the value is true. Inputs are counted from 0: input `i` is the variable `i + 1`.
 fn is_true(values: &[bool], input: usize) -> bool
     ensures { result ≡ slice_index_or values.now input false }
 {
     input < values.len() && values[input]
 }
 
-/// The symbol of the cell with this number: its input is true.
+/// The symbol of the cell with this number: the one whose input is true.
 fn symbol_read(values: &[bool], number: u32, symbols: u32) -> u32
     requires { (s : ℕ) × IsSymbolRead (true_variables values.now) symbols number s }
     ensures { IsSymbolRead (true_variables values.now) symbols number result }

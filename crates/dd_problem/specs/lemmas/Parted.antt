@@ -25,7 +25,7 @@ use Rattle.dd_values.specs.lemmas.Booleans.{and_true, or_false, if_not}
 abbrev pub InputsTell : (ℕ → Bool) → Layout → ℕ → Look → Type 0
 InputsTell set l m look = (c : Cell) (s : ℕ) → l.has c ≡ true → s < m → set (input m (l.index c) s) ≡ is_symbol s (look c)
 
--- the numbers of a layout's cells are those of its places
+-- the number of each cell of the layout is less than the number of its places
 abbrev pub IsNumbered : Layout → Type 0
 IsNumbered l = (c : Cell) → l.has c ≡ true → l.index c < length l.places
 
@@ -95,7 +95,7 @@ HasItsSymbols always look = Unit {0}
 abbrev pub differ_at : Layout → CommonNumbers → Automaton → Automaton → ℕ → Maker
 differ_at l s f g a = differ_made s.symbols f g l.inputs (cell origin a)
 
--- the parts as those of places and of the goal
+-- the parts by what they are about: a place, or `None` for the goal
 abbrev pub jobs : Layout → LocalRule → List (Option Cell)
 jobs l x = map (λ d. Some d) (filter (fits_in l x) l.places) ++ None ∷ []
 

@@ -12,7 +12,7 @@ pub record HasValueFacts (x : LocalRule) (s : CommonNumbers) (f g : Automaton) :
   pub left_says : SaysItsValue f
   pub right_says : SaysItsValue g
 
--- the goal's rule is alike the premise and keeps its limits; for two automata, the facts above
+-- the goal's rule has the invariant of rules and the premise's numbers; two automata have the facts above
 abbrev pub HasGoalFacts : LocalRule → GoalOf → Type 0
 HasGoalFacts x (breaks y) = IsRule y × AreAlike x y
 HasGoalFacts x (differ s f g) = HasValueFacts x s f g

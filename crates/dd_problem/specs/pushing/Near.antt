@@ -16,7 +16,7 @@ read_cells x d = map (shifted d.position) (cells_at x d.node)
 abbrev pub near_cells : LocalRule → GoalOf → List Cell → List Cell
 near_cells x g cells = in_order (box_cells x (goal_reach g) ++ flat_map (read_cells x) cells)
 
--- the number that a periodic configuration has at a cell
+-- the number that a periodic configuration has at a cell, in place of a symbol
 abbrev pub number_at : Tile → Cell → ℕ
 number_at t c = slice_index t.symbols (tile_index t c)
 

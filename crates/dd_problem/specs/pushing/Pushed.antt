@@ -20,7 +20,7 @@ AreInputs n w = (c : Cell) (s : ℕ) (signal : Signal) → wire_of w c s ≡ Som
 abbrev pub HasAllSymbols : ℕ → Wiring → Type 0
 HasAllSymbols m w = (c : Cell) (signals : List Signal) → signals_of w c ≡ Some signals → length signals ≡ m
 
--- each leaf of the rule at the cell has its signal, among the first n variables
+-- each leaf of the rule at the cell has its signal, and this is of the first n variables
 abbrev pub is_wired_at : Wiring → ℕ → LocalRule → Cell → Bool
 is_wired_at w n x d = are_wired n (wires_near w d.position) (expansion_at x d.node)
 
