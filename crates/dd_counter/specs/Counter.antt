@@ -9,7 +9,7 @@ use Rattle.dd_cnf.specs.Encoding.{gates_clauses, opposing}
 use Rattle.dd_compile.specs.Compiling.{AllMade}
 use Rattle.dd_problem.specs.Clauses.{input}
 
--- from the number of variables before, the gates that are added, and the signals that they give
+-- from the number of variables before: the gates that are added, and signals over them
 abbrev pub Making : Type 0
 Making = ℕ → AllMade
 
@@ -41,7 +41,7 @@ of_symbol ws k t before s = member (signal_of (input (length ws) k s)) (slice_in
 abbrev pub members : List ℕ → ℕ → ℕ → List Signal → List Making
 members ws k t before = map (of_symbol ws k t before) (range_with_len 0 (length ws))
 
--- the gates of the symbols, and then the gate that says that the cells up to k weigh more than t
+-- the gates of the symbols, and then the gate that says that the cells up to the cell k weigh more than t
 abbrev pub count : List ℕ → ℕ → List Signal → ℕ → Making
 count ws k before t n =
     let each = joined (members ws k t before) n in

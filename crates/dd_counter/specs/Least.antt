@@ -35,7 +35,7 @@ pub record IsLeastShown (x : LocalRule) (p : Periods) (ws : List ℕ) (w : ℕ) 
   pub refutes : 0 < w → IsRefutedBelow x p ws w steps
   pub empty : w ≡ 0 → steps ≡ []
 
--- the answer is right
+-- what the search for the least weight gives is right
 abbrev pub IsLeast : LocalRule → Periods → List ℕ → LeastWeight → Type 0
 IsLeast x p ws (Least w t steps) = IsLeastShown x p ws w t steps
 IsLeast x p ws (Nothing steps) = NoneOn x p × IsRefutedBelow x p ws 0 steps

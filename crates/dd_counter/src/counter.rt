@@ -40,8 +40,9 @@ fn input_of(number: u32, symbols: u32, symbol: u32) -> Signal
     }
 }
 
-/// Appends to `members` the signal that says that a cell has the symbol of the input `from`, and that the cells up to it weigh
-/// more than `most` then. If they can't, appends nothing. The symbol weighs `weight`, and `before` is the row of the cell before.
+/// Appends a signal to `members`. It says that a cell has the symbol of the input `from`, and that the cells up to it then weigh more
+/// than `most`. The symbol weighs `weight`, and `before` is the row of the cell before. Appends nothing if there is no such row, and
+/// the symbol alone doesn't weigh enough.
 fn push_member(
     alloc: Global,
     cnf: &mut Cnf,
@@ -73,7 +74,8 @@ fn push_member(
     Ok(())
 }
 
-/// Adds the gates of a cell at `most`. Returns the signal that says that the cells up to this one weigh more than `most`.
+/// Adds the gates of a cell at `most`, those of its symbols first. Returns the signal that says that the cells up to this one weigh
+/// more than `most`.
 fn push_count(
     alloc: Global,
     cnf: &mut Cnf,
@@ -108,7 +110,7 @@ fn push_count(
 }
 
 /// Adds the row of a cell. Returns its signals, which say that the cells up to this one weigh more than 0, more than 1, and so
-/// on up to more than `below` less 1.
+/// on, up to more than `below - 1`.
 fn push_row(
     alloc: Global,
     cnf: &mut Cnf,
@@ -154,8 +156,8 @@ pub(crate) fn push_rows(
     Ok(before)
 }
 
-/// Adds the clause that says that the last of `below` signals is false: the cells weigh less than `below`. If there is no signal,
-/// adds nothing.
+/// Adds the clause that says that the last of `below` signals is false. This signal says that the cells weigh at least `below`. Adds
+/// nothing if there is no signal.
 pub(crate) fn push_refusal(
     alloc: Global,
     cnf: &mut Cnf,

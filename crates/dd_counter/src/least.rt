@@ -22,19 +22,20 @@ use std::alloc::{AllocError, Global};
 /// The least weight of the configurations of given periods that live in a rule's subshift.
 #[derive(Debug, Drop)]
 pub enum LeastWeight {
-    /// The weight, and a configuration that has it. If the weight isn't 0, steps that refute that one weighs less.
+    /// The least weight, and a configuration that has it. The steps refute that a configuration weighs less. There are none if the
+    /// weight is 0.
     Least {
         weight: u64,
         periodic: Periodic,
         steps: Items<Step>,
     },
-    /// No configuration lives: steps that refute that one does.
+    /// No configuration lives. The steps refute that one does.
     Nothing {
         steps: Items<Step>,
     },
 }
 
-/// A configuration that weighs less than a bound, or steps that refute that there is one.
+/// What a search gives: a configuration that weighs less than a bound, or steps that refute that there is one.
 #[derive(Drop)]
 enum Lighter {
     Found(Periodic),
