@@ -1,5 +1,5 @@
--- The truth of the formula over a list of symbols, and the nodes of the cells that are read.
+-- Empty. The lemmas that stood here are in `SayingLaws` of `dd_forbidden`.
 
--- the truth of the expansion at the origin
+-- `says_rule`: the numbered expansion is true exactly where the rule is
 
--- the cells that are read are of the rule's nodes
+-- `reads_of_nodes`: the cells that are read have the rule's nodes

@@ -10,7 +10,8 @@ pub record IsSpared (r : LocalRule) (a : ℕ) (p : List (Option ℕ)) (ss : List
   pub agreeing : agrees p ss ≡ true
   pub holds : is_true_at_origin r a ss ≡ true
 
--- for each cell that the pattern keeps, the rule is true under some filling that agrees with it except perhaps at that cell
+-- for each cell that the pattern keeps, the rule is true under some filling with allowed symbols that agrees with the pattern
+-- except perhaps at that cell
 abbrev pub NeedsEach : LocalRule → ℕ → List (Option ℕ) → Type 0
 NeedsEach r a p = (k s : ℕ) → slice_get p k ≡ Some (Some s) → (ss : List ℕ) × IsSpared r a (left_out k p) ss
 

@@ -11,7 +11,7 @@ abbrev pub words : ℕ → ℕ → List (List ℕ)
 words m zero = [] ∷ []
 words m (suc n) = flat_map (λ s. map (λ ss. s ∷ ss) (words m n)) (range_with_len 0 m)
 
--- the nodes of the cells that are read allow their symbols, and the rule is true under them
+-- the symbols are allowed at the cells that are read, and the rule is true under them
 abbrev pub is_spared : LocalRule → ℕ → List ℕ → Bool
 is_spared r a ss = are_allowed r (cells_at r a) ss && is_true_at_origin r a ss
 
@@ -36,8 +36,8 @@ listed thin before (ss ∷ more) =
     (listed thin before more)
     (thin ss ∷ listed thin (before ++ thin ss ∷ []) more)
 
--- The breaking fillings are taken in lexicographic order. A cell is left out if every filling with allowed symbols that
--- agrees with what remains breaks the rule.
+-- The breaking fillings are taken in lexicographic order. In thinning, a cell is left out if every filling with allowed symbols
+-- that agrees with the rest of the pattern breaks the rule.
 pub record IsMinimalList (r : LocalRule) (a : ℕ) (ps : List (List (Option ℕ))) : Type 0 where
   pub breaking : List (List ℕ)
   pub fillings : BreakingFillings r a breaking

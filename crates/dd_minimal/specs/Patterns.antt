@@ -25,7 +25,7 @@ is_covered ps ss = list_any (λ p. agrees p ss) ps
 abbrev pub whole : List ℕ → List (Option ℕ)
 whole ss = map Some ss
 
--- the pattern without the cell of the number k
+-- the pattern with the cell at index k left out
 abbrev pub left_out : ℕ → List (Option ℕ) → List (Option ℕ)
 left_out k [] = []
 left_out zero (p ∷ ps) = None ∷ ps
@@ -36,7 +36,7 @@ pub record IsPartialOf (r : LocalRule) (p : Partial) : Type 0 where
   pub node : p.node < r.nodes
   pub as_many : length p.symbols ≡ length (cells_at r p.node)
 
--- the filling's domain is these cells
+-- the filling's domain is the cells that the rule reads at the pattern's node
 abbrev pub FillsReads : LocalRule → Partial → Filled → Type 0
 FillsReads r p f = f.cells ≡ cells_at r p.node
 

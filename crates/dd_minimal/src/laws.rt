@@ -15,7 +15,7 @@ pub fn exact()
 {}
 
 /// Does nothing. Its contract says that no cell can be left out of a listed pattern: the rule is true under some filling
-/// that agrees with the pattern except perhaps at that cell.
+/// with allowed symbols that agrees with the pattern except perhaps at that cell.
 pub fn needs_each()
     ensures { (r : LocalRule) (a : ℕ) (ps : List (List (Option ℕ))) → IsRule r → IsMinimalList r a ps → All (NeedsEach r a) ps }
 {}

@@ -1,5 +1,5 @@
-//! The minimal list. The fillings that break the rule are taken in lexicographic order. Those that agree with a pattern
-//! listed before are marked and skipped; every other one is thinned and listed.
+//! The minimal list. The fillings that break the rule are taken in lexicographic order. A marked one is skipped. Every
+//! other one is thinned and listed, and all fillings that agree with its pattern are marked.
 ghost use Rattle.std.specs.Prelude.{◌≡◌, ◌<◌, ◌^◌, length, map, IfOk};
 ghost use Rattle.std.specs.List.{All};
 ghost use Rattle.dd_formula.specs.LocalRule.{cells_at};

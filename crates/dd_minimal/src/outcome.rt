@@ -1,15 +1,15 @@
-//! What a filling of the cells that a rule reads does.
+//! The outcome of a filling of the cells that a rule reads.
 ghost use Rattle.std.specs.Prelude.{◌≡◌};
 ghost use Rattle.dd_minimal.specs.finding.Outcomes.{does_break, does_hold, of_truth};
 
-/// What a filling does.
+/// The outcome of a filling.
 #[derive(Clone, Copy, Debug)]
 pub(crate) enum Outcome {
-    /// Some node doesn't allow its symbol.
+    /// Some cell has a symbol that its node doesn't allow.
     Barred,
-    /// The rule is false.
+    /// All symbols are allowed, and the rule is false.
     Breaks,
-    /// The rule is true.
+    /// All symbols are allowed, and the rule is true.
     Holds,
 }
 
@@ -35,7 +35,7 @@ impl Outcome {
         }
     }
 
-    /// Whether the rule is true under a filling with allowed symbols.
+    /// Whether all symbols are allowed and the rule is true.
     pub(crate) fn does_hold(self) -> bool
         ensures { result ≡ does_hold self }
     {

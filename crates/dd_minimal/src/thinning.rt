@@ -10,14 +10,14 @@ use crate::walking::can_spare;
 use dd_values::Items;
 use std::alloc::{AllocError, Global};
 
-/// A pattern, and the number `from` of the filling that agrees with it and has 0 in the cells that are left out.
+/// A pattern, with the number `from` of the filling that agrees with it and has the symbol 0 in the cells left out.
 pub(crate) struct Thinned {
     pub pattern: Items<Option<u32>>,
     pub from: usize,
 }
 
-/// Thins the breaking filling with the number `at`: in cell order, each cell that can be left out is left out. The
-/// strides of the cells left out replace what `left_out` held.
+/// Thins the breaking filling with the number `at`: in cell order, each cell that can be left out is left out. `left_out`
+/// is cleared, and then gets the strides of the cells left out.
 pub(crate) fn thin(
     alloc: Global,
     symbols: u32,

@@ -1,5 +1,6 @@
-//! Walks over the fillings that agree with a pattern. A walk begins at the number `from` of the filling that has 0 in all
-//! cells that are left out, and goes along the strides of these cells.
+//! Walks over the fillings that agree with a pattern. Fillings are numbered from 0 in lexicographic order. The stride of a
+//! cell is how much the number rises if the cell's symbol rises by 1. A walk begins at `from`, the number of the filling
+//! that has the symbol 0 in all cells that the pattern leaves out. It goes along the strides of these cells.
 ghost use Rattle.std.specs.Prelude.{◌≡◌, ◌<◌, ◌≤◌, ◌+◌, ◌*◌, ◌-◌, ◌++◌, ◌∷◌, [], true, length};
 ghost use Rattle.dd_minimal.specs.finding.Numbers.{reach};
 ghost use Rattle.dd_minimal.specs.finding.Walks.{marked, none_holds};
@@ -22,8 +23,8 @@ pub(crate) fn none_holds(symbols: u32, strides: &[usize], table: &[Outcome], fro
     true
 }
 
-/// The same for a walk along one stride more: that of a cell with the symbol `kept`, which may be left out too. Fillings
-/// with that symbol are passed over, as the rule is known to be true under none of them.
+/// The same for a walk along one stride more. It is that of the next cell to leave out, which has the symbol `kept`. The
+/// walk passes over fillings with this symbol, because the rule is known to be true under none of them.
 pub(crate) fn can_spare(
     symbols: u32,
     kept: u32,

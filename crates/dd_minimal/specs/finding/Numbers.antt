@@ -34,7 +34,7 @@ least_number m [] = 0
 least_number m (None ∷ ps) = least_number m ps
 least_number m (Some s ∷ ps) = s * m ^ length ps + least_number m ps
 
--- how much the number rises at most along these strides
+-- the greatest rise of the number along these strides
 abbrev pub reach : ℕ → List ℕ → ℕ
 reach m [] = 0
 reach m (d ∷ ds) = (m - 1) * d + reach m ds

@@ -13,7 +13,7 @@ does_break Barred = false
 does_break Breaks = true
 does_break Holds = false
 
--- the rule is true under a filling with allowed symbols
+-- all symbols are allowed and the rule is true
 abbrev pub does_hold : Outcome → Bool
 does_hold Barred = false
 does_hold Breaks = false
@@ -24,7 +24,7 @@ abbrev pub of_truth : Bool → Outcome
 of_truth true = Holds
 of_truth false = Breaks
 
--- the outcome of a filling whose first symbols are allowed, and which gives the rest of the cells the symbols ss
+-- the outcome of a filling that begins with the allowed symbols `start`, and gives the rest of the cells the symbols ss
 abbrev pub outcome_behind : LocalRule → ℕ → List Cell → List ℕ → List ℕ → Outcome
 outcome_behind r a rest start ss = cond (are_allowed r rest ss) (of_truth (is_true_at_origin r a (start ++ ss))) Barred
 
@@ -32,7 +32,7 @@ outcome_behind r a rest start ss = cond (are_allowed r rest ss) (of_truth (is_tr
 abbrev pub outcome : LocalRule → ℕ → List ℕ → Outcome
 outcome r a ss = cond (are_allowed r (cells_at r a) ss) (of_truth (is_true_at_origin r a ss)) Barred
 
--- the outcome of a filling that gives the rest of the cells the symbols ss, where it is o if they are allowed
+-- the outcome of a filling that gives the rest of the cells the symbols ss: o if they are allowed
 abbrev pub known_outcome : LocalRule → List Cell → Outcome → List ℕ → Outcome
 known_outcome r rest o ss = cond (are_allowed r rest ss) o Barred
 

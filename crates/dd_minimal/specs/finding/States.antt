@@ -7,7 +7,8 @@ use Rattle.dd_minimal.specs.Minimal.{words, thinned, listed}
 use Rattle.dd_minimal.specs.finding.Numbers.{IsWord, number, open_strides, least_number, KeepsBelow}
 use Rattle.dd_minimal.specs.finding.{Outcomes.outcome, Outcomes.outcomes, Outcomes.does_break, Walks.is_enough}
 
--- the first k cells are thinned to p, and the rest is whole; ds and `from` are the strides and the number of that pattern
+-- The first k cells are thinned to p, and the rest is whole. For that pattern, ds are the strides of the cells left out, and
+-- `from` is its least number.
 pub record IsThinnedTo (m : ℕ) (table : List Outcome) (ss : List ℕ) (k : ℕ) (p : List (Option ℕ)) (ds : List ℕ) (from : ℕ) : Type 0 where
   pub as_many : length p ≡ k
   pub below : KeepsBelow m p
@@ -16,7 +17,7 @@ pub record IsThinnedTo (m : ℕ) (table : List Outcome) (ss : List ℕ) (k : ℕ
   pub least : from ≡ least_number m (p ++ whole (drop k ss))
   pub enough : is_enough m table (p ++ whole (drop k ss)) ≡ true
 
--- all cells are thinned
+-- the same after all cells
 pub record IsThinned (m : ℕ) (table : List Outcome) (ss : List ℕ) (p : List (Option ℕ)) (ds : List ℕ) (from : ℕ) : Type 0 where
   pub pattern : p ≡ thinned (is_enough m table) ss
   pub as_many : length p ≡ length ss

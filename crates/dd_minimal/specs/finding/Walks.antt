@@ -1,4 +1,4 @@
--- Walks over the fillings that agree with a pattern. They go from a number along the strides of the cells left out.
+-- Walks over the fillings that agree with a pattern. They begin at a number and go along the strides of the cells left out.
 use Rattle.std.specs.Prelude.{ℕ, ◌+◌, ◌*◌, not, Bool, true, Option, List, [], ◌∷◌, slice_index_or, slice_set}
 use Rattle.std.specs.List.{range_with_len, list_all, fold}
 use Rattle.dd_minimal.specs.declared.outcome.Outcome.{Outcome, TheVariants.Barred}
