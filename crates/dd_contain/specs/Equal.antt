@@ -1,4 +1,4 @@
--- Whether two rules allow the same configurations.
+-- Whether two rules allow the same configurations. Here the answer YES is called Same, NO is Differ, and unknown is Open.
 use Rattle.std.specs.Prelude.{ℕ, ◌≡◌}
 use Rattle.dd_derivation.specs.Sizes.{AreNumbered}
 use Rattle.dd_formula.specs.LocalRule.{LocalRule}
@@ -10,7 +10,8 @@ use Rattle.dd_contain.specs.declared.equal.Equality.TheVariants.{Yes as Same, No
 use Rattle.dd_contain.specs.Questions.{IsDecided}
 use Rattle.dd_problem.specs.Problems.{box_problem}
 
--- the join of two answers: NO left if the left one is NO, or NO right if the right one is, or YES if both are
+-- The join of two answers. It is NO on the left if the left one is NO, else NO on the right if the right one is NO, else YES if
+-- both are YES, else unknown.
 abbrev pub joined : Decision → Decision → Equality
 joined (No tile) right = Differ Left tile
 joined (Yes n steps) (No tile) = Differ Right tile
@@ -35,7 +36,7 @@ pub record IsEqualDecided (x y : LocalRule) (n p : ℕ) (equality : Equality) : 
   pub right_decided : UnlessNo left (IsDecided y (breaks x) n p right)
   pub join : equality ≡ joined left right
 
--- the evidence of a YES is numbered
+-- both questions of a YES have at most 2^24 variables, and the numbers of their clauses and steps fit in 64 bits
 abbrev pub HasBothNumbers : LocalRule → LocalRule → Equality → Type 0
 HasBothNumbers x y (Same left right) =
     AreNumbered (box_problem x (breaks y) left.radius) left.steps × AreNumbered (box_problem y (breaks x) right.radius) right.steps
@@ -46,5 +47,5 @@ HasBothNumbers x y Open = Unit {0}
 pub record IsEquality (x y : LocalRule) (n p : ℕ) (equality : Equality) : Type 0 where
   -- It is the join of the answers of the two questions.
   pub decided : IsEqualDecided x y n p equality
-  -- The evidence of a YES is numbered.
+  -- The variables, clauses and steps of a YES keep their bounds.
   pub numbered : HasBothNumbers x y equality

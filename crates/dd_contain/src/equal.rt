@@ -16,7 +16,7 @@ use dd_pattern::Periodic;
 use dd_values::Limits;
 use std::alloc::{AllocError, Global};
 
-/// One of the two rules, as the premise of a question.
+/// Which of the two rules is the premise of a question.
 #[derive(Debug, Clone, Copy, PartialEq, Eq)]
 pub enum Half {
     /// The first rule.
@@ -28,7 +28,7 @@ pub enum Half {
 /// The answer of the question whether two rules allow the same configurations.
 #[derive(Debug, Drop)]
 pub enum Equality {
-    /// No configuration of either rule breaks the other. Each comes with the least radius that suffices.
+    /// No configuration of either rule breaks the other. For each of the two questions this has the least radius that suffices.
     Yes { left: Enough, right: Enough },
     /// A configuration of this side's rule that breaks the other rule.
     No { side: Half, periodic: Periodic },

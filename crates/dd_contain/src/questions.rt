@@ -31,14 +31,14 @@ fn evidence(alloc: Global, cnf: &Cnf, steps: Items<Step>) -> Result<Items<Step>,
     ensures numbered { IfOk result (AreNumbered cnf.now) }
 {
     let used = trimmed(alloc, cnf, steps)?;
-    // Read for their bounds alone.
+    // These calls tell the proof the bounds of these numbers.
     let _variable = cnf.variables();
     let _number = last_number(cnf, used.as_slice());
     Ok(used)
 }
 
-/// Whether the clauses can be satisfied. It is the proposal of an engine of the roster, if one makes a right proposal.
-/// Otherwise it is what the search finds in this style.
+/// Whether the clauses can be satisfied, with evidence. This is the proposal of an engine of the roster, if one makes a right
+/// proposal. Otherwise it is what the solver finds in this style.
 fn outcome<E: Engine>(
     alloc: Global,
     cnf: &Cnf,
@@ -59,7 +59,7 @@ fn outcome<E: Engine>(
 /// A torus of at least this many positions is searched in the focused style.
 const LARGE_TORUS: u32 = 25;
 
-/// The style of search for these periods. A contradiction on a small torus involves few cells, as on a box.
+/// The style of search for these periods. A small torus is searched in the broad style, as a box is.
 fn style_of(at: &Periods) -> Style {
     if at.x.saturating_mul(at.y).saturating_mul(at.z) >= LARGE_TORUS {
         Style::Focused
@@ -68,7 +68,8 @@ fn style_of(at: &Periods) -> Style {
     }
 }
 
-/// The style of search for a box. Whether two automata agree depends on their gates more than on the cells.
+/// The style of search for a box. It is broad, except for the question whether two automata agree: that depends on their gates
+/// more than on the cells.
 fn box_style(goal: &Goal) -> Style {
     match goal {
         Goal::Differ(_, _) => Style::Focused,
@@ -76,7 +77,7 @@ fn box_style(goal: &Goal) -> Style {
     }
 }
 
-/// The question whether no configuration that obeys the premise has the goal.
+/// The question whether no configuration that obeys the premise has the goal at any position.
 #[derive(Clone, Copy)]
 struct BoxQuestion<'a> {
     alloc: Global,
@@ -125,7 +126,7 @@ impl<'a> Questions for BoxQuestion<'a> {
         match outcome(self.alloc, &cnf, style_of(at), roster)? {
             Outcome::Found(found) => {
                 let periodic = read_torus(self.alloc, self.premise, periods, at.shear, &found)?;
-                // This read brings in what the type guarantees.
+                // This call tells the proof what the type guarantees.
                 let _symbols = periodic.symbols();
                 Ok(Some(periodic))
             }
@@ -137,8 +138,8 @@ impl<'a> Questions for BoxQuestion<'a> {
 /// Decides a box question. The radius of boxes is at most that of the limits, or the goal's least radius if that is greater.
 /// Periods are at most that of the limits. The answer is:
 /// - YES, with the least radius that suffices;
-/// - otherwise NO, with a configuration that obeys the premise and has the goal at the origin. Its periods and shear are the
-///   first of all such configurations, by volume and then in lexicographic order;
+/// - otherwise NO, with a configuration that obeys the premise and has the goal at the origin. Its periods and shear come first
+///   among those of all such configurations, ordered by volume and then lexicographically;
 /// - otherwise unknown.
 ///
 /// Each list of clauses goes to the roster first, without a copy. If no engine proposes a right answer, the solver decides.
@@ -168,7 +169,7 @@ pub fn decide<E: Engine>(
     kept_is_reflexive();
     let least = least_radius(alloc, goal)?;
     let most = limits.radius.max(least);
-    // Read for what their types keep.
+    // These calls tell the proof what the types of the premise and the goal guarantee.
     let _symbols = premise.symbols();
     keeps_rule(goal);
     let question = BoxQuestion {

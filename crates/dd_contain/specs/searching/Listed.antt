@@ -6,7 +6,7 @@ use Rattle.dd_pattern.specs.{declared.periods.Periods.Periods, Periods.AreWithin
 abbrev pub NoneBefore : (Periods → Type 0) → List Periods → ℕ → Type 0
 NoneBefore T ps n = (k : ℕ) (q : Periods) → k < n → slice_get ps k ≡ Some q → T q → ⊥
 
--- p is the first in the list that satisfies T
+-- p is the first in the list that satisfies T; its index is `place`
 pub record IsFirstOf (T : Periods → Type 0) (ps : List Periods) (p : Periods) : Type 0 where
   pub place : ℕ
   pub stands : slice_get ps place ≡ Some p
