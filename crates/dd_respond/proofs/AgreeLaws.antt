@@ -1,4 +1,5 @@
--- Two right answers to a question differ only in their evidence: there is one least radius, one first period, one first cell.
+-- Two right answers to a question differ only in their evidence: there is one least radius, and the first periods and the
+-- first cell are unique.
 use Rattle.std.proofs.Common.{◌≡◌, ℕ, ◌≤◌, List, [], ◌∷◌, refl, ap, sym, subst, ◌∙◌, arith, inl, inr}
 use Rattle.std.proofs.lemmas.{Bool.cases_order, Cmp.nat_cmp_total, Cmp.on_total, Cmp.then_total}
 use Rattle.std.specs.{Prelude.◌⊎◌, Prelude.max, declared.cmp.Ordering.Ordering}

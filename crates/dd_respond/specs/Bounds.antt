@@ -16,7 +16,7 @@ use Rattle.dd_certificate.specs.declared.answer.Answer.TheVariants as answer
 
 -- ---- least densities
 
--- the answer that a least density gives, or a strip on which no configuration lives
+-- the answer that a least density gives, or the one that says that no configuration lives on the strip
 abbrev pub written_density : Density → Answer
 written_density (density.Least p q walk potentials) = answer.Density p q walk potentials
 written_density (density.Empty ranks) = answer.Empty ranks
@@ -33,7 +33,7 @@ pub data IsRightDensity (x : LocalRule) (strip ws : List ℕ) : Answer → Type 
 abbrev pub written_bound : Bound → Answer
 written_bound b = answer.Bound b.numerator b.denominator b.common b.amounts b.duals
 
--- the reason in the answer for each fault of a discharge but Memory
+-- the reason that the answer gives for each fault of a discharge, except when memory ran out
 pub data IsReasonOf : DischargeFault → Reason → Type 0 where
   for_large : IsReasonOf fault.Large reason.Large
   for_overflow : IsReasonOf fault.Overflow reason.Overflow

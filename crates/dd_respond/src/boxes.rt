@@ -19,7 +19,7 @@ use dd_pattern::Periodic;
 use dd_values::{Items, Limits};
 use std::alloc::{AllocError, Global};
 
-/// The same numbers, as numbers of 64 bits, which answers have.
+/// The same numbers in 64 bits, as answers write them.
 pub(crate) fn widened(alloc: Global, numbers: &[u32]) -> Result<Items<u64>, AllocError>
     ensures same { IfOk result (λ wide. wide ≡ numbers.now) }
     ensures writable { IfOk result (All IsWritableNumber) }
@@ -92,7 +92,7 @@ fn written_equality(alloc: Global, equality: Equality) -> Result<Answer, AllocEr
     }
 }
 
-/// The answer to a box question within the limits. The roster is asked first.
+/// The answer to a box question within the limits. The engines of the roster are asked first.
 pub(crate) fn decided<E: Engine>(
     alloc: Global,
     premise: &Rule,
@@ -111,7 +111,8 @@ pub(crate) fn decided<E: Engine>(
     written_decision(alloc, decision)
 }
 
-/// The answer to the question whether two rules allow the same configurations, within the limits. The roster is asked first.
+/// The answer to the question whether two rules allow the same configurations, within the limits. The engines of
+/// the roster are asked first.
 pub(crate) fn compared<E: Engine>(
     alloc: Global,
     left: &Rule,

@@ -28,7 +28,7 @@ struct Findings {
     radii: Items<u64>,
     /// The steps of each YES.
     steps: Items<Items<Step>>,
-    /// Whether some question was left open.
+    /// Whether the limits left some question undecided.
     is_open: bool,
 }
 
@@ -65,7 +65,7 @@ impl Findings {
     }
 }
 
-/// Decides the question with this number. The roster is asked first.
+/// Decides the question with this number. The engines of the roster are asked first.
 fn part_decided<E: Engine>(
     alloc: Global,
     conjugacy: &Conjugacy,

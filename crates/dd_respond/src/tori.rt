@@ -13,7 +13,7 @@ use dd_formula::Rule;
 use std::alloc::{AllocError, Global};
 
 /// The answer that a least weight gives. It has a configuration of this weight, and steps that refute smaller weights. If no
-/// configuration lives, the answer has steps that refute that one does.
+/// configuration lives in the rule's subshift, the answer has steps that refute that any does.
 fn written_weight(alloc: Global, found: LeastWeight) -> Result<Answer, AllocError>
     ensures { IfOk result (λ answer. answer ≡ written_weight found) }
 {
@@ -43,7 +43,7 @@ pub(crate) fn lightest(
     ensures writable { IfOk result IsWritable }
 {
     refutations_fit();
-    // This read brings in what the type guarantees.
+    // This call tells the proof what the type guarantees.
     let _nodes = rule.nodes();
     let found = least_weight(alloc, rule, periods, weights)?;
     written_weight(alloc, found)

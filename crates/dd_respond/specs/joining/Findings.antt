@@ -25,7 +25,7 @@ pub record AreFound (l : Limits) (c : ConjugacyOf) (number : ℕ) (f : Findings)
   pub radii : All IsWritableNumber f.radii
   pub steps : All IsWritableRefutation f.steps
 
--- the first of the four questions that is answered NO, with this configuration
+-- `f` is the first of the four questions that is answered NO, with a configuration that shows it
 pub record IsFailed (l : Limits) (c : ConjugacyOf) (f : Failed) : Type 0 where
   pub first : IsLeast (IsNoAt l c) 1 4 f.number
   pub no : ComesTo l c f.number (decision.No f.periodic)
