@@ -9,8 +9,8 @@ use Rattle.dd_solver.specs.{declared.analysis.Backjump.Backjump, declared.analys
 use Rattle.dd_solver.specs.searching.Analysis.{marks, ChoiceSays, Asserts}
 use Rattle.dd_solver.proofs.{Forcing.in_left, Forcing.in_cases, Forcing.in_one, Forcing.forced_from, Trails.apart}
 
--- The backjump's literal belongs to an entry at or above its place. The others are false before that place. Nothing is
--- marked from there up to place i.
+-- The backjump's literal belongs to an entry at its place or later. The other learned literals are false before that place. No
+-- entry from that place to before place i is marked.
 pub record BackjumpOk (trail : List Entry) (i : ℕ) (marked : List Bool) (learned : List Literal) (t : Backjump) : Type 0 where
   pub top : (u : ℕ) × (t.place ≤ u) × (u < length trail) × ((d : Entry) → t.literal ≡ negation (get_or trail u d).literal)
   pub decided : (d : Entry) → (get_or trail t.place d).reason ≡ None
@@ -26,7 +26,7 @@ pub backjump_past : (trail : List Entry) (j : ℕ) (marked : List Bool) (learned
 backjump_past trail j marked learned None h = h
 backjump_past trail j marked learned (Some t) h = record { top = h.top; decided = h.decided; member = h.member; others = h.others; between = λ k d a b. h.between k d a (omega arith) }
 
--- a marked entry stands before the backjump's place
+-- an entry that is marked, and before those walked so far, stands before the backjump's place
 before : (trail : List Entry) (j : ℕ) (d : Entry) (marked : List Bool) (learned : List Literal) (t : Backjump) → marks marked (get_or trail j d).literal ≡ true → BackjumpOk trail (j + 1) marked learned t → j < t.place
 before trail j d marked learned t m h = elim (cases_lt j t.place) [ inl b ↦ b | inr b ↦ absurd (false≢true (sym (h.between j d b (omega arith)) ∙ m)) ]
 

@@ -1,8 +1,8 @@
 //! The clause learned from a conflict: that of the first unique implication point (Marques-Silva and Sakallah 1999).
 //! The trail is walked down from the conflict. An entry whose variable is marked is resolved or kept. If it is
 //! resolved, the variables of the clause that forced it are marked too. If it is kept, its negation goes into the
-//! learned clause. Either way the numbers of the resolved clauses are hints that show that the learned clause
-//! follows. So no contract says what is best to keep.
+//! learned clause. Whatever is kept, the numbers of the conflict's clause and of the resolved clauses are hints that
+//! show that the learned clause follows. So no contract says what is best to keep.
 ghost use Rattle.std.specs.Prelude.{◌≡◌, ℕ, ◌<◌, ◌≤◌, true, [], length, IfOk, MatchOption, slice_index_or, ⊤};
 ghost use Rattle.dd_clause.specs.Clauses.{IsLiteralInRange, IsClauseInRange};
 ghost use Rattle.dd_derivation.specs.declared.propagation.Finding.TheVariants.{Falsified};
@@ -16,8 +16,8 @@ use dd_clause::Literal;
 use dd_trail::{Database, Entry, Order, Style, Trail};
 use std::alloc::{AllocError, Global};
 
-/// Where the search goes back to: the place of a decision on the trail, and the literal that is forced there once the
-/// entries from that place on are taken back.
+/// Where the search goes back to: the place of a decision on the trail, and the literal that the learned clause forces once
+/// the entries from that place on are taken back.
 #[derive(Clone, Copy)]
 pub(crate) struct Backjump {
     pub place: usize,
@@ -32,7 +32,8 @@ pub(crate) struct Learned {
     pub backjump: Option<Backjump>,
 }
 
-/// What to do with an entry: resolve it with the clause of this number, or keep it. The first one kept determines the backjump.
+/// What to do with a marked entry: resolve it with the clause of this number, which forced it, or keep it. The first entry kept
+/// determines the backjump.
 #[derive(Clone, Copy)]
 pub(crate) enum Choice {
     Resolve(u64),
@@ -45,7 +46,8 @@ fn is_marked(marked: &[bool], literal: Literal) -> bool {
     variable >= 1 && variable <= marked.len() && marked[variable - 1]
 }
 
-/// Marks the variables of the literals. Returns how many newly marked ones got their values since the last decision.
+/// Marks the variables of the literals. Returns how many of the newly marked ones are latest: they got their values by the last
+/// decision or since.
 fn mark_literals(trail: &Trail, marked: &mut [bool], literals: &[Literal]) -> usize
     requires { IsClauseInRange (length marked.old) literals.now }
     ensures grows { Grows marked.old marked.new }
@@ -86,7 +88,7 @@ fn adds_nothing(database: &Database, marked: &[bool], number: u64, literal: Lite
     true
 }
 
-/// The place of the lowest decision, at or below `top`, from which on no entry below `top` is marked.
+/// The place of the earliest decision, at or before `top`, such that no entry from it to before `top` is marked.
 fn find_place(entries: &[Entry], marked: &[bool], top: usize) -> Option<usize>
     requires top { top < length entries.now }
     requires in_range { (k : ℕ) (d : Entry) → k < length entries.now → IsLiteralInRange (length marked.now) (slice_index_or entries.now k d).literal }
@@ -108,7 +110,8 @@ fn find_place(entries: &[Entry], marked: &[bool], top: usize) -> Option<usize>
     place
 }
 
-/// The backjump that makes the literal of the entry at this place false, if an early enough decision allows one.
+/// The backjump that makes the literal of the entry at this place false. `None` if no decision, at this place or
+/// before it, comes after all earlier marked entries.
 fn backjump_at(entries: &[Entry], marked: &[bool], place: usize) -> Option<Backjump>
     requires place { place < length entries.now }
     requires in_range { (k : ℕ) (d : Entry) → k < length entries.now → IsLiteralInRange (length marked.now) (slice_index_or entries.now k d).literal }
@@ -121,7 +124,7 @@ fn backjump_at(entries: &[Entry], marked: &[bool], place: usize) -> Option<Backj
     }
 }
 
-/// The same at the place of a decision, which always allows one.
+/// The same for the place of a decision, where there always is a backjump.
 fn backjump_at_decision(entries: &[Entry], marked: &[bool], place: usize) -> Backjump
     requires place { place < length entries.now }
     requires decided { (d : Entry) → (slice_index_or entries.now place d).reason ≡ None }
@@ -137,9 +140,9 @@ fn backjump_at_decision(entries: &[Entry], marked: &[bool], place: usize) -> Bac
     }
 }
 
-/// What to do with the marked entry at this place, where `open` earlier marked ones got their values since the last
-/// decision. Until one is kept, an entry is resolved unless it is the only one left. After that, it is resolved if
-/// its clause adds nothing or if it comes before each decision.
+/// What to do with the marked entry at this place. `open` is the number of earlier marked entries that are latest. While
+/// none is kept, a forced entry is resolved if `open` is above 0, and else kept if there is a backjump. After that, it is
+/// resolved if its clause adds nothing or if it comes before each decision.
 fn choose(
     database: &Database,
     trail: &Trail,
@@ -177,7 +180,8 @@ fn choose(
     }
 }
 
-/// Walks down the trail, beginning with the marks of the clause of this number, whose literals are all false.
+/// Learns a clause by the walk down the trail. It begins by marking the variables of the clause of this number, whose literals
+/// are all false.
 fn walk_down(
     alloc: Global,
     database: &Database,
@@ -232,7 +236,7 @@ fn take_mark(marked: &mut [bool], literal: Literal) -> bool {
     false
 }
 
-/// Unmarks a clause's variables. Those that got their values after a decision become more active.
+/// Unmarks a clause's variables. Those that were marked and are not fixed become more active.
 fn bump_marked(order: &mut Order, trail: &Trail, marked: &mut [bool], literals: &[Literal]) {
     for literal in literals {
         if take_mark(marked, *literal) && !trail.is_fixed(literal.variable) {
@@ -274,7 +278,7 @@ fn mark_reasons(database: &Database, trail: &Trail, marked: &mut [bool], literal
     }
 }
 
-/// Makes each marked variable of these clauses more active once, and unmarks it.
+/// Calls `bump_marked` for the clauses that forced the values of these literals' variables.
 fn bump_reasons(
     order: &mut Order,
     database: &Database,
@@ -291,7 +295,7 @@ fn bump_reasons(
     }
 }
 
-/// Makes the variables of the learned clause more active once again, and then each variable of the clauses that forced their values.
+/// Makes the variables of the learned clause more active once again, and then those of the clauses that forced their values.
 fn bump_again(
     order: &mut Order,
     database: &Database,
@@ -306,8 +310,8 @@ fn bump_again(
     bump_reasons(order, database, trail, marked, literals);
 }
 
-/// Learns a clause from the one of this number, whose literals are all false. The variables of the clauses that it
-/// follows from become more active. In a broad style of order, some become more active a second time.
+/// Learns a clause from the one of this number, whose literals are all false. The variables of the clauses in its hints
+/// become more active. In the broad style, some become more active a second time.
 pub(crate) fn learn(
     alloc: Global,
     database: &Database,

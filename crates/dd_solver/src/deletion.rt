@@ -1,6 +1,7 @@
 //! Which learned clauses are deleted, and when. A clause's levels are the decision levels at which its literals got their
-//! values: the fewer, the more it is worth (Audemard and Simon 2009). A review deletes the worse half of the learned clauses,
-//! but no clause that forced a literal of the trail. The choice is checked exactly, so no contract rests on what is kept here.
+//! values. The fewer there are, the more the clause is worth (Audemard and Simon 2009). A review deletes the worse half of the
+//! learned clauses that it may delete. No clause that forced a literal of the trail is deleted. The choice is checked exactly, so
+//! no contract rests on the counts kept here.
 ghost use Rattle.std.specs.Prelude.{◌≡◌, ℕ, List, ◌<◌, false, length, IfOk, Some, slice_index_or};
 ghost use Rattle.dd_clause.specs.declared.clause.Literal.{Literal};
 ghost use Rattle.dd_solver.specs.searching.Deleting.{AreChosen, MayDelete};
@@ -12,10 +13,10 @@ use std::alloc::{AllocError, Global};
 /// The number of learned clauses at the first review.
 const FIRST_REVIEW: usize = 4000;
 
-/// The gap before the first review. The gap is the number of clauses learned from one review to the next.
+/// The gap at the start. The gap is the number of clauses learned from one review to the next.
 const FIRST_GAP: usize = 2000;
 
-/// How much each review adds to the gap.
+/// How much each review adds to the gap, before the gap sets the next review.
 const GAP_GROWTH: usize = 300;
 
 /// A clause of at most this many levels is never deleted.
@@ -24,8 +25,8 @@ const KEPT_LEVELS: u32 = 2;
 /// A clause of at most this many literals is never deleted.
 const KEPT_LENGTH: usize = 2;
 
-/// A learned clause that may be deleted. The least candidates are kept: first those of few levels, then short ones, then new
-/// ones.
+/// A learned clause that may be deleted. The lesser half of the candidates is kept. Less is a clause of fewer levels, among these a
+/// shorter one, and among these a newer one.
 #[derive(Clone, Copy, PartialEq, Eq, PartialOrd, Ord)]
 struct Candidate {
     levels: u32,
@@ -38,17 +39,17 @@ struct Candidate {
 pub(crate) struct Deletion {
     /// How many levels each learned clause has.
     levels: Vec<u32>,
-    /// For each level, the number of the last count of levels that saw it.
+    /// For each level, the number of the last count in which it occurred. So a count needs no clearing.
     counted: Vec<u64>,
-    /// How often levels were counted.
+    /// How many counts were made so far.
     counts: u64,
-    /// How many clauses are learned when the next review is due.
+    /// The next review is due when this many clauses are learned.
     next: usize,
     /// How many clauses are learned from one review to the next.
     gap: usize,
 }
 
-/// Takes each clause that forced an entry out of the chosen ones. `chosen[k]` belongs to the clause of number k.
+/// Unchooses each clause that forced an entry. `chosen[k]` belongs to the clause of number k.
 fn spare_reasons(entries: &[Entry], chosen: &mut [bool])
     ensures { AreChosen entries.now chosen.new }
 {
@@ -62,7 +63,7 @@ fn spare_reasons(entries: &[Entry], chosen: &mut [bool])
     }
 }
 
-/// The chosen numbers after those of the list's clauses, as far as they have a clause.
+/// The numbers of the chosen learned clauses that are alive. The list has `clauses` clauses.
 fn take_chosen(
     alloc: Global,
     database: &Database,
@@ -96,7 +97,7 @@ impl Deletion {
         })
     }
 
-    /// How many levels the literals have.
+    /// How many decision levels the literals have, not counting level 0.
     fn count_levels(&mut self, trail: &Trail, literals: &[Literal]) -> u32 {
         self.counts = self.counts.saturating_add(1);
         let mut count = 0u32;
@@ -110,7 +111,7 @@ impl Deletion {
         count
     }
 
-    /// The place of a clause's number of levels, if it is a learned one.
+    /// The index in `levels` of the clause of this number, if it is a learned one.
     fn place(&self, clauses: usize, number: u64) -> Option<usize> {
         let number = number as usize;
         if number > clauses && number - clauses <= self.levels.len() {
@@ -119,7 +120,7 @@ impl Deletion {
         None
     }
 
-    /// Counts the levels of the clause of this number anew, if it is a learned one. The lesser count is kept.
+    /// Counts the levels of the clause of this number anew, if it is a learned one. The lower of the old and the new count is kept.
     fn lower(&mut self, database: &Database, trail: &Trail, clauses: usize, number: u64) {
         let Some(place) = self.place(clauses, number) else {
             return;
@@ -132,7 +133,7 @@ impl Deletion {
         }
     }
 
-    /// The chosen learned clauses that have enough levels and literals to be deleted.
+    /// The chosen learned clauses that are alive, and have more levels and literals than those that are always kept.
     fn find_candidates(
         &self,
         alloc: Global,
@@ -158,7 +159,7 @@ impl Deletion {
         Ok(candidates)
     }
 
-    /// For each number, whether it is to be deleted: the worse half of those that may be.
+    /// For each clause number, whether the clause is to be deleted: the worse half of those that may be.
     fn choose(
         &self,
         alloc: Global,

@@ -1,6 +1,7 @@
 //! The search (Marques-Silva and Sakallah 1999, Eén and Sörensson 2003): propagate; at a conflict learn a clause and
 //! go back to where it forces a literal; else decide a variable. Each learned clause is a step of a refutation. The
-//! search ends because the trail, read as a number in base 3, rises with each propagation, decision and backjump.
+//! search ends, because the trail, read as a number in base 3, rises with each propagation, decision and backjump.
+//! The contracts call `left` how far this number is from its bound.
 ghost use Rattle.std.specs.Prelude.{◌≡◌, ℕ, ◌+◌, ◌<◌, ◌≤◌, ◌^◌, ◌++◌, ◌∷◌, [], true, false, List, length, All, IfOk, OnOk, OnErr, MatchOption, IsTrue, ◌↔◌};
 ghost use Rattle.dd_clause.specs.declared.clause.Literal.{Literal};
 ghost use Rattle.dd_clause.specs.Clauses.{IsClauseInRange, Satisfies};
@@ -124,7 +125,7 @@ impl<'a> Search<'a> {
         }
     }
 
-    /// Makes a literal true whose variable has no value. Returns false if each variable has one.
+    /// Decides a variable that has no value. Returns false if each variable has one.
     fn decide(&mut self) -> Result<bool, AllocError>
         ensures same { (self.new.variables ≡ self.old.variables) × (self.new.clauses ≡ self.old.clauses) × (self.new.steps ≡ self.old.steps) }
         ensures decided { result ≡ Ok true → left self.new < left self.old }
@@ -140,7 +141,8 @@ impl<'a> Search<'a> {
         Ok(true)
     }
 
-    /// Learns a clause from a falsified one, as a further step. Returns where to go back to, or nothing if the steps refute the clauses.
+    /// Learns a clause from a falsified one, as a further step. Returns where to go back to. `None` if the steps now refute the
+    /// clauses.
     fn analyse(&mut self, alloc: Global, conflict: u64) -> Result<Option<Backjump>, AllocError>
         requires { IsFalsified self.old conflict }
         ensures same { (self.new.variables ≡ self.old.variables) × (self.new.clauses ≡ self.old.clauses) × (self.new.entries ≡ self.old.entries) }
@@ -177,7 +179,7 @@ impl<'a> Search<'a> {
         Ok(learned.backjump)
     }
 
-    /// Goes back to before a decision, and makes the literal true that the last step forces there.
+    /// Takes back all entries from a decision on, and makes the literal true that the last step's clause then forces.
     fn backtrack(&mut self, backjump: Backjump) -> Result<(), AllocError>
         requires { IsForced self.old backjump }
         ensures same { (self.new.variables ≡ self.old.variables) × (self.new.clauses ≡ self.old.clauses) × (self.new.steps ≡ self.old.steps) }
@@ -194,7 +196,7 @@ impl<'a> Search<'a> {
         Ok(())
     }
 
-    /// The values of the variables, once each has one and no clause is falsified.
+    /// The values of the variables, where each has one and no clause is falsified. They satisfy the clauses.
     fn assignment(&self, alloc: Global) -> Result<Assignment, AllocError>
         requires open { AreOpen self.now }
         requires full { IsFull self.now.variables self.now.entries }
@@ -210,7 +212,8 @@ impl<'a> Search<'a> {
         Items::from_vec(self.steps)
     }
 
-    /// Searches until an assignment satisfies the clauses or the steps refute them. Returns no assignment in the second case.
+    /// Searches until an assignment satisfies the clauses or the steps refute them. Returns the assignment. `None` if they are
+    /// refuted.
     fn settle(&mut self, alloc: Global) -> Result<Option<Assignment>, AllocError>
         ensures same { (self.new.variables ≡ self.old.variables) × (self.new.clauses ≡ self.old.clauses) }
         ensures settled { IfOk result (λ found. MatchOption found (refutes self.new.variables self.new.clauses self.new.steps ≡ true)
@@ -228,7 +231,7 @@ impl<'a> Search<'a> {
         }
     }
 
-    /// Searches to the end.
+    /// Searches to the end, and returns the outcome.
     fn run(mut self, alloc: Global) -> Result<Outcome, AllocError>
         ensures { IfOk result (IsAnswer self.entry.variables self.entry.clauses) }
     {
@@ -248,7 +251,7 @@ pub fn solve(alloc: Global, cnf: &Cnf) -> Result<Outcome, AllocError>
     solve_with(alloc, cnf, Style::Broad)
 }
 
-/// Solves in a style of search. The style changes how long it takes, and which assignment or which steps it finds.
+/// Like `solve`, in a style of search. The style changes how long it takes, and which assignment or which steps it finds.
 pub fn solve_with(alloc: Global, cnf: &Cnf, style: Style) -> Result<Outcome, AllocError>
     ensures answer { IfOk result (IsAnswer cnf.now.variables cnf.now.clauses) }
     ensures found { IfOk result (λ outcome. IsFound outcome ↔ IsSatisfiable cnf.now.clauses) }

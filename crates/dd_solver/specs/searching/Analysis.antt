@@ -23,30 +23,30 @@ AreMarked marked c = (l : Literal) → is_among c l ≡ true → marks marked l 
 abbrev pub IsMarkedClause : List (Option (List Literal)) → List Bool → ℕ → Type 0
 IsMarkedClause known marked r = MatchOption (clause_of known r) ⊤ (AreMarked marked)
 
--- the hints show that the learned clause follows, and its variables are distinct
+-- the hints show that the learned clause follows, and its variables are distinct and in range
 abbrev pub is_rightly_learned : ℕ → List (Option (List Literal)) → List Literal → List ℕ → Bool
 is_rightly_learned n known learned hints = is_proper n learned && is_conflict known learned hints
 
--- the place of a decision, with nothing marked from there up to a higher place
+-- p is the place of a decision, and no entry from there to before the place `top` is marked
 pub record IsPlace (trail : List Entry) (marked : List Bool) (top p : ℕ) : Type 0 where
   pub from : p ≤ top
   pub decided : (d : Entry) → (slice_index_or trail p d).reason ≡ None
   pub between : (k : ℕ) (d : Entry) → p ≤ k → k < top → marks marked (slice_index_or trail k d).literal ≡ false
 
--- The backjump goes back to before a decision at or below the place, with nothing marked between. It makes the literal at the
--- place false.
+-- The backjump goes back to before a decision at the place or earlier. No entry from that decision to before the place is
+-- marked. The backjump makes the literal at the place false.
 pub record IsBackjump (trail : List Entry) (marked : List Bool) (place : ℕ) (backjump : Backjump) : Type 0 where
   pub at : IsPlace trail marked place backjump.place
   pub literal : (d : Entry) → backjump.literal ≡ negation (slice_index_or trail place d).literal
 
--- The entry at the place was forced by the clause that it is resolved with, or its literal is kept. The first literal kept
--- determines the backjump.
+-- The choice is right. If the entry is resolved, the clause of this number forced it. If it is the first one kept, its backjump
+-- fits its place. If another was kept before, the backjump stays the same.
 abbrev pub ChoiceSays : List Entry → List Bool → Option Backjump → ℕ → Choice → Type 0
 ChoiceSays trail marked backjump place (Resolve r) = (d : Entry) → (slice_index_or trail place d).reason ≡ Some r
 ChoiceSays trail marked None place (Keep t) = IsBackjump trail marked place t
 ChoiceSays trail marked (Some u) place (Keep t) = t ≡ u
 
--- the learned clause forces the backjump's literal before the decision at its place
+-- the backjump's place is that of a decision, and just before it the learned clause forces the backjump's literal
 pub record Asserts (trail : List Entry) (learned : List Literal) (backjump : Backjump) : Type 0 where
   pub within : backjump.place < length trail
   pub decided : (d : Entry) → (slice_index_or trail backjump.place d).reason ≡ None

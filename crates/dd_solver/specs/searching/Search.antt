@@ -20,11 +20,12 @@ pub record State : Type 0 where
 abbrev pub after_step : List (Option (List Literal)) → Step → List (Option (List Literal))
 after_step before s = known_after before s.deletes ++ Some s.clause ∷ []
 
+-- the known clauses after several steps
 abbrev pub known_through : List (Option (List Literal)) → List Step → List (Option (List Literal))
 known_through before [] = before
 known_through before (s ∷ steps) = known_through (after_step before s) steps
 
--- the clauses and the learned ones, by number, without those that were deleted
+-- the clauses of the list and the learned ones, by number, without those that were deleted
 abbrev pub known : State → List (Option (List Literal))
 known s = known_through (all_known s.clauses) s.steps
 
@@ -41,7 +42,7 @@ pub record IsSearch (s : State) : Type 0 where
   pub trail : IsTrail s.variables (known s) s.entries
   pub derived : is_derived s.variables (all_known s.clauses) s.steps ≡ true
 
--- the list tells which clauses are known, of those given and those learned
+-- of the given clauses and the learned ones, the list tells which are known
 pub record AreAlive (clauses : List (List Literal)) (steps : List Step) (alive : List Bool) : Type 0 where
   pub as_many : length alive ≡ length clauses + length steps
   pub same : known_to clauses steps alive ≡ known_through (all_known clauses) steps
@@ -54,18 +55,19 @@ AreOpen s = (r : ℕ) → hint_finding (known s) (is_among (falses s.entries)) r
 abbrev pub IsFalsified : State → ℕ → Type 0
 IsFalsified s r = hint_finding (known s) (is_among (falses s.entries)) r ≡ Falsified
 
--- the entry at the backjump's place was decided, and the clause of the last number forces the backjump's literal before it
+-- the backjump's place is that of a decision, and just before it the last step's clause forces the backjump's literal
 pub record IsForced (s : State) (backjump : Backjump) : Type 0 where
   pub within : backjump.place < length s.entries
   pub decided : (d : Entry) → (slice_index_or s.entries backjump.place d).reason ≡ None
   pub forces : hint_finding (known s) (is_among (falses (take backjump.place s.entries))) (length s.clauses + length s.steps) ≡ Forced backjump.literal
 
--- the last step forces a literal before a decision, or the steps refute the clauses
+-- what the analysis of a conflict leaves: with a backjump, the last step's clause forces its literal; without one, the steps refute
 abbrev pub GoesOn : State → Option Backjump → Type 0
 GoesOn s backjump = MatchOption backjump (refutes s.variables s.clauses s.steps ≡ true) (IsForced s)
 
--- The trail read as a number of n digits in base 3, the first entry first. A forced entry is the digit 2, a decided one 1,
--- and a free place 0. The number rises with each propagation, decision and backjump, and is below 3 ^ n.
+-- The trail is read as a number of n digits in base 3, the first entry first. A forced entry is the digit 2, a decided one
+-- the digit 1, and a place without an entry the digit 0. The number rises with each propagation, decision and backjump. It is
+-- below 3 ^ n.
 abbrev pub digit : Bool → ℕ
 digit is_decided = if is_decided then 1 else 2
 
@@ -74,6 +76,7 @@ trail_number n [] = 0
 trail_number zero (d ∷ ds) = 0
 trail_number (suc n) (d ∷ ds) = digit d * 3 ^ n + trail_number n ds
 
+-- for each entry, whether it was decided
 abbrev pub decisions : List Entry → List Bool
 decisions trail = map (λ e. is_none e.reason) trail
 
