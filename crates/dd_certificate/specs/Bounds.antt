@@ -1,4 +1,4 @@
--- The answers that an output can hold: their numbers are within bounds, and their lists are as long as their lines allow.
+-- The answers that an output can hold: their numbers are within bounds, and their lists have lengths that an output allows.
 use Rattle.std.specs.Prelude.{ℕ, ℤ, ◌≡◌, ◌≤◌, ◌⊎◌, ◌^◌, ◌-◌, List, [], All, Option, Some, None, length, unsigned_abs}
 use Rattle.dd_values.specs.Bounds.{most_variables}
 pub use Rattle.dd_values.specs.Bounds.{most_number}
@@ -17,7 +17,7 @@ IsWritableNumber n = n ≤ most_number
 abbrev pub IsWritableSigned : ℤ → Type 0
 IsWritableSigned z = unsigned_abs z ≤ most_number
 
--- a denominator is at least 1
+-- the denominator of a fraction: at least 1
 abbrev pub IsWritableDenominator : ℕ → Type 0
 IsWritableDenominator n = (1 ≤ n) × (n ≤ most_number)
 
@@ -25,7 +25,7 @@ IsWritableDenominator n = (1 ≤ n) × (n ≤ most_number)
 abbrev pub IsWritableHint : ℕ → Type 0
 IsWritableHint n = (1 ≤ n) × (n ≤ most_count)
 
--- a line can hold this step
+-- an output can hold this step
 abbrev pub IsWritableStep : Step → Type 0
 IsWritableStep s = All (IsLiteralInRange most_variables) s.clause × All IsWritableHint s.hints × All IsWritableHint s.deletes
 
@@ -42,7 +42,7 @@ IsWritableSymbolOrStar (Some n) = IsWritableNumber n
 abbrev pub IsWritableStarred : Starred → Type 0
 IsWritableStarred p = IsWritableNumber p.node × All IsWritableSymbolOrStar p.symbols
 
--- a list with at least one entry
+-- a list of numbers with at least one entry
 abbrev pub IsWritableList : List ℕ → Type 0
 IsWritableList ns = (1 ≤ length ns) × All IsWritableNumber ns
 
@@ -59,7 +59,7 @@ IsWritableConfiguration periods shear symbols =
 abbrev pub IsWritablePart : ℕ → Type 0
 IsWritablePart part = (1 ≤ part) × (part ≤ 4)
 
--- the steps refute the weights below this one, and below 0 there are none
+-- no steps if the weight is 0; otherwise steps, which refute the lower weights
 abbrev pub IsWritableBelow : ℕ → List Step → Type 0
 IsWritableBelow weight steps = ((weight ≡ 0) × (steps ≡ [])) ⊎ ((1 ≤ weight) × IsWritableRefutation steps)
 

@@ -1,4 +1,4 @@
--- The text of an answer. Its lines hold words and numbers, with one space between them. Each line has a line feed.
+-- The text of an answer. Its lines hold words and numbers, with one space between them. Each line ends with a line feed.
 use Rattle.std.specs.Prelude.{ℕ, ℤ, List, [], ◌∷◌, ◌++◌, length, codes, ◌==◌, if◌then◌else◌, Option, Some, None}
 use Rattle.std.specs.{List.flat_map, Fmt.decimal, Fmt.signed_decimal}
 use Rattle.dd_clause.specs.declared.clause.Literal.{Literal}
@@ -23,14 +23,14 @@ signed_after_space z = codes " " ++ signed_decimal z
 abbrev pub spaced_out : List ℕ → List ℕ
 spaced_out ns = flat_map after_space ns
 
--- the end of a line that ends with these numbers
+-- these numbers, and the line feed: the end of a line
 abbrev pub numbers_to_end : List ℕ → List ℕ
 numbers_to_end ns = spaced_out ns ++ line_feed
 
 abbrev pub signed_to_end : List ℤ → List ℕ
 signed_to_end zs = flat_map signed_after_space zs ++ line_feed
 
--- the end of a line that ends with this fraction
+-- this fraction, and the line feed
 abbrev pub fraction_to_end : ℕ → ℕ → List ℕ
 fraction_to_end numerator denominator = decimal numerator ++ (codes "/" ++ (decimal denominator ++ line_feed))
 
@@ -48,14 +48,14 @@ spaced_literal l = literal_text l ++ codes " "
 abbrev pub spaced : ℕ → List ℕ
 spaced n = decimal n ++ codes " "
 
--- numbers, then the 0 that ends them and the byte `next`
+-- numbers, then the 0 that ends them and the byte `next`: 32 is a space, 10 a line feed
 abbrev pub numbers_to_zero : ℕ → List ℕ → List ℕ
 numbers_to_zero next ns = flat_map spaced ns ++ (codes "0" ++ next ∷ [])
 
 abbrev pub literals_to_zero : List Literal → List ℕ
 literals_to_zero ls = flat_map spaced_literal ls ++ codes "0 "
 
--- the line of a step: its clause's literals, its hints and its deletes
+-- the line of a step: its clause's literals, its hints, and the numbers of the clauses that it deletes
 abbrev pub step_text : Step → List ℕ
 step_text s = codes "step " ++ (literals_to_zero s.clause ++ (numbers_to_zero 32 s.hints ++ numbers_to_zero 10 s.deletes))
 
@@ -92,7 +92,7 @@ symbol_or_star_text (Some n) = decimal n
 abbrev pub symbol_or_star_after_space : Option ℕ → List ℕ
 symbol_or_star_after_space s = codes " " ++ symbol_or_star_text s
 
--- the end of a line that ends with these symbols and stars
+-- these symbols and stars, and the line feed
 abbrev pub symbols_and_stars_to_end : List (Option ℕ) → List ℕ
 symbols_and_stars_to_end symbols = flat_map symbol_or_star_after_space symbols ++ line_feed
 
@@ -102,15 +102,15 @@ starred_text p = codes "pattern " ++ (decimal p.node ++ symbols_and_stars_to_end
 abbrev pub yes_both_text : ℕ → ℕ → List ℕ
 yes_both_text left right = codes "YES " ++ (decimal left ++ (codes " " ++ (decimal right ++ line_feed)))
 
--- the end of a line that ends with these periods and this shear
+-- these periods and this shear, and the line feed
 abbrev pub periods_to_end : List ℕ → ℕ → List ℕ
 periods_to_end periods shear = spaced_out periods ++ (shear_text shear ++ line_feed)
 
--- the side, the periods and the shear
+-- the first line of `No`: the side, the periods and the shear
 abbrev pub no_text : Side → List ℕ → ℕ → List ℕ
 no_text side periods shear = codes "NO" ++ (side_text side ++ periods_to_end periods shear)
 
--- the number of the question, the periods and the shear
+-- the first line of `Broken`: the number of the question, the periods and the shear
 abbrev pub broken_text : ℕ → List ℕ → ℕ → List ℕ
 broken_text part periods shear = codes "BROKEN " ++ (decimal part ++ periods_to_end periods shear)
 
@@ -122,7 +122,7 @@ number_line word n = word ++ (decimal n ++ line_feed)
 abbrev pub numbers_line : List ℕ → List ℕ → List ℕ
 numbers_line word ns = word ++ numbers_to_end ns
 
--- the first line of an answer, without the query's number
+-- the first line of an answer, without the word `query` and the query's number
 abbrev pub verdict_text : Answer → List ℕ
 verdict_text answer.Inside = codes "IN\n"
 verdict_text (answer.Outside place) = codes "OUT" ++ signed_to_end place
@@ -140,7 +140,7 @@ verdict_text (answer.Broken part periods shear symbols) = broken_text part perio
 verdict_text (answer.Least weight symbols steps) = number_line (codes "LEAST ") weight
 verdict_text (answer.Nothing steps) = codes "NONE\n"
 
--- a line with the length of the cycle and its states, and a line with the potentials
+-- the further lines of `Density`: one with the length of the cycle and its states, and one with the potentials
 abbrev pub density_lines : List ℕ → List ℤ → List ℕ
 density_lines cycle potentials =
     codes "cycle " ++ (decimal (length cycle) ++ (numbers_to_end cycle ++ (codes "potentials" ++ signed_to_end potentials)))
@@ -151,7 +151,7 @@ amounts_and_duals_text amounts duals = numbers_line (codes "amounts") amounts ++
 abbrev pub bound_lines : ℕ → List ℕ → List ℕ → List ℕ
 bound_lines common amounts duals = number_line (codes "denominator ") common ++ amounts_and_duals_text amounts duals
 
--- the line of the configuration, and a refutation if the weight isn't 0
+-- the further lines of `Least`: one with the symbols, and a refutation if the weight isn't 0
 abbrev pub least_lines : ℕ → List ℕ → List Step → List ℕ
 least_lines weight symbols steps = numbers_line (codes "conf") symbols ++ (if weight == 0 then [] else refutation_text steps)
 

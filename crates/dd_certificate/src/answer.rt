@@ -26,7 +26,7 @@ pub enum Reason {
     Pivots,
 }
 
-/// A pattern that a rule forbids at a node: the symbols of the cells that the rule reads there.
+/// A pattern in the answer `List`. A rule forbids it at a node. It has a symbol for each cell that the rule reads there.
 #[derive(Debug, Drop)]
 pub struct Listed {
     /// The node's number, from 0.
@@ -35,7 +35,8 @@ pub struct Listed {
     pub symbols: Items<u64>,
 }
 
-/// A pattern that a rule forbids at a node. Some of the cells that the rule reads there may be left out: their symbols don't matter.
+/// A pattern in the answer `Minimal`. A rule forbids it at a node. Some of the cells that the rule reads there may be left out:
+/// their symbols don't matter.
 #[derive(Debug, Drop)]
 pub struct Starred {
     /// The node's number, from 0.
@@ -57,17 +58,20 @@ pub enum Answer {
     },
     /// The claim holds.
     Yes {
+        /// The radius of a box.
         radius: u64,
-        /// They refute the contrary on the box of this radius.
+        /// They refute the claim's negation on this box.
         steps: Items<Step>,
     },
-    /// The claim holds in both directions. Each has a refutation on a box of its own.
+    /// The claim holds in both directions. Each direction has a refutation on a box of its own.
     YesBoth {
         /// The radius of the first box.
         left: u64,
         /// The radius of the second box.
         right: u64,
+        /// They refute the negation of the first direction on the first box.
         left_steps: Items<Step>,
+        /// The same for the second direction and the second box.
         right_steps: Items<Step>,
     },
     /// The claim doesn't hold, as a periodic configuration shows.
@@ -88,19 +92,19 @@ pub enum Answer {
     List {
         patterns: Items<Listed>,
     },
-    /// The least mean weight of a position of the strip, as a fraction. It is the least over the configurations of the subshift
+    /// The least mean weight per position of the strip, as a fraction. It is the least over the configurations of the subshift
     /// that have the strip's periods.
     Density {
         numerator: u64,
         denominator: u64,
-        /// The states of a cycle that has this mean.
+        /// The states of a cycle of the transfer graph that has this mean.
         cycle: Items<u64>,
-        /// One for each state. They show that no cycle has a smaller mean.
+        /// One for each state. They show that no cycle has a lower mean.
         potentials: Items<i64>,
     },
     /// No configuration of the subshift has the strip's periods.
     Empty {
-        /// One for each state. They fall along each edge, so no walk goes on forever.
+        /// One for each state of the transfer graph. They fall along each edge, so no walk goes on forever.
         ranks: Items<u64>,
     },
     /// A lower bound of the mean weight, as a fraction.
@@ -109,26 +113,26 @@ pub enum Answer {
         denominator: u64,
         /// The denominator of all amounts and duals.
         common: u64,
-        /// The numerators of what cells send.
+        /// The numerators of the amounts that cells send.
         amounts: Items<u64>,
         /// The numerators of factors, one for each pattern's row of the linear program. They show that no amounts give a greater
         /// bound.
         duals: Items<u64>,
     },
-    /// The minimal forbidden patterns. No other cell of theirs can be left out.
+    /// The minimal forbidden patterns of the rule. No further cell of any of them can be left out.
     Minimal {
         patterns: Items<Starred>,
     },
-    /// The four questions of a conjugacy hold.
+    /// The answer to each of the four questions of a conjugacy is yes.
     Conjugate {
         /// The radius of a box for each question.
         radii: Items<u64>,
-        /// For each question the steps that refute the contrary on its box.
+        /// For each question, the steps that refute its negation on its box.
         steps: Items<Items<Step>>,
     },
-    /// One of the four questions doesn't hold, as a periodic configuration shows. It is given as in `No`.
+    /// The answer to one of the four questions is no, as a periodic configuration shows. The configuration is given as in `No`.
     Broken {
-        /// The number of the question, from 1.
+        /// The number of the question, from 1 to 4.
         part: u64,
         periods: Items<u64>,
         shear: u64,
@@ -139,12 +143,12 @@ pub enum Answer {
         weight: u64,
         /// The symbols of the cells of a box that has this weight, in cell order.
         symbols: Items<u64>,
-        /// They refute that a box weighs less. There are none if the weight is 0.
+        /// They refute that some box weighs less. There are none if the weight is 0.
         steps: Items<Step>,
     },
     /// No configuration of the subshift has the periods.
     Nothing {
-        /// They refute that there is one.
+        /// They refute that there is such a configuration.
         steps: Items<Step>,
     },
 }

@@ -1,4 +1,4 @@
-//! Numbers in decimal, appended to a text without an allocation of their own.
+//! Numbers in decimal, appended to a text. The digits need no allocation of their own.
 ghost use Rattle.std.specs.Prelude.{◌≡◌, ◌++◌, OnOk};
 ghost use Rattle.std.specs.Fmt.{decimal, signed_decimal};
 
@@ -8,7 +8,7 @@ use std::alloc::AllocError;
 pub fn push_decimal(text: &mut Vec<u8>, number: u64) -> Result<(), AllocError>
     ensures { OnOk result (text.new.items ≡ text.old.items ++ decimal number) }
 {
-    // no number of 64 bits has more than 20 digits
+    // A number of 64 bits has at most 20 digits.
     let mut digits = [b'0'; 20];
     let mut at = 19;
     let mut rest = number;

@@ -80,7 +80,7 @@ fn push_number_line(text: &mut Vec<u8>, word: &[u8], number: u64) -> Result<(), 
     Ok(())
 }
 
-/// Ends a line with a fraction.
+/// Ends a line with a fraction, as numerator, slash and denominator.
 fn push_fraction_to_end(
     text: &mut Vec<u8>,
     numerator: u64,
@@ -215,7 +215,7 @@ fn push_minimal(text: &mut Vec<u8>, patterns: &[Starred]) -> Result<(), AllocErr
     push_number_line(text, b"MINIMAL ", patterns.len() as u64)
 }
 
-/// Appends the first line of an answer, without the query's number.
+/// Appends the first line of an answer, without the word `query` and the query's number.
 fn push_verdict(text: &mut Vec<u8>, answer: &Answer) -> Result<(), AllocError>
     ensures { OnOk result (text.new.items ≡ text.old.items ++ verdict_text answer.now) }
 {
@@ -256,7 +256,7 @@ fn push_verdict(text: &mut Vec<u8>, answer: &Answer) -> Result<(), AllocError>
     }
 }
 
-/// Appends two refutations.
+/// Appends the lines of two refutations.
 fn push_two_refutations(text: &mut Vec<u8>, left: &[Step], right: &[Step]) -> Result<(), AllocError>
     ensures { OnOk result (text.new.items ≡ text.old.items ++ (refutation_text left.now ++ refutation_text right.now)) }
 {
@@ -327,7 +327,7 @@ fn push_starred_patterns(text: &mut Vec<u8>, patterns: &[Starred]) -> Result<(),
     Ok(())
 }
 
-/// Appends a refutation for each of the lists of steps.
+/// Appends the lines of several refutations.
 fn push_each_refutation(text: &mut Vec<u8>, lists: &[Items<Step>]) -> Result<(), AllocError>
     ensures { OnOk result (text.new.items ≡ text.old.items ++ flat_map refutation_text lists.now) }
 {
@@ -337,7 +337,7 @@ fn push_each_refutation(text: &mut Vec<u8>, lists: &[Items<Step>]) -> Result<(),
     Ok(())
 }
 
-/// Appends the line of the configuration, and a refutation if the weight isn't 0.
+/// Appends the lines that follow the first one of `Least`: the symbols, and a refutation if the weight isn't 0.
 fn push_least_lines(
     text: &mut Vec<u8>,
     weight: u64,
@@ -353,7 +353,7 @@ fn push_least_lines(
     Ok(())
 }
 
-/// Appends the lines of the cycle and of the potentials.
+/// Appends the lines that follow the first one of `Density`: the cycle and the potentials.
 fn push_density_lines(
     text: &mut Vec<u8>,
     cycle: &[u64],
