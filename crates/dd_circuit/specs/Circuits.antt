@@ -17,7 +17,7 @@ size_of inputs gates = inputs + length gates
 abbrev pub size : Network → ℕ
 size circuit = size_of circuit.inputs circuit.gates
 
--- the signal that has the variable's value
+-- the signal that is the variable itself
 abbrev pub signal_of : ℕ → Signal
 signal_of variable = record { variable = variable; positive = true }
 
@@ -29,13 +29,13 @@ opposite s = record { variable = s.variable; positive = not s.positive }
 abbrev pub IsSignal : ℕ → Signal → Type 0
 IsSignal n s = (1 ≤ s.variable) × (s.variable ≤ n)
 
--- the gate is over the variables 1..n
+-- the members of the gate are over the variables 1..n
 abbrev pub IsGate : ℕ → Gate → Type 0
 IsGate n (And members) = All (IsSignal n) members
 IsGate n (Or members) = All (IsSignal n) members
 IsGate n (Iff a b) = IsSignal n a × IsSignal n b
 
--- each gate is over the variables 1..n and those of the gates before it
+-- each gate is over the variables 1..n and those of the gates before it; the first gate has the variable n + 1
 abbrev pub AreGates : ℕ → List Gate → Type 0
 AreGates n [] = Unit {0}
 AreGates n (g ∷ gs) = IsGate n g × AreGates (suc n) gs
@@ -44,13 +44,13 @@ AreGates n (g ∷ gs) = IsGate n g × AreGates (suc n) gs
 abbrev pub signal_value : (ℕ → Bool) → Signal → Bool
 signal_value set s = if s.positive then set s.variable else not (set s.variable)
 
--- the value of a gate: whether all members are true, some member is, or both have the same value
+-- the value of a gate: whether all members are true, whether some member is, or whether both have the same value
 abbrev pub gate_value : (ℕ → Bool) → Gate → Bool
 gate_value set (And members) = list_all (signal_value set) members
 gate_value set (Or members) = list_any (signal_value set) members
 gate_value set (Iff a b) = beq (signal_value set a) (signal_value set b)
 
--- Whether the variables n + 1, n + 2, .. have the values of these gates.
+-- whether the variables n + 1, n + 2, .. have the values of these gates
 abbrev pub agrees : (ℕ → Bool) → ℕ → List Gate → Bool
 agrees set n [] = true
 agrees set n (g ∷ gs) = beq (set (suc n)) (gate_value set g) && agrees set (suc n) gs

@@ -3,7 +3,7 @@ use Rattle.std.specs.Prelude.{◌≡◌, ℕ, Bool, true, List, [], ◌∷◌, �
 use Rattle.dd_values.specs.Variables.{true_variables}
 use Rattle.dd_circuit.specs.{declared.gates.Gate.Gate, Circuits.Network, Circuits.size, Circuits.gate_value, Circuits.agrees}
 
--- the values of all variables: those of the first ones are given, and each gate adds its own, which depends on the values so far
+-- The values of all variables. Those of the first variables are given. Each gate adds its value, computed from the values so far.
 abbrev pub values_from : List Bool → List Gate → List Bool
 values_from values [] = values
 values_from values (g ∷ gs) = values_from (values ++ gate_value (true_variables values) g ∷ []) gs

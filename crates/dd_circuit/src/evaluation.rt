@@ -9,7 +9,7 @@ use crate::gates::{Circuit, Gate, Signal};
 use std::alloc::{AllocError, Global};
 
 impl Circuit {
-    /// The values of all variables, where the inputs have these values. Entry k is the value of variable k + 1.
+    /// The values of all variables, where the inputs have these values. The variable k has the value at index k - 1.
     /// Fails only if memory runs out.
     pub fn values(&self, alloc: Global, inputs: &[bool]) -> Result<Vec<bool>, AllocError>
         requires { length inputs.now ≡ self.now.inputs }

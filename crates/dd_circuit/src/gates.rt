@@ -1,5 +1,5 @@
 //! Circuits and their gates. The variables are numbered from 1: first the inputs, and then the gates in order. So no gate
-//! stores its variable. The members of a gate are over earlier variables.
+//! stores its variable. The members of a gate are the signals that it combines. They are over earlier variables.
 ghost use Rattle.std.specs.Prelude.{◌≡◌, ◌+◌, ◌<◌, ◌≤◌, ◌∷◌, ◌++◌, [], All, IfOk, OnErr};
 ghost use Rattle.dd_values.specs.Bounds.{most_variables};
 ghost use Rattle.dd_circuit.specs.Circuits.{IsSignal, IsGate, AreGates, size, signal_of, opposite};
@@ -29,14 +29,14 @@ impl Signal {
     }
 }
 
-/// A gate over signals. `And` of no signal is true, and `Or` of none is false.
+/// A gate over signals, its members. `And` of no signals is true, and `Or` of none is false.
 #[derive(Debug, PartialEq, Drop)]
 pub enum Gate {
-    /// True if all signals are true.
+    /// True if all members are true.
     And(Items<Signal>),
-    /// True if some signal is true.
+    /// True if some member is true.
     Or(Items<Signal>),
-    /// True if both signals are true or both are false.
+    /// True if both members are true or both are false.
     Iff(Signal, Signal),
 }
 
@@ -62,7 +62,7 @@ impl Model for Circuit {
 }
 
 impl Circuit {
-    /// A circuit with inputs only. It takes no memory until a gate is added.
+    /// A circuit with inputs only. It allocates nothing until a gate is added.
     pub fn new(alloc: Global, inputs: u32) -> Circuit
         requires { inputs ≤ most_variables }
         ensures inputs { result.inputs ≡ inputs }

@@ -1,4 +1,4 @@
--- Lists of gates: one more gate, the gate at an index, and more variables.
+-- Lists of gates: adding a gate, the gate at an index, and gates over more variables.
 use Rattle.std.proofs.Common.{◌≡◌, ℕ, zero, suc, ◌+◌, ◌<◌, ◌≤◌, List, [], ◌∷◌, ◌++◌, length, drop, arith, get_or}
 use Rattle.std.proofs.lemmas.List.Elements.{All-weaker, All-nil, All-cons}
 use Rattle.dd_circuit.specs.declared.gates.{Signal.Signal, Gate.Gate}
@@ -14,7 +14,7 @@ AreGates-append n (g ∷ gs) hs first rest =
 pub AreGates-snoc : (n : ℕ) (gs : List Gate) (g : Gate) → AreGates n gs → IsGate (n + length gs) g → AreGates n (gs ++ g ∷ [])
 AreGates-snoc n gs g first last = AreGates-append n gs (g ∷ []) first (last, tt)
 
--- the gates from index k on
+-- the gates from index k on are over the variables 1..n + k and those of the gates before them
 pub AreGates-drop : (n : ℕ) (gs : List Gate) (k : ℕ) → AreGates n gs → k ≤ length gs → AreGates (n + k) (drop k gs)
 AreGates-drop n gs zero ok few = let e : n + 0 ≡ n = omega arith in rw e ok
 AreGates-drop n [] (suc k) ok few = absurd (omega arith)
