@@ -20,7 +20,7 @@ module _ {X : Type 0} (front : List X) (g : ℕ → X) (q : ℕ → Bool) (n : �
       ∙ (so_far
       ∙ ap (λ xs. front ++ map g xs) (sym (filter_push q n false here ∙ append-nil (filter q (range_with_len 0 n)))))
 
--- after the last step
+-- the list after the last step
 pub whole : {X : Type 0} (front : List X) (g : ℕ → X) (q : ℕ → Bool) (n m : ℕ) (parts : List X) → parts ≡ front ++ map g (filter q (range_with_len 0 n)) → n ≡ m →
     parts ≡ front ++ map g (filter q (range_with_len 0 m))
 whole front g q n m parts so_far same = so_far ∙ ap (λ k. front ++ map g (filter q (range_with_len 0 k))) same

@@ -5,7 +5,7 @@ use Rattle.dd_pattern.specs.Reading.{Look}
 use Rattle.dd_formula.specs.{LocalRule.LocalRule, LocalRule.is_true, LocalRule.rule_allows, Automata.value}
 use Rattle.dd_formula.specs.declared.automaton.Automaton.{Automaton}
 
--- the automaton's value at every cell
+-- the image of a look-up: the automaton's value at every cell
 abbrev pub image : Automaton → Look → Look
 image f look c = Some (value f look c)
 
@@ -25,6 +25,7 @@ BreaksAt f y look c = (rule_allows y c.node (value f look c) ≡ false) ⊎ (is_
 abbrev pub GivesBackAt : Automaton → Automaton → Look → Cell → Type 0
 GivesBackAt f g look c = image f (image g look) c ≡ look c
 
+-- that image has another symbol there, or the cell has no symbol
 abbrev pub ChangesAt : Automaton → Automaton → Look → Cell → Type 0
 ChangesAt f g look c = GivesBackAt f g look c → ⊥
 
@@ -32,13 +33,15 @@ ChangesAt f g look c = GivesBackAt f g look c → ⊥
 abbrev pub HasSymbolAt : ℕ → Look → Cell → Type 0
 HasSymbolAt k look c = (t : ℕ) × (t < k) × (look c ≡ Some t)
 
--- at some of the n nodes of a position, or at each
+-- P holds at some of the n nodes of a position
 abbrev pub AtSomeNode : ℕ → (Cell → Type 0) → Place → Type 0
 AtSomeNode n P v = (a : ℕ) × (a < n) × P (cell v a)
 
+-- P holds at each of them
 abbrev pub AtEachNode : ℕ → (Cell → Type 0) → Place → Type 0
 AtEachNode n P v = (a : ℕ) → a < n → P (cell v a)
 
+-- the automata give some cell of the position different symbols
 abbrev pub Differ : ℕ → Automaton → Automaton → Look → Place → Type 0
 Differ n f g look v = AtSomeNode n (DifferAt f g look) v
 
@@ -50,5 +53,6 @@ ImageBreaks f y look v = AtSomeNode y.nodes (BreaksAt f y look) v
 abbrev pub Changes : ℕ → Automaton → Automaton → Look → Place → Type 0
 Changes n f g look v = AtSomeNode n (ChangesAt f g look) v
 
+-- each cell of the position has one of the first k symbols
 abbrev pub HasSymbols : ℕ → ℕ → Look → Place → Type 0
 HasSymbols n k look v = AtEachNode n (HasSymbolAt k look) v

@@ -1,4 +1,5 @@
-//! The guarded formula of a rule: the rule is true at the cell, and the cell's symbol is one that its node allows.
+//! The guarded formula of a rule. It says that the rule is true at the cell, and that the cell's symbol is one that its node
+//! allows.
 ghost use Rattle.std.specs.Prelude.{◌≡◌, ◌<◌, ◌≤◌, length, map, IfOk};
 ghost use Rattle.dd_formula.specs.LocalRule.{IsRule};
 ghost use Rattle.dd_maps.specs.Guarded.{here, symbol_is, guard, allows_all, guarded_nodes};
@@ -19,7 +20,7 @@ fn here(alloc: Global) -> Term
     }
 }
 
-/// The cell's symbol is this one. The formula allocates no memory.
+/// The formula: the cell's symbol is this one. It allocates nothing.
 pub(crate) fn symbol_is(alloc: Global, symbol: u32) -> Formula
     ensures { result ≡ symbol_is symbol }
 {
@@ -27,7 +28,7 @@ pub(crate) fn symbol_is(alloc: Global, symbol: u32) -> Formula
     Formula::Symbol { term, symbol }
 }
 
-/// The cell doesn't have this node.
+/// The formula: the cell doesn't have this node.
 fn other_node(alloc: Global, node: u32) -> Result<Formula, AllocError>
     ensures { IfOk result (λ f. f ≡ Formula.Not (Formula.Node here node)) }
 {
@@ -49,7 +50,7 @@ fn allows_all(sets: &Sets, node: u32) -> bool
     true
 }
 
-/// The cell doesn't have this node, or its symbol is one that the node allows.
+/// The guard of a node, as a formula: the cell doesn't have this node, or its symbol is one that the node allows.
 fn guard(alloc: Global, sets: &Sets, node: u32) -> Result<Formula, AllocError>
     requires { node < length sets.now.allowed }
     ensures { IfOk result (λ f. f ≡ guard sets.now node) }
@@ -64,7 +65,7 @@ fn guard(alloc: Global, sets: &Sets, node: u32) -> Result<Formula, AllocError>
     Ok(Formula::Or(parts))
 }
 
-/// The guards of those of the first `nodes` nodes that don't allow every symbol.
+/// The guards of the nodes that don't allow every symbol, among the first `nodes` nodes.
 fn guards(alloc: Global, sets: &Sets, nodes: u32) -> Result<Vec<Formula>, AllocError>
     requires { nodes ≤ length sets.now.allowed }
     ensures { IfOk result (λ guards. guards.items ≡ map (guard sets.now) (guarded_nodes sets.now nodes)) }
@@ -78,8 +79,8 @@ fn guards(alloc: Global, sets: &Sets, nodes: u32) -> Result<Vec<Formula>, AllocE
     Ok(guards)
 }
 
-/// The guarded formula: the rule's formula, and the guards. Where each node allows every symbol, it is the rule's own
-/// formula.
+/// The guarded formula: the conjunction of the rule's formula and the guards. If every node allows all symbols, it is the
+/// rule's own formula.
 pub(crate) fn guarded(alloc: Global, sets: &Sets, rule: &Rule) -> Result<Formula, AllocError>
     requires { rule.now.nodes ≤ length sets.now.allowed }
     ensures value { IfOk result (λ f. f ≡ guarded_of sets.now rule.now) }
