@@ -1,4 +1,4 @@
--- Sums and products that need no greatest common divisor, or that of smaller numbers.
+-- Sums and products that need no greatest common divisor, or only that of smaller numbers.
 use Rattle.std.proofs.Common.{◌≡◌, ℕ, suc, ◌+◌, ◌*◌, ◌^◌, ◌<◌, ◌≤◌, ◌-◌, ◌⊎◌, inl, inr, sym, ap, subst, ◌∙◌, arith, Some, true}
 use Rattle.std.proofs.lemmas.{Bool.lt-ltb, Bool.ltb-true, Int.ints, Int.by_lt_z, Int.unsigned_abs-mul}
 use Rattle.std.proofs.lemmas.Nat.Gcd.{same_from_IsGcd}

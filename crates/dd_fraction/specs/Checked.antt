@@ -1,4 +1,4 @@
--- Sums, products and quotients whose intermediate numbers are all at most 2^127 - 1 in absolute value. Such a number fits.
+-- Sums, products and quotients, if each intermediate number fits: if it is at most 2^127 - 1 in absolute value.
 use Rattle.std.specs.Prelude.{◌≡◌, ℕ, suc, ◌*◌, ◌<◌, ◌≤◌, ◌^◌, Bool, not, ◌&&◌, Option, Some, None, cond}
 use Rattle.std.specs.{Bool.nat_eq, Bool.nat_lt, Int.RustNames.unsigned_abs}
 use lib.IntN.{ℤ, pos, negsuc, neg_ℤ, ◌+ℤ◌, ◌*ℤ◌}
@@ -23,16 +23,17 @@ pub record IsFraction (a : Exact) : Type 0 where
   pub bounded : unsigned_abs a.num < 2 ^ 127
   pub coprime : greatest_common (unsigned_abs a.num) a.den ≡ 1
 
--- a fraction whose numerator and denominator have 16 bits
+-- a fraction whose numerator and denominator fit 16 bits
 pub record IsSmall (a : Exact) : Type 0 where
   pub above : 0 < a.den
   pub below : a.den < 2 ^ 16
   pub bounded : unsigned_abs a.num ≤ 2 ^ 15
 
--- whether the two products fit, before the result is brought to lowest terms
+-- whether the products of the numerators and of the denominators fit, before the result is brought to lowest terms
 abbrev pub does_product_fit : Exact → Exact → Bool
 does_product_fit a b = is_bounded (a.num *ℤ b.num) && is_bounded (pos (a.den * b.den))
 
+-- the product, if its intermediate numbers fit
 abbrev pub checked_product : Exact → Exact → Option Exact
 checked_product a b = cond (does_product_fit a b) (Some (times a b)) None
 
@@ -47,6 +48,7 @@ does_sum_fit a b =
     && (is_bounded (b.num *ℤ pos a.den)
     && (is_bounded (a.num *ℤ pos b.den +ℤ b.num *ℤ pos a.den) && is_bounded (pos (a.den * b.den))))
 
+-- the sum, if its intermediate numbers fit
 abbrev pub checked_sum : Exact → Exact → Option Exact
 checked_sum a b = cond (does_sum_fit a b) (Some (plus a b)) None
 
@@ -54,6 +56,7 @@ checked_sum a b = cond (does_sum_fit a b) (Some (plus a b)) None
 abbrev pub does_less_product_fit : Exact → Exact → Exact → Bool
 does_less_product_fit a q b = does_product_fit q b && does_sum_fit a (minus (times q b))
 
+-- a - q · b, if the intermediate numbers fit
 abbrev pub checked_less_product : Exact → Exact → Exact → Option Exact
 checked_less_product a q b = cond (does_less_product_fit a q b) (Some (plus a (minus (times q b)))) None
 
@@ -66,5 +69,6 @@ signed_over n (negsuc d) = lowest (neg_ℤ n) (suc d)
 abbrev pub does_pair_fit : ℤ → ℤ → Bool
 does_pair_fit n d = not (nat_eq (unsigned_abs d) 0) && (is_bounded n && is_bounded d)
 
+-- n over d in lowest terms, if d is not 0 and both are bounded
 abbrev pub fraction_of : ℤ → ℤ → Option Exact
 fraction_of n d = cond (does_pair_fit n d) (Some (signed_over n d)) None

@@ -1,4 +1,4 @@
--- The greatest common divisor of two whole numbers.
+-- The greatest common divisor of two natural numbers.
 use Rattle.std.specs.Prelude.{ℕ, zero, suc, ◌%◌}
 
 -- at most n steps of Euclid's algorithm (Elements, book VII)
@@ -7,6 +7,6 @@ common_within zero a b = a
 common_within (suc n) a zero = a
 common_within (suc n) a (suc b) = common_within n (suc b) (a % suc b)
 
--- the greatest common divisor: b decreases in each step, so b + 1 steps suffice
+-- the greatest common divisor: b decreases in each step of Euclid's algorithm, so b + 1 steps suffice
 unfoldable pub greatest_common : ℕ → ℕ → ℕ
 greatest_common a b = common_within (suc b) a b

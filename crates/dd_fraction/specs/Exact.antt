@@ -44,7 +44,7 @@ minus a = record { num = neg_ℤ a.num; den = a.den }
 unfoldable pub times : Exact → Exact → Exact
 times a b = lowest (a.num *ℤ b.num) (den_of a * den_of b)
 
--- d over n for an n other than 0, with the sign in the numerator
+-- d over n, where n is not 0; the sign goes to the numerator
 abbrev pub one_over : ℤ → ℕ → Exact
 one_over (pos n) d = record { num = pos d; den = n }
 one_over (negsuc n) d = record { num = neg_ℤ (pos d); den = suc n }

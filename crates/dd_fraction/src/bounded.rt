@@ -16,7 +16,7 @@ pub fn product(a: i128, b: i128) -> Option<i128>
     }
 }
 
-/// A product of machine words, which is always bounded.
+/// The product of two machine words, which is always at most 2^127 - 1 in absolute value.
 #[inline(always)]
 fn word_product(a: i64, b: i64) -> i128
     ensures value { result ≡ a *ℤ b }
@@ -25,6 +25,7 @@ fn word_product(a: i64, b: i64) -> i128
     i128::from(a) * i128::from(b)
 }
 
+/// The product of any two numbers, or `None` if it is greater than 2^127 - 1 in absolute value.
 fn wide_product(a: i128, b: i128) -> Option<i128>
     ensures { result ≡ bounded (a *ℤ b) }
 {
@@ -45,7 +46,7 @@ pub fn sum(a: i128, b: i128) -> Option<i128>
     }
 }
 
-/// The sum of two machine words, which is always bounded. `None` if one of the two is not a machine word.
+/// The sum of two machine words with a sign, which is never too large. `None` if one of the two is not such a word.
 #[inline(always)]
 pub fn word_sum(a: i128, b: i128) -> Option<i128>
     ensures value { IfSome result (λ s. s ≡ a +ℤ b) }
@@ -70,6 +71,7 @@ pub fn size_product(a: u128, b: u128) -> Option<u128>
     }
 }
 
+/// The product of any two sizes, or `None` if it is greater than 2^127 - 1.
 fn wide_size_product(a: u128, b: u128) -> Option<u128>
     ensures { result ≡ bounded_size (a * b) }
 {
@@ -79,6 +81,7 @@ fn wide_size_product(a: u128, b: u128) -> Option<u128>
     }
 }
 
+/// The size, or `None` if it is greater than 2^127 - 1.
 #[inline(always)]
 fn if_bounded(size: u128) -> Option<u128>
     ensures { result ≡ bounded_size size }

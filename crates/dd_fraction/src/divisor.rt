@@ -28,8 +28,8 @@ pub fn greatest_common_divisor(a: u128, b: u128) -> u128
     word_divisor(y as u64, (x % y) as u64) as u128
 }
 
-/// The greatest common divisor of two machine words. After a step of Euclid's algorithm, common factors of 2 are taken out
-/// until one of the two numbers is odd.
+/// The greatest common divisor of two machine words. Each round makes a step of Euclid's algorithm, and takes out a common
+/// factor of 2 if both numbers are then even. Once one of them is odd, the binary algorithm takes over.
 fn word_divisor(a: u64, b: u64) -> u64
     ensures { result ≡ greatest_common a b }
 {
@@ -105,7 +105,7 @@ pub fn quotient(num: i128, divisor: u128) -> i128
     }
 }
 
-/// The quotient of a size and a divisor that is not 0, rounded down.
+/// The quotient of a number without sign and a divisor that is not 0, rounded down.
 #[inline(always)]
 pub fn size_quotient(size: u128, divisor: u128) -> u128
     requires { 0 < divisor }

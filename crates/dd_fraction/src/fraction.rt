@@ -90,7 +90,8 @@ impl Fraction {
     }
 
     /// The sum. `None` if a cross product, the sum of the cross products, or the product of the denominators is greater than
-    /// 2^127 - 1 in absolute value, even if the sum in lowest terms would fit.
+    /// 2^127 - 1 in absolute value, even if the sum in lowest terms would fit. A cross product is a numerator times the other
+    /// denominator.
     #[inline(always)]
     pub fn add(&self, other: &Fraction) -> Option<Fraction>
         ensures { result ≡ checked_sum self.now other.now }
@@ -108,7 +109,7 @@ impl Fraction {
     }
 
     /// The sum of two fractions with the same denominator, without cross products. `None` if the denominators differ, or one
-    /// of the numbers is not a machine word. Between machine words no cross product is too large.
+    /// of the numbers is not a machine word with a sign. Cross products of such words are never too large.
     #[inline(always)]
     fn alike_sum(&self, other: &Fraction) -> Option<Fraction>
         ensures { IfSome result (λ s. Some s ≡ checked_sum self.now other.now) }
@@ -129,8 +130,8 @@ impl Fraction {
         let right = product(other.num, self.den as i128)?;
         let num = sum(left, right)?;
         let den = size_product(self.den, other.den)?;
-        // One of the two is a whole number. A common divisor of `num` and `den` divides both numbers of the other, so it is
-        // 1.
+        // One of the two is a whole number. A common divisor of `num` and `den` then divides both the numerator and the
+        // denominator of the other, so it is 1.
         if self.den == 1 || other.den == 1 {
             return Some(in_lowest_terms(num, den));
         }
@@ -153,7 +154,7 @@ impl Fraction {
     {
         let num = product(self.num, other.num)?;
         let den = size_product(self.den, other.den)?;
-        // A factor 1 or -1 leaves the other's numbers as they are, up to the sign.
+        // A factor 1 or -1 leaves the other's numerator and denominator as they are, up to the sign.
         if self.is_unit() || other.is_unit() {
             return Some(in_lowest_terms(num, den));
         }
@@ -182,7 +183,7 @@ impl Fraction {
         Some(own.less_product(&factor, &other))
     }
 
-    /// `self - factor * other`, first the product, then the difference.
+    /// `self - factor * other`: first the product, then the difference.
     #[inline(never)]
     fn wide_less_product(&self, factor: &Fraction, other: &Fraction) -> Option<Fraction>
         ensures { result ≡ checked_less_product self.now factor.now other.now }
@@ -219,7 +220,7 @@ impl Fraction {
         }
     }
 
-    /// The order of the two fractions. It is found without a product, so no number is too large.
+    /// How the two fractions compare. No product is computed, so no number is too large.
     pub fn compare(&self, other: &Fraction) -> Ordering
         ensures { result ≡ exact_cmp self.now other.now }
     {

@@ -1,5 +1,5 @@
-//! The order of two ratios, without a product. The whole parts are compared first, and if they are equal, the inverses of
-//! what remains, as in continued fractions.
+//! The order of two ratios, without a product. The whole parts are compared first. If they are equal, the inverses of what
+//! remains are compared, as in continued fractions.
 ghost use Rattle.std.specs.Prelude.{◌≡◌, ◌<◌, ◌*◌};
 ghost use Rattle.std.specs.Ordering.{nat_cmp};
 

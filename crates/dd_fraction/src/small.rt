@@ -1,11 +1,11 @@
-//! Fractions of 16-bit numbers. Each intermediate number of `a - q * b` is then a machine word, so none is too large.
+//! Fractions of 16-bit numbers. For them each intermediate number of `a - q * b` is a machine word, so none is too large.
 ghost use Rattle.std.specs.Prelude.{◌≡◌, ◌<◌, Some, IfSome};
 ghost use Rattle.dd_fraction.specs.Checked.{checked_less_product};
 
 use crate::fraction::{Fraction, reduced_words};
 use std::marker::Model;
 
-/// A fraction whose numerator and denominator have 16 bits.
+/// A fraction whose numerator and denominator fit 16 bits.
 #[derive(Clone, Copy)]
 pub struct Small {
     num: i16,

@@ -57,7 +57,7 @@ pub greatest_common-is : (a b : ℕ) → IsGcd a b (greatest_common a b)
 unfolding greatest_common
 greatest_common-is a b = is_common (suc b) a b (omega arith)
 
--- k times two coprime numbers
+-- k times two coprime numbers have the greatest common divisor k
 pub IsGcd-scaled : (a b k : ℕ) → 0 < k → IsGcd a b 1 → IsGcd (a * k) (b * k) k
 IsGcd-scaled a b k z coprime =
     let one : greatest_common a b ≡ 1 = same_from_IsGcd a b (greatest_common a b) 1 (greatest_common-is a b) coprime in

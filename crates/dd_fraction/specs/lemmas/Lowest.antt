@@ -16,7 +16,7 @@ pub neg_times : (q g : ℕ) → neg_ℤ (pos q) *ℤ pos g ≡ neg_ℤ (pos (q *
 neg_times zero g = same_in _ _ (omega (arith, ints))
 neg_times (suc q) g = refl
 
--- a whole number over one of its divisors
+-- a whole number divided by one of its divisors, and multiplied by it again
 pub whole_over : (n : ℤ) (g : ℕ) → g ∣ unsigned_abs n → int_div n (pos g) *ℤ pos g ≡ n
 whole_over (pos n) g h = ap pos (div-mul_cancel g h)
 whole_over (negsuc n) g h =
@@ -26,7 +26,7 @@ pub size_over : (n : ℤ) (g : ℕ) → unsigned_abs (int_div n (pos g)) ≡ uns
 size_over (pos n) g = refl
 size_over (negsuc n) g = omega (arith, ints)
 
--- `lowest` divides n and d by g, and a is left
+-- a is what is left of n / d after both numbers are divided by g
 pub record Parts (n : ℤ) (d : ℕ) (a : Exact) (g : ℕ) : Type 0 where
   pub above : 0 < g
   pub num : a.num *ℤ pos g ≡ n

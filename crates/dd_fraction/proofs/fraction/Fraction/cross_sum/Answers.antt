@@ -55,7 +55,7 @@ returns-in_err-den c =
     (c.from_residual-in_err-den.ensures
     ∙ sum_none_fourth a b c.in_ok-left.left c.in_ok-right.right c.in_ok-num.num left right sum c.in_err-den.ensures)
 
--- one side is a whole number
+-- one of the two summands is a whole number
 module _ (c : Joined-then-self-eq1) where
   abbrev a : Exact
   a = record { num = c.self.inside.num; den = c.self.inside.den }
