@@ -63,7 +63,7 @@ quantifier_again variable b balls rest = ap (λ (x : List Ball × List Lexeme). 
 
 -- ---- chains
 
--- the reader of the parts reads f, whatever follows that can't belong to it
+-- the reader of the parts reads f from its text, if what follows can't belong to it
 abbrev ReadBy : Reader Formula → ℕ → Formula → Type 0
 ReadBy part place f = (rest : List Lexeme) → ends place rest ≡ true → part (text f ++ rest) ≡ Some (f, rest)
 
@@ -105,7 +105,7 @@ looser unary tokens f rest low (suc place) under le e r = elim (cases_eq low (su
 
 -- ---- formulas
 
--- a formula is read at each place where it may stand
+-- a formula is read from its text, at each place where it may stand
 abbrev IsReadAgain : Formula → Type 0
 IsReadAgain f = (budget place : ℕ) (rest : List Lexeme) → place ≤ 4 → stands f place ≡ true → tree_depth f ≤ budget → ends place rest ≡ true → level_at (unary_at budget) place (text f ++ rest) ≡ Some (f, rest)
 
@@ -176,6 +176,6 @@ read_again : (f : Formula) → IsReadAgain f
 read_again = ind-Formula IsReadAgain (λ x y is budget place rest le fit deep e.
     rw (text_of x) (subst IsLayerRead is (step_again y) budget place rest le (rw (stands_of x place) at fit) (omega (arith, deep, depth_of x)) e))
 
--- what follows a formula can't belong to it
+-- a formula is read from its text, if what follows can't belong to it
 pub formula_again : (f : Formula) (rest : List Lexeme) → IsWrittenFormula f → ends 4 rest ≡ true → formula_at (text f ++ rest) ≡ Some (f, rest)
 formula_again f rest is e = rw (read_again f 64 4 rest (omega arith) is.grouped is.shallow e, le-leb (tree_depth f) 64 is.shallow) refl

@@ -50,7 +50,7 @@ atom_sound : IsSound atom_at 0
 atom_sound tokens =
     followed (term_at tokens) _ _ _ (term_sound tokens) (λ t e. followed (relation_at t.1) _ _ _ (relation_sound t.1) (λ r e'. (simp (text_of, append_assoc, e, e'), λ p le. simp stands_of)))
 
--- there is at least one ball
+-- the tokens are a variable and its balls, of which there is at least one, followed by the rest
 abbrev Quantifies : List Lexeme → (Word × List Ball) × List Lexeme → Type 0
 Quantifies tokens x = (tokens ≡ Lexeme.Word x.0.0 ∷ Lexeme.Mark Mark.OpenList ∷ (flat_map ball_text x.0.1 ++ Lexeme.Mark Mark.CloseList ∷ x.1)) × (nat_le 1 (length x.0.1) ≡ true)
 
@@ -77,7 +77,7 @@ begins_sound Join.Implies (Lexeme.Mark Mark.Arrow ∷ tokens) e = refl
 begins_sound Join.Iff (Lexeme.Mark Mark.BothWays ∷ tokens) e = refl
 begins_sound j tokens e = absurd cc
 
--- more such parts; at least one if the sign comes next
+-- The tokens are more such parts, followed by the rest. There is at least one part if the sign comes next.
 abbrev TakesMore : Join → ℕ → ℕ → List Lexeme → List Formula × List Lexeme → Type 0
 TakesMore j place n tokens x = (tokens ≡ more_text j x.0 ++ x.1) × (list_all (λ (h : ℕ → Bool). h place) (map stands x.0) ≡ true) × (begins j tokens ≡ true → 0 < n → 0 < length x.0)
 
