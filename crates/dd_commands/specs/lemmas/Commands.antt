@@ -1,4 +1,4 @@
--- What is read as a command is its text, and the text of a command is read.
+-- The tokens that are read as a command are its text, and the text of a command is read as that command.
 use Rattle.std.proofs.Common.{◌≡◌, ℕ, ◌<◌, List, [], ◌∷◌, ◌++◌, map, length, Some, None, refl, sym, ap, subst, ◌∙◌, arith, codes, flat_map, append-nil, length-append}
 use Rattle.dd_commands.specs.Tree.{Word, Lexeme, Name, Head, Case, Command}
 use Rattle.dd_written.specs.{Formulas.text, Formulas.name_lexeme, lemmas.Many.few_items}

@@ -8,14 +8,14 @@ use Rattle.dd_commands.specs.reading.Forms.{◌>>=◌, Reader, ReadsAll, Form, b
 
 -- the reader of a form reads exactly what is written in it
 pub record Reads {X : Type 0} (f : Form X) : Type 0 where
-  -- an item that was read has this form, and was written so
+  -- an item that was read has this form, and the tokens are its text and the rest
   pub written : (tokens : List Lexeme) (x : X) (rest : List Lexeme) → f.item tokens ≡ Some (x, rest) → f.is x × (tokens ≡ f.onto x rest)
   -- an item of this form, written before tokens that may follow it, is read
   pub read : (x : X) (rest : List Lexeme) → f.is x → f.ends rest → f.item (f.onto x rest) ≡ Some (x, rest)
-  -- the tokens may end after an item
+  -- no token needs to follow an item
   pub last : f.ends []
 
--- an item that nothing follows is read
+-- an item is read from its text, if nothing follows
 pub read_last : {X : Type 0} {f : Form X} → Reads f → (x : X) (tokens : List Lexeme) → f.is x → tokens ≡ f.onto x [] → f.item tokens ≡ Some (x, [])
 read_last is x tokens right e = rw e (is.read x [] right is.last)
 
@@ -89,7 +89,7 @@ module _ {X : Type 0} (writes : X → List Lexeme → List Lexeme → Type 0) (i
       let given = λ (o : Option (X × List Lexeme)). is_some o in
       many_again writes (λ ts. is_some (item ts)) item (λ x ts more w. let e = read x ts more w in (ap given e, e)) n xs tokens rest le (λ lt. ap given (ended lt)) all
 
--- for items with a text
+-- the same, for items with a text
 module _ {X : Type 0} (text : X → List Lexeme) (texts : List X → List Lexeme) (item : Reader X) (same : (xs : List X) → flat_map text xs ≡ texts xs) (is : Reads (by_text text item)) where
   texts_written : (n : ℕ) (tokens : List Lexeme) (xs : List X) (rest : List Lexeme) → at_most item n tokens ≡ Some (xs, rest) → tokens ≡ texts xs ++ rest
   texts_written n tokens xs rest e = rw (← same xs) (texts_read text xs tokens rest (most_written (ByText text) item (λ ts x more f. (is.written ts x more f).1) (λ x ts more w. ap item w ∙ is.read x more tt tt) n tokens xs rest e))

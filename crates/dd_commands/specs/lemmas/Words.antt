@@ -32,7 +32,7 @@ pub wanted_reads : (bytes spelt : List ℕ) → Reads (wanted bytes spelt)
 wanted_reads bytes spelt =
     such_reads (λ w. word_text bytes w ≡ spelt) (λ w. bytes_eq (word_text bytes w) spelt) (λ w. (bytes_eq-Decides (word_text bytes w) spelt).0) (λ w. (bytes_eq-Decides (word_text bytes w) spelt).1) word_reads
 
--- the first word is sought among the other commands first, then among the queries
+-- the first word is sought first among the commands that aren't queries, then among the queries
 either_of : (written : List ℕ) (hs : List Head) (ks : List QueryKind) → one_of head_text (hs ++ map Head.Query ks) written ≡ option_or (one_of head_text hs written) (option_map Head.Query (one_of kind_word ks written))
 either_of written [] [] = refl
 either_of written [] (k ∷ ks) = grind (arith, common_steps, either_of written [] ks)
@@ -41,11 +41,12 @@ either_of written (h ∷ hs) ks = grind (arith, common_steps, either_of written 
 pub either_head : (written : List ℕ) → one_of head_text heads written ≡ option_or (one_of head_text other_heads written) (option_map Head.Query (one_of kind_word query_kinds written))
 either_head written = either_of written other_heads query_kinds
 
--- no command has the first word of another
+-- no head has the first word of another
 pub head_first : (h : Head) → one_of head_text heads (head_text h) ≡ Some h
 head_first (Head.Query QueryKind.Member) = refl
 head_first h = refl
 
+-- no built-in topology has the name of another
 pub kind_first : (k : Kind) → one_of kind_text kinds (kind_text k) ≡ Some k
 kind_first Kind.Line = refl
 kind_first k = refl
