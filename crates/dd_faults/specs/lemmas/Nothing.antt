@@ -9,7 +9,7 @@ pub both_nil : {X : Type 0} (xs ys : List X) → xs ++ ys ≡ [] → (xs ≡ [])
 both_nil [] ys e = (refl, e)
 both_nil (x ∷ xs) ys e = absurd cc
 
--- if there is no fault, what holds of each element without a fault holds of all
+-- what holds of each element without a fault holds of all, if no element has a fault
 pub all_where : {X Y : Type 0} (P : X → Type 0) (f : X → List Y) → ((x : X) → f x ≡ [] → P x) → (xs : List X) → flat_map f xs ≡ [] → All P xs
 all_where P f each [] h = All-nil P
 all_where P f each (x ∷ xs) h = (let parts = both_nil (f x) (flat_map f xs) h in All-cons P x xs (each x parts.0) (all_where P f each xs parts.1))
@@ -29,7 +29,7 @@ pub ruleset parts = (common_steps, both_nil, fits, within)
 pub number_below : (bytes : List ℕ) (names : List (List ℕ)) (n : Name) → missing bytes names n ≡ [] → number_in bytes names n < length names
 number_below bytes names n none = grind (arith, parts)
 
--- once a fault is noted, it stays or a better one takes its place
+-- once a fault is noted, some fault stays noted
 pub some_stays : (g : Fault) (fs : List Fault) → noted (Some g) fs ≡ None → ⊥
 some_stays g [] e = absurd cc
 some_stays g (f ∷ fs) e = grind (arith, some_stays f fs, some_stays g fs)
