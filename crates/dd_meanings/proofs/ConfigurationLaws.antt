@@ -12,7 +12,7 @@ use Rattle.dd_meanings.proofs.{Nothing.parts, NameLaws.is_new}
 
 -- ---- symbols
 
--- a name that is allowed names a symbol that the node allows
+-- the symbol t is in the alphabet, and the node a allows it
 record IsAllowedAt (x : Context) (a : ℕ) (t : ℕ) : Type 0 where
   below : t < length x.known.setting.symbols
   allowed : allows x.known.setting.sets a t ≡ true
