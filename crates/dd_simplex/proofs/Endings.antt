@@ -43,7 +43,7 @@ joined_slack p u s k = ap (λ (b : Bool). cond b (u (p.columns + k)) (s (p.colum
     take_off n k = omega arith
 
 module _ (p : LinearProgram) (d : Dictionary) (g : IsProgram p) (r : IsReached p d) where
-  -- columns u and slacks s that meet the rows with σ times their bounds
+  -- the price of the slack of row k
   abbrev slack_price : ℕ → Exact
   slack_price k = price d (p.columns + k)
 

@@ -7,7 +7,7 @@ use Rattle.dd_simplex.specs.Programs.{zero_of, fraction_at}
 use Rattle.dd_fraction.specs.Exact.{Exact, plus, times}
 use Rattle.dd_simplex.proofs.CellSteps.{solved_size}
 
--- the leaving line and those after it
+-- `drop r` gives the leaving line and those after it
 pub parted : (rows back : List Line) (leaving : Line) (r : ℕ) → r < length rows → drop r rows ≡ leaving ∷ back → (leaving ≡ line_at rows r) × (back ≡ drop (suc r) rows)
 parted rows back leaving r p s =
     let at : drop r rows ≡ line_at rows r ∷ drop (suc r) rows = drop-cons rows r (record { basic = 0; bound = zero_of; cells = [] }) p in

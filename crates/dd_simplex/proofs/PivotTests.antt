@@ -83,7 +83,7 @@ module _ (n : ℕ) (t : Table) (d : Dictionary) (k : IsTable t) (s : StandsFor n
       subst (λ (a : Exact). 0 < a.den) (sym at)
       (let l = IsLowest-times (fraction_at (slice_set (line_at t.lines r).cells e one_of) j) (inverse (fraction_at (line_at t.lines r).cells e)) in l.positive)
 
-  -- ---- coefficients us, of a line whose coefficient at e is q
+  -- ---- the coefficients us of a line whose coefficient at e is q
   emptied_size : (us : List Exact) → length us ≡ length t.others → length (slice_set us e zero_of) ≡ length pivot.cells
   emptied_size us h = length-set us e zero_of ∙ (h ∙ sym pivot_length)
 
@@ -161,7 +161,7 @@ module _ (n : ℕ) (t : Table) (d : Dictionary) (k : IsTable t) (s : StandsFor n
       first : does_product_fit (line_at t.lines r).bound (inverse c) ≡ does_quotient_fit (d.bound R) (d.entry R E)
       first = sym (λ z. does_product_fit (s.bounds r line z) (inverse (cell_is z)))
 
-      -- what is divided at each place
+      -- the number that is divided at each place
       divided : (j : ℕ) → j < length t.others → fraction_at (slice_set (line_at t.lines r).cells e one_of) j ≡ cond (nat_eq (other_at t.others j) E) one_of (d.entry R (other_at t.others j))
       divided j p = ⊎_elim
           (λ (v : j ≡ e).

@@ -183,7 +183,7 @@ entering_is n d e h =
       cost = over_positive (d.cost e) (and_right (not (d.is_basic e)) (is_over (d.cost e)) f.1);
     }
 
--- if nothing enters, no price is over 0
+-- if nothing enters, no price is greater than 0
 pub entering_none : (n : ℕ) (d : Dictionary) (w : ℕ) → entering n d ≡ None → w < n → IsNonneg (minus (price d w))
 entering_none n d w h q = by (d.is_basic w) refl
   where

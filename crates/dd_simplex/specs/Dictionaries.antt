@@ -41,7 +41,7 @@ new_bound d e r = fraction_quotient (d.bound r) (d.entry r e)
 abbrev pub new_entry : Dictionary → ℕ → ℕ → ℕ → Exact
 new_entry d e r w = fraction_quotient (cond (nat_eq w r) one_of (d.entry r w)) (d.entry r e)
 
--- the new coefficient at w of a row, or the objective, whose coefficients were a at w and q at e
+-- the new coefficient at w of a row or of the objective; the old ones were a at w, and q at e
 abbrev pub replaced : Dictionary → ℕ → ℕ → Exact → ℕ → Exact → Exact
 replaced d e r q w a = cond (nat_eq w r) (minus (times q (new_entry d e r w))) (less_product a q (new_entry d e r w))
 

@@ -19,16 +19,18 @@ pub record HasOneStop (p : LinearProgram) (k : ℕ) : Type 0 where
   pub overflow_alone : RunOverflows p k → RunPivots p k → ⊥
   pub same_end : (a b : DoesEnd p k) → (a.value ≡ b.value) × (a.columns ≡ b.columns) × (a.duals ≡ b.duals)
 
--- the dictionary after k pivots, if so many can be made
+-- the dictionary after one pivot and those of `next`, if a variable enters and one leaves
 abbrev pub after_iteration : (Dictionary → Option Dictionary) → Dictionary → Option ℕ → Option ℕ → Option Dictionary
 after_iteration next d (Some e) (Some r) = next (pivoted d e r)
 after_iteration next d (Some e) None = None
 after_iteration next d None o = None
 
+-- the variable that leaves for the one that enters, if one enters
 abbrev pub leaving_for : ℕ → Dictionary → Option ℕ → Option ℕ
 leaving_for n d (Some e) = leaving n d e
 leaving_for n d None = None
 
+-- the dictionary after k pivots from d, if so many can be made
 abbrev pub dictionary_after : ℕ → ℕ → Dictionary → Option Dictionary
 dictionary_after n zero d = Some d
 dictionary_after n (suc k) d = after_iteration (dictionary_after n k) d (entering n d) (leaving_for n d (entering n d))

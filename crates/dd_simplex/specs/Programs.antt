@@ -57,15 +57,15 @@ abbrev pub fraction_sum : (ℕ → Exact) → ℕ → Exact
 fraction_sum f zero = zero_of
 fraction_sum f (suc n) = plus (fraction_sum f n) (f n)
 
--- columns of at least 0 that meet each row
+-- the columns are feasible: they are at least 0 and meet each row
 pub record IsFeasible (p : LinearProgram) (columns : List Exact) : Type 0 where
   pub size : length columns ≡ p.columns
   pub signs : (j : ℕ) → j < p.columns → IsNonneg (fraction_at columns j)
   pub rows : (k : ℕ) → k < length p.rows
       → IsAtMost (fraction_sum (λ j. times (coefficient p k j) (fraction_at columns j)) p.columns) (bound_at p k)
 
--- factors of at least 0, one for each row: the rows times their factors sum to at least 1 in column 0, and at least 0 in
--- each other column
+-- The duals are feasible: each row has one of at least 0. The rows times their duals sum to at least 1 in column 0, and to at
+-- least 0 in each other column.
 pub record AreDuals (p : LinearProgram) (duals : List Exact) : Type 0 where
   pub size : length duals ≡ length p.rows
   pub signs : (k : ℕ) → k < length p.rows → IsNonneg (fraction_at duals k)
@@ -76,7 +76,7 @@ pub record AreDuals (p : LinearProgram) (duals : List Exact) : Type 0 where
 abbrev pub dual_objective : LinearProgram → List Exact → Exact
 dual_objective p duals = fraction_sum (λ k. times (fraction_at duals k) (bound_at p k)) (length p.rows)
 
--- columns and duals of the same value, so that no other columns give more
+-- the columns and the duals are feasible and have the same value, so no other columns give more
 pub record IsBest (p : LinearProgram) (value : Exact) (columns duals : List Exact) : Type 0 where
   pub feasible : IsFeasible p columns
   pub dual : AreDuals p duals

@@ -1,4 +1,4 @@
--- The run by Bland's rule (1977): of the variables that may enter, the least is taken, and so it is of those that may leave.
+-- The run by Bland's rule (1977): of the variables that may enter, the least enters; of those that may leave, the least leaves.
 -- The run stops with the best value, at a limit on its pivots, or at a number that is greater than 2^127 - 1 in absolute
 -- value. Other numbers fit.
 use Rattle.std.specs.Prelude.{◌≡◌, ℕ, zero, suc, ◌+◌, ◌<◌, List, length, Bool, true, not, ◌&&◌, ◌||◌, cond, Option, Some, None}
@@ -73,7 +73,7 @@ does_row_fit n d e r =
     does_quotient_fit (d.bound r) (d.entry r e)
     && all_below (λ w. d.is_basic w || does_quotient_fit (cond (nat_eq w e) one_of (d.entry r w)) (d.entry r e)) n
 
--- whether the new coefficients fit of a row, or the objective, whose coefficients were a w, and q at e
+-- whether the new coefficients of a row or of the objective fit; the old ones were a w at each w, and q at e
 abbrev pub do_coefficients_fit : ℕ → Dictionary → ℕ → ℕ → Exact → (ℕ → Exact) → Bool
 do_coefficients_fit n d e r q a =
     all_below (λ w. d.is_basic w || cond (nat_eq w e) (does_product_fit q (new_entry d e r r)) (does_less_fit (a w) q (new_entry d e r w))) n
@@ -111,15 +111,17 @@ abbrev pub iteration : (Dictionary → Stop) → ℕ → Dictionary → ℕ → 
 iteration next n d e None = Unbounded
 iteration next n d e (Some r) = cond (does_iteration_fit n d e r) (next (pivoted d e r)) Overflows
 
+-- how the run goes on with the variable that enters; it ends if there is none
 abbrev pub iterate_or_end : (ℕ → Stop) → Dictionary → Option ℕ → Stop
 iterate_or_end go_on d None = Ends d
 iterate_or_end go_on d (Some e) = go_on e
 
--- the run of at most k pivots
+-- the run of at most k pivots from the dictionary d over n variables: how it stops
 abbrev pub run : ℕ → ℕ → Dictionary → Stop
 run n zero d = iterate_or_end (λ e. AtLimit) d (entering n d)
 run n (suc k) d = iterate_or_end (λ e. iteration (run n k) n d e (leaving n d e)) d (entering n d)
 
+-- how the run of a program stops, if it has at most k pivots
 abbrev pub stop_of : LinearProgram → ℕ → Stop
 stop_of p k = run (count p) k (start_dictionary p)
 
@@ -148,7 +150,7 @@ RunOverflows p k = stop_of p k ≡ Overflows
 abbrev pub RunPivots : LinearProgram → ℕ → Type 0
 RunPivots p k = stop_of p k ≡ AtLimit
 
--- what each fault says of the run
+-- what each fault says of the run; `Memory` says nothing
 abbrev pub IsRunRefusal : LinearProgram → ℕ → SimplexFault → Type 0
 IsRunRefusal p k fault.Overflow = RunOverflows p k
 IsRunRefusal p k fault.Pivots = RunPivots p k

@@ -1,11 +1,11 @@
-//! Why a run of the simplex method has no result.
+//! The faults of the simplex method.
 ghost use Rattle.std.specs.Prelude.{◌≡◌};
 ghost use Rattle.dd_simplex.specs.declared.fault.SimplexFault.TheVariants.{Memory};
 
 use std::alloc::AllocError;
 use thiserror::Error;
 
-/// Why a run has no result.
+/// Why a run of the simplex method has no result.
 #[derive(Clone, Copy, Debug, PartialEq, Eq, Error)]
 pub enum SimplexFault {
     /// A number of the run is greater than 2^127 - 1 in absolute value.

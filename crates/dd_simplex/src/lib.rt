@@ -1,5 +1,5 @@
 //! Linear programs over exact fractions, maximised by the simplex method with Bland's rule. A column is a variable of the
-//! program, a row is an inequality, and a slack is what a row's left side is below its bound.
+//! program, and a row is an inequality. The slack of a row is its bound less its left side.
 #![tactic(auto, using(std::proofs::lemmas::Grind::common_steps))]
 
 mod fault;

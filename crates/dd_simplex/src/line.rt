@@ -10,8 +10,8 @@ ghost use Rattle.dd_simplex.specs.table.Lines.{IsIdle, HasFractions, less, do_al
 use dd_fraction::Fraction;
 use std::marker::Model;
 
-/// `basic = bound - sum of cell times variable`, with one cell for each nonbasic variable. The place of a cell is that of its
-/// variable in the tableau's list of nonbasic variables.
+/// The equation `basic = bound - sum of cell times variable`, with one cell for each nonbasic variable. A cell is at the place
+/// that its variable has in the tableau's list of nonbasic variables.
 #[derive(Drop)]
 pub struct Line {
     pub basic: usize,
@@ -52,8 +52,8 @@ impl Line {
         divide(self.cells.as_mut_slice(), &cell)
     }
 
-    /// Substitutes the solved line for the variable at the place `e`. A line without this variable stays as it is. False if a
-    /// number is too large.
+    /// Substitutes the solved line `pivot` for the variable at the place `e`. A line whose cell there is 0 stays as it is. False
+    /// if a number is too large.
     pub fn substitute(&mut self, e: usize, pivot: &Line) -> bool
         requires place { e < length self.old.cells }
         requires size { length self.old.cells ≡ length pivot.now.cells }
@@ -68,7 +68,7 @@ impl Line {
         self.take_multiple(e, pivot)
     }
 
-    /// Subtracts the solved line, times the cell at `e`, from the line. False if a number is too large.
+    /// Subtracts the solved line `pivot`, times the cell at `e`, from the line. False if a number is too large.
     fn take_multiple(&mut self, e: usize, pivot: &Line) -> bool
         requires place { e < length self.old.cells }
         requires size { length self.old.cells ≡ length pivot.now.cells }
@@ -106,7 +106,7 @@ fn divide(cells: &mut [Fraction], by: &Fraction) -> bool
     true
 }
 
-/// Subtracts `factor` times the other cells from the cells. False if a number is too large; then only some cells are
+/// Subtracts `factor` times `others` from the cells, place by place. False if a number is too large; then only some cells are
 /// changed.
 pub fn subtract(cells: &mut [Fraction], factor: &Fraction, others: &[Fraction]) -> bool
     requires { length cells.old ≡ length others.now }
@@ -136,7 +136,7 @@ fn is_idle(cell: &Fraction, factor: &Fraction, other: &Fraction) -> bool
     num == 0 || other_num == 0
 }
 
-/// Substitutes the solved line into each line. False if a number is too large.
+/// Substitutes the solved line `pivot` into each line. False if a number is too large.
 fn substitute_each(lines: &mut [Line], e: usize, pivot: &Line) -> bool
     requires place { e < length pivot.now.cells }
     requires sizes { All (λ l. length l.cells ≡ length pivot.now.cells) lines.old }

@@ -95,7 +95,7 @@ impl Program {
         self.columns as usize
     }
 
-    /// The rows, from the first one with the cap.
+    /// The rows. The first one is that of the cap.
     pub(crate) fn rows(&self) -> &[Constraint]
         ensures { result.now ≡ self.now.rows }
     {

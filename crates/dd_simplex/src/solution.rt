@@ -37,7 +37,7 @@ pub fn read_off(alloc: Global, tableau: &Tableau, columns: usize) -> Result<Solv
     })
 }
 
-// The value of each column.
+/// The value of each column.
 fn column_values(
     alloc: Global,
     lines: &[Line],
@@ -56,7 +56,7 @@ fn column_values(
     Ok(Items::from_vec(values))
 }
 
-// The dual of each row.
+/// The dual of each row.
 fn dual_values(
     alloc: Global,
     tableau: &Tableau,

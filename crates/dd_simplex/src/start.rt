@@ -1,4 +1,4 @@
-//! The first dictionary of a program: the slacks are basic, and the objective is column 0.
+//! The first tableau of a program: the slacks are basic, and the objective is column 0.
 ghost use Rattle.std.specs.Prelude.{◌≡◌, ℕ, ◌+◌, ◌<◌, ◌≤◌, ◌^◌, length, slice_index_or, IfOk};
 ghost use Rattle.dd_fraction.specs.Checked.{IsFraction};
 ghost use Rattle.dd_simplex.specs.Programs.{fraction_at, unit, row_at};
@@ -67,7 +67,7 @@ fn known(fraction: &Fraction) -> Fraction
     *fraction
 }
 
-/// The columns, which are the first variables.
+/// The nonbasic variables of the first tableau. They are the columns, which are numbered before the slacks.
 fn variables(alloc: Global, columns: usize) -> Result<Vec<usize>, AllocError>
     ensures size { IfOk result (λ others. length others.items ≡ columns) }
     ensures each { IfOk result (λ others. (j : ℕ) → j < columns → other_at others.items j ≡ j) }
@@ -79,7 +79,7 @@ fn variables(alloc: Global, columns: usize) -> Result<Vec<usize>, AllocError>
     Ok(others)
 }
 
-/// The costs of the first objective: 1 at column 0, else 0.
+/// The costs of the first objective: 1 at column 0, and 0 elsewhere.
 fn first_unit(alloc: Global, columns: usize) -> Result<Vec<Fraction>, AllocError>
     requires { 0 < columns }
     ensures size { IfOk result (λ costs. length costs.items ≡ columns) }

@@ -1,4 +1,5 @@
-//! A dictionary as the run keeps it: its lines, its nonbasic variables and the objective.
+//! The tableau: a dictionary as the run keeps it. It has a line for each basic variable, a list of the nonbasic variables,
+//! and the objective.
 ghost use Rattle.std.specs.Prelude.{◌≡◌, ◌≢◌, ◌<◌, true, false, length, Option, Some, None, ℕ, MatchResult, IfOk, IfErr, slice_set};
 ghost use Rattle.std.specs.List.{All};
 ghost use lib.IntN.{pos};
@@ -94,7 +95,7 @@ impl Tableau {
     }
 }
 
-/// Substitutes the solved line into the objective. False if a number is too large.
+/// Substitutes the solved line `pivot` into the objective. False if a number is too large.
 fn pivot_objective(value: &mut Fraction, costs: &mut [Fraction], e: usize, pivot: &Line) -> bool
     requires place { e < length costs.old }
     requires size { length costs.old ≡ length pivot.now.cells }
@@ -114,7 +115,7 @@ fn pivot_objective(value: &mut Fraction, costs: &mut [Fraction], e: usize, pivot
     subtract(costs, &factor, pivot.cells.as_slice())
 }
 
-/// The place of the least variable whose cost is greater than 0, or `None` if there is none.
+/// The variable that enters: the place of the least variable whose cost is greater than 0, or `None` if there is none.
 pub fn entering(costs: &[Fraction], others: &[usize]) -> Option<usize>
     requires { length costs.now ≡ length others.now }
     ensures { IsChosen (does_enter costs.now) (EntersBefore others.now) (length costs.now) result }
@@ -132,8 +133,8 @@ pub fn entering(costs: &[Fraction], others: &[usize]) -> Option<usize>
     chosen
 }
 
-/// Of the lines whose cell at `e` is greater than 0, the one with the least ratio of bound to cell. Among equal ratios it is
-/// the one with the least basic variable. `None` if there is no such line.
+/// The line whose variable leaves: of the lines whose cell at `e` is greater than 0, the one with the least ratio of bound to
+/// cell. Among equal ratios it is the one with the least basic variable. `None` if there is no such line.
 ///
 /// # Errors
 /// `Overflow` if a number of a ratio is too large.

@@ -18,10 +18,11 @@ EntersBefore others i j = other_at others i ≤ other_at others j
 abbrev pub does_limit : List Line → ℕ → ℕ → Bool
 does_limit lines e i = is_over (fraction_at (line_at lines i).cells e)
 
+-- the ratio of bound to cell at the place e, in line i
 abbrev pub line_ratio : List Line → ℕ → ℕ → Exact
 line_ratio lines e i = times (line_at lines i).bound (inverse (fraction_at (line_at lines i).cells e))
 
--- the smaller ratio, and of equal ones the smaller variable
+-- whether the ratio a is smaller than b, or they are equal and the variable v is smaller than w
 abbrev pub does_precede : Exact → ℕ → Exact → ℕ → Bool
 does_precede a v b w = let o = exact_cmp a b in is_lt o || (is_eq o && nat_lt v w)
 

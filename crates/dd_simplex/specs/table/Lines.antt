@@ -1,5 +1,5 @@
--- A table is a dictionary as the code keeps it: the nonbasic variables are listed, and a variable's place is its index. Here
--- is one pivot of a table, place by place.
+-- A table is a dictionary as the code keeps it: the nonbasic variables are listed, and a variable's place is its index. This
+-- module defines one pivot of a table. Each test `.. fit` says whether the numbers of the step defined just above it fit.
 use Rattle.std.specs.Prelude.{◌≡◌, true, ℕ, ◌+◌, List, [], ◌∷◌, ◌++◌, map, take, drop, Bool, true, ◌&&◌, slice_index_or, slice_set}
 use Rattle.std.specs.List.{list_all, All}
 use Rattle.dd_fraction.specs.Exact.{Exact, plus, times, minus, inverse}
@@ -82,6 +82,7 @@ does_objective_line_fit e pivot value costs =
     (does_product_fit c pivot.bound && does_sum_fit value (times c pivot.bound))
     && do_all_less_fit c (slice_set costs e zero_of) pivot.cells
 
+-- the table after a pivot: line r is solved for the variable at the place e
 abbrev pub changed_table : ℕ → ℕ → Table → Table
 changed_table e r t =
     let leaving = line_at t.lines r in
@@ -104,7 +105,7 @@ pub record HasFractions (l : Line) : Type 0 where
   pub bound : IsFraction l.bound
   pub cells : All IsFraction l.cells
 
--- subtracting q · b from a changes nothing, and no number of it is too large
+-- subtracting q · b from a changes nothing, and each number of this step fits
 pub record IsIdle (a q b : Exact) : Type 0 where
   pub fit : (does_product_fit q b && does_sum_fit a (minus (times q b))) ≡ true
   pub value : plus a (minus (times q b)) ≡ a

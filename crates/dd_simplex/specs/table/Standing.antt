@@ -12,7 +12,8 @@ pub record IsTable (t : Table) : Type 0 where
   pub prices : (j : ℕ) → j < length t.others → IsFraction (fraction_at t.costs j)
   pub value : IsFraction t.value
 
--- of the first n variables, each basic one has its line, and each nonbasic one its place, called its column
+-- Of the first n variables, each basic one has its line, and each nonbasic one its place. `column` gives this place; it has
+-- nothing to do with the program's columns.
 pub record StandsFor (n : ℕ) (t : Table) (d : Dictionary) : Type 0 where
   pub line : ℕ → ℕ
   pub column : ℕ → ℕ

@@ -5,9 +5,11 @@ use Rattle.dd_simplex.specs.Programs.{LinearProgram, ProgramRow, row_at, program
 use Rattle.dd_simplex.specs.table.Lines.{Line, Table, line_at, other_at, changed_table, does_table_fit}
 use Rattle.dd_simplex.specs.table.Choices.{IsChosen, does_enter, EntersBefore, does_limit, LeavesBefore, DoRatiosFit, HasMisfit}
 
+-- o is the place of the variable that enters; none enters if it is None
 abbrev pub DoesEnter : Table → Option ℕ → Type 0
 DoesEnter t o = IsChosen (does_enter t.costs) (EntersBefore t.others) (length t.costs) o
 
+-- o is the line whose variable leaves; none leaves if it is None
 abbrev pub DoesLeave : Table → ℕ → Option ℕ → Type 0
 DoesLeave t e o = IsChosen (does_limit t.lines e) (LeavesBefore t.lines e) (length t.lines) o
 
