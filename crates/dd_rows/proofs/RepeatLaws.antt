@@ -132,7 +132,7 @@ module _ (v : Views) where
     rows = λ ps ws most. rows_push ps ws most shown ss ∙ (ap (λ rs. add_row rs (required_row ps v ws ss)) (same.rows ps ws most) ∙ sym (rows_push ps ws most lists ss));
   }
 
-  -- what the last one shows is there
+  -- what the last filling shows is there already
   patterns_there : (front : List (List ℕ)) (last ss : List ℕ) → ShowAlike v last ss →
       with_patterns (patterns_shown v (front ++ last ∷ [])) (patterns_seen v ss) ≡ patterns_shown v (front ++ last ∷ [])
   patterns_there front last ss alike =

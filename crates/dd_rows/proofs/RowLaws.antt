@@ -69,7 +69,7 @@ patterns_grow f lists n =
     let front = front_folded (insert_key (slice_cmp nat_cmp)) (insert_grows (slice_cmp nat_cmp)) [] (flat_map f (take n lists)) (flat_map f (drop n lists)) in
     omega (arith, sizes, front)
 
--- too many columns so far
+-- too many columns so far are too many in the end
 pub columns_large : (v now all product : ℕ) → product ≡ min (v * now) (2 ^ 64 - 1) → 256 ≤ product → now ≤ all → most_columns < column_count v all
 columns_large v now all product is many more =
     let times = mul-le-mul_left v more in

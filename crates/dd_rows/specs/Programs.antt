@@ -54,6 +54,7 @@ rows x ws radius vs cs =
     let ps = patterns x radius vs cs in
     first_seen (greatest_weight_row x ws vs ps ∷ map (λ ss. row_of x ws radius vs ps (look_of cs ss)) (fillings x cs))
 
+-- column 0, and a column for each vector and pattern
 abbrev pub column_count : ℕ → ℕ → ℕ
 column_count vectors patterns = 1 + vectors * patterns
 
@@ -79,5 +80,6 @@ pub record IsLargeProgram (x : LocalRule) (ws : List ℕ) (radius margin : ℕ) 
   pub is_ground : IsGround x radius margin vs ground
   pub many : HasManyFillings x ground ⊎ ((most_columns < column_count (length vs) (length (patterns x radius vs ground))) ⊎ (most_rows < length (rows x ws radius vs ground)))
 
+-- the fault is right: if it is `Large`, the program would pass some limit
 abbrev pub IsRowsFault : LocalRule → List ℕ → ℕ → ℕ → List Place → RowsFault → Type 0
 IsRowsFault x ws radius margin vs fault = OnLarge fault (IsLargeProgram x ws radius margin vs)

@@ -12,6 +12,7 @@ use Rattle.dd_rows.specs.Fillings.{look_of}
 abbrev pub AreOf : LocalRule → List Cell → Type 0
 AreOf x cs = All (λ c. c.node < x.nodes) cs
 
+-- the position of each cell is in range
 abbrev pub AreInRange : List Cell → Type 0
 AreInRange cs = All (λ c. IsInRange c.position) cs
 
@@ -33,6 +34,7 @@ chosen (n ∷ ns) (c ∷ cs) k = cond (nat_eq n k) (c ∷ chosen ns cs k) (chose
 abbrev pub is_true_if_given : LocalRule → Look → Cell → Bool
 is_true_if_given x look c = not (is_given x c look) || is_true x c look
 
+-- whether the rule is true, with the symbols ss of the cells cs, at each of the places where it is given
 abbrev pub are_true : LocalRule → List Cell → List Cell → List ℕ → Bool
 are_true x cs places ss = list_all (is_true_if_given x (look_of cs ss)) places
 
@@ -40,6 +42,7 @@ are_true x cs places ss = list_all (is_true_if_given x (look_of cs ss)) places
 abbrev pub extended_below : LocalRule → (List ℕ → Bool) → ℕ → List ℕ → ℕ → List (List ℕ)
 extended_below x test a ss n = filter test (map (λ s. ss ++ s ∷ []) (filter (rule_allows x a) (range_with_len 0 n)))
 
+-- the same for each symbol of the alphabet
 abbrev pub extended : LocalRule → (List ℕ → Bool) → ℕ → List ℕ → List (List ℕ)
 extended x test a ss = extended_below x test a ss x.symbols
 

@@ -15,6 +15,7 @@ abbrev pub entry : Option Exchange → ℕ → ℤ
 entry None k = pos 0
 entry (Some e) k = one_at k e.gives -ℤ one_at k e.receives
 
+-- the coefficients of all patterns along the vector of the exchange
 abbrev pub entries : ℕ → Option Exchange → List ℤ
 entries patterns e = map (entry e) (range_with_len 0 patterns)
 
@@ -27,6 +28,7 @@ abbrev pub IsExchange : ℕ → Option Exchange → Type 0
 IsExchange patterns None = Unit {0}
 IsExchange patterns (Some e) = (e.gives ≤ patterns) × (e.receives ≤ patterns) × (e.gives ≡ e.receives → ⊥)
 
+-- the row has an exchange, or none, for each vector
 pub record IsSparse (vectors patterns : ℕ) (r : SparseRow) : Type 0 where
   pub as_many : length r.exchanges.items ≡ vectors
   pub each : All (IsExchange patterns) r.exchanges.items
@@ -51,5 +53,6 @@ required_row ps v ws ss = record { coefficients = coefficients ps (symbols_at ss
 abbrev pub capped : ℕ → ℕ → ℕ → Row
 capped vectors patterns most = record { coefficients = pos 1 ∷ replicate (vectors * patterns) (pos 0); bound = most }
 
+-- the first row, and those that the fillings require
 abbrev pub required_rows : List (List ℕ) → Views → List ℕ → ℕ → List (List ℕ) → List Row
 required_rows ps v ws most fillings = capped (length v.givers) (length ps) most ∷ map (required_row ps v ws) fillings
