@@ -69,6 +69,7 @@ known_after known (d ∷ ds) = known_after (without known d) ds
 abbrev pub is_literal_in_range : ℕ → Literal → Bool
 is_literal_in_range n l = nat_le 1 l.variable && nat_le l.variable n
 
+-- some literal of the list has the variable v
 abbrev pub has_variable : ℕ → List Literal → Bool
 has_variable v literals = list_any (λ l. l.variable == v) literals
 
@@ -94,6 +95,7 @@ refutes_from n known (s ∷ steps) =
 abbrev pub refutes : ℕ → List (List Literal) → List Step → Bool
 refutes n clauses steps = refutes_from n (map (λ c. Some c) clauses) steps
 
+-- the steps refute the clause list
 abbrev pub IsRefuting : ClauseList → List Step → Type 0
 IsRefuting cnf steps = refutes cnf.variables cnf.clauses steps ≡ true
 

@@ -49,7 +49,7 @@ pub(crate) struct Deletion {
     gap: usize,
 }
 
-/// Unchooses each clause that forced an entry. `chosen[k]` belongs to the clause of number k.
+/// Sets `chosen` to false for each clause that forced an entry. `chosen[k]` belongs to the clause of number k.
 fn spare_reasons(entries: &[Entry], chosen: &mut [bool])
     ensures { AreChosen entries.now chosen.new }
 {
