@@ -10,6 +10,7 @@ abbrev pub total_below : (ℕ → ℤ) → ℕ → ℤ
 total_below f zero = pos 0
 total_below f (suc n) = total_below f n +ℤ f n
 
+-- the row with the index k; the empty row past the end
 abbrev pub row_in : List Row → ℕ → Row
 row_in rows k = slice_index_or rows k (record { coefficients = []; bound = 0 })
 
