@@ -29,24 +29,28 @@ pub(crate) fn are_denominators(one: u64, other: u64) -> bool
     is_denominator(other)
 }
 
+/// Whether the number is at most `MOST_NUMBER`.
 fn is_small(number: &u64) -> bool
     ensures { result ≡ nat_le number.now most_number }
 {
     *number <= MOST_NUMBER
 }
 
+/// Whether each number is at most `MOST_NUMBER`.
 fn are_small(numbers: &[u64]) -> bool
     ensures { result ≡ list_all (λ n. nat_le n most_number) numbers.now }
 {
     numbers.iter().all(|number| is_small(number))
 }
 
+/// Whether the number is at most `MOST_NUMBER` in absolute value.
 fn is_small_signed(number: &i64) -> bool
     ensures { result ≡ nat_le (unsigned_abs number.now) most_number }
 {
     number.unsigned_abs() <= MOST_NUMBER
 }
 
+/// Whether each number is at most `MOST_NUMBER` in absolute value.
 fn are_small_signed(numbers: &[i64]) -> bool
     ensures { result ≡ list_all (λ z. nat_le (unsigned_abs z) most_number) numbers.now }
 {
