@@ -7,16 +7,19 @@ use Rattle.dd_contain.specs.declared.decision.Decision.{Decision}
 use Rattle.dd_contain.specs.declared.decision.Decision.TheVariants.{Yes, No, Unknown}
 use Rattle.dd_contain.specs.Questions.{ShowsAt}
 
+-- the answer is YES
 abbrev pub IsDecidedYes : Decision → Type 0
 IsDecidedYes (Yes n steps) = Unit {0}
 IsDecidedYes (No tile) = ⊥
 IsDecidedYes Unknown = ⊥
 
+-- the answer is NO
 abbrev pub IsDecidedNo : Decision → Type 0
 IsDecidedNo (Yes n steps) = ⊥
 IsDecidedNo (No tile) = Unit {0}
 IsDecidedNo Unknown = ⊥
 
+-- the answer is unknown
 abbrev pub IsUndecided : Decision → Type 0
 IsUndecided (Yes n steps) = ⊥
 IsUndecided (No tile) = ⊥
