@@ -1,4 +1,4 @@
-//! How many clauses a box question takes. Such a question asks whether no configuration of a rule, the premise, has a goal.
+//! How many clauses a box question takes. It asks whether no configuration that obeys a rule, the premise, has a goal anywhere.
 ghost use Rattle.std.specs.Prelude.{◌≡◌, ◌≤◌, ◌^◌, ◌<◌, ℕ, length};
 ghost use Rattle.dd_formula.specs.Counts.{cut, rule_clauses, disallowed, disallowed_pairs, place_clauses, broken_clauses, largest_clauses};
 

@@ -53,6 +53,6 @@ value_clauses n f = (fold-Automaton Valued (valued_step n) f).clauses
 abbrev pub differ_at : ℕ → Automaton → Automaton → ℕ → ℕ
 differ_at n f g a = value_clauses n f a + value_clauses n g a + n * gate_clause_count 2 + gate_clause_count n
 
--- the clauses that say that they differ at some of the first nodes: those for each node, and one that joins them
+-- the clauses that say that they differ at one of the first nodes: those for each node, and one that says that one node differs
 abbrev pub differ_clauses : ℕ → ℕ → Automaton → Automaton → ℕ
 differ_clauses n nodes f g = total (map (differ_at n f g) (range_with_len 0 nodes)) + 1

@@ -145,7 +145,7 @@ impl Automaton {
         inner.reads_from(alloc, cells.as_slice())
     }
 
-    /// The cells that the automaton reads at any of the cells, in cell order, each once.
+    /// The cells that the automaton reads at any of these cells, in cell order, each once.
     #[cycle(reads)]
     pub(crate) fn reads_from(&self, alloc: Global, cells: &[Cell]) -> Result<Vec<Cell>, AllocError>
         requires { HasCells self.now cells.now }

@@ -10,7 +10,7 @@ pub enum RuleFault {
     /// A cell is read that lies more than 16 away along an axis.
     #[error("a cell is read that lies more than 16 away")]
     Reach,
-    /// At some node the rule or the automaton has more than 20,000 instances: constants, leaves and connectives.
+    /// At some node the rule or the automaton has more than 20,000 instances. `Rule` and `Automaton::instances` say what they are.
     #[error("the expansion has more than 20000 parts")]
     Instances,
     /// Compositions are nested more than 64 deep.

@@ -16,8 +16,8 @@ use dd_topology::{Edge, Sets, Topology};
 use dd_values::Items;
 use std::alloc::{AllocError, Global};
 
-/// How many instances a rule or an automaton may have at a node. The instances of an expansion are its constants, leaves and
-/// connectives.
+/// How many instances a rule or an automaton may have at a node. The instances of an expansion are its constants, its leaves
+/// and its connectives.
 pub(crate) const MOST_INSTANCES: u32 = 20_000;
 /// How far from the origin a cell that is read may lie, along each axis.
 const MOST_REACH: u32 = 16;

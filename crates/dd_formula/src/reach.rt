@@ -58,7 +58,7 @@ impl Automaton {
         Ok(radius)
     }
 
-    /// The same over all nodes; 0 if the automaton has no rule.
+    /// How far the automaton reads from the origin: the greatest distance along any axis, over all nodes; 0 if it has no rule.
     pub fn reach(&self, alloc: Global) -> Result<u32, AllocError>
         requires { (s : CommonNumbers) × IsAutomaton s self.now }
         ensures value { IfOk result (λ n. (s : CommonNumbers) → IsAutomaton s self.now → n ≡ automaton_reach s.nodes self.now) }

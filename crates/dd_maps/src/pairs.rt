@@ -17,8 +17,8 @@ use dd_formula::{Automaton, Formula, Rule, RuleFault};
 use dd_topology::{Sets, Topology};
 use std::alloc::{AllocError, Global};
 
-/// The automaton that marks with 1 where the rule is broken: it gives 0 where the rule is true and the symbol is allowed, else 1.
-/// It has one case, the guarded formula, which is the conjunction of:
+/// The automaton that marks with 1 the cells that break the rule. It gives 0 where the rule is true and the symbol is allowed,
+/// else 1. It has one case, the guarded formula, which is the conjunction of:
 /// - the rule's formula; and
 /// - for each node that doesn't allow some symbol, a guard: the cell doesn't have this node, or it has one of the symbols
 ///   that the node allows.

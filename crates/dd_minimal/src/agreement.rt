@@ -6,9 +6,9 @@ use crate::partial::Partial;
 use dd_formula::Rule;
 use dd_pattern::Filling;
 
-/// Whether the filling agrees with the pattern: whether it has each symbol that the pattern keeps. A listed pattern then
-/// forces the rule to be false. The filling's domain is the cells that the rule reads at the pattern's node. Only the
-/// contract needs the rule. The call allocates nothing.
+/// Whether the filling agrees with the pattern: whether it has each symbol that the pattern keeps. If the pattern is a
+/// minimal one, its symbols then force the rule to be false. The filling's domain is the cells that the rule reads at the
+/// pattern's node. Only the contract needs the rule. The call allocates nothing.
 pub fn forces(_rule: &Rule, partial: &Partial, filling: &Filling) -> bool
     requires partial { IsPartialOf _rule.now partial.now }
     requires filling { FillsReads _rule.now partial.now filling.now }

@@ -23,8 +23,8 @@ pub(crate) fn none_holds(symbols: u32, strides: &[usize], table: &[Outcome], fro
     true
 }
 
-/// The same for a walk along one stride more. It is that of the next cell to leave out, which has the symbol `kept`. The
-/// walk passes over fillings with this symbol, because the rule is known to be true under none of them.
+/// The same for a walk along one stride more: that of a further cell, which is left out if the answer is yes. The walk
+/// passes over fillings in which this cell has the symbol `kept`, because the rule is known to be true under none of them.
 pub(crate) fn can_spare(
     symbols: u32,
     kept: u32,

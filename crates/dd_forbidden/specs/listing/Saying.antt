@@ -4,6 +4,6 @@ use Rattle.dd_numbered.specs.{declared.numbered.Numbered.Numbered, Numbered.hold
 use Rattle.dd_formula.specs.LocalRule.{LocalRule}
 use Rattle.dd_forbidden.specs.{Breaking.is_true_at_origin, listing.Extensions.AreSymbols}
 
--- of a list of symbols for the cells that are read, in cell order, the formula is true exactly if the rule is
+-- whichever symbols the cells that are read have, in cell order, the formula is true of them exactly if the rule is true
 abbrev pub SaysRule : LocalRule → ℕ → Numbered → Type 0
 SaysRule r a e = (ss : List ℕ) → AreSymbols r ss → holds_in e ss ≡ is_true_at_origin r a ss
