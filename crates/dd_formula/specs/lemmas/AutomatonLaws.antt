@@ -102,7 +102,7 @@ within_is n = ind-Automaton (IsLimited n) (λ x y is h.
     ap (keeps_limits n) (fold-roll-Automaton Counted counted_step x)
     ∙ subst (Follows n) is (step_limited n y) (ap (λ (c : Checked). c.within) (sym (fold-roll-Automaton Checked (limits_step n) x)) ∙ h))
 
--- a test that all numbers of a range pass, at one of them
+-- where all numbers of a range pass a test, each one does
 pub range_at : (p : ℕ → Bool) (k n a : ℕ) → list_all p (range_with_len k n) ≡ true → k ≤ a → a < k + n → p a ≡ true
 range_at p k zero a h low high = absurd (omega arith)
 range_at p k (suc n) a h low high =
@@ -128,7 +128,7 @@ module _ (s : CommonNumbers) (f : Automaton) (h : IsAutomaton s f) where
   pub shallow : (counted f).depth ≤ 64
   shallow = leb-true _ _ parts_within.2
 
--- lists with the same members, joined and put in cell order
+-- lists with the same members give the same list, when they are joined and put in cell order
 module _ (X : Type 0) (g h : X → List Cell) (same : (x : X) (p : Cell → Bool) → list_all p (g x) ≡ list_all p (h x)) where
   pub in_order_alike : (xs : List X) → in_order (flat_map g xs) ≡ in_order (flat_map h xs)
   in_order_alike xs =
@@ -184,7 +184,7 @@ depth_composed f g = ap (λ h. h.depth) (counted_composed f g)
 
 pub ruleset layers = (reads_given, reads_composed, instances_given, instances_composed, depth_given, depth_composed)
 
--- a test that all elements of a list pass, at one of them
+-- where all elements of a list pass a test, each one does
 pub passes_at : {X : Type 0} (p : X → Bool) (xs : List X) (i : ℕ) (x : X) → list_all p xs ≡ true → i < length xs → x ≡ get_or xs i x → p x ≡ true
 passes_at p [] i x h below is = absurd (omega arith)
 passes_at p (y ∷ ys) zero x h below is = ap p is ∙ (and_parts (p y) (list_all p ys) h).0

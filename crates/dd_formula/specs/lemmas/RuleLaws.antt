@@ -9,7 +9,7 @@ use Rattle.dd_expansion.specs.lemmas.{LeavesAreReads.leaves_are_reads, TruthKeep
 use Rattle.dd_expansion.specs.lemmas.TruthAt.{at_origin, says_at}
 use Rattle.dd_formula.specs.LocalRule.{LocalRule, expansion_at, reads_at, cells_at, is_true}
 
--- the expansion at a node says of the symbols counted from a cell what the rule says at the cell
+-- the expansion at a node, with the cells of its leaves relative to a cell, is true exactly if the rule is true at that cell
 pub at_cell : (r : LocalRule) (c : Cell) (look : Look) → HasSymbolsBelow r.symbols look → holds (expansion_at r c.node) (λ d. look (shifted c.position d)) ≡ is_true r c look
 at_cell r c look below = says_at r.edges r.symbols r.formula look c.position c.node below
 
@@ -44,6 +44,6 @@ truth_by_given r a u v less more same given =
 pub leaves_pass_reads : (r : LocalRule) → 1 ≤ r.symbols → (a : ℕ) (test : Cell → Bool) → leaves_pass (λ c s. test c) (expansion_at r a) ≡ list_all test (reads_at r a)
 leaves_pass_reads r some a test = leaves_are_reads r.edges r.symbols some r.formula (origin_at a ∷ []) test
 
--- and a test of these cells in cell order
+-- a test of the cells that are read is a test of these cells in cell order
 pub cells_pass_reads : (r : LocalRule) (a : ℕ) (test : Cell → Bool) → list_all test (cells_at r a) ≡ list_all test (reads_at r a)
 cells_pass_reads r a test = list_all-in_order test (reads_at r a)

@@ -76,7 +76,7 @@ by_cases (case ∷ cases) otherwise a u w one other h =
     ap (λ b. cond b case.1 (first_case cases otherwise one (cell u a))) (truth_by_reads case.0 a u w one other both.0)
     ∙ ap (λ n. cond (is_true case.0 (cell w a) other) case.1 n) (by_cases cases otherwise a u w one other both.1)
 
--- at a cell that the first automaton reads
+-- the same at a cell that the first automaton reads
 at_read : (g : Automaton) → Depends g → (u w : Place) (one other : Look) (c : Cell) → list_all (alike u w one other) (map (shifted c.position) ((counted g).reads c.node)) ≡ true →
     are_equal (Some (value g one (shifted u c))) (Some (value g other (shifted w c))) ≡ true
 at_read g depends u w one other c h =
