@@ -1,4 +1,4 @@
--- Counts of what follows, and loops over a count.
+-- The value that is read, and where reading stops, don't depend on the text that has to follow. Then, loops over a count.
 use Rattle.std.proofs.Common.{◌≡◌, ℕ, suc, ◌+◌, ◌-◌, ◌*◌, ◌<◌, List, [], ◌∷◌, ◌++◌, length, Result, Ok, Err, Bool, true, false, cond, refl, sym, ap, ◌∙◌, append_assoc, arith}
 use Rattle.std.specs.Prelude.{◌==◌, ◌||◌, ℤ, Option}
 use Rattle.dd_certificate.specs.Bounds.{most_number}

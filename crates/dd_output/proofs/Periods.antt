@@ -137,7 +137,7 @@ to_full k full (item p) good = absurd (omega (arith, full, good.1))
 to_full k full (last (ends n)) good = absurd (omega (arith, full, good.1))
 to_full k full (last (shears n)) good = good.0
 
--- by a test that doesn't depend on the bytes
+-- a choice between two readers by a test that doesn't depend on the bytes
 pub cond_reads : {A : Type 0} (F : A → Type 0) (t : A → List ℕ) (C : List ℕ → Type 0) (b : Bool) (r q : List ℕ → Read A)
     → (b ≡ true → Reads F t C r) → (b ≡ false → Reads F t C q) → Reads F t C (λ bytes. cond b (r bytes) (q bytes))
 cond_reads F t C true r q one two = one refl

@@ -1,4 +1,5 @@
--- The grammar of answers, as a table with a row for each kind of answer. Bytes are given as numbers, in decimal.
+-- The grammar of answers, as a table with a row for each kind of answer. Bytes are given as numbers, in decimal. Here a name that
+-- ends with `_of` is no reader: it makes a value from the values of its parts.
 use Rattle.std.specs.Prelude.{ℕ, ℤ, List, [], ◌∷◌, Option, Some, None, codes}
 use Rattle.dd_clause.specs.declared.clause.Literal.{Literal}
 use Rattle.dd_derivation.specs.declared.step.Step.{Step}

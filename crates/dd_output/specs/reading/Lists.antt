@@ -1,4 +1,5 @@
--- Readers of lists: those that a 0 ends, and the numbers that a line ends with.
+-- Readers of lists: those that a 0 ends, and the numbers that a line ends with. A name that ends with `_of` is no reader: it makes a
+-- value from the values of its parts. 48 is the digit 0, 49 the digit 1, 45 the minus sign, 32 a space, and 10 a line feed.
 use Rattle.std.specs.Prelude.{ℕ, ℤ, pos, negsuc, zero, suc, ◌-◌, ◌≤◌, List, [], ◌∷◌, ◌++◌, Bool, true, false, cond, ◌==◌, nat_lt, nat_le, Option, Some, None}
 use Rattle.dd_values.specs.Bounds.{most_variables}
 use Rattle.dd_clause.specs.declared.clause.Literal.{Literal}
@@ -24,10 +25,12 @@ ended u = last u
 abbrev pub variable_at : List ℕ → Read (ℕ × ℕ)
 variable_at bytes = before (48 ∷ 32 ∷ []) (number_at 1 most_variables 32 32 nothing bytes)
 
+-- a literal, or the end of the list: a 0 and a space
 abbrev pub literal_entry : List ℕ → Read (Entry Literal (Unit {0}))
 literal_entry = choice_at 48 (map_at ended (word_at (48 ∷ 32 ∷ [])))
     (choice_at 45 (map_at negative_of (after_at (45 ∷ []) (49 ∷ 32 ∷ 48 ∷ 32 ∷ []) variable_at)) (map_at positive_of variable_at))
 
+-- the number of a clause, or the end of the list: a 0 and the byte `end`
 abbrev pub number_entry : ℕ → List ℕ → Read (Entry ℕ (Unit {0}))
 number_entry end = choice_at 48 (map_at ended (word_at (48 ∷ end ∷ [])))
     (map_at entry_of (λ bytes. before (48 ∷ end ∷ []) (number_at 1 most_count 32 32 nothing bytes)))
@@ -48,6 +51,7 @@ abbrev pub is_last : Option ℕ → ℕ → Bool
 is_last None k = false
 is_last (Some most) k = nat_le most (suc k)
 
+-- n is at most the bound, if there is one
 abbrev pub AtMost : Option ℕ → ℕ → Type 0
 AtMost None n = Unit {0}
 AtMost (Some most) n = n ≤ most
@@ -86,6 +90,7 @@ minus_of n = (negsuc (n.0 - 1), n.1)
 abbrev pub plus_of : ℕ × ℕ → ℤ × ℕ
 plus_of n = (pos n.0, n.1)
 
+-- a number up to `bound` that may have a minus sign, and the byte that ends it; `rest` is the least text that has to follow
 unfoldable pub signed_at : ℕ → ℕ → ℕ → List ℕ → List ℕ → Read (ℤ × ℕ)
 signed_at bound end other rest = choice_at 45
     (map_at minus_of (after_at (45 ∷ []) (49 ∷ end ∷ rest) (number_at 1 bound end other (λ _. rest))))

@@ -29,5 +29,6 @@ abbrev pub periods_of : List ℕ × PeriodsEnd → List ℕ × ℕ
 periods_of (ps, ends n) = (ps ++ n ∷ [], 0)
 periods_of (ps, shears n) = (ps, n)
 
+-- the periods up to the end of their line, and the shear, which is 0 if none is written
 unfoldable pub periods : Form (List ℕ × ℕ)
 periods = record { read = map_at periods_of (entries_at period_entry 0); least = 48 ∷ 10 ∷ [] }

@@ -11,9 +11,11 @@ pub record Stop : Type 0 where
 abbrev pub stop : List ℕ → List ℕ → Stop
 stop left missing = record { left = left; missing = missing }
 
+-- what a reader gives: a value and the bytes after it, or where it stops
 abbrev pub Read : Type 0 → Type 0
 Read A = Result (A × List ℕ) Stop
 
+-- what f gives for the value; a stop stays as it is
 infixl 10 ◌>>=◌
 abbrev pub ◌>>=◌ : {A B : Type 0} → Result A Stop → (A → Result B Stop) → Result B Stop
 (Ok x) >>= f = f x

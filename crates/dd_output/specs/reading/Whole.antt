@@ -30,6 +30,7 @@ answers_at = map_at items_of (entries_at answer_entry 0)
 abbrev pub script_of : (ℕ × ℕ) × (List ℕ × Unit {0}) → List ℕ
 script_of x = x.1.0
 
+-- the length of the script, a line feed, the script, and a line feed
 unfoldable pub script_at : List ℕ → Read (List ℕ)
 script_at = map_at script_of (then_at (number_at 0 most_script 10 10 (λ n. replicate n 0 ++ 10 ∷ end_line))
     (λ n. then_at (λ bytes. before (10 ∷ end_line) (bytes_at n.0 bytes)) (λ _ bytes. before end_line (word_at (10 ∷ []) bytes))))
@@ -40,6 +41,7 @@ output_of x = record { script = x.0; answers = x.1 }
 abbrev pub head_text : List ℕ
 head_text = codes "diddy 1\nscript "
 
+-- an output, with bytes that may be left after it
 unfoldable pub output_at : List ℕ → Read Output
 output_at = map_at output_of (after_at head_text (48 ∷ 10 ∷ 10 ∷ end_line) (then_at script_at (λ _. answers_at)))
 
