@@ -14,9 +14,11 @@ pub record IsWiring (w : Wiring) : Type 0 where
   pub ascending : IsStrictlySortedBy cell_cmp w.cells
   pub as_many : length w.signals ≡ length w.cells
 
+-- a wiring without cells
 abbrev pub unwired : Wiring
 unwired = record { cells = []; signals = [] }
 
+-- one more cell, with its signals
 abbrev pub with_cell : Wiring → Cell → List Signal → Wiring
 with_cell w c ss = record { cells = w.cells ++ c ∷ []; signals = w.signals ++ ss ∷ [] }
 

@@ -7,6 +7,7 @@ use Rattle.dd_circuit.specs.declared.gates.Gate.TheVariants.{And, Or, Iff}
 use Rattle.dd_circuit.specs.Circuits.{opposite}
 use Rattle.dd_compile.specs.Wiring.{Wiring, signals_of}
 
+-- the signals of a cell; none for a cell without any
 abbrev pub all_of : Option (List Signal) → List Signal
 all_of None = []
 all_of (Some ss) = ss
@@ -23,6 +24,7 @@ signals_there w v cs = flat_map (λ d. all_of (signals_of w (shifted v d))) cs
 abbrev pub signed : Bool → Signal → Signal
 signed positive s = if positive then s else opposite s
 
+-- the input or its opposite, or a signal of the variable if there is no input
 abbrev pub placed_by : Option Signal → ℕ → Bool → Signal
 placed_by None variable positive = record { variable = variable; positive = positive }
 placed_by (Some input) variable positive = signed positive input
@@ -32,6 +34,7 @@ placed_by (Some input) variable positive = signed positive input
 abbrev pub placed : List Signal → ℕ → Signal → Signal
 placed inputs n s = placed_by (slice_get inputs (s.variable - 1)) (n + (s.variable - length inputs)) s.positive
 
+-- the gate that takes the place of a template's gate
 abbrev pub placed_gate : List Signal → ℕ → Gate → Gate
 placed_gate inputs n (And members) = And (map (placed inputs n) members)
 placed_gate inputs n (Or members) = Or (map (placed inputs n) members)
