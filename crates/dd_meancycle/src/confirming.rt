@@ -66,7 +66,7 @@ fn is_potential_along(edge: &Edge, potentials: &[i64], mean: Ratio) -> bool
     is_small_rise(from, to, mean.length, edge.weight, mean.weight)
 }
 
-/// Whether the potential rises by at most so much along each edge.
+/// Whether the potential rises by at most that much along each edge of the list.
 fn are_potentials_along(edges: &[Edge], potentials: &[i64], mean: Ratio) -> bool
     requires { All (IsEdgeOf (length potentials.now)) edges.now }
     ensures { IsTrue result → ArePotentialsAlong mean.weight mean.length potentials.now edges.now }

@@ -21,7 +21,7 @@ use std::alloc::{AllocError, Global};
 #[derive(Debug, Drop)]
 pub enum Mean {
     /// The mean is `numerator / denominator` in lowest terms. The cycle is given by its states, at most as many as the graph
-    /// has. Each state has a potential of at most 2^40 in absolute value. Along each edge it rises by at most
+    /// has. Each state has a potential of at most 2^40 in absolute value. Along each edge the potential rises by at most
     /// `denominator * weight - numerator`, where `weight` is that of the edge.
     Least {
         numerator: u64,

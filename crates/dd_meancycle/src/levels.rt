@@ -32,7 +32,7 @@ fn lower(best: Option<u32>, here: u32) -> u32
 }
 
 /// Relaxes the edge. The lightest walk of the previous level to the edge's source, followed by the edge, is a walk to the
-/// edge's target. Its weight replaces the target's entry in `row`, if it is smaller.
+/// edge's target. Its weight replaces the target's entry in `row`, if there is none or it is greater.
 fn relax(previous: &[Option<u32>], row: &mut [Option<u32>], edge: &Edge)
     requires from { edge.now.from < length previous.now }
     requires to { edge.now.to < length row.old }

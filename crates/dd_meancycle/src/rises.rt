@@ -1,6 +1,6 @@
 //! What is read off the table of least weights: the least mean, potentials and ranks. A rise of a state goes from its entry in
 //! some level `k` below `last` to its entry in the level `last`. Its mean is the difference of the two, divided by
-//! `last - k`. Take the greatest mean of a rise of each state: the least of these is the least mean of a cycle (Karp 1978).
+//! `last - k`. Each state has a greatest mean of a rise. The least of these is the least mean of a cycle (Karp 1978).
 ghost use Rattle.std.specs.Prelude.{◌≡◌, ℕ, ◌-◌, ◌*◌, ◌<◌, ◌≤◌, ◌^◌, length, IfOk, slice_index_or, MatchOption, ⊤, Option, None};
 ghost use Rattle.std.specs.Int.{IsGcd};
 ghost use Rattle.dd_meancycle.specs.table.Levels.{level_weight_at};
@@ -109,7 +109,7 @@ fn gentler(best: Option<Steep>, state: u32, here: Option<Ratio>) -> Option<Steep
     }
 }
 
-/// The state whose greatest mean of a rise is the least of all states, or `None` if no walk has `last` edges.
+/// The state whose greatest mean of a rise is the smallest, or `None` if no walk has `last` edges.
 pub(crate) fn gentlest(levels: &[Level], last: usize, states: u32) -> Option<Steep>
     requires last { 0 < last }
     requires few { last < 2 ^ 31 }
@@ -175,7 +175,7 @@ pub(crate) fn potentials(
     Ok(potentials)
 }
 
-/// The greatest number of edges, below `last`, of a walk to the state.
+/// The height of the state: the greatest number of edges below `last` that a walk to it has.
 fn height(levels: &[Level], last: usize, state: u32) -> usize
     requires last { 0 < last }
     requires tabulated { IsTabulated levels.now last state }
@@ -190,7 +190,7 @@ fn height(levels: &[Level], last: usize, state: u32) -> usize
     height
 }
 
-/// A rank for each state: `last` less the greatest number of edges of a walk to it.
+/// A rank for each state: `last` less the state's height.
 pub(crate) fn ranks(
     alloc: Global,
     levels: &[Level],

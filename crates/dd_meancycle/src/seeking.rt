@@ -167,7 +167,7 @@ fn reversed(alloc: Global, states: &[u32]) -> Result<Items<u32>, AllocError> {
     Ok(Items::from_vec(states))
 }
 
-/// A cycle and potentials that should show the least mean. They do not if the search gave up.
+/// A cycle and potentials that should show the least mean. If the search gave up, they need not.
 pub(crate) fn sought(alloc: Global, states: u32, edges: &[Edge]) -> Result<Found, AllocError> {
     let count = states as usize;
     let mut potentials = vec![in alloc; 0i64; count]?;

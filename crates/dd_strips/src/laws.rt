@@ -15,7 +15,7 @@ use dd_transfer::slices_are_walks;
 /// Does nothing. Its contract says what a closed walk and potentials show:
 /// - The walk's mean, divided by the number of positions of a slice, is the least density of all configurations on the strip.
 /// - Take an admissible filling of the slices of a state and `j` more. These `j` slices weigh at least `j` times the walk's
-///   mean, less the spread of the potentials divided by the mean's denominator.
+///   mean, less the spread of the potentials over the mean's denominator. The spread is the greatest less the least.
 pub fn strip_least()
     ensures { (r : LocalRule) (periods ws : List ℕ) (p q : ℕ) (walk : List ℕ) (ps : List ℤ) → IsRule r → IsStrip r periods →
         (c : IsDensityCertificate r (strip_for r periods) ws p q walk ps) → StripLeast r (strip_for r periods) ws p q c.l c.m (spread_of ps) }

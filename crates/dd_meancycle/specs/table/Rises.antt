@@ -105,12 +105,12 @@ pub record IsReduced (mean r : Ratio) : Type 0 where
   pub short : r.length ≤ mean.length
   pub light : r.weight ≤ mean.weight
 
--- h is the greatest number of edges below `last` that a walk to v has
+-- h is the height of v: the greatest number of edges below `last` that a walk to v has
 pub record IsHeight (levels : List (List (Option ℕ))) (last v h : ℕ) : Type 0 where
   pub below : h < last
   pub here : is_some (level_weight_at levels h v) ≡ true
   pub greatest : (k : ℕ) → k < last → is_some (level_weight_at levels k v) ≡ true → k ≤ h
 
--- r is the rank of v: `last` less that number
+-- r is the rank of v: `last` less the height of v
 abbrev pub IsRank : List (List (Option ℕ)) → ℕ → ℕ → ℕ → Type 0
 IsRank levels last v r = (h : ℕ) × IsHeight levels last v h × (r + h ≡ last)
