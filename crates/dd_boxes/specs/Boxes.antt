@@ -29,6 +29,7 @@ goal_reach (breaks y) = reach y
 goal_reach (differ s f g) = max (automaton_reach s.nodes f) (automaton_reach s.nodes g)
 goal_reach always = 0
 
+-- B(n) holds each cell that the goal reads at the origin, and no smaller box does
 pub record IsLeastRadius (g : GoalOf) (n : ℕ) : Type 0 where
   pub reaches : Reaches g n
   pub least : (k : ℕ) → Reaches g k → n ≤ k

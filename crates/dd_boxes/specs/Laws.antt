@@ -5,6 +5,7 @@ use Rattle.dd_formula.specs.LocalRule.{LocalRule}
 use Rattle.dd_boxes.specs.{Goals.GoalOf, Goals.IsGoalFor, Fillings.in_box}
 use Rattle.dd_boxes.specs.Boxes.{Suffices, Reaches, IsLeastRadius, HoldsNowhere}
 
+-- the law of B(n) for the rule x and the goal g
 pub record OneBox (x : LocalRule) (g : GoalOf) (n : ℕ) : Type 0 where
   -- `in_box` tests for the positions of the box
   pub positions : (p : Place) → (in_box x.dimension n p ≡ true) ↔ IsCentred x.dimension n p
