@@ -68,7 +68,7 @@ node_few maker count turn node most start now literals p h few =
     let split = ap (λ (m : AllMade). length m.gates) (node_split maker count turn node n h) in
     omega (arith, whole, nothing, there, here, same, split, few, length-append one later)
 
--- the same for a rule, whose expansion is kept
+-- the same for a rule: there is room for the gates of its expansion at the node
 pub rule_few : (w : Wiring) (y : LocalRule) (v : Place) (turn : Signal → Literal) (node most : ℕ) (start now : Encoding) (literals : List Literal) (e : Expanded) →
     NodesLeft (node_maker w y v) y.nodes turn node start now literals → node < y.nodes → e ≡ expansion_at y node →
     size (with_parts start (turned_part (node_maker w y v) y.nodes turn ∷ [])).circuit ≤ most → size now.circuit + gate_count e ≤ most
