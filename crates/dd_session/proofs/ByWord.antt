@@ -1,4 +1,4 @@
--- What a session does, by the word that it has.
+-- What a session does for each word.
 use Rattle.std.proofs.Common.{◌≡◌, ◌≢◌, ◌⊎◌, ◌≤◌, ℕ, List, codes, refl, subst, inl, inr, arith}
 use Rattle.std.specs.declared.option.Option.{Option}
 use Rattle.dd_sample.specs.Sample.{sample_text}
@@ -11,7 +11,7 @@ use Rattle.dd_session.proofs.Words.{different, alone, one_sample}
 
 -- ---- what is read and written
 
--- The words ask for something.
+-- The words ask for something, so `IsIdle` says nothing of the session.
 idle_never : {S K : Type 0} (words : List (List ℕ)) (source : Change S) (sink : Change K) (status : Status) → status ≢ BadWords → ¬ AreBad words
     → IsIdle words source sink status
 idle_never words source sink status never asked = record {

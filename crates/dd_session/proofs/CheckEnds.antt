@@ -50,14 +50,14 @@ took_output old new bytes to_end short = record { given = bytes; consumed = to_e
 
 -- ---- what the bytes decide
 
--- a text is that of at most one output
+-- a text is the text of at most one output
 abbrev pub OneOutput : Type 0
 OneOutput = (a b : Output) → IsWritableOutput a → IsWritableOutput b → output_text a ≡ output_text b → a ≡ b
 
 too_long : (bytes : List ℕ) (left : Option (List ℕ)) → GivesMore (Some bytes) left most_checked → ¬ IsCheckedOutput bytes
 too_long bytes left more can = omega (arith, known_more bytes left most_checked more, can.short)
 
--- no check ends by bad words
+-- no check ends with `BadWords`
 pub never_bad : {S K : Type 0} (source : Change S) (sink : Change K) (status : Status) → CheckEnded source sink status → status ≢ BadWords
 never_bad source sink status ended is = let none : ⊥ = subst (CheckEnded source sink) is ended in none
 

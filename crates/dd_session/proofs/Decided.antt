@@ -19,10 +19,11 @@ pub known_more : (bytes : List ℕ) (left : Option (List ℕ)) (limit : ℕ) →
 known_more bytes None limit more = absurd more.consumed
 known_more bytes (Some rest) limit more = omega (arith, ap length more.consumed, length-append more.given rest, more.many)
 
--- bytes spell one script at most, and are not refused then
+-- bytes spell at most one script
 abbrev pub OneScript : Type 0
 OneScript = (bytes : List ℕ) (s t : Parts) → Spells bytes s → Spells bytes t → s ≡ t
 
+-- bytes that spell a script are not refused
 abbrev pub NeverBoth : Type 0
 NeverBoth = (bytes : List ℕ) (s : Parts) (n : ℕ) (k : RefusalKind) → Spells bytes s → RefusedAs bytes n k → ⊥
 
@@ -85,7 +86,7 @@ ended_run source sink given bytes status to_end short same ran = by_status statu
   by_status BadWords run = absurd run
   by_status Rejected run = absurd run
 
--- no run ends by bad words
+-- no run ends with `BadWords`
 pub never_ran : {S K : Type 0} (source : Change S) (sink : Change K) (status : Status) → Ended source sink status → status ≢ BadWords
 never_ran source sink status ended is = let none : ⊥ = subst (Ended source sink) is ended in none
 

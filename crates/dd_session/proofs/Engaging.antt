@@ -108,7 +108,7 @@ refused_unasked P bytes left_old left_new held_old held_new is never (inr run) =
       spelled = subst (λ (l : List ℕ). Spells l run.run.script) (sym same) run.run.spelled;
     })
 
--- ---- by the status
+-- ---- what the status says of the engines
 
 pub asks_first : (left_old left_new : Option (List ℕ)) (before after : List Seen) (given bytes : List ℕ) → ReadToEnd left_old left_new given → bytes ≡ given
     → AsksFirstOver bytes before after → AsksFirst left_old left_new before after
@@ -119,12 +119,12 @@ asks_first left_old left_new before after given bytes to_end same over =
 pub same_sample : (before after : List Seen) (m n : ℕ) → m ≡ n → AsksFirstOver (sample_text m) before after → AsksFirstOver (sample_text n) before after
 same_sample before after m n is over = subst (λ (k : ℕ). AsksFirstOver (sample_text k) before after) is over
 
--- a run to the end has answered its queries
+-- a run that came to its end has answered its queries
 pub never_unanswered : (has : Bool) (status : Status) → status ≡ status_of has → IsUnanswered status → ⊥
 never_unanswered true status is unanswered = let none : ⊥ = subst IsUnanswered is unanswered in none
 never_unanswered false status is unanswered = let none : ⊥ = subst IsUnanswered is unanswered in none
 
--- an input that is refused has no query that is answered
+-- a session that refuses its input answers no query
 pub never_to_end : {K : Type 0} (sink : Change K) (line : List ℕ) (status : Status) → RefusedBy sink line status → IsToEnd status → ⊥
 never_to_end sink line Definite wrote to_end = wrote
 never_to_end sink line SomeUnknown wrote to_end = wrote

@@ -40,7 +40,7 @@ accepted_within s answers n accepted =
 pub has_query_at : (s : Parts) (n : ℕ) → 1 ≤ n → n - 1 < length s.queries → HasQuery s n
 has_query_at s n numbered less = record { numbered = numbered; within = omega (arith, numbered, less) }
 
--- the answer with the number is the one that was checked
+-- if this is the answer with the number and is accepted there, it is a certificate
 at_number : (s : Parts) (answers : List Answer) (n : ℕ) (a : Answer) → slice_get answers (n - 1) ≡ Some a → IsAcceptedAt s answers n → IsCertificate s n a
 at_number s answers n a is accepted = subst (λ (o : Option Answer). IsSomeAnd o (λ b. IsCertificate s n b)) is accepted
 
@@ -147,7 +147,7 @@ same_length s answers all =
     as_many (length s.queries) (length answers) (most_of s answers) refl
     (λ some. accepted_within s answers (most_of s answers) (all (most_of s answers) some (omega arith)))
 
--- certificates claim what is true
+-- what a certificate claims is true
 abbrev AreTrue : Parts → Type 0
 AreTrue s = (number : ℕ) (a : Answer) → IsCertificate s number a → Claim s number a
 
@@ -190,7 +190,7 @@ finished_front s answers a b c line certified each is front =
           (subst (λ (n : ℕ). Appends a b (accepted_lines n)) (most_is s answers each.accepted) each.appends) (subst (GainsFront b c) is front);
     }
 
--- the last line was not made
+-- memory ran out before the last line was made
 pub unfinished_front : (s : Parts) (answers : List Answer) (a b : Option (List ℕ)) → AcceptedEach a b s answers → CheckFront a b s answers
 unfinished_front s answers a b each = record {
   done = most_of s answers;

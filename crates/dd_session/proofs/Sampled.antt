@@ -23,7 +23,7 @@ pub sample_over : {K : Type 0} (sink : Change K) (number : ℕ) (s : Parts) (sta
     → LinesOf sink s status → SampleEnded sink number status
 sample_over sink number s status spelled lines = inl record { script = s; spelled = spelled; lines = lines }
 
--- no run of a sample ends by bad words
+-- no run of a sample ends with `BadWords`
 pub never_sampled : {K : Type 0} (sink : Change K) (number : ℕ) (status : Status) → SampleEnded sink number status → status ≢ BadWords
 never_sampled sink number status (inl ran) is = let none : ⊥ = subst (LinesOf sink ran.script) is ran.lines in none
 never_sampled sink number status (inr kept) is = absurd (cc (sym kept.1 ∙ is))
@@ -32,7 +32,7 @@ never_sampled sink number status (inr kept) is = absurd (cc (sym kept.1 ∙ is))
 abbrev pub NeverBoth : Type 0
 NeverBoth = (bytes : List ℕ) (s : Parts) (n : ℕ) (k : RefusalKind) → Spells bytes s → RefusedAs bytes n k → ⊥
 
--- so if they are not parsed, memory ran out
+-- so if bytes that spell a script are not parsed, memory ran out
 pub only_memory : NeverBoth → (bytes : List ℕ) (s : Parts) → Spells bytes s → (n : ℕ) (kind : ScriptKind) → IsRefusedAs bytes n kind → is_memory kind ≡ true
 only_memory never bytes s spelled n refused.Syntax is = absurd (never bytes s n syntax spelled is)
 only_memory never bytes s spelled n (refused.Unknown text) is = absurd (never bytes s n (unknown (string_bytes text)) spelled is)

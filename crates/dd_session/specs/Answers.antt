@@ -12,7 +12,7 @@ abbrev pub has_unknown : List Answer → Bool
 has_unknown [] = false
 has_unknown (a ∷ answers) = is_unknown a || has_unknown answers
 
--- right answers to the first queries, in order, each of which an output can hold
+-- the answers are right answers to the first queries, in order, and an output can hold each
 abbrev pub AllRight : Parts → List Query → List Answer → Type 0
 AllRight s queries [] = ⊤
 AllRight s [] (a ∷ answers) = ⊥

@@ -23,7 +23,7 @@ abbrev pub engines : {E : Type 0} → (E → ℕ) → (E → ℕ) → (E → Boo
 engines asked given sound old new =
     record { old = old; new = new; before = roster_seen asked given sound old; after = roster_seen asked given sound new }
 
--- no engine was asked
+-- no engine was asked, and the roster is as it was
 abbrev pub AreUnasked : {E : Type 0} → Engines E → Type 0
 AreUnasked roster = roster.new ≡ roster.old
 
@@ -47,7 +47,7 @@ pub record HasBegun (left_old left_new held_old held_new : Option (List ℕ)) : 
   pub short : length bytes ≤ most_script
   pub run : Begun held_old held_new bytes
 
--- all queries were answered
+-- the status says that all queries were answered
 abbrev pub IsToEnd : Status → Type 0
 IsToEnd Definite = Unit {0}
 IsToEnd SomeUnknown = Unit {0}
@@ -58,7 +58,7 @@ IsToEnd Memory = ⊥
 IsToEnd BadWords = ⊥
 IsToEnd Rejected = ⊥
 
--- no query was answered
+-- the status says that no query was answered
 abbrev pub IsUnanswered : Status → Type 0
 IsUnanswered Definite = ⊥
 IsUnanswered SomeUnknown = ⊥
@@ -69,8 +69,7 @@ IsUnanswered Memory = ⊥
 IsUnanswered BadWords = Unit {0}
 IsUnanswered Rejected = Unit {0}
 
--- The bytes are a script. Where one of its queries asks a box question, the first engine that is left, if one is left, was
--- asked.
+-- The bytes are a script. If one of its queries asks a box question, the first engine that is left was asked, if one is left.
 pub record AsksFirstOver (bytes : List ℕ) (before after : List Seen) : Type 0 where
   pub script : Parts
   pub spelled : Spells bytes script
@@ -88,7 +87,7 @@ pub record AsksFirst (left_old left_new : Option (List ℕ)) (before after : Lis
 pub record AreKept {E : Type 0} (roster : Engines E) (status : Status) : Type 0 where
   -- Each sound engine is still there, in order, and no count has fallen.
   pub kept : Kept roster.before roster.after
-  -- Where no query is answered, no engine is asked.
+  -- If no query is answered, no engine is asked.
   pub unanswered : IsUnanswered status → AreUnasked roster
 
 -- What holds for the word `run`.
@@ -97,5 +96,5 @@ pub record RunConsults {S K E : Type 0} (source : Change S) (sink : Change K) (r
   pub late : AreUnasked roster ⊎ HasBegun source.bytes_old source.bytes_new sink.bytes_old sink.bytes_new
   -- No engine is asked for an input that is refused.
   pub refused : (bytes : List ℕ) → source.bytes_old ≡ Some bytes → ¬ IsAccepted bytes → AreUnasked roster
-  -- Where all queries were answered and one of them asks a box question, the first engine that is left was asked.
+  -- If all queries were answered and one of them asks a box question, the first engine that is left was asked.
   pub asked : IsToEnd status → AsksFirst source.bytes_old source.bytes_new roster.before roster.after

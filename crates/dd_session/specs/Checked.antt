@@ -10,12 +10,12 @@ use Rattle.dd_session.specs.declared.status.Status.TheVariants.{Definite, SomeUn
 use Rattle.dd_session.specs.{Output.long_line, Sides.Change, Sides.IsUntouched, Sides.HasFailed}
 use Rattle.dd_session.specs.Checks.{accepted_lines, checked_line, rejected_line, most_checked, AcceptedTo, IsEnding, IsCheckable, IsRefusedOutput, IsAllAccepted, IsRejectedAfter, IsCheckedOutput}
 
--- All answers in the bytes are accepted, and the whole text that says so was written.
+-- All answers in the bytes are accepted, and the whole text that says so was written. `has` says whether some answer is UNKNOWN.
 pub record WholeCheck (old new : Option (List ℕ)) (has : Bool) (bytes : List ℕ) : Type 0 where
   pub all : IsAllAccepted has bytes
   pub appends : Appends old new (accepted_lines (length all.output.answers) ++ checked_line (length all.output.answers))
 
--- Some answer is rejected, and the whole text up to the first such was written.
+-- Some query is rejected, and the whole text up to the line of the first one was written.
 pub record WholeRejection (old new : Option (List ℕ)) (bytes : List ℕ) : Type 0 where
   pub done : ℕ
   pub rejected : IsRejectedAfter done bytes
@@ -75,7 +75,7 @@ OfBytes source P = Read source.bytes_old source.bytes_new P
 abbrev pub IsTooLong : {S : Type 0} → Change S → Type 0
 IsTooLong source = GivesMore source.bytes_old source.bytes_new most_checked
 
--- What a check read and wrote, by its status. A fault comes only where the source or the sink failed in this call.
+-- What a check read and wrote, by its status. `ReadFault` and `WriteFault` come only if the source or the sink failed in this call.
 abbrev pub CheckEnded : {S K : Type 0} → Change S → Change K → Status → Type 0
 CheckEnded source sink Definite = OfBytes source (WholeCheck sink.bytes_old sink.bytes_new false)
 CheckEnded source sink SomeUnknown = OfBytes source (WholeCheck sink.bytes_old sink.bytes_new true)

@@ -1,4 +1,4 @@
--- what a session does, by its words
+-- what a session does for its words
 pub mod Sessions
 -- the words that a session has
 pub mod Words

@@ -13,7 +13,7 @@ use Rattle.dd_script.specs.declared.fault.ScriptKind.TheVariants as refused
 unfoldable pub header : List ℕ → List ℕ
 header bytes = lines_before bytes
 
--- The whole output for a script of these bytes and these answers to its queries, in order.
+-- The whole output for a script that these bytes spell, with these answers to its queries, in order.
 abbrev pub output_of : List ℕ → List Answer → List ℕ
 output_of bytes answers = header bytes ++ texts answer_text 1 answers ++ end_line
 
@@ -53,7 +53,7 @@ refusal_kind_text (twice name) = codes "twice " ++ name
 refusal_kind_text dimension = codes "dimension"
 refusal_kind_text (size l) = codes "size " ++ limit_text l
 
--- for bytes that are no script: these words, the number of the command, and what is wrong with it
+-- for bytes that are no script: `words`, the number of the command, and what is wrong with it
 abbrev pub refused_line : List ℕ → ℕ → RefusalKind → List ℕ
 refused_line words command k = words ++ (codes " " ++ (decimal command ++ (codes " " ++ (refusal_kind_text k ++ codes "\n"))))
 
@@ -61,7 +61,7 @@ refused_line words command k = words ++ (codes " " ++ (decimal command ++ (codes
 abbrev pub refused_words : List ℕ
 refused_words = codes "refused"
 
--- this is the line for what was found wrong with a command; there is none where memory ran out
+-- this is the line for a script that is refused for this kind of fault; if memory ran out, there is no line
 abbrev pub IsLineOf : List ℕ → ℕ → ScriptKind → List ℕ → Type 0
 IsLineOf words command refused.Syntax line = line ≡ refused_line words command syntax
 IsLineOf words command (refused.Unknown name) line = line ≡ refused_line words command (unknown (string_bytes name))

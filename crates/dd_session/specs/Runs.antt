@@ -36,7 +36,7 @@ pub record RanShort (left_old left_new held_old held_new : Option (List ℕ)) : 
   pub short : length bytes ≤ most_script
   pub run : ShortRun held_old held_new bytes
 
--- The bytes are a script that is not too long.
+-- The bytes spell a script and are not too many: a run accepts them.
 pub record IsAccepted (bytes : List ℕ) : Type 0 where
   pub short : length bytes ≤ most_script
   pub script : Parts
@@ -92,7 +92,7 @@ RanOver sink bytes ReadFault = ⊥
 RanOver sink bytes BadWords = ⊥
 RanOver sink bytes Rejected = ⊥
 
--- What a run read and wrote, by its status. A fault comes only where the source or the sink failed in this call.
+-- What a run read and wrote, by its status. `ReadFault` and `WriteFault` come only if the source or the sink failed in this call.
 abbrev pub Ended : {S K : Type 0} → Change S → Change K → Status → Type 0
 Ended source sink Definite = RanWhole source.bytes_old source.bytes_new sink.bytes_old sink.bytes_new false
 Ended source sink SomeUnknown = RanWhole source.bytes_old source.bytes_new sink.bytes_old sink.bytes_new true
@@ -105,7 +105,7 @@ Ended source sink Memory = RanShort source.bytes_old source.bytes_new sink.bytes
 Ended source sink BadWords = ⊥
 Ended source sink Rejected = ⊥
 
--- The bytes are a script that is run. `has` says whether some query of it has no definite answer.
+-- A run accepts the bytes. `has` says whether some query of their script has no definite answer.
 pub record IsAcceptedAs (has : Bool) (bytes : List ℕ) : Type 0 where
   pub accepted : IsAccepted bytes
   pub is_open : IsOpenAs has accepted.script

@@ -8,7 +8,7 @@ use Rattle.dd_session.specs.declared.status.Status.TheVariants.{Definite, SomeUn
 use Rattle.dd_session.specs.{Answers.IsOpenAs, Sides.Change, Sides.IsUntouched, Sides.HasFailed, Written.AnsweredToEnd, Written.AnsweredShort}
 use Rattle.dd_script.specs.declared.fault.ScriptKind.TheVariants as refused
 
--- memory ran out, and nothing is known to be wrong with the script
+-- whether the fault is that memory ran out, so that nothing is known to be wrong with the script
 abbrev pub is_memory : ScriptKind → Bool
 is_memory refused.Syntax = false
 is_memory (refused.Unknown text) = false
@@ -28,12 +28,12 @@ LinesOf sink s ReadFault = ⊥
 LinesOf sink s BadWords = ⊥
 LinesOf sink s Rejected = ⊥
 
--- The sample with this number is a script, and so much of its lines was written, by the status.
+-- The sample with this number is a script, and its lines were written as far as the status says.
 pub record SampleRan {K : Type 0} (sink : Change K) (number : ℕ) (status : Status) : Type 0 where
   pub script : Parts
   pub spelled : Spells (sample_text number) script
   pub lines : LinesOf sink script status
 
--- What the run of the sample with this number wrote, by the status. It wrote nothing where memory ran out before its script was made.
+-- What the run of the sample with this number wrote, by the status. It wrote nothing if memory ran out before its script was made.
 abbrev pub SampleEnded : {K : Type 0} → Change K → ℕ → Status → Type 0
 SampleEnded sink number status = SampleRan sink number status ⊎ (IsUntouched sink × (status ≡ Memory))

@@ -1,4 +1,4 @@
--- What a session does, by the words after the program's name: the contract of `run_diddy`, from the top.
+-- What a session does for the words after the program's name. These are the promises of the contract of `run_diddy`.
 use Rattle.std.specs.Prelude.{◌≡◌, ◌↔◌, ◌≤◌, ◌+◌, ℕ, List, Some, codes}
 use Rattle.dd_values.specs.Bounds.{most_script}
 use Rattle.dd_outside.specs.Bytes.{GivesAtMost}
@@ -37,9 +37,9 @@ pub record IsSampleRun {S K : Type 0} (number : ℕ) (source : Change S) (sink :
   -- The source is left as it is.
   pub source_kept : IsUntouched source
 
--- Other words ask for nothing.
+-- Words that ask for nothing.
 pub record IsIdle {S K : Type 0} (words : List (List ℕ)) (source : Change S) (sink : Change K) (status : Status) : Type 0 where
-  -- The status says so, and comes for no other words.
+  -- The status is `BadWords` exactly if the words ask for nothing.
   pub says : (status ≡ BadWords) ↔ AreBad words
   -- Nothing is read then.
   pub source_kept : status ≡ BadWords → IsUntouched source
@@ -63,11 +63,11 @@ pub record IsSession {S K : Type 0} (words : List (List ℕ)) (source : Change S
 
 -- Which engines a session asks.
 pub record Consults {S K E : Type 0} (words : List (List ℕ)) (source : Change S) (sink : Change K) (roster : Engines E) (status : Status) : Type 0 where
-  -- The roster is kept, and where no query is answered no engine is asked.
+  -- The roster is kept. If no query is answered, no engine is asked.
   pub always : AreKept roster status
   -- A run asks no engine before its header is written, nor for an input that is refused.
   pub run : IsOnly (codes "run") words → RunConsults source sink roster status
   -- A check asks no engine.
   pub check : IsOnly (codes "check") words → AreUnasked roster
-  -- Where all queries of a sample were answered and one of them asks a box question, the first engine that is left was asked.
+  -- If all queries of a sample were answered and one of them asks a box question, the first engine that is left was asked.
   pub sample : (number : ℕ) → IsSample number words → IsToEnd status → AsksFirstOver (sample_text number) roster.before roster.after

@@ -6,6 +6,7 @@ ghost use Rattle.std.specs.Fmt.{decimal};
 use dd_script::{Limit, ScriptKind};
 use std::alloc::{AllocError, Global};
 
+// The word for a limit in the line of a refusal.
 fn limit_text(limit: Limit) -> &'static str
     ensures { result.now ≡ limit_text limit }
 {
@@ -33,7 +34,7 @@ fn limit_text(limit: Limit) -> &'static str
     }
 }
 
-// The line for a refused command: these words, the command's number, the fault, and the name or the limit that the fault is about.
+// The line for a refused command: `words`, the command's number, `fault`, and `name`, which may be the word for a limit or empty.
 fn refused_line(
     alloc: Global,
     words: &str,
@@ -46,7 +47,7 @@ fn refused_line(
     format!(in alloc; "{words} {command} {fault}{name}\n")
 }
 
-/// The line for bytes that are no script. It begins with these words. There is none where memory ran out.
+/// The line for bytes that are no script. It begins with `words`. If memory ran out, now or when the bytes were read, there is no line.
 pub(crate) fn refused_text(
     alloc: Global,
     words: &str,

@@ -1,4 +1,4 @@
-//! A session, by the words of the command line.
+//! A session: what it does for the words of the command line.
 ghost use Rattle.std.specs.Prelude.{◌≡◌, ◌≢◌, ◌⊎◌, ◌+◌, ◌≤◌, ◌↔◌, ℕ, List, Some, IsTrue, IfOk, map, codes, string_bytes, length};
 ghost use Rattle.dd_values.specs.Bounds.{most_script, most_commands};
 ghost use Rattle.dd_outside.specs.Bytes.{GivesAtMost};
@@ -34,6 +34,7 @@ fn is_text(word: &String, text: &str) -> bool
     word.as_str() == text
 }
 
+// Whether there is one word, and it is this text.
 fn is_only(words: &[String], text: &str) -> bool
     ensures { IsTrue result ↔ IsOnly text.now (map string_bytes words.now) }
 {
@@ -59,7 +60,7 @@ fn sample_of(words: &[String]) -> Option<u32>
     }
 }
 
-/// Writes the line for an input that is refused.
+/// Writes the line for an input that is refused. The result is the status of the session.
 pub(crate) fn refuse<K: Sink>(sink: &mut K, line: &[u8]) -> Status
     ensures wrote { RefusedBy (change K.held K.faults sink.old sink.new) line.now result }
     ensures later { K.faults sink.old ≤ K.faults sink.new }
@@ -70,7 +71,7 @@ pub(crate) fn refuse<K: Sink>(sink: &mut K, line: &[u8]) -> Status
     }
 }
 
-/// Writes the line for bytes that are no script. It begins with these words.
+/// Writes the line for bytes that are no script. It begins with `words`. The result is the status of the session.
 pub(crate) fn refuse_fault<K: Sink>(
     alloc: Global,
     words: &str,
@@ -120,7 +121,7 @@ pub(crate) fn status_of(has_unknown: bool) -> Status
     }
 }
 
-// Runs an input that is not too long.
+// Runs the script that these bytes spell, or refuses them if they spell none.
 fn run_bytes<K: Sink, E: Engine>(
     alloc: Global,
     bytes: &[u8],
@@ -142,7 +143,7 @@ fn run_bytes<K: Sink, E: Engine>(
     }
 }
 
-// The word `run`.
+// Does what the word `run` asks for.
 fn run<S: Source, K: Sink, E: Engine>(
     alloc: Global,
     source: &mut S,
@@ -177,7 +178,7 @@ fn sample(alloc: Global, number: u32) -> Result<Script, AllocError>
     requires { IsSampleNumber number }
     ensures { IfOk result (λ script. Spells (sample_text number) script) }
 {
-    // Laws: each sample spells a script, so it is not refused.
+    // Bring in laws: each sample spells a script, so it is not refused.
     samples_spell();
     spelled_or_refused();
     let bytes = sample_script(alloc, number)?;
@@ -214,7 +215,7 @@ fn run_lines<K: Sink, E: Engine>(
     }
 }
 
-// The word `sample` and a number.
+// Does what the word `sample` and this number ask for.
 fn run_sample<K: Sink, E: Engine>(
     alloc: Global,
     number: u32,
@@ -239,14 +240,15 @@ fn run_sample<K: Sink, E: Engine>(
 ///
 /// `run` reads a script from the source and writes its output to the sink, with a right answer to each query. An output can hold each
 /// answer: its numbers and lists are within their bounds. The status says whether some answer is UNKNOWN, which depends on the script alone.
-/// An input of more than `MOST_SCRIPT` bytes is refused by the line `refused long`. One that is no script is refused by `refused C KIND`, with
-/// the number of the command and what is wrong with it. At most `MOST_SCRIPT` + 1 bytes are taken from the source.
+/// An input of more than `MOST_SCRIPT` bytes is refused by the line `refused long`. An input that is no script is refused by the line
+/// `refused C KIND`: C is the number of the command at fault, and KIND says what is wrong with it. At most `MOST_SCRIPT` + 1 bytes are
+/// taken from the source.
 ///
 /// `check` reads an output and checks it, as `check_diddy` says.
 ///
 /// `sample N` runs the sample script with the number N, whose text `sample_script` gives. N is a number from 1 to 16,384, in decimal without
-/// a leading zero. The first line of a right answer to each query is written as soon as it is known, and then `end`. The source is left as
-/// it is.
+/// a leading zero. For each query the first line of a right answer is written as soon as it is known. The line `end` comes last. The source
+/// is left as it is.
 ///
 /// If the source fails, nothing is written. If the sink fails or memory runs out, only a prefix of the text may have been written.
 ///
@@ -254,10 +256,9 @@ fn run_sample<K: Sink, E: Engine>(
 /// So wherever the status is `Definite` or `SomeUnknown`, it and the first line of each answer are the same over every roster. Other statuses
 /// may differ, since an engine may run out of memory.
 ///
-/// The roster is kept: on every return each sound engine is still there, in order. `run` asks no engine before its header is written whole,
-/// and none for an input that is refused. The header is all lines before the first answer. `check` asks no engine. Where a run or a sample
-/// comes to its end and some query is a box question, the first engine that is left was asked, and only engines that aren't sound were let
-/// go before it.
+/// The roster is kept: on every return each sound engine is still there, in order. `run` asks no engine before its header, all lines before
+/// the first answer, is written whole. It asks none for an input that is refused. `check` asks no engine. If a run or a sample comes to its
+/// end and some query is a box question, the first engine that is left was asked, and only engines that aren't sound were dropped before it.
 pub fn run_diddy<S: Source, K: Sink>(
     alloc: Global,
     words: &[String],

@@ -1,4 +1,4 @@
-//! The answers to a script, whole or only their first lines. Each is written as soon as it is made.
+//! The answers to a script, written whole or only by their first lines. Each is written as soon as it is found.
 ghost use Rattle.std.specs.Prelude.{◌≡◌, ◌⊎◌, ◌≤◌, ◌∷◌, [], length, Contains, IfOk, OnOk, OnErr};
 ghost use Rattle.std.specs.Io.KnownBytes.{Appends};
 ghost use Rattle.dd_values.specs.Bounds.{most_commands};
@@ -53,7 +53,7 @@ impl From<dd_outside::WriteFault> for RunFault {
 pub(crate) enum Form {
     /// All its lines.
     Whole,
-    /// The first line.
+    /// Its first line alone.
     Line,
 }
 
@@ -112,7 +112,7 @@ fn answer_one<K: Sink, E: Engine>(
     write_one(alloc, form, number, &found, sink)
 }
 
-// Answers all queries in order. Each answer is written before the next one is made. True if some answer is UNKNOWN.
+// Answers all queries in order. Each answer is written before the next one is searched for. True if some answer is UNKNOWN.
 #[tactic(auto, using(dd_values::specs::lemmas::Lists::contains_at, crate::proofs::Streamed::answered_next, crate::proofs::Engaging::engaged_next))]
 fn answer_all<K: Sink, E: Engine>(
     alloc: Global,
@@ -127,7 +127,7 @@ fn answer_all<K: Sink, E: Engine>(
     ensures faults { HasSinkCause (K.faults sink.old) (K.faults sink.new) result }
     ensures engines { AreEngaged (AsksSomeBoxes script.now script.now.queries) (roster_seen E.asked E.given E.sound roster.old) (roster_seen E.asked E.given E.sound roster.new) result }
 {
-    // Laws of a roster that is asked several times.
+    // Bring in laws of a roster that is asked several times.
     kept_is_reflexive();
     kept_is_transitive();
     first_asked_earlier();
@@ -158,8 +158,8 @@ pub(crate) fn answer_to_end<K: Sink, E: Engine>(
     Ok(has_unknown)
 }
 
-/// Runs a script. True if some answer is UNKNOWN. No engine is asked before the header, all lines before the first answer, is written
-/// whole.
+/// Runs a script: writes its output to the sink. True if some answer is UNKNOWN. The header is all lines before the first answer. No
+/// engine is asked before the header is written whole.
 pub(crate) fn run_script<K: Sink, E: Engine>(
     alloc: Global,
     bytes: &[u8],
@@ -174,7 +174,7 @@ pub(crate) fn run_script<K: Sink, E: Engine>(
     ensures engines { AreEngaged (AsksSomeBoxes script.now script.now.queries) (roster_seen E.asked E.given E.sound roster.old) (roster_seen E.asked E.given E.sound roster.new) result }
     ensures late { (roster.new ≡ roster.old) ⊎ HeaderTaken (K.held sink.old) (K.held sink.new) bytes.now }
 {
-    // A law: a roster that is not asked stays as it is.
+    // Brings in a law: if no engine is asked, the roster keeps its engines.
     kept_is_reflexive();
     let header = header(alloc, bytes)?;
     write_whole(sink, &header)?;
