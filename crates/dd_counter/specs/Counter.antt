@@ -13,6 +13,7 @@ use Rattle.dd_problem.specs.Clauses.{input}
 abbrev pub Making : Type 0
 Making = ℕ → AllMade
 
+-- these signals and these gates
 abbrev pub making : List Signal → List Gate → AllMade
 making signals gates = record { signals = signals; gates = gates }
 
