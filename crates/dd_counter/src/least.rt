@@ -77,7 +77,8 @@ fn search_below(
 const NEAR: u64 = 32;
 
 /// The descent: from `start` to a living configuration that weighs at most `NEAR` more than the least weight. Each search asks for
-/// one that is lighter by more than `step`. A success doubles the step, and a refutation sets it back to `NEAR`.
+/// one that is lighter by more than `step`. If that leaves only refuted weights, it asks for one that weighs `refuted`. A success
+/// doubles the step, and a refutation sets it back to `NEAR`.
 fn descended(
     alloc: Global,
     rule: &Rule,
