@@ -10,8 +10,7 @@ use std::alloc::{AllocError, Global};
 
 /// Whether a walk and potentials certify that `numerator / denominator`, in lowest terms, is the least density of the
 /// strip with the periods `strip` along y and z. The walk is a list of states of the transfer graph. Each state of the graph
-/// has a potential.
-/// The symbol `s` has the weight `weights[s]`.
+/// has a potential. The symbol `s` has the weight `weights[s]`.
 pub fn check_density(
     alloc: Global,
     rule: &Rule,

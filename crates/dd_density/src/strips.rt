@@ -7,7 +7,7 @@ use dd_formula::Rule;
 use dd_transfer::{Graph, TransferFault, graph};
 use std::alloc::{AllocError, Global};
 
-/// The transfer graph of a strip that isn't too large.
+/// The transfer graph of a strip that isn't too large. So memory is the only fault.
 pub(crate) fn graph_of(
     alloc: Global,
     rule: &Rule,

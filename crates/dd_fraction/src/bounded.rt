@@ -16,7 +16,7 @@ pub fn product(a: i128, b: i128) -> Option<i128>
     }
 }
 
-/// The product of two machine words, which is always at most 2^127 - 1 in absolute value.
+/// The product of two machine words with a sign, which is never too large.
 #[inline(always)]
 fn word_product(a: i64, b: i64) -> i128
     ensures value { result ≡ a *ℤ b }

@@ -1,4 +1,4 @@
-//! Laws of the simplex method.
+//! Laws of the simplex method, as contracts of calls that do nothing.
 ghost use Rattle.dd_simplex.specs.Laws.{HasOneStop, AreSoundDictionaries};
 
 use crate::program::Program;

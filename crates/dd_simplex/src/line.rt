@@ -91,7 +91,7 @@ fn is_zero(fraction: &Fraction) -> bool
     fraction.num() == 0
 }
 
-/// Divides each cell. False if a number is too large; then only some cells are divided.
+/// Divides each cell by `by`. False if a number is too large; then only some cells are divided.
 fn divide(cells: &mut [Fraction], by: &Fraction) -> bool
     requires { by.now.num ≢ pos 0 }
     ensures fits { result ≡ list_all (λ a. does_product_fit a (inverse by.now)) cells.old }

@@ -13,9 +13,9 @@ use std::alloc::{AllocError, Global};
 /// row. No other columns give more, since the duals have the same value.
 ///
 /// # Errors
+/// - `Memory` if memory ran out. Else:
 /// - `Overflow` exactly if a number of the run is greater than 2^127 - 1 in absolute value.
 /// - `Pivots` exactly if the run has not ended after that many pivots.
-/// - `Memory` if memory ran out.
 pub fn maximise(alloc: Global, program: &Program, pivots: u32) -> Result<Solved, SimplexFault>
     ensures ends { IfOk result (λ solved. RunEnds program.now pivots solved.value solved.columns solved.duals) }
     ensures best { IfOk result (λ solved. IsBest program.now solved.value solved.columns solved.duals) }

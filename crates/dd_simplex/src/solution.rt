@@ -9,8 +9,9 @@ use dd_fraction::Fraction;
 use dd_values::Items;
 use std::alloc::{AllocError, Global};
 
-/// The best columns of a program, and duals that prove it. Each row has a dual of at least 0. The rows times their duals sum
-/// to at least 1 in column 0 and to at least 0 in every other column. The bounds times the duals sum to the value.
+/// The best columns of a program, and duals that prove that they are best. Each row has a dual of at least 0. The rows times
+/// their duals sum to at least 1 in column 0, and to at least 0 in every other column. The bounds times the duals sum to the
+/// value.
 #[derive(Debug, Drop)]
 pub struct Solved {
     /// The greatest value of column 0.
