@@ -1,5 +1,5 @@
 //! Pairs of automata. Each question of a query about an image or a conjugacy asks whether the two automata of a pair can differ.
-//! The pairs are made when the query is read. The query is refused if a pair is too large, or the question about it is too long.
+//! The pairs are made when the query is read. The query is refused if a pair is too large, or its question takes too many clauses.
 //! The pairs are made again when the query is answered or checked.
 #![tactic(auto)]
 

@@ -79,8 +79,8 @@ fn made(alloc: Global, known: &Known, comparisons: &[Comparison]) -> Result<Item
 /// The query's numbers are indices into `rules` and `automata`.
 ///
 /// # Errors
-/// The first question that exceeds a limit is refused: its pair is too large; otherwise it takes too many clauses. Or memory ran
-/// out.
+/// The first limit that is exceeded, question by question: first the limits on the question's pair, then the limit on clauses. Or
+/// memory ran out.
 pub fn pairs_of(
     alloc: Global,
     known: &Known,
