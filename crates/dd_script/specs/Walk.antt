@@ -74,8 +74,8 @@ comparisons_in s m = unwrap_or (option_map (comparisons_for s) (query_in m)) []
 abbrev pub meaning_at : List ℕ → Bool → ℕ → Parts → Written → Meaning
 meaning_at bytes topology n s w = meaning_of (context bytes topology n s) s.automata w.command
 
--- The first fault of the command's text; otherwise the first limit on counts that is exceeded; otherwise, for a query, the limit
--- that what it asks exceeds.
+-- The first fault of the command's text; otherwise the first limit on counts that is exceeded; otherwise `asked_fault` of the
+-- command's meaning.
 abbrev pub fault_of : List ℕ → Bool → ℕ → Parts → Written → Option Fault
 fault_of bytes topology n s w =
     option_or (first_fault (written_faults (context bytes topology n s) w))
@@ -103,7 +103,7 @@ abbrev pub after_all : List ℕ → Bool → ℕ → Parts → List Written → 
 after_all bytes topology n s [] = s
 after_all bytes topology n s (w ∷ ws) = after_all bytes topology (n + 1) (next bytes topology n s w) ws
 
--- whether the command gives a topology: then it has the stage of a topology command
+-- whether the command gives a topology, by its name or by its edges: these commands have one stage
 abbrev pub is_topology : Written → Bool
 is_topology w = stage_of w == stage Head.Topology
 

@@ -20,7 +20,7 @@ pub(crate) struct Made {
     pub(crate) queries: Items<Query>,
 }
 
-/// All that a script says. `known` holds what it says of cells, and its names, weights and limits; `made` what it defines and asks.
+/// All that a script says. `known` holds what it says of cells, and its names, weights and limits. `made` holds what it defines and asks.
 #[derive(Drop)]
 pub(crate) struct Contents {
     pub(crate) known: Known,
