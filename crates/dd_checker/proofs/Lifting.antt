@@ -27,7 +27,7 @@ pub some_then : {X : Type 0} (o : Option X) (P Q : X → Type 0) → ((x : X) �
 some_then (Some x) P Q h p = h x refl p
 some_then None P Q h p = p
 
--- the list contains its item with an index
+-- the list contains the item at an index
 stands_at : (xs : List Query) (n : ℕ) (x : Query) → slice_get xs n ≡ Some x → Contains xs x
 stands_at xs n x is = (n, slice_get_within xs n x is, get_or_from_slice_get xs n x x is)
 
