@@ -115,7 +115,7 @@ inputs_read set x cells ok k s h below =
     let there = cell_there cells k within in
     hot_input set m k s (parts set x cells ok k there.0 there.1).0 below ∙ ap (is_symbol s) (sym (slice_of_range (read_symbol set m) n k within))
 
--- the numbers of a layout's cells are those of its places
+-- at the number of each cell of the layout stands a place, and this has the cell's node
 pub record IsLayout (l : Layout) : Type 0 where
   pub within : (c : Cell) → l.has c ≡ true → l.index c < length l.places
   pub node : (c : Cell) → l.has c ≡ true → (d : Cell) × (slice_get l.places (l.index c) ≡ Some d) × (d.node ≡ c.node)
