@@ -24,7 +24,7 @@ pub(crate) fn query_certified(script: &Script, query: &Query)
         // The script doesn't keep the pairs. The facts about their automata were proved when the script was read.
         claims_hold_for_goals();
         script.sound_questions();
-        // This call brings in the invariant of the type.
+        // This call tells the proof what the type guarantees.
         let _limits = script.limits();
     } else {
         let question = script.question(query, &[]);
@@ -87,6 +87,6 @@ pub fn conjugate_at<C: Configuration>(
         (whole_look script.now.known.setting.topology.dimension (C.nodes _configuration.now) (C.symbol_of _configuration.now)) _place.now }
 {
     certified(script);
-    // This call brings in the invariant of the type.
+    // This call tells the proof what the type guarantees.
     let _dimension = script.dim();
 }

@@ -13,6 +13,6 @@ use dd_formula::Rule;
 pub fn least_law(rule: &Rule)
     ensures { (p : AnyPeriods) (ws : List ℕ) → AreTorusPeriods rule.now.dimension rule.now.nodes p → length ws ≡ rule.now.symbols → SaysWeights rule.now p ws }
 {
-    // This read brings in what the type guarantees.
+    // This call tells the proof what the type guarantees.
     let _nodes = rule.nodes();
 }

@@ -59,13 +59,13 @@ fn search_below(
     match solve(alloc, &cnf)? {
         Outcome::Found(found) => {
             let periodic = read_torus(alloc, rule, periods, 0, &found)?;
-            // This read brings in what the type guarantees.
+            // This call tells the proof what the type guarantees.
             let _symbols = periodic.symbols();
             Ok(Lighter::Found(periodic))
         }
         Outcome::Refuted(steps) => {
             let used = trimmed(alloc, &cnf, steps)?;
-            // These reads bring in what the types guarantee.
+            // These calls tell the proof what the types guarantee.
             let _variable = cnf.variables();
             let _number = last_number(&cnf, used.as_slice());
             Ok(Lighter::Nothing(used))

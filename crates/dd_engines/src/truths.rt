@@ -145,7 +145,7 @@ fn count_true(literals: &[Literal], values: &[bool]) -> usize
     ensures value { result ≡ true_count values.now literals.now }
     ensures short { length literals.now < 2 ^ 64 }
 {
-    // This read brings in what the type guarantees: the length fits in 64 bits.
+    // This call tells the proof what the type guarantees: the length fits in 64 bits.
     let _length = literals.len();
     let mut count = 0;
     for literal in literals {

@@ -30,7 +30,7 @@ fn is_right(
     requires { before < length script.now.queries }
     ensures { IfOk result (λ right. IsTrue right ↔ IsRight script.now (before + 1) answer.now) }
 {
-    // This call brings in the invariant of the type.
+    // This call tells the proof what the type guarantees.
     let _queries = script.queries().len();
     let Ok(number) = u32::try_from(before + 1) else {
         return Err(AllocError);

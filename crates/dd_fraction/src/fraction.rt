@@ -96,7 +96,7 @@ impl Fraction {
     pub fn add(&self, other: &Fraction) -> Option<Fraction>
         ensures { result ≡ checked_sum self.now other.now }
     {
-        // This read brings in what the type guarantees.
+        // This call tells the proof what the type guarantees.
         let _ = &other.num;
         // Adding 0/1 changes nothing: the cross products are 0 and the other's numerator.
         if self.num == 0 && self.den == 1 {

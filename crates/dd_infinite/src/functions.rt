@@ -70,7 +70,7 @@ pub fn configuration(script: &Script, number: usize) -> Option<&Periodic>
     let configurations = script.configurations();
     if number < configurations.len() {
         let configuration = &configurations[number];
-        // This call brings in the invariant of the type.
+        // This call tells the proof what the type guarantees.
         let _symbols = configuration.symbols();
         Some(configuration)
     } else {

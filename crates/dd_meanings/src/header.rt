@@ -24,7 +24,7 @@ pub(crate) fn dimension(alloc: Global, context: &Context, number: Number) -> Res
     let dimension = number_value(&context.text, number);
     let nodes = context.known.setting.nodes.count();
     let topology = default_topology(alloc, dimension, nodes)?;
-    // This read brings in what the type guarantees.
+    // This call tells the proof what the type guarantees.
     let _dimension = topology.dim();
     Ok(Meaning::Topology(topology))
 }
@@ -38,7 +38,7 @@ pub(crate) fn nodes(alloc: Global, context: &Context, names: &[Name]) -> Resolve
     let nodes = names_of(alloc, &context.text, names)?;
     let dimension = context.known.setting.topology.dim();
     let topology = default_topology(alloc, dimension, nodes.count())?;
-    // This read brings in what the type guarantees.
+    // This call tells the proof what the type guarantees.
     let _dimension = topology.dim();
     Ok(Meaning::Nodes {
         nodes,
@@ -53,7 +53,7 @@ pub(crate) fn alphabet(alloc: Global, context: &Context, names: &[Name]) -> Reso
     ensures { Means result context.now [] (command.Alphabet names.now) }
 {
     let symbols = names_of(alloc, &context.text, names)?;
-    // This read brings in what the type guarantees.
+    // This call tells the proof what the type guarantees.
     let _count = symbols.count();
     Ok(Meaning::Symbols(symbols))
 }
@@ -63,13 +63,13 @@ pub(crate) fn kind(alloc: Global, context: &Context, kind: Kind) -> Resolved
     ensures { Means result context.now [] (command.Topology kind) }
 {
     let topology = Topology::builtin(alloc, kind)?;
-    // This read brings in what the type guarantees.
+    // This call tells the proof what the type guarantees.
     let _dimension = topology.dim();
     if context.known.nodes_are_given {
         return Ok(Meaning::Topology(topology));
     }
     let nodes = kind_names(alloc, kind)?;
-    // This read brings in what the type guarantees.
+    // This call tells the proof what the type guarantees.
     let _count = nodes.count();
     Ok(Meaning::Nodes {
         nodes,

@@ -112,7 +112,7 @@ pub(crate) fn edges(alloc: Global, context: &Context, edges: &[Written]) -> Reso
     let dimension = setting.topology.dim();
     match Topology::from_edges(alloc, dimension, setting.nodes.count(), labels, edges) {
         Ok(topology) => {
-            // This read brings in what the type guarantees.
+            // This call tells the proof what the type guarantees.
             let _dimension = topology.dim();
             Ok(Meaning::Topology(topology))
         }

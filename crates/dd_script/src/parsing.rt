@@ -68,7 +68,7 @@ fn walk(alloc: Global, draft: &mut Draft, commands: &[Written]) -> Result<(), Sc
         match draft.meaning_of(alloc, written) {
             Ok(meaning) => {
                 draft.add(alloc, meaning)?;
-                // This call brings in the invariant of the type `Sets`.
+                // This call tells the proof what the type `Sets` guarantees.
                 let _symbols = draft.context.known.setting.sets.symbols();
             }
             Err(Refusal::Memory) => return Err(ScriptFault::from(AllocError)),

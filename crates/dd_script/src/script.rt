@@ -195,7 +195,7 @@ impl Script {
         ensures { AreSound self.now }
     {
         sound_questions();
-        // This call brings in the invariant of the type.
+        // This call tells the proof what the type guarantees.
         let _limits = self.limits();
     }
 }

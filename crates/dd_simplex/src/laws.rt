@@ -8,7 +8,7 @@ use crate::program::Program;
 pub fn one_stop(_program: &Program, _pivots: u32)
     ensures { HasOneStop _program.now _pivots }
 {
-    // This read brings in what the type guarantees.
+    // This call tells the proof what the type guarantees.
     let _columns = _program.columns();
 }
 
@@ -18,6 +18,6 @@ pub fn one_stop(_program: &Program, _pivots: u32)
 pub fn sound_pivots(_program: &Program)
     ensures { AreSoundDictionaries _program.now }
 {
-    // This read brings in what the type guarantees.
+    // This call tells the proof what the type guarantees.
     let _columns = _program.columns();
 }

@@ -129,7 +129,7 @@ pub fn subtract(cells: &mut [Fraction], factor: &Fraction, others: &[Fraction]) 
 fn is_idle(cell: &Fraction, factor: &Fraction, other: &Fraction) -> bool
     ensures { result ≡ true → IsIdle cell.now factor.now other.now }
 {
-    // This read brings in what the type guarantees.
+    // This call tells the proof what the type guarantees.
     let _num = cell.num();
     let num = factor.num();
     let other_num = other.num();

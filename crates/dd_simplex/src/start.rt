@@ -62,7 +62,7 @@ fn known(fraction: &Fraction) -> Fraction
     ensures value { result ≡ fraction.now }
     ensures fraction { IsFraction fraction.now }
 {
-    // This read brings in what the type guarantees.
+    // This call tells the proof what the type guarantees.
     let _num = fraction.num();
     *fraction
 }

@@ -28,7 +28,7 @@ pub fn start(alloc: Global) -> Result<Known, AllocError>
     let nodes = zero(alloc)?;
     let symbols = zero_and_one(alloc)?;
     let topology = Topology::builtin(alloc, Kind::Square)?;
-    // This read brings in what the type guarantees.
+    // This call tells the proof what the type guarantees.
     let _dimension = topology.dim();
     let weights = Items::from_slice(alloc, &[0, 1])?;
     Ok(Known {

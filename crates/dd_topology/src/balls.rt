@@ -52,7 +52,7 @@ impl Topology {
         ensures list { IfOk result (λ v. v.items ≡ in_order (ball self.now.edges centre.now radius)) }
         ensures fault { IfErr result (IsCellFaultOf (IsInBall self.now.edges centre.now radius)) }
     {
-        // This read brings in what the type guarantees: the centre is in range.
+        // This call tells the proof what the type guarantees: the centre is in range.
         let position = &centre.position;
         let _ = &position.x;
         found.insert(*centre)?;

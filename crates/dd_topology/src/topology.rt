@@ -96,7 +96,7 @@ impl Topology {
         ensures fault { IfErr result (IsTopologyFault edges.items) }
     {
         let moves = moves_of(alloc, edges.as_slice())?;
-        // This read brings in what the type guarantees: the names of the labels are distinct.
+        // This call tells the proof what the type guarantees: the names of the labels are distinct.
         let _count = labels.count();
         Ok(Topology {
             dim,

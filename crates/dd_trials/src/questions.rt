@@ -42,7 +42,7 @@ fn reaches(alloc: Global, premise: &Rule, goal: &Goal, radius: u32) -> Result<bo
     ensures { IfOk result (λ found. IsTrue found → Reaches (goal_of premise.now goal.now) radius) }
 {
     one_radius(premise, goal, radius);
-    // This read brings in what the type guarantees.
+    // This call tells the proof what the type guarantees.
     let _symbols = premise.symbols();
     Ok(least_radius(alloc, goal)? <= radius)
 }
