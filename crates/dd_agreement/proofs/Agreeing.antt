@@ -1,5 +1,5 @@
--- A right answer is a certificate: a decided box gives the radius and the refutation of a YES, and the configuration of a NO can
--- be read back from what is written of it.
+-- A right answer is a certificate. The decision of a box question gives a YES its radius and its refutation. The configuration of
+-- a NO can be read back from what is written of it.
 use Rattle.std.proofs.Common.{◌≡◌, ℕ, List, max, refl, ap, sym, subst, ◌∙◌, arith}
 use Rattle.dd_derivation.specs.{Derivations.IsRefuting, declared.step.Step.Step}
 use Rattle.dd_problem.specs.Problems.{box_problem}
@@ -68,7 +68,7 @@ module _ (back : AreWrittenBack) (l : Limits) where
         witness = subst (IsWitness x g) (sym written.same) shows.1;
       }
 
-  -- a decided answer to a box question
+  -- the decision of a box question makes a certificate
   decided_no : (x : LocalRule) (g : GoalOf) (t : Tile) → IsDecided x g l.radius l.period (decision.No t) → IsNo l x g (written_periods t) t.periods.shear t.symbols
   decided_no x g t h = no_of x g h.2.1.0 t h.2.1.1.within h.2.1.2
 
@@ -98,7 +98,7 @@ module _ (back : AreWrittenBack) (l : Limits) where
       let both = right.decided in
       subst (IsEqualCertificate l x y) (sym (right.written ∙ ap written_equality both.join)) (joined_is x y both.left both.right both.left_decided both.right_decided)
 
-  -- a decided answer to one of the four questions of a conjugacy
+  -- the decision of one of the four questions of a conjugacy makes a certificate
   yes_at : (c : ConjugacyOf) (k n : ℕ) (x : LocalRule) (g : GoalOf) (steps : List Step) → IsPart c k x g → ComesTo l c k (decision.Yes n steps) →
       IsYes l x g n steps
   yes_at c k n x g steps part comes =

@@ -7,8 +7,8 @@ ghost use Rattle.dd_verify.specs.Certificates.{IsCertificateOf};
 
 use dd_evidence::written_back;
 
-/// Does nothing; its contract says that each right answer to a question within some limits is a certificate within these limits,
-/// also if the answer is UNKNOWN.
+/// Does nothing. Its contract says that each right answer to a question within some limits is a certificate within the same
+/// limits. This holds even of the answer UNKNOWN.
 pub fn right_is_certificate()
     ensures { (limits : AnyLimits) (question : Asked) (answer : AnyAnswer) → IsRightTo limits question answer → IsCertificateOf limits question answer }
 {

@@ -1,4 +1,4 @@
-//! The check accepts every right answer.
+//! Every right answer is a certificate, so the check accepts it.
 #![tactic(auto)]
 
 mod laws;

@@ -1,4 +1,4 @@
--- From what is asked to the query that asks it.
+-- What holds of a question holds of the query that asks it.
 use Rattle.std.proofs.Common.{◌≡◌, Some, None, refl, sym, subst}
 use Rattle.std.specs.{Prelude.Option, Prelude.List, Prelude.IsSomeAnd, List.Contains}
 use Rattle.dd_certificate.specs.declared.answer.Answer.{Answer}
@@ -15,7 +15,7 @@ module _ (s : Parts) (q : Query) (k : Asked) (asks : asked s q ≡ Some k) where
   right_for l limits a right =
       subst (λ (o : Option Asked). IsSomeAnd o (λ j. IsRightTo s.known.limits j a)) (sym asks) (subst (λ (m : Limits). IsRightTo m k a) limits right)
 
-  -- the query asks engines if what it asks is a box question
+  -- the query asks engines exactly if its question does
   pub engages_for : (before after : List Seen) → Engages (IsBoxQuestion k) before after → Engages (AsksBoxes s q) before after
   engages_for before after told = subst (λ (o : Option Asked). Engages (IsSomeAnd o IsBoxQuestion) before after) (sym asks) told
 

@@ -1,14 +1,14 @@
--- Which queries ask a box question.
+-- Which queries come down to box questions, for which engines are asked.
 use Rattle.std.specs.Prelude.{◌⊎◌, List, [], ◌∷◌, IsSomeAnd}
 use Rattle.dd_query.specs.declared.queries.Query.{Query}
 use Rattle.dd_respond.specs.Asking.{IsBoxQuestion}
 use Rattle.dd_script.specs.{Parts.Parts, Questions.asked}
 
--- the query asks a box question
+-- the query comes down to box questions
 abbrev pub AsksBoxes : Parts → Query → Type 0
 AsksBoxes s q = IsSomeAnd (asked s q) IsBoxQuestion
 
--- one of the queries asks a box question
+-- one of the queries does
 abbrev pub AsksSomeBoxes : Parts → List Query → Type 0
 AsksSomeBoxes s [] = ⊥
 AsksSomeBoxes s (q ∷ queries) = AsksBoxes s q ⊎ AsksSomeBoxes s queries

@@ -5,11 +5,11 @@ use Rattle.dd_query.specs.declared.queries.Query.{Query}
 use Rattle.dd_respond.specs.Right.{IsRightTo}
 use Rattle.dd_script.specs.{Parts.Parts, Questions.asked}
 
--- the answer to what the query asks, within the script's limits
+-- the answer to what the query asks is right within the script's limits
 abbrev pub Right : Parts → Query → Answer → Type 0
 Right s q a = IsSomeAnd (asked s q) (λ k. IsRightTo s.known.limits k a)
 
--- The answer to a query.
+-- A right answer to a query, which an output can hold.
 pub record IsAnswerTo (s : Parts) (q : Query) (a : Answer) : Type 0 where
   -- It is right.
   pub right : Right s q a

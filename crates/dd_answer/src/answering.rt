@@ -1,4 +1,4 @@
-//! Queries answered one by one.
+//! The right answer to one query.
 ghost use Rattle.std.specs.Prelude.{IfOk, Contains};
 ghost use Rattle.dd_engines.specs.Rosters.{roster_seen};
 ghost use Rattle.dd_respond.specs.Asking.{AreEngaged};
@@ -6,15 +6,19 @@ ghost use Rattle.dd_answer.specs.Asking.{AsksBoxes};
 ghost use Rattle.dd_answer.specs.Right.{IsAnswerTo};
 
 use dd_certificate::Answer;
-use dd_engines::{Engine, Roster};
+use dd_engines::{Engine, Roster, kept_is_reflexive};
 use dd_query::Query;
 use dd_respond::respond;
 use dd_script::Script;
 use std::alloc::{AllocError, Global};
 
-/// The right answer to a query of a script. An output can hold each of its numbers and lists.
+/// The right answer to a query of a script. An output can hold each of the answer's numbers and lists.
 ///
-/// A box question goes to the roster as in `decide`. No other query asks an engine. The roster is kept.
+/// A query that comes down to box questions asks the roster, as in `decide` of `dd_contain`. No other query asks an engine. The sound
+/// engines stay in the roster.
+///
+/// # Errors
+/// Memory ran out.
 pub fn answer<E: Engine>(
     alloc: Global,
     script: &Script,
@@ -25,6 +29,9 @@ pub fn answer<E: Engine>(
     ensures answer { IfOk result (IsAnswerTo script.now query.now) }
     ensures engines { AreEngaged (AsksBoxes script.now query.now) (roster_seen E.asked E.given E.sound roster.old) (roster_seen E.asked E.given E.sound roster.new) result }
 {
-    let question = script.question(query);
+    // Brings in a law: if no engine is asked, the roster keeps its engines.
+    kept_is_reflexive();
+    let pairs = script.pairs(alloc, query)?;
+    let question = script.question(query, pairs.as_slice());
     respond(alloc, &question, roster)
 }

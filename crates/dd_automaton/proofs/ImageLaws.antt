@@ -35,7 +35,7 @@ value_at_base f t n ok formed placed w a node =
     (look_given t ok (shifted w d) (node_of (tile_numbers t n) d here)))
     ((counted f).reads a) (placed (tile_numbers t n) formed a node))
 
--- the symbols of the box decide the image
+-- a configuration with the values at the cells of the box is the image
 pub image_from_box : (f : Automaton) (t : Tile) (n : ℕ) → IsTile t → IsAutomaton (tile_numbers t n) f → IsPlaced f → (ss : List ℕ) → length ss ≡ length t.symbols →
     ((k : ℕ) → k < length t.symbols → slice_get ss k ≡ Some (value f (tile_look t) (cell_in t k))) → IsImage f t (tile t.dimension t.periods t.nodes ss)
 image_from_box f t n ok formed placed ss as_many each = record {
@@ -56,7 +56,7 @@ image_from_box f t n ok formed placed ss as_many each = record {
     below_by m (x ∷ xs) h zero d within = h zero (omega arith)
     below_by m (x ∷ xs) h (suc k) d within = below_by m xs (λ j below. h (suc j) (omega arith)) k d (omega arith)
 
--- the configuration gives symbols of the alphabet, and what is read at the cells of the box has symbols
+-- the configuration's symbols are in the alphabet, and each cell that is read from the box has a symbol
 pub tile_is_below : (n : ℕ) (t : Tile) → All (λ s. s < n) t.symbols → HasSymbolsBelow n (tile_look t)
 tile_is_below n t h c = by (nat_lt c.node t.nodes)
   where
@@ -139,7 +139,7 @@ value_more h xs ys x n is long here before k below =
     by (inl same) = get_last xs x k (omega (arith, long, same)) ∙ ap Some (here ∙ ap h (sym same))
     by (inr less) = get_before xs x k (omega (arith, long, less)) ∙ before k less
 
--- the tile by the numbers that the program reads
+-- the configuration that has the numbers that the code reads
 pub tile_again : (t : Tile) (d shear n : ℕ) (ps ss : List ℕ) → d ≡ t.dimension → ps ≡ t.periods.x ∷ t.periods.y ∷ t.periods.z ∷ [] → shear ≡ t.periods.shear → n ≡ t.nodes →
     tile d (periods_of ps shear) n ss ≡ tile t.dimension t.periods t.nodes ss
 tile_again t d shear n ps ss one two three four =

@@ -1,4 +1,4 @@
--- What an automaton reads at the origin of a periodic configuration has symbols.
+-- Each cell that an automaton reads from the origin has a symbol in a periodic configuration.
 use Rattle.std.proofs.Common.{◌≡◌, ◌<◌, ℕ, true, Option, Some, None, if◌then◌else◌, refl, ap, sym, ◌∙◌}
 use Rattle.dd_pattern.specs.{Tile.Tile, Tile.IsPeriodic, Tile.tile_look, lemmas.BoxLaws.origin_in_box}
 use Rattle.dd_expansion.specs.Terms.{origin_at}
@@ -16,7 +16,7 @@ read_at_origin f t a defined ok placed node =
     let s = tile_numbers t defined.symbols in
     given_all t s ok refl (origin_at a) (origin_in_box t a ok.tile node) ((counted f).reads a) (near_reads s f defined.formed a node) (placed s defined.formed a node)
 
--- so the automaton has a value there
+-- so the automaton has a value at the origin
 pub value_there : (f : Automaton) (t : Tile) (a : ℕ) (r : Option ℕ) → IsDefinedOn f t → IsPeriodic t → IsPlaced f → a < t.nodes →
     r ≡ (if is_read f (origin_at a) (tile_look t) then Some (value f (tile_look t) (origin_at a)) else None) → r ≡ Some (value f (tile_look t) (origin_at a))
 value_there f t a r defined ok placed node is =

@@ -5,26 +5,26 @@ use Rattle.dd_pattern.specs.Tile.{Tile, tile_look}
 use Rattle.dd_expansion.specs.Terms.{origin_at}
 use Rattle.dd_formula.specs.{Automata.CommonNumbers, Automata.IsAutomaton, Automata.value, declared.automaton.Automaton.Automaton}
 
--- the configuration's numbers, with an alphabet of so many symbols
+-- the configuration's dimension and nodes, with an alphabet of n symbols
 abbrev pub tile_numbers : Tile → ℕ → CommonNumbers
 tile_numbers t n = record { dimension = t.dimension; nodes = t.nodes; symbols = n }
 
--- over the configuration's numbers, and an alphabet that has its symbols, the automaton is well formed
+-- the automaton is well formed over the configuration's dimension and nodes, and some alphabet that has its symbols
 pub record IsDefinedOn (f : Automaton) (t : Tile) : Type 0 where
   pub symbols : ℕ
   pub formed : IsAutomaton (tile_numbers t symbols) f
   pub below : All (λ s. s < symbols) t.symbols
 
--- of the same dimension, periods, shear and nodes, with the automaton's value at each cell of each position
+-- u is the image of t under f: it has the same dimension, periods, shear and nodes, and the automaton's value at each cell
 pub record IsImage (f : Automaton) (t u : Tile) : Type 0 where
   pub dimension : u.dimension ≡ t.dimension
-  -- the shear is one of their numbers
+  -- the periods with their shear
   pub periods : u.periods ≡ t.periods
   pub nodes : u.nodes ≡ t.nodes
   pub values : (c : Cell) → c.node < t.nodes → tile_look u c ≡ Some (value f (tile_look t) c)
   -- the values are symbols of each alphabet over which the automaton is well formed
   pub below : (n : ℕ) → IsAutomaton (tile_numbers t n) f → All (λ s. s < n) u.symbols
 
--- the automata give different symbols at some node of the origin
+-- the automata give some cell at the origin different symbols
 abbrev pub DifferAtOrigin : Automaton → Automaton → Tile → Type 0
 DifferAtOrigin f g t = (a : ℕ) × (a < t.nodes) × (value f (tile_look t) (origin_at a) ≡ value g (tile_look t) (origin_at a) → ⊥)

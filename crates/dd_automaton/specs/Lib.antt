@@ -1,2 +1,2 @@
--- The image of a configuration: the automaton's value at every cell.
+-- images of configurations, and where two automata differ
 pub mod Images

@@ -1,4 +1,4 @@
-//! Whether two automata give different symbols.
+//! Whether two automata give some cell at the origin different symbols.
 ghost use Rattle.std.specs.Prelude.{◌≡◌, ◌<◌, ◌↔◌, IsTrue, IfOk};
 ghost use Rattle.dd_pattern.specs.Tile.{tile_look};
 ghost use Rattle.dd_expansion.specs.Terms.{origin_at};
@@ -10,7 +10,7 @@ use dd_lattice::{Cell, Position};
 use dd_pattern::Periodic;
 use std::alloc::{AllocError, Global};
 
-/// The symbol that the automaton gives the origin with this node.
+/// The symbol that the automaton gives the cell at the origin with this node.
 fn value_at_origin(
     alloc: Global,
     automaton: &Automaton,
@@ -21,9 +21,9 @@ fn value_at_origin(
     requires node { node < periodic.now.nodes }
     ensures { IfOk result (λ s. s ≡ value automaton.now (tile_look periodic.now) (origin_at node)) }
 {
-    // This call brings in a fact: the automaton keeps to its nodes.
+    // This call brings in a fact: the automaton reads only cells with nodes of the configuration.
     automaton.reads_are_placed();
-    // This read brings in what the type guarantees.
+    // This call brings in a fact: what holds of every periodic configuration.
     let _symbols = periodic.symbols();
     let position = Position { x: 0, y: 0, z: 0 };
     match automaton.value(alloc, &Cell { position, node }, periodic)? {
@@ -32,7 +32,7 @@ fn value_at_origin(
     }
 }
 
-/// Whether two automata give different symbols at some node of the origin.
+/// Whether the two automata give some cell at the origin different symbols.
 pub fn differ_at_origin(
     alloc: Global,
     left: &Automaton,

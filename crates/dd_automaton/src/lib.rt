@@ -1,4 +1,4 @@
-//! Cellular automata on periodic configurations.
+//! Cellular automata on periodic configurations: images, and whether two automata differ at the origin.
 #![tactic(auto)]
 
 mod differing;

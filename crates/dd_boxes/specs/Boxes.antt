@@ -12,7 +12,7 @@ use Rattle.dd_boxes.specs.Fillings.{Admissible, is_box_cell, is_cell_within, IsB
 abbrev pub origin : Place
 origin = place (pos 0) (pos 0) (pos 0)
 
--- no admissible filling of B(n) has the goal at the origin
+-- B(n) suffices: no admissible filling of it has the goal at the origin
 abbrev pub Suffices : LocalRule → GoalOf → ℕ → Type 0
 Suffices x g n = (look : Look) → IsBoxFilling x n look → Admissible x look → HasGoal g look origin → ⊥
 
@@ -29,29 +29,30 @@ goal_reach (breaks y) = reach y
 goal_reach (differ s f g) = max (automaton_reach s.nodes f) (automaton_reach s.nodes g)
 goal_reach always = 0
 
+-- B(n) holds each cell that the goal reads at the origin, and no smaller box does
 pub record IsLeastRadius (g : GoalOf) (n : ℕ) : Type 0 where
   pub reaches : Reaches g n
   pub least : (k : ℕ) → Reaches g k → n ≤ k
 
--- each cell of B(n), moved by v, has a symbol
+-- the look fills the box of radius n round v: each cell of B(n), moved by v, has a symbol
 abbrev pub Covers : LocalRule → ℕ → Look → Place → Type 0
 Covers x n look v = (c : Cell) → is_box_cell x n c ≡ true → is_some (look (shifted v c)) ≡ true
 
--- n is at least the goal's least radius, and no admissible filling of any domain has the goal at any position of Z^d
--- around which it fills a box of radius n
+-- B(n) holds what the goal reads, and no admissible filling of any domain has the goal at a position of Z^d round which it
+-- fills the box of radius n
 pub record Never (x : LocalRule) (g : GoalOf) (n : ℕ) : Type 0 where
   pub reaches : Reaches g n
   pub nowhere : (look : Look) → AreAllowed x look → Admissible x look → (v : Place) → is_flat x.dimension v ≡ true → Covers x n look v → HasGoal g look v → ⊥
 
--- no configuration that obeys the rule at every place of Z^d has the goal at any position of Z^d
+-- no configuration that obeys the rule at every cell of Z^d has the goal at any position of Z^d
 abbrev pub IsInNoConfiguration : LocalRule → GoalOf → Type 0
 IsInNoConfiguration x g = (look : Look) → IsConfiguration x look → Obeys x look → (v : Place) → is_flat x.dimension v ≡ true → HasGoal g look v → ⊥
 
--- nor does any periodic configuration of the rule's subshift, with any periods and shear
+-- no periodic configuration of the rule's subshift, with whatever periods and shear, has the goal at any position of Z^d
 abbrev pub IsInNoTile : LocalRule → GoalOf → Type 0
 IsInNoTile x g = (t : Tile) → IsTile t → Fits x t → HasAllowed x t → Lives x t → (v : Place) → is_flat x.dimension v ≡ true → HasGoal g (tile_look t) v → ⊥
 
--- what a box that suffices shows
+-- what a box that suffices shows: the goal holds nowhere
 pub record HoldsNowhere (x : LocalRule) (g : GoalOf) (n : ℕ) : Type 0 where
   pub never : Never x g n
   pub configurations : IsInNoConfiguration x g

@@ -6,20 +6,21 @@ use Rattle.dd_lattice.specs.{Place.Place, Order.place_cmp}
 use Rattle.dd_expansion.specs.Placed.{is_flat}
 use Rattle.dd_formula.specs.LocalRule.{LocalRule}
 
--- along each axis at most 4, and 0 past the dimension
+-- each coordinate is at most 4 in absolute value, and 0 along the axes past the dimension
 pub record IsVector (d : ℕ) (v : Place) : Type 0 where
   pub on_x : unsigned_abs v.x ≤ 4
   pub on_y : unsigned_abs v.y ≤ 4
   pub on_z : unsigned_abs v.z ≤ 4
   pub flat : is_flat d v ≡ true
 
+-- from 1 to 16 such vectors, each once
 pub record AreVectors (d : ℕ) (vs : List Place) : Type 0 where
   pub some : 1 ≤ length vs
   pub few : length vs ≤ 16
   pub distinct : IsDistinct (λ p q. is_eq (place_cmp p q)) vs
   pub each : All (IsVector d) vs
 
--- a weight for each symbol
+-- a weight for each symbol, within the limit
 pub record AreWeightsFor (x : LocalRule) (ws : List ℕ) : Type 0 where
   pub as_many : length ws ≡ x.symbols
   pub small : All (λ w. w ≤ most_weight) ws

@@ -1,4 +1,4 @@
--- What is looked for at a position.
+-- Goals: what may hold at a position of a configuration.
 use Rattle.std.specs.Prelude.{ℕ, ◌≡◌, ◌<◌, false}
 use Rattle.dd_lattice.specs.{Place.Place, Cells.cell}
 use Rattle.dd_pattern.specs.Reading.{Look}
@@ -10,9 +10,10 @@ pub data GoalOf : Type 0 where
   breaks : LocalRule → GoalOf
   -- the values of two automata over these numbers are different at some node of the position
   differ : CommonNumbers → Automaton → Automaton → GoalOf
+  -- holds at every position
   always : GoalOf
 
--- the goal holds at the position v, under the symbols that the look gives
+-- the goal holds at the position v, where the look gives the cells their symbols
 abbrev pub HasGoal : GoalOf → Look → Place → Type 0
 HasGoal (breaks y) look v = (a : ℕ) × (a < y.nodes) × (is_true y (cell v a) look ≡ false)
 HasGoal (differ s f g) look v = (a : ℕ) × (a < s.nodes) × (value f look (cell v a) ≡ value g look (cell v a) → ⊥)
@@ -24,7 +25,7 @@ pub record AreAlike (x y : LocalRule) : Type 0 where
   pub nodes : y.nodes ≡ x.nodes
   pub symbols : y.symbols ≡ x.symbols
 
--- the numbers are the rule's, and both automata are well formed over them
+-- the common numbers are the rule's, and both automata are well formed over them
 pub record AreOver (x : LocalRule) (s : CommonNumbers) (f g : Automaton) : Type 0 where
   pub dimension : s.dimension ≡ x.dimension
   pub nodes : s.nodes ≡ x.nodes
@@ -38,7 +39,7 @@ IsGoalFor x (breaks y) = AreAlike x y
 IsGoalFor x (differ s f g) = AreOver x s f g
 IsGoalFor x always = Unit {0}
 
--- the rule of a goal, if it has one, keeps what each rule keeps
+-- the rule of a goal, if it has one, has the invariant of rules
 abbrev pub KeepsRule : GoalOf → Type 0
 KeepsRule (breaks y) = IsRule y
 KeepsRule (differ s f g) = Unit {0}

@@ -1,8 +1,9 @@
--- The goal that a value of the program stands for, in questions about a rule.
+-- Goals as contracts see them, from those of the code, in questions about a rule x.
 use Rattle.dd_formula.specs.{LocalRule.LocalRule, Automata.CommonNumbers}
 use Rattle.dd_boxes.specs.{Goals.GoalOf, Goals.breaks, Goals.differ, Goals.always, Goals.IsGoalFor, declared.goals.Goal.Goal}
 use Rattle.dd_boxes.specs.declared.goals.Goal.TheVariants.{Breaks, Differ, Always}
 
+-- the rule's own numbers
 abbrev pub numbers_of : LocalRule → CommonNumbers
 numbers_of x = record { dimension = x.dimension; nodes = x.nodes; symbols = x.symbols }
 

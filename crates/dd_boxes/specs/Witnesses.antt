@@ -19,9 +19,10 @@ pub record IsWitness (x : LocalRule) (g : GoalOf) (t : Tile) : Type 0 where
   pub lives : Lives x t
   pub goal : HasGoal g (tile_look t) origin
 
+-- the configuration has these periods, with their shear
 abbrev pub HasPeriods : Periods → Tile → Type 0
 HasPeriods p t = t.periods ≡ p
 
--- periods that a question may ask for
+-- periods within the limit of questions, in d dimensions
 abbrev pub ArePeriods : ℕ → Periods → Type 0
 ArePeriods d p = AreWithin d greatest_period p

@@ -1,4 +1,5 @@
-//! Box questions: whether a goal can hold at a position of a configuration, and what one box says about it.
+//! Box questions. A box question has a rule, the premise, and a goal. It asks whether no configuration that obeys the premise
+//! has the goal at any position. One box may already show this.
 #![tactic(auto)]
 
 mod goals;

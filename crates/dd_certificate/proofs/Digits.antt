@@ -10,7 +10,7 @@ digit_more n rest at digits many fits within last whole =
     let cell : drop at digits ≡ (48 + rest % 10) ∷ drop (at + 1) digits = rw (drop-cons digits at 0 within, add-one at, last) refl in
     rw (whole, decimal_step rest many fits, cell) (append_assoc (decimal (rest / 10)) ((48 + rest % 10) ∷ []) (drop (at + 1) digits))
 
--- the first digit
+-- the first digit is written last
 pub digit_first : (n rest at : ℕ) (digits : List ℕ) → rest < 10 → at < length digits → get_or digits at 0 ≡ 48 + rest % 10
     → decimal n ≡ decimal rest ++ drop (at + 1) digits → drop at digits ≡ decimal n
 digit_first n rest at digits few within last whole =

@@ -1,5 +1,5 @@
--- Steps that refute a list of clauses fit in an output: their variables occur in the list, and each clause that they use
--- or delete comes before them.
+-- An output can hold the steps that refute a list of clauses. Their variables are in range, and each clause that a step hints at
+-- or deletes comes before it.
 use Rattle.std.proofs.Common.{◌≡◌, ℕ, zero, suc, ◌+◌, ◌<◌, ◌≤◌, Bool, true, false, not, ◌&&◌, ◌||◌, List, [], ◌∷◌, ◌++◌, length, map, Option, None, Some, is_some, slice_get, All, refl, sym, subst, ◌∙◌, ◌⊎◌, inl, inr, arith, nat_le, length-append}
 use Rattle.std.proofs.lemmas.Bool.{false≢true, leb-true, and_parts, or_cases}
 use Rattle.std.proofs.lemmas.List.{length-set, length-map, Elements.All-nil, Elements.All-cons}
@@ -15,7 +15,7 @@ use Rattle.dd_certificate.specs.Bounds.{most_count, IsWritableHint, IsWritableSt
 
 -- ---- numbers of clauses
 
--- a number that has a clause
+-- a number that has a clause is in the bounds of a hint
 numbered : (known : List (Option (List Literal))) (h : ℕ) (c : List Literal) → length known ≤ most_count → clause_of known h ≡ Some c → IsWritableHint h
 numbered known zero c few is = absurd (none-some c is)
 numbered known (suc k) c few is =
@@ -120,7 +120,7 @@ some_steps : (n : ℕ) (known : List (Option (List Literal))) (steps : List Step
 some_steps n known [] refuting = absurd (false≢true refuting)
 some_steps n known (s ∷ steps) refuting = omega arith
 
--- the steps fit if the variables and the numbers of the clauses do
+-- an output can hold the steps if the variables and the numbers of clauses and steps are within bounds
 pub refuting_writable : (n : ℕ) (clauses : List (List Literal)) (steps : List Step) → refutes n clauses steps ≡ true → n ≤ most_variables →
     length clauses + length steps ≤ most_count → IsWritableRefutation steps
 refuting_writable n clauses steps refuting small few =

@@ -1,4 +1,4 @@
--- The answers that an output can hold: each number within bounds, and each list with as many entries as its line allows.
+-- The answers that an output can hold: their numbers are within bounds, and their lists have lengths that an output allows.
 use Rattle.std.specs.Prelude.{ℕ, ℤ, ◌≡◌, ◌≤◌, ◌⊎◌, ◌^◌, ◌-◌, List, [], All, Option, Some, None, length, unsigned_abs}
 use Rattle.dd_values.specs.Bounds.{most_variables}
 pub use Rattle.dd_values.specs.Bounds.{most_number}
@@ -7,7 +7,7 @@ use Rattle.dd_derivation.specs.declared.step.Step.{Step}
 use Rattle.dd_certificate.specs.declared.answer.{Listed.Listed, Starred.Starred, Answer.Answer}
 use Rattle.dd_certificate.specs.declared.answer.Answer.TheVariants as answer
 
--- the greatest number that a clause can have, and the most steps that an output can hold
+-- the greatest number of a clause, and the greatest number of steps of a refutation, that an output can hold
 abbrev pub most_count : ℕ
 most_count = 2 ^ 64 - 1
 
@@ -17,14 +17,15 @@ IsWritableNumber n = n ≤ most_number
 abbrev pub IsWritableSigned : ℤ → Type 0
 IsWritableSigned z = unsigned_abs z ≤ most_number
 
--- from 1 on
+-- the denominator of a fraction: at least 1
 abbrev pub IsWritableDenominator : ℕ → Type 0
 IsWritableDenominator n = (1 ≤ n) × (n ≤ most_number)
 
--- a clause's number
+-- the number of a clause, from 1
 abbrev pub IsWritableHint : ℕ → Type 0
 IsWritableHint n = (1 ≤ n) × (n ≤ most_count)
 
+-- an output can hold this step
 abbrev pub IsWritableStep : Step → Type 0
 IsWritableStep s = All (IsLiteralInRange most_variables) s.clause × All IsWritableHint s.hints × All IsWritableHint s.deletes
 
@@ -34,33 +35,35 @@ IsWritableRefutation steps = (1 ≤ length steps) × (length steps ≤ most_coun
 abbrev pub IsWritablePattern : Listed → Type 0
 IsWritablePattern p = IsWritableNumber p.node × All IsWritableNumber p.symbols
 
-abbrev pub IsWritableKept : Option ℕ → Type 0
-IsWritableKept None = Unit {0}
-IsWritableKept (Some n) = IsWritableNumber n
+abbrev pub IsWritableSymbolOrStar : Option ℕ → Type 0
+IsWritableSymbolOrStar None = Unit {0}
+IsWritableSymbolOrStar (Some n) = IsWritableNumber n
 
 abbrev pub IsWritableStarred : Starred → Type 0
-IsWritableStarred p = IsWritableNumber p.node × All IsWritableKept p.symbols
+IsWritableStarred p = IsWritableNumber p.node × All IsWritableSymbolOrStar p.symbols
 
--- a list with at least one entry
+-- a list of numbers with at least one entry
 abbrev pub IsWritableList : List ℕ → Type 0
 IsWritableList ns = (1 ≤ length ns) × All IsWritableNumber ns
 
--- the shear is 0 if there is a single period
-abbrev pub HasShear : List ℕ → ℕ → Type 0
-HasShear periods shear = (shear ≡ 0) ⊎ (2 ≤ length periods)
+-- with only one period the shear is 0
+abbrev pub IsShearFor : List ℕ → ℕ → Type 0
+IsShearFor periods shear = (shear ≡ 0) ⊎ (2 ≤ length periods)
 
+-- a periodic configuration, by its periods, its shear and the symbols of one of its boxes
 abbrev pub IsWritableConfiguration : List ℕ → ℕ → List ℕ → Type 0
 IsWritableConfiguration periods shear symbols =
-    (length periods ≤ 3) × IsWritableList periods × IsWritableNumber shear × HasShear periods shear × IsWritableList symbols
+    (length periods ≤ 3) × IsWritableList periods × IsWritableNumber shear × IsShearFor periods shear × IsWritableList symbols
 
--- the number of one of the four questions
+-- the number of one of the four questions of a conjugacy
 abbrev pub IsWritablePart : ℕ → Type 0
 IsWritablePart part = (1 ≤ part) × (part ≤ 4)
 
--- there is nothing to refute below 0
+-- no steps if the weight is 0; otherwise steps, which refute the lower weights
 abbrev pub IsWritableBelow : ℕ → List Step → Type 0
 IsWritableBelow weight steps = ((weight ≡ 0) × (steps ≡ [])) ⊎ ((1 ≤ weight) × IsWritableRefutation steps)
 
+-- an output can hold this answer
 abbrev pub IsWritable : Answer → Type 0
 IsWritable answer.Inside = Unit {0}
 IsWritable (answer.Outside place) = (2 ≤ length place) × (length place ≤ 4) × All IsWritableSigned place

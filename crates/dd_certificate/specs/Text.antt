@@ -1,4 +1,4 @@
--- The text of an answer: lines of words, with one space between words and a line feed after each line.
+-- The text of an answer. Its lines hold words and numbers, with one space between them. Each line ends with a line feed.
 use Rattle.std.specs.Prelude.{ℕ, ℤ, List, [], ◌∷◌, ◌++◌, length, codes, ◌==◌, if◌then◌else◌, Option, Some, None}
 use Rattle.std.specs.{List.flat_map, Fmt.decimal, Fmt.signed_decimal}
 use Rattle.dd_clause.specs.declared.clause.Literal.{Literal}
@@ -12,25 +12,25 @@ use Rattle.dd_certificate.specs.declared.answer.Answer.TheVariants as answer
 abbrev pub line_feed : List ℕ
 line_feed = codes "\n"
 
--- a number after a space
+-- a number with a space before it
 abbrev pub after_space : ℕ → List ℕ
 after_space n = codes " " ++ decimal n
 
 abbrev pub signed_after_space : ℤ → List ℕ
 signed_after_space z = codes " " ++ signed_decimal z
 
--- numbers, each after a space
+-- numbers, each with a space before it
 abbrev pub spaced_out : List ℕ → List ℕ
 spaced_out ns = flat_map after_space ns
 
--- the numbers that a line ends with
+-- these numbers, and the line feed: the end of a line
 abbrev pub numbers_to_end : List ℕ → List ℕ
 numbers_to_end ns = spaced_out ns ++ line_feed
 
 abbrev pub signed_to_end : List ℤ → List ℕ
 signed_to_end zs = flat_map signed_after_space zs ++ line_feed
 
--- a fraction that a line ends with
+-- this fraction, and the line feed
 abbrev pub fraction_to_end : ℕ → ℕ → List ℕ
 fraction_to_end numerator denominator = decimal numerator ++ (codes "/" ++ (decimal denominator ++ line_feed))
 
@@ -40,25 +40,26 @@ fraction_to_end numerator denominator = decimal numerator ++ (codes "/" ++ (deci
 abbrev pub literal_text : Literal → List ℕ
 literal_text l = if l.positive then decimal l.variable else (codes "-" ++ decimal l.variable)
 
--- a literal and the space after it
+-- a literal with a space after it
 abbrev pub spaced_literal : Literal → List ℕ
 spaced_literal l = literal_text l ++ codes " "
 
+-- a number with a space after it
 abbrev pub spaced : ℕ → List ℕ
 spaced n = decimal n ++ codes " "
 
--- numbers, the 0 that ends them, and the byte `next`
+-- numbers, then the 0 that ends them and the byte `next`: 32 is a space, 10 a line feed
 abbrev pub numbers_to_zero : ℕ → List ℕ → List ℕ
 numbers_to_zero next ns = flat_map spaced ns ++ (codes "0" ++ next ∷ [])
 
 abbrev pub literals_to_zero : List Literal → List ℕ
 literals_to_zero ls = flat_map spaced_literal ls ++ codes "0 "
 
--- a clause's literals, the hints and the deletes
+-- the line of a step: its clause's literals, its hints, and the numbers of the clauses that it deletes
 abbrev pub step_text : Step → List ℕ
 step_text s = codes "step " ++ (literals_to_zero s.clause ++ (numbers_to_zero 32 s.hints ++ numbers_to_zero 10 s.deletes))
 
--- the number of steps, and a line for each
+-- a line with the number of steps, and a line for each
 abbrev pub refutation_text : List Step → List ℕ
 refutation_text steps = codes "refutation " ++ (decimal (length steps) ++ (line_feed ++ flat_map step_text steps))
 
@@ -79,49 +80,49 @@ reason_text reason.Pivots = codes "pivots"
 abbrev pub shear_text : ℕ → List ℕ
 shear_text shear = if shear == 0 then [] else (codes " shear " ++ decimal shear)
 
--- the node, and then the symbols
+-- the line of a pattern: its node, and then its symbols
 abbrev pub pattern_text : Listed → List ℕ
 pattern_text p = codes "pattern " ++ (decimal p.node ++ numbers_to_end p.symbols)
 
--- a star where a cell is left out
-abbrev pub kept_text : Option ℕ → List ℕ
-kept_text None = codes "*"
-kept_text (Some n) = decimal n
+-- the number of a symbol, or a star for a cell that is left out
+abbrev pub symbol_or_star_text : Option ℕ → List ℕ
+symbol_or_star_text None = codes "*"
+symbol_or_star_text (Some n) = decimal n
 
-abbrev pub kept_after_space : Option ℕ → List ℕ
-kept_after_space s = codes " " ++ kept_text s
+abbrev pub symbol_or_star_after_space : Option ℕ → List ℕ
+symbol_or_star_after_space s = codes " " ++ symbol_or_star_text s
 
--- symbols and stars that a line ends with
-abbrev pub kept_to_end : List (Option ℕ) → List ℕ
-kept_to_end symbols = flat_map kept_after_space symbols ++ line_feed
+-- these symbols and stars, and the line feed
+abbrev pub symbols_and_stars_to_end : List (Option ℕ) → List ℕ
+symbols_and_stars_to_end symbols = flat_map symbol_or_star_after_space symbols ++ line_feed
 
 abbrev pub starred_text : Starred → List ℕ
-starred_text p = codes "pattern " ++ (decimal p.node ++ kept_to_end p.symbols)
+starred_text p = codes "pattern " ++ (decimal p.node ++ symbols_and_stars_to_end p.symbols)
 
 abbrev pub yes_both_text : ℕ → ℕ → List ℕ
 yes_both_text left right = codes "YES " ++ (decimal left ++ (codes " " ++ (decimal right ++ line_feed)))
 
--- periods and a shear that a line ends with
+-- these periods and this shear, and the line feed
 abbrev pub periods_to_end : List ℕ → ℕ → List ℕ
 periods_to_end periods shear = spaced_out periods ++ (shear_text shear ++ line_feed)
 
--- the side, the periods and the shear
+-- the first line of `No`: the side, the periods and the shear
 abbrev pub no_text : Side → List ℕ → ℕ → List ℕ
 no_text side periods shear = codes "NO" ++ (side_text side ++ periods_to_end periods shear)
 
--- the number of the question, the periods and the shear
+-- the first line of `Broken`: the number of the question, the periods and the shear
 abbrev pub broken_text : ℕ → List ℕ → ℕ → List ℕ
 broken_text part periods shear = codes "BROKEN " ++ (decimal part ++ periods_to_end periods shear)
 
--- a line's first word, and one number
+-- a line of a word, with the space after it, and a number
 abbrev pub number_line : List ℕ → ℕ → List ℕ
 number_line word n = word ++ (decimal n ++ line_feed)
 
--- a line's first word, and any number of numbers
+-- a line of a word and numbers
 abbrev pub numbers_line : List ℕ → List ℕ → List ℕ
 numbers_line word ns = word ++ numbers_to_end ns
 
--- the first line, from the answer on
+-- the first line of an answer, without the word `query` and the query's number
 abbrev pub verdict_text : Answer → List ℕ
 verdict_text answer.Inside = codes "IN\n"
 verdict_text (answer.Outside place) = codes "OUT" ++ signed_to_end place
@@ -139,7 +140,7 @@ verdict_text (answer.Broken part periods shear symbols) = broken_text part perio
 verdict_text (answer.Least weight symbols steps) = number_line (codes "LEAST ") weight
 verdict_text (answer.Nothing steps) = codes "NONE\n"
 
--- the number of states, the states, and the potentials
+-- the further lines of `Density`: one with the length of the cycle and its states, and one with the potentials
 abbrev pub density_lines : List ℕ → List ℤ → List ℕ
 density_lines cycle potentials =
     codes "cycle " ++ (decimal (length cycle) ++ (numbers_to_end cycle ++ (codes "potentials" ++ signed_to_end potentials)))
@@ -150,11 +151,11 @@ amounts_and_duals_text amounts duals = numbers_line (codes "amounts") amounts ++
 abbrev pub bound_lines : ℕ → List ℕ → List ℕ → List ℕ
 bound_lines common amounts duals = number_line (codes "denominator ") common ++ amounts_and_duals_text amounts duals
 
--- the configuration, and a refutation of all smaller weights; for 0 there are none
+-- the further lines of `Least`: one with the symbols, and a refutation if the weight isn't 0
 abbrev pub least_lines : ℕ → List ℕ → List Step → List ℕ
 least_lines weight symbols steps = numbers_line (codes "conf") symbols ++ (if weight == 0 then [] else refutation_text steps)
 
--- the lines that follow the first
+-- the lines that follow the first one of an answer
 abbrev pub further_lines : Answer → List ℕ
 further_lines answer.Inside = []
 further_lines (answer.Outside place) = []
@@ -176,6 +177,6 @@ further_lines (answer.Nothing steps) = refutation_text steps
 abbrev pub answer_line : ℕ → Answer → List ℕ
 answer_line query a = codes "query " ++ (decimal query ++ (codes " " ++ verdict_text a))
 
--- all of its lines
+-- all lines of the answer to the query with this number
 abbrev pub answer_text : ℕ → Answer → List ℕ
 answer_text query a = answer_line query a ++ further_lines a

@@ -1,4 +1,4 @@
-//! The output text: the answers to queries, and how they are written.
+//! Answers to queries with their certificates, and the texts of answers.
 #![tactic(auto, using(std::proofs::lemmas::Grind::common_steps))]
 
 mod answer;

@@ -1,4 +1,5 @@
-//! A refutation is by far the longest part of an output, so each step is appended to the output without a text of its own.
+//! The text of a refutation. Refutations are by far the longest parts of an output, so each step is appended to the output
+//! directly, without a text of its own.
 ghost use Rattle.std.specs.Prelude.{◌≡◌, ◌++◌, OnOk};
 ghost use Rattle.std.specs.List.{flat_map};
 ghost use Rattle.dd_certificate.specs.Text.{literal_text, literals_to_zero, numbers_to_zero, refutation_text, step_text};
@@ -8,6 +9,7 @@ use dd_clause::Literal;
 use dd_derivation::Step;
 use std::alloc::AllocError;
 
+/// Appends the number of the literal's variable, with a minus sign before it if the literal is negative.
 fn push_literal(text: &mut Vec<u8>, literal: &Literal) -> Result<(), AllocError>
     ensures { OnOk result (text.new.items ≡ text.old.items ++ literal_text literal.now) }
 {
@@ -17,7 +19,7 @@ fn push_literal(text: &mut Vec<u8>, literal: &Literal) -> Result<(), AllocError>
     push_decimal(text, u64::from(literal.variable))
 }
 
-/// Appends literals to a text, each with a space after it, and the 0 that ends them.
+/// Appends literals, each with a space after it, and then the 0 that ends them and a space.
 fn push_literals(text: &mut Vec<u8>, literals: &[Literal]) -> Result<(), AllocError>
     ensures { OnOk result (text.new.items ≡ text.old.items ++ literals_to_zero literals.now) }
 {
@@ -28,7 +30,7 @@ fn push_literals(text: &mut Vec<u8>, literals: &[Literal]) -> Result<(), AllocEr
     text.extend_from_slice(b"0 ")
 }
 
-/// Appends numbers of clauses to a text, each with a space after it, the 0 that ends them, and one more byte.
+/// Appends numbers of clauses, each with a space after it, and then the 0 that ends them and the byte `next`.
 fn push_clause_numbers(text: &mut Vec<u8>, numbers: &[u64], next: u8) -> Result<(), AllocError>
     ensures { OnOk result (text.new.items ≡ text.old.items ++ numbers_to_zero next numbers.now) }
 {
@@ -39,6 +41,7 @@ fn push_clause_numbers(text: &mut Vec<u8>, numbers: &[u64], next: u8) -> Result<
     text.extend_from_slice(&[b'0', next])
 }
 
+/// Appends the line of a step.
 fn push_step(text: &mut Vec<u8>, step: &Step) -> Result<(), AllocError>
     ensures { OnOk result (text.new.items ≡ text.old.items ++ step_text step.now) }
 {
@@ -48,6 +51,7 @@ fn push_step(text: &mut Vec<u8>, step: &Step) -> Result<(), AllocError>
     push_clause_numbers(text, step.deletes.as_slice(), b'\n')
 }
 
+/// Appends the lines of the steps.
 fn push_steps(text: &mut Vec<u8>, steps: &[Step]) -> Result<(), AllocError>
     ensures { OnOk result (text.new.items ≡ text.old.items ++ flat_map step_text steps.now) }
 {

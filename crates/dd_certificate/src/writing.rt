@@ -1,4 +1,4 @@
-//! The text of an answer, written from left to right into one growing text.
+//! The text of an answer, appended from left to right to one growing text.
 ghost use Rattle.std.specs.Prelude.{◌≡◌, ◌++◌, codes, length, OnOk, IfOk};
 ghost use Rattle.std.specs.List.{flat_map};
 ghost use Rattle.dd_certificate.specs.Text.{
@@ -10,8 +10,8 @@ ghost use Rattle.dd_certificate.specs.Text.{
   density_lines,
   fraction_to_end,
   further_lines,
-  kept_text,
-  kept_to_end,
+  symbol_or_star_text,
+  symbols_and_stars_to_end,
   least_lines,
   line_feed,
   no_text,
@@ -58,6 +58,7 @@ fn push_numbers_to_end(text: &mut Vec<u8>, numbers: &[u64]) -> Result<(), AllocE
     Ok(())
 }
 
+/// Ends a line with these numbers, each after a space. They may be below 0.
 fn push_signed_to_end(text: &mut Vec<u8>, numbers: &[i64]) -> Result<(), AllocError>
     ensures { OnOk result (text.new.items ≡ text.old.items ++ signed_to_end numbers.now) }
 {
@@ -69,7 +70,7 @@ fn push_signed_to_end(text: &mut Vec<u8>, numbers: &[i64]) -> Result<(), AllocEr
     Ok(())
 }
 
-/// Appends a line of a word and a number to a text. The word includes its space.
+/// Appends a line: a word, with the space after it, and a number.
 fn push_number_line(text: &mut Vec<u8>, word: &[u8], number: u64) -> Result<(), AllocError>
     ensures { OnOk result (text.new.items ≡ text.old.items ++ number_line word.now number) }
 {
@@ -79,6 +80,7 @@ fn push_number_line(text: &mut Vec<u8>, word: &[u8], number: u64) -> Result<(), 
     Ok(())
 }
 
+/// Ends a line with a fraction, as numerator, slash and denominator.
 fn push_fraction_to_end(
     text: &mut Vec<u8>,
     numerator: u64,
@@ -93,6 +95,7 @@ fn push_fraction_to_end(
     Ok(())
 }
 
+/// The word of a side, with the space before it.
 fn side_word(side: Side) -> &'static [u8]
     ensures { result.now ≡ side_text side }
 {
@@ -103,6 +106,7 @@ fn side_word(side: Side) -> &'static [u8]
     }
 }
 
+/// The word of a reason.
 fn reason_word(reason: Reason) -> &'static [u8]
     ensures { result.now ≡ reason_text reason }
 {
@@ -114,6 +118,7 @@ fn reason_word(reason: Reason) -> &'static [u8]
     }
 }
 
+/// Appends the first line of `Outside`.
 fn push_outside(text: &mut Vec<u8>, place: &[i64]) -> Result<(), AllocError>
     ensures { OnOk result (text.new.items ≡ text.old.items ++ (codes "OUT" ++ signed_to_end place.now)) }
 {
@@ -121,6 +126,7 @@ fn push_outside(text: &mut Vec<u8>, place: &[i64]) -> Result<(), AllocError>
     push_signed_to_end(text, place)
 }
 
+/// Appends the first line of `YesBoth`.
 fn push_yes_both(text: &mut Vec<u8>, left: u64, right: u64) -> Result<(), AllocError>
     ensures { OnOk result (text.new.items ≡ text.old.items ++ yes_both_text left right) }
 {
@@ -153,6 +159,7 @@ fn push_periods_to_end(text: &mut Vec<u8>, periods: &[u64], shear: u64) -> Resul
     Ok(())
 }
 
+/// Appends the first line of `No`.
 fn push_no(text: &mut Vec<u8>, side: Side, periods: &[u64], shear: u64) -> Result<(), AllocError>
     ensures { OnOk result (text.new.items ≡ text.old.items ++ no_text side periods.now shear) }
 {
@@ -161,6 +168,7 @@ fn push_no(text: &mut Vec<u8>, side: Side, periods: &[u64], shear: u64) -> Resul
     push_periods_to_end(text, periods, shear)
 }
 
+/// Appends the first line of `Broken`.
 fn push_broken(text: &mut Vec<u8>, part: u64, periods: &[u64], shear: u64) -> Result<(), AllocError>
     ensures { OnOk result (text.new.items ≡ text.old.items ++ broken_text part periods.now shear) }
 {
@@ -169,6 +177,7 @@ fn push_broken(text: &mut Vec<u8>, part: u64, periods: &[u64], shear: u64) -> Re
     push_periods_to_end(text, periods, shear)
 }
 
+/// Appends the first line of `Unknown`.
 fn push_unknown(text: &mut Vec<u8>, reason: Reason) -> Result<(), AllocError>
     ensures { OnOk result (text.new.items ≡ text.old.items ++ (codes "UNKNOWN " ++ (reason_text reason ++ line_feed))) }
 {
@@ -178,6 +187,7 @@ fn push_unknown(text: &mut Vec<u8>, reason: Reason) -> Result<(), AllocError>
     Ok(())
 }
 
+/// Appends a line: a word, with the space after it, and a fraction.
 fn push_fraction_line(
     text: &mut Vec<u8>,
     word: &[u8],
@@ -190,7 +200,7 @@ fn push_fraction_line(
     push_fraction_to_end(text, numerator, denominator)
 }
 
-/// Appends a line of a word and numbers to a text.
+/// Appends a line: a word, and numbers, each after a space.
 fn push_numbers_line(text: &mut Vec<u8>, word: &[u8], numbers: &[u64]) -> Result<(), AllocError>
     ensures { OnOk result (text.new.items ≡ text.old.items ++ numbers_line word.now numbers.now) }
 {
@@ -198,14 +208,14 @@ fn push_numbers_line(text: &mut Vec<u8>, word: &[u8], numbers: &[u64]) -> Result
     push_numbers_to_end(text, numbers)
 }
 
-/// Appends how many patterns follow.
+/// Appends the first line of `Minimal`, which says how many patterns follow.
 fn push_minimal(text: &mut Vec<u8>, patterns: &[Starred]) -> Result<(), AllocError>
     ensures { OnOk result (text.new.items ≡ text.old.items ++ number_line (codes "MINIMAL ") (length patterns.now)) }
 {
     push_number_line(text, b"MINIMAL ", patterns.len() as u64)
 }
 
-/// Appends the first line, from the answer on, to a text.
+/// Appends the first line of an answer, without the word `query` and the query's number.
 fn push_verdict(text: &mut Vec<u8>, answer: &Answer) -> Result<(), AllocError>
     ensures { OnOk result (text.new.items ≡ text.old.items ++ verdict_text answer.now) }
 {
@@ -246,13 +256,15 @@ fn push_verdict(text: &mut Vec<u8>, answer: &Answer) -> Result<(), AllocError>
     }
 }
 
-fn push_refutations(text: &mut Vec<u8>, left: &[Step], right: &[Step]) -> Result<(), AllocError>
+/// Appends the lines of two refutations.
+fn push_two_refutations(text: &mut Vec<u8>, left: &[Step], right: &[Step]) -> Result<(), AllocError>
     ensures { OnOk result (text.new.items ≡ text.old.items ++ (refutation_text left.now ++ refutation_text right.now)) }
 {
     push_refutation(text, left)?;
     push_refutation(text, right)
 }
 
+/// Appends the line of a pattern.
 fn push_pattern(text: &mut Vec<u8>, pattern: &Listed) -> Result<(), AllocError>
     ensures { OnOk result (text.new.items ≡ text.old.items ++ pattern_text pattern.now) }
 {
@@ -261,6 +273,7 @@ fn push_pattern(text: &mut Vec<u8>, pattern: &Listed) -> Result<(), AllocError>
     push_numbers_to_end(text, pattern.symbols.as_slice())
 }
 
+/// Appends the lines of patterns.
 fn push_patterns(text: &mut Vec<u8>, patterns: &[Listed]) -> Result<(), AllocError>
     ensures { OnOk result (text.new.items ≡ text.old.items ++ flat_map pattern_text patterns.now) }
 {
@@ -270,8 +283,9 @@ fn push_patterns(text: &mut Vec<u8>, patterns: &[Listed]) -> Result<(), AllocErr
     Ok(())
 }
 
-fn push_kept(text: &mut Vec<u8>, symbol: Option<u64>) -> Result<(), AllocError>
-    ensures { OnOk result (text.new.items ≡ text.old.items ++ kept_text symbol) }
+/// Appends the number of a symbol, or a star for a cell that is left out.
+fn push_symbol_or_star(text: &mut Vec<u8>, symbol: Option<u64>) -> Result<(), AllocError>
+    ensures { OnOk result (text.new.items ≡ text.old.items ++ symbol_or_star_text symbol) }
 {
     match symbol {
         None => text.extend_from_slice(b"*"),
@@ -279,26 +293,31 @@ fn push_kept(text: &mut Vec<u8>, symbol: Option<u64>) -> Result<(), AllocError>
     }
 }
 
-/// Ends a line with these symbols, each after a space, with a star for a cell that is left out.
-fn push_kept_to_end(text: &mut Vec<u8>, symbols: &[Option<u64>]) -> Result<(), AllocError>
-    ensures { OnOk result (text.new.items ≡ text.old.items ++ kept_to_end symbols.now) }
+/// Ends a line with these symbols, each after a space. A cell that is left out has a star.
+fn push_symbols_and_stars_to_end(
+    text: &mut Vec<u8>,
+    symbols: &[Option<u64>],
+) -> Result<(), AllocError>
+    ensures { OnOk result (text.new.items ≡ text.old.items ++ symbols_and_stars_to_end symbols.now) }
 {
     for symbol in symbols {
         text.push(b' ')?;
-        push_kept(text, *symbol)?;
+        push_symbol_or_star(text, *symbol)?;
     }
     text.push(b'\n')?;
     Ok(())
 }
 
+/// Appends the line of a starred pattern.
 fn push_starred(text: &mut Vec<u8>, pattern: &Starred) -> Result<(), AllocError>
     ensures { OnOk result (text.new.items ≡ text.old.items ++ starred_text pattern.now) }
 {
     text.extend_from_slice(b"pattern ")?;
     push_decimal(text, pattern.node)?;
-    push_kept_to_end(text, pattern.symbols.as_slice())
+    push_symbols_and_stars_to_end(text, pattern.symbols.as_slice())
 }
 
+/// Appends the lines of starred patterns.
 fn push_starred_patterns(text: &mut Vec<u8>, patterns: &[Starred]) -> Result<(), AllocError>
     ensures { OnOk result (text.new.items ≡ text.old.items ++ flat_map starred_text patterns.now) }
 {
@@ -308,6 +327,7 @@ fn push_starred_patterns(text: &mut Vec<u8>, patterns: &[Starred]) -> Result<(),
     Ok(())
 }
 
+/// Appends the lines of several refutations.
 fn push_each_refutation(text: &mut Vec<u8>, lists: &[Items<Step>]) -> Result<(), AllocError>
     ensures { OnOk result (text.new.items ≡ text.old.items ++ flat_map refutation_text lists.now) }
 {
@@ -317,7 +337,7 @@ fn push_each_refutation(text: &mut Vec<u8>, lists: &[Items<Step>]) -> Result<(),
     Ok(())
 }
 
-/// Appends the line of the configuration and, if the weight is not 0, the refutation.
+/// Appends the lines that follow the first one of `Least`: the symbols, and a refutation if the weight isn't 0.
 fn push_least_lines(
     text: &mut Vec<u8>,
     weight: u64,
@@ -333,6 +353,7 @@ fn push_least_lines(
     Ok(())
 }
 
+/// Appends the lines that follow the first one of `Density`: the cycle and the potentials.
 fn push_density_lines(
     text: &mut Vec<u8>,
     cycle: &[u64],
@@ -347,6 +368,7 @@ fn push_density_lines(
     push_signed_to_end(text, potentials)
 }
 
+/// Appends the lines of the amounts and of the duals.
 fn push_amounts_and_duals(
     text: &mut Vec<u8>,
     amounts: &[u64],
@@ -358,6 +380,7 @@ fn push_amounts_and_duals(
     push_numbers_line(text, b"duals", duals)
 }
 
+/// Appends the lines that follow the first one of `Bound`.
 fn push_bound_lines(
     text: &mut Vec<u8>,
     common: u64,
@@ -370,7 +393,7 @@ fn push_bound_lines(
     push_amounts_and_duals(text, amounts, duals)
 }
 
-/// Appends the lines that follow an answer's first one to a text.
+/// Appends the lines that follow the first one of an answer.
 fn push_further_lines(text: &mut Vec<u8>, answer: &Answer) -> Result<(), AllocError>
     ensures { OnOk result (text.new.items ≡ text.old.items ++ further_lines answer.now) }
 {
@@ -381,7 +404,7 @@ fn push_further_lines(text: &mut Vec<u8>, answer: &Answer) -> Result<(), AllocEr
             left_steps,
             right_steps,
             ..
-        } => push_refutations(text, left_steps.as_slice(), right_steps.as_slice()),
+        } => push_two_refutations(text, left_steps.as_slice(), right_steps.as_slice()),
         Answer::No { symbols, .. } => push_numbers_line(text, b"conf", symbols.as_slice()),
         Answer::List { patterns } => push_patterns(text, patterns.as_slice()),
         Answer::Density {
@@ -408,7 +431,7 @@ fn push_further_lines(text: &mut Vec<u8>, answer: &Answer) -> Result<(), AllocEr
     }
 }
 
-/// The first line of the answer to the query with this number, with its line feed.
+/// The first line of the answer to the query with this number, with its line feed. Fails only if memory runs out.
 pub fn answer_line(alloc: Global, query: u32, answer: &Answer) -> Result<Vec<u8>, AllocError>
     ensures { IfOk result (λ text. text.items ≡ answer_line query answer.now) }
 {
@@ -420,8 +443,7 @@ pub fn answer_line(alloc: Global, query: u32, answer: &Answer) -> Result<Vec<u8>
     Ok(text)
 }
 
-/// The text of the answer to the query with this number: its first line, and the lines that follow. Each line has its
-/// line feed.
+/// All lines of the answer to the query with this number, each with its line feed. Fails only if memory runs out.
 pub fn write_answer(alloc: Global, query: u32, answer: &Answer) -> Result<Vec<u8>, AllocError>
     ensures { IfOk result (λ text. text.items ≡ answer_text query answer.now) }
 {

@@ -1,4 +1,4 @@
--- What a CONJUGATE that is a certificate says of configurations that no data holds.
+-- What a CONJUGATE that is a certificate says of any configuration, even a function on all cells of Z^d.
 use Rattle.std.proofs.Common.{◌≡◌, ℕ, ◌<◌, true, refl, sym, subst, ◌∙◌, Some, None}
 use Rattle.std.proofs.lemmas.Bool.{false≢true}
 use Rattle.std.specs.Prelude.{Option, IsSomeAnd, IfSome, slice_get}
@@ -11,8 +11,8 @@ use Rattle.dd_maps.specs.lemmas.PairLaws.{image_differs, identity_differs}
 use Rattle.dd_maps.specs.lemmas.Claims.{symbol_at, image_keeps, gives_back}
 use Rattle.dd_boxes.specs.Boxes.{HoldsNowhere}
 use Rattle.dd_meanings.specs.Made.{IsRuleOf, IsAutomatonOf}
-use Rattle.dd_pairs.specs.{Parts.image, Parts.change, Parts.pair_of, Parts.goal_of, Queries.of_four}
-use Rattle.dd_pairs.specs.lemmas.{PartLaws.rule_over, PartLaws.automaton_over, QueryLaws.item_at}
+use Rattle.dd_pairs.specs.{Comparisons.image, Comparisons.change, Comparisons.pair_of, Comparisons.goal_of, Queries.of_four}
+use Rattle.dd_pairs.specs.lemmas.{ComparisonLaws.rule_over, ComparisonLaws.automaton_over, QueryLaws.item_at}
 use Rattle.dd_certificate.specs.declared.answer.Answer.{Answer}
 use Rattle.dd_query.specs.declared.queries.Query.{Query}
 use Rattle.dd_script.specs.{Parts.Parts, Kept.IsScriptOf, Questions.query_at, Questions.conjugacy_question}
@@ -21,7 +21,7 @@ use Rattle.dd_checker.specs.{Claims.ClaimFor, Claims.Claim, Lifted.whole_look, L
 use Rattle.dd_checker.specs.Inverses.{is_conjugate, IsConjugacy, a_conjugacy, IsConjugacyAt, IsCarriedAt, AreInverseAt, AreInverseFor, are_inverse, AreInverseIn}
 use Rattle.dd_checker.proofs.Lifting.{look_allowed, look_whole, not_at}
 
--- the four items exist, and what is asked of them satisfies P
+-- the four items exist, and P holds of h of them
 record Found {X Y F G Z : Type 0} (h : X → Y → F → G → Z) (P : Z → Type 0) (o : Option X) (p : Option Y) (q : Option F) (r : Option G) : Type 0 where
   x : X
   y : Y
@@ -41,7 +41,7 @@ found h P (Some x) (Some y) None r k = absurd k
 found h P (Some x) None q r k = absurd k
 found h P None p q r k = absurd k
 
--- what holds of an item, if there is one
+-- what holds of the item, if there is one, holds of x, which is the item
 of_item : {X : Type 0} (P : X → Type 0) (o : Option X) (x : X) → IfSome o P → o ≡ Some x → P x
 of_item P o x told is = subst (λ p. IfSome p P) is told
 
@@ -78,7 +78,7 @@ module _ (s : Parts) (kept : IsScriptOf s) (nodes : ℕ) (symbol_of : Cell → �
               (subst (λ k. Differ k other.left other.right look v) (sym ofx.nodes) ((identity_differs grid sets g f look v has).1 changed))));
         }
 
-  -- in both directions
+  -- a CONJUGATE carries configurations in both directions
   inverse : (x y : LocalRule) (f g : Automaton) → IsRuleOf s.known.setting x → IsRuleOf s.known.setting y → IsAutomatonOf s.known.setting f →
       IsAutomatonOf s.known.setting g → (a : Answer) → is_conjugate a ≡ true → ClaimOf (conjugacy_question s.known.setting x y f g) a → AreInverseAt x y f g look v
   inverse x y f g ofx ofy off ofg _ told (says_conjugate {n1 = n1} {n2 = n2} {n3 = n3} {n4 = n4} one two three four) = record {

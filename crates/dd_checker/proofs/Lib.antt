@@ -1,4 +1,5 @@
 pub mod Verdicts
 pub mod Certifying
 pub mod Lifting
+pub mod Pairs
 pub mod Inverting

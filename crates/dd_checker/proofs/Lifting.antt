@@ -1,4 +1,4 @@
--- What a YES that is a certificate says of configurations that no data holds.
+-- What a YES that is a certificate says of any configuration, even a function on all cells of Z^d.
 use Rattle.std.proofs.Common.{◌≡◌, ℕ, ◌-◌, ◌<◌, Bool, true, false, List, refl, ap, sym, subst, ◌∙◌, arith, Some, None}
 use Rattle.std.proofs.lemmas.Bool.{and_from, lt-ltb, ltb-true, false≢true}
 use Rattle.std.proofs.lemmas.Option.{slice_get_within, get_or_from_slice_get}
@@ -22,16 +22,16 @@ use Rattle.dd_checker.specs.Lifted.{is_yes, whole_look, IsWhole, IsNotAt, IsAske
 use Rattle.dd_certificate.specs.declared.answer.Answer.TheVariants as answer
 use Rattle.dd_question.specs.Questions as question
 
--- a consequence of two facts about an item
-some_then : {X : Type 0} (o : Option X) (P Q : X → Type 0) → ((x : X) → o ≡ Some x → P x → Q x) → IsSomeAnd o P → IsSomeAnd o Q
+-- if P holds of the item, and P implies Q for it, Q holds of it
+pub some_then : {X : Type 0} (o : Option X) (P Q : X → Type 0) → ((x : X) → o ≡ Some x → P x → Q x) → IsSomeAnd o P → IsSomeAnd o Q
 some_then (Some x) P Q h p = h x refl p
 some_then None P Q h p = p
 
--- an item is in its list
+-- the list contains the item at an index
 stands_at : (xs : List Query) (n : ℕ) (x : Query) → slice_get xs n ≡ Some x → Contains xs x
 stands_at xs n x is = (n, slice_get_within xs n x is, get_or_from_slice_get xs n x x is)
 
--- YES to one question, or to both of an equality
+-- the answer is YES: to one box question, or to both of an equality
 data SaysYes : Answer → Type 0 where
   one : {n : ℕ} {steps : List Step} → SaysYes (answer.Yes n steps)
   both : {n m : ℕ} {steps others : List Step} → SaysYes (answer.YesBoth n m steps others)

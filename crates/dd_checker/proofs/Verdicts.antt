@@ -1,4 +1,4 @@
--- From the test of a query to the verdict.
+-- From the test of an answer to the verdict on it.
 use Rattle.std.proofs.Common.{◌≡◌, ℕ, ◌-◌, ◌<◌, Bool, true, false, List, length, get_or, refl, ap, sym, subst, ◌∙◌, arith, Some}
 use Rattle.std.proofs.lemmas.{Bool.false≢true, Option.slice_get_read, List.Elements.Contains-get_or}
 use Rattle.std.specs.{Prelude.◌↔◌, Prelude.Option, Prelude.IsSomeAnd, Prelude.slice_get, List.Contains}
@@ -19,7 +19,7 @@ certificate_for s q k a l asks limits b told =
     subst (λ (o : Option Asked). (b ≡ true) ↔ (IsWritable a × IsSomeAnd o (λ j. IsCertificateOf s.known.limits j a))) (sym asks)
     (subst (λ (m : Limits). (b ≡ true) ↔ (IsWritable a × IsCertificateOf m k a)) limits told)
 
--- ---- the query that is read from the list
+-- ---- the query at an index of the list
 
 module _ (qs queries : List Query) (n : ℕ) (q : Query) (same : qs ≡ queries) (is : q ≡ get_or qs n q) (within : n < length queries) where
   read : q ≡ get_or queries n q

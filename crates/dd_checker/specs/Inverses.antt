@@ -1,4 +1,4 @@
--- What a CONJUGATE says of configurations that no data holds.
+-- What a CONJUGATE says of any configuration, even a function on all cells of Z^d.
 use Rattle.std.specs.Prelude.{ℕ, ◌≡◌, Bool, nat_eq, codes, Some, IsSomeAnd, slice_get}
 use Rattle.std.specs.List.{starts_with}
 use Rattle.dd_lattice.specs.Place.{Place}
@@ -17,26 +17,27 @@ is_conjugate a = starts_with nat_eq (verdict_text a) (codes "CONJUGATE")
 pub data IsConjugacy : Query → Type 0 where
   a_conjugacy : {there back from to : ℕ} → IsConjugacy (Query.Conjugate there back from to)
 
--- the query with this number, from 1, asks that
+-- the query with this number, from 1, asks this
 abbrev pub IsConjugacyAt : Parts → ℕ → Type 0
 IsConjugacyAt s number = IsSomeAnd (query_at s number) IsConjugacy
 
--- at each node of v the configuration's image under f has an allowed symbol and obeys y, and the value of g on that image is the
--- configuration's symbol
+-- At each node of the position v, the configuration's image under f has an allowed symbol and obeys y. The value of g on that image
+-- is the configuration's symbol there.
 pub record IsCarriedAt (y : LocalRule) (f g : Automaton) (look : Look) (v : Place) : Type 0 where
   pub keeps : AtEachNode y.nodes (KeepsAt f y look) v
   pub gives_back : AtEachNode y.nodes (GivesBackAt g f look) v
 
--- If the configuration obeys x everywhere, f carries it to y, and g back. If it obeys y, g carries it to x, and f back.
+-- If the configuration obeys x everywhere, then at v f carries it to y, and g back. If it obeys y everywhere, then at v g carries
+-- it to x, and f back.
 pub record AreInverseAt (x y : LocalRule) (f g : Automaton) (look : Look) (v : Place) : Type 0 where
   pub there : Obeys x look → IsCarriedAt y f g look v
   pub back : Obeys y look → IsCarriedAt x g f look v
 
--- the rules and automata that a conjugacy names exist, and are inverse so
+-- the query is a conjugacy; the rules and automata that it names exist, and `AreInverseAt` holds of them
 pub data AreInverseFor (s : Parts) (look : Look) (v : Place) : Query → Type 0 where
   are_inverse : {there back from to : ℕ} {x y : LocalRule} {f g : Automaton} → slice_get s.rules from ≡ Some x → slice_get s.rules to ≡ Some y →
       slice_get s.automata there ≡ Some f → slice_get s.automata back ≡ Some g → AreInverseAt x y f g look v → AreInverseFor s look v (Query.Conjugate there back from to)
 
--- those of the query with this number, from 1
+-- the same for the query with this number, from 1
 abbrev pub AreInverseIn : Parts → ℕ → Look → Place → Type 0
 AreInverseIn s number look v = IsSomeAnd (query_at s number) (AreInverseFor s look v)

@@ -1,4 +1,4 @@
-//! Answers to the queries of scripts.
+//! The check of an answer to a query.
 ghost use Rattle.std.specs.Prelude.{IfOk};
 ghost use Rattle.dd_checker.specs.Certificates.{HasQuery};
 ghost use Rattle.dd_checker.specs.Verdicts.{IsVerdictOn};
@@ -10,8 +10,11 @@ use dd_script::Script;
 use dd_verify::check_question;
 use std::alloc::{AllocError, Global};
 
-/// Whether an answer is a certificate of the query with this number, from 1. What an accepted answer claims is true, of all
-/// finite domains, all positions of Z^d and all configurations.
+/// Whether an answer is a certificate of the query with this number, from 1. What an accepted answer claims is true. A claim may
+/// speak of all finite domains, all positions of Z^d and all configurations.
+///
+/// # Errors
+/// Memory ran out.
 pub fn check_answer(
     alloc: Global,
     script: &Script,
@@ -25,7 +28,8 @@ pub fn check_answer(
     let number = query as usize - 1;
     let asked = &queries[number];
     query_certified(script, asked);
-    let question = script.question(asked);
+    let pairs = script.pairs(alloc, asked)?;
+    let question = script.question(asked, pairs.as_slice());
     let accepted = check_question(alloc, &question, answer)?;
     if accepted {
         Ok(Verdict::Accepted)

@@ -1,4 +1,4 @@
-//! Laws of certificates, as contracts of calls that change nothing.
+//! Laws of certificates, as contracts of functions that change nothing.
 ghost use Rattle.std.specs.Prelude.{◌≡◌, ℕ, true, Contains};
 ghost use Rattle.dd_expansion.specs.Placed.{is_flat};
 ghost use Rattle.dd_certificate.specs.declared.answer.Answer.{Answer as AnyAnswer};
@@ -9,22 +9,31 @@ ghost use Rattle.dd_checker.specs.Inverses.{is_conjugate, IsConjugacyAt, AreInve
 
 use dd_certificate::Answer;
 use dd_lattice::Position;
+use dd_pairs::asks_pairs;
 use dd_pattern::Configuration;
 use dd_query::Query;
 use dd_script::Script;
-use dd_verify::claims_hold;
+use dd_verify::{claims_hold, claims_hold_for_goals};
 
-/// Only looks at what the query asks; its contract says that what a certificate of the query claims is true.
+/// Changes nothing. Its contract says that what a certificate of the query claims is true.
 pub(crate) fn query_certified(script: &Script, query: &Query)
     requires { Contains script.now.queries query.now }
     ensures { (answer : AnyAnswer) → IsCertificateFor script.now query.now answer → ClaimFor script.now query.now answer }
 {
-    let question = script.question(query);
-    claims_hold(&question);
+    if asks_pairs(query) {
+        // The script doesn't keep the pairs. The facts about their automata were proved when the script was read.
+        claims_hold_for_goals();
+        script.sound_questions();
+        // This call tells the proof what the type guarantees.
+        let _limits = script.limits();
+    } else {
+        let question = script.question(query, &[]);
+        claims_hold(&question);
+    }
 }
 
-/// Only looks at what the script's queries ask; its contract says that what a certificate claims is true. For a bound this
-/// includes boxes of every side, at any position: they weigh at least what the bound says, less what may come in from outside.
+/// Changes nothing. Its contract says that what a certificate of a query of the script claims is true. The claim of a bound covers
+/// boxes of every side at every position: they weigh at least what the bound says, less what may come in from outside.
 pub fn certified(script: &Script)
     ensures { (number : ℕ) (answer : AnyAnswer) → IsCertificate script.now number answer → Claim script.now number answer }
 {
@@ -34,9 +43,9 @@ pub fn certified(script: &Script)
     }
 }
 
-/// Only looks at what the script's queries ask. Its contract says what a YES that is a certificate means for any configuration,
-/// even one that no data holds: if it obeys the premise of a side at every position of Z^d, that side's goal does not hold at
-/// `place`. It takes no memory.
+/// Changes nothing and allocates nothing. Its contract says what a YES means for any configuration, even a function on all cells
+/// of Z^d. The YES must be a certificate of the query with the number `_query`, from 1. The query asks one box question, or two for
+/// an equality. If the configuration obeys the premise of such a question at every position of Z^d, its goal doesn't hold at `_place`.
 pub fn lifted<C: Configuration>(
     script: &Script,
     _query: u32,
@@ -55,10 +64,13 @@ pub fn lifted<C: Configuration>(
     certified(script);
 }
 
-/// Only looks at what the script's queries ask. Its contract says what a CONJUGATE that is a certificate means for any
-/// configuration, even one that no data holds. If it obeys the first rule at every position of Z^d, its image under the first
-/// automaton has allowed symbols and obeys the second rule at `place`, and at every node the second automaton takes the image
-/// back to the configuration's symbol. The same holds with rules and automata exchanged. It takes no memory.
+/// Changes nothing and allocates nothing. Its contract says what a CONJUGATE means for any configuration, even a function on all
+/// cells of Z^d. The CONJUGATE must be a certificate of the query with the number `_query`, from 1. If the configuration obeys the
+/// first rule at every position of Z^d, then at `_place`:
+/// - its image under the first automaton has allowed symbols and obeys the second rule;
+/// - the second automaton takes the image back to the configuration's symbols, at every node.
+///
+/// The same holds with rules and automata exchanged.
 pub fn conjugate_at<C: Configuration>(
     script: &Script,
     _query: u32,
@@ -75,6 +87,6 @@ pub fn conjugate_at<C: Configuration>(
         (whole_look script.now.known.setting.topology.dimension (C.nodes _configuration.now) (C.symbol_of _configuration.now)) _place.now }
 {
     certified(script);
-    // Read for what a script keeps.
+    // This call tells the proof what the type guarantees.
     let _dimension = script.dim();
 }

@@ -1,5 +1,5 @@
-//! The check of answers to the queries of scripts: which are certificates, and what they claim. It trusts no search and makes
-//! none.
+//! The check of answers to the queries of scripts: which answers are certificates, and what these claim. The check runs no search
+//! and trusts none.
 #![tactic(auto)]
 
 mod answering;

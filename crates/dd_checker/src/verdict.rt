@@ -5,6 +5,6 @@
 pub enum Verdict {
     /// The answer is a certificate of its query, so what it claims holds.
     Accepted,
-    /// It is not a certificate. The query may have another answer, or the same one with a certificate.
+    /// The answer is not a certificate. The query may have another answer, or the same answer with other evidence.
     Rejected,
 }

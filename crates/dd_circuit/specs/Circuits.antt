@@ -4,19 +4,20 @@ use Rattle.std.specs.{List.list_all, List.list_any, Bool.beq}
 use Rattle.dd_circuit.specs.declared.gates.{Signal.Signal, Gate.Gate}
 use Rattle.dd_circuit.specs.declared.gates.Gate.TheVariants.{And, Or, Iff}
 
--- A circuit: its inputs are the variables 1, 2, ..; each gate has the next variable.
+-- A circuit. Its inputs are the variables 1, 2, .. and each gate has the next variable.
 pub record Network : Type 0 where
   pub inputs : ℕ
   pub gates : List Gate
 
+-- the number of variables of these inputs and gates
 abbrev pub size_of : ℕ → List Gate → ℕ
 size_of inputs gates = inputs + length gates
 
--- the number of variables
+-- the number of variables of a circuit
 abbrev pub size : Network → ℕ
 size circuit = size_of circuit.inputs circuit.gates
 
--- the signal that is true where the variable is
+-- the signal that is the variable itself
 abbrev pub signal_of : ℕ → Signal
 signal_of variable = record { variable = variable; positive = true }
 
@@ -28,28 +29,28 @@ opposite s = record { variable = s.variable; positive = not s.positive }
 abbrev pub IsSignal : ℕ → Signal → Type 0
 IsSignal n s = (1 ≤ s.variable) × (s.variable ≤ n)
 
--- the gate is over the variables 1..n
+-- the members of the gate are over the variables 1..n
 abbrev pub IsGate : ℕ → Gate → Type 0
 IsGate n (And members) = All (IsSignal n) members
 IsGate n (Or members) = All (IsSignal n) members
 IsGate n (Iff a b) = IsSignal n a × IsSignal n b
 
--- each gate is over the first n variables and those of the gates before it
+-- each gate is over the variables 1..n and those of the gates before it; the first gate has the variable n + 1
 abbrev pub AreGates : ℕ → List Gate → Type 0
 AreGates n [] = Unit {0}
 AreGates n (g ∷ gs) = IsGate n g × AreGates (suc n) gs
 
--- the value of a signal, where `set` gives the value of each variable
+-- the value of a signal; `set` gives each variable's value
 abbrev pub signal_value : (ℕ → Bool) → Signal → Bool
 signal_value set s = if s.positive then set s.variable else not (set s.variable)
 
--- the value of a gate: all members are true, some member is, both are equal
+-- the value of a gate: whether all members are true, whether some member is, or whether both have the same value
 abbrev pub gate_value : (ℕ → Bool) → Gate → Bool
 gate_value set (And members) = list_all (signal_value set) members
 gate_value set (Or members) = list_any (signal_value set) members
 gate_value set (Iff a b) = beq (signal_value set a) (signal_value set b)
 
--- the variables that follow the first n have the values of these gates
+-- whether the variables n + 1, n + 2, .. have the values of these gates
 abbrev pub agrees : (ℕ → Bool) → ℕ → List Gate → Bool
 agrees set n [] = true
 agrees set n (g ∷ gs) = beq (set (suc n)) (gate_value set g) && agrees set (suc n) gs

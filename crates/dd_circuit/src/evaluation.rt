@@ -9,8 +9,9 @@ use crate::gates::{Circuit, Gate, Signal};
 use std::alloc::{AllocError, Global};
 
 impl Circuit {
-    /// The value of each variable, the inputs first, for these values of the inputs.
-    pub fn value(&self, alloc: Global, inputs: &[bool]) -> Result<Vec<bool>, AllocError>
+    /// The values of all variables, where the inputs have these values. The variable k has the value at index k - 1.
+    /// Fails only if memory runs out.
+    pub fn values(&self, alloc: Global, inputs: &[bool]) -> Result<Vec<bool>, AllocError>
         requires { length inputs.now ≡ self.now.inputs }
         ensures exact { IfOk result (λ values. values.items ≡ values_from inputs.now self.now.gates) }
         ensures are_values { IfOk result (λ values. AreValues self.now inputs.now values.items) }

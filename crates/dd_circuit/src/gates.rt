@@ -1,5 +1,5 @@
-//! The parts of a circuit, and how it grows. The variable of a gate is the number of inputs and of gates up to it, so
-//! no gate stores its variable. The members of a gate are earlier variables.
+//! Circuits and their gates. The variables are numbered from 1: first the inputs, and then the gates in order. So no gate
+//! stores its variable. The members of a gate are the signals that it combines. They are over earlier variables.
 ghost use Rattle.std.specs.Prelude.{◌≡◌, ◌+◌, ◌<◌, ◌≤◌, ◌∷◌, ◌++◌, [], All, IfOk, OnErr};
 ghost use Rattle.dd_values.specs.Bounds.{most_variables};
 ghost use Rattle.dd_circuit.specs.Circuits.{IsSignal, IsGate, AreGates, size, signal_of, opposite};
@@ -8,15 +8,17 @@ use dd_values::Items;
 use std::alloc::{AllocError, Global};
 use std::marker::Model;
 
-/// A variable, numbered from 1, or its opposite.
+/// A variable, or its opposite.
 #[derive(Clone, Copy, Debug, PartialEq, Eq)]
 pub struct Signal {
+    /// The number of the variable, from 1.
     pub variable: u32,
+    /// True for the variable itself, false for its opposite.
     pub positive: bool,
 }
 
 impl Signal {
-    /// The signal that is true where this one is false.
+    /// The signal that is true exactly if this one is false.
     pub fn opposite(self) -> Signal
         ensures { result ≡ opposite self }
     {
@@ -27,19 +29,19 @@ impl Signal {
     }
 }
 
-/// A gate over signals. `And` of no signal is true, and `Or` of none is false.
+/// A gate over signals, its members. `And` of no signals is true, and `Or` of none is false.
 #[derive(Debug, PartialEq, Drop)]
 pub enum Gate {
-    /// True if all signals are true.
+    /// True if all members are true.
     And(Items<Signal>),
-    /// True if some signal is true.
+    /// True if some member is true.
     Or(Items<Signal>),
-    /// True if both signals are true or both are false.
+    /// True if both members are true or both are false.
     Iff(Signal, Signal),
 }
 
-/// Inputs and gates. The inputs are the variables 1 to `inputs`. Gate k, from 0, has the variable `inputs + 1 + k`,
-/// and its members are variables before that one.
+/// Inputs and gates. The inputs are the variables from 1 to `inputs`. Gate k, from 0, has the variable `inputs + 1 + k`,
+/// and its members are over earlier variables.
 #[derive(Debug, Drop)]
 pub struct Circuit {
     alloc: Global,
@@ -60,7 +62,7 @@ impl Model for Circuit {
 }
 
 impl Circuit {
-    /// A circuit with inputs only. It takes no memory until a gate is added.
+    /// A circuit with inputs only. It allocates nothing until a gate is added.
     pub fn new(alloc: Global, inputs: u32) -> Circuit
         requires { inputs ≤ most_variables }
         ensures inputs { result.inputs ≡ inputs }
@@ -117,7 +119,7 @@ impl Circuit {
         })
     }
 
-    /// Adds a gate that is true if all members are.
+    /// Adds a gate that is true if all members are, and returns its signal. If memory runs out, the circuit is unchanged.
     pub fn and(&mut self, members: &[Signal]) -> Result<Signal, AllocError>
         requires few { size self.old < most_variables }
         requires in_range { All (IsSignal (size self.old)) members.now }
@@ -132,7 +134,7 @@ impl Circuit {
         self.add(Gate::And(members))
     }
 
-    /// Adds a gate that is true if some member is.
+    /// Adds a gate that is true if some member is, and returns its signal. If memory runs out, the circuit is unchanged.
     pub fn or(&mut self, members: &[Signal]) -> Result<Signal, AllocError>
         requires few { size self.old < most_variables }
         requires in_range { All (IsSignal (size self.old)) members.now }
@@ -147,7 +149,8 @@ impl Circuit {
         self.add(Gate::Or(members))
     }
 
-    /// Adds a gate that is true if `a` and `b` have the same value.
+    /// Adds a gate that is true if `a` and `b` have the same value, and returns its signal. If memory runs out, the
+    /// circuit is unchanged.
     pub fn iff(&mut self, a: Signal, b: Signal) -> Result<Signal, AllocError>
         requires few { size self.old < most_variables }
         requires first_in_range { IsSignal (size self.old) a }

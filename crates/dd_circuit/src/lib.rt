@@ -1,4 +1,4 @@
-//! Circuits of gates over truth values: inputs, and gates over the inputs and the gates before them.
+//! Circuits over truth values: inputs, and gates over the inputs and over earlier gates.
 #![tactic(auto)]
 
 mod evaluation;

@@ -1,4 +1,4 @@
-//! An assignment satisfies a clause list if it makes each clause true. The check takes one pass and no memory.
+//! Assignments of truth values, and the check that one satisfies a clause list.
 ghost use Rattle.std.specs.Prelude.{◌≡◌, ◌↔◌, length, IsTrue};
 ghost use Rattle.dd_clause.specs.Clauses.{IsClauseInRange, is_clause_true, Satisfies};
 ghost use Rattle.dd_values.specs.Variables.{true_variables};
@@ -7,7 +7,7 @@ use crate::clause::Literal;
 use crate::cnf::Cnf;
 use std::marker::Model;
 
-/// One truth value for each variable: the variable k has the entry k - 1.
+/// One truth value for each variable. Variables are numbered from 1, so the variable k has the value at index k - 1.
 #[derive(Debug, Drop)]
 pub struct Assignment {
     values: Vec<bool>,
@@ -37,7 +37,7 @@ impl Assignment {
     }
 }
 
-/// Whether a literal of the clause agrees with the values.
+/// Whether some literal of the clause is true under the values.
 fn has_true_literal(literals: &[Literal], values: &[bool]) -> bool
     requires { IsClauseInRange (length values.now) literals.now }
     ensures { result ≡ is_clause_true (true_variables values.now) literals.now }
@@ -51,7 +51,7 @@ fn has_true_literal(literals: &[Literal], values: &[bool]) -> bool
     false
 }
 
-/// Whether the assignment has one value for each variable, and makes each clause true. It takes no memory.
+/// Whether the assignment has one value for each variable, and makes each clause true. It allocates nothing.
 pub fn satisfies(cnf: &Cnf, assignment: &Assignment) -> bool
     ensures { IsTrue result ↔
         (length assignment.now ≡ cnf.now.variables

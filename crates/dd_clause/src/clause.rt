@@ -1,4 +1,4 @@
-//! A clause is true if one of its literals is. Most clauses are short, so up to four literals need no memory.
+//! Literals and clauses. Most clauses are short, so a clause of up to four literals needs no allocation.
 ghost use Rattle.std.specs.Prelude.{◌≡◌, ◌≤◌, length, IsOk, IfOk};
 ghost use Rattle.dd_clause.specs.Clauses as spec;
 
@@ -6,10 +6,12 @@ use smallvec::SmallVec;
 use std::alloc::{AllocError, Global};
 use std::marker::Model;
 
-/// A variable, numbered from 1, or its negation.
+/// A variable, or its negation.
 #[derive(Clone, Copy, Debug, Default, PartialEq, Eq)]
 pub struct Literal {
+    /// The number of the variable, from 1.
     pub variable: u32,
+    /// True for the variable itself, false for its negation.
     pub positive: bool,
 }
 
@@ -25,7 +27,7 @@ impl Literal {
     }
 }
 
-/// A list of literals, one of which has to be true.
+/// A list of literals, at least one of which has to be true.
 #[derive(Debug, Drop)]
 pub struct Clause {
     literals: SmallVec<Literal, 4>,
@@ -41,7 +43,7 @@ impl Model for Clause {
 }
 
 impl Clause {
-    /// The clause of these literals. With at most four literals it takes no memory, so it is always made.
+    /// The clause of these literals. It fails only if memory runs out, so never for at most four literals.
     pub fn from_literals(alloc: Global, literals: &[Literal]) -> Result<Clause, AllocError>
         ensures ok { IfOk result (λ clause. clause ≡ literals.now) }
         ensures short_is_made { length literals.now ≤ 4 → IsOk result }

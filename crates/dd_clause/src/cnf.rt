@@ -1,4 +1,4 @@
-//! A formula in conjunctive normal form: clauses over the variables 1, 2, .. up to a number that the list holds.
+//! Formulas in conjunctive normal form: lists of clauses over numbered variables.
 ghost use Rattle.std.specs.Prelude.{◌≡◌, ◌≤◌, ◌↔◌, [], ◌∷◌, ◌++◌, All, IsTrue, OnOk, OnErr};
 ghost use Rattle.dd_values.specs.Bounds.{most_variables};
 ghost use Rattle.dd_clause.specs.Clauses.{IsClauseInRange};
@@ -7,7 +7,7 @@ use crate::clause::Clause;
 use std::alloc::{AllocError, Global};
 use std::marker::Model;
 
-/// Clauses over the variables 1 to `variables`, which is at most 2^24.
+/// A list of clauses over the variables 1 to `variables`. There are at most 2^24 variables.
 #[derive(Debug, Drop)]
 pub struct Cnf {
     variables: u32,
@@ -27,7 +27,7 @@ impl Model for Cnf {
 }
 
 impl Cnf {
-    /// No clauses over this many variables. It takes no memory.
+    /// The empty list over this many variables. It allocates nothing.
     pub fn new(alloc: Global, variables: u32) -> Cnf
         requires { variables ≤ most_variables }
         ensures variables { result.variables ≡ variables }
@@ -39,7 +39,7 @@ impl Cnf {
         }
     }
 
-    /// Whether each variable of the clause is one of the list's.
+    /// Whether each variable of the clause is one of the list's variables.
     pub fn is_in_range(&self, clause: &Clause) -> bool
         ensures { IsTrue result ↔ IsClauseInRange self.now.variables clause.now }
     {
@@ -62,7 +62,7 @@ impl Cnf {
         Ok(())
     }
 
-    /// Raises the number of variables.
+    /// Raises the number of variables to this one. The clauses stay as they are.
     pub fn widen(&mut self, variables: u32)
         requires more { self.old.variables ≤ variables }
         requires few { variables ≤ most_variables }

@@ -1,4 +1,4 @@
--- The clauses of gates (Tseitin 1968): those of a gate say that its variable has the value of the gate.
+-- The clauses of gates (Tseitin 1968). Those of a gate say that its variable has the value of the gate.
 use Rattle.std.specs.Prelude.{ℕ, suc, Bool, true, false, not, if◌then◌else◌, List, [], ◌∷◌, ◌++◌, map}
 use Rattle.dd_clause.specs.{declared.clause.Literal.Literal, Clauses.negation, Clauses.ClauseList}
 use Rattle.dd_circuit.specs.declared.gates.{Signal.Signal, Gate.Gate}
@@ -9,11 +9,11 @@ use Rattle.dd_circuit.specs.Circuits.{Network, size}
 abbrev pub literal : ℕ → Bool → Literal
 literal variable positive = record { variable = variable; positive = positive }
 
--- the literal that is true where the signal is
+-- the literal that is true exactly if the signal is
 abbrev pub literal_of : Signal → Literal
 literal_of s = literal s.variable s.positive
 
--- the literal that is true where the signal is false
+-- the literal that is true exactly if the signal is false
 abbrev pub opposing : Signal → Literal
 opposing s = negation (literal_of s)
 
@@ -33,7 +33,7 @@ gate_clauses g (Or members) =
     map (λ l. literal g true ∷ opposing l ∷ []) members ++ (literal g false ∷ map literal_of members) ∷ []
 gate_clauses g (Iff a b) = iff_clauses (literal g true) (literal_of a) (literal_of b)
 
--- the clauses of the gates that follow the first n variables, gate by gate
+-- the clauses of gates whose variables are n + 1, n + 2, .., gate by gate
 abbrev pub gates_clauses : ℕ → List Gate → List (List Literal)
 gates_clauses n [] = []
 gates_clauses n (g ∷ gs) = gate_clauses (suc n) g ++ gates_clauses (suc n) gs
@@ -46,7 +46,7 @@ encoded circuit = record { variables = size circuit; clauses = gates_clauses cir
 abbrev pub signed : Bool → Signal → Literal
 signed sign s = literal s.variable (if sign then s.positive else not s.positive)
 
--- the clauses of And for its variable's literal, and those of Or for its negation; the two differ only in their signs
-abbrev pub joint_clauses : Literal → List Signal → List (List Literal)
-joint_clauses gate members =
+-- For a positive `gate` the clauses of And, and for a negative one those of Or. The two differ only in their signs.
+abbrev pub and_or_clauses : Literal → List Signal → List (List Literal)
+and_or_clauses gate members =
     map (λ l. negation gate ∷ signed gate.positive l ∷ []) members ++ (gate ∷ map (signed (not gate.positive)) members) ∷ []

@@ -1,4 +1,4 @@
--- the clauses of gates, and of a circuit with given clauses
+-- the clauses of gates and of circuits
 pub mod Encoding
 -- the models of clauses, and which models the clauses of a circuit have
 pub mod Models

@@ -4,7 +4,7 @@ use Rattle.dd_clause.specs.{declared.clause.Literal.Literal, Clauses.is_clause_t
 use Rattle.dd_values.specs.Variables.{true_variables}
 use Rattle.dd_circuit.specs.{Circuits.Network, Valuations.AreValues}
 
--- each clause has a true literal, as a test
+-- whether each clause has a true literal
 abbrev pub is_satisfied : (ℕ → Bool) → List (List Literal) → Bool
 is_satisfied set clauses = list_all (is_clause_true set) clauses
 
@@ -13,8 +13,8 @@ pub record IsModel (cnf : ClauseList) (values : List Bool) : Type 0 where
   pub one_each : length values ≡ cnf.variables
   pub satisfies : Satisfies (true_variables values) cnf.clauses
 
--- The models of the clauses are the values of the circuit. The values over any inputs are a model, and there are
--- some. Each model is the values over its own inputs.
+-- The models of the clauses are exactly the values of the circuit: the values for any inputs are a model, each model is the
+-- values for its own inputs, and any inputs have values.
 pub record HasValuesAsModels (circuit : Network) (cnf : ClauseList) : Type 0 where
   pub values_are_models : (inputs values : List Bool) → AreValues circuit inputs values → IsModel cnf values
   pub models_are_values : (values : List Bool) → IsModel cnf values → AreValues circuit (take circuit.inputs values) values

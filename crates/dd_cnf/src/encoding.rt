@@ -1,5 +1,5 @@
-//! A gate's clauses allow its variable one value for each choice of its members' values: that of the
-//! gate. So the clauses of all gates leave the inputs free, and fix everything else.
+//! The clauses of a gate are satisfied exactly if the gate's variable has the gate's value. So the clauses of all gates
+//! leave the inputs free, and fix every other variable.
 ghost use Rattle.std.specs.Prelude.{◌≡◌, ◌+◌, ◌≤◌, ◌∷◌, ◌++◌, [], drop, length, All, IfOk, OnOk, OnErr};
 ghost use Rattle.dd_clause.specs.Clauses.{IsLiteralInRange, IsClauseInRange};
 ghost use Rattle.dd_circuit.specs.Circuits.{IsSignal, IsGate, size};
@@ -10,7 +10,7 @@ use dd_circuit::{Circuit, Gate, Signal};
 use dd_clause::{Clause, Cnf, Literal};
 use std::alloc::{AllocError, Global};
 
-/// The literal that is true where the signal is.
+/// The literal that is true exactly if the signal is.
 pub fn literal_of(signal: Signal) -> Literal
     ensures { result ≡ spec.literal_of signal }
 {
@@ -20,7 +20,7 @@ pub fn literal_of(signal: Signal) -> Literal
     }
 }
 
-/// The signal's literal, or its negation.
+/// The signal's literal if `sign` is true, and its negation if not.
 fn signed(signal: &Signal, sign: bool) -> Literal
     ensures { result ≡ spec.signed sign signal.now }
 {
@@ -34,7 +34,7 @@ fn signed(signal: &Signal, sign: bool) -> Literal
     }
 }
 
-/// Adds the clause of these literals. If memory runs out, the clauses are unchanged.
+/// Adds one clause, of these literals. If memory runs out, the clause list is unchanged.
 pub fn push_clause(alloc: Global, cnf: &mut Cnf, literals: &[Literal]) -> Result<(), AllocError>
     requires { IsClauseInRange cnf.old.variables literals.now }
     ensures variables { cnf.new.variables ≡ cnf.old.variables }
@@ -44,8 +44,10 @@ pub fn push_clause(alloc: Global, cnf: &mut Cnf, literals: &[Literal]) -> Result
     cnf.push(Clause::from_literals(alloc, literals)?)
 }
 
-/// Adds the clauses that say that the literal `gate` is true exactly if each member has its sign.
-fn push_joint(
+/// Adds the clauses of a gate `And` or `Or`. The literal `gate` is positive for `And`, and negative for `Or`. For `And` the
+/// clauses say that `gate` is true exactly if all members are true. For `Or` they say that `gate` is true exactly if all members
+/// are false, so that the variable of `gate` is true exactly if some member is.
+fn push_and_or(
     alloc: Global,
     cnf: &mut Cnf,
     gate: Literal,
@@ -55,8 +57,9 @@ fn push_joint(
     requires members { All (IsSignal cnf.old.variables) members.now }
     ensures variables { cnf.new.variables ≡ cnf.old.variables }
     ensures ok { OnOk result (cnf.new.clauses
-        ≡ cnf.old.clauses ++ spec.joint_clauses gate members.now) }
+        ≡ cnf.old.clauses ++ spec.and_or_clauses gate members.now) }
 {
+    // the last clause: `gate` is true, or some member keeps it from being so
     let mut last = Vec::with_capacity(alloc, members.len() + 1)?;
     last.push(gate)?;
     for member in members {
@@ -70,7 +73,7 @@ fn push_joint(
     push_clause(alloc, cnf, &last)
 }
 
-/// Adds the clauses that say that `gate` is true exactly if `a` and `b` have the same value.
+/// Adds the clauses of a gate `Iff`: the literal `gate` is true exactly if `a` and `b` have the same value.
 fn push_iff(
     alloc: Global,
     cnf: &mut Cnf,
@@ -98,18 +101,20 @@ pub fn push_gate(alloc: Global, cnf: &mut Cnf, variable: u32, gate: &Gate) -> Re
     ensures ok { OnOk result (cnf.new.clauses
         ≡ cnf.old.clauses ++ spec.gate_clauses variable gate.now) }
 {
+    // the literal that the gate is true
     let is_true = Literal {
         variable,
         positive: true,
     };
     match gate {
-        Gate::And(members) => push_joint(alloc, cnf, is_true, members.as_slice()),
-        Gate::Or(members) => push_joint(alloc, cnf, is_true.negation(), members.as_slice()),
+        Gate::And(members) => push_and_or(alloc, cnf, is_true, members.as_slice()),
+        Gate::Or(members) => push_and_or(alloc, cnf, is_true.negation(), members.as_slice()),
         Gate::Iff(a, b) => push_iff(alloc, cnf, is_true, literal_of(*a), literal_of(*b)),
     }
 }
 
-/// Adds the clauses of the circuit's gates from the gate `from` on, in gate order. If memory runs out, some may have been added.
+/// Adds the clauses of the circuit's gates in order, from gate `from` on; the first gate is 0. If memory runs out, some may have
+/// been added.
 pub fn push_gates(
     alloc: Global,
     cnf: &mut Cnf,
@@ -131,8 +136,8 @@ pub fn push_gates(
     Ok(())
 }
 
-/// The clauses of a circuit over its variables (Tseitin 1968). They are satisfied exactly by the values
-/// of the circuit, over any inputs.
+/// The clauses of a circuit, over its variables (Tseitin 1968). Any values of the inputs can be extended to a satisfying
+/// assignment in exactly one way: by the values of the gates. Fails only if memory runs out.
 pub fn encode(alloc: Global, circuit: &Circuit) -> Result<Cnf, AllocError>
     ensures exact { IfOk result (λ cnf. cnf ≡ spec.encoded circuit.now) }
     ensures models { IfOk result (λ cnf. HasValuesAsModels circuit.now cnf) }

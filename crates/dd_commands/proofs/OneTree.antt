@@ -1,4 +1,4 @@
--- Bytes are the text of at most one tree, or have one first fault, but never both.
+-- Bytes have at most one syntax tree and at most one syntax fault, and never both.
 use Rattle.std.proofs.Common.{◌≡◌, ℕ, zero, suc, List, [], ◌∷◌, refl, sym, ap, subst, ◌∙◌}
 use Rattle.dd_written.specs.{Lexemes.lexemes_of, reading.Laws.FormulasAreRead, lemmas.Options.some_is}
 use Rattle.dd_commands.specs.{Tree.Lexeme, Tree.Written, Tree.Syntax, lemmas.Whole.written_again}

@@ -1,4 +1,4 @@
--- Commands: what follows the mark of each.
+-- Commands: the tokens that follow the `%` of each.
 use Rattle.std.specs.Prelude.{◌≡◌, ℕ, ◌≤◌, List, [], ◌∷◌, ◌++◌, length, map, Bool, true, false, Option, Some, None, codes}
 use Rattle.std.specs.List.{flat_map, list_all}
 use Rattle.dd_commands.specs.Tree.{Word, Mark, Lexeme, Name, Lists, Entry, Vector, Edge, Case, Request, Command}
@@ -22,7 +22,7 @@ is_plain_entry (Entry.Negative n) = false
 abbrev pub is_plain : Vector → Bool
 is_plain v = list_all is_plain_entry v.entries
 
--- a second vector, if there is one
+-- the text of the shear of a configuration, which is a second vector after the periods; nothing if there is none
 abbrev pub second_vector_text : Option Vector → List Lexeme
 second_vector_text None = []
 second_vector_text (Some v) = vector_text v
@@ -36,22 +36,22 @@ edge_text e = Lexeme.Mark Mark.Open ∷ Lexeme.Word e.label ∷ name_lexeme e.fr
 
 -- ---- cases
 
--- the tokens are this word followed by the rest
-abbrev pub IsBehind : List ℕ → List ℕ → List Lexeme → List Lexeme → Type 0
-IsBehind bytes wanted tokens rest = (w : Word) × (word_text bytes w ≡ wanted) × (tokens ≡ Lexeme.Word w ∷ rest)
+-- the tokens are a word with the wanted text, and then the rest
+abbrev pub BeginsWith : List ℕ → List ℕ → List Lexeme → List Lexeme → Type 0
+BeginsWith bytes wanted tokens rest = (w : Word) × (word_text bytes w ≡ wanted) × (tokens ≡ Lexeme.Word w ∷ rest)
 
--- "when" formula "give" name
+-- the tokens before the rest are a case: "when" formula "give" name
 pub record IsCase (bytes : List ℕ) (c : Case) (tokens rest : List Lexeme) : Type 0 where
   pub middle : List Lexeme
-  pub when : IsBehind bytes (codes "when") tokens (text c.condition ++ middle)
+  pub when : BeginsWith bytes (codes "when") tokens (text c.condition ++ middle)
   pub condition : IsWrittenFormula c.condition
-  pub give : IsBehind bytes (codes "give") middle (name_lexeme c.symbol ∷ rest)
+  pub give : BeginsWith bytes (codes "give") middle (name_lexeme c.symbol ∷ rest)
 
--- {"when" formula "give" name} "else" name
+-- the tokens are cases, one after the other, and then "else" and a name
 pub record AreCases (bytes : List ℕ) (cases : List Case) (default : Name) (tokens : List Lexeme) : Type 0 where
   pub last : List Lexeme
   pub before : ReadsAll (IsCase bytes) cases tokens last
-  pub otherwise : IsBehind bytes (codes "else") last (name_lexeme default ∷ [])
+  pub otherwise : BeginsWith bytes (codes "else") last (name_lexeme default ∷ [])
 
 -- ---- queries
 
@@ -59,7 +59,7 @@ pub record AreCases (bytes : List ℕ) (cases : List Case) (default : Name) (tok
 abbrev pub IsOnePlain : List Vector → Type 0
 IsOnePlain vs = (v : Vector) × (vs ≡ v ∷ []) × (is_plain v ≡ true)
 
--- the vectors at the end of a query
+-- the vectors that a query may have at its end
 abbrev pub AreLists : Lists → List Vector → Type 0
 AreLists Lists.None vs = vs ≡ []
 AreLists Lists.Strip vs = IsOnePlain vs
@@ -77,12 +77,12 @@ request_text r = map Lexeme.Word r.words ++ (map Lexeme.Number r.numbers ++ flat
 
 -- ---- commands
 
--- the tokens after the first word
+-- the tokens are the body of the command: all that follows its first word
 abbrev pub IsBody : List ℕ → Command → List Lexeme → Type 0
 IsBody bytes (Command.Dimension n) tokens = tokens ≡ Lexeme.Number n ∷ []
 IsBody bytes (Command.Nodes names) tokens = (1 ≤ length names) × (tokens ≡ map name_lexeme names)
 IsBody bytes (Command.Alphabet names) tokens = (1 ≤ length names) × (tokens ≡ map name_lexeme names)
-IsBody bytes (Command.Topology k) tokens = IsBehind bytes (kind_text k) tokens []
+IsBody bytes (Command.Topology k) tokens = BeginsWith bytes (kind_text k) tokens []
 IsBody bytes (Command.Edges edges) tokens = (1 ≤ length edges) × (tokens ≡ flat_map edge_text edges)
 IsBody bytes (Command.Only node symbols) tokens = (1 ≤ length symbols) × (tokens ≡ name_lexeme node ∷ map name_lexeme symbols)
 IsBody bytes (Command.Weights ns) tokens = (1 ≤ length ns) × (tokens ≡ map Lexeme.Number ns)
@@ -95,6 +95,6 @@ IsBody bytes (Command.Configuration name periods shear symbols) tokens =
     × (tokens ≡ Lexeme.Word name ∷ vector_text periods ++ (second_vector_text shear ++ map name_lexeme symbols))
 IsBody bytes (Command.Query r) tokens = IsRequest r × (tokens ≡ request_text r)
 
--- the tokens after the mark
+-- the tokens are this command, without its `%`
 abbrev pub IsCommand : List ℕ → Command → List Lexeme → Type 0
-IsCommand bytes c tokens = (rest : List Lexeme) × IsBehind bytes (head_text (head_of c)) tokens rest × IsBody bytes c rest
+IsCommand bytes c tokens = (rest : List Lexeme) × BeginsWith bytes (head_text (head_of c)) tokens rest × IsBody bytes c rest

@@ -1,17 +1,19 @@
--- The first words of commands, the order of commands, and the names of topologies.
+-- The first words of commands, the order of commands, and the names of the built-in topologies.
 use Rattle.std.specs.Prelude.{ℕ, ◌+◌, List, Bool, true, false, if◌then◌else◌, codes}
 use Rattle.dd_commands.specs.{Tree.Kind, Tree.Head, Tree.Command, Table.kind_word}
 
--- The first word; the stage, which never falls from one command to the next; and whether the command is given only once.
+-- What the grammar says of a first word.
 pub record HeadRow : Type 0 where
   pub word : List ℕ
+  -- no command may follow one of a higher stage
   pub stage : ℕ
+  -- a script may have this command only once
   pub once : Bool
 
 abbrev pub entry : List ℕ → ℕ → Bool → HeadRow
 entry word stage once = record { word = word; stage = stage; once = once }
 
--- each command of the header may be given only once, except `only`
+-- The row of a head. Commands of a stage below 7 are the header of a script; the others are its definitions and queries.
 abbrev pub head_row : Head → HeadRow
 head_row Head.Dimension = entry (codes "dim") 0 true
 head_row Head.Nodes = entry (codes "nodes") 1 true
@@ -39,6 +41,7 @@ is_once h = (head_row h).once
 abbrev pub next_stage : Head → ℕ
 next_stage h = if is_once h then stage h + 1 else stage h
 
+-- the head of a command
 abbrev pub head_of : Command → Head
 head_of (Command.Dimension n) = Head.Dimension
 head_of (Command.Nodes names) = Head.Nodes

@@ -4,11 +4,11 @@ pub mod Tree
 pub mod Table
 -- the first words of commands, and their order
 pub mod Heads
--- what follows the mark of each command
+-- the tokens that follow the `%` of each command
 pub mod Commands
 -- scripts, and the first command that is not well formed
 pub mod Scripts
--- the readers, as functions
+-- the readers of all these, as functions
 pub mod reading
 -- lemmas on these definitions, for other crates
 pub mod lemmas

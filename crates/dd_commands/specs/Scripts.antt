@@ -1,11 +1,11 @@
--- Scripts: commands in order, or the first command that is not well formed.
+-- Scripts: their commands in order. Also which command is the first that is not well formed.
 use Rattle.std.specs.Prelude.{◌≡◌, ℕ, zero, suc, ◌≤◌, List, [], ◌∷◌, Bool, true, false, if◌then◌else◌, Result, Ok, Err}
 use Rattle.std.specs.List.{list_all}
 use Rattle.dd_commands.specs.Tree.{Mark, Lexeme, Written, Syntax, SyntaxFault}
 use Rattle.dd_commands.specs.{Heads.head_of, Heads.stage, Heads.next_stage, Commands.IsCommand}
 use Rattle.dd_written.specs.Lexemes.{lexemes_of}
 
--- the mark before a command
+-- whether the mark is `%`, which stands before each command
 abbrev pub is_percent_mark : Mark → Bool
 is_percent_mark Mark.Percent = true
 is_percent_mark Mark.All = false
@@ -33,7 +33,7 @@ is_percent (Lexeme.Negative n) = false
 is_percent (Lexeme.Mark m) = is_percent_mark m
 is_percent Lexeme.Stray = false
 
--- what stands before the first command, and then each command without its mark
+-- What stands before the first `%`, and the parts. A part is what follows one `%`, up to the next.
 abbrev pub parts : List Lexeme → List Lexeme × List (List Lexeme)
 parts [] = ([], [])
 parts (t ∷ tokens) = if is_percent t then ([], (parts tokens).0 ∷ (parts tokens).1) else (t ∷ (parts tokens).0, (parts tokens).1)
@@ -49,33 +49,35 @@ is_whole Lexeme.Stray = false
 abbrev pub stage_of : Written → ℕ
 stage_of w = stage (head_of w.command)
 
+-- the lowest stage that the next command may have
 abbrev pub stage_after : Written → ℕ
 stage_after w = next_stage (head_of w.command)
 
--- a part is a command that may stand at this stage or a later one
+-- the part is this command, and its stage is `from` at least
 pub record MayStand (bytes : List ℕ) (from : ℕ) (part : List Lexeme) (w : Written) : Type 0 where
   pub tokens : w.tokens ≡ part
   pub whole : list_all is_whole part ≡ true
   pub is : IsCommand bytes w.command part
   pub ordered : from ≤ stage_of w
 
+-- The parts are these commands. Each has a stage that may follow the one before; that of the first is `from` at least.
 abbrev pub AreCommands : List ℕ → ℕ → List (List Lexeme) → List Written → Type 0
 AreCommands bytes from [] [] = Unit {0}
 AreCommands bytes from [] (w ∷ ws) = ⊥
 AreCommands bytes from (p ∷ ps) [] = ⊥
 AreCommands bytes from (p ∷ ps) (w ∷ ws) = MayStand bytes from p w × AreCommands bytes (stage_after w) ps ws
 
--- the index of the first part that is no command, or may not stand there
+-- The index, from 0, of the first bad part. A part is bad if it is no command, or its stage is below the lowest that may follow.
 abbrev pub IsFirstBad : List ℕ → ℕ → List (List Lexeme) → ℕ → Type 0
 IsFirstBad bytes from [] place = ⊥
 IsFirstBad bytes from (p ∷ ps) zero = (w : Written) → MayStand bytes from p w → ⊥
 IsFirstBad bytes from (p ∷ ps) (suc place) = (w : Written) × MayStand bytes from p w × IsFirstBad bytes (stage_after w) ps place
 
--- nothing stands before the first command, and the parts are these commands
+-- nothing stands before the first `%`, and the parts are these commands
 abbrev pub AreWritten : List ℕ → List Lexeme → List Written → Type 0
 AreWritten bytes tokens ws = ((parts tokens).0 ≡ []) × AreCommands bytes 0 (parts tokens).1 ws
 
--- the number of the bad command, from 1; 0 if something stands before the first
+-- the number, from 1, of the first bad part; 0 if some token stands before the first `%`
 abbrev pub IsBadCommand : List ℕ → List Lexeme → ℕ → Type 0
 IsBadCommand bytes tokens zero = (parts tokens).0 ≡ [] → ⊥
 IsBadCommand bytes tokens (suc place) = ((parts tokens).0 ≡ []) × IsFirstBad bytes 0 (parts tokens).1 place
@@ -84,15 +86,16 @@ IsBadCommand bytes tokens (suc place) = ((parts tokens).0 ≡ []) × IsFirstBad 
 abbrev pub IsScript : List ℕ → Syntax → Type 0
 IsScript bytes s = (s.text ≡ bytes) × AreWritten bytes (lexemes_of bytes) s.commands
 
--- the first command that is not well formed
+-- this is the number of the first command that is not well formed
 abbrev pub IsSyntaxFault : List ℕ → ℕ → Type 0
 IsSyntaxFault bytes n = IsBadCommand bytes (lexemes_of bytes) n
 
-abbrev pub Tells : List ℕ → Result Syntax SyntaxFault → Type 0
-Tells bytes (Ok s) = IsScript bytes s
-Tells bytes (Err (SyntaxFault.At n)) = IsSyntaxFault bytes n
-Tells bytes (Err SyntaxFault.Memory) = Unit {0}
+-- What a result of `read` says of the bytes. Where memory ran out it says nothing.
+abbrev pub IsReading : List ℕ → Result Syntax SyntaxFault → Type 0
+IsReading bytes (Ok s) = IsScript bytes s
+IsReading bytes (Err (SyntaxFault.At n)) = IsSyntaxFault bytes n
+IsReading bytes (Err SyntaxFault.Memory) = Unit {0}
 
--- the command has these tokens in this text
+-- the command is written in this text by the tokens beside it
 pub record IsWritten (bytes : List ℕ) (w : Written) : Type 0 where
   pub is : IsCommand bytes w.command w.tokens

@@ -2,13 +2,17 @@
 use Rattle.std.specs.Prelude.{ℕ, List, [], ◌∷◌, codes}
 use Rattle.dd_commands.specs.Tree.{Role, Lists, QueryKind}
 
--- The first word, what each other word names, how many numbers and then which vectors follow, and how many symbols the alphabet
--- must have.
+-- What the table says of a kind of query.
 pub record QueryRow : Type 0 where
+  -- the first word
   pub word : List ℕ
+  -- what each of the words after it names
   pub names : List Role
+  -- how many numbers follow these words
   pub numbers : ℕ
+  -- which vectors follow the numbers
   pub lists : Lists
+  -- how many symbols the alphabet must have at least
   pub symbols : ℕ
 
 abbrev pub entry : List ℕ → List Role → ℕ → Lists → ℕ → QueryRow

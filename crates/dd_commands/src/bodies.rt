@@ -1,4 +1,4 @@
-//! Commands, read from their first word to the end.
+//! Reading whole commands. The body of a command is what follows its first word.
 ghost use Rattle.std.specs.Prelude.{◌≡◌};
 ghost use Rattle.dd_written.specs.reading.{Readers.Gives, Formulas.formula_at};
 ghost use Rattle.dd_commands.specs.reading.Commands.{case_at, body, command_of};
@@ -33,6 +33,7 @@ impl FromTokens for Case {
     }
 }
 
+/// The body of `topology`: the name of a built-in topology, or edges.
 fn topology<'a>(from: Source, tokens: &'a [Lexeme]) -> Read<'a, Command>
     ensures { Gives (λ x. (x.0, x.1.now)) result (body from.entry.bytes.now Head.Topology tokens.now) }
 {
@@ -48,6 +49,7 @@ fn topology<'a>(from: Source, tokens: &'a [Lexeme]) -> Read<'a, Command>
     }
 }
 
+/// The body of `limits`: three numbers.
 fn limits<'a>(from: Source, tokens: &'a [Lexeme]) -> Read<'a, Command>
     ensures { Gives (λ x. (x.0, x.1.now)) result (body from.entry.bytes.now Head.Limits tokens.now) }
 {
@@ -62,6 +64,7 @@ fn limits<'a>(from: Source, tokens: &'a [Lexeme]) -> Read<'a, Command>
     Ok((limits, rest))
 }
 
+/// The body of `auto`: a name, cases, and the default symbol after `else`.
 fn automaton<'a>(from: Source, tokens: &'a [Lexeme]) -> Read<'a, Command>
     ensures { Gives (λ x. (x.0, x.1.now)) result (body from.entry.bytes.now Head.Automaton tokens.now) }
 {
@@ -77,6 +80,7 @@ fn automaton<'a>(from: Source, tokens: &'a [Lexeme]) -> Read<'a, Command>
     Ok((automaton, rest))
 }
 
+/// The body of `conf`: a name, periods, perhaps a shear, and symbols.
 fn configuration<'a>(from: Source, tokens: &'a [Lexeme]) -> Read<'a, Command>
     ensures { Gives (λ x. (x.0, x.1.now)) result (body from.entry.bytes.now Head.Configuration tokens.now) }
 {
@@ -93,7 +97,7 @@ fn configuration<'a>(from: Source, tokens: &'a [Lexeme]) -> Read<'a, Command>
     Ok((configuration, rest))
 }
 
-/// What follows the first word of a command.
+/// The body of a command with this head.
 fn body<'a>(from: Source, head: Head, tokens: &'a [Lexeme]) -> Read<'a, Command>
     ensures { Gives (λ x. (x.0, x.1.now)) result (body from.entry.bytes.now head tokens.now) }
 {
@@ -138,7 +142,7 @@ fn body<'a>(from: Source, head: Head, tokens: &'a [Lexeme]) -> Read<'a, Command>
     }
 }
 
-/// A command, after its mark.
+/// The command that consists of all these tokens, which follow its `%`.
 pub(crate) fn command(from: Source, tokens: &[Lexeme]) -> Result<Boxed<Command>, ReadFault>
     ensures { Gives (λ x. x) result (command_of from.entry.bytes.now tokens.now) }
 {

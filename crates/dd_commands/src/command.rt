@@ -13,7 +13,7 @@ pub enum Entry {
     Negative(Number),
 }
 
-/// Integers in brackets.
+/// A vector: integers in brackets, such as `[3 -1]`. It may have no entries.
 #[derive(Debug, Drop)]
 pub struct Vector {
     pub entries: Items<Entry>,
@@ -35,7 +35,7 @@ pub struct Case {
     pub symbol: Name,
 }
 
-/// The syntax tree of a query: its kind, and as many words, numbers and vectors as the row of the kind says.
+/// The syntax tree of a query, without its first word. The row of its kind says which words, numbers and vectors it has.
 #[derive(Debug, Drop)]
 pub struct Request {
     pub kind: QueryKind,
@@ -44,18 +44,19 @@ pub struct Request {
     pub vectors: Items<Vector>,
 }
 
-/// A command, without its `%` and its first word.
+/// The syntax tree of a command, without its `%` and its first word.
+/// A list of names, edges, weights or symbols has at least one item.
 #[derive(Debug, Drop)]
 pub enum Command {
-    /// `dim number`; without a fault the number is 1, 2 or 3.
+    /// `dim number`: the dimension of the lattice.
     Dimension {
         number: Number,
     },
-    /// One name or more.
+    /// `nodes name ..`: the nodes of each position.
     Nodes {
         names: Items<Name>,
     },
-    /// One name or more.
+    /// `alphabet name ..`: the symbols.
     Alphabet {
         names: Items<Name>,
     },
@@ -63,49 +64,50 @@ pub enum Command {
     Topology {
         kind: Kind,
     },
-    /// One edge or more.
+    /// `topology (label from [offset] to) ..`: a topology given by its edges. The head is `Topology` here too.
     Edges {
         edges: Items<Edge>,
     },
-    /// One symbol or more.
+    /// `only node symbol ..`: the symbols that the node may have.
     Only {
         node: Name,
         symbols: Items<Name>,
     },
-    /// One weight or more.
+    /// `weights number ..`: the weight of each symbol.
     Weights {
         weights: Items<Number>,
     },
-    /// `limits radius period pivots`.
+    /// `limits radius period pivots`: how far the searches go, and how many pivots a linear program may take.
     Limits {
         radius: Number,
         period: Number,
         pivots: Number,
     },
-    /// `rule name formula`.
+    /// `rule name formula`: a rule with its name.
     Rule {
         name: Word,
         formula: Formula,
     },
-    /// `auto name cases else default`, with any number of cases.
+    /// `auto name case .. else default`: a cellular automaton, with any number of cases.
     Automaton {
         name: Word,
         cases: Items<Case>,
         default: Name,
     },
-    /// `compose name outer inner`: applies `inner`, then `outer`.
+    /// `compose name outer inner`: the automaton that applies `inner`, then `outer`.
     Composition {
         name: Word,
         outer: Word,
         inner: Word,
     },
-    /// Periods and shear without negative numbers, and one symbol or more.
+    /// `conf name [period ..] [shear ..] symbol ..`: a periodic configuration. The shear may be left out. Neither vector has a
+    /// negative number.
     Configuration {
         name: Word,
         periods: Vector,
         shear: Option<Vector>,
         symbols: Items<Name>,
     },
-    /// A query about what was defined.
+    /// A query about rules, automata and configurations that are defined before it.
     Query(Request),
 }

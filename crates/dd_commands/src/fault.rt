@@ -1,4 +1,4 @@
-//! Why nothing was read.
+//! Why a script has no syntax tree.
 ghost use Rattle.std.specs.Prelude.{◌≡◌};
 ghost use Rattle.dd_commands.specs.declared.fault.SyntaxFault.TheVariants.{Memory};
 
@@ -8,7 +8,7 @@ use thiserror::Error;
 /// Why a script has no syntax tree.
 #[derive(Clone, Copy, Debug, PartialEq, Eq, Error)]
 pub enum SyntaxFault {
-    /// The first command that is not well formed. Commands are numbered from 1; 0 stands for what comes before the first.
+    /// The number, from 1, of the first command that is not well formed. It is 0 if some token stands before the first `%`.
     #[error("command {command} is not well formed")]
     At { command: u32 },
     /// Memory ran out.

@@ -11,11 +11,11 @@ use crate::table::QueryKind;
 use dd_topology::Kind::{self, Cube, Hex, King, Line, Square, Triangle};
 use dd_written::{Lexeme, ReadFault, Word, same_bytes, word_bytes};
 
-/// The row of a first word.
+/// What the grammar says of a first word.
 #[derive(Clone, Copy)]
 pub(crate) struct HeadRow {
     pub(crate) word: &'static [u8],
-    /// The stage: a command may not stand before one of a lower stage.
+    /// The stage orders the commands: none may follow one of a higher stage.
     pub(crate) stage: u32,
     /// Whether a script may have this command only once.
     pub(crate) once: bool,
@@ -30,7 +30,7 @@ fn row(word: &'static [u8], stage: u32, once: bool) -> HeadRow
 }
 
 impl Head {
-    /// The row of a first word.
+    /// The row of this head.
     pub(crate) fn row(self) -> HeadRow
         ensures word { result.word.now ≡ (head_row self).word }
         ensures stage { result.stage ≡ (head_row self).stage }
@@ -62,7 +62,7 @@ impl Head {
     }
 }
 
-/// The kind of query that begins with this word.
+/// The kind of query with this first word.
 fn query_kind(written: &[u8]) -> Option<QueryKind>
     ensures { result ≡ one_of kind_word query_kinds written.now }
 {
@@ -72,7 +72,7 @@ fn query_kind(written: &[u8]) -> Option<QueryKind>
         .find(|kind| same_bytes(written, kind.row().word))
 }
 
-/// The head with this word, of all commands except queries.
+/// The head with this first word, if it is not that of a query.
 fn other_head(written: &[u8]) -> Option<Head>
     ensures { result ≡ one_of head_text other_heads written.now }
 {
@@ -82,7 +82,7 @@ fn other_head(written: &[u8]) -> Option<Head>
         .find(|head| same_bytes(written, head.row().word))
 }
 
-/// The head of the command that begins with this word.
+/// The head with this first word.
 #[tactic(auto, using(crate::specs::lemmas::Words::either_head))]
 fn head(written: &[u8]) -> Option<Head>
     ensures { result ≡ one_of head_text heads written.now }
@@ -104,6 +104,7 @@ impl FromTokens for Head {
     }
 }
 
+/// The name of a built-in topology.
 fn kind_text(kind: Kind) -> &'static [u8]
     ensures { result.now ≡ kind_text kind }
 {
@@ -117,7 +118,7 @@ fn kind_text(kind: Kind) -> &'static [u8]
     }
 }
 
-/// The topology with this name.
+/// The built-in topology with this name.
 fn kind(written: &[u8]) -> Option<Kind>
     ensures { result ≡ one_of kind_text kinds written.now }
 {
@@ -137,7 +138,7 @@ impl FromTokens for Kind {
     }
 }
 
-/// Reads the wanted word.
+/// The next word, which must have this text.
 pub(crate) fn wanted<'a>(from: Source, text: &[u8], tokens: &'a [Lexeme]) -> Read<'a, Word>
     ensures { Gives (λ x. (x.0, x.1.now)) result ((wanted from.entry.bytes.now text.now).item tokens.now) }
 {

@@ -1,4 +1,5 @@
-//! Laws of written scripts, as contracts of calls that do nothing.
+//! Laws of syntax trees and syntax faults, as contracts of calls that do nothing. The syntax fault of some bytes is the number of
+//! the first command that is not well formed.
 #![tactic(auto, using(crate::proofs::OneTree::one_tree, crate::proofs::OneTree::one_fault, crate::proofs::OneTree::tree_or_fault))]
 
 ghost use Rattle.std.specs.Prelude.{◌≡◌, ℕ, List};
@@ -6,21 +7,21 @@ ghost use Rattle.dd_commands.specs.{declared.script.Syntax.Syntax, Scripts.IsScr
 
 use dd_written::formula_is_read;
 
-/// Does nothing; its contract says that bytes are the text of at most one tree.
+/// Does nothing; its contract says that bytes have at most one syntax tree.
 pub fn one_tree()
     ensures { (bytes : List ℕ) (s t : Syntax) → IsScript bytes s → IsScript bytes t → s ≡ t }
 {
     formula_is_read();
 }
 
-/// Does nothing; its contract says that bytes have at most one first fault.
+/// Does nothing; its contract says that bytes have at most one syntax fault.
 pub fn one_fault()
     ensures { (bytes : List ℕ) (m n : ℕ) → IsSyntaxFault bytes m → IsSyntaxFault bytes n → m ≡ n }
 {
     formula_is_read();
 }
 
-/// Does nothing; its contract says that bytes with a tree have no fault.
+/// Does nothing; its contract says that bytes with a syntax tree have no syntax fault.
 pub fn tree_or_fault()
     ensures { (bytes : List ℕ) (s : Syntax) (n : ℕ) → IsScript bytes s → IsSyntaxFault bytes n → ⊥ }
 {

@@ -1,5 +1,5 @@
-//! The syntax trees of commands and scripts. A table gives for each query what its words name, how many numbers and which
-//! vectors follow, and how many symbols there must be.
+//! The syntax trees of commands and scripts, and how they are read from bytes. A table says for each kind of query what
+//! follows its first word.
 #![tactic(auto)]
 
 mod bodies;

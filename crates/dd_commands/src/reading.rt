@@ -1,4 +1,4 @@
-//! Reading one item, or several in a row, from the front of tokens.
+//! Reading items from the front of a list of tokens: one, or several in a row.
 ghost use Rattle.std.specs.Prelude.{◌≡◌, ℕ, List};
 ghost use Rattle.dd_written.specs.reading.Readers.{Gives, Reader};
 ghost use Rattle.dd_commands.specs.reading.Forms.{at_most, each_at, some_at, exactly_at};
@@ -7,18 +7,19 @@ use dd_values::Items;
 use dd_written::{Lexeme, ReadFault};
 use std::alloc::Global;
 
-/// The bytes of a script, and the allocator for what is read of them.
+/// The bytes of a script, and the allocator for what is read from them.
 #[derive(Clone, Copy)]
 pub(crate) struct Source<'a> {
     pub(crate) alloc: Global,
     pub(crate) bytes: &'a [u8],
 }
 
-/// What was read, and the tokens after it.
+/// The item that was read, and the tokens after it.
 pub(crate) type Read<'a, T> = Result<(T, &'a [Lexeme]), ReadFault>;
 
-/// What can be read from the front of tokens.
+/// What can be read from the front of a list of tokens.
 pub(crate) trait FromTokens: Drop {
+    // The reader of this item, for a script of these bytes.
     ghost item: { List ℕ → Reader Self };
 
     fn read<'a>(from: Source, tokens: &'a [Lexeme]) -> Read<'a, Self>
@@ -44,7 +45,7 @@ fn at_most<'a, T: FromTokens>(from: Source, most: usize, tokens: &'a [Lexeme]) -
     Ok((items, rest))
 }
 
-/// All items that stand there.
+/// All items that come next; there may be none.
 pub(crate) fn each<'a, T: FromTokens>(from: Source, tokens: &'a [Lexeme]) -> Read<'a, Items<T>>
     ensures { Gives (λ x. (x.0, x.1.now)) result (each_at (T.item from.entry.bytes.now) tokens.now) }
 {

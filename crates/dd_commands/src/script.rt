@@ -1,11 +1,11 @@
-//! Reading a script, command by command.
+//! Reading a script, command by command. A part is the tokens of one command: what stands after its `%`, up to the next.
 ghost use Rattle.std.specs.Prelude.{◌≡◌, [], ◌∷◌, ◌+◌, ◌<◌, ◌≤◌, length, IfOk, All};
 ghost use Rattle.std.specs.List.{prefix_len, list_all};
 ghost use Rattle.dd_values.specs.Bounds.{most_script};
 ghost use Rattle.dd_written.specs.reading.Readers.{Gives};
 ghost use Rattle.dd_commands.specs.Heads.{head_of};
-ghost use Rattle.dd_commands.specs.Scripts.{parts, is_whole, IsWritten, Tells};
-ghost use Rattle.dd_commands.specs.reading.Parts.{is_inside, written_of, Told};
+ghost use Rattle.dd_commands.specs.Scripts.{parts, is_whole, IsWritten, IsReading};
+ghost use Rattle.dd_commands.specs.reading.Parts.{is_inside, written_of, IsPartsReading};
 
 use crate::bodies::command;
 use crate::command::Command;
@@ -16,21 +16,21 @@ use dd_values::Items;
 use dd_written::{Lexeme, Mark, ReadFault, Text, formula_is_read, lexemes};
 use std::alloc::Global;
 
-/// A command with its tokens, without its mark.
+/// A command, and the tokens after its `%`.
 #[derive(Debug, Drop)]
 pub struct Written {
     pub tokens: Items<Lexeme>,
     pub command: Command,
 }
 
-/// The syntax tree of a script: its text, and its commands in order. Commands are numbered from 1.
+/// The syntax tree of a script: its text, and its commands in order.
 #[derive(Debug, Drop)]
 pub struct Syntax {
     pub text: Text,
     pub commands: Items<Written>,
 }
 
-/// How many tokens stand before the next mark of a command.
+/// How many tokens stand before the next `%`.
 fn part_length(tokens: &[Lexeme]) -> usize
     ensures value { result ≡ prefix_len is_inside tokens.now }
     ensures within { result ≤ length tokens.now }
@@ -41,7 +41,7 @@ fn part_length(tokens: &[Lexeme]) -> usize
         .count()
 }
 
-/// The part after a mark, and what follows it.
+/// The part after the `%` at the front, and the tokens left after that part.
 #[tactic(auto, using(crate::proofs::Parts::cut, crate::proofs::Parts::behind_mark))]
 fn next_part(tokens: &[Lexeme]) -> (&[Lexeme], &[Lexeme])
     requires some { 0 < length tokens.now }
@@ -55,6 +55,7 @@ fn next_part(tokens: &[Lexeme]) -> (&[Lexeme], &[Lexeme])
 }
 
 impl Command {
+    /// The head of this command.
     fn head(&self) -> Head
         ensures { result ≡ head_of self.now }
     {
@@ -75,14 +76,14 @@ impl Command {
     }
 }
 
-/// Whether no token is stray.
+/// Whether no token of the part is `Stray`.
 fn are_whole(part: &[Lexeme]) -> bool
     ensures { result ≡ list_all is_whole part.now }
 {
     part.iter().all(|token| !matches!(token, Lexeme::Stray))
 }
 
-/// A command that may stand at this stage or a later one.
+/// The command that the part is. Its stage must be `from` at least.
 fn command_from(source: Source, from: u32, part: &[Lexeme]) -> Result<Written, ReadFault>
     ensures { Gives (λ x. x) result (written_of source.entry.bytes.now from part.now) }
 {
@@ -96,10 +97,11 @@ fn command_from(source: Source, from: u32, part: &[Lexeme]) -> Result<Written, R
     Ok(Written { tokens, command })
 }
 
+/// The commands of a script with these bytes and tokens.
 #[tactic(auto, using(crate::proofs::Parts::starts, crate::proofs::Parts::cut, crate::proofs::Parts::something_before))]
 fn commands(alloc: Global, bytes: &[u8], tokens: &[Lexeme]) -> Result<Items<Written>, SyntaxFault>
     requires { length tokens.now ≤ most_script + 1 }
-    ensures { Told bytes.now tokens.now result }
+    ensures { IsPartsReading bytes.now tokens.now result }
 {
     formula_is_read();
     if part_length(tokens) > 0 {
@@ -107,6 +109,7 @@ fn commands(alloc: Global, bytes: &[u8], tokens: &[Lexeme]) -> Result<Items<Writ
     }
     let mut commands = Items::new(alloc);
     let mut number = 0;
+    // the lowest stage of the commands that may come next
     let mut from = 0;
     let mut rest = tokens;
     while !rest.is_empty() {
@@ -125,11 +128,11 @@ fn commands(alloc: Global, bytes: &[u8], tokens: &[Lexeme]) -> Result<Items<Writ
     Ok(commands)
 }
 
-/// The syntax tree of a script of at most 1,048,576 bytes, or the first command that is not well formed.
+/// The syntax tree of a script of at most `MOST_SCRIPT` bytes, or the number of the first command that is not well formed.
 #[tactic(auto, using(crate::proofs::Texts::ascii_text))]
 pub fn read(alloc: Global, bytes: &[u8]) -> Result<Syntax, SyntaxFault>
     requires { length bytes.now ≤ most_script }
-    ensures tells { Tells bytes.now result }
+    ensures tells { IsReading bytes.now result }
     ensures written { IfOk result (λ s. All (IsWritten s.text) s.commands) }
 {
     let lexemes = lexemes(alloc, bytes)?;

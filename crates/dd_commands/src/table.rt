@@ -1,5 +1,4 @@
-//! The table of queries. The row of a kind gives its first word, what its other words name, how many numbers and which vectors
-//! follow, and how many symbols there must be. A query is read, checked and resolved by its row alone.
+//! The table of queries, with a row for each kind. A query is read, checked and resolved by its row alone.
 ghost use Rattle.std.specs.Prelude.{◌≡◌};
 ghost use Rattle.dd_commands.specs.Table.{row};
 
@@ -16,7 +15,7 @@ pub enum Role {
     Configuration,
 }
 
-/// The vectors at the end of a query.
+/// Which vectors, written as lists of integers, stand at the end of a query.
 #[derive(Clone, Copy, Debug, PartialEq, Eq)]
 pub enum Lists {
     /// No vector.
@@ -29,7 +28,7 @@ pub enum Lists {
     Vectors,
 }
 
-/// The kinds of queries.
+/// The kinds of queries, each with its form: X and Y are rules, f and g automata, c is a configuration, r and m are numbers.
 #[derive(Clone, Copy, Debug, PartialEq, Eq)]
 pub enum QueryKind {
     /// `member c X`: does the configuration obey the rule?
@@ -40,21 +39,21 @@ pub enum QueryKind {
     Equal,
     /// `empty X`: does no configuration obey the rule?
     Empty,
-    /// `same f g X`: do the automata agree on each configuration that obeys X?
+    /// `same f g X`: do both automata agree on each configuration that obeys X?
     Agree,
     /// `maps f X Y`: does the automaton map each configuration that obeys X to one that obeys Y?
     Maps,
-    /// `conjugate f g X Y`: are the automata inverse maps between the configurations that obey X and those that obey Y?
+    /// `conjugate f g X Y`: are f and g inverse maps between the configurations that obey X and those that obey Y?
     Conjugate,
     /// `forbidden X`: which patterns does the rule forbid?
     Forbidden,
-    /// `minimal X`: the smallest patterns that the rule forbids.
+    /// `minimal X`: which minimal patterns does the rule forbid?
     Minimal,
-    /// `density X [5]`: the least density of the configurations of a strip with these periods.
+    /// `density X [5]`: what is the least density that the rule allows on a strip with these periods?
     Density,
-    /// `least X [3 3]`: the least weight of the configurations with these periods.
+    /// `least X [3 3]`: what is the least weight of a configuration that obeys the rule and has these periods?
     Least,
-    /// `discharge X r m [1 0] ..`: the best bound by discharging, with a radius, a margin and vectors.
+    /// `discharge X r m [1 0] ..`: what is the best bound by discharging, with radius r, margin m and these vectors?
     Discharge,
 }
 
@@ -63,16 +62,17 @@ pub enum QueryKind {
 pub struct QueryRow {
     /// The first word.
     pub word: &'static [u8],
-    /// What the further words name.
+    /// What each of the words after it names.
     pub names: &'static [Role],
-    /// How many numbers follow them.
+    /// How many numbers follow these words.
     pub numbers: usize,
     /// Which vectors follow the numbers.
     pub lists: Lists,
-    /// How many symbols the alphabet must have.
+    /// The least number of symbols that the alphabet must have.
     pub symbols: u32,
 }
 
+/// The row with these contents.
 fn entry(
     word: &'static [u8],
     names: &'static [Role],
@@ -112,7 +112,7 @@ impl QueryKind {
         QueryKind::Discharge,
     ];
 
-    /// The row of a kind.
+    /// The row of this kind.
     pub fn row(self) -> QueryRow
         ensures word { result.word.now ≡ (row self).word }
         ensures names { result.names.now ≡ (row self).names }

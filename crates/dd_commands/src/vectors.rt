@@ -51,7 +51,7 @@ impl FromTokens for Entry {
     }
 }
 
-/// The tokens after the wanted mark.
+/// The tokens after the first, which must be the wanted mark.
 #[tactic(auto, unfolding(crate::specs::reading::Vectors::same_mark))]
 fn past<'a>(wanted: Mark, tokens: &'a [Lexeme]) -> Result<&'a [Lexeme], ReadFault>
     ensures { Gives (λ x. (tt, x.now)) result (mark_at wanted tokens.now) }
@@ -93,6 +93,7 @@ impl FromTokens for Edge {
     }
 }
 
+/// Whether a vector has no negative number.
 fn is_plain(vector: &Vector) -> bool
     ensures { result ≡ is_plain vector.now }
 {
@@ -102,7 +103,7 @@ fn is_plain(vector: &Vector) -> bool
         .all(|entry| matches!(entry, Entry::Number(_)))
 }
 
-/// A vector without negative numbers.
+/// A vector, which must have no negative number.
 pub(crate) fn plain<'a>(from: Source, tokens: &'a [Lexeme]) -> Read<'a, Vector>
     ensures { Gives (λ x. (x.0, x.1.now)) result (plain.item tokens.now) }
 {
@@ -113,7 +114,7 @@ pub(crate) fn plain<'a>(from: Source, tokens: &'a [Lexeme]) -> Read<'a, Vector>
     Ok((vector, rest))
 }
 
-/// A vector without negative numbers, if one comes next.
+/// The shear of a configuration, if a vector without negative numbers comes next; otherwise none, and nothing is read.
 pub(crate) fn shear<'a>(from: Source, tokens: &'a [Lexeme]) -> Read<'a, Option<Vector>>
     ensures { Gives (λ x. (x.0, x.1.now)) result (shear.item tokens.now) }
 {

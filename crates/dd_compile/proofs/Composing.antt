@@ -24,7 +24,7 @@ still_valued now new w k f c ss more h =
       in_range = All-weaker (IsSignal (size now)) (IsSignal (size new)) (λ y h. (h.0, (let g = h.1 in omega (arith, g, n)))) ss h.in_range;
     }
 
--- one cell more
+-- the values so far, and the value at one more cell
 valued_more : (now new : Network) (w : Wiring) (k : ℕ) (f : Automaton) (at : Cell) (cs : List Cell) (sss : List (List Signal)) (c : Cell) (ss : List Signal) → Extends now new →
     AreValued now w k f at cs sss → IsValued new w k f (shifted at.position c) ss → AreValued new w k f at (cs ++ c ∷ []) (sss ++ ss ∷ [])
 valued_more now new w k f at [] [] c ss more h here = (here, tt)
@@ -36,7 +36,7 @@ valued_more now new w k f at (d ∷ cs) (x ∷ sss) c ss more h here =
 abbrev pub there_of : Cell → List Cell → List Cell
 there_of at cs = map (shifted at.position) cs
 
--- the values so far
+-- the state after the values at the first i cells
 pub record Composing (k : ℕ) (f : Automaton) (w : Wiring) (cs : List Cell) (at : Cell) (i : ℕ) (start now : Network) (values : Wiring) : Type 0 where
   pub extends : Extends start now
   pub wiring_left : (inner_made (value_made k f) w unwired (there_of at cs) (size start)).wiring ≡ (inner_made (value_made k f) w values (there_of at (drop i cs)) (size now)).wiring
@@ -122,7 +122,7 @@ module _ (k : ℕ) (f : Automaton) (w : Wiring) (cs : List Cell) (at : Cell) (i 
         };
       }
 
--- all cells
+-- the state after the values at all cells
 pub record Inner (k : ℕ) (f : Automaton) (w : Wiring) (cs : List Cell) (at : Cell) (start now : Network) (values : Wiring) : Type 0 where
   pub gates : now.gates ≡ start.gates ++ (inner_made (value_made k f) w unwired (there_of at cs) (size start)).gates
   pub wiring : values ≡ (inner_made (value_made k f) w unwired (there_of at cs) (size start)).wiring

@@ -1,4 +1,4 @@
--- The gates of a formula over other wires are its gates, placed.
+-- If the wires of a formula are replaced by others, its gates are the old gates, placed.
 use Rattle.std.proofs.Common.{◌≡◌, ℕ, ◌+◌, ◌-◌, Bool, true, false, List, [], ◌∷◌, ◌++◌, Option, Some, None, map, length, slice_get, refl, ap, sym, ◌∙◌, arith}
 use Rattle.std.proofs.lemmas.{Bool.and_parts, List.map-append, List.length-map, Option.slice_get_past}
 use Rattle.std.specs.{Prelude.not, List.list_all}

@@ -1,4 +1,4 @@
--- Variables of their own for cells: the loops that list them, and what they are.
+-- The new variables of a template's cells: the loops that list them, and what they are.
 use Rattle.std.proofs.Common.{◌≡◌, ◌<◌, ◌≤◌, ℕ, zero, suc, ◌+◌, ◌-◌, ◌*◌, true, List, [], ◌∷◌, ◌++◌, Some, length, take, drop, get_or, slice_get, refl, ap, sym, ◌∙◌, arith, length-append, append_assoc, append-nil, drop-cons, add-one, eq-eqb}
 use Rattle.std.proofs.lemmas.{Bool.and_from, Bool.le-leb, List.take_more, List.take_all, List.drop_all}
 use Rattle.std.specs.{Prelude.◌==◌, Prelude.nat_le, List.list_all, List.flat_map}
@@ -98,7 +98,7 @@ own_read m n (c ∷ cs) row before long full (suc i) s d below h =
     let rest = own_read m (n + m) cs row (before ++ row c) (omega (arith, l, long, wide)) (λ j e inside. full (suc j) e (omega (arith, inside))) i s d (omega arith) h in
     (rest.0, rest.1, ap (λ xs. slice_get xs rest.0) (sym (append_assoc before (row c) (flat_map row cs))) ∙ rest.2)
 
--- and the length of that list
+-- the length of such a list
 pub row_count : (m : ℕ) (cs : List Cell) (row : Cell → List Signal) → ((i : ℕ) (d : Cell) → i < length cs → length (row (get_or cs i d)) ≡ m) → length (flat_map row cs) ≡ length cs * m
 row_count m [] row full = omega arith
 row_count m (c ∷ cs) row full =

@@ -1,4 +1,4 @@
--- The gates of a rule at a cell are those over variables of their own, placed.
+-- The gates of a rule at a cell are those of its template, placed.
 use Rattle.std.proofs.Common.{◌≡◌, ◌<◌, ◌≤◌, ℕ, zero, suc, ◌+◌, ◌-◌, ◌*◌, Bool, true, List, [], ◌∷◌, ◌++◌, Option, Some, None, length, get_or, slice_get, refl, ap, sym, ◌∙◌, arith}
 use Rattle.std.proofs.lemmas.{Int.ints, Bool.and_parts, Bool.and_from, Bool.eqb-true, Bool.ltb-true}
 use Rattle.std.proofs.lemmas.{Nat.mul-le, Option.slice_get-get_or}
@@ -104,7 +104,7 @@ module _ (r : LocalRule) (rule : IsRule r) (a : ℕ) (exists : a < r.nodes) wher
         own_leaf d s (among cells d both.0) (ltb-true s r.symbols both.1))
         passes (own_count r a) n 0 (omega (arith, table_count)) (omega arith)
 
--- The cells that a rule reads have few variables of their own.
+-- A template has few inputs.
 module _ (r : LocalRule) (rule : IsRule r) (a : ℕ) (exists : a < r.nodes) (cs : List Cell) (m : ℕ) (read : cs ≡ cells_at r a) (all : m ≡ r.symbols) where
   pub few_cells : length cs ≤ 20000
   few_cells = omega (arith, ap length read, few_reads r rule.symbols.0 a, rule.small a exists)

@@ -1,4 +1,4 @@
--- The gates of a formula without variables, as a function of the number of variables before them.
+-- The gates of an expansion, as a function of the number of variables before them.
 use Rattle.std.specs.Prelude.{ℕ, ◌+◌, ◌≡◌, ◌&&◌, Bool, false, if◌then◌else◌, nat_le, List, [], ◌∷◌, ◌++◌, map, length, Option, Some, None}
 use Rattle.std.specs.List.{list_all}
 use Rattle.dd_lattice.specs.{Place.Place, Place.moved, Place.is_in_range, Cells.shifted, declared.position.Cell.Cell}
@@ -14,6 +14,7 @@ pub record Made : Type 0 where
   pub signal : Signal
   pub gates : List Gate
 
+-- signals, and the gates that are added for all of them
 pub record AllMade : Type 0 where
   pub signals : List Signal
   pub gates : List Gate
@@ -21,7 +22,7 @@ pub record AllMade : Type 0 where
 abbrev pub made_of : Signal → List Gate → Made
 made_of s gs = record { signal = s; gates = gs }
 
--- made from the number of variables before
+-- a signal and its gates, from the number n of variables before them
 abbrev pub Maker : Type 0
 Maker = ℕ → Made
 
@@ -36,6 +37,7 @@ all_made (m ∷ ms) n =
 abbrev pub then_gate : ℕ → List Gate → Gate → Made
 then_gate n gates g = made_of (signal_of (n + length gates + 1)) (gates ++ g ∷ [])
 
+-- the gates of an expansion, from those of its parts
 abbrev pub made_step : (Cell → ℕ → Signal) → Expanded-F Maker → Maker
 made_step wires (Expanded-F.Constant b) n = then_gate n [] (if b then And [] else Or [])
 made_step wires (Expanded-F.Leaf c s) n = made_of (wires c s) []
@@ -47,7 +49,7 @@ made_step wires (Expanded-F.Iff f g) n =
     let right = g (n + length left.gates) in
     then_gate n (left.gates ++ right.gates) (Iff left.signal right.signal)
 
--- the gates of a formula, over a signal for each leaf, by its cell and its symbol
+-- the gates of an expansion; `wires` gives the signal of each leaf, by its cell and its symbol
 abbrev pub made : (Cell → ℕ → Signal) → Expanded → Maker
 made wires = fold-Expanded Maker (made_step wires)
 
@@ -59,7 +61,7 @@ gate_count_step (Expanded-F.And fs) = total fs + 1
 gate_count_step (Expanded-F.Or fs) = total fs + 1
 gate_count_step (Expanded-F.Iff f g) = (f + g) + 1
 
--- the number of gates that are added
+-- the number of gates that are added for an expansion
 abbrev pub gate_count : Expanded → ℕ
 gate_count = fold-Expanded ℕ gate_count_step
 
@@ -70,7 +72,7 @@ all_counts es = total (map gate_count es)
 abbrev pub Wires : Type 0
 Wires = Cell → ℕ → Option Signal
 
--- the wires of cells that are counted from a place; a cell outside the range of positions has none
+-- the wires of cells relative to the position v; a cell that is out of range there has none
 abbrev pub wires_near : Wiring → Place → Wires
 wires_near w v c s = if is_in_range (moved c.position v) then wire_of w (shifted v c) s else None
 
@@ -86,15 +88,16 @@ are_wired n wires = leaves_pass (λ c s. is_wire n (wires c s))
 abbrev pub all_wired : ℕ → Wires → List Expanded → Bool
 all_wired n wires es = list_all (are_wired n wires) es
 
+-- the wire, or, if there is none, a signal of the variable 0, which no circuit has
 abbrev pub wire_or_zero : Option Signal → Signal
 wire_or_zero None = signal_of 0
 wire_or_zero (Some s) = s
 
--- the wires, if each leaf has one
+-- the wires as signals, for expansions each leaf of which has a wire
 abbrev pub certain : Wires → Cell → ℕ → Signal
 certain wires c s = wire_or_zero (wires c s)
 
--- the gates of a formula, and of several, whose cells are counted from a place
+-- the gates of an expansion, or of several, at the position v
 abbrev pub compiled : Wiring → Place → Expanded → Maker
 compiled w v = made (certain (wires_near w v))
 

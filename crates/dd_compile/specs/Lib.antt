@@ -1,10 +1,10 @@
 -- the signals of cells
 pub mod Wiring
--- the gates of a formula without variables
+-- the gates of an expansion
 pub mod Compiling
 -- the signals of the cells that a rule reads, and what the signal of its gates says
 pub mod RuleSignals
--- a rule at one of its nodes, whose gates are placed at one cell after another
+-- templates: a rule at one of its nodes, whose gates are placed at one cell after another
 pub mod Templates
 -- the gates of the value of an automaton
 pub mod ValueGates
@@ -14,7 +14,7 @@ pub mod ValueSignals
 pub mod Valued
 -- the invariants of the recursion over compositions
 pub mod composing
--- gates over variables of their own, made once and placed at cells
+-- the gates of templates, and their placing at cells
 pub mod placing
 -- lemmas on these definitions, with their proofs, for other crates to cite
 pub mod lemmas

@@ -17,7 +17,7 @@ abbrev pub are_signals : ℕ → ℕ → Option (List Signal) → Bool
 are_signals n k None = false
 are_signals n k (Some ss) = (length ss == k) && list_all (is_signal n) ss
 
--- the same for the signals of a cell that is counted from a place; false if the cell is outside the range of positions
+-- the cell d, relative to v, has one such signal for each of k symbols; false if it is out of range there
 abbrev pub is_cell_wired : ℕ → ℕ → Wiring → Place → Cell → Bool
 is_cell_wired n k w v d = if is_in_range (moved d.position v) then are_signals n k (signals_of w (shifted v d)) else false
 
@@ -25,14 +25,15 @@ is_cell_wired n k w v d = if is_in_range (moved d.position v) then are_signals n
 abbrev pub are_reads_wired : ℕ → Wiring → LocalRule → Cell → Bool
 are_reads_wired n w r c = list_all (λ d. are_signals n r.symbols (signals_of w (shifted c.position d))) (reads_at r c.node)
 
--- at each cell that the rule reads at c, the signal of a symbol says whether the cell has that symbol
+-- under the assignment, at each cell that the rule reads at c, the signal of a symbol says whether look gives the cell that
+-- symbol
 abbrev pub TellsReads : (ℕ → Bool) → Wiring → LocalRule → Cell → Look → Type 0
 TellsReads set w r c look =
     (d : Cell) (s : ℕ) (x : Signal) → Contains (reads_at r c.node) d → wire_of w (shifted c.position d) s ≡ Some x →
     signal_value set x ≡ is_symbol s (look (shifted c.position d))
 
--- If the circuit's gates have their values, and the inputs tell the symbols that the rule reads at c, the signal says
--- whether the rule is true at c.
+-- Under every assignment that gives the circuit's gates their values, and whose inputs tell the symbols that the rule
+-- reads at c, the signal says whether the rule is true at c.
 abbrev pub SaysTruth : Network → Wiring → LocalRule → Cell → Signal → Type 0
 SaysTruth circuit w r c signal =
     (set : ℕ → Bool) (look : Look) → agrees set circuit.inputs circuit.gates ≡ true → HasSymbolsBelow r.symbols look → TellsReads set w r c look →

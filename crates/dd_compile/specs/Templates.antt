@@ -1,4 +1,4 @@
--- The rule and the node whose gates are placed at one cell after another.
+-- Templates, which contracts see as a rule and a node: the gates are placed at one cell of this node after another.
 use Rattle.std.specs.Prelude.{ℕ}
 use Rattle.dd_formula.specs.LocalRule.{LocalRule}
 

@@ -1,4 +1,4 @@
--- The gates of the value of an automaton at a cell, over the signals of cells, as a function of the number of variables before
+-- The gates of an automaton's value at a cell, over the signals of cells, as a function of the number of variables before
 -- them.
 use Rattle.std.specs.Prelude.{ℕ, zero, suc, ◌+◌, ◌==◌, if◌then◌else◌, List, [], ◌∷◌, ◌++◌, map, length}
 use Rattle.std.specs.List.{range_with_len}
@@ -19,22 +19,22 @@ fresh n (suc k) = signal_of (suc n) ∷ fresh (suc n) k
 abbrev pub rules_made : Wiring → Cell → List (LocalRule × ℕ) → ℕ → AllMade
 rules_made w at cases n = all_made (map (λ case. compiled w at.position (expansion_at case.0 at.node)) cases) n
 
--- for each case a gate that says that its rule is true and no earlier one is, then one that says that none is
+-- the choices: for each case a gate that says that its rule is true and no earlier one is, then one that says that none is
 abbrev pub choices : List Signal → List Signal → List Gate
 choices before [] = And (map opposite before) ∷ []
 choices before (l ∷ ls) = And (l ∷ map opposite before) ∷ choices (before ++ l ∷ []) ls
 
--- the symbol of each case, then the other
+-- the symbol that each choice gives: the symbols of the cases, and then the one for the last choice
 abbrev pub given_symbols : List (LocalRule × ℕ) → ℕ → List ℕ
 given_symbols cases otherwise = map (λ case. case.1) cases ++ otherwise ∷ []
 
--- the signals that stand for the symbol
+-- the signals of the choices that give the symbol s
 abbrev pub giving : ℕ → List ℕ → List Signal → List Signal
 giving s [] fs = []
 giving s (x ∷ xs) [] = []
 giving s (x ∷ xs) (f ∷ fs) = if x == s then f ∷ giving s xs fs else giving s xs fs
 
--- for each of k symbols a gate that says that one of them is true
+-- for each of k symbols a gate that says that some choice that gives it is true
 abbrev pub symbol_gates : ℕ → List ℕ → List Signal → List Gate
 symbol_gates k xs fs = map (λ s. Or (giving s xs fs)) (range_with_len 0 k)
 
@@ -57,7 +57,7 @@ pub record WiredMade : Type 0 where
   pub wiring : Wiring
   pub gates : List Gate
 
--- adds some cells to those of v, one after the other, each with the signals of its value over w
+-- adds cells to those of the wiring v, one after the other, each with the signals of its value over the wiring w
 abbrev pub inner_made : ValueMaker → Wiring → Wiring → List Cell → ℕ → WiredMade
 inner_made g w v [] n = record { wiring = v; gates = [] }
 inner_made g w v (c ∷ cs) n =
@@ -65,8 +65,8 @@ inner_made g w v (c ∷ cs) n =
     let rest = inner_made g w (with_cell v c here.signals) cs (n + length here.gates) in
     record { wiring = rest.wiring; gates = here.gates ++ rest.gates }
 
--- The value of a composition: first the second automaton's value, anew, at each cell that the first reads there; then
--- the value of the first over these.
+-- The value of a composition: first the inner automaton's value at each cell that the outer one reads; then the outer one's
+-- value over these.
 abbrev pub composed_made : List Cell → ValueMaker → ValueMaker → ValueMaker
 composed_made reads f g w at n =
     let inner = inner_made g w unwired (map (shifted at.position) reads) n in
@@ -86,6 +86,6 @@ gated_step k (Automaton-F.Composed f g) =
       made = λ w at. composed_made (in_order (f.counts.reads at.node)) f.made g.made w at;
     }
 
--- the value of an automaton over an alphabet of k symbols
+-- the gates of the value of an automaton over an alphabet of k symbols
 abbrev pub value_made : ℕ → Automaton → ValueMaker
 value_made k f = (fold-Automaton Gated (gated_step k) f).made

@@ -1,21 +1,24 @@
--- The signals that say which symbol a cell has.
+-- Wirings, which contracts see as the inputs of gates: for each cell, the signals that say which symbol it has.
 use Rattle.std.specs.Prelude.{◌≡◌, ◌<◌, ℕ, List, [], ◌∷◌, ◌++◌, Option, Some, None, length, slice_get, slice_index_or}
 use Rattle.std.specs.{List.Contains, List.position_or_len, List.Sorted.IsStrictlySortedBy, Ordering.is_eq}
 use Rattle.dd_lattice.specs.{declared.position.Cell.Cell, Order.cell_cmp}
 use Rattle.dd_circuit.specs.declared.gates.Signal.{Signal}
 
--- cells in cell order, and a list of signals for each, by symbol
+-- cells in cell order, and for each a list of signals, by symbol
 pub record Wiring : Type 0 where
   pub cells : List Cell
   pub signals : List (List Signal)
 
+-- the cells ascend, and each has its list
 pub record IsWiring (w : Wiring) : Type 0 where
   pub ascending : IsStrictlySortedBy cell_cmp w.cells
   pub as_many : length w.signals ≡ length w.cells
 
+-- a wiring without cells
 abbrev pub unwired : Wiring
 unwired = record { cells = []; signals = [] }
 
+-- one more cell, with its signals
 abbrev pub with_cell : Wiring → Cell → List Signal → Wiring
 with_cell w c ss = record { cells = w.cells ++ c ∷ []; signals = w.signals ++ ss ∷ [] }
 
@@ -27,11 +30,11 @@ signal_for (Some ss) s = slice_get ss s
 abbrev pub signals_of : Wiring → Cell → Option (List Signal)
 signals_of w c = slice_get w.signals (position_or_len (λ d. is_eq (cell_cmp d c)) w.cells)
 
--- the signal with the number s of them
+-- the wire of a cell and the symbol s: the signal with the number s, from 0, among those of the cell
 abbrev pub wire_of : Wiring → Cell → ℕ → Option Signal
 wire_of w c s = signal_for (signals_of w c) s
 
--- each cell has its own signals, and no other cell has any
+-- each cell of the list has the signals at its own place, and no other cell has any
 pub record IsWiredByPlace (w : Wiring) : Type 0 where
   pub at : (k : ℕ) (d : Cell) (s : ℕ) → k < length w.cells → wire_of w (slice_index_or w.cells k d) s ≡ signal_for (slice_get w.signals k) s
   pub elsewhere : (c : Cell) (s : ℕ) → (Contains w.cells c → ⊥) → wire_of w c s ≡ None

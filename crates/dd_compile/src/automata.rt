@@ -1,4 +1,5 @@
-//! The gates of an automaton's value at a cell, for compositions too.
+//! The gates of an automaton's value at a cell. Those of a composition come from the inner automaton's values, as the
+//! inputs of the outer one.
 ghost use Rattle.std.specs.Prelude.{ℕ, ◌≡◌, ◌≤◌, ◌+◌, ◌-◌, ◌*◌, ◌++◌, true, All, IfOk, length, map, max};
 ghost use Rattle.std.specs.List.{list_all};
 ghost use Rattle.std.specs.List.Sorted.{IsStrictlySortedBy};
@@ -26,10 +27,11 @@ use dd_lattice;
 use dd_lattice::{Position, shift};
 use std::alloc::{AllocError, Global};
 
-/// Adds the gates of the automaton's value at a cell over an alphabet of `symbols` symbols, and returns for each
-/// symbol the signal that says that it is the value there. For a composition, the gates of the inner automaton's
-/// value come first, for each cell that the outer one reads, in cell order. Those of the outer one's value over these
-/// follow. If memory runs out, gates may have been added.
+/// Adds the gates of the automaton's value at the cell `at`, over an alphabet of `symbols` symbols. Returns for each symbol
+/// the signal that says that it is the value there. If memory runs out, gates may have been added.
+///
+/// For a composition, the gates of the inner automaton's value come first, at each cell that the outer one reads, in cell
+/// order. Those of the outer automaton's value over these follow.
 pub fn compile_value(
     circuit: &mut Circuit,
     alloc: Global,
@@ -52,13 +54,14 @@ pub fn compile_value(
     compile_near(circuit, alloc, automaton, symbols, at, inputs)
 }
 
-/// Does nothing; its contract is the law of the number of gates: a value has no more gates than clauses.
+/// Does nothing. Its contract is a law: the automaton's value has at most as many gates as `value_clauses` counts clauses.
 pub fn value_gates(_automaton: &Automaton, _symbols: u32)
     ensures { (w : Wiring) (at : Cell) (n : ℕ) →
         length (value_made _symbols _automaton.now w at n).gates ≤ value_clauses _symbols _automaton.now at.node }
 {}
 
-/// The same at a cell near enough to the origin that compositions of this depth read only cells in the range of positions.
+/// The same as `compile_value`, for any cell that is near enough to the origin: compositions of the automaton's depth read
+/// only cells in range there.
 #[cycle(compile_near)]
 fn compile_near(
     circuit: &mut Circuit,
@@ -95,7 +98,7 @@ fn compile_near(
     }
 }
 
-/// The same for the composition of two automata.
+/// The same as `compile_near`, for the composition of two automata.
 #[cycle(compile_near)]
 fn compile_composed(
     circuit: &mut Circuit,
@@ -125,8 +128,8 @@ fn compile_composed(
     compile_near(circuit, alloc, outer, symbols, at, &values)
 }
 
-/// Adds the gates of the automaton's values at the cells, which are counted from `at`, one after the other. Returns
-/// the cells with the signals of their values.
+/// Adds the gates of the automaton's values at the cells, which are relative to `at`, one after the other. Returns the cells
+/// with the signals of their values.
 #[cycle(compile_near)]
 fn compile_inner(
     circuit: &mut Circuit,
@@ -160,7 +163,7 @@ fn compile_inner(
     Ok(values)
 }
 
-/// The cell that is counted from a position.
+/// The cell, moved by the position `at`.
 fn cell_near(cell: &dd_lattice::Cell, at: &Position) -> dd_lattice::Cell
     requires near { is_near cell.now ≡ true }
     requires inside { extent at.now ≤ most_coordinate - most_reach }

@@ -1,4 +1,5 @@
-//! The gates of a formula without variables.
+//! The gates of an expansion: one for each constant, conjunction, disjunction and equivalence in it. A leaf is a signal of
+//! the inputs, and a negation is the opposite signal.
 ghost use Rattle.std.specs.Prelude.{◌≡◌, ◌≤◌, ◌+◌, ◌++◌, true, All, IfOk};
 ghost use Rattle.dd_values.specs.Bounds.{most_variables};
 ghost use Rattle.dd_circuit.specs.Circuits.{IsSignal, size};
@@ -10,7 +11,7 @@ use dd_expansion::Expanded;
 use dd_lattice::{Cell, Position, shift};
 use std::alloc::{AllocError, Global};
 
-/// The signal that says that a cell, counted from `at`, has the symbol, if there is one.
+/// The signal that says that the cell, relative to `at`, has the symbol; `None` if there is none.
 fn wire_near(inputs: &Inputs, at: &Position, cell: &Cell, symbol: u32) -> Option<Signal>
     ensures { result ≡ wires_near inputs.now at.now cell.now symbol }
 {
@@ -19,7 +20,7 @@ fn wire_near(inputs: &Inputs, at: &Position, cell: &Cell, symbol: u32) -> Option
     inputs.get(&Cell { position, node }, symbol)
 }
 
-/// Whether the wire is a signal of the circuit.
+/// Whether there is a wire, and it is a signal of the circuit.
 fn is_wire(circuit: &Circuit, wire: Option<Signal>) -> bool
     ensures { result ≡ is_wire (size circuit.now) wire }
 {
@@ -29,7 +30,8 @@ fn is_wire(circuit: &Circuit, wire: Option<Signal>) -> bool
     }
 }
 
-/// Whether each leaf of a formula whose cells are counted from `at` has its wire, a signal of the circuit.
+/// Whether each leaf of the expansion has its wire: the inputs have a signal of the circuit for its cell, relative to `at`,
+/// and its symbol.
 #[cycle(wired)]
 pub fn is_wired(circuit: &Circuit, expanded: &Expanded, at: &Position, inputs: &Inputs) -> bool
     ensures { result ≡ are_wired (size circuit.now) (wires_near inputs.now at.now) expanded.now }
@@ -47,6 +49,7 @@ pub fn is_wired(circuit: &Circuit, expanded: &Expanded, at: &Position, inputs: &
     }
 }
 
+/// The same for several expansions.
 #[cycle(wired)]
 fn are_wired(circuit: &Circuit, parts: &[Expanded], at: &Position, inputs: &Inputs) -> bool
     ensures { result ≡ all_wired (size circuit.now) (wires_near inputs.now at.now) parts.now }
@@ -59,7 +62,8 @@ fn are_wired(circuit: &Circuit, parts: &[Expanded], at: &Position, inputs: &Inpu
     true
 }
 
-/// Adds the gates of a formula whose cells are counted from `at`, and returns its signal. If memory runs out, gates may have been added.
+/// Adds the gates of the expansion at the position `at`, and returns its signal. If memory runs out, gates may have been
+/// added.
 #[cycle(compile)]
 pub fn compile_expanded(
     circuit: &mut Circuit,
@@ -106,7 +110,7 @@ pub fn compile_expanded(
     }
 }
 
-/// Adds the gates of formulas one after the other, and returns their signals.
+/// Adds the gates of expansions one after the other, and returns their signals.
 #[cycle(compile)]
 fn compile_all(
     circuit: &mut Circuit,

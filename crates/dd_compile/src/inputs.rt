@@ -1,4 +1,4 @@
-//! The signals that say which symbol a cell has.
+//! The inputs of gates: for each cell, the signals that say which symbol it has.
 ghost use Rattle.std.specs.Prelude.{◌≡◌, All, OnOk, OnErr};
 ghost use Rattle.std.specs.List.{list_all};
 ghost use Rattle.std.specs.Option.{option_copied};
@@ -13,10 +13,12 @@ use dd_values::Items;
 use std::alloc::{AllocError, Global};
 use std::marker::Model;
 
-/// Cells in strictly ascending cell order, and the signals of each: the signal `s` says that the cell has the symbol `s`.
+/// Cells, each once, and the signals of each: the signal `s` says that the cell has the symbol `s`.
 #[derive(Debug, Drop)]
 pub struct Inputs {
+    /// In cell order.
     cells: Vec<Cell>,
+    /// The signals of each cell, in the order of the cells.
     signals: Vec<Items<Signal>>,
 }
 
@@ -31,7 +33,7 @@ impl Model for Inputs {
 }
 
 impl Inputs {
-    /// No cells. It takes no memory.
+    /// Inputs for no cell. They allocate no memory.
     pub fn new(alloc: Global) -> Inputs
         ensures { result ≡ unwired }
     {
@@ -41,7 +43,8 @@ impl Inputs {
         }
     }
 
-    /// Adds a cell that comes after all others, and its signals, by symbol. If memory runs out, the inputs are unchanged.
+    /// Adds a cell that comes after all others in cell order, and its signals, by symbol. If memory runs out, the inputs are
+    /// unchanged.
     pub fn add(&mut self, cell: Cell, signals: Vec<Signal>) -> Result<(), AllocError>
         requires { All (λ c. cell_cmp c cell ≡ Less) self.old.cells }
         ensures ok { OnOk result (self.new ≡ with_cell self.old cell signals.items) }
@@ -53,7 +56,7 @@ impl Inputs {
         Ok(())
     }
 
-    /// The signal that says that the cell has the symbol. `None` if the cell isn't there or the symbol isn't below
+    /// The signal that says that the cell has the symbol. `None` if the inputs don't have the cell, or the symbol isn't below
     /// the number of its signals.
     #[tactic(auto, using(crate::specs::lemmas::WiringLaws::read_by_place))]
     pub fn get(&self, cell: &Cell, symbol: u32) -> Option<Signal>
@@ -66,7 +69,7 @@ impl Inputs {
         }
     }
 
-    /// The signals of the cell, by symbol, or `None` if the cell isn't there.
+    /// The signals of the cell, by symbol, or `None` if the inputs don't have the cell.
     pub fn signals(&self, cell: &Cell) -> Option<&[Signal]>
         ensures { option_copied result ≡ signals_of self.now cell.now }
     {
@@ -90,12 +93,14 @@ impl Inputs {
     }
 }
 
+/// Whether the signal's variable is from 1 to `variables`.
 fn is_signal(signal: &Signal, variables: u32) -> bool
     ensures { result ≡ is_signal variables signal.now }
 {
     1 <= signal.variable && signal.variable <= variables
 }
 
+/// The same for each of the signals.
 fn are_signals(signals: &[Signal], variables: u32) -> bool
     ensures { result ≡ list_all (is_signal variables) signals.now }
 {

@@ -1,4 +1,6 @@
-//! Formulas without variables, rules and values of automata as gates, over the signals that say which symbol a cell has.
+//! Expansions, rules and the values of automata as gates. An expansion is a formula without variables. The gates stand over
+//! signals that say which symbol each cell has. The signal that says that a cell has a symbol is their wire. One wire for each
+//! symbol of a cell is the direct encoding of finite domains (Walsh 2000).
 #![tactic(auto)]
 
 mod automata;

@@ -16,7 +16,7 @@ use dd_formula::Rule;
 use dd_lattice::{Cell, Position, shift};
 use std::alloc::{AllocError, Global};
 
-/// Whether a cell, counted from `at`, has one signal of the circuit for each symbol.
+/// Whether the cell, relative to `at`, has one signal of the circuit for each symbol.
 fn is_cell_wired(
     circuit: &Circuit,
     symbols: u32,
@@ -35,6 +35,7 @@ fn is_cell_wired(
     }
 }
 
+/// The same for each of the cells.
 fn are_cells_wired(
     circuit: &Circuit,
     symbols: u32,
@@ -49,8 +50,8 @@ fn are_cells_wired(
         .all(|cell| is_cell_wired(circuit, symbols, cell, at, inputs))
 }
 
-/// Whether each cell that the rule reads at a cell has one signal of the circuit for each symbol. Its gates there are at most
-/// 20,000.
+/// Whether each cell that the rule reads at the cell `at` has one signal of the circuit for each symbol. The contract also
+/// says that the rule has at most 20,000 gates there.
 pub fn reads_are_wired(circuit: &Circuit, rule: &Rule, at: &Cell, inputs: &Inputs) -> bool
     requires node { at.now.node < rule.now.nodes }
     requires near { extent at.now.position ≤ most_coordinate - 16 }
@@ -61,7 +62,7 @@ pub fn reads_are_wired(circuit: &Circuit, rule: &Rule, at: &Cell, inputs: &Input
     are_cells_wired(circuit, rule.symbols(), reads, &at.position, inputs)
 }
 
-/// Adds the gates of the rule's expansion at a cell, and returns its signal, which says whether the rule is true
+/// Adds the gates of the rule's expansion at the cell `at`, and returns its signal, which says whether the rule is true
 /// there. If memory runs out, gates may have been added.
 pub fn compile_rule(
     circuit: &mut Circuit,

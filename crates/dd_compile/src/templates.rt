@@ -1,4 +1,4 @@
-//! The gates of a rule at a node, made once and placed at one cell after another.
+//! Templates: the gates of a rule at a node, made once and placed at one cell after another.
 ghost use Rattle.std.specs.Prelude.{◌≡◌, ◌≤◌, ◌<◌, ◌+◌, ◌-◌, ◌*◌, ◌++◌, ◌∷◌, [], true, is_some, length, map, All, IfOk, OnOk, OnErr};
 ghost use Rattle.std.specs.List.{list_all};
 ghost use Rattle.std.specs.List.Sorted.{IsStrictlySortedBy};
@@ -25,14 +25,15 @@ use dd_lattice::{Cell, Position, shift};
 use std::alloc::{AllocError, Global};
 use std::marker::Model;
 
-/// The gates of a rule at one of its nodes, to be placed at that node of any position. They are a circuit of their
-/// own, with a variable for each symbol of each cell that the rule reads there. Symbol `s` of cell number `k`, from 0
-/// in cell order, has the variable `1 + k * symbols + s`.
+/// The gates of a rule at one of its nodes, to be placed at that node of any position. They are a circuit of their own.
+/// Its inputs are a variable for each symbol of each cell that the rule reads there. The cells are numbered from 0 in cell
+/// order: symbol `s` of cell `k` has the variable `1 + k * symbols + s`.
 #[derive(Debug, Drop)]
 pub struct Template<'a> {
     rule: &'a Rule,
     node: u32,
     circuit: Circuit,
+    /// The signal that says whether the rule is true.
     signal: Signal,
 }
 
@@ -51,7 +52,7 @@ impl<'a> Model for Template<'a> {
     ghost invariant = { λ t. IsTemplate t.rule.now t.node t.circuit t.signal };
 }
 
-/// Signals of the `count` variables after the first `before`.
+/// The signals of the `count` variables after the first `before`.
 fn fresh(alloc: Global, before: u32, count: u32) -> Result<Vec<Signal>, AllocError>
     requires { before + count ≤ most_variables }
     ensures { IfOk result (λ v. v.items ≡ fresh before count) }
@@ -66,7 +67,7 @@ fn fresh(alloc: Global, before: u32, count: u32) -> Result<Vec<Signal>, AllocErr
     Ok(signals)
 }
 
-/// Inputs for the cells, with a variable for each of `symbols` symbols of each cell.
+/// Inputs for the cells: new variables from 1 on, `symbols` of them for each cell.
 fn own_inputs(alloc: Global, cells: &[Cell], symbols: u32) -> Result<Inputs, AllocError>
     requires ascending { IsStrictlySortedBy cell_cmp cells.now }
     requires few { length cells.now * symbols ≤ most_variables }
@@ -81,7 +82,7 @@ fn own_inputs(alloc: Global, cells: &[Cell], symbols: u32) -> Result<Inputs, All
     Ok(inputs)
 }
 
-/// The gates of the rule at the node, to be placed at cells.
+/// The template of the rule at the node.
 pub fn compile_template(alloc: Global, rule: &Rule, node: u32) -> Result<Template, AllocError>
     requires { node < rule.now.nodes }
     ensures { IfOk result (λ template. template ≡ rule_at rule.now node) }
@@ -100,7 +101,7 @@ pub fn compile_template(alloc: Global, rule: &Rule, node: u32) -> Result<Templat
     })
 }
 
-/// The signals of a cell that is counted from `at`.
+/// The signals of the cell, relative to `at`.
 fn signals_near<'a>(inputs: &'a Inputs, at: &Position, cell: &Cell) -> &'a [Signal]
     requires inside { is_in_range (moved cell.now.position at.now) ≡ true }
     requires there { is_some (signals_of inputs.now (shifted at.now cell.now)) ≡ true }
@@ -113,7 +114,7 @@ fn signals_near<'a>(inputs: &'a Inputs, at: &Position, cell: &Cell) -> &'a [Sign
     inputs.signals(&Cell { position, node }).unwrap()
 }
 
-/// The signals of cells that are counted from `at`, one cell after the other.
+/// The signals of the cells, relative to `at`, one cell after the other.
 fn signals_there(
     alloc: Global,
     cells: &[Cell],
@@ -130,7 +131,8 @@ fn signals_there(
     Ok(signals)
 }
 
-/// What stands for a signal of a template: one of the inputs, or a variable after the first `before`.
+/// The signal that takes the place of a template's signal. One of `inputs` takes the place of each input of the template. The
+/// variables after the first `before` take the places of the variables of its gates, in order.
 fn placed(signal: Signal, inputs: &[Signal], before: u32) -> Signal
     requires signal { IsSignal most_variables signal }
     requires before { before ≤ most_variables }
@@ -151,7 +153,7 @@ fn placed(signal: Signal, inputs: &[Signal], before: u32) -> Signal
     }
 }
 
-/// Fills `placed_signals` with what stands for the signals, in place of its old content.
+/// Replaces the content of `placed_signals` by the signals that take the place of these.
 fn place_all(
     placed_signals: &mut Vec<Signal>,
     signals: &[Signal],
@@ -169,7 +171,7 @@ fn place_all(
     Ok(())
 }
 
-/// Adds what stands for a gate of a template, with `members` as room for its members.
+/// Adds the gate that takes the place of a template's gate. `members` is a buffer for its members.
 fn place_gate(
     circuit: &mut Circuit,
     gate: &Gate,
@@ -203,9 +205,9 @@ fn place_gate(
     Ok(())
 }
 
-/// Adds the gates of the template's rule at a cell of its node: the same gates in the same order as `compile_rule`
-/// adds. Returns their signal, which says whether the rule is true there. If memory runs out, gates may have been
-/// added.
+/// Adds the gates of the template's rule at the cell `at`, which has the template's node: the same gates in the same order
+/// as `compile_rule` adds. Returns their signal, which says whether the rule is true there. If memory runs out, gates may
+/// have been added.
 pub fn place_template(
     circuit: &mut Circuit,
     alloc: Global,

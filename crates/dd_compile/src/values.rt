@@ -1,4 +1,6 @@
-//! The gates of an automaton's value at a cell.
+//! The gates of the value of an automaton by cases at a cell. They are added in three steps. The gates of the cases' rules come
+//! first. Then comes a gate for each choice: the first case whose rule is true, or the last choice if no rule is true. Exactly
+//! one choice is true. Then comes a gate for each symbol, which says that a choice that gives this symbol is true.
 ghost use Rattle.std.specs.Prelude.{◌≡◌, ◌≤◌, ◌+◌, ◌-◌, ◌++◌, [], true, All, IfOk, length};
 ghost use Rattle.dd_lattice.specs.Place.{most_coordinate};
 ghost use Rattle.dd_values.specs.Bounds.{most_variables};
@@ -16,8 +18,8 @@ use dd_formula::Cases;
 use dd_lattice::Cell;
 use std::alloc::{AllocError, Global};
 
-/// Adds the gates of the value at a cell of an automaton given by cases. Returns for each symbol the signal that says
-/// that it is the value. If memory runs out, gates may have been added.
+/// Adds the gates of the value at the cell `at` of the automaton by these cases, over an alphabet of `symbols` symbols.
+/// Returns for each symbol the signal that says that it is the value. If memory runs out, gates may have been added.
 pub fn compile_cases(
     circuit: &mut Circuit,
     alloc: Global,
@@ -69,7 +71,8 @@ fn compile_rules(
     Ok(signals)
 }
 
-/// Adds for each signal a gate that says that it is true and none before it is, then one that says that none is.
+/// Adds the gates of the choices, and returns their signals. The choice of a case says that its rule is true and no earlier
+/// one is. The last choice says that no rule is true.
 fn choose(circuit: &mut Circuit, alloc: Global, rules: &[Signal]) -> Result<Vec<Signal>, AllocError>
     requires few { size circuit.old + length (choices [] rules.now) ≤ most_variables }
     requires in_range { All (IsSignal (size circuit.old)) rules.now }
@@ -92,7 +95,7 @@ fn choose(circuit: &mut Circuit, alloc: Global, rules: &[Signal]) -> Result<Vec<
     Ok(chosen)
 }
 
-/// The symbol of each case, then the other.
+/// The symbol that each choice gives: the symbols of the cases, and then the one for the last choice.
 fn given_symbols(alloc: Global, cases: &Cases) -> Result<Vec<u32>, AllocError>
     ensures { IfOk result (λ v. v.items ≡ given_symbols cases.now.cases cases.now.otherwise) }
 {
@@ -104,7 +107,7 @@ fn given_symbols(alloc: Global, cases: &Cases) -> Result<Vec<u32>, AllocError>
     Ok(symbols)
 }
 
-/// The choices that stand for the symbol.
+/// The choices that give the symbol, as their signals.
 fn giving(
     alloc: Global,
     given: &[u32],
@@ -123,7 +126,7 @@ fn giving(
     Ok(members)
 }
 
-/// Adds for each symbol a gate that says that some choice that stands for it is true.
+/// Adds a gate for each symbol, and returns their signals. The gate says that some choice that gives the symbol is true.
 fn give(
     circuit: &mut Circuit,
     alloc: Global,

@@ -52,7 +52,7 @@ module _ (x : LocalRule) (g : GoalOf) (n p least : ℕ) (rule : IsRule x) (ok : 
       found (No tile) by = by
       found Unknown by = by
 
--- and its evidence is numbered
+-- the variables, clauses and steps of a YES keep their bounds
 pub numbered : (x : LocalRule) (g : GoalOf) (least most d p : ℕ) (decision : Decision) →
     IsDecidedBy (Suffices x g) (RefutesByNumbers x g) (ShowsAt x g) (Displays x g) least most d p decision → HasNumbers x g decision
 numbered x g least most d p (Yes m steps) by = by.1.numbered

@@ -1,4 +1,4 @@
--- Whether two rules allow the same configurations.
+-- Whether two rules allow the same configurations. Here the answer YES is called Same, NO is Differ, and unknown is Open.
 use Rattle.std.specs.Prelude.{ℕ, ◌≡◌}
 use Rattle.dd_derivation.specs.Sizes.{AreNumbered}
 use Rattle.dd_formula.specs.LocalRule.{LocalRule}
@@ -10,7 +10,8 @@ use Rattle.dd_contain.specs.declared.equal.Equality.TheVariants.{Yes as Same, No
 use Rattle.dd_contain.specs.Questions.{IsDecided}
 use Rattle.dd_problem.specs.Problems.{box_problem}
 
--- the join of two answers: NO left if the left one is NO, or NO right if the right one is, or YES if both are
+-- The join of two answers. It is NO on the left if the left one is NO, else NO on the right if the right one is NO, else YES if
+-- both are YES, else unknown.
 abbrev pub joined : Decision → Decision → Equality
 joined (No tile) right = Differ Left tile
 joined (Yes n steps) (No tile) = Differ Right tile
@@ -26,8 +27,8 @@ UnlessNo (No tile) P = Unit {0}
 UnlessNo (Yes n steps) P = P
 UnlessNo Unknown P = P
 
--- The question whether a configuration of x breaks y is decided, and so is the one whether a configuration of y breaks x. This
--- is the join of their answers. If the left answer is NO, the right question is left open.
+-- The answer is the join of two answers. The left one decides whether no configuration of x breaks y, and the right one
+-- whether no configuration of y breaks x. If the left answer is NO, the right one may be any.
 pub record IsEqualDecided (x y : LocalRule) (n p : ℕ) (equality : Equality) : Type 0 where
   pub left : Decision
   pub right : Decision
@@ -35,16 +36,16 @@ pub record IsEqualDecided (x y : LocalRule) (n p : ℕ) (equality : Equality) : 
   pub right_decided : UnlessNo left (IsDecided y (breaks x) n p right)
   pub join : equality ≡ joined left right
 
--- the evidence of a YES is numbered
+-- both questions of a YES have at most 2^24 variables, and the numbers of their clauses and steps fit in 64 bits
 abbrev pub HasBothNumbers : LocalRule → LocalRule → Equality → Type 0
 HasBothNumbers x y (Same left right) =
     AreNumbered (box_problem x (breaks y) left.radius) left.steps × AreNumbered (box_problem y (breaks x) right.radius) right.steps
 HasBothNumbers x y (Differ side tile) = Unit {0}
 HasBothNumbers x y Open = Unit {0}
 
--- What the question of equality comes to within the limits n and p.
+-- The answer within the limits n on radii and p on periods.
 pub record IsEquality (x y : LocalRule) (n p : ℕ) (equality : Equality) : Type 0 where
-  -- The join of what the two questions come to.
+  -- It is the join of the answers of the two questions.
   pub decided : IsEqualDecided x y n p equality
-  -- The evidence of a YES is numbered.
+  -- The variables, clauses and steps of a YES keep their bounds.
   pub numbered : HasBothNumbers x y equality

@@ -1,4 +1,4 @@
--- When a box question has which answer.
+-- The law of the three answers of a box question.
 use Rattle.std.specs.Prelude.{ℕ, ◌↔◌}
 use Rattle.dd_formula.specs.LocalRule.{LocalRule}
 use Rattle.dd_boxes.specs.{Goals.GoalOf, Boxes.Suffices}
@@ -7,16 +7,19 @@ use Rattle.dd_contain.specs.declared.decision.Decision.{Decision}
 use Rattle.dd_contain.specs.declared.decision.Decision.TheVariants.{Yes, No, Unknown}
 use Rattle.dd_contain.specs.Questions.{ShowsAt}
 
+-- the answer is YES
 abbrev pub IsDecidedYes : Decision → Type 0
 IsDecidedYes (Yes n steps) = Unit {0}
 IsDecidedYes (No tile) = ⊥
 IsDecidedYes Unknown = ⊥
 
+-- the answer is NO
 abbrev pub IsDecidedNo : Decision → Type 0
 IsDecidedNo (Yes n steps) = ⊥
 IsDecidedNo (No tile) = Unit {0}
 IsDecidedNo Unknown = ⊥
 
+-- the answer is unknown
 abbrev pub IsUndecided : Decision → Type 0
 IsUndecided (Yes n steps) = ⊥
 IsUndecided (No tile) = ⊥
@@ -26,7 +29,7 @@ IsUndecided Unknown = Unit {0}
 abbrev pub IsShown : LocalRule → GoalOf → ℕ → Type 0
 IsShown x g p = (q : Periods) × AreWithin x.dimension p q × ShowsAt x g q
 
--- when each answer comes, by the largest box, of the radius `most`, and the configurations of periods up to p
+-- exactly when each answer comes, where `most` is the radius of the largest box, and periods are at most p
 pub record Trichotomy (x : LocalRule) (g : GoalOf) (most p : ℕ) (decision : Decision) : Type 0 where
   pub yes : IsDecidedYes decision ↔ Suffices x g most
   pub no : IsDecidedNo decision ↔ IsShown x g p

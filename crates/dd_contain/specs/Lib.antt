@@ -1,12 +1,12 @@
--- what is decided of a box question
+-- decisions: the least radius that suffices, or the first periods that show the goal
 pub mod Decided
 -- which radii suffice, and which periods show the goal
 pub mod Questions
--- what is decided about two rules
+-- whether two rules allow the same configurations
 pub mod Equal
 -- what a decision does with the engines of a roster
 pub mod Engines
--- when a box question has which answer
+-- the law of the three answers
 pub mod Laws
--- the search
+-- the state of the search
 pub mod searching

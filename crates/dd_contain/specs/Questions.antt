@@ -11,7 +11,7 @@ use Rattle.dd_contain.specs.declared.decision.Decision.{Decision}
 use Rattle.dd_contain.specs.declared.decision.Decision.TheVariants.{Yes, No, Unknown}
 use Rattle.dd_contain.specs.Decided.{IsDecidedBy}
 
--- the steps refute the clauses of the box, and both are numbered
+-- the steps refute the clauses of the box, with at most 2^24 variables and with numbers of clauses and steps that fit in 64 bits
 pub record RefutesByNumbers (x : LocalRule) (g : GoalOf) (n : ℕ) (steps : List Step) : Type 0 where
   pub refuting : IsRefuting (box_problem x g n) steps
   pub numbered : AreNumbered (box_problem x g n) steps
@@ -20,15 +20,18 @@ pub record RefutesByNumbers (x : LocalRule) (g : GoalOf) (n : ℕ) (steps : List
 abbrev pub Displays : LocalRule → GoalOf → Periods → Tile → Type 0
 Displays x g p t = HasPeriods p t × IsWitness x g t
 
+-- some configuration has these periods, lives in the premise's subshift and has the goal at the origin
 abbrev pub ShowsAt : LocalRule → GoalOf → Periods → Type 0
 ShowsAt x g p = (t : Tile) × Displays x g p t
 
--- a question about a radius that is small enough
+-- the search may ask about this radius: the box holds what the goal reads, and its clauses are few enough
 pub record AsksRadius (x : LocalRule) (g : GoalOf) (n : ℕ) : Type 0 where
   pub goal : IsGoalFor x g
   pub reaches : Reaches g n
   pub few : question_clauses x g (volume (centred x.dimension n)) ≤ most_clauses
 
+-- the search may ask about these periods: they are periods in the premise's dimension, and the clauses of their torus are few
+-- enough
 pub record AsksPeriods (x : LocalRule) (g : GoalOf) (p : Periods) : Type 0 where
   pub goal : IsGoalFor x g
   pub periods : ArePeriods x.dimension p
@@ -40,15 +43,15 @@ IsDecided x g n p decision =
     (least : ℕ) × IsLeastRadius g least
     × IsDecidedBy (Suffices x g) (λ k steps. IsRefuting (box_problem x g k) steps) (ShowsAt x g) (Displays x g) least (max n least) x.dimension p decision
 
--- the evidence of a YES is numbered
+-- a YES has at most 2^24 variables, and the numbers of its clauses and steps fit in 64 bits
 abbrev pub HasNumbers : LocalRule → GoalOf → Decision → Type 0
 HasNumbers x g (Yes n steps) = AreNumbered (box_problem x g n) steps
 HasNumbers x g (No tile) = Unit {0}
 HasNumbers x g Unknown = Unit {0}
 
--- What a box question comes to within the limits n and p.
+-- The answer within the limits n on radii and p on periods.
 pub record IsDecision (x : LocalRule) (g : GoalOf) (n p : ℕ) (decision : Decision) : Type 0 where
-  -- The least radius that suffices, else the first periods that show the goal, else unknown.
+  -- It is the least radius that suffices, else the first periods that show the goal, else unknown.
   pub decided : IsDecided x g n p decision
-  -- The evidence of a YES is numbered.
+  -- The variables, clauses and steps of a YES keep their bounds.
   pub numbered : HasNumbers x g decision

@@ -1,22 +1,23 @@
-//! What is decided about a box question.
+//! The answer of a box question.
 use dd_derivation::Step;
 use dd_pattern::Periodic;
 use dd_values::Items;
 
-/// A radius that suffices, with steps that refute the clauses of its box.
+/// A radius that suffices, with steps that refute the clauses of its box. A radius suffices if no admissible filling of its box
+/// has the goal at the origin.
 #[derive(Debug, Drop)]
 pub struct Enough {
     pub radius: u32,
     pub steps: Items<Step>,
 }
 
-/// The answer of a box question.
+/// The answer of a box question: whether the goal holds nowhere in any configuration that obeys the premise.
 #[derive(Debug, Drop)]
 pub enum Decision {
-    /// The least radius that suffices, with steps that refute the clauses of its box.
+    /// It holds nowhere. `radius` is the least radius that suffices, and `steps` refute the clauses of its box.
     Yes { radius: u32, steps: Items<Step> },
-    /// A configuration of the first periods and shear that has the goal at the origin.
+    /// It holds at the origin of `periodic`, whose periods and shear are the first of all such configurations.
     No { periodic: Periodic },
-    /// Neither within the limits.
+    /// The search found neither within the limits.
     Unknown,
 }

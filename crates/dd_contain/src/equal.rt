@@ -1,5 +1,5 @@
-//! Whether two rules allow the same configurations. Each of two questions asks for a configuration of one rule that breaks the
-//! other.
+//! Whether two rules allow the same configurations. This is two box questions: for each rule, whether none of its
+//! configurations breaks the other rule.
 ghost use Rattle.std.specs.Prelude.{◌≡◌, ◌≤◌, IfOk};
 ghost use Rattle.dd_boxes.specs.Goals.{breaks, IsGoalFor};
 ghost use Rattle.dd_boxes.specs.Counts.{IsSmallQuestion};
@@ -16,7 +16,7 @@ use dd_pattern::Periodic;
 use dd_values::Limits;
 use std::alloc::{AllocError, Global};
 
-/// Which of the two rules is the premise.
+/// Which of the two rules is the premise of a question.
 #[derive(Debug, Clone, Copy, PartialEq, Eq)]
 pub enum Half {
     /// The first rule.
@@ -25,14 +25,14 @@ pub enum Half {
     Right,
 }
 
-/// What is decided about two rules.
+/// The answer of the question whether two rules allow the same configurations.
 #[derive(Debug, Drop)]
 pub enum Equality {
-    /// No configuration of either rule breaks the other. Each comes with the least radius that suffices.
+    /// No configuration of either rule breaks the other. For each of the two questions this has the least radius that suffices.
     Yes { left: Enough, right: Enough },
     /// A configuration of this side's rule that breaks the other rule.
     No { side: Half, periodic: Periodic },
-    /// Neither within the limits.
+    /// The search found neither within the limits.
     Unknown,
 }
 
@@ -68,9 +68,15 @@ fn joined(left: Decision, right: Decision) -> Equality
     }
 }
 
-/// Decides whether two rules allow the same configurations. The left question asks whether a configuration of `left` can break
-/// `right`; the right question exchanges the two. The answer is NO left if the left answer is NO; otherwise NO right if the
-/// right one is; otherwise YES if both are; otherwise unknown. Limits and roster are used as in `decide`.
+/// Decides whether two rules allow the same configurations. The left question asks whether no configuration of `left` breaks
+/// `right`. The right question exchanges the two. Limits and roster are used as in `decide`. The answer is:
+/// - NO, with the left side, if the left answer is NO;
+/// - otherwise NO, with the right side, if the right answer is NO;
+/// - otherwise YES if both answers are YES;
+/// - otherwise unknown.
+///
+/// # Errors
+/// `AllocError` if memory ran out.
 pub fn decide_equal<E: Engine>(
     alloc: Global,
     left: &Rule,
@@ -91,7 +97,7 @@ pub fn decide_equal<E: Engine>(
     kept_is_transitive();
     first_asked_earlier();
     match decide(alloc, left, &Goal::Breaks(right), limits, roster)? {
-        // The right answer can't change this.
+        // The answer is NO, whatever the right answer is.
         Decision::No { periodic } => Ok(joined(Decision::No { periodic }, Decision::Unknown)),
         first => {
             let second = decide(alloc, right, &Goal::Breaks(left), limits, roster)?;

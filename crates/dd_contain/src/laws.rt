@@ -1,4 +1,4 @@
-//! When a box question has which answer.
+//! The law of the three answers of a box question.
 ghost use Rattle.std.specs.Prelude.{ℕ, max};
 ghost use Rattle.dd_boxes.specs.Goals.{IsGoalFor};
 ghost use Rattle.dd_boxes.specs.Boxes.{IsLeastRadius};
@@ -10,9 +10,10 @@ ghost use Rattle.dd_contain.specs.Laws.{Trichotomy};
 use dd_boxes::{Goal, one_box};
 use dd_formula::Rule;
 
-/// Does nothing; its contract says when `decide` gives which answer. YES: the largest box within the limits has no admissible
-/// filling with the goal at the origin. NO: some configuration of periods within the limits lives and has the goal at the
-/// origin. Unknown: neither holds. They never both hold.
+/// Does nothing. Its contract says exactly when `decide` gives each answer:
+/// - YES if the largest box within the limits has no admissible filling with the goal at the origin.
+/// - NO if some configuration of periods within the limits obeys the premise and has the goal at the origin.
+/// - Unknown if neither holds. They never both hold.
 pub fn trichotomy(premise: &Rule, goal: &Goal)
     requires { IsGoalFor premise.now (goal_of premise.now goal.now) }
     ensures { (n p least : ℕ) (decision : AnyDecision) → IsLeastRadius (goal_of premise.now goal.now) least → IsDecided premise.now (goal_of premise.now goal.now) n p decision

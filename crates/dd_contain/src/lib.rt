@@ -1,4 +1,6 @@
-//! Decides box questions, and the two box questions of an equality.
+//! Decides box questions, and whether two rules allow the same configurations. The search goes through boxes of growing
+//! radius, until one has no admissible filling with the goal at the origin: its radius suffices. Then it goes through tori of
+//! growing volume, until a configuration has the goal.
 #![tactic(auto)]
 
 mod decision;

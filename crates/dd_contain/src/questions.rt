@@ -1,4 +1,4 @@
-//! What the search asks about boxes and periods.
+//! Box questions as the search asks them: each box and each torus is a list of clauses to be satisfied or refuted.
 ghost use Rattle.std.specs.Prelude.{◌≡◌, ◌↔◌, ◌≤◌, true, IfOk, IfSome};
 ghost use Rattle.dd_boxes.specs.Boxes.{Suffices};
 ghost use Rattle.dd_boxes.specs.Goals.{IsGoalFor};
@@ -24,21 +24,21 @@ use dd_solver::{Style, solve_with, trimmed};
 use dd_values::{Items, Limits};
 use std::alloc::{AllocError, Global};
 
-/// The steps that the refutation uses.
+/// The refutation without the steps that it doesn't use.
 fn evidence(alloc: Global, cnf: &Cnf, steps: Items<Step>) -> Result<Items<Step>, AllocError>
     requires { refutes cnf.now.variables cnf.now.clauses steps ≡ true }
     ensures refuting { IfOk result (λ used. refutes cnf.now.variables cnf.now.clauses used ≡ true) }
     ensures numbered { IfOk result (AreNumbered cnf.now) }
 {
     let used = trimmed(alloc, cnf, steps)?;
-    // Read for their bounds alone.
+    // These calls tell the proof the bounds of these numbers.
     let _variable = cnf.variables();
     let _number = last_number(cnf, used.as_slice());
     Ok(used)
 }
 
-/// Whether the clauses can be satisfied: what an engine of the roster proposes, if that is right; otherwise what the search
-/// finds in this style.
+/// Whether the clauses can be satisfied, with evidence. This is the proposal of an engine of the roster, if one makes a right
+/// proposal. Otherwise it is what the solver finds in this style.
 fn outcome<E: Engine>(
     alloc: Global,
     cnf: &Cnf,
@@ -59,7 +59,7 @@ fn outcome<E: Engine>(
 /// A torus of at least this many positions is searched in the focused style.
 const LARGE_TORUS: u32 = 25;
 
-/// The style of search for these periods. A contradiction on a small torus involves few cells, as on a box.
+/// The style of search for these periods. A small torus is searched in the broad style, as a box is.
 fn style_of(at: &Periods) -> Style {
     if at.x.saturating_mul(at.y).saturating_mul(at.z) >= LARGE_TORUS {
         Style::Focused
@@ -68,7 +68,8 @@ fn style_of(at: &Periods) -> Style {
     }
 }
 
-/// The style of search for a box. Whether automata agree is a question of their gates more than of the cells.
+/// The style of search for a box. It is broad, except for the question whether two automata agree: that depends on their gates
+/// more than on the cells.
 fn box_style(goal: &Goal) -> Style {
     match goal {
         Goal::Differ(_, _) => Style::Focused,
@@ -76,7 +77,7 @@ fn box_style(goal: &Goal) -> Style {
     }
 }
 
-/// The question whether a configuration that obeys the premise can have the goal.
+/// The question whether no configuration that obeys the premise has the goal at any position.
 #[derive(Clone, Copy)]
 struct BoxQuestion<'a> {
     alloc: Global,
@@ -125,7 +126,7 @@ impl<'a> Questions for BoxQuestion<'a> {
         match outcome(self.alloc, &cnf, style_of(at), roster)? {
             Outcome::Found(found) => {
                 let periodic = read_torus(self.alloc, self.premise, periods, at.shear, &found)?;
-                // This read brings in what the type guarantees.
+                // This call tells the proof what the type guarantees.
                 let _symbols = periodic.symbols();
                 Ok(Some(periodic))
             }
@@ -134,15 +135,22 @@ impl<'a> Questions for BoxQuestion<'a> {
     }
 }
 
-/// Decides a box question. Boxes have at most the limits' radius, or the goal's least radius if that is greater; periods are at
-/// most the limits'. The answer is YES with the least radius that suffices; otherwise NO with the first periods and shear, by
-/// volume and then in lexicographic order, of a configuration that obeys the premise and has the goal at the origin; otherwise
-/// unknown.
+/// Decides a box question. The radius of boxes is at most that of the limits, or the goal's least radius if that is greater.
+/// Periods are at most that of the limits. The answer is:
+/// - YES, with the least radius that suffices;
+/// - otherwise NO, with a configuration that obeys the premise and has the goal at the origin. Its periods and shear come first
+///   among those of all such configurations, ordered by volume and then lexicographically;
+/// - otherwise unknown.
 ///
-/// Each list of clauses goes to the roster first, without a copy; if no engine proposes a right answer, the search decides. So
-/// engines change only the time, and which steps or which configuration with those periods is shown. An engine that takes too
-/// much memory may prevent a decision. Each sound engine is kept, in order. On success the first remaining engine was asked, and
-/// only engines that aren't sound were dropped before it.
+/// Each list of clauses goes to the roster first, without a copy. If no engine proposes a right answer, the solver decides.
+/// So engines change only the time, and which steps or which configuration with those periods is shown. An engine that takes
+/// too much memory may prevent a decision.
+///
+/// Each sound engine stays in the roster, in order. On success the first engine that is left was asked, and only engines that
+/// aren't sound were dropped before it.
+///
+/// # Errors
+/// `AllocError` if memory ran out.
 pub fn decide<E: Engine>(
     alloc: Global,
     premise: &Rule,
@@ -161,7 +169,7 @@ pub fn decide<E: Engine>(
     kept_is_reflexive();
     let least = least_radius(alloc, goal)?;
     let most = limits.radius.max(least);
-    // Read for what their types keep.
+    // These calls tell the proof what the types of the premise and the goal guarantee.
     let _symbols = premise.symbols();
     keeps_rule(goal);
     let question = BoxQuestion {

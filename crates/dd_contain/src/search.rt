@@ -1,4 +1,4 @@
-//! The search for the least radius, and then for the first periods.
+//! The search for the least radius that suffices, and then for the first periods that show the goal.
 ghost use Rattle.std.specs.Prelude.{◌≡◌, ◌≤◌, ◌<◌, ℕ, List, length, IfOk, OnOk, MatchOption};
 ghost use Rattle.dd_derivation.specs.declared.step.Step.{Step as AnyStep};
 ghost use Rattle.dd_pattern.specs.declared.periods.Periods.{Periods as AnyPeriods};
@@ -17,21 +17,28 @@ use dd_pattern::{Periodic, Periods};
 use dd_values::Items;
 use std::alloc::{AllocError, Global};
 
-/// What the search asks about a radius or about periods. Each answer comes with its evidence. The roster's engines may help.
+/// What the search asks: whether a radius suffices, and whether some configuration of given periods shows the goal. Each answer
+/// comes with its evidence. The roster's engines may help. A set of periods includes its shear.
 pub(crate) trait Questions {
-    /// The radius suffices, and the steps show it.
+    /// The radius suffices.
     ghost suffices: { Self → ℕ → Type 0 };
 
+    /// These steps show that the radius suffices.
     ghost refutes: { Self → ℕ → List AnyStep → Type 0 };
-    /// Some configuration of these periods shows the goal, and this is one.
+
+    /// Some configuration of these periods shows the goal.
     ghost shows: { Self → AnyPeriods → Type 0 };
 
+    /// This configuration of these periods shows the goal.
     ghost displays: { Self → AnyPeriods → Tile → Type 0 };
-    /// What the search may ask.
+
+    /// The search may ask about this radius.
     ghost asks_radius: { Self → ℕ → Type 0 };
 
+    /// The search may ask about these periods.
     ghost asks_periods: { Self → AnyPeriods → Type 0 };
 
+    /// Steps that show that the radius suffices, or `None` if it doesn't suffice.
     fn refutation<E: Engine>(
         &self,
         radius: u32,
@@ -41,6 +48,7 @@ pub(crate) trait Questions {
         ensures found { IfOk result (λ found. MatchOption found (suffices self.now radius → ⊥) (λ steps. suffices self.now radius × refutes self.now radius steps)) }
         ensures engines { AreAsked (roster_seen E.asked E.given E.sound roster.old) (roster_seen E.asked E.given E.sound roster.new) result };
 
+    /// A configuration of these periods that shows the goal, or `None` if there is none.
     fn configuration<E: Engine>(
         &self,
         at: &Periods,
@@ -58,6 +66,7 @@ struct Shown {
     periodic: Periodic,
 }
 
+/// The least radius from `least` to `most` that suffices, or `None` if none does.
 fn first_radius<Q: Questions, E: Engine>(
     questions: &Q,
     least: u32,
@@ -83,7 +92,7 @@ fn first_radius<Q: Questions, E: Engine>(
     Ok(None)
 }
 
-/// The first of the periods that show the goal.
+/// The first periods in the list that show the goal, or `None` if none do.
 #[tactic(auto, using(crate::proofs::AskingLaws::same_so_far, crate::proofs::AskingLaws::asked_since))]
 fn first_listed<Q: Questions, E: Engine>(
     questions: &Q,
@@ -108,6 +117,7 @@ fn first_listed<Q: Questions, E: Engine>(
     Ok(None)
 }
 
+/// The first periods that show the goal, in `dim` dimensions and at most `most` along each axis, or `None` if none do.
 fn first_periods<Q: Questions, E: Engine>(
     alloc: Global,
     questions: &Q,
@@ -127,8 +137,9 @@ fn first_periods<Q: Questions, E: Engine>(
     first_listed(questions, &all, roster)
 }
 
-/// The least radius from `least` to `most` that suffices; otherwise the first periods that show the goal, in `dim` dimensions
-/// and at most `period` along each axis. They are ordered by volume, then lexicographically, the shear last.
+/// The decision: the least radius from `least` to `most` that suffices. If none does, it is the first periods that show the goal,
+/// in `dim` dimensions and at most `period` along each axis. Periods are ordered by volume, then lexicographically, the shear
+/// last.
 #[tactic(auto, using(crate::proofs::AskingLaws::asked_still))]
 pub(crate) fn search<Q: Questions, E: Engine>(
     alloc: Global,

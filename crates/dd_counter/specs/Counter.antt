@@ -1,5 +1,5 @@
--- The counter: gates that say how much the first cells weigh. Each cell has a row of signals. The one at t, from 0,
--- says that the cells up to this one weigh more than t, that is, at least t + 1.
+-- The counter: gates that say how much the first cells weigh. Each cell has a row of signals. The signal at t, from 0,
+-- says that the cells up to this one weigh more than t. `ws` lists the weight of each symbol.
 use Rattle.std.specs.Prelude.{ℕ, zero, suc, ◌+◌, ◌-◌, Bool, true, false, nat_lt, List, [], ◌∷◌, ◌++◌, map, length, Option, Some, None, slice_get, slice_index}
 use Rattle.std.specs.List.{range_with_len}
 use Rattle.dd_clause.specs.{declared.clause.Literal.Literal, Clauses.ClauseList}
@@ -9,39 +9,40 @@ use Rattle.dd_cnf.specs.Encoding.{gates_clauses, opposing}
 use Rattle.dd_compile.specs.Compiling.{AllMade}
 use Rattle.dd_problem.specs.Clauses.{input}
 
--- some signals, and the gates that are added for them, from the number of variables before
+-- from the number of variables before: the gates that are added, and signals over them
 abbrev pub Making : Type 0
 Making = ℕ → AllMade
 
+-- these signals and these gates
 abbrev pub making : List Signal → List Gate → AllMade
 making signals gates = record { signals = signals; gates = gates }
 
--- one after the other
+-- several makings, one after the other
 abbrev pub joined : List Making → ℕ → AllMade
 joined [] n = making [] []
 joined (m ∷ ms) n =
     let rest = joined ms (n + length (m n).gates) in
     making ((m n).signals ++ rest.signals) ((m n).gates ++ rest.gates)
 
--- how a symbol makes the cells up to its own weigh more than t: by itself, together with those before, or never
+-- how a symbol makes the cells up to its own weigh more than t: by itself, together with the cells before, or not at all
 abbrev pub member_by : Signal → Bool → Option Signal → Making
 member_by input true earlier n = making (input ∷ []) []
 member_by input false (Some r) n = making (signal_of (suc n) ∷ []) (And (input ∷ r ∷ []) ∷ [])
 member_by input false None n = making [] []
 
--- the symbol of this input weighs w, and `before` is the row of the cell before
+-- the same for a symbol that weighs w, where `before` is the row of the cell before
 abbrev pub member : Signal → ℕ → ℕ → List Signal → Making
 member input w t before = member_by input (nat_lt t w) (slice_get before (t - w))
 
--- the symbol s of the cell with the number k
+-- the same for the symbol s of the cell with the number k
 abbrev pub of_symbol : List ℕ → ℕ → ℕ → List Signal → ℕ → Making
 of_symbol ws k t before s = member (signal_of (input (length ws) k s)) (slice_index ws s) t before
 
--- the members of all symbols of the cell
+-- the same for each symbol of the cell
 abbrev pub members : List ℕ → ℕ → ℕ → List Signal → List Making
 members ws k t before = map (of_symbol ws k t before) (range_with_len 0 (length ws))
 
--- the gate that says that the cells up to k weigh more than t, after those of its members
+-- the gates of the symbols, and then the gate that says that the cells up to the cell k weigh more than t
 abbrev pub count : List ℕ → ℕ → List Signal → ℕ → Making
 count ws k before t n =
     let each = joined (members ws k t before) n in
@@ -59,20 +60,21 @@ rows ws below (suc c) k before n =
     let rest = rows ws below c (k + 1) first.signals (n + length first.gates) in
     making rest.signals (first.gates ++ rest.gates)
 
--- the clauses with more gates
+-- the clauses, and then those of more gates
 abbrev pub grown : ClauseList → List Gate → ClauseList
 grown cnf gates = record { variables = cnf.variables + length gates; clauses = cnf.clauses ++ gates_clauses cnf.variables gates }
 
--- the clause of the opposite of the signal, if there is one
+-- the clause that says that the signal is false, if there is one
 abbrev pub refusal_of : Option Signal → List (List Literal)
 refusal_of None = []
 refusal_of (Some r) = (opposing r ∷ []) ∷ []
 
--- the refusal of the last of `below` signals; in the row of all cells it says that they weigh at least `below`
+-- the clause that says that the last of `below` signals is false; in the last row this signal says that all cells weigh at
+-- least `below`
 abbrev pub last_refused : ℕ → List Signal → List (List Literal)
 last_refused below signals = refusal_of (slice_get signals (below - 1))
 
--- clauses, and then, if `below` is at least 1, those that say that the c cells weigh less than that
+-- the clauses, and then, if `below` is at least 1, those that say that the c cells weigh less than `below`
 abbrev pub weighed : ClauseList → List ℕ → ℕ → ℕ → ClauseList
 weighed cnf ws below c =
     let all = rows ws below c 0 [] cnf.variables in

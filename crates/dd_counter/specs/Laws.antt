@@ -1,4 +1,4 @@
--- What steps that refute the clauses of a weight say about all configurations of given periods.
+-- What a refutation of the clauses says about the weights of all configurations of given periods.
 use Rattle.std.specs.Prelude.{◌≡◌, ◌<◌, ◌≤◌, ◌+◌, ◌-◌, ◌*◌, ◌∷◌, [], ℕ, suc, List, length, get_or}
 use Rattle.dd_derivation.specs.{declared.step.Step.Step, Derivations.IsRefuting}
 use Rattle.dd_circuit.specs.{declared.gates.Signal.Signal, Circuits.signal_of}
@@ -13,15 +13,17 @@ use Rattle.dd_counter.specs.{Counter.rows, Counter.last_refused, Weights.weight_
 abbrev pub last_row : LocalRule → Periods → List ℕ → ℕ → List Signal
 last_row x p ws below = (rows ws below (periods_volume p * x.nodes) 0 [] (torus_problem x always p).variables).signals
 
+-- the laws of the least weight
 pub record SaysWeights (x : LocalRule) (p : Periods) (ws : List ℕ) : Type 0 where
   -- if the clauses without a bound are refuted, no configuration lives
   pub none : (steps : List Step) → IsRefuting (weight_problem x p ws 0) steps → NoneOn x p
   -- the weight of a configuration that lives is the least one, if it is 0 or the clauses below it are refuted
   pub least : (w : ℕ) (t : Tile) (steps : List Step) → IsLiving x p t → total_weight ws t.symbols ≡ w → (0 < w → IsRefuting (weight_problem x p ws w) steps) → LeastOn x p ws w
-  -- there is one least weight at most, and none if no configuration lives
+  -- there is at most one least weight
   pub unique : (v w : ℕ) → LeastOn x p ws v → LeastOn x p ws w → v ≡ w
+  -- there is none if no configuration lives
   pub either : (w : ℕ) → NoneOn x p → LeastOn x p ws w → ⊥
-  -- if the bound is at least 1, the last clause is the unit clause of the opposite of the last gate of the last row
+  -- if the bound is at least 1, the last clause says that the last signal of the last row is false
   pub last : (below : ℕ) → 0 < below → let signals = last_row x p ws below in
       last_refused below signals ≡ (opposing (get_or signals (below - 1) (signal_of 0)) ∷ []) ∷ []
   -- the counter has no more clauses than `weight_count` says

@@ -9,7 +9,7 @@ use Rattle.dd_counter.specs.declared.least.LeastWeight.{LeastWeight}
 use Rattle.dd_counter.specs.declared.least.LeastWeight.TheVariants.{Least, Nothing}
 use Rattle.dd_counter.specs.Weights.{weight_problem}
 
--- the configuration has these periods and this shear, and lives in the rule's subshift
+-- a living configuration: it has these periods and this shear, and lives in the rule's subshift
 abbrev pub IsLiving : LocalRule → Periods → Tile → Type 0
 IsLiving x p t = HasPeriods p t × IsWitness x always t
 
@@ -22,12 +22,12 @@ pub record LeastOn (x : LocalRule) (p : Periods) (ws : List ℕ) (w : ℕ) : Typ
 abbrev pub NoneOn : LocalRule → Periods → Type 0
 NoneOn x p = (t : Tile) → IsLiving x p t → ⊥
 
--- the steps refute the clauses that ask for less than this, and both are numbered
+-- the steps refute the clauses that ask for less than w, and the numbers of clauses and steps are in range
 pub record IsRefutedBelow (x : LocalRule) (p : Periods) (ws : List ℕ) (w : ℕ) (steps : List Step) : Type 0 where
   pub refuting : IsRefuting (weight_problem x p ws w) steps
   pub numbered : AreNumbered (weight_problem x p ws w) steps
 
--- the configuration has the least weight, and if that isn't 0, the steps refute the clauses of every smaller one
+-- the living configuration has the least weight w, and the steps refute the clauses that ask for less; there are none for w = 0
 pub record IsLeastShown (x : LocalRule) (p : Periods) (ws : List ℕ) (w : ℕ) (t : Tile) (steps : List Step) : Type 0 where
   pub least : LeastOn x p ws w
   pub lives : IsLiving x p t
@@ -35,6 +35,7 @@ pub record IsLeastShown (x : LocalRule) (p : Periods) (ws : List ℕ) (w : ℕ) 
   pub refutes : 0 < w → IsRefutedBelow x p ws w steps
   pub empty : w ≡ 0 → steps ≡ []
 
+-- what the search for the least weight gives is right
 abbrev pub IsLeast : LocalRule → Periods → List ℕ → LeastWeight → Type 0
 IsLeast x p ws (Least w t steps) = IsLeastShown x p ws w t steps
 IsLeast x p ws (Nothing steps) = NoneOn x p × IsRefutedBelow x p ws 0 steps

@@ -1,12 +1,12 @@
 -- the gates that say how much the first cells weigh
 pub mod Counter
--- the clauses that ask for a configuration of small weight, and when clauses do so
+-- the clauses that ask for a configuration whose weight is below a bound, and when clauses do so
 pub mod Weights
--- the least weight, and that none lives
+-- the least weight, and when no configuration lives
 pub mod Least
--- what refuted clauses say about all configurations
+-- what a refutation says about the weights of all configurations
 pub mod Laws
 -- what the search for a lighter configuration answers
 pub mod searching
--- lemmas on these definitions, with their proofs, for other crates to cite
+-- lemmas on these definitions, with their proofs
 pub mod lemmas

@@ -1,4 +1,4 @@
--- The clauses that ask for a configuration of small weight on a torus.
+-- The clauses that ask for a configuration on a torus whose weight is below a bound.
 use Rattle.std.specs.Prelude.{◌<◌, ◌+◌, ◌*◌, ℕ, Bool, zero, suc, List, length}
 use Rattle.dd_clause.specs.{declared.clause.Literal.Literal, Clauses.ClauseList, Clauses.Satisfies}
 use Rattle.dd_pattern.specs.{declared.periods.Periods.Periods, Periods.periods_volume, Tile.Tile, Weight.total_weight}
@@ -7,12 +7,12 @@ use Rattle.dd_boxes.specs.{Goals.always, Counts.question_clauses, Witnesses.IsWi
 use Rattle.dd_problem.specs.{Problems.torus_problem, Symbols.AreRead}
 use Rattle.dd_counter.specs.Counter.{weighed}
 
--- the clauses of the torus, and, if `below` is at least 1, those of the counter, with the unit clause last
+-- the clauses of the torus, and, if `below` is at least 1, those of the counter; the last clause sets the bound
 abbrev pub weight_problem : LocalRule → Periods → List ℕ → ℕ → ClauseList
 weight_problem x periods ws below = weighed (torus_problem x always periods) ws below (periods_volume periods * x.nodes)
 
--- The number of clauses counted: those of the torus, and the unit clause. For each cell and each weight below the
--- bound, those of an And gate of two members for each symbol, and those of an Or gate over all of these.
+-- A bound on the number of clauses. It counts those of the torus, and the last clause. For each cell and each weight below
+-- the bound, it counts those of an And gate of two members for each symbol, and those of an Or gate over all of these.
 abbrev pub weight_count : LocalRule → Periods → List ℕ → ℕ → ℕ
 weight_count x periods ws below =
     question_clauses x always (periods_volume periods) + periods_volume periods * x.nodes * (below * suc (4 * length ws)) + 1

@@ -40,7 +40,9 @@ fn input_of(number: u32, symbols: u32, symbol: u32) -> Signal
     }
 }
 
-/// Adds the signal that says that a cell has a symbol of this weight, with which the cells up to it weigh more than `most`, if they can.
+/// Appends a signal to `members`. It says that a cell has the symbol of the input `from`, and that the cells up to it then weigh more
+/// than `most`. The symbol weighs `weight`, and `before` is the row of the cell before. Appends nothing if there is no such row, and
+/// the symbol alone doesn't weigh enough.
 fn push_member(
     alloc: Global,
     cnf: &mut Cnf,
@@ -72,7 +74,8 @@ fn push_member(
     Ok(())
 }
 
-/// Adds the gates that say that the cells up to this one weigh more than `most`, and returns their signal.
+/// Adds the gates of a cell at `most`, those of its symbols first. Returns the signal that says that the cells up to this one weigh
+/// more than `most`.
 fn push_count(
     alloc: Global,
     cnf: &mut Cnf,
@@ -106,7 +109,8 @@ fn push_count(
     Ok(signal)
 }
 
-/// Adds the gates that say that the cells up to this one weigh more than 0, 1, .., and returns their signals.
+/// Adds the row of a cell. Returns its signals, which say that the cells up to this one weigh more than 0, more than 1, and so
+/// on, up to more than `below - 1`.
 fn push_row(
     alloc: Global,
     cnf: &mut Cnf,
@@ -130,8 +134,8 @@ fn push_row(
     Ok(signals)
 }
 
-/// Adds the gates that say how much the first cells weigh, and returns the signals of the last row, which say that
-/// all weigh more than 0, 1, ... Memory holds at most two rows.
+/// Adds the rows of all cells. Returns the signals of the last row, which say how much all cells weigh. At most two rows of
+/// signals are in memory at a time.
 pub(crate) fn push_rows(
     alloc: Global,
     cnf: &mut Cnf,
@@ -152,7 +156,8 @@ pub(crate) fn push_rows(
     Ok(before)
 }
 
-/// Adds the clause that says that the last of `below` signals is false, if there is one.
+/// Adds the clause that says that the last of `below` signals is false. This signal says that the cells weigh at least `below`. Adds
+/// nothing if there is no signal.
 pub(crate) fn push_refusal(
     alloc: Global,
     cnf: &mut Cnf,

@@ -1,4 +1,4 @@
-//! What steps that refute clauses say about the weights of configurations, as the contract of a call that changes nothing.
+//! What a refutation of the clauses says about the weights of configurations, as the contract of a call that does nothing.
 ghost use Rattle.std.specs.Prelude.{◌≡◌, ℕ, List, length};
 ghost use Rattle.dd_pattern.specs.declared.periods.Periods.{Periods as AnyPeriods};
 ghost use Rattle.dd_boxes.specs.TorusPeriods.{AreTorusPeriods};
@@ -6,12 +6,13 @@ ghost use Rattle.dd_counter.specs.Laws.{SaysWeights};
 
 use dd_formula::Rule;
 
-/// Reads the rule only for its invariants. Its contract says what refuted clauses show about all configurations of
-/// Z^d with the given periods: none lives, or one that lives and weighs as much as the bound has the least weight.
-/// There is one least weight at most. The clauses end with the unit clause, and are no more than `weight_count` says.
+/// Does nothing. Its contract is about the configurations of Z^d with given periods that live in the rule's subshift. If the
+/// clauses without a bound are refuted, there is none. Suppose that one of them weighs `w`. If `w` is 0, or the clauses that ask
+/// for a weight below `w` are refuted, then `w` is the least weight. There is at most one least weight, and none if no
+/// configuration lives. The contract also says which clause is the last, and bounds the number of clauses.
 pub fn least_law(rule: &Rule)
     ensures { (p : AnyPeriods) (ws : List ℕ) → AreTorusPeriods rule.now.dimension rule.now.nodes p → length ws ≡ rule.now.symbols → SaysWeights rule.now p ws }
 {
-    // This read brings in what the type guarantees.
+    // This call tells the proof what the type guarantees.
     let _nodes = rule.nodes();
 }

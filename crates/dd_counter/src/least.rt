@@ -1,5 +1,5 @@
-//! The least weight of a configuration on a torus. Each configuration that is found is followed by a search for a lighter one, until
-//! the search is refuted. A search for a much lighter one comes first where the weight is high, so that few searches are needed.
+//! The search for a configuration of least weight on a torus. After each configuration that is found, a lighter one is searched
+//! for, until that is refuted. While the weight is high, much lighter ones are asked for, so that few searches are needed.
 ghost use Rattle.std.specs.Prelude.{◌≡◌, ◌≤◌, ◌*◌, length, All, IfOk};
 ghost use Rattle.dd_values.specs.Bounds.{most_variables, most_weight};
 ghost use Rattle.dd_pattern.specs.Periods.{periods_of, periods_volume};
@@ -22,19 +22,20 @@ use std::alloc::{AllocError, Global};
 /// The least weight of the configurations of given periods that live in a rule's subshift.
 #[derive(Debug, Drop)]
 pub enum LeastWeight {
-    /// The weight, a configuration that has it, and, if it isn't 0, steps that refute every smaller one.
+    /// The least weight, and a configuration that has it. The steps refute that a configuration weighs less. There are none if the
+    /// weight is 0.
     Least {
         weight: u64,
         periodic: Periodic,
         steps: Items<Step>,
     },
-    /// Steps that refute that any configuration lives.
+    /// No configuration lives. The steps refute that one does.
     Nothing {
         steps: Items<Step>,
     },
 }
 
-/// A configuration that weighs less than a bound, or steps that refute that there is one.
+/// What a search gives: a configuration that weighs less than a bound, or steps that refute that there is one.
 #[derive(Drop)]
 enum Lighter {
     Found(Periodic),
@@ -58,13 +59,13 @@ fn search_below(
     match solve(alloc, &cnf)? {
         Outcome::Found(found) => {
             let periodic = read_torus(alloc, rule, periods, 0, &found)?;
-            // This read brings in what the type guarantees.
+            // This call tells the proof what the type guarantees.
             let _symbols = periodic.symbols();
             Ok(Lighter::Found(periodic))
         }
         Outcome::Refuted(steps) => {
             let used = trimmed(alloc, &cnf, steps)?;
-            // Read for their bounds alone.
+            // These calls tell the proof what the types guarantee.
             let _variable = cnf.variables();
             let _number = last_number(&cnf, used.as_slice());
             Ok(Lighter::Nothing(used))
@@ -72,11 +73,12 @@ fn search_below(
     }
 }
 
-/// A weight that is higher than a refuted one by no more than this is lowered by steps of one.
+/// The first step of the descent. The descent ends once the weight is known to be at most this much above the least one.
 const NEAR: u64 = 32;
 
-/// A configuration of the periods that lives, no heavier than `start`. Its weight is at most `NEAR`, or a search for one that is lighter
-/// by more than `NEAR` was refuted. Each search asks for twice as much less than the one before, and after a refutation for `NEAR` less.
+/// The descent: from `start` to a living configuration that weighs at most `NEAR` more than the least weight. Each search asks for
+/// one that is lighter by more than `step`. If that leaves only refuted weights, it asks for one that weighs `refuted`. A success
+/// doubles the step, and a refutation sets it back to `NEAR`.
 fn descended(
     alloc: Global,
     rule: &Rule,
@@ -94,6 +96,7 @@ fn descended(
 {
     let mut best = start;
     let mut weight = best.weight(weights);
+    // No living configuration weighs less than this.
     let mut refuted: u64 = 0;
     let mut step = NEAR;
     while weight.saturating_sub(refuted) > NEAR {

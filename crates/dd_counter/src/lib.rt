@@ -1,4 +1,4 @@
-//! Configurations of least weight on a torus.
+//! Configurations of least weight on a torus: the clauses that ask for a weight below a bound, and the search for the least.
 #![tactic(auto)]
 
 mod counter;

@@ -1,4 +1,4 @@
-//! The clauses that ask for a configuration of small weight on a torus.
+//! The clauses that ask for a configuration on a torus whose weight is below a bound.
 ghost use Rattle.std.specs.Prelude.{◌≡◌, ◌≤◌, ◌*◌, length, IfOk};
 ghost use Rattle.dd_values.specs.Bounds.{most_variables};
 ghost use Rattle.dd_pattern.specs.Periods.{periods_of, periods_volume};
@@ -16,8 +16,11 @@ use std::alloc::{AllocError, Global};
 
 /// The clauses that ask for a configuration of these periods, with shear 0, that lives in the rule's subshift. If
 /// `below` is at least 1, its fundamental box has to weigh less than that. The symbol `s` weighs `weights[s]`. The
-/// gates of a sequential counter (Sinz, 2005; with weights: Hölldobler, Manthey and Steinke, 2012) follow the clauses
-/// of the torus.
+/// clauses of the torus come first. Those of a sequential counter follow (Sinz, 2005; with weights: Hölldobler, Manthey
+/// and Steinke, 2012).
+///
+/// # Errors
+/// `AllocError` if memory ran out.
 pub fn weight_clauses(
     alloc: Global,
     rule: &Rule,

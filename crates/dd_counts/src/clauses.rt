@@ -1,10 +1,10 @@
-//! Counts of the clauses of box questions.
+//! How many clauses a box question takes. It asks whether no configuration that obeys a rule, the premise, has a goal anywhere.
 ghost use Rattle.std.specs.Prelude.{◌≡◌, ◌≤◌, ◌^◌, ◌<◌, ℕ, length};
 ghost use Rattle.dd_formula.specs.Counts.{cut, rule_clauses, disallowed, disallowed_pairs, place_clauses, broken_clauses, largest_clauses};
 
 use dd_formula::{Rule, cut_off, plus, power, times};
 
-/// The clauses of the gates of a rule at all its nodes.
+/// How many clauses the gates of the rule take, over all nodes of a position; cut off past the limit.
 fn rule_clauses(rule: &Rule, limit: u32) -> u32
     requires { limit < 2 ^ 31 }
     ensures { result ≡ cut limit (rule_clauses rule.now) }
@@ -31,7 +31,7 @@ fn disallowed_at(rule: &Rule, node: u32) -> u32
     count
 }
 
-/// How many pairs of a node and a symbol that it doesn't allow there are.
+/// The number of pairs of a node and a symbol that the node doesn't allow.
 fn disallowed_pairs(rule: &Rule) -> u32
     ensures count { result ≡ disallowed_pairs rule.now }
     ensures few { result ≤ 64 }
@@ -43,7 +43,8 @@ fn disallowed_pairs(rule: &Rule) -> u32
     count
 }
 
-/// How many clauses say that the rule is true at one position, or `limit + 1` where that passes the limit, which is below 2^31.
+/// How many clauses a position takes; cut off past the limit. They say of each of its cells that it has exactly one symbol, that
+/// its node allows the symbol, and that the rule is true there.
 pub fn place_clauses(rule: &Rule, limit: u32) -> u32
     requires { limit < 2 ^ 31 }
     ensures { result ≡ cut limit (place_clauses rule.now) }
@@ -57,8 +58,7 @@ pub fn place_clauses(rule: &Rule, limit: u32) -> u32
     )
 }
 
-/// How many clauses say that some node of the origin breaks the rule, or `limit + 1` where that passes the limit, which is
-/// below 2^31.
+/// How many clauses say that the rule is false at some node of the origin; cut off past the limit.
 pub fn broken_clauses(rule: &Rule, limit: u32) -> u32
     requires { limit < 2 ^ 31 }
     ensures { result ≡ cut limit (broken_clauses rule.now) }
@@ -66,8 +66,9 @@ pub fn broken_clauses(rule: &Rule, limit: u32) -> u32
     plus(limit, rule_clauses(rule, limit), 1)
 }
 
-/// How many clauses the largest box or torus of a box question has, up to a radius and a period, or `limit + 1` where that
-/// passes the limit, which is below 2^31. The goal's count may be cut off at the same limit.
+/// How many clauses a box question takes; cut off past the limit. Its region is the box of this radius, or the torus with this
+/// period along each axis if that has more positions. `goal` is the number of clauses of the goal. It may be cut off past the
+/// same limit.
 pub fn question_clauses(premise: &Rule, goal: u32, radius: u32, period: u32, limit: u32) -> u32
     requires radius { radius < 2 ^ 31 }
     requires limit { limit < 2 ^ 31 }

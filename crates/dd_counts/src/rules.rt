@@ -1,22 +1,23 @@
-//! Counts of rules, and the greatest that may be asked for.
+//! How many patterns a rule has at a node, how many states its transfer graph has over a strip, and the limits on both. A
+//! pattern is a filling of the cells that the rule reads at the node. A slice of a strip has the cells of one `x`. A state is
+//! a filling of `state_length` successive slices. A window is a filling of one slice more.
 ghost use Rattle.std.specs.Prelude.{◌≡◌, ◌^◌, ◌<◌, ◌≤◌};
 ghost use Rattle.dd_formula.specs.Counts.{cut};
-ghost use Rattle.dd_counts.specs.Rules.{pattern_count, least_x, greatest_x, slice_span, window, slices, states, longer_states};
+ghost use Rattle.dd_counts.specs.Rules.{pattern_count, least_x, greatest_x, slice_span, state_length, slices, states, longer_states};
 
 use dd_formula::{Rule, power};
 use dd_lattice::Cell;
 
-/// The greatest number of patterns at a node.
+/// How many patterns a rule may have at a node.
 pub const MOST_PATTERNS: u32 = 65_536;
 
-/// The greatest number of states of a transfer graph.
+/// How many states a transfer graph may have.
 pub const MOST_STATES: u32 = 4_096;
 
-/// The greatest number of fillings of a window, which has one slice more than a state.
+/// How many windows a transfer graph may have. A window is a longer state: it has one slice more.
 pub const MOST_LONGER_STATES: u32 = 131_072;
 
-/// The number of ways to fill the cells that the rule reads at a node, or `limit + 1` where it passes the limit, which is
-/// below 2^31.
+/// The number of patterns at a node: fillings of the cells that the rule reads there. It is cut off past the limit.
 pub fn patterns(rule: &Rule, node: u32, limit: u32) -> u32
     requires node { node < rule.now.nodes }
     requires limit { limit < 2 ^ 31 }
@@ -31,7 +32,7 @@ fn x_of(cell: &Cell) -> i32
     cell.position.x
 }
 
-/// The least x of the cells, `from` among them.
+/// The least of `from` and the x of each cell.
 pub fn least_x(from: i32, cells: &[Cell]) -> i32
     ensures { result ≡ least_x from cells.now }
 {
@@ -42,6 +43,7 @@ pub fn least_x(from: i32, cells: &[Cell]) -> i32
     least
 }
 
+/// The greatest of `from` and the x of each cell.
 fn greatest_x(from: i32, cells: &[Cell]) -> i32
     ensures { result ≡ greatest_x from cells.now }
 {
@@ -52,7 +54,7 @@ fn greatest_x(from: i32, cells: &[Cell]) -> i32
     greatest
 }
 
-/// The number of slices from the first to the last of those that the rule reads, its own among them.
+/// The number of slices from the first to the last that the rule reads at a cell. The cell's own slice is among them.
 fn span(rule: &Rule) -> u64
     ensures value { result ≡ slice_span rule.now }
     ensures small { result ≤ 2 ^ 32 }
@@ -66,14 +68,15 @@ fn span(rule: &Rule) -> u64
     (greatest as i64 - least as i64).unsigned_abs() + 1
 }
 
-/// The number of slices of a state of the rule's transfer graph.
-pub fn window(rule: &Rule) -> u64
-    ensures value { result ≡ window rule.now }
+/// The number of slices of a state of the rule's transfer graph, at least 1.
+pub fn state_length(rule: &Rule) -> u64
+    ensures value { result ≡ state_length rule.now }
     ensures small { result ≤ 2 ^ 32 }
 {
     (span(rule) - 1).max(1)
 }
 
+/// The number of fillings of one slice, which has `volume` positions; cut off past the limit.
 fn slices(rule: &Rule, volume: u32, limit: u32) -> u32
     requires { limit < 2 ^ 31 }
     ensures { result ≡ cut limit (slices rule.now volume) }
@@ -81,20 +84,18 @@ fn slices(rule: &Rule, volume: u32, limit: u32) -> u32
     power(limit, rule.symbols(), rule.nodes() as u64 * volume as u64)
 }
 
-/// The number of states of the rule's transfer graph over strips whose slices have so many positions, or `limit + 1`
-/// where it passes the limit, which is below 2^31.
+/// The number of states of the rule's transfer graph over a strip whose slices have `volume` positions; cut off past the limit.
 pub fn states(rule: &Rule, volume: u32, limit: u32) -> u32
     requires { limit < 2 ^ 31 }
     ensures { result ≡ cut limit (states rule.now volume) }
 {
-    power(limit, slices(rule, volume, limit), window(rule))
+    power(limit, slices(rule, volume, limit), state_length(rule))
 }
 
-/// The number of states with one slice more, or `limit + 1` where it passes the limit, which is below 2^31. The graph has
-/// at most so many edges.
+/// The number of windows over such a strip; cut off past the limit. The transfer graph has at most so many edges.
 pub fn longer_states(rule: &Rule, volume: u32, limit: u32) -> u32
     requires { limit < 2 ^ 31 }
     ensures { result ≡ cut limit (longer_states rule.now volume) }
 {
-    power(limit, slices(rule, volume, limit), window(rule) + 1)
+    power(limit, slices(rule, volume, limit), state_length(rule) + 1)
 }

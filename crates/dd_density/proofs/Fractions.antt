@@ -1,4 +1,4 @@
--- Fractions in lowest terms: there is one for two numbers, and it is no greater than they are.
+-- Fractions in lowest terms: a / b has exactly one such form, and its terms are at most a and b.
 use Rattle.std.proofs.Common.{◌≡◌, ℕ, ◌*◌, ◌/◌, ◌%◌, ◌<◌, ◌≤◌, sym, ap, subst, arith}
 use Rattle.std.specs.Int.{IsGcd}
 use Prim.Native.Nat.{◌∣◌}
@@ -45,7 +45,7 @@ lowest_small n d a b some p =
     let product : n * b ≤ a * b = omega (arith, long, p.same) in
     record { numerator = le_of_mul-le-mul_right product some; denominator = short }
 
--- the quotients by the greatest common divisor
+-- two numbers divided by their greatest common divisor are in lowest terms
 pub quotients_lowest : (a b g : ℕ) → IsGcd a b g → 0 < b → 0 < g → IsInLowestTerms (a / g) (b / g) a b
 quotients_lowest a b g is some g_pos =
     let am : a % g ≡ 0 = mod-eq-zero_of_dvd g is.0 in

@@ -1,4 +1,4 @@
--- Walks of a transfer graph are the walks of its strip.
+-- The walks of a strip's transfer graph, and the edges of the rule over the strip.
 use Rattle.std.proofs.Common.{◌≡◌, ℕ, ◌*◌, ◌%◌, ◌≤◌, ◌^◌, List, [], ◌∷◌, length, Some, arith, refl, sym, ap, ◌∙◌, subst}
 use Rattle.std.proofs.lemmas.Nat.{mod_below}
 use Rattle.std.specs.Prelude.{ℤ, pos, ◌-ℤ◌, ◌≤ℤ◌}
@@ -31,7 +31,7 @@ path_of r s weights g (w ∷ ws) u v is walk =
     let last : w % g.slices ≡ t = last_slice g u t w is.kept h in
     (ap (λ (x : ℕ). next_of g u x) last ∙ h, path_of r s weights g ws w v is walk.1)
 
--- what a slice weighs
+-- the weight of a walk in the graph is its weight over the strip
 pub weighed : (r : LocalRule) (s : Strip) (weights : List ℕ) (g : Transfer) (ws : List ℕ) → IsGraphOf r s weights g → weight_of g ws ≡ walk_weight r s weights ws
 weighed r s weights g [] is = refl
 weighed r s weights g (w ∷ ws) is =
@@ -60,7 +60,7 @@ potentials_of r s weights g m l ps is given = λ u t v h.
     let same : weight_at g t ≡ slice_weight r s weights t = is.weighs t (step g u t v h).slice in
     subst (λ (x : ℕ). (potential_of ps v -ℤ potential_of ps u) ≤ℤ (pos (l * x) -ℤ pos m)) (sym same) (given.rise u t v ((is.edges u t v).0 h))
 
--- what is shown over the graph is a certificate, and a certificate is shown
+-- what is shown over the graph is a certificate for the strip, and the other way round
 pub certificate_of : (r : LocalRule) (s : Strip) (weights : List ℕ) (g : Transfer) (p q : ℕ) (ws : List ℕ) (ps : List ℤ) → IsGraphOf r s weights g → IsShown g (positions s) p q ws ps → IsDensityCertificate r s weights p q ws ps
 certificate_of r s weights g p q ws ps is shown = record {
   m = shown.m;

@@ -1,4 +1,4 @@
--- What answers on the least density of a strip say.
+-- Answers to the question of the least density of a strip: their certificates, and the size of their numbers.
 use Rattle.std.specs.{Prelude.ℕ, Prelude.◌≤◌, Prelude.ℤ, Prelude.unsigned_abs, Prelude.List, Prelude.length, List.All}
 use Rattle.dd_values.specs.Bounds.{most_number}
 use Rattle.dd_formula.specs.LocalRule.{LocalRule}
@@ -8,12 +8,12 @@ use Rattle.dd_transfer.specs.Certificates.{IsDensityCertificate, IsEmptyCertific
 use Rattle.dd_density.specs.declared.answer.Density.{Density}
 use Rattle.dd_density.specs.declared.answer.Density.TheVariants.{Least, Empty}
 
--- the density with what certifies it, or what shows that there is none
+-- the answer has a certificate for its density, or one that there are no configurations
 abbrev pub IsCertifiedDensity : LocalRule → Strip → List ℕ → Density → Type 0
 IsCertifiedDensity r s weights (Least p q walk ps) = IsDensityCertificate r s weights p q walk ps
 IsCertifiedDensity r s weights (Empty ranks) = IsEmptyCertificate r s ranks
 
--- an output can hold each number, and no walk has more states than the graph
+-- an output can hold each number, and the walk has at most as many states as the transfer graph
 pub record IsSmallLeast (r : LocalRule) (s : Strip) (p q : ℕ) (walk : List ℕ) (ps : List ℤ) : Type 0 where
   pub numerator : p ≤ most_number
   pub denominator : q ≤ most_number
@@ -21,6 +21,7 @@ pub record IsSmallLeast (r : LocalRule) (s : Strip) (p q : ℕ) (walk : List ℕ
   pub walked : All (λ u. u ≤ most_number) walk
   pub potentials : All (λ x. unsigned_abs x ≤ most_number) ps
 
+-- an output can hold the answer
 abbrev pub IsSmallDensity : LocalRule → Strip → Density → Type 0
 IsSmallDensity r s (Least p q walk ps) = IsSmallLeast r s p q walk ps
 IsSmallDensity r s (Empty ranks) = All (λ x. x ≤ most_number) ranks

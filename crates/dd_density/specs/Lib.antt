@@ -1,4 +1,4 @@
--- what the public calls promise of an answer
+-- the answers that `least_density` gives
 pub mod Densities
--- the same over a given transfer graph
+-- certificates and answers over a given transfer graph
 pub mod graphs

@@ -1,21 +1,22 @@
-//! The answer to what the least density of a strip is.
+//! The answer to the question of the least density of a strip.
 
 use dd_values::Items;
 
-/// The least density of the configurations of a strip, or that there is none.
+/// The least density of the configurations of a strip, or the answer that there are no such configurations.
 #[derive(Debug, Drop)]
 pub enum Density {
-    /// The density, a fraction in lowest terms of weight per position. The walk is closed: each of its states has an edge to
-    /// the next, and the last one to the first. It has this density, and the potentials, one for each state, show that no
-    /// closed walk has a smaller one.
+    /// The density in lowest terms, as weight per position, with its certificate.
     Least {
         numerator: u64,
         denominator: u64,
+        /// The states of a closed walk of this density. Each has an edge to the next, and the last one to the first.
         walk: Items<u64>,
+        /// A potential for each state of the transfer graph. They show that no closed walk has a smaller density.
         potentials: Items<i64>,
     },
-    /// A rank for each state, which falls along each edge, so no walk is infinite.
+    /// No configuration lives on the strip.
     Empty {
+        /// A rank for each state of the transfer graph. It falls along each edge, so no walk is infinite.
         ranks: Items<u64>,
     },
 }

@@ -1,4 +1,4 @@
-//! The checks of what certifies the least density of a strip.
+//! The checks of the certificates for the least density of a strip.
 ghost use Rattle.std.specs.Prelude.{◌↔◌, IsTrue, IfOk};
 ghost use Rattle.dd_strip.specs.Strips.{IsStrip, HasWeights, IsFew, strip_for};
 ghost use Rattle.dd_transfer.specs.Certificates.{IsDensityCertificate, IsEmptyCertificate};
@@ -8,8 +8,9 @@ use crate::strips::{graph_of, no_weights};
 use dd_formula::Rule;
 use std::alloc::{AllocError, Global};
 
-/// Whether a closed walk of states and a potential for each state show that `numerator / denominator`, in lowest terms,
-/// is the least density of the configurations of a strip, with these weights of the symbols.
+/// Whether a walk and potentials certify that `numerator / denominator`, in lowest terms, is the least density of the
+/// strip with the periods `strip` along y and z. The walk is a list of states of the transfer graph. Each state of the graph
+/// has a potential. The symbol `s` has the weight `weights[s]`.
 pub fn check_density(
     alloc: Global,
     rule: &Rule,
@@ -30,7 +31,8 @@ pub fn check_density(
     Ok(is_shown(&graph, volume, numerator, denominator, walk, potentials))
 }
 
-/// Whether a rank for each state falls along each edge, so that the strip has no configuration with a period along it.
+/// Whether there is a rank for each state of the transfer graph, and it falls along each edge. Then no configuration lives on
+/// the strip.
 pub fn check_empty(
     alloc: Global,
     rule: &Rule,

@@ -1,4 +1,6 @@
-//! Whether a closed walk, potentials or ranks are right for a transfer graph.
+//! Whether a closed walk, potentials or ranks are right for a transfer graph. Potentials belong to a mean, which is that of
+//! the walk. Along an edge of weight `w` they may rise by at most `mean.denominator * w - mean.numerator`, which is called
+//! the edge's bound.
 ghost use Rattle.std.specs.Prelude.{◌≡◌, ℕ, ◌*◌, ◌%◌, ◌<◌, ◌≤◌, ◌^◌, ◌↔◌, IsTrue, MatchOption, Some, length, pos, ◌-ℤ◌, ◌≤ℤ◌};
 ghost use Rattle.dd_transfer.specs.Graphs.{next_of, weight_at, IsTransfer};
 ghost use Rattle.dd_meancycle.specs.Means.{IsCycle, ArePotentials, weight_of};
@@ -8,7 +10,7 @@ ghost use Rattle.dd_density.specs.graphs.Shown.{IsShown, AreFallen, IsRiseAlong,
 use crate::lowest::{Ratio, in_lowest_terms};
 use dd_transfer::Graph;
 
-/// Whether an edge leads from a state to another, by the other's last slice.
+/// Whether an edge leads from `from` to `to`. It can only be the edge by the last slice of `to`.
 fn leads(graph: &Graph, from: u64, to: u64) -> bool
     ensures value { IsTrue result ↔ (next_of graph.now from (to % graph.now.slices) ≡ Some to) }
     ensures kept { IsTransfer graph.now }
@@ -23,7 +25,7 @@ fn leads(graph: &Graph, from: u64, to: u64) -> bool
     }
 }
 
-/// The weight of the state's last slice.
+/// The weight of a state's last slice.
 fn last_weight(graph: &Graph, state: u64) -> u64
     ensures value { result ≡ weight_at graph.now (state % graph.now.slices) }
     ensures small { result ≤ 2 ^ 25 }
@@ -31,7 +33,7 @@ fn last_weight(graph: &Graph, state: u64) -> u64
     graph.slice_weight((state % graph.slices() as u64) as u32)
 }
 
-/// What a closed walk weighs; `None` exactly where it isn't closed.
+/// The weight of a closed walk. `None` exactly if the walk isn't closed.
 fn closed_weight(graph: &Graph, walk: &[u64]) -> Option<u128>
     ensures { MatchOption result (¬ (IsCycle graph.now walk.now)) (λ w. IsCycle graph.now walk.now × (w ≡ weight_of graph.now walk.now) × (w < 2 ^ 89)) }
 {
@@ -48,7 +50,7 @@ fn closed_weight(graph: &Graph, walk: &[u64]) -> Option<u128>
     Some(weight)
 }
 
-/// Whether a potential rises by at most the weight times the mean's denominator, less its numerator.
+/// Whether the rise from one potential to another is at most the bound of an edge with this weight.
 fn is_rise(from: i64, to: i64, weight: u64, mean: Ratio) -> bool
     requires weight { weight ≤ 2 ^ 25 }
     requires numerator { mean.numerator < 2 ^ 89 }
@@ -64,7 +66,7 @@ fn is_rise(from: i64, to: i64, weight: u64, mean: Ratio) -> bool
     true
 }
 
-/// Whether the potential rises by at most that from a state to another.
+/// Whether the potential rises from one state to another by at most the bound of an edge with this weight.
 fn is_rise_between(from: u32, to: u32, weight: u64, potentials: &[i64], mean: Ratio) -> bool
     requires from { from < length potentials.now }
     requires to { to < length potentials.now }
@@ -78,7 +80,7 @@ fn is_rise_between(from: u32, to: u32, weight: u64, potentials: &[i64], mean: Ra
     is_rise(from, to, weight, mean)
 }
 
-/// Whether the potential rises by at most that along the edge from a state by a slice, where there is one.
+/// Whether the potential rises along the edge from `state` by `slice` by at most its bound. True if there is no such edge.
 fn is_rise_along(graph: &Graph, state: u32, slice: u32, potentials: &[i64], mean: Ratio) -> bool
     requires state { state < graph.now.states }
     requires slice { slice < graph.now.slices }
@@ -93,6 +95,7 @@ fn is_rise_along(graph: &Graph, state: u32, slice: u32, potentials: &[i64], mean
     is_rise_between(state, next, graph.slice_weight(slice), potentials, mean)
 }
 
+/// Whether the potential rises along each edge from a state by at most the edge's bound.
 fn are_rises_from(graph: &Graph, state: u32, potentials: &[i64], mean: Ratio) -> bool
     requires state { state < graph.now.states }
     requires each { length potentials.now ≡ graph.now.states }
@@ -108,7 +111,7 @@ fn are_rises_from(graph: &Graph, state: u32, potentials: &[i64], mean: Ratio) ->
     true
 }
 
-/// Whether there is a potential for each state, and it rises by at most that along each edge.
+/// Whether there is a potential for each state, and it rises along each edge by at most the edge's bound.
 fn are_potentials(graph: &Graph, potentials: &[i64], mean: Ratio) -> bool
     requires numerator { mean.numerator < 2 ^ 89 }
     requires denominator { mean.denominator < 2 ^ 64 }
@@ -125,8 +128,8 @@ fn are_potentials(graph: &Graph, potentials: &[i64], mean: Ratio) -> bool
     true
 }
 
-/// Whether the walk is closed and has this density with so many positions in a slice, and the potentials are right for
-/// its mean.
+/// Whether the walk is closed and has this density in lowest terms, and the potentials are right for its mean. A slice has
+/// `volume` positions.
 pub(crate) fn is_shown(
     graph: &Graph,
     volume: u32,
@@ -150,7 +153,7 @@ pub(crate) fn is_shown(
     are_potentials(graph, potentials, mean)
 }
 
-/// Whether the rank falls along the edge from a state by a slice, where there is one.
+/// Whether the rank falls along the edge from `state` by `slice`. True if there is no such edge.
 fn is_fall_along(graph: &Graph, state: u32, slice: u32, ranks: &[u64]) -> bool
     requires state { state < graph.now.states }
     requires slice { slice < graph.now.slices }
@@ -163,6 +166,7 @@ fn is_fall_along(graph: &Graph, state: u32, slice: u32, ranks: &[u64]) -> bool
     ranks[next as usize] < ranks[state as usize]
 }
 
+/// Whether the rank falls along each edge from a state.
 fn are_falls_from(graph: &Graph, state: u32, ranks: &[u64]) -> bool
     requires state { state < graph.now.states }
     requires each { length ranks.now ≡ graph.now.states }
@@ -176,7 +180,7 @@ fn are_falls_from(graph: &Graph, state: u32, ranks: &[u64]) -> bool
     true
 }
 
-/// Whether there is a rank for each state, and each falls along each edge.
+/// Whether there is a rank for each state, and it falls along each edge.
 pub(crate) fn are_ranks(graph: &Graph, ranks: &[u64]) -> bool
     ensures { IsTrue result ↔ AreFallen graph.now ranks.now }
 {

@@ -13,9 +13,9 @@ use dd_meancycle::{Mean, least_mean};
 use dd_values::Items;
 use std::alloc::{AllocError, Global};
 
-/// The least density, with these weights of the symbols, of the configurations of a strip that have a period along it;
-/// `Empty` if there are none. Each number of the answer is at most 2^40 in absolute value, and the walk has at most as
-/// many states as the transfer graph.
+/// The least density of the configurations that live on the strip with the periods `strip` along y and z. Along x they may
+/// have any period. The answer is `Empty` if there are none. The symbol `s` has the weight `weights[s]`. Each number of the
+/// answer is at most 2^40 in absolute value. The walk has at most as many states as the transfer graph.
 pub fn least_density(
     alloc: Global,
     rule: &Rule,
@@ -33,6 +33,7 @@ pub fn least_density(
     density_of(alloc, mean, strip[0] * strip[1])
 }
 
+/// The numbers, as numbers of 64 bits.
 fn widened(alloc: Global, numbers: &[u32]) -> Result<Items<u64>, AllocError>
     ensures same { IfOk result (λ ns. ns ≡ numbers.now) }
     ensures small { IfOk result (All (λ n. n < 2 ^ 32)) }
@@ -44,7 +45,7 @@ fn widened(alloc: Global, numbers: &[u32]) -> Result<Items<u64>, AllocError>
     Ok(Items::from_vec(wide))
 }
 
-/// The density of a mean, with so many positions in a slice.
+/// The density of a least mean, where a slice has `volume` positions. `Empty` if there is no cycle.
 fn density_of(alloc: Global, mean: Mean, volume: u32) -> Result<Density, AllocError>
     requires { IsMeanOver volume mean }
     ensures { IfOk result (IsOfMean volume mean) }

@@ -1,4 +1,4 @@
-//! The least density of the configurations of a strip, with its certificate, and the checks of these certificates.
+//! The least density of the configurations of a strip, with its certificate, and the check of such certificates.
 #![tactic(auto)]
 
 mod answer;

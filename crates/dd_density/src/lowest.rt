@@ -3,12 +3,14 @@ ghost use Rattle.std.specs.Prelude.{◌<◌};
 ghost use Rattle.std.specs.Int.{IsGcd};
 ghost use Rattle.dd_transfer.specs.Certificates.{IsInLowestTerms};
 
+/// A fraction, in lowest terms or not.
 #[derive(Clone, Copy, Debug)]
 pub(crate) struct Ratio {
     pub numerator: u128,
     pub denominator: u128,
 }
 
+/// The greatest common divisor, by Euclid's algorithm.
 fn gcd(a: u128, b: u128) -> u128
     ensures value { IsGcd a b result }
     ensures above { 0 < b → 0 < result }

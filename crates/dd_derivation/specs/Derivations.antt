@@ -16,14 +16,14 @@ same_literal a b = (a.variable == b.variable) && beq a.positive b.positive
 abbrev pub is_among : List Literal → Literal → Bool
 is_among literals l = list_any (same_literal l) literals
 
--- what a clause says, from those of its literals that are not false
+-- what a clause says; the list holds those of its literals that are not false
 abbrev pub finding_of : (Literal → Bool) → List Literal → Finding
 finding_of is_false [] = Falsified
 finding_of is_false (l ∷ rest) =
     if list_all (same_literal l) rest && not (is_false (negation l)) then Forced l else Open
 
--- what a clause says, given which literals are false: all of its own are false, or the only one that is not false, and is
--- not true yet, has to be true
+-- What a clause says, given which literals are false. `Falsified`: all of its literals are false. `Forced`: all but one are
+-- false, and that one is not true yet. `Open`: neither.
 abbrev pub finding : (Literal → Bool) → List Literal → Finding
 finding is_false clause = finding_of is_false (filter (λ l. not (is_false l)) clause)
 
@@ -37,23 +37,25 @@ abbrev pub without : List (Option (List Literal)) → ℕ → List (Option (List
 without known zero = known
 without known (suc k) = slice_set known k None
 
--- what the clause of a number says; nothing where there is none
+-- what the clause of a number says; `Open` if there is no such clause
 abbrev pub hint_finding : List (Option (List Literal)) → (Literal → Bool) → ℕ → Finding
 hint_finding known is_false h = option_map_or (finding is_false) (clause_of known h) Open
 
+-- Whether the hints lead to a conflict, from what the first of them finds. A falsified clause has to be that of the last hint.
+-- After a forced literal, `next` tells for the other hints. An open clause is a failure.
 abbrev pub follow : Finding → Bool → (Literal → Bool) → Bool
 follow Falsified is_last next = is_last
 follow (Forced l) is_last next = next l
 follow Open is_last next = false
 
--- each hint but the last makes a literal true, and all literals of the last one's clause are false
+-- each hint but the last forces a literal, which is true from then on, and the clause of the last one is falsified
 abbrev pub is_conflict : List (Option (List Literal)) → List Literal → List ℕ → Bool
 is_conflict known falses [] = false
 is_conflict known falses (h ∷ hints) =
     follow (hint_finding known (is_among falses) h) (is_empty hints)
     (λ l. is_conflict known (negation l ∷ falses) hints)
 
--- each number has a clause when it is deleted
+-- the numbers can be deleted one after the other: each has a clause when its turn comes
 abbrev pub are_deletable : List (Option (List Literal)) → List ℕ → Bool
 are_deletable known [] = true
 are_deletable known (d ∷ ds) = is_some (clause_of known d) && are_deletable (without known d) ds
@@ -63,18 +65,21 @@ abbrev pub known_after : List (Option (List Literal)) → List ℕ → List (Opt
 known_after known [] = known
 known_after known (d ∷ ds) = known_after (without known d) ds
 
--- the literals' variables are distinct, and between 1 and n
+-- the literal's variable is one of 1..n
 abbrev pub is_literal_in_range : ℕ → Literal → Bool
 is_literal_in_range n l = nat_le 1 l.variable && nat_le l.variable n
 
+-- some literal of the list has the variable v
 abbrev pub has_variable : ℕ → List Literal → Bool
 has_variable v literals = list_any (λ l. l.variable == v) literals
 
+-- the literals' variables are distinct, and each is one of 1..n
 abbrev pub is_proper : ℕ → List Literal → Bool
 is_proper n [] = true
 is_proper n (l ∷ rest) = (is_literal_in_range n l && not (has_variable l.variable rest)) && is_proper n rest
 
--- with the literals of the step's clause false, its hints end in a conflict, so the clause follows
+-- The step is right. Its clause is proper. With the literals of its clause false, its hints end in a conflict, so the clause
+-- follows. The clauses that it deletes exist.
 abbrev pub is_right : ℕ → List (Option (List Literal)) → Step → Bool
 is_right n known s = is_proper n s.clause && (is_conflict known s.clause s.hints && are_deletable known s.deletes)
 
@@ -90,14 +95,15 @@ refutes_from n known (s ∷ steps) =
 abbrev pub refutes : ℕ → List (List Literal) → List Step → Bool
 refutes n clauses steps = refutes_from n (map (λ c. Some c) clauses) steps
 
+-- the steps refute the clause list
 abbrev pub IsRefuting : ClauseList → List Step → Type 0
 IsRefuting cnf steps = refutes cnf.variables cnf.clauses steps ≡ true
 
--- the clauses of the list, and then the steps'
+-- the clauses of the list, and then those of the steps
 abbrev pub clauses_before : List (List Literal) → List Step → List (List Literal)
 clauses_before clauses steps = clauses ++ map (λ s. s.clause) steps
 
--- the clauses without those that the steps delete
+-- the clauses without those that the steps delete; no clause of a step is added
 abbrev pub known_after_steps : List (Option (List Literal)) → List Step → List (Option (List Literal))
 known_after_steps known [] = known
 known_after_steps known (s ∷ steps) = known_after_steps (known_after known s.deletes) steps

@@ -1,8 +1,8 @@
 -- refutations of a list of clauses, and which steps are right
 pub mod Derivations
--- how much a check has room for
+-- the sizes of refutations that a check has room for
 pub mod Sizes
--- what the marks of a check stand for
+-- what the marks of a check mean
 pub mod checking
 -- lemmas on these definitions, with their proofs
 pub mod lemmas

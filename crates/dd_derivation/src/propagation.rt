@@ -1,5 +1,6 @@
 //! Unit propagation along hints. The literals of a step's clause are taken as false. Each hinted clause makes one more
-//! literal true, until all literals of one are false. A mark holds its step's number, so nothing is undone between steps.
+//! literal true, until one has only false literals. A mark holds the number of the step that made it, so nothing is undone between
+//! steps. This number counts the steps from 1 as they are checked. It is not the number of the step's clause.
 ghost use Rattle.std.specs.Prelude.{◌≡◌, ◌<◌, [], Bool, length, take, true, slice_index_or};
 ghost use Rattle.dd_clause.specs.declared.clause.Literal.{Literal};
 ghost use Rattle.dd_derivation.specs.Derivations as spec;
@@ -21,14 +22,16 @@ pub enum Finding {
     Open,
 }
 
-/// In the step of this number, the variable's literal of this sign is false.
+/// The mark of a variable: in the step of this number, the variable's literal of this sign is false.
 #[derive(Clone, Copy)]
 pub struct VariableMark {
+    /// The number of the step that made the mark.
     pub step: u64,
+    /// The sign of the false literal.
     pub positive: bool,
 }
 
-/// Marks a literal as false in this step, if its variable has a mark.
+/// Marks a literal as false in this step. A variable that is not from 1 to `marks.len()` has no mark, and is skipped.
 fn mark(marks: &mut [VariableMark], step: u64, literal: Literal)
     ensures { marks.new ≡ marks_of.with_mark marks.old step literal }
 {
@@ -41,7 +44,7 @@ fn mark(marks: &mut [VariableMark], step: u64, literal: Literal)
     }
 }
 
-/// The first literal of this variable.
+/// The first of the literals whose variable is this one.
 fn first_of(literals: &[Literal], variable: u32) -> Option<Literal>
     ensures { result ≡ marks_of.first_literal_of variable literals.now }
 {
@@ -53,7 +56,7 @@ fn first_of(literals: &[Literal], variable: u32) -> Option<Literal>
     None
 }
 
-/// The first literal of this variable in the clauses that the hints name.
+/// The first literal of this variable in the clauses of the hints.
 fn first_hinted(known: &Known, hints: &[u64], variable: u32) -> Option<Literal>
     ensures { result ≡ marks_of.first_literal_of variable (literals_of known.now hints.now) }
 {
@@ -88,8 +91,8 @@ struct After<'a> {
 impl<'a> FalseLiterals for After<'a> {
     ghost is_false = { λ a. marks_of.is_false a.marks.now a.step (literals_of a.known.now a.hints.now) };
 
-    /// A variable has no mark only if an earlier step that is not right names it. The first hinted clause with it then
-    /// made its literal true.
+    /// A variable has no mark only if it is out of range. Then it occurs only in clauses of wrong earlier steps, which `check_step`
+    /// lets stand. The first hinted clause with the variable forced its own literal of it.
     fn is_false(&self, literal: Literal) -> bool {
         let variable = literal.variable as usize;
         if variable >= 1 && variable <= self.marks.len() {
@@ -132,7 +135,7 @@ pub fn find<F: FalseLiterals>(falses: &F, clause: &[Literal]) -> Finding
     }
 }
 
-/// What the clause of the hint at a place says after the hints before it.
+/// What the clause of the hint at this place says after the hints before it. `Open` if there is no such clause.
 fn find_hint(
     known: &Known,
     marks: &[VariableMark],
@@ -159,7 +162,7 @@ fn find_hint(
     }
 }
 
-/// Whether the step's hints end in a conflict. The literals of its clause are marked as false.
+/// Whether the step's hints end in a conflict. Before the call, exactly the literals of its clause are marked as false.
 pub fn follow_hints(known: &Known, marks: &mut [VariableMark], number: u64, step: &Step) -> bool
     requires marks { FalsesAre marks.old number [] step.now.clause }
     requires older { AreUpTo number marks.old }
@@ -177,7 +180,8 @@ pub fn follow_hints(known: &Known, marks: &mut [VariableMark], number: u64, step
     false
 }
 
-/// Marks the literals of a step's clause as false, if their variables are distinct and in range.
+/// Marks the literals of a step's clause as false. It stops and returns false at a variable without a mark, and at one that
+/// occurs a second time.
 pub fn start_marks(marks: &mut [VariableMark], step: u64, clause: &[Literal]) -> bool
     requires { AreBelow step marks.old }
     ensures value { result ≡ spec.is_proper (length marks.old) clause.now }

@@ -1,5 +1,5 @@
-//! The check of a refutation: each step is right, and the last one's clause is empty. It takes no memory: its room is
-//! made beforehand, and serves any derivation of the same sizes.
+//! The check of a refutation: each step is right, and the last one's clause is empty. The check allocates nothing. Its `Marks`
+//! are made beforehand, and serve any refutation of the same sizes.
 ghost use Rattle.std.specs.Prelude.{◌≡◌, ℕ, ◌+◌, ◌<◌, ◌≤◌, Bool, true, false, List, length, slice_index_or, IfOk, ◌-◌, ◌^◌};
 ghost use Rattle.dd_clause.specs.declared.clause.Literal.{Literal};
 ghost use Rattle.dd_clause.specs.Clauses.{Satisfies};
@@ -13,7 +13,7 @@ use dd_clause::{Clause, Cnf};
 use std::alloc::{AllocError, Global};
 use std::marker::Model;
 
-/// Room for the check of a derivation: a mark for each variable, and for each clause and step whether it is alive.
+/// Room for a check: a mark for each variable, and a truth value for each clause and step, which says whether it is alive.
 #[derive(Drop)]
 pub struct Marks {
     variables: Vec<VariableMark>,
@@ -30,7 +30,8 @@ impl Model for Marks {
 }
 
 impl Marks {
-    /// Room for checks with as many variables as this list, and as many clauses and steps together.
+    /// Room for the check of these clauses and steps. It serves any others with as many variables, and as many clauses and steps
+    /// together.
     pub fn new(alloc: Global, cnf: &Cnf, steps: &[Step]) -> Result<Marks, AllocError>
         ensures variables { IfOk result (λ m. m.variables ≡ cnf.now.variables) }
         ensures numbers { IfOk result (λ m. m.numbers ≡ length cnf.now.clauses + length steps.now) }
@@ -54,6 +55,7 @@ pub fn last_number(cnf: &Cnf, steps: &[Step]) -> u64
     clauses.len() as u64 + steps.len() as u64
 }
 
+/// Gives each mark the number 0, which no step has.
 fn clear(marks: &mut [VariableMark])
     ensures { AreBelow 1 marks.new }
 {
@@ -65,6 +67,7 @@ fn clear(marks: &mut [VariableMark])
     }
 }
 
+/// Makes all clauses alive.
 fn revive(alive: &mut [bool])
     ensures { (k : ℕ) → k < length alive.new → slice_index_or alive.new k false ≡ true }
 {
@@ -73,7 +76,8 @@ fn revive(alive: &mut [bool])
     }
 }
 
-/// Whether a step is right after earlier ones. If it is, what it deletes is no longer alive.
+/// Whether a step is right after earlier ones. If it is, the clauses that it deletes are no longer alive. `number` is greater than
+/// that of each mark made before. It is not the number of the step's clause.
 fn check_one(
     clauses: &[Clause],
     earlier: &[Step],
@@ -107,7 +111,7 @@ fn check_one(
     )
 }
 
-/// Whether the steps refute the clauses.
+/// Whether the steps refute the clauses, if the marks are cleared and all clauses are alive.
 fn check_all(
     clauses: &[Clause],
     steps: &[Step],
@@ -130,6 +134,7 @@ fn check_all(
     false
 }
 
+/// Whether the steps refute the clauses. What `alive` and `marks` hold before does not matter.
 fn check_with(cnf: &Cnf, steps: &[Step], alive: &mut [bool], marks: &mut [VariableMark]) -> bool
     requires variables { length marks.old ≡ cnf.now.variables }
     requires numbers { length alive.old ≡ length cnf.now.clauses + length steps.now }
@@ -141,7 +146,8 @@ fn check_with(cnf: &Cnf, steps: &[Step], alive: &mut [bool], marks: &mut [Variab
 }
 
 /// Whether the steps refute the clauses: there is a step, each is right, and the last one's clause is empty. Then no
-/// assignment satisfies the clauses. It takes no memory.
+/// assignment satisfies the clauses. It allocates nothing. Its time grows with the lengths of the hinted clauses, each counted as
+/// often as it is hinted.
 pub fn check_refutation(cnf: &Cnf, steps: &[Step], marks: &mut Marks) -> bool
     requires variables { marks.old.variables ≡ cnf.now.variables }
     requires numbers { marks.old.numbers ≡ length cnf.now.clauses + length steps.now }
@@ -157,7 +163,7 @@ pub fn check_refutation(cnf: &Cnf, steps: &[Step], marks: &mut Marks) -> bool
     )
 }
 
-/// Deletes what the steps delete.
+/// Deletes the clauses that these steps delete. A number without a clause is skipped.
 fn delete_earlier(alive: &mut [bool], steps: &[Step])
     ensures { (cs : List (List Literal)) →
         known_of cs alive.new ≡ spec.known_after_steps (known_of cs alive.old) steps.now }
@@ -167,6 +173,7 @@ fn delete_earlier(alive: &mut [bool], steps: &[Step])
     }
 }
 
+/// Whether the step at this index is right. What `alive` and `marks` hold before does not matter.
 fn check_step_with(
     cnf: &Cnf,
     steps: &[Step],
@@ -187,7 +194,7 @@ fn check_step_with(
 }
 
 /// Whether the step at this index, from 0, is right. Known are the clauses of the list and of the steps before it, except
-/// those that a step before it deletes. It takes no memory.
+/// those that a step before it deletes. The steps before it need not be right. It allocates nothing.
 pub fn check_step(cnf: &Cnf, steps: &[Step], index: usize, marks: &mut Marks) -> bool
     requires exists { index < length steps.now }
     requires variables { marks.old.variables ≡ cnf.now.variables }

@@ -4,8 +4,8 @@ use dd_values::Items;
 
 /// A clause that follows from clauses before it, by unit propagation along the hints.
 ///
-/// The clauses of a list of C clauses have the numbers 1 to C, and the steps the numbers after them. The hints and the
-/// deleted clauses are given by number; no later step may hint at a deleted clause.
+/// In a list of C clauses, the clauses have the numbers 1 to C, and the steps have the numbers after them. A step gives its hints
+/// and the clauses that it deletes by number. No later step may hint at a deleted clause.
 ///
 /// Proofs by clauses that follow by unit propagation are due to Goldberg and Novikov (2003). The hints are those of the
 /// format LRAT of Cruz-Filipe, Heule, Hunt, Kaufmann and Schneider-Kamp (2017).
@@ -13,10 +13,10 @@ use dd_values::Items;
 pub struct Step {
     /// The clause that follows.
     pub clause: Clause,
-    /// The numbers, from 1, of the clauses that become unit one after the other when the clause's literals are false. All
-    /// literals of the last one are then false.
+    /// The numbers of the clauses that show it, when the literals of `clause` are false. Each but the last becomes unit in turn,
+    /// and makes its literal true. In the last one, all literals are then false.
     pub hints: Items<u64>,
-    /// The numbers of the clauses that no later step may hint at.
+    /// The numbers of the clauses that this step deletes: no later step may hint at them.
     pub deletes: Items<u64>,
 }
 

@@ -1,6 +1,6 @@
--- Weak duality: for duals of at least 0, the sum of dual times row bounds what any amounts can hold. Each column's
--- sum of duals times coefficients is at least what column 0 counts. So q times what is held is at most the double sum
--- of dual, coefficient and column. Row by row that is at most the duals' worth.
+-- Weak duality: for duals of at least 0, no amounts hold more than the duals are worth. What is held is at most the double sum
+-- of dual times coefficient times column, since the duals sum to at least 1 in column 0 and to at least 0 elsewhere. Taken
+-- row by row, this sum is at most the sum of dual times right side.
 use Rattle.std.proofs.Common.{◌≡◌, ℕ, zero, suc, ◌+◌, ◌*◌, ◌/◌, ◌%◌, ◌<◌, ◌≤◌, List, [], ◌∷◌, length, refl, sym, ap, subst, ◌∙◌, slice_index, arith}
 use Rattle.std.proofs.lemmas.{Nat.div-add-mod', Int.ints}
 use lib.IntN.{ℤ, pos, negsuc, ◌+ℤ◌, ◌*ℤ◌, *ℤ_comm}

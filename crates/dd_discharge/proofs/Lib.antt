@@ -5,7 +5,6 @@ pub mod Certified
 pub mod Printing
 pub mod BestBounds
 pub mod Tabulated
-pub mod Elements
 pub mod Shapes
 pub mod Discharges
 pub mod Sides

@@ -119,11 +119,11 @@ pub joined_whole : (n c : ℕ) (xs : List Exact) → c ≤ most_number → fold 
 joined_whole n c xs p h = let same : c ≡ fold joined_denominator n xs = sym (h ∙ ap (fold joined_denominator c) (drop-length xs)) in printed_some c p ∙ ap printed same
 
 -- a fraction in lowest terms is its own reduction
-reduced_alone : (q g d : ℕ) → q * g ≡ d → 0 < d → q ≡ d → g ≡ 1
-reduced_alone q zero d e p s = absurd (omega (arith, e, p))
-reduced_alone q (suc zero) d e p s = refl
-reduced_alone zero (suc (suc g)) d e p s = absurd (omega (arith, s, p))
-reduced_alone (suc q) (suc (suc g)) d e p s = absurd (omega (arith, e, s))
+reduced_coprime : (q g d : ℕ) → q * g ≡ d → 0 < d → q ≡ d → g ≡ 1
+reduced_coprime q zero d e p s = absurd (omega (arith, e, p))
+reduced_coprime q (suc zero) d e p s = refl
+reduced_coprime zero (suc (suc g)) d e p s = absurd (omega (arith, s, p))
+reduced_coprime (suc q) (suc (suc g)) d e p s = absurd (omega (arith, e, s))
 
 over_nothing : (n d : ℕ) (r : Exact) → Some r ≡ fraction_of (pos n) (pos d) → 0 < d
 over_nothing n zero r e = absurd cc
@@ -136,8 +136,8 @@ own_reduction n d r e s =
     let one : max 1 d ≡ d = omega (arith, p) in
     let is : r.den ≡ max 1 d / greatest_common n (max 1 d) = ap (λ (a : Exact). a.den) (ratio_is n d r e) in
     let whole : max 1 d / greatest_common n (max 1 d) * greatest_common n (max 1 d) ≡ max 1 d = div-mul_cancel (greatest_common n (max 1 d)) (greatest_common-is n (max 1 d)).1 in
-    let alone : greatest_common n (max 1 d) ≡ 1 = reduced_alone (max 1 d / greatest_common n (max 1 d)) (greatest_common n (max 1 d)) (max 1 d) whole (omega arith) (sym is ∙ (s ∙ sym one)) in
-    record { positive = p; alone = subst (λ (m : ℕ). greatest_common n m ≡ 1) one alone }
+    let coprime : greatest_common n (max 1 d) ≡ 1 = reduced_coprime (max 1 d / greatest_common n (max 1 d)) (greatest_common n (max 1 d)) (max 1 d) whole (omega arith) (sym is ∙ (s ∙ sym one)) in
+    record { positive = p; coprime = subst (λ (m : ℕ). greatest_common n m ≡ 1) one coprime }
 
 pub no_reduction : (n d : ℕ) (r : Exact) → Some r ≡ fraction_of (pos n) (pos d) → (r.den ≡ d → ⊥) → IsLowest (record { num = pos n; den = d }) → ⊥
 unfolding lowest
@@ -145,5 +145,5 @@ no_reduction n d r e differ l =
     let p = l.positive in
     let one : max 1 d ≡ d = omega (arith, p) in
     let is : r.den ≡ max 1 d / greatest_common n (max 1 d) = ap (λ (a : Exact). a.den) (ratio_is n d r e) in
-    let alone = l.alone in
-    differ (is ∙ (ap (λ (m : ℕ). m / greatest_common n m) one ∙ (ap (λ (g : ℕ). d / g) alone ∙ div-one d)))
+    let coprime = l.coprime in
+    differ (is ∙ (ap (λ (m : ℕ). m / greatest_common n m) one ∙ (ap (λ (g : ℕ). d / g) coprime ∙ div-one d)))

@@ -1,4 +1,4 @@
--- What is printed at the end of a run.
+-- The numbers of a run's result, as they are printed.
 use Rattle.std.proofs.Common.{◌≡◌, ℕ, zero, suc, ◌+◌, ◌*◌, ◌/◌, ◌-◌, ◌<◌, ◌≤◌, List, [], ◌∷◌, ◌++◌, length, get_or, map, take, drop, max, Some, None, inl, inr, refl, sym, ap, subst, ◌∙◌, arith}
 use Rattle.std.proofs.lemmas.{Int.ints, List.take_more, List.map-append, List.get_or-append-add}
 use Rattle.std.proofs.lemmas.List.{Elements.All-append, Elements.All-nil, Sums.fold-append}
@@ -119,7 +119,7 @@ are_printed v xs ys n m g e a b =
 pub unprinted_at : (xs : List Exact) (n : ℕ) → Some n ≡ printed (common_denominator xs) → Any (λ a. most_number < numerator_over n a) xs → HasUnprinted xs
 unprinted_at xs n e h = inr (subst (λ (c : ℕ). Any (λ a. most_number < numerator_over c a) xs) (printed_is (common_denominator xs) n e).0 h)
 
--- all but the first
+-- a list without its first item
 abbrev nothing : (X : Type 0) → List X
 nothing X = []
 

@@ -1,5 +1,5 @@
--- What is held and the amounts, as whole numbers over a common denominator, and duals that show that no other amounts
--- hold more. Column 0 is what is held. Each other column is an amount.
+-- What certifies a bound, in whole numbers over a common denominator. Column 0 of a program is what each position holds at
+-- least, and each other column is an amount. The duals show that no other amounts hold more.
 use Rattle.std.specs.Prelude.{ℕ, zero, suc, ◌+◌, ◌*◌, ◌/◌, ◌%◌, ◌<◌, ◌≤◌, ◌≡◌, ℤ, pos, ◌+ℤ◌, ◌*ℤ◌, ◌≤ℤ◌, List, [], length, slice_index, slice_index_or}
 use Rattle.dd_fraction.specs.Exact.{IsLowest}
 use Rattle.dd_rows.specs.declared.rows.Row.{Row}
@@ -10,6 +10,7 @@ abbrev pub total_below : (ℕ → ℤ) → ℕ → ℤ
 total_below f zero = pos 0
 total_below f (suc n) = total_below f n +ℤ f n
 
+-- the row with the index k; the empty row past the end
 abbrev pub row_in : List Row → ℕ → Row
 row_in rows k = slice_index_or rows k (record { coefficients = []; bound = 0 })
 
@@ -17,7 +18,7 @@ row_in rows k = slice_index_or rows k (record { coefficients = []; bound = 0 })
 abbrev pub coefficient_in : List Row → ℕ → ℕ → ℤ
 coefficient_in rows k j = slice_index_or (row_in rows k).coefficients j (pos 0)
 
--- the value of a column
+-- the value of a column: what is held, or an amount
 abbrev pub column_value : ℤ → List ℕ → ℕ → ℤ
 column_value held amounts zero = held
 column_value held amounts (suc j) = pos (slice_index amounts j)
@@ -36,17 +37,19 @@ column_sum rows duals j = total_below (λ k. pos (slice_index duals k) *ℤ coef
 abbrev pub dual_worth : List Row → List ℕ → ℤ
 dual_worth rows duals = total_below (λ k. pos (slice_index duals k * (row_in rows k).bound)) (length rows)
 
--- a dual for each row
+-- There is a dual for each row. They sum to at least 1, over the common denominator, in column 0, and to at least 0 in each
+-- other column.
 pub record AreDualsOver (rows : List Row) (columns common : ℕ) (duals : List ℕ) : Type 0 where
   pub size : length duals ≡ length rows
   pub first : pos common ≤ℤ column_sum rows duals 0
   pub others : (j : ℕ) → 1 ≤ j → j < columns → pos 0 ≤ℤ column_sum rows duals j
 
--- what is held, over the common denominator
+-- the numerator of the bound over the common denominator
 abbrev pub held_over : Bound → ℕ
 held_over b = b.numerator * (b.common / b.denominator)
 
--- the bound is in lowest terms over a divisor of the common denominator, the amounts hold it, and the duals are worth it
+-- The bound is in lowest terms, and its denominator divides the common one. With the amounts each position holds at least the
+-- bound, and the duals have the bound as value.
 pub record IsCertifiedBound (rows : List Row) (columns : ℕ) (b : Bound) : Type 0 where
   pub lowest : IsLowest (record { num = pos b.numerator; den = b.denominator })
   pub some : 1 ≤ b.common
@@ -55,7 +58,7 @@ pub record IsCertifiedBound (rows : List Row) (columns : ℕ) (b : Bound) : Type
   pub duals : AreDualsOver rows columns b.common b.duals
   pub equal : dual_worth rows b.duals ≡ pos (held_over b)
 
--- no amounts over any common denominator hold more than p over q
+-- no amounts that meet the rows hold more than p / q, whatever their common denominator
 abbrev pub HoldAtMost : List Row → ℕ → ℕ → ℕ → Type 0
 HoldAtMost rows columns p q =
     (common : ℕ) (held : ℤ) (amounts : List ℕ) → 1 ≤ common → MeetRows rows columns common held amounts → (held *ℤ pos q) ≤ℤ pos (p * common)

@@ -1,4 +1,4 @@
--- The result of a discharge: the end of the run of its program, over the least common denominator.
+-- The result of a discharge: that of its program's run, over the least common denominator.
 use Rattle.std.specs.Prelude.{ℕ, ◌⊎◌, pos, List, ◌++◌, map, length}
 use Rattle.dd_lattice.specs.Place.{Place}
 use Rattle.dd_fraction.specs.Exact.{Exact, whole_of}
@@ -11,13 +11,15 @@ use Rattle.dd_discharge.specs.Denominators.{HasUnprinted, IsPrintedAs}
 use Rattle.dd_simplex.specs.Programs as simplex
 use Rattle.dd_discharge.specs.declared.fault.DischargeFault.TheVariants as fault
 
+-- a row with fractions in place of whole numbers
 abbrev pub row_of_fractions : Row → simplex.ProgramRow
 row_of_fractions r = record { coefficients = map whole_of r.coefficients; bound = whole_of (pos r.bound) }
 
+-- the linear program of the rows
 abbrev pub in_fractions : ℕ → List Row → LinearProgram
 in_fractions columns rows = record { columns = columns; rows = map row_of_fractions rows }
 
--- the run ends, and its end gives the bound
+-- the run ends, and b is its result, over the least common denominator
 pub record EndsWith (p : LinearProgram) (pivots : ℕ) (b : Bound) : Type 0 where
   pub value : Exact
   pub columns : List Exact
@@ -25,7 +27,7 @@ pub record EndsWith (p : LinearProgram) (pivots : ℕ) (b : Bound) : Type 0 wher
   pub ends : RunEnds p pivots value columns duals
   pub printed : IsPrintedAs value columns duals b
 
--- the run ends with a number that can't be printed
+-- the run ends, but a number of its result can't be printed
 pub record EndsUnprinted (p : LinearProgram) (pivots : ℕ) : Type 0 where
   pub value : Exact
   pub columns : List Exact
@@ -40,26 +42,29 @@ GivesNone p pivots fault.Overflow = RunOverflows p pivots ⊎ EndsUnprinted p pi
 GivesNone p pivots fault.Pivots = RunPivots p pivots
 GivesNone p pivots fault.Memory = Unit {0}
 
--- the linear program of the rows
+-- the linear program of a rule's program along this number of vectors
 abbrev pub linear_program : ℕ → Rows → LinearProgram
 linear_program vectors p = in_fractions (column_count vectors (length p.patterns)) p.rows
 
+-- the rule has a program along the vectors, and its run ends with the bound b
 pub record IsBoundOf (x : LocalRule) (ws : List ℕ) (radius margin : ℕ) (vs : List Place) (pivots : ℕ) (b : Bound) : Type 0 where
   pub program : Rows
   pub is_program : IsProgramOf x ws radius margin vs program
   pub ends : EndsWith (linear_program (length vs) program) pivots b
 
--- a number of the run passes 127 bits, or one of its end is too large to be printed
+-- a number of the run is greater than 2^127 - 1 in absolute value, or a number of its result can't be printed
 pub record Overflows (x : LocalRule) (ws : List ℕ) (radius margin : ℕ) (vs : List Place) (pivots : ℕ) : Type 0 where
   pub program : Rows
   pub is_program : IsProgramOf x ws radius margin vs program
   pub over : RunOverflows (linear_program (length vs) program) pivots ⊎ EndsUnprinted (linear_program (length vs) program) pivots
 
+-- the run reaches its limit of pivots
 pub record StopsAtPivots (x : LocalRule) (ws : List ℕ) (radius margin : ℕ) (vs : List Place) (pivots : ℕ) : Type 0 where
   pub program : Rows
   pub is_program : IsProgramOf x ws radius margin vs program
   pub stops : RunPivots (linear_program (length vs) program) pivots
 
+-- what each fault says of the rule
 abbrev pub IsDischargeFault : LocalRule → List ℕ → ℕ → ℕ → List Place → ℕ → DischargeFault → Type 0
 IsDischargeFault x ws radius margin vs pivots fault.Large = IsLargeProgram x ws radius margin vs
 IsDischargeFault x ws radius margin vs pivots fault.Overflow = Overflows x ws radius margin vs pivots

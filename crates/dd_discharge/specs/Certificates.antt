@@ -1,17 +1,17 @@
--- What certifies a bound of a rule along some vectors, and what a certified bound shows: no amounts hold more.
+-- What certifies a bound of a rule along some vectors, and that no bound is better.
 use Rattle.std.specs.Prelude.{ℕ, List, length}
 use Rattle.dd_lattice.specs.Place.{Place}
 use Rattle.dd_formula.specs.LocalRule.{LocalRule}
 use Rattle.dd_rows.specs.{declared.rows.Rows.Rows, Programs.IsProgramOf, Programs.column_count}
 use Rattle.dd_discharge.specs.{declared.bound.Bound.Bound, Amounts.IsCertifiedBound, Amounts.HoldAtMost}
 
--- the program is within its limits, and the bound is certified for its rows
+-- the rule has a program along the vectors, and the bound is certified for its rows
 pub record IsBoundCertificate (x : LocalRule) (ws : List ℕ) (radius margin : ℕ) (vs : List Place) (b : Bound) : Type 0 where
   pub program : Rows
   pub is_program : IsProgramOf x ws radius margin vs program
   pub certified : IsCertifiedBound program.rows (column_count (length vs) (length program.patterns)) b
 
--- no amounts that meet the rows hold more than p over q
+-- no amounts that meet the rows of the rule's program hold more than p / q
 pub record BestOf (x : LocalRule) (ws : List ℕ) (radius margin : ℕ) (vs : List Place) (p q : ℕ) : Type 0 where
   pub program : Rows
   pub is_program : IsProgramOf x ws radius margin vs program

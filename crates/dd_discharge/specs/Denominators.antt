@@ -1,18 +1,20 @@
--- Fractions of at least 0 over their least common denominator, as a bound is printed.
+-- Fractions of at least 0 over their least common denominator, as in a bound. A number can be printed if it is at most
+-- `most_number`.
 use Rattle.std.specs.Prelude.{ℕ, ◌*◌, ◌/◌, ◌<◌, ◌≤◌, ◌≡◌, ◌⊎◌, pos, List, ◌++◌, map, drop, unsigned_abs, Option, Some, None, cond, nat_le}
 use Rattle.std.specs.List.{fold, All, Any}
 use Rattle.dd_values.specs.Bounds.{most_number}
 use Rattle.dd_fraction.specs.{Divisor.greatest_common, Exact.Exact, Exact.den_of}
 use Rattle.dd_discharge.specs.declared.bound.Bound.{Bound}
 
+-- the least common multiple
 abbrev pub least_common : ℕ → ℕ → ℕ
 least_common a b = a / greatest_common a b * b
 
--- the least common multiple with the denominator of one more fraction
+-- the least common multiple of n and the denominator of one more fraction
 abbrev pub joined_denominator : ℕ → Exact → ℕ
 joined_denominator n a = least_common n (den_of a)
 
--- the least common denominator
+-- the least common denominator of the fractions
 abbrev pub common_denominator : List Exact → ℕ
 common_denominator xs = fold joined_denominator 1 xs
 
@@ -29,10 +31,11 @@ pub record ArePrinted (xs : List Exact) : Type 0 where
   pub denominator : common_denominator xs ≤ most_number
   pub numerators : All (λ a. numerator_over (common_denominator xs) a ≤ most_number) xs
 
+-- the denominator or some numerator can't be printed
 abbrev pub HasUnprinted : List Exact → Type 0
 HasUnprinted xs = (most_number < common_denominator xs) ⊎ Any (λ a. most_number < numerator_over (common_denominator xs) a) xs
 
--- the value, the columns after the first as amounts, and the duals
+-- b has the value, the columns after the first as amounts, and the duals
 pub record IsPrintedAs (value : Exact) (columns duals : List Exact) (b : Bound) : Type 0 where
   pub printed : ArePrinted (columns ++ duals)
   pub numerator_is : pos b.numerator ≡ value.num

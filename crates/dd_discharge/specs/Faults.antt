@@ -1,4 +1,4 @@
--- Why there is no bound of a rule.
+-- What a fault says.
 use Rattle.dd_rows.specs.declared.fault.RowsFault.{RowsFault}
 use Rattle.dd_rows.specs.declared.fault.RowsFault.TheVariants as rows
 use Rattle.dd_discharge.specs.declared.fault.DischargeFault.{DischargeFault}
@@ -6,7 +6,7 @@ use Rattle.dd_discharge.specs.declared.fault.DischargeFault.TheVariants as fault
 use Rattle.dd_simplex.specs.declared.fault.SimplexFault.{SimplexFault}
 use Rattle.dd_simplex.specs.declared.fault.SimplexFault.TheVariants as simplex
 
--- if the fault is an overflow, the reason holds
+-- the fault is `Overflow`, and this reason for it holds; or memory ran out
 abbrev pub OnOverflow : DischargeFault → Type 0 → Type 0
 OnOverflow fault.Large reason = ⊥
 OnOverflow fault.Overflow reason = reason

@@ -2,15 +2,15 @@
 pub mod Denominators
 -- bounds whose numbers can all be printed
 pub mod Printed
--- the result of a discharge: the end of the run of its program, over the least common denominator
+-- the result of a discharge: that of its program's run, over the least common denominator
 pub mod Bounds
--- that a discharge has one outcome: its bound, or one reason why it has none
+-- the law that a discharge has one outcome: one bound, or one reason why there is none
 pub mod Outcomes
--- what certifies a bound, and that none is better
+-- what certifies a bound over the rows of a program
 pub mod Amounts
--- what certifies a bound of a rule along some vectors, and what it shows
+-- what certifies a bound of a rule along some vectors, and that no bound is better
 pub mod Certificates
--- why a rule has no bound
+-- what a fault says
 pub mod Faults
 -- the shape of a program's rows
 pub mod listing

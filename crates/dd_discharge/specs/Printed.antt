@@ -3,7 +3,7 @@ use Rattle.std.specs.{Prelude.ℕ, Prelude.◌≤◌, Prelude.List, Prelude.leng
 use Rattle.dd_values.specs.Bounds.{most_number}
 use Rattle.dd_discharge.specs.declared.bound.Bound.{Bound}
 
--- each number can be printed, the denominators are at least 1, and there is a dual
+-- each number can be printed, the two denominators are at least 1, and there is at least one dual
 pub record IsSmallBound (b : Bound) : Type 0 where
   pub numerator : b.numerator ≤ most_number
   pub denominator : (1 ≤ b.denominator) × (b.denominator ≤ most_number)

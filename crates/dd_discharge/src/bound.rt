@@ -1,4 +1,4 @@
-//! The bound of a rule along some vectors.
+//! Bounds of a rule along some vectors.
 use dd_values::Items;
 
 /// A bound in lowest terms, with the amounts and the duals over a common denominator.

@@ -1,5 +1,6 @@
-//! The check of a claimed bound: sums of whole numbers, with no fraction and no copy. With coefficients from -1 to 1
-//! and at most 2,048 rows and 256 columns, no sum passes 2^92.
+//! The check of a claimed bound by sums of whole numbers over the common denominator. With coefficients from -1 to 1, and at
+//! most 2,048 rows and 256 columns, no sum passes 2^92. `held` is what each position holds at least: the numerator of the
+//! bound over the common denominator.
 ghost use Rattle.std.specs.Prelude.{◌≡◌, ℕ, ◌+◌, ◌*◌, ◌<◌, ◌≤◌, ◌^◌, pos, ◌-ℤ◌, ◌*ℤ◌, ◌≤ℤ◌, length, slice_index_or, unsigned_abs, true, false};
 ghost use Rattle.std.specs.List.{All};
 ghost use Rattle.dd_values.specs.Bounds.{most_number};
@@ -11,7 +12,7 @@ use crate::claimed::ClaimedBound;
 use dd_fraction::Fraction;
 use dd_rows::Row;
 
-/// The number times a coefficient.
+/// A number times a coefficient.
 fn term(coefficient: i64, number: u128) -> i128
     requires unit { unsigned_abs coefficient ≤ 1 }
     requires small { number ≤ 2 ^ 80 }
@@ -36,7 +37,7 @@ fn value_of(held: u128, amounts: &[u64], column: usize) -> u128
     }
 }
 
-/// The left side of a row.
+/// The left side of a row: the sum of coefficient times the value of the column.
 fn left_side(coefficients: &[i64], held: u128, amounts: &[u64]) -> i128
     requires held { held ≤ 2 ^ 80 }
     requires size { length coefficients.now ≡ 1 + length amounts.now }
@@ -65,7 +66,7 @@ fn sum_in_column(rows: &[Row], columns: usize, duals: &[u64], column: usize) -> 
     sum
 }
 
-/// The sum of dual times right side.
+/// What the duals are worth: the sum of dual times right side.
 fn worth(rows: &[Row], columns: usize, duals: &[u64]) -> u128
     requires rows { AreRowsOf columns rows.now }
     requires duals { length duals.now ≡ length rows.now }
@@ -96,7 +97,7 @@ fn meets_rows(rows: &[Row], columns: usize, common: u64, held: u128, amounts: &[
     true
 }
 
-/// Whether the duals sum to enough in each column.
+/// Whether the duals sum to at least 1, over the common denominator, in column 0, and to at least 0 in each other column.
 fn are_duals(rows: &[Row], columns: usize, common: u64, duals: &[u64]) -> bool
     requires rows { AreRowsOf columns rows.now }
     requires size { length duals.now ≡ length rows.now }
@@ -114,7 +115,7 @@ fn are_duals(rows: &[Row], columns: usize, common: u64, duals: &[u64]) -> bool
     true
 }
 
-/// Whether the fraction is in lowest terms: then it is its own reduction.
+/// Whether the fraction is in lowest terms. Then reducing it does not change its denominator.
 fn is_in_lowest_terms(numerator: u64, denominator: u64) -> bool
     ensures yes { result ≡ true → IsLowest (record { num = pos numerator; den = denominator }) }
     ensures no { result ≡ false → IsLowest (record { num = pos numerator; den = denominator }) → ⊥ }

@@ -12,9 +12,12 @@ use dd_lattice::Position;
 use dd_rows::{RowsFault, program_of};
 use std::alloc::{AllocError, Global};
 
-/// Whether the bound is certified for the rule along the vectors. That is: its program is within its limits, the
-/// bound is in lowest terms over a divisor of the common denominator, the amounts hold it, and the duals are worth
-/// it, so no amounts hold more.
+/// Whether the bound is certified for the rule along the vectors. Then the rule's program is within its limits. The bound is
+/// in lowest terms, and its denominator divides the common one. With the amounts each position holds at least the bound. The
+/// duals have the bound as value, so no amounts do better.
+///
+/// # Errors
+/// `AllocError` if memory ran out.
 pub fn check_bound(
     alloc: Global,
     rule: &Rule,
@@ -35,7 +38,7 @@ pub fn check_bound(
     ensures no { IfOk result (λ accepted. accepted ≡ false → IsBoundCertificate rule.now weights.now radius margin vectors.now
         (bound_claimed claimed.now.numerator claimed.now.denominator claimed.now.common claimed.now.amounts.now claimed.now.duals.now) → ⊥) }
 {
-    // This read brings in what the type guarantees.
+    // This call tells the proof what the type `Rule` guarantees.
     let _nodes = rule.nodes();
     let program = match program_of(alloc, rule, weights, radius, margin, vectors) {
         Ok(program) => program,

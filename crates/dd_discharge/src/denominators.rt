@@ -1,4 +1,4 @@
-//! Fractions over their least common denominator, as a bound gives them.
+//! Fractions over their least common denominator, as in a bound. A number can be printed if it is at most 2^40.
 ghost use Rattle.std.specs.Prelude.{◌≡◌, ◌<◌, ◌≤◌, ◌++◌, length, map, IfOk, OnOk, IfErr};
 ghost use Rattle.std.specs.List.{fold, All, Any};
 ghost use Rattle.dd_values.specs.Bounds.{most_number};
@@ -26,7 +26,7 @@ fn printed(number: u128) -> Option<u64>
     }
 }
 
-/// The least common multiple of a denominator and that of the fraction, if it can be printed.
+/// The least common multiple of `common` and the denominator of the fraction, if it can be printed.
 fn joined(common: u64, fraction: &Fraction) -> Option<u64>
     requires { 0 < common }
     ensures { result ≡ printed (joined_denominator common fraction.now) }
@@ -40,7 +40,7 @@ fn joined(common: u64, fraction: &Fraction) -> Option<u64>
     printed(multiple)
 }
 
-/// The least common multiple of a denominator and those of the fractions, if it can be printed.
+/// The least common multiple of `common` and the denominators of the fractions, if it can be printed.
 fn joined_all(common: u64, fractions: &[Fraction]) -> Option<u64>
     requires above { 0 < common }
     requires below { common ≤ most_number }
@@ -61,7 +61,7 @@ fn common_denominator(columns: &[Fraction], duals: &[Fraction]) -> Option<u64>
     joined_all(common, duals)
 }
 
-/// The numerator over the denominator, if it can be printed.
+/// The numerator of the fraction over the denominator `common`, if it can be printed.
 fn numerator_over(common: u64, fraction: &Fraction) -> Option<u64>
     ensures { result ≡ printed (numerator_over common fraction.now) }
 {
@@ -70,7 +70,7 @@ fn numerator_over(common: u64, fraction: &Fraction) -> Option<u64>
     printed(numerator)
 }
 
-/// The numerators over the denominator.
+/// The numerators of the fractions over the denominator `common`.
 fn numerators(
     alloc: Global,
     common: u64,
@@ -90,7 +90,7 @@ fn numerators(
     Ok(numbers)
 }
 
-/// The result of a run, over the least common denominator of its columns and its duals.
+/// The result of a run as a bound, over the least common denominator of its columns and its duals.
 pub(crate) fn bound_of(
     alloc: Global,
     value: &Fraction,
@@ -108,6 +108,7 @@ pub(crate) fn bound_of(
     let Some(common) = common_denominator(columns, duals) else {
         return Err(DischargeFault::Overflow);
     };
+    // The first column is the value. Its numerator is not listed, but must not be too large.
     let Some(_held) = numerator_over(common, value) else {
         return Err(DischargeFault::Overflow);
     };

@@ -14,14 +14,16 @@ use dd_lattice::Position;
 use dd_rows::program_of;
 use std::alloc::Global;
 
-/// The most that each position can hold at least, after each has sent along each vector an amount that its pattern
-/// determines. It is the value of the rule's program, with the amounts, and with the duals that show that no amounts
-/// hold more. The run is the pivot run of `dd_simplex` with at most `pivots` pivots.
+/// The best bound. Each position gives along each vector an amount that its pattern determines. The bound is the greatest
+/// number that every position can then be made to hold at least. With it come such amounts, and duals that show that no
+/// amounts do better. `dd_simplex` finds them: it maximises the rule's program in at most `pivots` pivots.
 ///
 /// # Errors
-/// `Large` if the program passes a limit on its size; else `Overflow` if a number of the run passes 2^127 - 1, or one
-/// of its end, over the least common denominator, passes 2^40; else `Pivots` if the run is not at its end after that
-/// many pivots; or `Memory`.
+/// - `Large` if the program passes a limit on its size.
+/// - `Overflow` if a number of the run is greater than 2^127 - 1 in absolute value, or a number of its result, over the least
+///   common denominator, is greater than 2^40.
+/// - `Pivots` if the run has not ended after that many pivots.
+/// - `Memory` if memory ran out.
 pub fn discharge(
     alloc: Global,
     rule: &Rule,
@@ -40,7 +42,7 @@ pub fn discharge(
     ensures small { IfOk result IsSmallBound }
     ensures err { IfErr result (IsDischargeFault rule.now weights.now radius margin vectors.now pivots) }
 {
-    // This read brings in what the type guarantees.
+    // This call tells the proof what the type `Rule` guarantees.
     let _nodes = rule.nodes();
     let program = program_of(alloc, rule, weights, radius, margin, vectors)?;
     let columns = 1 + vectors.len() * program.patterns.len();

@@ -1,4 +1,4 @@
-//! Why a rule has no bound along some vectors.
+//! Why there is no bound of a rule along some vectors.
 ghost use Rattle.std.specs.Prelude.{◌≡◌};
 
 use dd_rows::RowsFault;
@@ -6,13 +6,13 @@ use dd_simplex::SimplexFault;
 use std::alloc::AllocError;
 use thiserror::Error;
 
-/// Why a rule has no bound.
+/// Why a discharge gave no bound.
 #[derive(Clone, Copy, Debug, PartialEq, Eq, Error)]
 pub enum DischargeFault {
     /// The program passes a limit on its size.
     #[error("the program of the discharge is too large")]
     Large,
-    /// A number of the run passes 2^127 - 1 in absolute value, or one of its end passes 2^40.
+    /// A number of the run is greater than 2^127 - 1 in absolute value, or a number of its result is greater than 2^40.
     #[error("a number of the discharge is too large")]
     Overflow,
     /// The run needs more pivots than its limit.

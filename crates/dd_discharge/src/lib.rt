@@ -1,4 +1,4 @@
-//! Bounds by discharging: the best bound of a rule's program along some vectors, what certifies it, and the check of a claimed one.
+//! Bounds by discharging: the best bound of a rule along some vectors, what certifies it, and the check of a claimed bound.
 #![tactic(auto, using(std::proofs::lemmas::Grind::common_steps))]
 
 mod best;

@@ -9,7 +9,7 @@ use Rattle.std.specs.{List.slice_get, List.All, Option.option_map_or}
 use Rattle.dd_clause.specs.declared.clause.Literal.{Literal}
 use Rattle.dd_derivation.specs.{Derivations.same_literal, lemmas.Soundness.same_literal-eq}
 use Rattle.dd_engines.specs.declared.chains.{Link.Link, Chains.Chains}
-use Rattle.dd_engines.specs.walking.Truths.{times_in, place_of, standing}
+use Rattle.dd_engines.specs.walking.Truths.{times_in, place_of, occurrences}
 use Rattle.dd_engines.specs.walking.Chains.{along, chain_of, AreLinked, HasChain, numbers_of, AreChained}
 
 get_front : (xs : List Link) (e : Link) (k : ℕ) → k < length xs → slice_get (xs ++ e ∷ []) k ≡ slice_get xs k
@@ -131,4 +131,4 @@ pub chained_more : (old new : Chains) (clauses : List (List Literal)) (i : ℕ) 
     → AreChained old (i + 1) (drop (i + 1) clauses) → ((l : Literal) → HasChain old l → numbers_of new l ≡ replicate (times_in l clause) i ++ numbers_of old l) → AreChained new i (drop i clauses)
 chained_more old new clauses i clause lt is long chained added l has =
     let had : HasChain old l = (has.0, omega (arith, has.1, long)) in
-    added l had ∙ ap (λ (ks : List ℕ). replicate (times_in l clause) i ++ ks) (chained l had) ∙ ap (standing l i) (ap (λ (c : List Literal). c ∷ drop (i + 1) clauses) is ∙ sym (drop_more clauses i clause lt))
+    added l had ∙ ap (λ (ks : List ℕ). replicate (times_in l clause) i ++ ks) (chained l had) ∙ ap (occurrences l i) (ap (λ (c : List Literal). c ∷ drop (i + 1) clauses) is ∙ sym (drop_more clauses i clause lt))

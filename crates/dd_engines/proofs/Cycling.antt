@@ -6,7 +6,7 @@ use Rattle.std.proofs.lemmas.Bool.{cases_lt}
 use Rattle.std.specs.{Bool.beq, Option.IfSome, Option.IsSomeAnd, Option.option_and_then}
 use Rattle.dd_clause.specs.{declared.clause.Literal.Literal, Clauses.ClauseList}
 use Rattle.dd_engines.specs.{declared.cycle.Landmark.Landmark, Walks.values_after, Walks.first_unsatisfied, Walks.flipped, Walks.NoneBefore}
-use Rattle.dd_engines.specs.walking.Cycles.{differences, IsTurn, IsTurnWith, IsCounted, IsBack, IsSameOrNew}
+use Rattle.dd_engines.specs.walking.Cycles.{differences, IsPeriod, IsPeriodWith, IsCounted, IsBack, IsSameOrNew}
 use Rattle.dd_engines.proofs.Repeating.{flip_alike}
 
 pub differences_self : (xs : List Bool) → differences xs xs ≡ 0
@@ -51,20 +51,20 @@ changed_other (false ∷ xs) (true ∷ ys) zero long lt other = omega arith
 changed_other (false ∷ xs) (false ∷ ys) zero long lt other = absurd (cc other)
 changed_other (x ∷ xs) (y ∷ ys) (suc i) long lt other = omega (arith, changed_other xs ys i (omega (arith, long)) (omega (arith, lt)) other)
 
--- a multiple of a turn is a turn
-turn_more : (cnf : ClauseList) (from to turn next : ℕ) → 0 < next → next % turn ≡ 0 → IsTurn cnf from to turn → IsTurn cnf from to next
-turn_more cnf from to turn next some multiple is = (
+-- a multiple of a period is a period
+period_more : (cnf : ClauseList) (from to period next : ℕ) → 0 < next → next % period ≡ 0 → IsPeriod cnf from to period → IsPeriod cnf from to next
+period_more cnf from to period next some multiple is = (
   some,
-  λ i values clause after before at takes has. mod-eq-zero_of_dvd (length clause) (dvd_trans (length clause) (dvd_of_mod-eq-zero (length clause) (is.1 i values clause after before at takes has)) (dvd_of_mod-eq-zero turn multiple)),
+  λ i values clause after before at takes has. mod-eq-zero_of_dvd (length clause) (dvd_trans (length clause) (dvd_of_mod-eq-zero (length clause) (is.1 i values clause after before at takes has)) (dvd_of_mod-eq-zero period multiple)),
 )
 
-turn_on : (cnf : ClauseList) (from to next : ℕ) (turn : Option ℕ) → IfSome turn (IsTurn cnf from to) → IsSomeAnd turn (λ t. next % t ≡ 0) → 0 < next → IsTurn cnf from to next
-turn_on cnf from to next None turns multiple some = absurd multiple
-turn_on cnf from to next (Some turn) turns multiple some = turn_more cnf from to turn next some multiple turns
+period_on : (cnf : ClauseList) (from to next : ℕ) (period : Option ℕ) → IfSome period (IsPeriod cnf from to) → IsSomeAnd period (λ t. next % t ≡ 0) → 0 < next → IsPeriod cnf from to next
+period_on cnf from to next None periods multiple some = absurd multiple
+period_on cnf from to next (Some period) periods multiple some = period_more cnf from to period next some multiple periods
 
--- where no flip was made, each number is a turn
-pub turn_none : (cnf : ClauseList) (from to next : ℕ) → 0 < next → from ≡ to → IsTurn cnf from to next
-turn_none cnf from to next some same = (some, λ i values clause after before at takes has. absurd (omega (arith, same, after, before)))
+-- where no flip was made, each number is a period
+pub period_none : (cnf : ClauseList) (from to next : ℕ) → 0 < next → from ≡ to → IsPeriod cnf from to next
+period_none cnf from to next some same = (some, λ i values clause after before at takes has. absurd (omega (arith, same, after, before)))
 
 same_values : (v w : List Bool) → Some v ≡ Some w → v ≡ w
 same_values v w e = cc
@@ -78,31 +78,31 @@ takes_same cnf k i values other clause taken same reached first at takes =
     let equal : other ≡ values = same_values other values (sym at ∙ ap (values_after cnf) same ∙ reached) in
     same_clause clause taken (sym first ∙ ap (λ (v : List Bool). first_unsatisfied v cnf.clauses) (sym equal) ∙ takes)
 
--- a turn that is a multiple of the length of the next clause is one after the next flip too
-turn_next : (cnf : ClauseList) (from k turn : ℕ) (values : List Bool) (clause : List Literal) → values_after cnf k ≡ Some values → first_unsatisfied values cnf.clauses ≡ Some clause → (0 < length clause → turn % length clause ≡ 0)
-    → IsTurn cnf from k turn → IsTurn cnf from (k + 1) turn
-turn_next cnf from k turn values clause reached first here is = (
+-- a period that is a multiple of the length of the next clause is one after the next flip too
+period_next : (cnf : ClauseList) (from k period : ℕ) (values : List Bool) (clause : List Literal) → values_after cnf k ≡ Some values → first_unsatisfied values cnf.clauses ≡ Some clause → (0 < length clause → period % length clause ≡ 0)
+    → IsPeriod cnf from k period → IsPeriod cnf from (k + 1) period
+period_next cnf from k period values clause reached first here is = (
   is.0,
   λ i other taken after before at takes has. elim (cases_lt i k) [
     | inl earlier ↦ is.1 i other taken after earlier at takes has
     | inr past ↦
         let same : i ≡ k = omega (arith, before, past) in
-        subst (λ (c : List Literal). 0 < length c → turn % length c ≡ 0) (takes_same cnf k i values other clause taken same reached first at takes) here has
+        subst (λ (c : List Literal). 0 < length c → period % length c ≡ 0) (takes_same cnf k i values other clause taken same reached first at takes) here has
   ],
 )
 
-turn_before : (cnf : ClauseList) (old new : Landmark) (kept : List Bool) (k next : ℕ) (turn : Option ℕ) → IfSome turn (IsTurn cnf old.flips k) → IsSameOrNew old new kept k → 0 < next
-    → (new.flips ≡ k) ⊎ IsSomeAnd turn (λ t. next % t ≡ 0) → IsTurn cnf new.flips k next
-turn_before cnf old new kept k next turn turns same some (inl at) = turn_none cnf new.flips k next some at
-turn_before cnf old new kept k next turn turns (inr now) some (inr multiple) = turn_none cnf new.flips k next some now.1
-turn_before cnf old new kept k next turn turns (inl same) some (inr multiple) = subst (λ (f : ℕ). IsTurn cnf f k next) (sym same.1) (turn_on cnf old.flips k next turn turns multiple some)
+period_before : (cnf : ClauseList) (old new : Landmark) (kept : List Bool) (k next : ℕ) (period : Option ℕ) → IfSome period (IsPeriod cnf old.flips k) → IsSameOrNew old new kept k → 0 < next
+    → (new.flips ≡ k) ⊎ IsSomeAnd period (λ t. next % t ≡ 0) → IsPeriod cnf new.flips k next
+period_before cnf old new kept k next period periods same some (inl at) = period_none cnf new.flips k next some at
+period_before cnf old new kept k next period periods (inr now) some (inr multiple) = period_none cnf new.flips k next some now.1
+period_before cnf old new kept k next period periods (inl same) some (inr multiple) = subst (λ (f : ℕ). IsPeriod cnf f k next) (sym same.1) (period_on cnf old.flips k next period periods multiple some)
 
--- the next turn is one of all flips since the landmark
-pub turn_kept : (cnf : ClauseList) (old new : Landmark) (kept : List Bool) (k : ℕ) (turn next : Option ℕ) (values : List Bool) (clause : List Literal) → IfSome turn (IsTurn cnf old.flips k) → IsSameOrNew old new kept k
-    → IfSome next (IsTurnWith new.flips k turn (length clause)) → values_after cnf k ≡ Some values → first_unsatisfied values cnf.clauses ≡ Some clause → IfSome next (IsTurn cnf new.flips (k + 1))
-turn_kept cnf old new kept k turn None values clause turns same with_length reached first = tt
-turn_kept cnf old new kept k turn (Some next) values clause turns same with_length reached first =
-    turn_next cnf new.flips k next values clause reached first with_length.1 (turn_before cnf old new kept k next turn turns same with_length.0 with_length.2)
+-- the next period is one of all flips since the landmark
+pub period_kept : (cnf : ClauseList) (old new : Landmark) (kept : List Bool) (k : ℕ) (period next : Option ℕ) (values : List Bool) (clause : List Literal) → IfSome period (IsPeriod cnf old.flips k) → IsSameOrNew old new kept k
+    → IfSome next (IsPeriodWith new.flips k period (length clause)) → values_after cnf k ≡ Some values → first_unsatisfied values cnf.clauses ≡ Some clause → IfSome next (IsPeriod cnf new.flips (k + 1))
+period_kept cnf old new kept k period None values clause periods same with_length reached first = tt
+period_kept cnf old new kept k period (Some next) values clause periods same with_length reached first =
+    period_next cnf new.flips k next values clause reached first with_length.1 (period_before cnf old new kept k next period periods same with_length.0 with_length.2)
 
 alike : (n j k : ℕ) → j < k → (k - j) % n ≡ 0 → j % n ≡ k % n
 alike n j k less none =
@@ -111,12 +111,12 @@ alike n j k less none =
     ap (λ (m : ℕ). m % n) (sym here) ∙ ap (λ (r : ℕ). (r + j) % n) (sym none) ∙ mod-add-mod (k - j) n j ∙ ap (λ (m : ℕ). m % n) at
 
 -- The values after some number of flips came before, after a number between two others, and the flips that follow pick alike.
-record IsAsBefore (cnf : ClauseList) (j k turn m : ℕ) : Type 0 where
+record IsAsBefore (cnf : ClauseList) (j k period m : ℕ) : Type 0 where
   at : ℕ
   after : j ≤ at
   before : at < k
   less : at < m
-  multiple : (m - at) % turn ≡ 0
+  multiple : (m - at) % period ≡ 0
   same : values_after cnf at ≡ values_after cnf m
 
 step_here : (j k : ℕ) (values : List Bool) (o : Option (List Literal)) → ((c : List Literal) → o ≡ Some c → 0 < length c → j % length c ≡ k % length c) → option_and_then (flipped j values) o ≡ option_and_then (flipped k values) o
@@ -139,14 +139,14 @@ both a b n one two =
     let here : 0 + b ≡ b = omega arith in
     sym (mod-add-mod a n b) ∙ ap (λ (r : ℕ). (r + b) % n) one ∙ ap (λ (m : ℕ). m % n) here ∙ two
 
-next_as : (cnf : ClauseList) (j k turn m : ℕ) → j < k → (k - j) % turn ≡ 0 → IsTurn cnf j k turn → values_after cnf j ≡ values_after cnf k → IsAsBefore cnf j k turn m → IsAsBefore cnf j k turn (suc m)
-next_as cnf j k turn m less multiple is back b =
+next_as : (cnf : ClauseList) (j k period m : ℕ) → j < k → (k - j) % period ≡ 0 → IsPeriod cnf j k period → values_after cnf j ≡ values_after cnf k → IsAsBefore cnf j k period m → IsAsBefore cnf j k period (suc m)
+next_as cnf j k period m less multiple is back b =
     let next : values_after cnf (suc b.at) ≡ values_after cnf (suc m) =
-    next_here cnf b.at m b.same (λ values c reached takes has. alike (length c) b.at m b.less (mod-eq-zero_of_dvd (length c) (dvd_trans (length c) (dvd_of_mod-eq-zero (length c) (is.1 b.at values c b.after b.before reached takes has)) (dvd_of_mod-eq-zero turn b.multiple)))) in
+    next_here cnf b.at m b.same (λ values c reached takes has. alike (length c) b.at m b.less (mod-eq-zero_of_dvd (length c) (dvd_trans (length c) (dvd_of_mod-eq-zero (length c) (is.1 b.at values c b.after b.before reached takes has)) (dvd_of_mod-eq-zero period b.multiple)))) in
     elim (cases_lt (suc b.at) k) [
       | inl within ↦
           let far : m - b.at ≡ suc m - suc b.at = omega arith in
-          record { at = suc b.at; after = omega (arith, b.after); before = within; less = omega (arith, b.less); multiple = subst (λ (n : ℕ). n % turn ≡ 0) far b.multiple; same = next }
+          record { at = suc b.at; after = omega (arith, b.after); before = within; less = omega (arith, b.less); multiple = subst (λ (n : ℕ). n % period ≡ 0) far b.multiple; same = next }
       | inr past ↦
           let end : suc b.at ≡ k = omega (arith, past, b.before) in
           let far : (m - b.at) + (k - j) ≡ suc m - j = omega (arith, end, b.less, less) in
@@ -155,26 +155,26 @@ next_as cnf j k turn m less multiple is back b =
             after = omega arith;
             before = less;
             less = omega (arith, b.less, b.after);
-            multiple = subst (λ (n : ℕ). n % turn ≡ 0) far (both (m - b.at) (k - j) turn b.multiple multiple);
+            multiple = subst (λ (n : ℕ). n % period ≡ 0) far (both (m - b.at) (k - j) period b.multiple multiple);
             same = back ∙ ap (values_after cnf) (sym end) ∙ next;
           }
     ]
 
-as_before : (cnf : ClauseList) (j k turn : ℕ) → j < k → (k - j) % turn ≡ 0 → IsTurn cnf j k turn → values_after cnf j ≡ values_after cnf k → (d : ℕ) → IsAsBefore cnf j k turn (d + k)
-as_before cnf j k turn less multiple is back zero =
+as_before : (cnf : ClauseList) (j k period : ℕ) → j < k → (k - j) % period ≡ 0 → IsPeriod cnf j k period → values_after cnf j ≡ values_after cnf k → (d : ℕ) → IsAsBefore cnf j k period (d + k)
+as_before cnf j k period less multiple is back zero =
     let here : k ≡ 0 + k = omega arith in
-    subst (λ (m : ℕ). IsAsBefore cnf j k turn m) here (record { at = j; after = omega arith; before = less; less = less; multiple = multiple; same = back })
-as_before cnf j k turn less multiple is back (suc d) =
+    subst (λ (m : ℕ). IsAsBefore cnf j k period m) here (record { at = j; after = omega arith; before = less; less = less; multiple = multiple; same = back })
+as_before cnf j k period less multiple is back (suc d) =
     let next : suc (d + k) ≡ suc d + k = omega arith in
-    subst (λ (m : ℕ). IsAsBefore cnf j k turn m) next (next_as cnf j k turn (d + k) less multiple is back (as_before cnf j k turn less multiple is back d))
+    subst (λ (m : ℕ). IsAsBefore cnf j k period m) next (next_as cnf j k period (d + k) less multiple is back (as_before cnf j k period less multiple is back d))
 
 -- All later values came before: each is reached after fewer flips.
-none_after : (cnf : ClauseList) (j k turn : ℕ) → j < k → (k - j) % turn ≡ 0 → IsTurn cnf j k turn → values_after cnf j ≡ values_after cnf k → NoneBefore cnf k → (n : ℕ) → NoneBefore cnf n
-none_after cnf j k turn less multiple is back none n m values lt reached satisfying = elim (cases_lt m k) [
+none_after : (cnf : ClauseList) (j k period : ℕ) → j < k → (k - j) % period ≡ 0 → IsPeriod cnf j k period → values_after cnf j ≡ values_after cnf k → NoneBefore cnf k → (n : ℕ) → NoneBefore cnf n
+none_after cnf j k period less multiple is back none n m values lt reached satisfying = elim (cases_lt m k) [
   | inl before ↦ none m values before reached satisfying
   | inr past ↦
       let at : (m - k) + k ≡ m = omega (arith, past) in
-      let b = as_before cnf j k turn less multiple is back (m - k) in
+      let b = as_before cnf j k period less multiple is back (m - k) in
       none b.at values b.before (b.same ∙ ap (values_after cnf) at ∙ reached) satisfying
 ]
 
@@ -184,9 +184,9 @@ kept_reached cnf old new values k (inl same) old_reached reached = ap (values_af
 kept_reached cnf old new values k (inr now) old_reached reached = ap (values_after cnf) now.1 ∙ reached ∙ ap (λ (v : List Bool). Some v) (sym now.0)
 
 -- A walk that is back in an earlier state goes round. If no values satisfied until then, none ever do.
-pub none_ever : (cnf : ClauseList) (landmark : Landmark) (values : List Bool) (turn : Option ℕ) (k : ℕ) → IfSome turn (IsTurn cnf landmark.flips k) → IsBack landmark turn k → IsCounted landmark values
+pub none_ever : (cnf : ClauseList) (landmark : Landmark) (values : List Bool) (period : Option ℕ) (k : ℕ) → IfSome period (IsPeriod cnf landmark.flips k) → IsBack landmark period k → IsCounted landmark values
     → values_after cnf landmark.flips ≡ Some landmark.values.items → values_after cnf k ≡ Some values → NoneBefore cnf k → (n : ℕ) → NoneBefore cnf n
-none_ever cnf landmark values None k turns back counted kept reached none = absurd back.turned
-none_ever cnf landmark values (Some turn) k turns back counted kept reached none =
+none_ever cnf landmark values None k periods back counted kept reached none = absurd back.is_multiple
+none_ever cnf landmark values (Some period) k periods back counted kept reached none =
     let same = no_difference landmark.values.items values counted.long (sym counted.counted ∙ back.same) in
-    none_after cnf landmark.flips k turn back.later back.turned turns (kept ∙ ap (λ (v : List Bool). Some v) same ∙ sym reached) none
+    none_after cnf landmark.flips k period back.later back.is_multiple periods (kept ∙ ap (λ (v : List Bool). Some v) same ∙ sym reached) none

@@ -11,7 +11,7 @@ use Rattle.dd_clause.specs.Clauses.{negation, IsLiteralInRange, IsClauseInRange,
 use Rattle.dd_values.specs.Variables.{true_variables}
 use Rattle.dd_derivation.specs.Derivations.{same_literal}
 use Rattle.dd_engines.specs.Walks.{made_true}
-use Rattle.dd_engines.specs.walking.Truths.{true_count, times_in, standing, more, less, changed}
+use Rattle.dd_engines.specs.walking.Truths.{true_count, times_in, occurrences, more, less, changed}
 
 times : (ℕ → ℕ) → ℕ → ℕ → ℕ
 times f zero x = x
@@ -35,14 +35,14 @@ changed_same f (suc h) pre x ys n e =
     let written : set (pre ++ x ∷ ys) n (f (get_or (pre ++ x ∷ ys) n 0)) ≡ pre ++ f x ∷ ys = ap (λ (y : ℕ). set (pre ++ x ∷ ys) n (f y)) (read_at pre x ys n e) ∙ set_at pre x ys (f x) n e in
     ap (changed f (replicate h n)) written ∙ changed_same f h pre (f x) ys n e
 
-changed_standing : (f : ℕ → ℕ) (g : List Literal → ℕ) (l : Literal) (cs : List (List Literal)) (pre : List ℕ) (n : ℕ) → length pre ≡ n
-    → changed f (standing l n cs) (pre ++ map g cs) ≡ pre ++ map (λ c. times f (times_in l c) (g c)) cs
-changed_standing f g l [] pre n e = refl
-changed_standing f g l (c ∷ cs) pre n e =
+changed_occurrences : (f : ℕ → ℕ) (g : List Literal → ℕ) (l : Literal) (cs : List (List Literal)) (pre : List ℕ) (n : ℕ) → length pre ≡ n
+    → changed f (occurrences l n cs) (pre ++ map g cs) ≡ pre ++ map (λ c. times f (times_in l c) (g c)) cs
+changed_occurrences f g l [] pre n e = refl
+changed_occurrences f g l (c ∷ cs) pre n e =
     let z = times f (times_in l c) (g c) in
-    changed-append f (replicate (times_in l c) n) (standing l (n + 1) cs) (pre ++ g c ∷ map g cs)
-    ∙ ap (changed f (standing l (n + 1) cs)) (changed_same f (times_in l c) pre (g c) (map g cs) n e ∙ sym (append_assoc pre (z ∷ []) (map g cs)))
-    ∙ changed_standing f g l cs (pre ++ z ∷ []) (n + 1) (omega (arith, length-append pre (z ∷ []), e))
+    changed-append f (replicate (times_in l c) n) (occurrences l (n + 1) cs) (pre ++ g c ∷ map g cs)
+    ∙ ap (changed f (occurrences l (n + 1) cs)) (changed_same f (times_in l c) pre (g c) (map g cs) n e ∙ sym (append_assoc pre (z ∷ []) (map g cs)))
+    ∙ changed_occurrences f g l cs (pre ++ z ∷ []) (n + 1) (omega (arith, length-append pre (z ∷ []), e))
     ∙ append_assoc pre (z ∷ []) (map (λ d. times f (times_in l d) (g d)) cs)
 
 times_more : (h x : ℕ) → x + h ≤ 2 ^ 64 - 1 → times more h x ≡ x + h
@@ -123,8 +123,8 @@ every_clause values l range is_false (c ∷ cs) fits =
     rw (here, rest) refl
 
 pub flipped_counts : (values : List Bool) (l : Literal) (cs : List (List Literal)) → IsLiteralInRange (length values) l → is_true_under (true_variables values) l ≡ false → Fits (length values) cs
-    → changed less (standing (negation l) 0 cs) (changed more (standing l 0 cs) (map (true_count values) cs)) ≡ map (true_count (made_true values l)) cs
+    → changed less (occurrences (negation l) 0 cs) (changed more (occurrences l 0 cs) (map (true_count values) cs)) ≡ map (true_count (made_true values l)) cs
 flipped_counts values l cs range is_false fits =
-    ap (changed less (standing (negation l) 0 cs)) (changed_standing more (true_count values) l cs [] 0 refl)
-    ∙ changed_standing less (λ c. times more (times_in l c) (true_count values c)) (negation l) cs [] 0 refl
+    ap (changed less (occurrences (negation l) 0 cs)) (changed_occurrences more (true_count values) l cs [] 0 refl)
+    ∙ changed_occurrences less (λ c. times more (times_in l c) (true_count values c)) (negation l) cs [] 0 refl
     ∙ every_clause values l range is_false cs fits

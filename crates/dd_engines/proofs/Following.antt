@@ -58,21 +58,21 @@ other_by true false b h = refl
 other_by false true b h = refl
 other_by false false b h = sym (h refl)
 
-told_at : (values : List (Option Bool)) (falses : List Literal) (l : Literal) → IsLiteralInRange (length values) l → is_false_by values l ≡ false → ((m : Literal) → is_false_by values m ≡ is_among falses m)
+agree_at : (values : List (Option Bool)) (falses : List Literal) (l : Literal) → IsLiteralInRange (length values) l → is_false_by values l ≡ false → ((m : Literal) → is_false_by values m ≡ is_among falses m)
     → (m : Literal) → m.variable ≡ l.variable → is_false_by (set values (l.variable - 1) (Some l.positive)) m ≡ is_among (negation l ∷ falses) m
-told_at values falses l range free told m e =
+agree_at values falses l range free agree m e =
     let new : List (Option Bool) = set values (l.variable - 1) (Some l.positive) in
     let low : 1 ≤ m.variable = omega (arith, e, range.0) in
     let high : m.variable ≤ length new = omega (arith, e, range.1, length-set values (l.variable - 1) (Some l.positive)) in
     let within : is_literal_in_range (length new) m ≡ true = in_range (length new) m low high in
     let read : get_or new (m.variable - 1) None ≡ Some l.positive = get_or-set_at values (l.variable - 1) (m.variable - 1) (Some l.positive) None (omega (arith, e)) (omega (arith, range.0, range.1)) in
     let same : eqb m.variable l.variable ≡ true = eq-eqb _ _ e in
-    let none : m.positive ≡ l.positive → is_among falses m ≡ false = λ s. sym (told m) ∙ ap (is_false_by values) (literal-eq m l e s) ∙ free in
+    let none : m.positive ≡ l.positive → is_among falses m ≡ false = λ s. sym (agree m) ∙ ap (is_false_by values) (literal-eq m l e s) ∙ free in
     rw (within, read, same) (other_by m.positive l.positive (is_among falses m) none)
 
-told_apart : (values : List (Option Bool)) (falses : List Literal) (l : Literal) → IsLiteralInRange (length values) l → ((m : Literal) → is_false_by values m ≡ is_among falses m)
+agree_apart : (values : List (Option Bool)) (falses : List Literal) (l : Literal) → IsLiteralInRange (length values) l → ((m : Literal) → is_false_by values m ≡ is_among falses m)
     → (m : Literal) → (m.variable ≡ l.variable → ⊥) → is_false_by (set values (l.variable - 1) (Some l.positive)) m ≡ is_among (negation l ∷ falses) m
-told_apart values falses l range told m ne =
+agree_apart values falses l range agree m ne =
     let other : eqb m.variable l.variable ≡ false = ne_eqb _ _ ne in
     let kept : is_false_by (set values (l.variable - 1) (Some l.positive)) m ≡ is_false_by values m =
     rw (length-set values (l.variable - 1) (Some l.positive)) (elim (cases_Bool (is_literal_in_range (length values) m)) [
@@ -80,13 +80,13 @@ told_apart values falses l range told m ne =
           (λ f. ne (omega (arith, f, range.0, leb-true 1 m.variable (and_parts _ _ t).0)))))
       | inr f ↦ rw f refl
     ]) in
-    kept ∙ told m ∙ rw other refl
+    kept ∙ agree m ∙ rw other refl
 
-told_more : (values : List (Option Bool)) (falses : List Literal) (l : Literal) → IsLiteralInRange (length values) l → is_false_by values l ≡ false → ((m : Literal) → is_false_by values m ≡ is_among falses m)
+agree_more : (values : List (Option Bool)) (falses : List Literal) (l : Literal) → IsLiteralInRange (length values) l → is_false_by values l ≡ false → ((m : Literal) → is_false_by values m ≡ is_among falses m)
     → (m : Literal) → is_false_by (set values (l.variable - 1) (Some l.positive)) m ≡ is_among (negation l ∷ falses) m
-told_more values falses l range free told m = elim (cases_eq m.variable l.variable) [
-  | inl e ↦ told_at values falses l range free told m e
-  | inr ne ↦ told_apart values falses l range told m ne
+agree_more values falses l range free agree m = elim (cases_eq m.variable l.variable) [
+  | inl e ↦ agree_at values falses l range free agree m e
+  | inr ne ↦ agree_apart values falses l range agree m ne
 ]
 
 no_value : (o : Option Bool) (positive : Bool) → is_other positive o ≡ false → is_other (not positive) o ≡ false → unknown_count o ≡ 1
@@ -124,11 +124,11 @@ follows_more cs entries values k l follows lt range forced =
     let c = get_or cs k [] in
     let free : IsFree (is_false_by values) l = forced_is_free (is_false_by values) c l forced in
     let within : IsLiteralInRange (length values) l = forced_has (IsLiteralInRange (length values)) (is_false_by values) c l range forced in
-    let found : finding (is_among (falses entries)) c ≡ Forced l = sym (finding-congr (is_false_by values) (is_among (falses entries)) c follows.told) ∙ forced in
+    let found : finding (is_among (falses entries)) c ≡ Forced l = sym (finding-congr (is_false_by values) (is_among (falses entries)) c follows.agree) ∙ forced in
     let here : IsForced cs entries (entry l k) = record { within = lt; forced = found } in
     record {
       follows = record {
-        told = λ m. told_more values (falses entries) l within free.free follows.told m ∙ sym (among_more entries (entry l k) m);
+        agree = λ m. agree_more values (falses entries) l within free.free follows.agree m ∙ sym (among_more entries (entry l k) m);
         trail = trail_more cs entries (entry l k) follows.trail here;
       };
       fewer = fewer values l within free;
@@ -140,7 +140,7 @@ conflicts_at cs entries values k follows lt falsified = (
   follows.trail,
   record {
     within = lt;
-    falsified = sym (finding-congr (is_false_by values) (is_among (falses entries)) (get_or cs k []) follows.told) ∙ falsified;
+    falsified = sym (finding-congr (is_false_by values) (is_among (falses entries)) (get_or cs k []) follows.agree) ∙ falsified;
   },
 )
 
@@ -155,7 +155,7 @@ none_at n k = elim (cases_lt k n) [
 
 pub follows_from_nothing : (cs : List (List Literal)) (n : ℕ) → Follows cs [] (replicate n None)
 follows_from_nothing cs n = record {
-  told = λ l. rw (none_at n (l.variable - 1)) (elim (cases_Bool (is_literal_in_range (length (replicate n no_one)) l)) [ inl t ↦ rw t refl | inr f ↦ rw f refl ]);
+  agree = λ l. rw (none_at n (l.variable - 1)) (elim (cases_Bool (is_literal_in_range (length (replicate n no_one)) l)) [ inl t ↦ rw t refl | inr f ↦ rw f refl ]);
   trail = λ k d h. absurd (omega (arith, h));
 }
 

@@ -1,6 +1,5 @@
 pub mod Keeping
 pub mod Asking
-pub mod Literals
 pub mod Following
 pub mod Analysing
 pub mod Passing

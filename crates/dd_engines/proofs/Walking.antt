@@ -8,10 +8,10 @@ use Rattle.dd_clause.specs.declared.clause.Literal.{Literal}
 use Rattle.dd_clause.specs.Clauses.{ClauseList, negation, IsLiteralInRange, IsClauseInRange, is_true_under, Satisfies}
 use Rattle.dd_values.specs.Variables.{true_variables}
 use Rattle.dd_engines.specs.Walks.{made_true, first_unsatisfied, values_after, NoneBefore, IsFirstOnWalk}
-use Rattle.dd_engines.specs.walking.Truths.{true_count, standing, more, less, changed, IsListed, NoneIsNone, IsFirstNone}
+use Rattle.dd_engines.specs.walking.Truths.{true_count, occurrences, more, less, changed, IsListed, NoneIsNone, IsFirstNone}
 use Rattle.dd_engines.specs.{walking.Walking.Walks, declared.chains.Chains.Chains}
 use Rattle.dd_engines.specs.walking.Chains.{HasChain, numbers_of, IsListingOf}
-use Rattle.dd_engines.proofs.{Places.standing_within, Flipping.flipped_counts}
+use Rattle.dd_engines.proofs.{Places.occurrences_within, Flipping.flipped_counts}
 use Rattle.dd_engines.proofs.Finding.{counts_of, first_by_counts, none_by_counts, not_satisfied}
 
 one_at_most : (b : Bool) → cond b 1 0 ≤ 1
@@ -29,9 +29,9 @@ chain_there n clauses chains l listing range = has_chain n chains l listing.long
 pub within_counts : (clauses : List (List Literal)) (values : List Bool) (counts : List ℕ) (marks : List Bool) (start : ℕ) (chains : Chains) (l : Literal) → Walks clauses values counts marks start → IsListingOf chains (length values) clauses → IsLiteralInRange (length values) l → All (λ k. k < length counts) (numbers_of chains l)
 within_counts clauses values counts marks start chains l walks listing range =
     let long : length counts ≡ length clauses = ap length walks.counted ∙ length-map clauses (true_count values) in
-    let within = standing_within l clauses 0 in
-    All-same (λ k. k < length counts) (numbers_of chains l) (standing l 0 clauses) (listing.chained l (chain_there (length values) clauses chains l listing range))
-    (All-weaker (λ k. k < 0 + length clauses) (λ k. k < length counts) (λ k h. omega (arith, h, long)) (standing l 0 clauses) within)
+    let within = occurrences_within l clauses 0 in
+    All-same (λ k. k < length counts) (numbers_of chains l) (occurrences l 0 clauses) (listing.chained l (chain_there (length values) clauses chains l listing range))
+    (All-weaker (λ k. k < 0 + length clauses) (λ k. k < length counts) (λ k h. omega (arith, h, long)) (occurrences l 0 clauses) within)
 
 pub length-changed : (f : ℕ → ℕ) (ks counts : List ℕ) → length (changed f ks counts) ≡ length counts
 length-changed f [] counts = refl
@@ -42,8 +42,8 @@ pub flip_walks : (clauses : List (List Literal)) (values : List Bool) (counts ne
     → new_counts ≡ changed less (numbers_of chains (negation l)) (changed more (numbers_of chains l) counts) → IsListed new_counts new_marks new_start → Walks clauses (made_true values l) new_counts new_marks new_start
 flip_walks clauses values counts new_counts marks new_marks start new_start chains l walks listing range is_false made are_listed =
     let long : length (made_true values l) ≡ length values = length-set values (l.variable - 1) l.positive in
-    let at : numbers_of chains l ≡ standing l 0 clauses = listing.chained l (chain_there (length values) clauses chains l listing range) in
-    let other : numbers_of chains (negation l) ≡ standing (negation l) 0 clauses = listing.chained (negation l) (chain_there (length values) clauses chains (negation l) listing range) in
+    let at : numbers_of chains l ≡ occurrences l 0 clauses = listing.chained l (chain_there (length values) clauses chains l listing range) in
+    let other : numbers_of chains (negation l) ≡ occurrences (negation l) 0 clauses = listing.chained (negation l) (chain_there (length values) clauses chains (negation l) listing range) in
     record {
       range = subst (λ (n : ℕ). All (IsClauseInRange n) clauses) (sym long) walks.range;
       short = walks.short;

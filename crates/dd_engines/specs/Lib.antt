@@ -12,11 +12,11 @@ pub mod SingleSteps
 pub mod Walks
 -- when a walk repeats itself
 pub mod Repeats
--- how many flips a walker makes
+-- how many flips a walker makes at most
 pub mod Walkers
 -- what asking one engine shows
 pub mod asking
--- what follows by unit propagation from nothing
+-- what follows by unit propagation from no assumptions, and what a conflict needs of it
 pub mod propagation
--- how many literals of each clause are true
+-- how a walk is made: counts of true literals, occurrence lists, and the landmark that tells a cycle
 pub mod walking

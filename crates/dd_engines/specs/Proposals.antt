@@ -1,4 +1,4 @@
--- Which proposals are right.
+-- Which proposals and outcomes are right.
 use Rattle.std.specs.Prelude.{◌≡◌, ℕ, ◌≤◌, Bool, List, length, Result, Ok, Err, Option, Some, None}
 use Rattle.dd_values.specs.{Counts.Rose, Variables.true_variables}
 use Rattle.dd_clause.specs.Clauses.{ClauseList, Satisfies}
@@ -12,7 +12,7 @@ use Rattle.dd_engines.specs.Rounds.{End, found, nothing, memory}
 abbrev pub IsSatisfying : ClauseList → List Bool → Type 0
 IsSatisfying cnf values = (length values ≡ cnf.variables) × Satisfies (true_variables values) cnf.clauses
 
--- no assignment satisfies the clauses
+-- the clauses are unsatisfiable: no assignment satisfies them
 abbrev pub IsUnsatisfied : ClauseList → Type 0
 IsUnsatisfied cnf = (set : ℕ → Bool) → Satisfies set cnf.clauses → ⊥
 
@@ -22,7 +22,7 @@ IsRight cnf Nothing = Unit {0}
 IsRight cnf (Proposed values) = IsSatisfying cnf values
 IsRight cnf (Refutation steps) = IsRefuting cnf steps
 
--- a count has not fallen, and rose
+-- a count has risen, or was at its greatest number and has not fallen
 abbrev pub RisesOn : ℕ → ℕ → Type 0
 RisesOn old new = (old ≤ new) × Rose old new
 

@@ -3,7 +3,7 @@ use Rattle.std.specs.Prelude.{◌≡◌, ℕ, ◌%◌, ◌<◌, List, length, Al
 use Rattle.dd_clause.specs.{declared.clause.Literal.Literal, Clauses.ClauseList}
 use Rattle.dd_engines.specs.Walks.{values_after}
 
--- the flips from these two numbers on make the same literal of each clause true
+-- flips with these two numbers would pick the same literal of each clause
 abbrev pub PickAlike : List (List Literal) → ℕ → ℕ → Type 0
 PickAlike clauses j k = All (λ clause. 0 < length clause → j % length clause ≡ k % length clause) clauses
 

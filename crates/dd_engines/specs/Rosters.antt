@@ -10,5 +10,6 @@ seen_of_engine asked given sound engine = record { asked = asked engine; given =
 abbrev pub seen_all : {E : Type 0} → (E → ℕ) → (E → ℕ) → (E → Bool) → List E → List Seen
 seen_all asked given sound engines = map (seen_of_engine asked given sound) engines
 
+-- the engines of a roster as contracts see them, in order
 abbrev pub roster_seen : {E : Type 0} → (E → ℕ) → (E → ℕ) → (E → Bool) → Roster E → List Seen
 roster_seen asked given sound roster = seen_all asked given sound roster.engines.items

@@ -19,7 +19,7 @@ first_unsatisfied values clauses = find (is_unsatisfied values) clauses
 abbrev pub made_true : List Bool → Literal → List Bool
 made_true values l = slice_set values (l.variable - 1) l.positive
 
--- Flip number k makes the clause's literal number k modulo its length true. An empty clause has none.
+-- Flip number k makes one literal of the clause true: the one at place k % length, from 0. An empty clause has none.
 abbrev pub flipped : ℕ → List Bool → List Literal → Option (List Bool)
 flipped k values clause = option_map (made_true values) (slice_get clause (k % length clause))
 

@@ -1,5 +1,5 @@
-//! The clauses that a conflict needs, found by walking back over the trail (Marques-Silva and Sakallah 1999). The
-//! conflict's clause needs the values of its variables. So does each clause that gave a needed value.
+//! The clauses that a conflict needs, found by going back over the trail (Marques-Silva and Sakallah 1999). The conflict's
+//! clause needs the values of its variables. Each clause that gave a needed value in turn needs the values of its variables.
 ghost use Rattle.std.specs.Prelude.{◌≡◌, All, length, IfOk};
 ghost use Rattle.dd_clause.specs.Clauses.{IsClauseInRange};
 ghost use Rattle.dd_engines.specs.propagation.Following.{IsTrail, IsFalsified, Ends};
@@ -26,7 +26,8 @@ fn mark(marked: &mut [bool], literals: &[Literal])
     }
 }
 
-/// Walks back over the entries from the conflict, and marks the variables whose values it needs.
+/// Goes back over the entries from the conflict, and marks the variables whose values it needs. Returns the hints: the needed
+/// clauses, numbered from 1, as in a step.
 fn walk_back(
     alloc: Global,
     clauses: &[Clause],

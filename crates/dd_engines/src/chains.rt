@@ -1,7 +1,6 @@
-//! Where each literal stands: chains in one list of links. A link has the number of a clause, from 0, and leads to
-//! the next clause of the same literal. The chains are made in one pass over the clauses, from the last one on, so
-//! the numbers of a chain are in order. A clause that has a literal several times stands in its chain as often, in a
-//! row.
+//! Occurrence lists: for each literal a chain of the clauses that have it. All chains share one list of links. They are
+//! made in one pass over the clauses, from the last one back, so the numbers along a chain are in order. A clause that has a
+//! literal several times stands in its chain as often, in a row.
 ghost use Rattle.std.specs.Prelude.{◌≡◌, ◌≢◌, ◌++◌, ◌∷◌, slice_index_or, All, replicate, length, IfOk, OnOk};
 ghost use Rattle.dd_clause.specs.declared.clause.Literal.{Literal};
 ghost use Rattle.dd_engines.specs.walking.Truths as spec;
@@ -11,21 +10,25 @@ ghost use Rattle.dd_engines.specs.walking.Chains.{IsLinked, IsListingOf, HasChai
 use dd_clause::{Clause, Cnf, Literal};
 use std::alloc::{AllocError, Global};
 
-/// The number of a clause, and the number, from 1, of the next link, or 0.
+/// A link of a literal's chain.
 #[derive(Clone, Copy)]
 pub struct Link {
+    /// The number, from 0, of a clause that has the literal.
     pub number: usize,
+    /// The number, from 1, of the next link, or 0 at the end.
     pub next: usize,
 }
 
-/// For each literal's place the number, from 1, of its first link, or 0.
+/// The chains of all literals.
 #[derive(Drop)]
 pub struct Chains {
+    /// For each literal, at its place, the number, from 1, of its first link, or 0 if it has none.
     pub firsts: Vec<usize>,
+    /// The links of all chains.
     pub links: Vec<Link>,
 }
 
-/// The place of a literal's chain: each variable has two.
+/// The place of a literal among all literals, two for each variable.
 fn place_of(literal: Literal) -> usize
     ensures { result ≡ spec.place_of literal }
 {
@@ -34,7 +37,7 @@ fn place_of(literal: Literal) -> usize
 }
 
 impl Chains {
-    /// Chains of no literals.
+    /// No chains.
     pub fn new(alloc: Global) -> Chains {
         Chains {
             firsts: Vec::new(alloc),
@@ -42,7 +45,7 @@ impl Chains {
         }
     }
 
-    /// Lists the clauses of a list, in place of those listed before. The memory is used again.
+    /// Replaces the chains by those of a clause list. The memory is used again.
     fn list(&mut self, cnf: &Cnf) -> Result<(), AllocError>
         ensures { OnOk result (IsListingOf self.new cnf.now.variables cnf.now.clauses) }
     {
@@ -56,7 +59,7 @@ impl Chains {
         Ok(())
     }
 
-    /// Adds the clause with this number.
+    /// Adds a clause with this number, before those in the chains.
     fn add(&mut self, number: usize, clause: &Clause) -> Result<(), AllocError>
         requires places { All (HasChain self.old) clause.now }
         requires linked { IsLinked self.old }
@@ -70,7 +73,7 @@ impl Chains {
         Ok(())
     }
 
-    /// Adds one literal of a clause.
+    /// Adds the clause with this number to the chain of one literal.
     fn add_one(&mut self, number: usize, literal: Literal) -> Result<(), AllocError>
         requires place { HasChain self.old literal }
         requires linked { IsLinked self.old }
@@ -96,7 +99,7 @@ impl Chains {
         }
     }
 
-    /// The link with this number, from 1.
+    /// The link with this number, from 1. `None` for 0.
     pub fn link(&self, at: usize) -> Option<Link> {
         if at == 0 {
             return None;
@@ -113,7 +116,7 @@ impl Chains {
     }
 }
 
-/// The chains of a list, in the memory of earlier chains, if there are any.
+/// The chains of a list. They are made in the memory of earlier chains, if `room` has any.
 pub fn listed(alloc: Global, room: &mut Option<Chains>, cnf: &Cnf) -> Result<Chains, AllocError>
     ensures { IfOk result (λ chains. IsListingOf chains cnf.now.variables cnf.now.clauses) }
 {

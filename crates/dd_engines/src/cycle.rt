@@ -1,22 +1,28 @@
-//! Whether a walk goes round: it is back at earlier values, and its flips pick the same literals again. One earlier
-//! assignment is kept, and replaced each time that the number of flips has doubled (Brent 1980). A count says in how
-//! many variables the present one differs from it. The flips pick alike if the number of flips since is a multiple of
-//! the length of each clause that was taken since; the lengths of other clauses don't matter.
+//! Whether a walk is in a cycle: it is back at earlier values, and its flips pick the same literals again. One earlier
+//! assignment is kept, the landmark. It is replaced each time that the number of flips has doubled (Brent 1980). A count says
+//! in how many variables the present assignment differs from it.
+//!
+//! The number of a flip, modulo the length of the clause that it takes, picks the literal. Here a period is a common multiple
+//! of the lengths of the clauses taken since the landmark; it isn't the length of the cycle. If the number of flips since the
+//! landmark is a multiple of a period, the flips pick the same literals again. The lengths of other clauses don't matter.
 ghost use Rattle.std.specs.Prelude.{◌≡◌, ◌*◌, ◌<◌, ◌%◌, true, false, not, length, replicate, slice_set, slice_index_or, IfOk, IfSome};
-ghost use Rattle.dd_engines.specs.walking.Cycles.{IsCounted, IsBack, IsSameOrNew, IsTurnWith};
+ghost use Rattle.dd_engines.specs.walking.Cycles.{IsCounted, IsBack, IsSameOrNew, IsPeriodWith};
 
 use std::alloc::{AllocError, Global};
 
-/// An assignment of the walk, the number of flips before it, and in how many variables the present one differs from it.
+/// An earlier assignment of the walk.
 #[derive(Drop)]
 pub struct Landmark {
+    /// The values of the variables.
     values: Vec<bool>,
+    /// How many flips the walk had made then.
     flips: u32,
+    /// In how many variables the present assignment differs from this one.
     differing: usize,
 }
 
 impl Landmark {
-    /// Where the walk starts, with all variables false.
+    /// The start of the walk, with all variables false.
     pub fn new(alloc: Global, variables: usize) -> Result<Landmark, AllocError>
         ensures values { IfOk result (λ landmark. landmark.values.items ≡ replicate variables false) }
         ensures flips { IfOk result (λ landmark. landmark.flips ≡ 0) }
@@ -29,7 +35,8 @@ impl Landmark {
         })
     }
 
-    /// Counts that the value at a place is about to change.
+    /// Adjusts the count of variables in which the assignments differ. The value at this place is about to change: `values`
+    /// are those before.
     pub fn count(&mut self, values: &[bool], place: usize)
         requires within { place < length values.now }
         requires counted { IsCounted self.old values.now }
@@ -44,19 +51,19 @@ impl Landmark {
         }
     }
 
-    /// Whether the walk is back in the state that it had here. `turn` is a
-    /// multiple of the lengths of the clauses taken since, if one is known.
-    pub fn is_back(&self, k: u32, turn: Option<u32>) -> bool
-        requires { IfSome turn (λ t. 0 < t) }
-        ensures { result ≡ true → IsBack self.now turn k }
+    /// Whether the walk, after `k` flips, is known to be back in the state that it had at the landmark. `period` is a period of
+    /// the flips since, if one is known.
+    pub fn is_back(&self, k: u32, period: Option<u32>) -> bool
+        requires { IfSome period (λ t. 0 < t) }
+        ensures { result ≡ true → IsBack self.now period k }
     {
-        match turn {
-            Some(turn) => self.differing == 0 && self.flips < k && (k - self.flips) % turn == 0,
+        match period {
+            Some(period) => self.differing == 0 && self.flips < k && (k - self.flips) % period == 0,
             None => false,
         }
     }
 
-    /// Keeps the present assignment in place of the old one, if the number of flips has doubled.
+    /// Makes the assignment after `k` flips the landmark, if the number of flips has doubled.
     pub fn renew(&mut self, k: u32, values: &[bool])
         requires { IsCounted self.old values.now }
         ensures counted { IsCounted self.new values.now }
@@ -69,14 +76,15 @@ impl Landmark {
         }
     }
 
-    /// A multiple, at most `most`, of the lengths of the clauses taken since this landmark, if there is one: flip number
-    /// `k` takes a clause of this length, and `turn` is such a multiple for the flips before.
-    pub fn turn_with(&self, k: u32, turn: Option<u32>, length: usize, most: u32) -> Option<u32>
-        requires { IfSome turn (λ t. 0 < t) }
-        ensures { IfSome result (IsTurnWith self.now.flips k turn length) }
+    /// A period of the flips from the landmark to flip number `k`, from 0, which takes a clause of this length. `period` is a
+    /// period of those without flip `k`, if one is known. It isn't used if flip `k` is the first since the landmark. `None` if
+    /// a period was needed and not known, or the new one is greater than `most`: a walk of `most` flips has no use for it.
+    pub fn period_with(&self, k: u32, period: Option<u32>, length: usize, most: u32) -> Option<u32>
+        requires { IfSome period (λ t. 0 < t) }
+        ensures { IfSome result (IsPeriodWith self.now.flips k period length) }
     {
         let length = u32::try_from(length).ok()?;
-        let before = if self.flips == k { 1 } else { turn? };
+        let before = if self.flips == k { 1 } else { period? };
         common_multiple(before, length, most)
     }
 }

@@ -9,10 +9,10 @@ use dd_derivation::Step;
 use dd_values::Items;
 use std::alloc::{AllocError, Global};
 
-/// What an engine proposes about a clause list: nothing, an assignment that should satisfy it, or steps that should refute it.
+/// What an engine proposes about a clause list. Nothing of it is checked yet.
 #[derive(Debug, Drop)]
 pub enum Proposal {
-    /// It proposes nothing.
+    /// No proposal.
     Nothing,
     /// An assignment that should satisfy each clause.
     Found(Assignment),
@@ -20,12 +20,12 @@ pub enum Proposal {
     Refutation(Items<Step>),
 }
 
-/// Proposes assignments and refutations, from a state of its own. It keeps a `Tally`.
+/// Proposes assignments and refutations, from a state of its own. The state holds two counts, for example in a `Tally`.
 pub trait Engine: Drop {
-    /// How often it was asked. The count stops at its greatest number.
+    /// How often it was asked. The count stops at 2^64 - 1.
     ghost asked: { Self → ℕ };
 
-    /// How often it proposed something. The count stops at its greatest number.
+    /// How often it proposed something. The count stops at 2^64 - 1.
     ghost given: { Self → ℕ };
 
     /// Whether each of its proposals is right.

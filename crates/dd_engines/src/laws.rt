@@ -1,4 +1,4 @@
-//! Laws of rounds and kept rosters, for callers that ask a roster several times, and of walks that go round.
+//! Laws of rounds and kept rosters, for callers that ask a roster several times, and of walks that are in a cycle.
 ghost use Rattle.std.specs.Prelude.{◌≡◌, ◌<◌, ◌+◌, ℕ, true, List, ◌∷◌};
 ghost use Rattle.dd_clause.specs.Clauses.{ClauseList};
 ghost use Rattle.dd_engines.specs.Rounds.{Seen, End, Round, Kept, FirstAsked, IsHeadAsked, one_was_asked};
@@ -26,7 +26,8 @@ pub fn first_asked_keeps()
 {}
 
 /// Does nothing; its contract is the law that the first engine is not skipped. If it is sound, it is still the first,
-/// and was asked since. So two sound engines that stay as they were do not count as asked.
+/// and was asked since. An example shows that `FirstAsked` can be false: it is so for two sound engines whose counts stay as
+/// they were.
 pub fn first_is_not_skipped()
     ensures head { (old : Seen) (before after : List Seen) → old.sound ≡ true → FirstAsked (old ∷ before) after → IsHeadAsked old after }
     ensures pair { FirstAsked one_was_asked one_was_asked → ⊥ }

@@ -1,13 +1,17 @@
-//! Unit propagation from no assumptions: a clause with one literal that is not false makes it true, until a clause
-//! has none. Passes over all clauses go on until one changes nothing. Counts of the literals left bring each new
-//! literal at once to the clauses that it leaves with one. So the second pass already finds nothing, and all takes
-//! linear time. Mostly two passes from the last clause back, without counts, find as much: in clauses that are made of
-//! gates, each gate stands before the clauses that use it.
+//! Unit propagation from no assumptions: if all literals of a clause but one are false, the clause makes this one true. It ends
+//! with a conflict, a clause of which all literals are false, or when a pass over all clauses changes nothing.
+//!
+//! A count for each clause says how many of its literals are not false. When a literal becomes false, each clause that is left
+//! with one literal is looked at next. So the second pass finds nothing new, and the whole takes linear time.
+//!
+//! Before this, two passes without counts are tried, from the last clause to the first. Mostly they find as much. For in clauses
+//! that are made of gates, those of a gate stand before the clauses that use the gate. So these passes go from the uses of a
+//! gate to the gate.
 ghost use Rattle.std.specs.Prelude.{◌≡◌, [], List, All, true, length, IfOk, MatchOption};
 ghost use Rattle.dd_clause.specs.Clauses.{IsClauseInRange};
 ghost use Rattle.dd_clause.specs.declared.clause.Literal.{Literal};
 ghost use Rattle.dd_engines.specs.SingleSteps.{IsSingleStep};
-ghost use Rattle.dd_engines.specs.propagation.Following.{is_false_by, Follows, IsSettled, Looked, Went, Passed};
+ghost use Rattle.dd_engines.specs.propagation.Following.{is_false_by, Follows, IsSettled, Looked, Followed, Passed};
 
 use crate::analysis::{Entry, needed_hints};
 use crate::chains::Chains;
@@ -39,6 +43,7 @@ impl FalseLiterals for Trail {
 }
 
 impl Trail {
+    /// The trail before anything follows: no variable has a value.
     fn new(alloc: Global, variables: usize) -> Result<Trail, AllocError>
         ensures values { IfOk result (λ trail. length trail.values.items ≡ variables) }
         ensures follows { IfOk result (λ trail. (clauses : List (List Literal)) → Follows clauses trail.entries.items trail.values.items) }
@@ -49,7 +54,8 @@ impl Trail {
         })
     }
 
-    /// Looks at a clause, and adds the literal that it makes true, if there is one.
+    /// Looks at a clause, and adds the literal that it makes true, if there is one. Returns what the look finds: the clause
+    /// forces a literal, all its literals are false, or it is open, where neither holds.
     fn look(&mut self, clauses: &[Clause], number: usize) -> Result<Finding, AllocError>
         requires in_range { All (IsClauseInRange (length self.old.values.items)) clauses.now }
         requires follows { Follows clauses.now self.old.entries.items self.old.values.items }
@@ -80,7 +86,7 @@ impl Trail {
     }
 }
 
-/// Looks at each clause, from the last one back, and gives values without entries. Whether none is falsified.
+/// Looks at each clause, from the last to the first, and gives values without entries. Returns whether no clause is falsified.
 fn pass_back(trail: &mut Trail, clauses: &[Clause]) -> bool {
     for number in (0..clauses.len()).rev() {
         match find(trail, clauses[number].literals()) {
@@ -92,7 +98,7 @@ fn pass_back(trail: &mut Trail, clauses: &[Clause]) -> bool {
     true
 }
 
-/// Whether the values leave each clause as it is.
+/// Whether, by the values, no clause is falsified or forces a literal.
 fn is_settled(trail: &Trail, clauses: &[Clause]) -> bool
     ensures { result ≡ true → All (IsSettled trail.now.values.items) clauses.now }
 {
@@ -106,7 +112,8 @@ fn is_settled(trail: &Trail, clauses: &[Clause]) -> bool
     true
 }
 
-/// Whether two passes back find all that follows, and no conflict. Then no single step refutes the clauses.
+/// Whether two passes from the last clause to the first find all that follows, and no conflict. If so, no single step refutes
+/// the clauses.
 pub fn settles_soon(alloc: Global, cnf: &Cnf) -> Result<bool, AllocError>
     ensures { IfOk result (λ settles. settles ≡ true → (step : _) → IsSingleStep cnf.now step → ⊥) }
 {
@@ -120,7 +127,7 @@ pub fn settles_soon(alloc: Global, cnf: &Cnf) -> Result<bool, AllocError>
 
 /// How far propagation came.
 enum Progress {
-    /// The clause with this number, from 0, has no literal left.
+    /// All literals of the clause with this number, from 0, are false.
     Conflict(usize),
     /// More literals became true.
     More,
@@ -128,15 +135,18 @@ enum Progress {
     Settled,
 }
 
-/// For each clause, the number of its literals that are not known to be false, each counted once; and the clauses that wait with one.
+/// How many literals each clause has left, that is, literals that are not false.
 #[derive(Drop)]
 struct Counts<'a> {
     chains: &'a Chains,
+    /// For each clause, how many of its literals are not false, each counted once.
     left: Vec<usize>,
+    /// The numbers, from 0, of clauses that are left with one literal and wait for a look.
     waiting: Vec<usize>,
 }
 
 impl<'a> Counts<'a> {
+    /// The counts while no literal is false.
     fn new(alloc: Global, cnf: &Cnf, chains: &'a Chains) -> Result<Counts<'a>, AllocError> {
         let mut left = vec![in alloc; 0usize; cnf.clauses().len()]?;
         for link in chains.links.as_slice() {
@@ -154,9 +164,10 @@ impl<'a> Counts<'a> {
         })
     }
 
-    /// Counts a literal that is false now, once for each clause that has it.
+    /// Counts a literal that became false, once for each clause that has it. Clauses that are left with one literal wait.
     fn falsify(&mut self, literal: Literal) -> Result<(), AllocError> {
         let mut at = self.chains.first(literal);
+        // A chain has at most as many links as there are in all.
         for _ in 0..self.chains.links.len() {
             let Some(link) = self.chains.link(at) else {
                 break;
@@ -178,7 +189,7 @@ impl<'a> Counts<'a> {
     }
 }
 
-/// Looks at a clause, and at the clauses that wait after it. Each waits at most once.
+/// Looks at a clause, and then at the clauses that wait because of it. Each clause waits at most once.
 fn follow(
     counts: &mut Counts,
     trail: &mut Trail,
@@ -187,7 +198,7 @@ fn follow(
 ) -> Result<Progress, AllocError>
     requires in_range { All (IsClauseInRange (length trail.old.values.items)) clauses.now }
     requires follows { Follows clauses.now trail.old.entries.items trail.old.values.items }
-    ensures looked { IfOk result (Went clauses.now number trail.old.entries.items trail.old.values.items trail.new.entries.items trail.new.values.items) }
+    ensures looked { IfOk result (Followed clauses.now number trail.old.entries.items trail.old.values.items trail.new.entries.items trail.new.values.items) }
     ensures long { length trail.new.values.items ≡ length trail.old.values.items }
 {
     match trail.look(clauses, number)? {
@@ -208,7 +219,7 @@ fn follow(
     Ok(Progress::More)
 }
 
-/// Looks at each clause, and goes on from each new literal.
+/// Looks at each clause, and follows up each new literal.
 fn pass(counts: &mut Counts, trail: &mut Trail, clauses: &[Clause]) -> Result<Progress, AllocError>
     requires in_range { All (IsClauseInRange (length trail.old.values.items)) clauses.now }
     requires follows { Follows clauses.now trail.old.entries.items trail.old.values.items }

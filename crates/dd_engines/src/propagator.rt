@@ -18,6 +18,7 @@ use std::alloc::{AllocError, Global};
 #[derive(Drop)]
 pub struct Propagator {
     tally: Tally,
+    /// The last chains. Their memory is used again.
     room: Option<Chains>,
 }
 

@@ -17,7 +17,7 @@ pub struct Roster<E = Box<dyn Engine>> {
     engines: Vec<E>,
 }
 
-/// What one asking showed.
+/// What asking one engine showed.
 pub enum Asked {
     /// It proposed this, and it is right.
     Right(Outcome),
@@ -53,7 +53,7 @@ fn ask_one<E: Engine>(alloc: Global, cnf: &Cnf, engine: &mut E) -> Result<Asked,
 }
 
 impl<E: Engine> Roster<E> {
-    /// The engines in their order. It takes no memory.
+    /// A roster of these engines, in their order. The call allocates no memory.
     pub fn new(engines: Vec<E>) -> Self
         ensures { roster_seen E.asked E.given E.sound result ≡ seen_all E.asked E.given E.sound engines.items }
     {
@@ -68,8 +68,9 @@ impl<E: Engine> Roster<E> {
     }
 
     /// Asks the engines from the first on, each at most once, until a proposal is right, and returns that one. An
-    /// engine whose proposal is wrong is dropped; the others stay in order, even if memory runs out. Unless it does,
-    /// the first engine left was asked, and only engines that aren't sound were dropped before it.
+    /// engine whose proposal is wrong is dropped. The others stay in order, even if memory runs out. If memory suffices,
+    /// the first engine left, if there is one, was asked, and the engines dropped before it aren't sound. So no sound engine
+    /// is skipped at the start.
     pub fn ask(&mut self, alloc: Global, cnf: &Cnf) -> Result<Option<Outcome>, AllocError>
         ensures right { IfOk result (λ answer. IfSome answer (IsRightOutcome cnf.now)) }
         ensures round { Round (roster_seen E.asked E.given E.sound self.old) (roster_seen E.asked E.given E.sound self.new) (round_end result) }

@@ -5,7 +5,7 @@ ghost use Rattle.dd_engines.specs.Rounds.{RisesByOne};
 
 use std::marker::Model;
 
-/// How often an engine was asked, and how often it proposed something. Each count stops at its greatest number.
+/// How often an engine was asked, and how often it proposed something. Each count stops at 2^64 - 1.
 #[derive(Debug, Drop)]
 pub struct Tally {
     asked: u64,

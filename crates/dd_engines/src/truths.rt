@@ -1,7 +1,7 @@
 //! How many literals of each clause are true, and where to look for the first clause that has none. The clauses are
-//! in blocks of 32, by their numbers. A block where a clause may have no true literal has a mark. The mark is made
-//! when a clause loses its last true literal, and removed when a look at the block finds none. Blocks before the
-//! first have no mark.
+//! in blocks of 32, by their numbers. A block has a mark if one of its clauses may have no true literal. At the start each
+//! block has a mark. A mark is made when a clause loses its last true literal, and removed when a search of the block finds no
+//! such clause.
 ghost use Rattle.std.specs.Prelude.{◌≡◌, ◌^◌, ◌*◌, ◌<◌, ◌+◌, ◌≤◌, length, map, slice_set, slice_index_or, All, IfOk, MatchOption};
 ghost use Rattle.dd_clause.specs.Clauses.{IsClauseInRange};
 ghost use Rattle.dd_engines.specs.walking.Truths.{IsListed, NoneWithin, IsFirstIn, NoneIsNone, IsFirstNone, changed, more, less, true_count};
@@ -11,11 +11,14 @@ use crate::chains::Chains;
 use dd_clause::{Clause, Literal};
 use std::alloc::{AllocError, Global};
 
-/// For each clause its number of true literals, for each block its mark, and the block to look at first.
+/// The counts of true literals, and the marks of the blocks.
 #[derive(Drop)]
 pub struct Truths {
+    /// How many literals of each clause are true.
     counts: Vec<usize>,
+    /// Whether each block has a mark.
     marks: Vec<bool>,
+    /// The block to look at first: in each block before it, all clauses have a true literal.
     first_block: usize,
 }
 
@@ -38,7 +41,7 @@ impl Truths {
         })
     }
 
-    /// One more literal of a clause is true.
+    /// Counts one more true literal of the clause with this number.
     fn raise_one(&mut self, number: usize)
         requires within { number < length self.old.counts.items }
         requires listed { IsListed self.old.counts.items self.old.marks.items self.old.first_block }
@@ -48,7 +51,7 @@ impl Truths {
         self.counts[number] = self.counts[number].saturating_add(1);
     }
 
-    /// One literal less of a clause is true.
+    /// Counts one true literal less of the clause with this number.
     fn lower_one(&mut self, number: usize)
         requires within { number < length self.old.counts.items }
         requires listed { IsListed self.old.counts.items self.old.marks.items self.old.first_block }
@@ -64,7 +67,7 @@ impl Truths {
         }
     }
 
-    /// The first clause without a true literal.
+    /// The number, from 0, of the first clause without a true literal.
     #[tactic(auto, using(crate::proofs::Counting::passed, crate::proofs::Counting::cleared, crate::proofs::Counting::first_of_all, crate::proofs::Counting::none_left, crate::proofs::Counting::none_listed))]
     pub fn first(&mut self) -> Option<usize>
         requires { IsListed self.old.counts.items self.old.marks.items self.old.first_block }
@@ -120,7 +123,7 @@ impl Truths {
     }
 }
 
-/// The first place of a block that has a count of 0.
+/// In this block, the number of the first clause whose count is 0.
 #[tactic(auto, using(crate::proofs::Counting::some_at))]
 fn first_in_block(counts: &[usize], block: usize) -> Option<usize>
     requires { 32 * block ≤ length counts.now }
@@ -136,12 +139,13 @@ fn first_in_block(counts: &[usize], block: usize) -> Option<usize>
     None
 }
 
-/// How many of the literals the values make true. A count can hold the length of any list of literals.
+/// How many of the literals the values make true. The contract also says that the list is shorter than 2^64.
 fn count_true(literals: &[Literal], values: &[bool]) -> usize
     requires { IsClauseInRange (length values.now) literals.now }
     ensures value { result ≡ true_count values.now literals.now }
     ensures short { length literals.now < 2 ^ 64 }
 {
+    // This call tells the proof what the type guarantees: the length fits in 64 bits.
     let _length = literals.len();
     let mut count = 0;
     for literal in literals {

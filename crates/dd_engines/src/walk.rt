@@ -1,6 +1,7 @@
-//! A walk through assignments, starting with all variables false: each flip makes a literal of the first clause
-//! without a true literal true. Counts of true literals, and chains of where each literal stands, keep the cost of a
-//! flip to what it changes. If the walk goes round, it ends: no new assignment would come.
+//! A walk through assignments, starting with all variables false. Each flip takes the first clause without a true literal,
+//! and makes one of its literals true. A count for each clause says how many of its literals are true. A chain for each
+//! literal lists the clauses that have it. So a flip visits only the clauses of the literal and of its negation. If the walk
+//! has come into a cycle, it ends: no new assignment would follow.
 ghost use Rattle.std.specs.Prelude.{◌≡◌, ◌+◌, false, length, replicate, IfOk, MatchOption};
 ghost use Rattle.dd_clause.specs.Clauses.{IsLiteralInRange, is_true_under};
 ghost use Rattle.dd_values.specs.Variables.{true_variables};
@@ -16,7 +17,8 @@ use crate::truths::Truths;
 use dd_clause::{Assignment, Clause, Cnf, Literal};
 use std::alloc::{AllocError, Global};
 
-/// Where the walk stands: the values of the variables, and what follows from them for the clauses.
+/// Where the walk stands: the values of the variables, how many literals of each clause they make true, and an earlier
+/// assignment, by which a cycle is noticed.
 #[derive(Drop)]
 struct Walk {
     values: Vec<bool>,
@@ -25,6 +27,7 @@ struct Walk {
 }
 
 impl Walk {
+    /// The start of the walk, with all variables false.
     fn new(alloc: Global, cnf: &Cnf) -> Result<Walk, AllocError>
         ensures start { IfOk result (λ walk. walk.values.items ≡ replicate cnf.now.variables false) }
         ensures landmark { IfOk result (λ walk. walk.landmark.values.items ≡ replicate cnf.now.variables false) }
@@ -50,7 +53,7 @@ impl Walk {
         Assignment::new(values)
     }
 
-    /// The first clause without a true literal.
+    /// The number, from 0, of the first clause without a true literal.
     #[tactic(auto, using(crate::proofs::Walking::looked_walks))]
     fn first(&mut self, clauses: &[Clause]) -> Option<usize>
         requires { Walks clauses.now self.old.values.items self.old.truths.counts.items self.old.truths.marks.items self.old.truths.first_block }
@@ -95,7 +98,8 @@ pub fn first_found(
 {
     let clauses = cnf.clauses();
     let mut walk = Walk::new(alloc, cnf)?;
-    let mut turn = Some(1);
+    // No clause was taken yet, so 1 is a period, as the module `cycle` defines it.
+    let mut period = Some(1);
     for k in 0..flips {
         let Some(number) = walk.first(clauses) else {
             return Ok(Some(walk.into_assignment()));
@@ -104,11 +108,11 @@ pub fn first_found(
         if literals.is_empty() {
             return Ok(None);
         }
-        if walk.landmark.is_back(k, turn) {
+        if walk.landmark.is_back(k, period) {
             return Ok(None);
         }
         walk.landmark.renew(k, walk.values.as_slice());
-        turn = walk.landmark.turn_with(k, turn, literals.len(), flips);
+        period = walk.landmark.period_with(k, period, literals.len(), flips);
         walk.flip(clauses, chains, literals[k as usize % literals.len()]);
     }
     match walk.first(clauses) {

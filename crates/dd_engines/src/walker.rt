@@ -1,6 +1,5 @@
-//! The engine that walks: it tries the assignments of one walk, and keeps only the memory for the next one. A step
-//! takes a clause that is not satisfied and makes one of its literals true (Papadimitriou 1991, Selman, Kautz and
-//! Cohen 1994), here without randomness.
+//! The engine that walks: it tries the assignments of one walk. A flip takes a clause that is not satisfied and makes one
+//! of its literals true (Papadimitriou 1991, Selman, Kautz and Cohen 1994), here without randomness.
 ghost use Rattle.std.specs.Prelude.{◌≡◌, ◌-◌, ◌^◌, ◌≤◌, true, IfOk, OnErr};
 ghost use Rattle.dd_engines.specs.Proposals.{IsRight, GivenAfter};
 ghost use Rattle.dd_engines.specs.Rounds.{RisesByOne};
@@ -15,12 +14,14 @@ use dd_clause::Cnf;
 use std::alloc::{AllocError, Global};
 
 /// Proposes the first satisfying assignment on a walk of a limited number of flips, starting with all variables
-/// false. Flip number k, from 0, takes the first clause without a true literal and makes its literal number k modulo
-/// its length true. If none of these assignments satisfies, or the clause taken is empty, it proposes nothing.
+/// false. Flip number k, from 0, takes the first clause without a true literal. It makes one literal of this clause true:
+/// the one at place `k % n`, from 0, where n is the length of the clause. If none of these assignments satisfies, or a
+/// clause taken is empty, the engine proposes nothing.
 #[derive(Drop)]
 pub struct Walker {
     flips: u32,
     tally: Tally,
+    /// The last chains. Their memory is used again.
     room: Option<Chains>,
 }
 

@@ -17,7 +17,7 @@ AreOne = (r : LocalRule) (a : ℕ) (xs ys : List (List ℕ)) → BreakingFilling
 pub one_forbidden : AreOne → (x : LocalRule) (some others : List Listed) → IsForbiddenList x some → IsForbiddenList x others → some ≡ others
 one_forbidden one x some others h k = list_one (BreakingFillings x) listed (one x) x.nodes some others h k
 
--- ---- the numbers of the list
+-- ---- an output can hold the list
 
 abbrev pub AreShort : Type 0
 AreShort = (r : LocalRule) (a : ℕ) (xs : List (List ℕ)) → IsRule r → BreakingFillings r a xs → length xs ≤ r.symbols ^ length (cells_at r a)

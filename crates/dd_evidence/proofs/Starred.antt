@@ -8,7 +8,7 @@ use Rattle.dd_formula.specs.LocalRule.{LocalRule, IsRule}
 use Rattle.dd_forbidden.specs.Breaking.{IsBreaking}
 use Rattle.dd_minimal.specs.{Patterns.whole, Patterns.is_covered, Minimal.thinned, Minimal.all_break, Minimal.IsMinimalList}
 use Rattle.dd_certificate.specs.declared.answer.Starred.{Starred}
-use Rattle.dd_certificate.specs.Bounds.{IsWritable, IsWritableNumber, IsWritableKept, IsWritableStarred}
+use Rattle.dd_certificate.specs.Bounds.{IsWritable, IsWritableNumber, IsWritableSymbolOrStar, IsWritableStarred}
 use Rattle.dd_question.specs.Lists.{HasFewPatterns}
 use Rattle.dd_evidence.specs.{NodeLists.IsListTo, Lists.starred, Lists.IsStarredList, Lists.patterns_at}
 use Rattle.dd_evidence.proofs.{NodeLists.list_one, NodeLists.list_fits, Lists.AreShort, Lists.AreKnown}
@@ -21,9 +21,9 @@ AreOne = (r : LocalRule) (a : ℕ) (ps qs : List (List (Option ℕ))) → IsMini
 pub one_starred : AreOne → (x : LocalRule) (some others : List Starred) → IsStarredList x some → IsStarredList x others → some ≡ others
 one_starred one x some others h k = list_one (IsMinimalList x) starred (one x) x.nodes some others h k
 
--- ---- the numbers of the list
+-- ---- an output can hold the list
 
--- a choice between two lists
+-- the length of a choice between two lists
 either_short : {X : Type 0} (b : Bool) (xs ys : List X) (n : ℕ) → length xs ≤ n → length ys ≤ n → length (cond b xs ys) ≤ n
 either_short true xs ys n h k = h
 either_short false xs ys n h k = k
@@ -32,7 +32,7 @@ either_fits : {X : Type 0} (P : X → Type 0) (b : Bool) (xs ys : List X) → Al
 either_fits P true xs ys h k = h
 either_fits P false xs ys h k = k
 
--- no more patterns than fillings
+-- there are no more patterns than fillings
 listed_short : (thin : List ℕ → List (Option ℕ)) (before : List (List (Option ℕ))) (lists : List (List ℕ)) →
     length (minimal.listed thin before lists) ≤ length lists
 listed_short thin before [] = omega arith
@@ -42,7 +42,7 @@ listed_short thin before (ss ∷ more) =
     either_short (is_covered before ss) (minimal.listed thin before more) (thin ss ∷ minimal.listed thin (before ++ thin ss ∷ []) more) (suc (length more))
     (omega (arith, others)) (omega (arith, later))
 
--- each pattern is what is left of a filling
+-- each pattern is a thinned filling, so what holds of these holds of it
 listed_fit : (P : List (Option ℕ) → Type 0) (thin : List ℕ → List (Option ℕ)) (before : List (List (Option ℕ))) (lists : List (List ℕ)) →
     All (λ ss. P (thin ss)) lists → All P (minimal.listed thin before lists)
 listed_fit P thin before [] h = All-nil P
@@ -53,15 +53,15 @@ listed_fit P thin before (ss ∷ more) h =
     (listed_fit P thin before more rest)
     (All-cons P (thin ss) (minimal.listed thin (before ++ thin ss ∷ []) more) first (listed_fit P thin (before ++ thin ss ∷ []) more rest))
 
-kept_fits : (b : Bool) (s : ℕ) → IsWritableNumber s → IsWritableKept (cond b None (Some s))
+kept_fits : (b : Bool) (s : ℕ) → IsWritableNumber s → IsWritableSymbolOrStar (cond b None (Some s))
 kept_fits true s h = tt
 kept_fits false s h = h
 
-thinned_fits : (enough : List (Option ℕ) → Bool) (ss : List ℕ) → All IsWritableNumber ss → All IsWritableKept (thinned enough ss)
-thinned_fits enough [] h = All-nil IsWritableKept
+thinned_fits : (enough : List (Option ℕ) → Bool) (ss : List ℕ) → All IsWritableNumber ss → All IsWritableSymbolOrStar (thinned enough ss)
+thinned_fits enough [] h = All-nil IsWritableSymbolOrStar
 thinned_fits enough (s ∷ ss) h =
     let first = cond (enough (None ∷ whole ss)) None (Some s) in
-    All-cons IsWritableKept first (thinned (λ p. enough (first ∷ p)) ss)
+    All-cons IsWritableSymbolOrStar first (thinned (λ p. enough (first ∷ p)) ss)
     (kept_fits (enough (None ∷ whole ss)) s (All-head IsWritableNumber s ss h))
     (thinned_fits (λ p. enough (first ∷ p)) ss (All-tail IsWritableNumber s ss h))
 
@@ -112,7 +112,7 @@ none_own n a [] h = refl
 none_own n a (p ∷ ps) h = rw h (none_own n a ps h)
 
 module _ (x : LocalRule) (a : ℕ) where
-  -- none of its patterns is listed before the node is reached
+  -- before the node is reached, none of its patterns is listed
   none_before : (n : ℕ) (patterns : List Starred) → n ≤ a → IsListTo (IsMinimalList x) starred n patterns → patterns_at a patterns ≡ []
   none_before zero patterns le is = ap (patterns_at a) is
   none_before (suc n) patterns le is =

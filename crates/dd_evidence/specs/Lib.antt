@@ -1,8 +1,8 @@
--- the answers to questions with only one right answer
+-- the answers to questions that have only one right answer
 pub mod Answers
--- cells, as answers give them
+-- cells, as answers write them
 pub mod Cells
--- periodic configurations, as answers give them
+-- periodic configurations, as answers write them
 pub mod Tiles
 -- lists that are made node by node
 pub mod NodeLists

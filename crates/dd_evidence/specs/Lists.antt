@@ -10,7 +10,7 @@ use Rattle.dd_evidence.specs.NodeLists.{IsListTo}
 abbrev pub listed : ℕ → List ℕ → Listed
 listed a ss = record { node = a; symbols = ss }
 
--- a pattern that may leave cells out
+-- a pattern that may leave cells out: it has a star, None, for each of these
 abbrev pub starred : ℕ → List (Option ℕ) → Starred
 starred a p = record { node = a; symbols = p }
 
@@ -22,6 +22,6 @@ IsForbiddenList x patterns = IsListTo (BreakingFillings x) listed x.nodes patter
 abbrev pub IsStarredList : LocalRule → List Starred → Type 0
 IsStarredList x patterns = IsListTo (IsMinimalList x) starred x.nodes patterns
 
--- the patterns of one node
+-- the patterns of the node a, without the node
 abbrev pub patterns_at : ℕ → List Starred → List (List (Option ℕ))
 patterns_at a patterns = map (λ (p : Starred). p.symbols) (filter (λ (p : Starred). nat_eq p.node a) patterns)

@@ -1,7 +1,7 @@
--- Lists that are made node by node.
+-- Lists that are made node by node. `IsHere a` says which list of items belongs to the node a. Each item has an entry.
 use Rattle.std.specs.Prelude.{ℕ, zero, suc, ◌≡◌, List, [], ◌++◌, map}
 
--- the list of the nodes before n, followed by the list of n
+-- the list is one that satisfies IsBefore, followed by the entries of the node n
 pub record IsListedAfter {A B : Type 0} (IsHere : ℕ → List A → Type 0) (entry : ℕ → A → B) (n : ℕ) (IsBefore : List B → Type 0) (list : List B) : Type 0 where
   pub before : List B
   pub is_before : IsBefore before
@@ -9,7 +9,7 @@ pub record IsListedAfter {A B : Type 0} (IsHere : ℕ → List A → Type 0) (en
   pub is_here : IsHere n here
   pub whole : list ≡ before ++ map (entry n) here
 
--- the list of the first nodes
+-- the list has the entries of the first n nodes, node by node
 abbrev pub IsListTo : {A B : Type 0} → (ℕ → List A → Type 0) → (ℕ → A → B) → ℕ → List B → Type 0
 IsListTo IsHere entry zero list = list ≡ []
 IsListTo IsHere entry (suc n) list = IsListedAfter IsHere entry n (IsListTo IsHere entry n) list

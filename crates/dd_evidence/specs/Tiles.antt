@@ -1,22 +1,22 @@
--- Periodic configurations, as answers give them.
+-- Periodic configurations, as answers write them.
 use Rattle.std.specs.Prelude.{ℕ, ◌≡◌, List, [], ◌∷◌, length, take, slice_index_or}
 use Rattle.dd_pattern.specs.{declared.periods.Periods.Periods, Tile.Tile, Tile.tile}
 use Rattle.dd_formula.specs.LocalRule.{LocalRule}
 
--- the periods that an answer gives; 1 along an axis for which it gives none
+-- the periods that are read back from an answer; 1 along an axis for which it writes none
 abbrev pub given_periods : List ℕ → ℕ → Periods
 given_periods along shear =
     record { x = slice_index_or along 0 1; y = slice_index_or along 1 1; z = slice_index_or along 2 1; shear = shear }
 
--- the configuration that it gives
+-- the configuration that is read back from an answer
 abbrev pub given_tile : LocalRule → List ℕ → ℕ → List ℕ → Tile
 given_tile x along shear symbols = tile x.dimension (given_periods along shear) x.nodes symbols
 
--- the periods of a configuration along the axes of Z^d, as an answer gives them
+-- the periods of a configuration along the axes of Z^d, as an answer writes them
 abbrev pub written_periods : Tile → List ℕ
 written_periods t = take t.dimension (t.periods.x ∷ t.periods.y ∷ t.periods.z ∷ [])
 
--- a configuration can be read back from what is written of it
+-- the configuration can be read back from what an answer writes of it
 pub record IsWrittenBack (x : LocalRule) (t : Tile) : Type 0 where
   pub as_many : length (written_periods t) ≡ x.dimension
   pub same : given_tile x (written_periods t) t.periods.shear t.symbols ≡ t

@@ -1,4 +1,4 @@
-//! Laws of what answers write, as contracts of calls that do nothing.
+//! Laws of what answers write. Each is the contract of a call that does nothing.
 ghost use Rattle.std.specs.Prelude.{◌≡◌, ◌<◌, ◌↔◌, ℕ, ℤ, List, Contains, All};
 ghost use Rattle.dd_pattern.specs.Tile.{Tile, IsTile, IsPeriodic};
 ghost use Rattle.dd_formula.specs.LocalRule.{LocalRule, IsRule};
@@ -14,31 +14,31 @@ ghost use Rattle.dd_evidence.specs.Cells.{IsOutside};
 ghost use Rattle.dd_evidence.specs.Tiles.{IsWrittenBack};
 ghost use Rattle.dd_evidence.specs.Lists.{listed, IsForbiddenList, IsStarredList, patterns_at};
 
-/// Does nothing; its contract says that a configuration can be read back from the numbers that an answer writes for it.
+/// Does nothing. Its contract says that a configuration can be read back from the numbers that an answer writes for it.
 pub fn written_back()
     ensures { (x : LocalRule) (t : Tile) → IsTile t → Fits x t → IsWrittenBack x t }
 {}
 
-/// Does nothing; its contract says that an output can hold the place of the first cell at which a rule is false.
+/// Does nothing. Its contract says that an output can hold the place of the first cell at which a rule is false.
 pub fn places_fit()
     ensures { (x : LocalRule) (t : Tile) (place : List ℤ) → IsRule x → IsPeriodic t → Fits x t → IsOutside x t place → IsWritable (answer.Outside place) }
 {}
 
-/// Does nothing; its contract says that there is only one list of the patterns that a rule forbids.
+/// Does nothing. Its contract says that there is only one list of the patterns that a rule forbids.
 pub fn one_list()
     ensures { (x : LocalRule) (some others : List AnyListed) → IsForbiddenList x some → IsForbiddenList x others → some ≡ others }
 {
     dd_forbidden::one_list();
 }
 
-/// Does nothing; its contract says that the patterns listed at a node are the fillings that break the rule there.
+/// Does nothing. Its contract says that the patterns listed at a node are the fillings that break the rule there.
 pub fn listed_break()
     ensures { (x : LocalRule) (patterns : List AnyListed) (a : ℕ) (ss : List ℕ) → IsForbiddenList x patterns → a < x.nodes →
         Contains patterns (listed a ss) ↔ IsBreaking x a ss }
 {}
 
-/// Does nothing; its contract says that an output can hold the list, if at each node the cells that the rule reads have few
-/// fillings.
+/// Does nothing. Its contract says that an output can hold the list of the patterns that a rule forbids, if at each node the
+/// cells that the rule reads have few fillings.
 pub fn lists_fit()
     ensures { (x : LocalRule) (patterns : List AnyListed) → IsRule x → HasFewPatterns x → IsForbiddenList x patterns → IsWritable (answer.List patterns) }
 {
@@ -46,21 +46,21 @@ pub fn lists_fit()
     dd_forbidden::known_symbols();
 }
 
-/// Does nothing; its contract says that there is only one list of the minimal patterns of a rule.
+/// Does nothing. Its contract says that there is only one list of the minimal patterns of a rule.
 pub fn one_starred()
     ensures { (x : LocalRule) (some others : List AnyStarred) → IsStarredList x some → IsStarredList x others → some ≡ others }
 {
     dd_minimal::one_list();
 }
 
-/// Does nothing; its contract says that each listed pattern belongs to a node of the rule, and that those of a node are its
-/// minimal list. So what holds of that list holds of them.
+/// Does nothing. Its contract says that each listed pattern belongs to a node of the rule, and that the patterns of a node
+/// are the minimal list there. So the laws of minimal lists hold of them.
 pub fn starred_are_minimal()
     ensures nodes { (x : LocalRule) (patterns : List AnyStarred) → IsStarredList x patterns → All (λ p. p.node < x.nodes) patterns }
     ensures minimal { (x : LocalRule) (patterns : List AnyStarred) (a : ℕ) → IsStarredList x patterns → a < x.nodes → IsMinimalList x a (patterns_at a patterns) }
 {}
 
-/// Does nothing; its contract says that an output can hold the list of the minimal patterns, if at each node the cells that the
+/// Does nothing. Its contract says that an output can hold the list of the minimal patterns, if at each node the cells that the
 /// rule reads have few fillings.
 pub fn starred_fit()
     ensures { (x : LocalRule) (patterns : List AnyStarred) → IsRule x → HasFewPatterns x → IsStarredList x patterns → IsWritable (answer.Minimal patterns) }

@@ -1,5 +1,4 @@
-//! How answers write parts of questions: cells, configurations, and the patterns that a rule forbids, all of them or only the
-//! minimal ones.
+//! How answers write cells, configurations, and the patterns that a rule forbids: all of them, or only the minimal ones.
 #![tactic(auto)]
 
 mod laws;

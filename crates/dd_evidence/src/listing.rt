@@ -1,4 +1,4 @@
-//! The patterns that a rule forbids.
+//! The list of all the patterns that a rule forbids.
 ghost use Rattle.std.specs.Prelude.{◌≡◌, ◌<◌, IfOk, OnOk};
 ghost use Rattle.dd_question.specs.Lists.{HasFewPatterns};
 ghost use Rattle.dd_forbidden.specs.Breaking.{AreBreakingFillings, BreakingFillings};
@@ -12,6 +12,7 @@ use dd_pattern::Filling;
 use dd_values::Items;
 use std::alloc::{AllocError, Global};
 
+/// The pattern of a filling of the cells that the rule reads at the node.
 fn listed(alloc: Global, node: u32, filling: &Filling) -> Result<Listed, AllocError>
     ensures { IfOk result (λ pattern. pattern ≡ listed node filling.now.symbols) }
 {
@@ -26,7 +27,7 @@ fn listed(alloc: Global, node: u32, filling: &Filling) -> Result<Listed, AllocEr
     })
 }
 
-/// All fillings that break the rule at the node.
+/// All fillings that break the rule at the node. There are few fillings, so `forbidden` doesn't refuse.
 fn breaking(alloc: Global, rule: &Rule, node: u32) -> Result<Vec<Filling>, AllocError>
     requires node { node < rule.now.nodes }
     requires few { HasFewPatterns rule.now }
@@ -39,7 +40,7 @@ fn breaking(alloc: Global, rule: &Rule, node: u32) -> Result<Vec<Filling>, Alloc
     }
 }
 
-/// Appends the patterns of one node.
+/// Appends the patterns that the rule forbids at the node.
 fn push_node(
     alloc: Global,
     rule: &Rule,
@@ -58,9 +59,9 @@ fn push_node(
     Ok(())
 }
 
-/// The patterns that a rule forbids. Node by node these are the fillings, of the cells that the rule reads there, that break it,
-/// in lexicographic order of their symbols. A rule that reads nothing at a node and is false there forbids the pattern without
-/// symbols.
+/// The patterns that a rule forbids, node by node. At a node these are the fillings of the cells that the rule reads there
+/// under which it is false, in lexicographic order of their symbols. A rule that reads nothing at a node and is false there
+/// forbids the pattern without symbols.
 pub fn forbidden_patterns(alloc: Global, rule: &Rule) -> Result<Items<Listed>, AllocError>
     requires { HasFewPatterns rule.now }
     ensures { IfOk result (IsForbiddenList rule.now) }

@@ -1,4 +1,5 @@
-//! The minimal patterns that a rule forbids.
+//! The list of the minimal patterns that a rule forbids. A starred pattern has a star, `None`, for each cell that it leaves
+//! out.
 ghost use Rattle.std.specs.Prelude.{◌≡◌, ◌<◌, IfOk, OnOk};
 ghost use Rattle.dd_question.specs.Lists.{HasFewPatterns};
 ghost use Rattle.dd_minimal.specs.Minimal.{AreMinimal, IsMinimalList};
@@ -12,7 +13,7 @@ use dd_minimal::{Partial, minimal};
 use dd_values::Items;
 use std::alloc::{AllocError, Global};
 
-/// The symbol of a cell, or `None` if the pattern leaves it out.
+/// The symbol of a cell as an answer writes it, or `None` if the pattern leaves the cell out.
 fn kept(symbol: Option<u32>) -> Option<u64>
     ensures { result ≡ symbol }
 {
@@ -22,6 +23,7 @@ fn kept(symbol: Option<u32>) -> Option<u64>
     }
 }
 
+/// The starred pattern of a minimal pattern of the node.
 fn starred(alloc: Global, node: u32, pattern: &Partial) -> Result<Starred, AllocError>
     ensures { IfOk result (λ p. p ≡ starred node pattern.now.symbols) }
 {
@@ -35,7 +37,7 @@ fn starred(alloc: Global, node: u32, pattern: &Partial) -> Result<Starred, Alloc
     })
 }
 
-/// The minimal patterns of the node.
+/// The minimal patterns of the node. There are few fillings, so `minimal` doesn't refuse.
 fn minimal_at(alloc: Global, rule: &Rule, node: u32) -> Result<Vec<Partial>, AllocError>
     requires node { node < rule.now.nodes }
     requires few { HasFewPatterns rule.now }
@@ -48,7 +50,7 @@ fn minimal_at(alloc: Global, rule: &Rule, node: u32) -> Result<Vec<Partial>, All
     }
 }
 
-/// Appends the patterns of one node.
+/// Appends the minimal patterns of the node.
 fn push_starred(
     alloc: Global,
     rule: &Rule,
@@ -66,8 +68,8 @@ fn push_starred(
     Ok(())
 }
 
-/// The minimal patterns that a rule forbids, node by node. No cell can be left out of any of them; together they forbid what the
-/// rule forbids.
+/// The minimal patterns that a rule forbids, node by node. No cell can be left out of one of them. Together they forbid
+/// exactly what the rule forbids.
 pub fn minimal_patterns(alloc: Global, rule: &Rule) -> Result<Items<Starred>, AllocError>
     requires { HasFewPatterns rule.now }
     ensures { IfOk result (IsStarredList rule.now) }

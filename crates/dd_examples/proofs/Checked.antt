@@ -28,7 +28,7 @@ right_at s answers done a less at = (
 pub none_yet : (s : Parts) (answers : List Answer) → IsTrue true ↔ AreRightTo s answers 0
 none_yet s answers = (λ yes number low high. absurd (omega (arith, low, high)), λ all. refl)
 
--- the answers so far are checked, and then the next
+-- the answers so far were checked, and now the next is
 pub right_next : (s : Parts) (answers : List Answer) (done : ℕ) (a : Answer) (before this : Bool) → done < length answers → a ≡ get_or answers done a
     → (IsTrue before ↔ AreRightTo s answers done) → (IsTrue this ↔ IsRight s (done + 1) a)
     → IsTrue (before && this) ↔ AreRightTo s answers (done + 1)
@@ -45,7 +45,7 @@ right_next s answers done a false this less at so_far one = (
   λ all. so_far.1 (λ number low high. all number low (omega (arith, high))),
 )
 
--- the queries are those of the script
+-- an index of the answers is one of the script's queries too
 pub below_queries : (s : Parts) (qs : List Query) (answers : List Answer) (done : ℕ) → qs ≡ s.queries → length answers ≡ length qs → done < length answers
     → done < length s.queries
 below_queries s qs answers done are as_many less = omega (arith, as_many, less, ap length are)

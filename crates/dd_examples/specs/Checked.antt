@@ -26,7 +26,7 @@ pub record AreRight (s : Parts) (answers : List Answer) : Type 0 where
   pub as_many : length answers ≡ length s.queries
   pub each : AreRightTo s answers (length answers)
 
--- the output has a script, and is accepted exactly if its answers are right
+-- the output has a script, and `accepted` says whether its answers are right
 pub record IsJudged (o : Output) (accepted : Bool) : Type 0 where
   pub script : Parts
   pub spelled : Spells o.script script
@@ -45,8 +45,7 @@ pub record HasRefusedScript (bytes : List ℕ) (fault : ScriptFault) : Type 0 wh
   pub text : bytes ≡ output_text output
   pub refused : IsScriptRefusal output.script fault
 
--- Why bytes have no verdict: they are no output, with the offset at which they stop being one; memory ran out; or their script
--- is refused.
+-- Why bytes have no verdict: they are no output, their script is refused, or memory ran out.
 abbrev pub IsUnchecked : List ℕ → Unchecked → Type 0
 IsUnchecked bytes (unchecked.Output fault) = IsOutputFault bytes fault
 IsUnchecked bytes (unchecked.Script fault) = HasRefusedScript bytes fault

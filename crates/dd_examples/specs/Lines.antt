@@ -19,7 +19,7 @@ pub record IsFollowed (IsFirst IsRest : List ℕ → Type 0) (text : List ℕ) :
   pub others : IsRest rest
   pub whole : text ≡ line ++ rest
 
--- such a line for each query, one after the other; the queries are numbered from `number` on
+-- the text is such a line for each query, one after the other; the queries are numbered from `number` on
 abbrev pub AreLines : Parts → ℕ → List Query → List ℕ → Type 0
 AreLines s number [] text = text ≡ []
 AreLines s number (q ∷ qs) text = IsFollowed (IsLine s number q) (AreLines s (number + 1) qs) text

@@ -1,4 +1,4 @@
--- A configuration without a period: 1 at the origin, and 0 everywhere else.
+-- A configuration without a period: the symbol 1 at the origin, and 0 everywhere else.
 use Rattle.std.specs.{Prelude.ℕ, Prelude.cond, Prelude.◌&&◌, Prelude.pos, Ordering.int_eq}
 use Rattle.dd_lattice.specs.declared.position.Cell.{Cell}
 

@@ -6,21 +6,21 @@ use Rattle.dd_expansion.specs.declared.formulas.Formula.{Formula}
 use Rattle.dd_expansion.specs.declared.formulas.Formula.TheVariants.{Symbol, And, Implies}
 use Rattle.dd_formula.specs.LocalRule.{LocalRule, local_rule}
 
--- the labels of the moves up and to the right
+-- the numbers of the labels `up` and `rt`
 abbrev pub up : ℕ
 up = 0
 
 abbrev pub right : ℕ
 right = 2
 
--- the symbol at the end of these moves from the cell
+-- the cell at the end of these moves from the origin has the symbol s
 abbrev pub symbol_after : List ℕ → ℕ → Formula
 symbol_after moves s = Symbol (record { variable = 0; moves = moves }) s
 
 abbrev pub hard_formula : Formula
 hard_formula = Implies (symbol_after [] 1) (And (symbol_after (right ∷ []) 0 ∷ symbol_after (up ∷ []) 0 ∷ []))
 
--- the rule of hard squares, over the square lattice and the symbols 0 and 1
+-- the rule of hard squares, over the square topology and the symbols 0 and 1
 abbrev pub hard : LocalRule
 hard = local_rule square (all_symbols 1 2) hard_formula
 

@@ -1,4 +1,4 @@
-//! A rule and a question that are made without a script. For each condition that they must meet there is a call that tests it.
+//! A rule and a question that are made without a script. Each condition that they must meet is tested.
 ghost use Rattle.std.specs.Prelude.{◌≡◌, length, IfOk};
 ghost use Rattle.dd_topology.specs.Sets.{all_symbols};
 ghost use Rattle.dd_formula.specs.LocalRule.{local_rule};
@@ -20,7 +20,7 @@ use std::alloc::{AllocError, Global};
 /// Why the question was not asked.
 #[derive(Debug, Drop)]
 pub enum Unasked {
-    /// There are more than 4 nodes, no symbol, or more than 16.
+    /// There are more than 4 nodes, no symbols, or more than 16 symbols.
     Numbers,
     /// The formula names something that doesn't exist, or is too deep.
     Formula,
@@ -50,7 +50,7 @@ impl From<QuestionFault> for Unasked {
     }
 }
 
-/// The rule of a formula over a topology with this many labels, and with this many symbols, all allowed at each node.
+/// The rule of a formula over a topology, which has this many labels. There are this many symbols, all allowed at each node.
 fn rule_of(
     alloc: Global,
     topology: &Topology,
@@ -72,7 +72,7 @@ fn rule_of(
     Ok(Rule::new(alloc, topology, &sets, formula)?)
 }
 
-/// The right answer to a question, which must be well formed and within these limits. No engine is asked before the search.
+/// The right answer to a question, which must be well formed and within these limits. The roster has no engine to ask.
 fn answer_to(alloc: Global, question: Question, limits: &Limits) -> Result<Answer, Unasked>
     ensures { IfOk result (λ answer. IsRightTo limits.now (asked_of question.entry) answer) }
 {
@@ -81,7 +81,7 @@ fn answer_to(alloc: Global, question: Question, limits: &Limits) -> Result<Answe
     Ok(respond(alloc, &checked, &mut roster)?)
 }
 
-/// The rule of hard squares.
+/// The rule of hard squares, with all its conditions tested.
 fn tested_squares(alloc: Global) -> Result<Rule, Unasked>
     ensures { IfOk result (λ rule. rule ≡ hard) }
 {

@@ -1,4 +1,4 @@
-//! An output that is read and checked: whether each of its answers is a certificate.
+//! Reading an output, and checking whether each of its answers is a certificate.
 ghost use Rattle.std.specs.Prelude.{◌+◌, ◌<◌, length, IsTrue, ◌↔◌, IfOk, IfErr};
 ghost use Rattle.dd_output.specs.Outputs.{IsWritableOutput};
 ghost use Rattle.dd_script.specs.Scripts.{IsScriptRefusal};
@@ -13,9 +13,9 @@ use std::alloc::{AllocError, Global};
 /// Why an output isn't checked.
 #[derive(Debug, Drop)]
 pub enum Unchecked {
-    /// The bytes are no output.
+    /// The bytes are no output, or memory ran out.
     Output(CertificateFault),
-    /// The bytes that the output gives as its script spell no script.
+    /// The bytes that the output gives as its script spell no script, or memory ran out.
     Script(ScriptFault),
 }
 
@@ -30,7 +30,7 @@ fn is_right(
     requires { before < length script.now.queries }
     ensures { IfOk result (λ right. IsTrue right ↔ IsRight script.now (before + 1) answer.now) }
 {
-    // Read for its fact: so many queries can be counted.
+    // This call tells the proof what the type guarantees.
     let _queries = script.queries().len();
     let Ok(number) = u32::try_from(before + 1) else {
         return Err(AllocError);
@@ -55,7 +55,7 @@ pub fn are_right(alloc: Global, script: &Script, answers: &[Answer]) -> Result<b
     Ok(all)
 }
 
-/// Whether the answers of an output are right, or why its script isn't one.
+/// Whether the answers of an output are right, or why its script is refused.
 fn judged(alloc: Global, output: &Output) -> Result<bool, ScriptFault>
     requires { IsWritableOutput output.now }
     ensures judged { IfOk result (IsJudged output.now) }

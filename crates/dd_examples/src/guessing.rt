@@ -1,4 +1,4 @@
-//! A user's own engine, which may be wrong, and a roster that asks it.
+//! An engine of one's own, which may be wrong, and a roster that asks it.
 ghost use Rattle.std.specs.Prelude.{false, IfOk, IfSome};
 ghost use Rattle.dd_engines.specs.Proposals.{IsRightOutcome};
 
@@ -7,7 +7,7 @@ use dd_derivation::Outcome;
 use dd_engines::{Engine, Proposal, Roster, Tally};
 use std::alloc::{AllocError, Global};
 
-/// Proposes the assignment that gives each variable the same value.
+/// An engine that proposes the assignment with the same value for each variable.
 #[derive(Drop)]
 pub struct Guess {
     value: bool,
@@ -39,8 +39,8 @@ impl Engine for Guess {
     }
 }
 
-/// An assignment that satisfies the clauses, if all variables false or all variables true do. This is right without a proof
-/// about the engines, since the roster checks what they propose.
+/// An assignment that satisfies the clauses, if they hold with all variables false or with all true. Nothing is proved about the
+/// engines. The outcome is right all the same, since the roster checks what they propose.
 pub fn guessed(alloc: Global, cnf: &Cnf) -> Result<Option<Outcome>, AllocError>
     ensures { IfOk result (λ answer. IfSome answer (IsRightOutcome cnf.now)) }
 {

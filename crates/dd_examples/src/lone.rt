@@ -30,8 +30,8 @@ impl Configuration for Lone {
     }
 }
 
-/// Does nothing; its contract says what a YES that is a certificate means for this configuration: if it obeys the premise, the
-/// goal doesn't hold at the position.
+/// Does nothing. Its contract says what a YES means for this configuration if it is a certificate of the query with the number `query`,
+/// from 1. If the configuration obeys the premise everywhere, the goal doesn't hold at `place`.
 pub fn nowhere_in_lone(script: &Script, query: u32, answer: &Answer, place: &Position)
     requires certificate { IsCertificate script.now query answer.now }
     requires yes { is_yes answer.now ≡ true }

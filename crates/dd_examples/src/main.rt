@@ -1,6 +1,6 @@
-//! Examples of the use of the crates. Without a word, this program reads an output and writes it again. With `check` it reads an
-//! output and says whether each answer is a certificate. With `answer` it reads a script and writes the first line of each
-//! answer. With `squares` it says whether the chessboard is a configuration of hard squares.
+//! Examples of the use of the crates. Without arguments, this program reads an output and writes it again. With `check` it reads an
+//! output and says whether each answer is a certificate. With `answer` it reads a script and writes the first line of each answer.
+//! With `squares` it says whether the chessboard is a configuration of hard squares: no two 1s are side by side or one above the other.
 #![tactic(auto)]
 
 mod asking;
@@ -31,7 +31,7 @@ fn task_of(rt: &HostRuntime) -> Result<Task, Fault> {
     Task::named(&words)
 }
 
-// What is written.
+// What the task writes.
 fn text_of(rt: &HostRuntime) -> Result<Vec<u8>, Fault> {
     let task = task_of(rt)?;
     let mut source = StdSource::new(rt.stdin());

@@ -1,10 +1,11 @@
-//! An output that is read and written again.
+//! Reading an output, and writing it again.
 ghost use Rattle.std.specs.Prelude.{◌≡◌, IfOk};
 
 use dd_output::{CertificateFault, read_output, write_output};
 use std::alloc::Global;
 
-/// The output in these bytes, written again as the same bytes; or the offset at which they stop being an output.
+/// The output that these bytes are, written again as the same bytes. If they are no output, the error has the length of their longest
+/// prefix that begins one.
 pub fn rewritten(alloc: Global, bytes: &[u8]) -> Result<Vec<u8>, CertificateFault>
     ensures { IfOk result (λ text. text.items ≡ bytes.now) }
 {

@@ -1,4 +1,4 @@
-//! A rule made without a script, and whether a configuration obeys it.
+//! A rule that is made without a script, and whether a configuration obeys it.
 ghost use Rattle.std.specs.Prelude.{◌≡◌, IfOk};
 ghost use Rattle.dd_formula.specs.Living.{IsMembership};
 ghost use Rattle.dd_examples.specs.Squares.{symbol_after, hard_formula, hard, chessboard};
@@ -9,12 +9,13 @@ use dd_topology::{Kind, Sets, Topology};
 use dd_values::{Boxed, Items};
 use std::alloc::{AllocError, Global};
 
-/// The numbers of the labels `up` and `rt` of the square lattice.
+/// The number of the label `up` in the square topology.
 const UP: u32 = 0;
 
+/// The number of the label `rt` in the square topology.
 const RIGHT: u32 = 2;
 
-/// The formula that the cell at the end of these moves has the symbol.
+/// The formula that the cell at the end of these moves from the origin has the symbol.
 fn symbol_after(alloc: Global, moves: &[u32], symbol: u32) -> Result<Formula, AllocError>
     ensures { IfOk result (λ formula. formula ≡ symbol_after moves.now symbol) }
 {
@@ -25,7 +26,7 @@ fn symbol_after(alloc: Global, moves: &[u32], symbol: u32) -> Result<Formula, Al
     })
 }
 
-/// `o=1 -> (o.rt=0 & o.up=0)`
+/// The formula `o=1 -> (o.rt=0 & o.up=0)`: a 1 has a 0 to its right and above it.
 pub(crate) fn hard_formula(alloc: Global) -> Result<Formula, AllocError>
     ensures { IfOk result (λ formula. formula ≡ hard_formula) }
 {
@@ -37,7 +38,7 @@ pub(crate) fn hard_formula(alloc: Global) -> Result<Formula, AllocError>
     Ok(Formula::Implies(one, both))
 }
 
-/// The rule of hard squares, over the square lattice and the symbols 0 and 1.
+/// The rule of hard squares, over the square topology and the symbols 0 and 1.
 pub fn hard_squares(alloc: Global) -> Result<Rule, RuleFault>
     ensures { IfOk result (λ rule. rule ≡ hard) }
 {

@@ -13,7 +13,7 @@ use dd_script::{ScriptFault, ScriptKind};
 use dd_values::{Limits, MOST_SCRIPT};
 use std::alloc::Global;
 
-/// Limits in range. The question whether a configuration obeys a rule takes no search, so they change nothing.
+/// Limits that are in range. Whether a configuration obeys a rule takes no search, so their values don't matter.
 const LIMITS: Limits = Limits {
     radius: 2,
     period: 2,
@@ -23,11 +23,11 @@ const LIMITS: Limits = Limits {
 /// What the program is asked to do.
 #[derive(Clone, Copy, Debug, PartialEq, Eq)]
 pub enum Task {
-    /// Write the output that is read again.
+    /// Read an output, and write it again.
     Rewrite,
-    /// Write the first line of each answer to the script that is read.
+    /// Read a script, and write the first line of the answer to each query.
     Answer,
-    /// Say whether each answer of the output that is read is a certificate.
+    /// Read an output, and say whether each of its answers is a certificate.
     Check,
     /// Say whether the chessboard is a configuration of hard squares.
     Squares,
@@ -36,11 +36,11 @@ pub enum Task {
 /// Why nothing is written.
 #[derive(Clone, Copy, Debug, PartialEq, Eq)]
 pub enum Fault {
-    /// The words name no task.
+    /// The words can't be read, or name no task.
     Words,
     /// The input could not be read, or is too long.
     Input,
-    /// The bytes, or those that an output gives as its script, spell no script.
+    /// The bytes spell no script, or those that an output gives as its script don't.
     Script,
     /// The bytes are no output.
     Output,
@@ -101,7 +101,7 @@ impl From<Unchecked> for Fault {
     }
 }
 
-// A line, unless memory ran out.
+// A copy of a line.
 fn line(alloc: Global, text: &[u8]) -> Result<Vec<u8>, Fault> {
     match Vec::from_slice(alloc, text) {
         Ok(line) => Ok(line),

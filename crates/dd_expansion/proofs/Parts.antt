@@ -14,7 +14,7 @@ use Rattle.dd_expansion.specs.lemmas.{Layers.fits_and, Layers.depth_and, Depths.
 use Rattle.dd_values.specs.lemmas.{Numbers.cond_more, Lists.list_at}
 use Rattle.dd_expansion.specs.declared.formulas.Formula.TheVariants as formula
 
--- each part of a conjunction that fits fits
+-- if a conjunction fits, so does each part
 pub part_fits : (g : Grid) (n : ℕ) (fs : List Formula) (scope i : ℕ) (f : Formula) → formula_fits g n (formula.And fs) scope ≡ true → i < length fs → f ≡ get_or fs i f → formula_fits g n f scope ≡ true
 part_fits g n fs scope i f h within is =
     ap (λ x. formula_fits g n x scope) is ∙ list_at (λ x. formula_fits g n x scope) fs i f (sym (fits_and g n fs scope) ∙ h) within
@@ -26,13 +26,13 @@ part_depth fs i f within is =
     let least = cond_more (nat_le 2 (length (map depth fs))) (greatest (map depth fs)) in
     omega (arith, ap depth is, greatest_at fs i f within, whole, least)
 
--- the balls and the body of a quantifier
+-- if a quantified formula fits, so do its balls and its body
 pub quantified_fits : (g : Grid) (n : ℕ) (bs : List BallOf) (f : Formula) (scope : ℕ) → formula_fits g n (formula.ForAll bs f) scope ≡ true → (balls_fit scope bs ≡ true) × (formula_fits g n f (scope + 1) ≡ true)
 quantified_fits g n bs f scope h =
     let opened = ap (λ x. x scope) (fold-roll-Formula (ℕ → Bool) (formula_fits_step g n) (Formula-F.ForAll bs f)) in
     and_parts _ _ (sym opened ∙ (ap (λ x. formula_fits g n x scope) (formula.rolls-ForAll bs f) ∙ h))
 
--- one more variable, at a cell that is near
+-- an environment of near cells stays so with one more variable, whose cell is near
 pub near_push : (env : List Cell) (c : Cell) → AreNear (12 * length env) env → extent c.position ≤ 12 * (length env + 1) → AreNear (12 * length (env ++ c ∷ [])) (env ++ c ∷ [])
 near_push env c near here =
     let longer : 12 * (length env + 1) ≡ 12 * length (env ++ c ∷ []) = omega (arith, length-append env (c ∷ [])) in
@@ -44,7 +44,7 @@ near_push env c near here =
 pub map_more : {X Y : Type 0} (f : X → Y) (xs : List X) (i : ℕ) (d : X) → i < length xs → map f (take (i + 1) xs) ≡ map f (take i xs) ++ f (get_or xs i d) ∷ []
 map_more f xs i d within = ap (map f) (take_more xs i d within) ∙ map-append f (take i xs) (get_or xs i d ∷ [])
 
--- the same where a list is the environment with one more cell
+-- a list that is the environment with one more cell is longer by 1
 longer : (env inner : List Cell) (c : Cell) → inner ≡ env ++ c ∷ [] → length env + 1 ≡ length inner
 longer env inner c is = sym (ap length is ∙ length-append env (c ∷ []))
 
@@ -86,7 +86,7 @@ pub few_for_all : {X : Type 0} (cost : X → ℕ) (xs : List X) (i : ℕ) (x : X
     before < 1 + sum_by cost xs
 few_for_all cost xs i x left first before within is paid gate few = omega (arith, sum_by_more_le cost xs i x within, ap cost is, paid, gate, few)
 
--- what was paid is paid in another form
+-- if f of the value is made in place of the value, the cost is the same
 pub paid_as : {S T : Type 0} (f : S → T) (before after cost : ℕ) (value : S) (r : Result S ExpansionFault) (r' : Result T ExpansionFault) → IfOk r (λ x. r' ≡ Ok (f x)) → IfErr r (λ e. r' ≡ Err e) → IsPaid before after value cost r →
     IsPaid before after (f value) cost r'
 paid_as f before after cost value (Ok x) r' made fault paid = subst (IsPaid before after (f value) cost) (sym made) (ap f paid.0, paid.1)

@@ -1,4 +1,4 @@
--- How many nodes an expansion has, and how many clauses it takes.
+-- How many instances an expansion has, and how many clauses its gates have.
 use Rattle.std.proofs.Common.{◌≡◌, ℕ, ◌+◌, ◌*◌, ◌≤◌, List, [], ◌∷◌, map, length, take, ap, sym, ◌∙◌, arith}
 use Rattle.std.specs.List.{sum_by}
 use Rattle.std.proofs.lemmas.List.{take_all}
@@ -12,7 +12,7 @@ use Rattle.dd_expansion.specs.lemmas.Layers.{instances_and, instances_or, clause
 pub instances_alike : (es : List Expanded) → instances (expanded.Or es) ≡ instances (expanded.And es)
 instances_alike es = instances_or es ∙ sym (instances_and es)
 
--- the nodes of all parts and the node that joins them
+-- the instances of all parts, and one for the formula that joins them
 pub joined : (es : List Expanded) (i n : ℕ) → length es ≤ i → n ≡ 1 + sum_by instances (take i es) → n ≡ instances (expanded.And es)
 joined es i n whole is = is ∙ ap (λ xs. 1 + sum_by instances xs) (take_all i es whole) ∙ sym (instances_and es)
 
@@ -40,7 +40,7 @@ step_few (Expanded-F.And es) = omega (arith, parts_few es)
 step_few (Expanded-F.Or es) = omega (arith, parts_few es)
 step_few (Expanded-F.Iff e f) = omega (arith, e.1, f.1)
 
--- at most four clauses for each node
+-- at most four clauses for each instance
 pub clauses_few : (e : Expanded) → clause_count e + 1 ≤ 4 * instances e
 clauses_few = ind-Expanded HasFew (λ x y is.
     rw (fold-roll-Expanded ℕ clause_count_step x, fold-roll-Expanded ℕ instances_step x, ← is) (step_few y))

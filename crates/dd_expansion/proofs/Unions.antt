@@ -9,7 +9,7 @@ use Rattle.dd_values.specs.lemmas.Members.{All-from_contains}
 use Rattle.dd_topology.specs.{declared.edge.Edge.Edge, Topology.extent, lemmas.OrderLaws.is-in_order}
 use Rattle.dd_expansion.specs.{declared.formulas.BallOf.BallOf, Terms.ball_round, Terms.balls_of, expanding.Near.AreNear}
 
--- one list of cells after another
+-- joining lists that have the same cells gives lists that have the same cells
 joined : (ps bs cs ds : List Cell) → HaveSameCells ps bs → HaveSameCells cs ds → HaveSameCells (ps ++ cs) (bs ++ ds)
 joined ps bs cs ds same same' d = (
   λ h. elim (Contains-append_cases ps cs d h) [ inl a ↦ Contains-append_left bs ds d ((same d).0 a) | inr c ↦ Contains-append_right bs ds d ((same' d).0 c) ],

@@ -1,4 +1,4 @@
--- The expansion of a formula: the formula without variables that says the same at one cell.
+-- The expansion of a formula: a formula without variables that says the same at one cell.
 use Rattle.std.specs.Prelude.{ℕ, ◌==◌, Bool, false, List, [], ◌∷◌, ◌++◌, map, Option, Some, None}
 use Rattle.std.specs.List.{range_with_len}
 use Rattle.dd_lattice.specs.{InOrder.in_order, declared.position.Cell.Cell}
@@ -42,7 +42,7 @@ both_have c d s = all_of (leaf s c ∷ leaf s d ∷ [])
 abbrev pub equal_at : ℕ → Cell → Cell → Expanded
 equal_at n c d = any_of (map (both_have c d) (range_with_len 0 n))
 
--- the expansion, given the variables' cells
+-- the expansion, for each environment
 abbrev pub Expansion : Type 0
 Expansion = List Cell → Expanded
 
@@ -62,7 +62,7 @@ expansion_step es n (Formula-F.Iff f g) env = both_alike (f env) (g env)
 expansion_step es n (Formula-F.ForAll bs f) env = all_of (map (λ c. f (env ++ c ∷ [])) (in_order (balls_of es env bs)))
 expansion_step es n (Formula-F.Exists bs f) env = any_of (map (λ c. f (env ++ c ∷ [])) (in_order (balls_of es env bs)))
 
--- the expansion over n symbols. A quantifier has a part for each cell of its balls, in cell order. No constant is folded
--- away
+-- the expansion over n symbols. A quantifier has a part for each cell of its balls, in cell order. Constants are kept, not
+-- simplified away
 abbrev pub expansion : List Edge → ℕ → Formula → Expansion
 expansion es n = fold-Formula Expansion (expansion_step es n)

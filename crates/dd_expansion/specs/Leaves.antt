@@ -1,4 +1,4 @@
--- Formulas without variables: their truth, their leaves and their sizes.
+-- Expansions: their truth, their leaves and their sizes.
 use Rattle.std.specs.Prelude.{ℕ, ◌+◌, ◌&&◌, not, Bool, true, is_some, cond, None, List, [], ◌∷◌, ◌++◌, length}
 use Rattle.std.specs.{Bool.beq, List.list_all, List.list_any, List.flat_map}
 use Rattle.dd_lattice.specs.{Place.Place, Place.moved, Place.is_in_range, Cells.shifted, declared.position.Cell.Cell}
@@ -14,7 +14,7 @@ holds_step (Expanded-F.And es) look = list_all (λ e. e look) es
 holds_step (Expanded-F.Or es) look = list_any (λ e. e look) es
 holds_step (Expanded-F.Iff e f) look = beq (e look) (f look)
 
--- the truth under the symbols of cells
+-- the truth of an expansion, with the symbols that the look-up gives
 abbrev pub holds : Expanded → Look → Bool
 holds = fold-Expanded (Look → Bool) holds_step
 
@@ -62,7 +62,7 @@ instances_step (Expanded-F.And es) = 1 + total es
 instances_step (Expanded-F.Or es) = 1 + total es
 instances_step (Expanded-F.Iff e f) = 1 + (e + f)
 
--- the number of nodes of the tree
+-- the number of instances: the expansion itself, its parts, their parts and so on
 abbrev pub instances : Expanded → ℕ
 instances = fold-Expanded ℕ instances_step
 
@@ -74,11 +74,11 @@ clause_count_step (Expanded-F.And es) = total es + (length es + 1)
 clause_count_step (Expanded-F.Or es) = total es + (length es + 1)
 clause_count_step (Expanded-F.Iff e f) = (e + f) + 4
 
--- the number of clauses of its gates. A constant is a gate without parts. An `And` or `Or` of k parts has k + 1 clauses,
--- and an `Iff` has 4. A `Not` or a leaf has none
+-- the number of clauses of its gates. A constant has 1, an `And` or `Or` of k parts has k + 1, and an `Iff` has 4. A `Not`
+-- or a leaf has none
 abbrev pub clause_count : Expanded → ℕ
 clause_count = fold-Expanded ℕ clause_count_step
 
--- the symbols as seen from v: cells are counted from v, and one past the range of positions has no symbol
+-- the symbols as seen from v: the symbol of c is that of c moved by v, and a moved cell out of range has none
 abbrev pub seen : Look → Place → Look
 seen look v c = cond (is_in_range (moved c.position v)) (look (shifted v c)) None

@@ -1,18 +1,18 @@
 -- terms and balls
 pub mod Terms
--- truth under symbols
+-- the truth of a formula, when cells have symbols
 pub mod Truth
 -- the cells at which a formula looks
 pub mod Reads
--- the formula without variables
+-- the expansion of a formula: a formula without variables
 pub mod Expansion
--- the leaves of formulas without variables, their truth under symbols, and their sizes
+-- the truth of expansions, their leaves and their sizes
 pub mod Leaves
--- the limits of formulas
+-- well-formed formulas
 pub mod Limits
 -- cells of Z^d
 pub mod Placed
--- what the code keeps while it expands
+-- definitions for private functions: atoms, budgets, and nearness to the origin
 pub mod expanding
 -- lemmas on these definitions, with their proofs
 pub mod lemmas

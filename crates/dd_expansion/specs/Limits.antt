@@ -1,4 +1,4 @@
--- The numbers in a formula, and how deep it is.
+-- Well-formed formulas: each variable, label, node and symbol that they number exists, and they keep within limits.
 use Rattle.std.specs.Prelude.{ℕ, ◌+◌, ◌≤◌, ◌≡◌, ◌&&◌, Bool, true, List, [], ◌∷◌, cond, max, length, nat_lt, nat_le}
 use Rattle.std.specs.List.{list_all}
 use Rattle.dd_values.specs.Bounds.{widest_radius}
@@ -6,21 +6,23 @@ use Rattle.dd_topology.specs.Grid.{Grid}
 use Rattle.dd_expansion.specs.declared.formulas.{Term.Term, BallOf.BallOf, Formula.Formula}
 use Rattle.dd_expansion.specs.declared.formulas.Formula.{TheFolds.fold-Formula, TheOpen.Formula-F}
 
--- the greatest number of moves of a term and of balls of a quantifier, and the greatest depth of a formula
+-- the greatest number of moves of a term
 abbrev pub most_moves : ℕ
 most_moves = 16
 
+-- the greatest number of balls of a quantifier
 abbrev pub most_balls : ℕ
 most_balls = 4
 
+-- the greatest depth of a formula
 abbrev pub most_nested : ℕ
 most_nested = 64
 
--- the term's variable is in scope, and the label of each move exists
+-- with `scope` variables in scope, the term's variable is one of them, and the label of each move exists
 abbrev pub term_fits : Grid → ℕ → Term → Bool
 term_fits g scope t = nat_lt t.variable scope && nat_le (length t.moves) most_moves && list_all (λ l. nat_lt l (length g.labels)) t.moves
 
--- balls round variables in scope
+-- the ball, and all balls of a quantifier, are round variables in scope and within their limits
 abbrev pub ball_fits : ℕ → BallOf → Bool
 ball_fits scope b = nat_lt b.variable scope && nat_le b.radius widest_radius
 
@@ -43,7 +45,7 @@ formula_fits_step g n (Formula-F.Iff f h) scope = f scope && h scope
 formula_fits_step g n (Formula-F.ForAll bs f) scope = balls_fit scope bs && f (scope + 1)
 formula_fits_step g n (Formula-F.Exists bs f) scope = balls_fit scope bs && f (scope + 1)
 
--- with so many variables in scope, each variable, label, node and symbol of the formula exists, and terms and balls are
+-- with a given number of variables in scope, each variable, label, node and symbol of the formula exists, and terms and balls are
 -- within their limits
 abbrev pub formula_fits : Grid → ℕ → Formula → ℕ → Bool
 formula_fits g n = fold-Formula (ℕ → Bool) (formula_fits_step g n)
@@ -52,7 +54,7 @@ abbrev pub greatest : List ℕ → ℕ
 greatest [] = 0
 greatest (n ∷ ns) = max n (greatest ns)
 
--- a list of two parts or more is one deeper than its deepest part
+-- the depth of a conjunction or disjunction: with two parts or more it is one deeper than its deepest part
 abbrev pub list_depth : List ℕ → ℕ
 list_depth ns = cond (nat_le 2 (length ns)) (1 + greatest ns) (greatest ns)
 
@@ -72,6 +74,8 @@ depth_step (Formula-F.Iff f g) = 1 + max f g
 depth_step (Formula-F.ForAll bs f) = 1 + f
 depth_step (Formula-F.Exists bs f) = 1 + f
 
+-- the greatest number of connectives and quantifiers round an atom, where a conjunction or disjunction of one part counts
+-- for none
 abbrev pub depth : Formula → ℕ
 depth = fold-Formula ℕ depth_step
 

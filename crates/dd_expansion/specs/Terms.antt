@@ -1,4 +1,5 @@
--- Terms, which name cells, and balls, which name sets of cells. The environment gives the variables' cells by their numbers.
+-- Terms, which name cells, and balls, which are sets of cells. The environment lists the cells of the variables in scope,
+-- by the variables' numbers.
 use Rattle.std.specs.Prelude.{ℕ, ◌==◌, ◌&&◌, Bool, false, List, [], ◌∷◌, Option, Some, None, slice_get, pos}
 use Rattle.std.specs.{List.flat_map, Option.option_and_then}
 use Rattle.dd_lattice.specs.{Place.place, Cells.cell, declared.position.Cell.Cell}
@@ -14,7 +15,7 @@ walk es c (label ∷ labels) = option_and_then (λ d. walk es d labels) (step es
 abbrev pub cell_of : List Edge → List Cell → Term → Option Cell
 cell_of es env t = option_and_then (λ c. walk es c t.moves) (slice_get env t.variable)
 
--- a fact of a cell, or of two; false where a cell is missing
+-- a test of a cell, or of two cells; false where a cell is missing
 abbrev pub on_cell : (Cell → Bool) → Option Cell → Bool
 on_cell p None = false
 on_cell p (Some c) = p c

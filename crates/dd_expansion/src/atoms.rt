@@ -1,4 +1,4 @@
-//! The expansions of atoms, each paid from a budget of nodes.
+//! The expansions of atoms. Each takes its instances from a budget: one for itself, and one for each part at any depth.
 ghost use Rattle.std.specs.Prelude.{◌≡◌, ◌+◌, ◌<◌, ◌==◌, IfOk, OnOk, IfErr};
 ghost use Rattle.dd_topology.specs.Balls.{is_adjacent};
 ghost use Rattle.dd_expansion.specs.Terms.{same_cell};
@@ -13,7 +13,7 @@ use dd_topology::Topology;
 use dd_values::{Boxed, Items};
 use std::alloc::{AllocError, Global};
 
-/// Takes nodes from the budget. `Instances` if too few are left.
+/// Takes instances from the budget. `Instances` if too few are left.
 pub(crate) fn spend(budget: &mut u32, count: u32) -> Result<(), ExpansionFault>
     ensures ok { OnOk result (budget.new + count ≡ budget.old) }
     ensures few { IfErr result (λ fault. budget.old < count) }
@@ -41,7 +41,7 @@ fn leaf(symbol: u32, cell: Cell, budget: &mut u32) -> Result<Expanded, Expansion
     Ok(Expanded::Leaf { cell, symbol })
 }
 
-/// The negation of a part that is already paid.
+/// The negation of a part whose instances are already paid.
 pub(crate) fn negated(
     alloc: Global,
     part: Expanded,
@@ -53,7 +53,7 @@ pub(crate) fn negated(
     Ok(Expanded::Not(Boxed::new(alloc, part)?))
 }
 
-/// The symbol at a cell is this one.
+/// The symbol at the cell is this one. This atom and those below are the constant false where a cell is missing.
 pub(crate) fn symbol_at(
     symbol: u32,
     cell: Option<Cell>,
@@ -79,7 +79,7 @@ fn negated_leaf(
     negated(alloc, part, budget)
 }
 
-/// The symbol at a cell is not this one.
+/// The symbol at the cell is not this one.
 pub(crate) fn no_symbol_at(
     alloc: Global,
     symbol: u32,
@@ -116,7 +116,8 @@ fn both_have(
     Ok(Expanded::And(parts))
 }
 
-/// The two cells have the same symbol.
+/// The two cells have the same symbol: a disjunction over all symbols. Each takes three instances, a conjunction and two
+/// leaves.
 fn equal_at(
     alloc: Global,
     symbols: u32,
@@ -136,7 +137,7 @@ fn equal_at(
     Ok(Expanded::Or(parts))
 }
 
-/// The symbols at the two cells are equal.
+/// The two cells have the same symbol.
 pub(crate) fn same_at(
     alloc: Global,
     symbols: u32,
@@ -167,7 +168,7 @@ fn unequal_at(
     negated(alloc, part, budget)
 }
 
-/// The symbols at the two cells differ.
+/// The two cells have different symbols.
 pub(crate) fn not_same_at(
     alloc: Global,
     symbols: u32,

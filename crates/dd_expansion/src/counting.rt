@@ -1,4 +1,4 @@
-//! The number of clauses that an expansion takes.
+//! How many clauses an expansion has once it is written as gates.
 ghost use Rattle.std.specs.Prelude.{◌≡◌, ◌+◌, ◌^◌, ◌<◌, ◌≤◌, length};
 ghost use Rattle.std.specs.List.{sum_by};
 ghost use Rattle.dd_expansion.specs.Leaves.{instances, clause_count};
@@ -6,7 +6,8 @@ ghost use Rattle.dd_expansion.specs.Leaves.{instances, clause_count};
 use crate::expanded::Expanded;
 
 impl Expanded {
-    /// The number of clauses of the gates of this tree.
+    /// The number of clauses of the gates of this expansion. A constant has 1, a conjunction or disjunction of k parts
+    /// has k + 1, and an equivalence has 4. A leaf or a negation has none.
     #[tactic(auto, using(crate::proofs::Sizes::clauses_few))]
     pub fn clause_count(&self) -> u64
         requires { instances self.now ≤ 2 ^ 32 }
@@ -16,6 +17,7 @@ impl Expanded {
     }
 }
 
+/// The number of clauses, which fits 64 bits.
 #[cycle(count)]
 #[tactic(auto, using(std::proofs::lemmas::Grind::common_steps, crate::proofs::Sizes::count_layers))]
 fn count(expanded: &Expanded) -> u64
@@ -32,7 +34,7 @@ fn count(expanded: &Expanded) -> u64
     }
 }
 
-/// The clauses of the parts and of the gate that joins them.
+/// The number of clauses of the parts and of the gate that joins them, a conjunction or a disjunction.
 #[cycle(count)]
 #[tactic(auto, using(std::proofs::lemmas::Grind::common_steps, crate::proofs::Sizes::count_layers))]
 fn count_all(parts: &[Expanded]) -> u64

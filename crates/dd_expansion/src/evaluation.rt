@@ -1,4 +1,4 @@
-//! The truth of an expansion under the symbols that are read.
+//! The truth of an expansion under the symbols of cells.
 ghost use Rattle.std.specs.Prelude.{◌≡◌, if◌then◌else◌, Some, None};
 ghost use Rattle.std.specs.List.{list_all, list_any};
 ghost use Rattle.dd_expansion.specs.Leaves.{holds, given, seen};
@@ -8,7 +8,8 @@ use dd_lattice::{Cell, Position, shift};
 use dd_pattern::Reads;
 
 impl Expanded {
-    /// The truth at a position; `None` where a cell of a leaf has no symbol or leaves the range of positions.
+    /// The truth value at the position `at`: each leaf's cell is moved by it, and `read` gives the symbol there. `None` where
+    /// some cell so moved has no symbol or is out of range.
     #[cycle(evaluate)]
     #[tactic(auto, using(crate::specs::lemmas::Layers::holds_layers))]
     pub fn evaluate<R: Reads>(&self, at: &Position, read: &R) -> Option<bool>
@@ -36,7 +37,7 @@ impl Expanded {
     }
 }
 
-/// The symbol of a cell that is counted from a position; `None` where it has none or leaves the range of positions.
+/// The symbol of the cell, moved by the position `at`. `None` where the moved cell has no symbol or is out of range.
 pub fn symbol_near<R: Reads>(cell: &Cell, at: &Position, read: &R) -> Option<u32>
     ensures { result ≡ seen (R.symbols read.now) at.now cell.now }
 {
@@ -47,7 +48,8 @@ pub fn symbol_near<R: Reads>(cell: &Cell, at: &Position, read: &R) -> Option<u32
     })
 }
 
-// Every part is evaluated, even once the value is known: a missing symbol further on still makes the answer `None`.
+/// Whether all parts are true. Every part is evaluated, even once the value is known: a missing symbol further on still
+/// makes the answer `None`.
 #[cycle(evaluate)]
 fn evaluate_and<R: Reads>(parts: &[Expanded], at: &Position, read: &R) -> Option<bool>
     ensures { let look = seen (R.symbols read.now) at.now in
@@ -65,6 +67,7 @@ fn evaluate_and<R: Reads>(parts: &[Expanded], at: &Position, read: &R) -> Option
     Some(value)
 }
 
+/// Whether some part is true. Every part is evaluated, as for `evaluate_and`.
 #[cycle(evaluate)]
 fn evaluate_or<R: Reads>(parts: &[Expanded], at: &Position, read: &R) -> Option<bool>
     ensures { let look = seen (R.symbols read.now) at.now in

@@ -1,4 +1,4 @@
-//! Formulas without variables.
+//! Expansions: formulas without variables.
 ghost use Rattle.std.specs.Prelude.{◌≡◌, ◌^◌, ◌<◌, IfOk};
 ghost use Rattle.dd_expansion.specs.Leaves.{instances};
 
@@ -6,10 +6,11 @@ use dd_lattice::Cell;
 use dd_values::{Boxed, Items};
 use std::alloc::{AllocError, Global};
 
-/// A formula at one cell, without variables. The cells of its leaves are counted from the origin.
+/// A formula without variables, as a tree. It has a truth value at each position: the cells of its leaves are relative to
+/// the position.
 #[derive(Debug, Drop)]
 pub enum Expanded {
-    /// True or false.
+    /// True everywhere, or false everywhere.
     Constant(bool),
     /// The symbol at the cell is this one.
     Leaf { cell: Cell, symbol: u32 },
@@ -24,7 +25,7 @@ pub enum Expanded {
 }
 
 impl Expanded {
-    /// A copy with the same numbers and lists in every part.
+    /// A copy of the whole tree.
     #[cycle(copy)]
     pub fn copy(&self, alloc: Global) -> Result<Expanded, AllocError>
         ensures { IfOk result (λ c. c ≡ self.now) }
@@ -45,7 +46,7 @@ impl Expanded {
         }
     }
 
-    /// The number of nodes of this tree.
+    /// The number of instances. They are this expansion, its parts, their parts, and so on down to constants and leaves.
     #[cycle(instances)]
     #[tactic(auto, using(std::proofs::lemmas::Grind::common_steps, crate::proofs::Sizes::instance_layers))]
     pub fn instances(&self) -> u32
@@ -81,16 +82,16 @@ fn copy_all(alloc: Global, parts: &[Expanded]) -> Result<Items<Expanded>, AllocE
     Ok(copies)
 }
 
-/// The nodes of the parts, and the node that joins them.
+/// The instances of the parts, and one for the formula that joins them.
 #[cycle(instances)]
 #[tactic(auto, using(std::proofs::lemmas::Grind::common_steps, crate::proofs::Sizes::instance_layers))]
 fn joined_instances(parts: &[Expanded]) -> u32
     requires { instances (Expanded.And parts.now) < 2 ^ 32 }
     ensures { result ≡ instances (Expanded.And parts.now) }
 {
-    let mut nodes = 1;
+    let mut total = 1;
     for part in parts {
-        nodes += part.instances();
+        total += part.instances();
     }
-    nodes
+    total
 }

@@ -1,4 +1,5 @@
-//! The expansion of a formula at a cell, within a budget of nodes.
+//! The expansion of a formula at a cell, within a budget of instances. Quantifiers are written out over the cells of their
+//! balls, and an equality of two symbols over all symbols.
 ghost use Rattle.std.specs.Prelude.{ℕ, ◌≡◌, ◌+◌, ◌*◌, ◌<◌, ◌≤◌, ◌∷◌, ◌++◌, [], true, length, map, Ok, Err, IfOk, IfErr};
 ghost use Rattle.std.specs.List.{sum_by};
 ghost use Rattle.dd_lattice.specs.InOrder.{in_order};
@@ -24,18 +25,24 @@ use dd_values::{Boxed, Items};
 use std::alloc::{AllocError, Global};
 
 /// Where a formula is expanded.
+///
+/// At most 65 variables are in scope: the free one, and those of at most 64 nested quantifiers. A bound variable's cell
+/// lies at most 12 further from the origin, along each axis, than that of some variable before it: a ball has a radius of
+/// at most 3, and an edge leads at most 4.
 #[derive(Clone, Copy)]
 struct Scope<'a> {
     alloc: Global,
     topology: &'a Topology,
     /// How many symbols there are.
     symbols: u32,
-    /// The cells of the variables.
+    /// The environment: the cells of the variables in scope, by their numbers.
     env: &'a [Cell],
 }
 
-/// The expansion of a formula over so many symbols at the cell of a node at the origin. `Instances` if it has more than
-/// `most` nodes; the work stops there.
+/// The expansion of a formula over an alphabet of `symbols` symbols, at the cell of the node at the origin.
+///
+/// # Errors
+/// `Instances` if the expansion has more than `most` instances, and the work stops there; or `Memory`.
 pub fn expand(
     alloc: Global,
     topology: &Topology,
@@ -155,7 +162,7 @@ impl<'a> Scope<'a> {
         negated(self.alloc, made, budget)
     }
 
-    /// The expansions of the parts of a conjunction or a disjunction. The gate that joins them is paid too.
+    /// The expansions of the parts of a conjunction or a disjunction. The instance of the whole is paid too.
     #[cycle(expand)]
     fn expand_all(
         &self,
@@ -178,7 +185,8 @@ impl<'a> Scope<'a> {
         Ok(parts)
     }
 
-    /// The expansions of a body for each cell of the union of balls, in cell order. The gate that joins them is paid too.
+    /// The expansions of a quantifier's body, one for each cell of the union of the balls, in cell order. The instance of the
+    /// whole is paid too.
     #[cycle(expand)]
     fn expand_over(
         &self,
@@ -199,7 +207,7 @@ impl<'a> Scope<'a> {
         self.expand_each(&cells, body, budget)
     }
 
-    /// The expansions of a body for each of some cells, as the cell of one more variable.
+    /// The expansions of a body, one for each of the cells. The cell becomes that of one more variable.
     #[cycle(expand)]
     fn expand_each(
         &self,
@@ -231,7 +239,7 @@ impl<'a> Scope<'a> {
     }
 }
 
-/// The conjunction of parts, or their fault.
+/// The conjunction of the parts, or the fault in their place.
 fn conjunction(parts: Result<Items<Expanded>, ExpansionFault>) -> Result<Expanded, ExpansionFault>
     ensures made { IfOk parts (λ made. result ≡ Ok (Expanded.And made)) }
     ensures fault { IfErr parts (λ fault. result ≡ Err fault) }
@@ -242,7 +250,7 @@ fn conjunction(parts: Result<Items<Expanded>, ExpansionFault>) -> Result<Expande
     }
 }
 
-/// The disjunction of parts, or their fault.
+/// The disjunction of the parts, or the fault in their place.
 fn disjunction(parts: Result<Items<Expanded>, ExpansionFault>) -> Result<Expanded, ExpansionFault>
     ensures made { IfOk parts (λ made. result ≡ Ok (Expanded.Or made)) }
     ensures fault { IfErr parts (λ fault. result ≡ Err fault) }
@@ -280,6 +288,7 @@ fn equivalence(
     }
 }
 
+/// The implication as a disjunction: the premise is false, or the conclusion is true.
 fn implied(
     alloc: Global,
     premise: Boxed<Expanded>,

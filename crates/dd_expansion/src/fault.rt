@@ -8,7 +8,7 @@ use thiserror::Error;
 /// Why an expansion is not made.
 #[derive(Clone, Copy, Debug, PartialEq, Eq, Error)]
 pub enum ExpansionFault {
-    /// The expansion would have more nodes than are allowed.
+    /// The expansion would have more instances than are allowed.
     #[error("the expansion has too many instances")]
     Instances,
     /// Memory ran out.

@@ -1,14 +1,19 @@
 //! First-order formulas whose quantifiers range over balls.
-ghost use Rattle.std.specs.Prelude.{◌≡◌, Ok, IfOk};
+ghost use Rattle.std.specs.Prelude.{◌≡◌, true, Ok, IfOk};
+ghost use Rattle.dd_expansion.specs.expanding.Atoms.{is_atom};
 
 use dd_values::{Boxed, Items};
 use std::alloc::{AllocError, Global};
 
-/// A variable, and the labels of the moves that follow it. The variable 0 is the cell at which the formula stands; the
-/// number of a bound variable is the number of variables in scope at its quantifier.
+/// A term names a cell: start at the cell of a variable, and make the moves one after the other. The term has no cell if
+/// one of the moves is missing.
+///
+/// Variables are numbered from the outside in (de Bruijn levels). Number 0 is the free variable, the cell of which the
+/// formula speaks. The number of a bound variable is the number of variables in scope just outside its quantifier.
 #[derive(Debug, Drop)]
 pub struct Term {
     pub variable: u32,
+    /// The labels of the moves, by their numbers.
     pub moves: Items<u32>,
 }
 
@@ -19,7 +24,7 @@ pub struct BallOf {
     pub radius: u32,
 }
 
-/// A formula. An atom in which a move is missing is false.
+/// A formula with one free variable. An atom is false where one of its terms has no cell.
 #[derive(Debug, Drop)]
 pub enum Formula {
     /// The symbol at the term is this one.
@@ -42,17 +47,17 @@ pub enum Formula {
         left: Term,
         right: Term,
     },
-    /// Some edge leads from one of the two cells to the other.
+    /// Some edge joins the cells of the two terms, in either direction.
     Adjacent {
         left: Term,
         right: Term,
     },
-    /// The two cells are the same cell.
+    /// The two terms name the same cell: the same position and node.
     Place {
         left: Term,
         right: Term,
     },
-    /// The cell has this node.
+    /// The cell of the term has this node.
     Node {
         term: Term,
         node: u32,
@@ -80,7 +85,7 @@ pub enum Formula {
 }
 
 impl Term {
-    /// A term with the same variable and moves.
+    /// A copy of the term.
     pub fn copy(&self, alloc: Global) -> Result<Term, AllocError>
         ensures { IfOk result (λ c. c ≡ self.now) }
     {
@@ -92,40 +97,12 @@ impl Term {
 }
 
 impl Formula {
-    /// A copy with the same numbers and lists in every part.
+    /// A copy of the whole formula.
     #[cycle(copy)]
     pub fn copy(&self, alloc: Global) -> Result<Formula, AllocError>
         ensures { IfOk result (λ c. c ≡ self.now) }
     {
         match self {
-            Formula::Symbol { term, symbol } => Ok(Formula::Symbol {
-                term: term.copy(alloc)?,
-                symbol: *symbol,
-            }),
-            Formula::NotSymbol { term, symbol } => Ok(Formula::NotSymbol {
-                term: term.copy(alloc)?,
-                symbol: *symbol,
-            }),
-            Formula::Same { left, right } => {
-                let (left, right) = copy_terms(alloc, left, right)?;
-                Ok(Formula::Same { left, right })
-            }
-            Formula::NotSame { left, right } => {
-                let (left, right) = copy_terms(alloc, left, right)?;
-                Ok(Formula::NotSame { left, right })
-            }
-            Formula::Adjacent { left, right } => {
-                let (left, right) = copy_terms(alloc, left, right)?;
-                Ok(Formula::Adjacent { left, right })
-            }
-            Formula::Place { left, right } => {
-                let (left, right) = copy_terms(alloc, left, right)?;
-                Ok(Formula::Place { left, right })
-            }
-            Formula::Node { term, node } => Ok(Formula::Node {
-                term: term.copy(alloc)?,
-                node: *node,
-            }),
             Formula::Not(inner) => Ok(Formula::Not(copy_boxed(alloc, inner)?)),
             Formula::And(parts) => Ok(Formula::And(copy_all(alloc, parts.as_slice())?)),
             Formula::Or(parts) => Ok(Formula::Or(copy_all(alloc, parts.as_slice())?)),
@@ -147,7 +124,46 @@ impl Formula {
                 let (balls, body) = copy_quantified(alloc, balls, body)?;
                 Ok(Formula::Exists { balls, body })
             }
+            atom => copy_atom(alloc, atom),
         }
+    }
+}
+
+/// A copy of an atom, which is a formula without parts.
+fn copy_atom(alloc: Global, atom: &Formula) -> Result<Formula, AllocError>
+    requires { is_atom atom.now ≡ true }
+    ensures { IfOk result (λ c. c ≡ atom.now) }
+{
+    match atom {
+        Formula::Symbol { term, symbol } => Ok(Formula::Symbol {
+            term: term.copy(alloc)?,
+            symbol: *symbol,
+        }),
+        Formula::NotSymbol { term, symbol } => Ok(Formula::NotSymbol {
+            term: term.copy(alloc)?,
+            symbol: *symbol,
+        }),
+        Formula::Same { left, right } => {
+            let (left, right) = copy_terms(alloc, left, right)?;
+            Ok(Formula::Same { left, right })
+        }
+        Formula::NotSame { left, right } => {
+            let (left, right) = copy_terms(alloc, left, right)?;
+            Ok(Formula::NotSame { left, right })
+        }
+        Formula::Adjacent { left, right } => {
+            let (left, right) = copy_terms(alloc, left, right)?;
+            Ok(Formula::Adjacent { left, right })
+        }
+        Formula::Place { left, right } => {
+            let (left, right) = copy_terms(alloc, left, right)?;
+            Ok(Formula::Place { left, right })
+        }
+        Formula::Node { term, node } => Ok(Formula::Node {
+            term: term.copy(alloc)?,
+            node: *node,
+        }),
+        _ => unreachable!(),
     }
 }
 
@@ -159,7 +175,7 @@ fn copy_terms(alloc: Global, left: &Term, right: &Term) -> Result<(Term, Term), 
     Ok((left, right))
 }
 
-/// Both halves, or the fault of the second.
+/// Both boxes, or the fault of the second one.
 fn paired(
     left: Boxed<Formula>,
     right: Result<Boxed<Formula>, AllocError>,

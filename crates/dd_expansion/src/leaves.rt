@@ -24,7 +24,7 @@ impl Expanded {
     }
 }
 
-/// Adds the cells of the leaves.
+/// Adds the cells of the leaves to those found.
 #[cycle(add_cells)]
 #[tactic(auto, using(std::proofs::lemmas::Grind::common_steps, crate::specs::lemmas::Layers::leaf_cells_layers))]
 fn add_cells(expanded: &Expanded, found: &mut BTreeSet<Cell>) -> Result<(), AllocError>

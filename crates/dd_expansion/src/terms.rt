@@ -1,4 +1,5 @@
-//! The cells of terms, and the cells of balls round the cells of variables.
+//! The cells of terms, and the cells of balls round the cells of variables. The environment `env` lists the cells of the
+//! variables in scope. Each lies near enough to the origin that no coordinate here passes 2^20; `Scope` says why.
 ghost use Rattle.std.specs.Prelude.{◌≡◌, ◌+◌, ◌*◌, ◌≤◌, true, length, slice_get, IfOk, IfErr, IfSome};
 ghost use Rattle.dd_lattice.specs.Place.{most_coordinate};
 ghost use Rattle.dd_lattice.specs.InOrder.{in_order};
@@ -15,13 +16,13 @@ use dd_lattice::{Cell, LatticeFault, in_order};
 use dd_topology::Topology;
 use std::alloc::Global;
 
-/// The cell at the end of one move; `None` where the move is missing.
+/// The cell at the end of one move; `None` where no edge of the cell's node has the label.
 fn step(topology: &Topology, from: &Cell, label: u32) -> Option<Cell>
     requires near { extent from.now.position + 4 ≤ most_coordinate }
     ensures value { result ≡ step topology.now.edges from.now label }
     ensures near { IfSome result (λ to. extent to.position ≤ extent from.now.position + 4) }
 {
-    // The edges are short.
+    // This call tells the proof what the type guarantees: no edge leads further than 4 along an axis.
     let _edges = topology.edges();
     topology.step(from, label)
 }
@@ -53,7 +54,7 @@ pub(crate) fn cell_of(topology: &Topology, env: &[Cell], term: &Term) -> Option<
     }
 }
 
-/// The ball of a radius round a cell, in cell order.
+/// The ball of a radius round a cell, in cell order. The cell is so far within the range that the ball is in range too.
 fn ball_at(
     alloc: Global,
     topology: &Topology,
@@ -65,7 +66,7 @@ fn ball_at(
     ensures near { IfOk result (λ v. AreNear (extent centre.now.position + 4 * radius) v.items) }
     ensures fault { IfErr result (λ fault. fault ≡ Instances → ⊥) }
 {
-    // The edges are short.
+    // This call tells the proof what the type guarantees: no edge leads further than 4 along an axis.
     let _edges = topology.edges();
     match topology.ball(alloc, centre, radius) {
         Ok(cells) => Ok(cells),

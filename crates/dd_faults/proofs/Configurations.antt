@@ -1,4 +1,4 @@
--- The symbols of configurations one after the other, and the periods of boxes with few symbols.
+-- The symbols of a configuration, checked one after the other. Also: the first period of a box with few cells is not cut off.
 use Rattle.std.proofs.Common.{◌≡◌, ℕ, ◌+◌, ◌*◌, ◌%◌, ◌≤◌, ◌<◌, List, [], ◌∷◌, ◌++◌, length, Option, true, not, refl, arith, slice_get}
 use Rattle.std.specs.Option.{option_map_or}
 use Rattle.std.proofs.Math.Nat.{le-mul_of_pos_right, mul_assoc}
@@ -10,7 +10,7 @@ pub first_symbol : (x : Context) (k : ℕ) (n : Name) (ns all : List Name) → a
     symbol_faults x k all ≡ when (not (is_allowed x (k % length x.known.setting.nodes) n)) (Fault.Unknown n) ++ symbol_faults x (k + 1) ns
 first_symbol x k n ns all is = rw is refl
 
--- if a product is not cut off, neither is its first factor
+-- if the number of cells is not cut off, neither is the first period
 first : (bytes : List ℕ) (es : List Entry) (nodes n : ℕ) → n < 4294967295 → 1 ≤ n → product bytes es * nodes ≡ n → option_map_or (entry_value bytes) (slice_get es 0) 1 < 4294967295
 first bytes [] nodes n lt some is = omega arith
 first bytes (e ∷ es) nodes n lt some is = grind (arith, common_steps, mul_assoc, le-mul_of_pos_right)

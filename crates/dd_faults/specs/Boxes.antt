@@ -14,7 +14,7 @@ HasSets k = (1 ≤ length k.setting.nodes) × (length k.setting.sets.allowed ≡
 abbrev pub is_allowed : Context → ℕ → Name → Bool
 is_allowed x a n = option_map_or (λ t. allows x.known.setting.sets a t) (place_of_name x.text x.known.setting.symbols n) false
 
--- the symbols from the k-th on; the nodes vary fastest
+-- the faults of the symbols from the k-th on; those of a position stand together, in the order of its nodes
 abbrev pub symbol_faults : Context → ℕ → List Name → List Fault
 symbol_faults x k [] = []
 symbol_faults x k (n ∷ ns) = when (not (is_allowed x (k % length x.known.setting.nodes) n)) (Fault.Unknown n) ++ symbol_faults x (k + 1) ns
@@ -27,7 +27,7 @@ product bytes (e ∷ es) = entry_value bytes e * product bytes es
 abbrev pub cells_of : Context → Vector → ℕ
 cells_of x v = product x.text v.entries * length x.known.setting.nodes
 
--- the entry for an axis; 1 if there is none
+-- the period along an axis; 1 if there is no entry for it
 abbrev pub period_at : List ℕ → Vector → ℕ → ℕ
 period_at bytes v axis = option_map_or (entry_value bytes) (slice_get v.entries axis) 1
 
@@ -36,7 +36,7 @@ abbrev pub shear_of : List ℕ → Option Vector → ℕ
 shear_of bytes None = 0
 shear_of bytes (Some v) = option_map_or (entry_value bytes) (slice_get v.entries 0) 0
 
--- if a shear is given, it has one entry, and there is a second axis
+-- the shear fits: none is given, or it has one entry and there is a second axis
 abbrev pub shear_fits : ℕ → Option Vector → Bool
 shear_fits d None = true
 shear_fits d (Some v) = nat_le 2 d && has_entries 1 v
@@ -45,7 +45,7 @@ abbrev pub box_fits : Context → Vector → Option Vector → ℕ → Bool
 box_fits x periods shear count =
     has_entries (dimension_of x.known) periods && shear_fits (dimension_of x.known) shear && cells_of x periods == count
 
--- if the numbers of entries agree, no period is 0, since there is a symbol
+-- If all numbers fit, no period is 0, since there is a symbol for each cell, and at least one symbol.
 abbrev pub box_faults : Context → Vector → Option Vector → ℕ → List Fault
 box_faults x periods shear count =
     if box_fits x periods shear count then over (nat_lt most_in_box count || nat_le (period_at x.text periods 0) (shear_of x.text shear)) Limit.Periods

@@ -9,7 +9,7 @@ use Rattle.dd_commands.specs.Table.{row}
 use Rattle.dd_known.specs.Known.{dimension_of, named}
 use Rattle.dd_known.specs.Limits.{most_axes, most_nodes, most_symbols, most_edges, most_in_box, most_vectors, longest_strip}
 use Rattle.dd_faults.specs.{Order.when, Order.over, Formulas.formula_faults}
-pub use Rattle.dd_faults.specs.Numbers.{unless, token_faults, entry_number, entry_value, signed_value, has_entries, is_far}
+pub use Rattle.dd_faults.specs.Numbers.{dimension_unless, token_faults, entry_number, entry_value, signed_value, has_entries, is_far}
 pub use Rattle.dd_faults.specs.Boxes.{HasSets, is_allowed, symbol_faults, product, cells_of, period_at, shear_of, shear_fits, box_fits, box_faults}
 use Rattle.dd_faults.specs.Names.{place_of_name, missing, named_again}
 use Rattle.dd_faults.specs.Repeats.{twice_named, twice_labelled, twice_vectors}
@@ -23,7 +23,8 @@ kind_fits k t = (grid_of t).dimension == dimension_of k && (not k.nodes_are_give
 abbrev pub edge_faults : Context → Edge → List Fault
 edge_faults x e =
     missing x.text x.known.setting.nodes e.from
-    ++ (missing x.text x.known.setting.nodes e.to ++ (unless (has_entries (dimension_of x.known) e.offset) ++ over (is_far x.text e.offset) Limit.Offset))
+    ++ (missing x.text x.known.setting.nodes e.to
+    ++ (dimension_unless (has_entries (dimension_of x.known) e.offset) ++ over (is_far x.text e.offset) Limit.Offset))
 
 -- the script has restricted the symbols of the node
 abbrev pub is_restricted : Context → Name → Bool
@@ -32,6 +33,7 @@ is_restricted x n = option_map_or (λ a. list_any (λ b. b == a) x.known.restric
 abbrev pub weight_faults : Context → Number → List Fault
 weight_faults x n = over (nat_lt most_weight (written_value x.text n)) Limit.Weight
 
+-- `limits` may not set these numbers: one of them exceeds its limit, or the period is 0
 abbrev pub passes_limits : ℕ → ℕ → ℕ → Bool
 passes_limits radius period pivots = nat_lt greatest_radius radius || nat_lt period 1 || nat_lt greatest_period period || nat_lt most_pivots pivots
 
@@ -42,27 +44,34 @@ case_faults x c = formula_faults x c.condition [] ++ missing x.text x.known.sett
 
 -- ---- queries
 
+-- the fault of a word that names nothing of its role
 abbrev pub word_faults : Context → Role × Word → List Fault
 word_faults x w = missing x.text (named x.known w.0) (Name.Word w.1)
 
+-- the fault of a radius or a margin that is too large
 abbrev pub radius_faults : Context → Number → List Fault
 radius_faults x n = over (nat_lt widest_radius (written_value x.text n)) Limit.Radius
 
--- the period of no strip
+-- the entry can't be a period of a strip
 abbrev pub is_no_strip : List ℕ → Entry → Bool
 is_no_strip bytes e = nat_lt (entry_value bytes e) 1 || nat_lt longest_strip (entry_value bytes e)
 
+-- the faults of the periods of a strip, of which there is one for each axis but one
 abbrev pub strip_faults : Context → Vector → List Fault
-strip_faults x v = unless (length v.entries + 1 == dimension_of x.known) ++ over (list_any (is_no_strip x.text) v.entries) Limit.Periods
+strip_faults x v = dimension_unless (length v.entries + 1 == dimension_of x.known) ++ over (list_any (is_no_strip x.text) v.entries) Limit.Periods
 
 abbrev pub is_zero : List ℕ → Entry → Bool
 is_zero bytes e = nat_lt (entry_value bytes e) 1
 
+-- the faults of the periods of a torus
 abbrev pub torus_faults : Context → Vector → List Fault
-torus_faults x v = unless (has_entries (dimension_of x.known) v) ++ over (list_any (is_zero x.text) v.entries || nat_lt most_in_box (cells_of x v)) Limit.Periods
+torus_faults x v =
+    dimension_unless (has_entries (dimension_of x.known) v)
+    ++ over (list_any (is_zero x.text) v.entries || nat_lt most_in_box (cells_of x v)) Limit.Periods
 
+-- the faults of a vector of a discharge
 abbrev pub vector_faults : Context → Vector → List Fault
-vector_faults x v = unless (has_entries (dimension_of x.known) v) ++ over (is_far x.text v) Limit.Vectors
+vector_faults x v = dimension_unless (has_entries (dimension_of x.known) v) ++ over (is_far x.text v) Limit.Vectors
 
 abbrev pub list_faults : Context → Lists → List Vector → List Fault
 list_faults x Lists.None vs = []
@@ -77,19 +86,21 @@ has_symbols x fewest = nat_le fewest (length x.known.setting.symbols)
 abbrev pub request_faults : Context → Request → List Fault
 request_faults x r =
     flat_map (word_faults x) (zip (row r.kind).names r.words)
-    ++ (flat_map (radius_faults x) r.numbers ++ (list_faults x (row r.kind).lists r.vectors ++ unless (has_symbols x (row r.kind).symbols)))
+    ++ (flat_map (radius_faults x) r.numbers ++ (list_faults x (row r.kind).lists r.vectors ++ dimension_unless (has_symbols x (row r.kind).symbols)))
 
 -- ---- commands
 
 abbrev pub faults_of : Context → Command → List Fault
-faults_of x (Command.Dimension n) = unless (nat_le 1 (written_value x.text n) && nat_le (written_value x.text n) most_axes)
-faults_of x (Command.Nodes names) = twice_named x.text names ++ (unless (x.has_topology || nat_le (length names) 1) ++ over (nat_lt most_nodes (length names)) Limit.Nodes)
+faults_of x (Command.Dimension n) = dimension_unless (nat_le 1 (written_value x.text n) && nat_le (written_value x.text n) most_axes)
+faults_of x (Command.Nodes names) =
+    twice_named x.text names
+    ++ (dimension_unless (x.has_topology || nat_le (length names) 1) ++ over (nat_lt most_nodes (length names)) Limit.Nodes)
 faults_of x (Command.Alphabet names) = twice_named x.text names ++ over (nat_lt most_symbols (length names)) Limit.Alphabet
-faults_of x (Command.Topology k) = unless (kind_fits x.known k)
+faults_of x (Command.Topology k) = dimension_unless (kind_fits x.known k)
 faults_of x (Command.Edges es) = flat_map (edge_faults x) es ++ (twice_labelled x.text es ++ over (nat_lt most_edges (length es)) Limit.Edges)
 faults_of x (Command.Only node symbols) =
     missing x.text x.known.setting.nodes node ++ (when (is_restricted x node) (Fault.Twice node) ++ (flat_map (missing x.text x.known.setting.symbols) symbols ++ twice_named x.text symbols))
-faults_of x (Command.Weights ns) = unless (length ns == length x.known.setting.symbols) ++ flat_map (weight_faults x) ns
+faults_of x (Command.Weights ns) = dimension_unless (length ns == length x.known.setting.symbols) ++ flat_map (weight_faults x) ns
 faults_of x (Command.Limits radius period pivots) = over (passes_limits (written_value x.text radius) (written_value x.text period) (written_value x.text pivots)) Limit.Limits
 faults_of x (Command.Rule called f) = named_again x.text x.known called ++ formula_faults x f []
 faults_of x (Command.Automaton called cases symbol) =
@@ -100,6 +111,6 @@ faults_of x (Command.Configuration called periods shear symbols) =
     named_again x.text x.known called ++ (symbol_faults x 0 symbols ++ box_faults x periods shear (length symbols))
 faults_of x (Command.Query r) = request_faults x r
 
--- the faults of a command, including its number and its tokens
+-- the faults of a command, first those of its number and of its tokens
 abbrev pub written_faults : Context → Written → List Fault
 written_faults x w = over (nat_lt most_commands x.number) Limit.Commands ++ (flat_map (token_faults x.text) w.tokens ++ faults_of x w.command)

@@ -1,4 +1,4 @@
--- The faults of formulas, in the order of the text.
+-- The faults of formulas, in the order of the text. A scope is the list of the variables that are bound there, the outermost first.
 use Rattle.std.specs.Prelude.{ℕ, List, [], ◌∷◌, ◌++◌, length, Bool, not, ◌&&◌, ◌==◌, nat_lt, if◌then◌else◌}
 use Rattle.std.specs.List.{flat_map}
 use Rattle.dd_values.specs.Bounds.{widest_radius}
@@ -17,6 +17,7 @@ term_faults x scope t = unknown_variable x.text scope t.first ++ (flat_map (unkn
 abbrev pub names_symbol : List ℕ → List Word → Term → Bool
 names_symbol bytes scope t = length t.moves == 0 && not (is_variable bytes scope t.first)
 
+-- the right side of `=` or `!=`
 abbrev pub side_faults : Context → List Word → Comparand → List Fault
 side_faults x scope (Comparand.Number n) = missing x.text x.known.setting.symbols (Name.Number n)
 side_faults x scope (Comparand.Term t) = if names_symbol x.text scope t then missing x.text x.known.setting.symbols (Name.Word t.first) else term_faults x scope t
@@ -34,11 +35,12 @@ atom_faults x scope a = term_faults x scope a.term ++ relation_faults x scope a.
 abbrev pub ball_faults : Context → List Word → Ball → List Fault
 ball_faults x scope b = unknown_variable x.text scope b.centre ++ over (nat_lt widest_radius (written_value x.text b.radius)) Limit.Radius
 
--- the variable of a quantifier is in scope in its body, but not in its balls
+-- the faults of a variable, which must be new, and of the balls, in which it is not in scope
 abbrev pub quantifier_faults : Context → List Word → Word → List Ball → List Fault
 quantifier_faults x scope w balls =
     when (is_variable x.text scope w) (Fault.Twice (Name.Word w)) ++ (over (nat_lt most_balls (length balls)) Limit.Balls ++ flat_map (ball_faults x scope) balls)
 
+-- the faults of a formula, from those of its parts
 abbrev pub faults_step : Context → Formula-F (List Word → List Fault) → List Word → List Fault
 faults_step x (Formula-F.Atom a) scope = atom_faults x scope a
 faults_step x (Formula-F.Not f) scope = f scope

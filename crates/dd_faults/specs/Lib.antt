@@ -1,4 +1,4 @@
--- the types of syntax trees, of their faults and of what is known
+-- the types of syntax trees, of what is known and of faults
 pub mod Tree
 -- the order of faults
 pub mod Order
@@ -14,7 +14,7 @@ pub mod Numbers
 pub mod Boxes
 -- the faults of commands
 pub mod Commands
--- what reading commands one by one needs of their shape
+-- two properties of commands, for contracts in `src/`
 pub mod walk
 -- lemmas on these definitions, for other crates
 pub mod lemmas

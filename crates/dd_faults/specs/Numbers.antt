@@ -5,8 +5,9 @@ use Rattle.dd_known.specs.Limits.{most_letters, greatest_number, farthest}
 use Rattle.dd_faults.specs.{Tree.Number, Tree.Lexeme, Tree.Entry, Tree.Vector, Tree.Limit, Tree.Fault, Order.when, Order.over}
 use Rattle.dd_written.specs.Values.{written_value}
 
-abbrev pub unless : Bool → List Fault
-unless fits = when (not fits) Fault.Dimension
+-- the fault that some number does not fit, unless it does
+abbrev pub dimension_unless : Bool → List Fault
+dimension_unless fits = when (not fits) Fault.Dimension
 
 -- ---- tokens
 
@@ -24,6 +25,7 @@ abbrev pub entry_number : Entry → Number
 entry_number (Entry.Number n) = n
 entry_number (Entry.Negative n) = n
 
+-- the absolute value of an entry
 abbrev pub entry_value : List ℕ → Entry → ℕ
 entry_value bytes e = written_value bytes (entry_number e)
 
@@ -32,6 +34,7 @@ abbrev pub signed_value : List ℕ → Entry → ℤ
 signed_value bytes (Entry.Number n) = pos (written_value bytes n)
 signed_value bytes (Entry.Negative n) = pos 0 -ℤ pos (written_value bytes n)
 
+-- the vector has this many entries
 abbrev pub has_entries : ℕ → Vector → Bool
 has_entries d v = length v.entries == d
 

@@ -2,7 +2,7 @@
 use Rattle.std.specs.Prelude.{◌≡◌, ℕ, ◌+◌, List, [], ◌∷◌, Bool, Option, Some, None, Result, Ok, Err, nat_lt, if◌then◌else◌}
 use Rattle.dd_faults.specs.Tree.{Limit, Fault, Refusal}
 
--- the limits in their order
+-- the ranks of limits
 abbrev pub limit_rank : Limit → ℕ
 limit_rank Limit.Commands = 0
 limit_rank Limit.Word = 1
@@ -25,7 +25,7 @@ limit_rank Limit.Patterns = 17
 limit_rank Limit.States = 18
 limit_rank Limit.Clauses = 19
 
--- unknown names, then repetitions, then dimensions, then limits
+-- the ranks of faults: unknown names, then repetitions, then dimensions, then limits
 abbrev pub fault_rank : Fault → ℕ
 fault_rank (Fault.Unknown n) = 0
 fault_rank (Fault.Twice n) = 1
@@ -38,19 +38,20 @@ abbrev pub better : Option Fault → Fault → Option Fault
 better None f = Some f
 better (Some g) f = if nat_lt (fault_rank f) (fault_rank g) then Some f else Some g
 
+-- the first of the lowest rank, among the fault found before and these after it
 abbrev pub noted : Option Fault → List Fault → Option Fault
 noted found [] = found
 noted found (f ∷ fs) = noted (better found f) fs
 
--- the first fault of the lowest rank
+-- the first of the faults of the lowest rank
 abbrev pub first_fault : List Fault → Option Fault
 first_fault fs = noted None fs
 
--- the fault, if it holds
+-- this fault alone, if it holds
 abbrev pub when : Bool → Fault → List Fault
 when holds f = if holds then f ∷ [] else []
 
--- the limit, if it is exceeded
+-- the fault of this limit alone, if it is exceeded
 abbrev pub over : Bool → Limit → List Fault
 over passed l = when passed (Fault.Size l)
 

@@ -1,4 +1,5 @@
-//! The faults of terms, of atoms, and of what precedes the body of a quantifier.
+//! The faults of terms, of atoms, and of what stands before the body of a quantifier. A scope is the list of the bound variables,
+//! the outermost first.
 ghost use Rattle.std.specs.Prelude.{◌≡◌};
 ghost use Rattle.dd_faults.specs.Order.{noted};
 ghost use Rattle.dd_faults.specs.Formulas.{unknown_label, term_faults, names_symbol, side_faults, atom_faults, ball_faults, quantifier_faults};
@@ -10,7 +11,7 @@ use dd_known::{Context, MOST_BALLS, MOST_MOVES};
 use dd_values::WIDEST_RADIUS;
 use dd_written::{Atom, Ball, Comparand, Name, Relation, Term, Word, name_text, number_value};
 
-/// Notes the faults of labels of moves.
+/// Notes the label of a move if no edge has it.
 impl Notes<Word> for Context {
     ghost faults = { unknown_label };
 
@@ -22,6 +23,7 @@ impl Notes<Word> for Context {
     }
 }
 
+/// Notes the faults of a term.
 fn term(context: &Context, scope: &[Word], term: &Term, found: &mut Found)
     ensures { found.new ≡ noted found.old (term_faults context.now scope.now term.now) }
 {
@@ -30,13 +32,14 @@ fn term(context: &Context, scope: &[Word], term: &Term, found: &mut Found)
     note_over(found, term.moves.len() > MOST_MOVES, Limit::Moves);
 }
 
-/// Whether a term is a single word that isn't a variable.
+/// Whether a term names a symbol: it is a single word, and no variable.
 pub fn names_symbol(context: &Context, scope: &[Word], term: &Term) -> bool
     ensures { result ≡ names_symbol context.now.text scope.now term.now }
 {
     term.moves.len() == 0 && !is_variable(&context.text, scope, term.first)
 }
 
+/// Notes the faults of the right side of `=` or `!=`.
 fn side(context: &Context, scope: &[Word], side: &Comparand, found: &mut Found)
     ensures { found.new ≡ noted found.old (side_faults context.now scope.now side.now) }
 {
@@ -50,6 +53,7 @@ fn side(context: &Context, scope: &[Word], side: &Comparand, found: &mut Found)
     }
 }
 
+/// Notes the faults of an atom.
 pub(crate) fn atom(context: &Context, scope: &[Word], atom: &Atom, found: &mut Found)
     ensures { found.new ≡ noted found.old (atom_faults context.now scope.now atom.now) }
 {
@@ -63,11 +67,11 @@ pub(crate) fn atom(context: &Context, scope: &[Word], atom: &Atom, found: &mut F
     }
 }
 
-/// The context of a part of a formula: that of its command, and the variables in scope.
+/// The context of a part of a formula: the context of its command, and the variables in scope.
 #[derive(Clone, Copy)]
 pub(crate) struct Scope<'a>(pub(crate) &'a Context, pub(crate) &'a [Word]);
 
-/// Notes the faults of balls, whose centres must be variables in scope.
+/// Notes the faults of a ball, whose centre must be a variable.
 impl<'a> Notes<Ball> for Scope<'a> {
     ghost faults = { λ scope. ball_faults scope.0.now scope.1.now };
 
@@ -79,7 +83,7 @@ impl<'a> Notes<Ball> for Scope<'a> {
     }
 }
 
-/// Notes the faults of what precedes the body of a quantifier.
+/// Notes the faults of what stands before the body of a quantifier: its variable, which must be new, and its balls.
 pub(crate) fn quantifier(scope: Scope, variable: Word, written: &[Ball], found: &mut Found)
     ensures { found.new ≡ noted found.old (quantifier_faults scope.entry.0.now scope.entry.1.now variable written.now) }
 {

@@ -6,7 +6,7 @@ ghost use Rattle.dd_faults.specs.Commands.{HasSets, is_allowed, symbol_faults, p
 
 use crate::each::Notes;
 use crate::fault::{Done, Fault, Found, Limit, note_if, note_over};
-use crate::numbers::{entry_value, has_entries, note_unless};
+use crate::numbers::{entry_value, has_entries, note_dimension_unless};
 use dd_commands::{Entry, Vector};
 use dd_known::{Context, MOST_IN_BOX, TOO_MANY};
 use dd_written::{Name, Text, name_text};
@@ -22,7 +22,8 @@ fn is_allowed(context: &Context, node: u32, name: Name) -> bool
     symbol.is_some_and(|symbol| setting.sets.allows(node, symbol))
 }
 
-/// Notes names that name no symbol, and symbols that their node does not allow. The nodes vary fastest.
+/// Notes each name that doesn't name a symbol allowed at its node. The symbols of a position stand together, in the order of its
+/// nodes.
 fn symbols(context: &Context, written: &[Name], found: &mut Found)
     requires { HasSets context.now.known }
     ensures { found.new ≡ noted found.old (symbol_faults context.now 0 written.now) }
@@ -34,7 +35,7 @@ fn symbols(context: &Context, written: &[Name], found: &mut Found)
     }
 }
 
-/// The product of the entries, at most 4,294,967,295.
+/// The product of the entries' absolute values, cut off at `u32::MAX`.
 fn product(text: &Text, entries: &[Entry]) -> u32
     ensures { result ≡ min (product text.now entries.now) 4294967295 }
 {
@@ -44,7 +45,7 @@ fn product(text: &Text, entries: &[Entry]) -> u32
     }
 }
 
-/// The number of cells of a fundamental box with these periods, at most 4,294,967,295.
+/// The number of cells of a fundamental box with these periods, cut off at `u32::MAX`.
 fn cells_of(context: &Context, periods: &Vector) -> u32
     ensures { result ≡ min (cells_of context.now periods.now) 4294967295 }
 {
@@ -60,24 +61,25 @@ fn has_zero(text: &Text, periods: &Vector) -> bool
     entries.any(|entry| entry_value(text, *entry) < 1)
 }
 
-/// The context of the periods of a torus.
+/// The context in which the periods of a torus have faults.
 #[derive(Clone, Copy)]
 pub(crate) struct Torus<'a>(pub(crate) &'a Context);
 
+/// Notes the faults of the periods of a torus.
 impl<'a> Notes<Vector> for Torus<'a> {
     ghost faults = { λ torus. torus_faults torus.0.now };
 
     fn note(&self, periods: &Vector, found: &mut Found) {
         let Torus(context) = *self;
         let dimension = context.known.setting.topology.dim();
-        note_unless(found, has_entries(dimension, periods));
+        note_dimension_unless(found, has_entries(dimension, periods));
         let passed = has_zero(&context.text, periods)
             || cells_of(context, periods) as usize > MOST_IN_BOX;
         note_over(found, passed, Limit::Periods);
     }
 }
 
-/// The entry for an axis, at most 4,294,967,295; 1 if there is none.
+/// The period along an axis, cut off at `u32::MAX`; 1 if there is no entry for the axis.
 pub fn period_at(text: &Text, periods: &Vector, axis: usize) -> u32
     ensures { result ≡ min (period_at text.now periods.now axis) 4294967295 }
 {
@@ -85,7 +87,7 @@ pub fn period_at(text: &Text, periods: &Vector, axis: usize) -> u32
     entry.map_or(1, |entry| entry_value(text, *entry))
 }
 
-/// The shear, at most 4,294,967,295; 0 if none is given.
+/// The shear, cut off at `u32::MAX`; 0 if none is given.
 pub fn shear_of(text: &Text, shear: &Option<Vector>) -> u32
     ensures { result ≡ min (shear_of text.now shear.now) 4294967295 }
 {
@@ -95,6 +97,7 @@ pub fn shear_of(text: &Text, shear: &Option<Vector>) -> u32
     entries.get(0).map_or(0, |entry| entry_value(text, *entry))
 }
 
+/// Whether the shear fits: none is given, or it is one number and there are two axes or more.
 fn shear_fits(dimension: u32, shear: &Option<Vector>) -> bool
     ensures { result ≡ shear_fits dimension shear.now }
 {
@@ -102,8 +105,8 @@ fn shear_fits(dimension: u32, shear: &Option<Vector>) -> bool
     shear.is_none_or(|entries| dimension >= 2 && has_entries(1, entries))
 }
 
-/// Whether there is a period for each axis, and as many symbols as the product of periods and nodes. So few symbols can't equal
-/// a product that was cut off.
+/// Whether there is a period for each axis, the shear fits, and there is a symbol for each cell of the fundamental box. There are
+/// too few symbols to equal a number of cells that was cut off.
 fn box_fits(context: &Context, periods: &Vector, shear: &Option<Vector>, count: usize) -> bool
     requires { count < 4294967295 }
     ensures { result ≡ box_fits context.now periods.now shear.now count }
@@ -116,8 +119,8 @@ fn box_fits(context: &Context, periods: &Vector, shear: &Option<Vector>, count: 
     cells_of(context, periods) as usize == count
 }
 
-/// Notes names that name no symbol allowed at their node, periods that disagree with the number of symbols, and boxes that are
-/// too large. More symbols than any script contains count as a lack of memory.
+/// Notes the faults of the symbols, periods and shear of a configuration. If there are more symbols than any script has, it fails
+/// as if memory ran out.
 pub(crate) fn configuration(
     context: &Context,
     periods: &Vector,
@@ -138,7 +141,7 @@ pub(crate) fn configuration(
         let passed = count > MOST_IN_BOX || period_at(text, periods, 0) <= shear_of(text, shear);
         note_over(found, passed, Limit::Periods);
     } else {
-        note_unless(found, false);
+        note_dimension_unless(found, false);
     }
     Ok(())
 }

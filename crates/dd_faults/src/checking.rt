@@ -1,4 +1,4 @@
-//! The first fault of a command of any kind.
+//! The faults of commands of any kind, and the fault for which a command is refused.
 ghost use Rattle.std.specs.Prelude.{◌≡◌, OnOk};
 ghost use Rattle.dd_commands.specs.Scripts.{IsWritten};
 ghost use Rattle.dd_faults.specs.{Order.noted, Order.first_fault, Order.Accepts, Commands.faults_of, Commands.written_faults};
@@ -12,7 +12,7 @@ use crate::fault::{Done, Fault, Found, Limit, Refusal, note_if, note_over};
 use crate::formulas::{cases, formula};
 use crate::header::{is_restricted, kind_fits, passes_limits};
 use crate::names::{note_defined, note_missing};
-use crate::numbers::note_unless;
+use crate::numbers::note_dimension_unless;
 use crate::requests::request;
 use crate::twice::note_twice;
 use dd_commands::{Command, Written};
@@ -21,7 +21,7 @@ use dd_values::MOST_COMMANDS;
 use dd_written::{Name, number_value};
 use std::alloc::Global;
 
-/// Notes the faults of a command of the header.
+/// Notes the faults of a command of the header, which is neither a definition nor a query.
 fn note_header(alloc: Global, context: &Context, command: &Command, found: &mut Found) -> Done
     requires { IsHeader command.now }
     ensures { OnOk result (found.new ≡ noted found.old (faults_of context.now command.now)) }
@@ -30,18 +30,18 @@ fn note_header(alloc: Global, context: &Context, command: &Command, found: &mut 
     let setting = &known.setting;
     match command {
         Command::Dimension { number } => {
-            note_unless(found, matches!(number_value(text, *number), 1..=MOST_AXES));
+            note_dimension_unless(found, matches!(number_value(text, *number), 1..=MOST_AXES));
         }
         Command::Nodes { names } => {
             note_twice(alloc, text, names.as_slice(), found)?;
-            note_unless(found, context.has_topology || names.len() <= 1);
+            note_dimension_unless(found, context.has_topology || names.len() <= 1);
             note_over(found, names.len() > MOST_NODES, Limit::Nodes);
         }
         Command::Alphabet { names } => {
             note_twice(alloc, text, names.as_slice(), found)?;
             note_over(found, names.len() > MOST_SYMBOLS, Limit::Alphabet);
         }
-        Command::Topology { kind } => note_unless(found, kind_fits(alloc, known, *kind)?),
+        Command::Topology { kind } => note_dimension_unless(found, kind_fits(alloc, known, *kind)?),
         Command::Edges { edges } => {
             note_each(context, edges.as_slice(), found);
             note_twice(alloc, text, edges.as_slice(), found)?;
@@ -54,7 +54,7 @@ fn note_header(alloc: Global, context: &Context, command: &Command, found: &mut 
             note_twice(alloc, text, symbols.as_slice(), found)?;
         }
         Command::Weights { weights } => {
-            note_unless(found, weights.len() == setting.symbols.count() as usize);
+            note_dimension_unless(found, weights.len() == setting.symbols.count() as usize);
             note_each(context, weights.as_slice(), found);
         }
         Command::Limits {
@@ -111,7 +111,7 @@ fn note_command(alloc: Global, context: &Context, command: &Command, found: &mut
     Ok(())
 }
 
-/// Accepts a command without faults; otherwise refuses it for its first fault.
+/// Accepts a command without faults. Any other is refused for the first of its faults of the lowest rank.
 pub fn check(alloc: Global, context: &Context, written: &Written) -> Result<(), Refusal>
     requires written { IsWritten context.now.text written.now }
     requires sound { IsSound context.now.known }

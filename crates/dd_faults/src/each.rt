@@ -1,10 +1,10 @@
-//! Notes the faults of each item of a list.
+//! Noting the faults of each item of a list.
 ghost use Rattle.std.specs.{Prelude.◌≡◌, Prelude.List, List.flat_map};
 ghost use Rattle.dd_faults.specs.{declared.fault.Fault.Fault as AnyFault, Order.noted};
 
 use crate::fault::Found;
 
-/// A context that finds the faults of items.
+/// A context in which an item has faults.
 pub(crate) trait Notes<T> {
     /// The faults of an item.
     ghost faults: { Self → T → List AnyFault };

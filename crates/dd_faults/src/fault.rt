@@ -1,4 +1,4 @@
-//! Faults and their order.
+//! Faults and their ranks.
 ghost use Rattle.std.specs.Prelude.{◌≡◌};
 ghost use Rattle.dd_faults.specs.declared.fault.Refusal.TheVariants.{Memory};
 ghost use Rattle.dd_faults.specs.Order.{fault_rank, when, over, noted};
@@ -7,77 +7,78 @@ use dd_written::Name;
 use std::alloc::AllocError;
 use thiserror::Error;
 
-/// The limits of scripts, in order.
+/// The limits on scripts, in the order of their ranks.
 #[derive(Clone, Copy, Debug, PartialEq, Eq)]
 pub enum Limit {
-    /// A script has at most 1,000 commands.
+    /// A script has at most `MOST_COMMANDS` commands.
     Commands,
-    /// A word has at most 32 letters.
+    /// A word has at most `MOST_LETTERS` letters.
     Word,
-    /// A number is at most 1,000,000 in absolute value.
+    /// A number is at most `GREATEST_NUMBER` in absolute value.
     Number,
-    /// At most 4 nodes.
+    /// There are at most `MOST_NODES` nodes.
     Nodes,
-    /// At most 16 symbols.
+    /// There are at most `MOST_SYMBOLS` symbols.
     Alphabet,
-    /// At most 64 edges.
+    /// A topology has at most `MOST_EDGES` edges.
     Edges,
-    /// An edge goes at most 4 along each axis.
+    /// An edge goes at most `FARTHEST` along each axis.
     Offset,
-    /// A weight is at most 1,000.
+    /// A weight is at most `MOST_WEIGHT`.
     Weight,
-    /// A search radius is at most 8, a period 1 to 8, a number of pivots at most 100,000.
+    /// The radius of a search is at most `GREATEST_RADIUS`, a period 1 to `GREATEST_PERIOD`, and a number of pivots at most
+    /// `MOST_PIVOTS`.
     Limits,
-    /// A term makes at most 16 moves.
+    /// A term makes at most `MOST_MOVES` moves.
     Moves,
-    /// A ball's radius, and the radius and the margin of a discharge, are at most 3.
+    /// A ball's radius, and the radius and the margin of a discharge, are at most `WIDEST_RADIUS`.
     Radius,
-    /// A quantifier ranges over at most 4 balls.
+    /// A quantifier ranges over at most `MOST_BALLS` balls.
     Balls,
-    /// A rule's expansion at a node has at most 20,000 nodes.
+    /// At each node, a rule or an automaton has at most 20,000 instances: the constants, leaves and connectives of its expansions.
     Instances,
-    /// A rule reads at most 16 away along each axis.
+    /// A rule or an automaton reads at most 16 away along each axis.
     Reach,
-    /// Compositions are nested at most 64 deep.
+    /// Compositions are nested at most 64 deep. So is the formula that a query about images or a conjugacy makes of its target.
     Depth,
-    /// A configuration has at most 65,536 symbols, and its shear is less than its first period. A strip's periods are 1 to 64.
-    /// A torus has at most 65,536 cells, and no period 0.
+    /// A configuration has at most `MOST_IN_BOX` symbols, and its shear is less than its first period. A torus has at most
+    /// `MOST_IN_BOX` cells, and no period 0. A strip's periods are 1 to `LONGEST_STRIP`.
     Periods,
-    /// At most 16 vectors, with entries of at most 4 in absolute value.
+    /// A discharge has at most `MOST_VECTORS` vectors, with entries of at most `FARTHEST` in absolute value.
     Vectors,
-    /// A rule that is listed has at most 65,536 fillings at a node.
+    /// If a query asks for a rule's forbidden patterns, the rule's reads have at most `MOST_PATTERNS` fillings at each node.
     Patterns,
-    /// A strip has at most 4,096 states, and at most 131,072 windows: states with one slice more.
+    /// A strip has at most `MOST_STATES` states, and at most `MOST_LONGER_STATES` states with one slice more.
     States,
-    /// A box question has at most 2,000,000 clauses in its largest box or torus.
+    /// A box question has at most `MOST_CLAUSES` clauses in its largest box or torus.
     Clauses,
 }
 
 /// What is wrong with a well-formed command.
 #[derive(Clone, Copy, Debug, PartialEq, Eq)]
 pub enum Fault {
-    /// A name refers to nothing.
+    /// A name refers to nothing, or to a symbol that its node doesn't allow.
     Unknown(Name),
-    /// A name is given twice.
+    /// A name is given a second time where it may stand only once.
     Twice(Name),
-    /// A vector is given twice.
+    /// A vector of a discharge is given twice.
     TwiceVector,
-    /// Numbers of entries disagree, or a query needs more symbols than there are.
+    /// The dimension, or a number of nodes, symbols or entries, does not fit.
     Dimension,
     /// A limit is exceeded.
     Size(Limit),
 }
 
-/// The first fault of the lowest rank so far.
+/// Of the faults noted so far, the first of the lowest rank.
 pub(crate) type Found = Option<Fault>;
 
-/// Fails only if memory ran out.
+/// The result of noting faults. It fails only if memory ran out.
 pub(crate) type Done = Result<(), AllocError>;
 
 /// Why a command is refused.
 #[derive(Clone, Copy, Debug, PartialEq, Eq, Error)]
 pub enum Refusal {
-    /// The first fault of the command.
+    /// The fault for which it is refused.
     #[error("a command has a fault")]
     At(Fault),
     /// Memory ran out.
@@ -94,7 +95,7 @@ impl From<AllocError> for Refusal {
 }
 
 impl Fault {
-    /// The rank in the order of faults, from 0.
+    /// The rank of a fault, from 0.
     fn rank(self) -> u32
         ensures { result ≡ fault_rank self }
     {
@@ -107,7 +108,7 @@ impl Fault {
     }
 }
 
-/// Notes a fault if `holds`. Of all noted faults, the first of the lowest rank is kept.
+/// Notes the fault if `holds`. Of all faults that are noted, `found` keeps the first of the lowest rank.
 pub(crate) fn note_if(found: &mut Found, holds: bool, fault: Fault)
     ensures { found.new ≡ noted found.old (when holds fault) }
 {
@@ -116,7 +117,7 @@ pub(crate) fn note_if(found: &mut Found, holds: bool, fault: Fault)
     }
 }
 
-/// Notes that a limit is exceeded, if `passed`.
+/// Notes that a limit is exceeded, if `passed` says so.
 pub(crate) fn note_over(found: &mut Found, passed: bool, limit: Limit)
     ensures { found.new ≡ noted found.old (over passed limit) }
 {

@@ -1,4 +1,4 @@
-//! The faults of commands of the header.
+//! The faults of commands of the header, which stands before all definitions and queries.
 ghost use Rattle.std.specs.Prelude.{◌≡◌, IfOk};
 ghost use Rattle.dd_written.specs.Values.{written_value};
 ghost use Rattle.dd_faults.specs.Names.{missing};
@@ -7,7 +7,7 @@ ghost use Rattle.dd_faults.specs.Commands.{kind_fits, edge_faults, is_restricted
 use crate::each::Notes;
 use crate::fault::{Found, Limit, note_over};
 use crate::names::note_missing;
-use crate::numbers::{has_entries, is_far, note_unless};
+use crate::numbers::{has_entries, is_far, note_dimension_unless};
 use dd_commands::Edge;
 use dd_known::{Context, Known};
 use dd_topology::{Kind, Topology};
@@ -26,6 +26,7 @@ pub(crate) fn kind_fits(alloc: Global, known: &Known, kind: Kind) -> Result<bool
     Ok(fits)
 }
 
+/// Notes the faults of an edge.
 impl Notes<Edge> for Context {
     ghost faults = { edge_faults };
 
@@ -33,12 +34,12 @@ impl Notes<Edge> for Context {
         let setting = &self.known.setting;
         note_missing(&self.text, &setting.nodes, edge.from, found);
         note_missing(&self.text, &setting.nodes, edge.to, found);
-        note_unless(found, has_entries(setting.topology.dim(), &edge.offset));
+        note_dimension_unless(found, has_entries(setting.topology.dim(), &edge.offset));
         note_over(found, is_far(&self.text, &edge.offset), Limit::Offset);
     }
 }
 
-/// Notes names that name no symbol.
+/// Notes a name that names no symbol.
 impl Notes<Name> for Context {
     ghost faults = { λ x. missing x.text x.known.setting.symbols };
 
@@ -56,7 +57,7 @@ pub(crate) fn is_restricted(context: &Context, node: Name) -> bool
     number.is_some_and(|number| known.restricted.as_slice().contains(&number))
 }
 
-/// Whether these numbers exceed what `limits` may set.
+/// Whether `limits` may not set these numbers: one of them exceeds its limit, or the period is 0.
 pub(crate) fn passes_limits(text: &Text, radius: Number, period: Number, pivots: Number) -> bool
     ensures { result ≡ passes_limits (written_value text.now radius) (written_value text.now period) (written_value text.now pivots) }
 {

@@ -1,5 +1,6 @@
-//! What is wrong with a well-formed command. Its faults form a list in the order of its text. It is refused for the first fault
-//! of the lowest rank: unknown names, then repetitions, then dimensions, then limits in their order.
+//! The faults of well-formed commands. The faults of a command form a list, in the order of its text. Each has a rank: unknown
+//! names come first, then repetitions, then dimensions, then the limits in their order. Among the faults of the lowest rank, a
+//! command is refused for the first.
 #![tactic(auto, using(crate::proofs::Noting::faults))]
 
 mod atoms;

@@ -1,4 +1,4 @@
-//! Names, compared by their texts.
+//! Names and variables, compared by their texts.
 ghost use Rattle.std.specs.Prelude.{◌≡◌, is_some, position, bytes_eq};
 ghost use Rattle.dd_written.specs.Values.{word_text};
 ghost use Rattle.dd_faults.specs.Order.{noted};
@@ -9,21 +9,21 @@ use dd_known::Known;
 use dd_topology::Names;
 use dd_written::{Name, Text, Word, name_text};
 
-/// Whether a name is one of these.
+/// Whether a name is in the list `names`.
 pub(crate) fn is_named(text: &Text, names: &Names, name: Name) -> bool
     ensures { result ≡ is_some (place_of_name text.now names.now name) }
 {
     names.find(name_text(text, name)).is_some()
 }
 
-/// The index of a name; 0 if it is none of these.
+/// The index of a name in the list `names`; 0 if it isn't there.
 pub fn number_in(text: &Text, names: &Names, name: Name) -> u32
     ensures { result ≡ number_in text.now names.now name }
 {
     names.find(name_text(text, name)).unwrap_or(0)
 }
 
-/// Notes a name that is none of these.
+/// Notes a name that isn't in the list `names`.
 pub(crate) fn note_missing(text: &Text, names: &Names, name: Name, found: &mut Found)
     ensures { found.new ≡ noted found.old (missing text.now names.now name) }
 {
@@ -39,7 +39,7 @@ pub fn place_among(text: &Text, words: &[Word], wanted: &str) -> Option<usize>
         .position(|word| text.part(word.start, word.length) == wanted)
 }
 
-/// Whether a word is a variable.
+/// Whether a word is a variable: `o`, or one in scope.
 pub(crate) fn is_variable(text: &Text, scope: &[Word], word: Word) -> bool
     ensures { result ≡ is_variable text.now scope.now word }
 {

@@ -1,9 +1,10 @@
-//! The faults of tokens, numbers and vectors.
+//! The faults of tokens, of numbers, and of the vectors of strips and discharges.
 ghost use Rattle.std.specs.Prelude.{◌≡◌, ◌≤◌, false, min, nat_lt, unsigned_abs};
 ghost use Rattle.std.specs.List.{list_any};
 ghost use Rattle.dd_known.specs.Limits.{farthest};
 ghost use Rattle.dd_faults.specs.Order.{noted};
-ghost use Rattle.dd_faults.specs.Commands.{unless, token_faults, entry_value, signed_value, has_entries, is_far, is_no_strip, radius_faults, strip_faults, vector_faults, weight_faults};
+ghost use Rattle.dd_faults.specs.Commands.{dimension_unless, token_faults, entry_value, signed_value, has_entries, is_far};
+ghost use Rattle.dd_faults.specs.Commands.{is_no_strip, radius_faults, strip_faults, vector_faults, weight_faults};
 
 use crate::each::Notes;
 use crate::fault::{Fault, Found, Limit, note_if, note_over};
@@ -12,14 +13,14 @@ use dd_known::{Context, FARTHEST, GREATEST_NUMBER, LONGEST_STRIP, MOST_LETTERS};
 use dd_values::{MOST_WEIGHT, WIDEST_RADIUS};
 use dd_written::{Lexeme, Number, Text, number_value};
 
-/// Notes a fault of dimension, unless the numbers of entries agree.
-pub(crate) fn note_unless(found: &mut Found, fits: bool)
-    ensures { found.new ≡ noted found.old (unless fits) }
+/// Notes the fault `Dimension`, unless `fits`.
+pub(crate) fn note_dimension_unless(found: &mut Found, fits: bool)
+    ensures { found.new ≡ noted found.old (dimension_unless fits) }
 {
     note_if(found, !fits, Fault::Dimension);
 }
 
-/// Notes words that are too long and numbers that are too large.
+/// Notes a word that is too long, or a number that is too large.
 impl Notes<Lexeme> for Text {
     ghost faults = { token_faults };
 
@@ -35,7 +36,7 @@ impl Notes<Lexeme> for Text {
     }
 }
 
-/// The absolute value of an entry, at most 4,294,967,295.
+/// The absolute value of an entry, cut off at `u32::MAX`.
 pub(crate) fn entry_value(text: &Text, entry: Entry) -> u32
     ensures { result ≡ min (entry_value text.now entry) 4294967295 }
 {
@@ -43,7 +44,7 @@ pub(crate) fn entry_value(text: &Text, entry: Entry) -> u32
     number_value(text, number)
 }
 
-/// The value of an entry of at most 4 in absolute value.
+/// The value of an entry, with its sign. It is at most `FARTHEST` in absolute value.
 pub fn signed_value(text: &Text, entry: Entry) -> i32
     requires { nat_lt farthest (entry_value text.now entry) ≡ false }
     ensures value { result ≡ signed_value text.now entry }
@@ -55,13 +56,14 @@ pub fn signed_value(text: &Text, entry: Entry) -> i32
     }
 }
 
+/// Whether a vector has `dimension` entries.
 pub(crate) fn has_entries(dimension: u32, vector: &Vector) -> bool
     ensures { result ≡ has_entries dimension vector.now }
 {
     vector.entries.len() == dimension as usize
 }
 
-/// Whether some entry is over 4 in absolute value.
+/// Whether some entry is over `FARTHEST` in absolute value.
 pub(crate) fn is_far(text: &Text, vector: &Vector) -> bool
     ensures { result ≡ is_far text.now vector.now }
 {
@@ -69,10 +71,12 @@ pub(crate) fn is_far(text: &Text, vector: &Vector) -> bool
     entries.any(|entry| entry_value(text, *entry) > FARTHEST)
 }
 
-/// The context of the numbers and vectors of a query: radii, margins, and periods of strips.
+/// The context in which radii, margins and periods of strips have faults. In a plain `Context`, numbers are weights, and vectors
+/// are those of a discharge.
 #[derive(Clone, Copy)]
 pub(crate) struct Asked<'a>(pub(crate) &'a Context);
 
+/// Notes a radius or a margin of a discharge that is too large.
 impl<'a> Notes<Number> for Asked<'a> {
     ghost faults = { λ asked. radius_faults asked.0.now };
 
@@ -82,7 +86,7 @@ impl<'a> Notes<Number> for Asked<'a> {
     }
 }
 
-/// Notes weights over 1,000.
+/// Notes a weight that is too large.
 impl Notes<Number> for Context {
     ghost faults = { weight_faults };
 
@@ -92,6 +96,7 @@ impl Notes<Number> for Context {
     }
 }
 
+/// Whether some entry can't be a period of a strip: it is 0 or too large.
 fn is_no_strip(text: &Text, vector: &Vector) -> bool
     ensures { result ≡ list_any (is_no_strip text.now) vector.now.entries }
 {
@@ -101,6 +106,7 @@ fn is_no_strip(text: &Text, vector: &Vector) -> bool
     })
 }
 
+/// Notes the faults of the periods of a strip: one for each axis but one.
 impl<'a> Notes<Vector> for Asked<'a> {
     ghost faults = { λ asked. strip_faults asked.0.now };
 
@@ -108,7 +114,7 @@ impl<'a> Notes<Vector> for Asked<'a> {
         let Asked(context) = *self;
         let dimension = context.known.setting.topology.dim() as usize;
         let fits = dimension > 0 && periods.entries.len() == dimension - 1;
-        note_unless(found, fits);
+        note_dimension_unless(found, fits);
         note_over(found, is_no_strip(&context.text, periods), Limit::Periods);
     }
 }
@@ -119,7 +125,7 @@ impl Notes<Vector> for Context {
 
     fn note(&self, vector: &Vector, found: &mut Found) {
         let dimension = self.known.setting.topology.dim();
-        note_unless(found, has_entries(dimension, vector));
+        note_dimension_unless(found, has_entries(dimension, vector));
         note_over(found, is_far(&self.text, vector), Limit::Vectors);
     }
 }

@@ -1,4 +1,4 @@
-//! The faults of queries, by their rows.
+//! The faults of queries, each by the row of its kind.
 ghost use Rattle.std.specs.{Prelude.◌≡◌, Prelude.OnOk, List.flat_map, List.zip};
 ghost use Rattle.dd_faults.specs.{Order.noted, Commands.word_faults, Commands.request_faults};
 
@@ -6,14 +6,14 @@ use crate::boxes::Torus;
 use crate::each::note_each;
 use crate::fault::{Done, Found, Limit, note_over};
 use crate::names::note_missing;
-use crate::numbers::{Asked, note_unless};
+use crate::numbers::{Asked, note_dimension_unless};
 use crate::twice::note_twice;
 use dd_commands::{Lists, Request, Role};
 use dd_known::{Context, MOST_VECTORS};
 use dd_written::{Name, Word};
 use std::alloc::Global;
 
-/// Notes the words that name nothing of their role.
+/// Notes each word that names nothing of its role.
 fn words(context: &Context, roles: &[Role], words: &[Word], found: &mut Found)
     ensures { found.new ≡ noted found.old (flat_map (word_faults context.now) (zip roles.now words.now)) }
 {
@@ -45,6 +45,6 @@ pub(crate) fn request(alloc: Global, context: &Context, asked: &Request, found: 
         }
     }
     let symbols = context.known.setting.symbols.count();
-    note_unless(found, symbols >= row.symbols);
+    note_dimension_unless(found, symbols >= row.symbols);
     Ok(())
 }

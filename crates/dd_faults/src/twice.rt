@@ -1,4 +1,4 @@
-//! Repetitions.
+//! Repetitions: the first item of a list that repeats an earlier one.
 ghost use Rattle.std.specs.Prelude.{◌≡◌, [], ℕ, List, string_bytes, IfOk, OnOk};
 ghost use Rattle.dd_written.specs.Values.{name_text};
 ghost use Rattle.dd_faults.specs.{declared.fault.Fault.Fault as AnyFault, declared.fault.Fault.TheVariants.Twice, Order.noted};
@@ -12,7 +12,7 @@ use dd_topology::{NameFault, Names};
 use dd_written::{Name, Text, name_text};
 use std::alloc::{AllocError, Global};
 
-/// Items that may not repeat: two with the same key are the same.
+/// Items that must not repeat in a list. Two items are the same if they have the same key.
 pub(crate) trait Keyed {
     ghost key: { List ℕ → Self → List ℕ };
     /// The fault if this item repeats an earlier one.
@@ -23,7 +23,7 @@ pub(crate) trait Keyed {
         ensures { IfOk result (λ keyed. (string_bytes keyed.0 ≡ key text.now self.now) × (keyed.1 ≡ repeated self.now)) };
 }
 
-/// Notes the first item that repeats an earlier one. More items than any script contains count as a lack of memory.
+/// Notes the first item that repeats an earlier one. If there are more items than any script has, it fails as if memory ran out.
 pub(crate) fn note_twice<T: Keyed>(alloc: Global, text: &Text, all: &[T], found: &mut Found) -> Done
     ensures { OnOk result (found.new ≡ noted found.old (first_repeat (T.key text.now) T.repeated [] all.now)) }
 {
@@ -61,7 +61,7 @@ impl Keyed for Edge {
 
     ghost repeated = { twice_label };
 
-    /// The label and the first node, with a comma between them.
+    /// The key is the label and the first node, with a comma between them.
     fn key(&self, alloc: Global, text: &Text) -> Result<(String, Fault), AllocError> {
         let label = Name::Word(self.label);
         let key = format!(in alloc; "{},{}", name_text(text, label), name_text(text, self.from))?;
@@ -69,7 +69,8 @@ impl Keyed for Edge {
     }
 }
 
-/// The entry followed by a comma: by its value if that is at most 4 in absolute value, otherwise as written.
+/// The key of an entry: its value, if that is at most `FARTHEST` in absolute value, and otherwise its digits in the script. A
+/// comma follows.
 fn entry_key(alloc: Global, text: &Text, entry: Entry) -> Result<String, AllocError>
     ensures { IfOk result (λ key. string_bytes key ≡ entry_key text.now entry) }
 {

@@ -14,9 +14,7 @@ use Rattle.dd_forbidden.proofs.Lists.{range_from, less_at}
 use Rattle.dd_values.specs.lemmas.Members.{Contains-cons_cases, sorted_append, Contains-first, Contains-nil}
 use Rattle.dd_values.specs.lemmas.Lists.{nothing_past, range_has, of_part}
 
--- allowed symbols are symbols of the alphabet
-
--- a breaking filling that begins with some symbols
+-- the symbols ss of a breaking filling begin with `start`
 record Extends (r : LocalRule) (a : ℕ) (cs : List Cell) (start ss : List ℕ) : Type 0 where
   rest : List ℕ
   is : ss ≡ start ++ rest

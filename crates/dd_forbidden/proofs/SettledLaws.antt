@@ -1,4 +1,4 @@
--- What is settled by the symbols of the first cells, and what it says of the fillings that begin with them.
+-- What is listed once the symbols of the first cells settle the rule's truth.
 use Rattle.std.proofs.Common.{◌≡◌, ◌<◌, ◌≤◌, ◌+◌, ℕ, zero, suc, Bool, true, false, cond, List, [], ◌∷◌, ◌++◌, refl, sym, ◌∙◌, ap, subst, arith}
 use Rattle.std.proofs.lemmas.List.{append_assoc, append-nil, Elements.All-push}
 use Rattle.std.specs.List.{flat_map, range_with_len}
@@ -7,13 +7,13 @@ use Rattle.dd_numbered.specs.{declared.numbered.Numbered.Numbered, Numbered.hold
 use Rattle.dd_formula.specs.LocalRule.{LocalRule, rule_allows}
 use Rattle.dd_forbidden.specs.Breaking.{is_true_at_origin}
 use Rattle.dd_forbidden.specs.listing.Extensions.{completions, extensions, AreSymbols}
-use Rattle.dd_forbidden.specs.listing.Saying.{SaysKept}
+use Rattle.dd_forbidden.specs.listing.Saying.{SaysRule}
 
 -- the rule's truth is the same under all symbols that begin with these
 abbrev pub Settles : LocalRule → ℕ → List ℕ → Bool → Type 0
 Settles r a ss b = (more : List ℕ) → AreSymbols r (ss ++ more) → is_true_at_origin r a (ss ++ more) ≡ b
 
-pub settled_so : (r : LocalRule) (a : ℕ) (e : Numbered) (ss begun : List ℕ) (b value : Bool) → SaysKept r a e → begun ≡ ss → value ≡ b → IsSettled e begun value → Settles r a ss b
+pub settled_so : (r : LocalRule) (a : ℕ) (e : Numbered) (ss begun : List ℕ) (b value : Bool) → SaysRule r a e → begun ≡ ss → value ≡ b → IsSettled e begun value → Settles r a ss b
 settled_so r a e ss begun b value says same is h more below =
     sym (says (ss ++ more) below) ∙ (subst (λ xs. (more : List ℕ) → holds_in e (xs ++ more) ≡ value) same h more ∙ is)
 
@@ -25,7 +25,7 @@ settles_on r a ss s b h more below =
 settled_here : (r : LocalRule) (a : ℕ) (ss : List ℕ) (b : Bool) → AreSymbols r ss → Settles r a ss b → is_true_at_origin r a ss ≡ b
 settled_here r a ss b below h = ap (is_true_at_origin r a) (sym (append-nil ss)) ∙ h [] (subst (AreSymbols r) (sym (append-nil ss)) below)
 
--- lists of the numbers from k on that agree
+-- functions that agree on a range give the same joined list over it
 agree : (f g : ℕ → List (List ℕ)) (k n most : ℕ) → k + n ≤ most → ((s : ℕ) → s < most → f s ≡ g s) → flat_map f (range_with_len k n) ≡ flat_map g (range_with_len k n)
 agree f g k zero most within same = refl
 agree f g k (suc n) most within same =
@@ -47,7 +47,7 @@ none_broken r a (c ∷ cs) ss below h =
     (λ s within. ap (λ xs. cond (rule_allows r c.node s) xs []) (none_broken r a cs (ss ++ s ∷ []) (All-push (λ t. t < r.symbols) ss s below within) (settles_on r a ss s true h)) ∙ cond_none (rule_allows r c.node s))
     ∙ nothing_from 0 r.symbols
 
--- and where it is false all fillings are
+-- where it is false all fillings are listed
 pub all_broken : (r : LocalRule) (a : ℕ) (cs : List Cell) (ss : List ℕ) → AreSymbols r ss → Settles r a ss false → extensions r a cs ss ≡ completions r cs ss
 all_broken r a [] ss below h = ap (λ b. cond b [] (ss ∷ [])) (settled_here r a ss false below h)
 all_broken r a (c ∷ cs) ss below h =

@@ -5,12 +5,7 @@ use Rattle.std.proofs.lemmas.List.{append_assoc, map-append}
 use Rattle.dd_pattern.specs.Filling.{Filled}
 use Rattle.dd_values.specs.lemmas.Lists.{range_more}
 
--- the truth of the expansion at the origin
-
--- the cells that are read are of the rule's nodes
-
--- the list after one more symbol
-
+-- the list after the branch of one more symbol
 pub one_more : (g : List ℕ → Filled) (f : ℕ → List (List ℕ)) (start found next : List Filled) (new : List (List ℕ)) (n : ℕ) →
     found ≡ start ++ map g (flat_map f (range_with_len 0 n)) → next ≡ found ++ map g new → f n ≡ new → next ≡ start ++ map g (flat_map f (range_with_len 0 (n + 1)))
 one_more g f start found next new n before now is =
@@ -20,5 +15,3 @@ one_more g f start found next new n before now is =
     ap (λ m. flat_map f (range_with_len 0 m)) index ∙ (range_more f 0 n ∙ (ap (λ i. old ++ f i) (let none : 0 + n ≡ n = omega arith in none) ∙ ap (λ xs. old ++ xs) is)) in
     now ∙ (ap (λ xs. xs ++ map g new) before
     ∙ (append_assoc start (map g old) (map g new) ∙ ap (λ xs. start ++ xs) (sym (map-append g old new) ∙ ap (map g) (sym more))))
-
--- a symbol that was put at the end is taken off

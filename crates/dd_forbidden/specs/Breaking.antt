@@ -1,4 +1,5 @@
--- The fillings of a rule's reads under which the rule is false.
+-- The breaking fillings of a rule at a node: fillings of the cells that it reads there, with allowed symbols, under which it is
+-- false.
 use Rattle.std.specs.Prelude.{ℕ, ◌≡◌, ◌&&◌, nat_lt, Bool, true, false, List, [], ◌∷◌, map}
 use Rattle.std.specs.{List.Contains, List.Sorted.IsStrictlySortedBy, Ordering.nat_cmp, Cmp.Lexicographic.slice_cmp}
 use Rattle.dd_lattice.specs.declared.position.Cell.{Cell}
@@ -16,34 +17,34 @@ are_allowed r [] (s ∷ ss) = false
 are_allowed r (c ∷ cs) [] = false
 are_allowed r (c ∷ cs) (s ∷ ss) = rule_allows r c.node s && are_allowed r cs ss
 
--- whether the rule is true at the node's cell at the origin, where the cells that it reads have these symbols
+-- whether the rule is true at this node of the origin, where the cells that it reads have these symbols
 abbrev pub is_true_at_origin : LocalRule → ℕ → List ℕ → Bool
 is_true_at_origin r a ss = is_true r (origin_at a) (filling_look (filled (cells_at r a) ss))
 
--- the cells that the rule reads at the node have more fillings than the limit
+-- the cells that the rule reads at the node have more than `most_patterns` fillings with the whole alphabet
 abbrev pub is_large : LocalRule → ℕ → Bool
 is_large r a = nat_lt most_patterns (pattern_count r a)
 
--- symbols for the cells that are read, under which the rule is false
+-- the symbols of a breaking filling
 pub record IsBreaking (r : LocalRule) (a : ℕ) (ss : List ℕ) : Type 0 where
   pub allowed : are_allowed r (cells_at r a) ss ≡ true
   pub broken : is_true_at_origin r a ss ≡ false
 
--- all of them in lexicographic order, each once
+-- the symbols of all breaking fillings, in lexicographic order, each once
 pub record BreakingFillings (r : LocalRule) (a : ℕ) (lists : List (List ℕ)) : Type 0 where
   pub ascending : IsStrictlySortedBy (slice_cmp nat_cmp) lists
   pub only : (ss : List ℕ) → Contains lists ss → IsBreaking r a ss
   pub each : (ss : List ℕ) → IsBreaking r a ss → Contains lists ss
 
--- as fillings of the cells that are read
+-- all breaking fillings, in the lexicographic order of their symbols
 pub record AreBreakingFillings (r : LocalRule) (a : ℕ) (fs : List Filled) : Type 0 where
   pub symbols : List (List ℕ)
   pub fillings : fs ≡ map (filled (cells_at r a)) symbols
   pub breaking : BreakingFillings r a symbols
-  -- there are few enough
+  -- the number of fillings keeps the limit
   pub few : is_large r a ≡ false
 
--- why there is no list
+-- which fault is right: too many fillings, else no memory
 abbrev pub IsListingFault : LocalRule → ℕ → ForbiddenFault → Type 0
 IsListingFault r a Size = is_large r a ≡ true
 IsListingFault r a Memory = is_large r a ≡ false

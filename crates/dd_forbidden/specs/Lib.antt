@@ -1,4 +1,4 @@
--- the fillings that break a rule
+-- the breaking fillings of a rule
 pub mod Breaking
 -- what the search appends to the symbols so far
 pub mod listing

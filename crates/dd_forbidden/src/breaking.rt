@@ -1,4 +1,4 @@
-//! The list of the fillings that break a rule.
+//! The list of the breaking fillings of a rule at a node.
 ghost use Rattle.std.specs.Prelude.{◌<◌, IfOk, IfErr};
 ghost use Rattle.dd_forbidden.specs.Breaking.{AreBreakingFillings, IsListingFault};
 
@@ -11,12 +11,12 @@ use dd_pattern::Filling;
 use dd_values::Items;
 use std::alloc::Global;
 
-/// All fillings of the cells that the rule reads at the node, with symbols that their nodes allow, for which the rule is
-/// false at the node's cell at the origin. They are in the lexicographic order of their symbols, each once. Where the
-/// rule reads nothing and is false, this is the empty filling.
+/// The breaking fillings of the rule at a node of the origin. A breaking filling gives each cell that the rule reads there a
+/// symbol that the cell's node allows, and the rule is false under these symbols. The fillings are in the lexicographic order of
+/// their symbols, each once. A rule that reads nothing and is false has one, the empty filling.
 ///
 /// # Errors
-/// `Size` where the number of symbols to the power of the number of cells passes 65,536; else `Memory`.
+/// `Size` where the cells that are read have more than 65,536 fillings with the whole alphabet; else `Memory`.
 pub fn forbidden(alloc: Global, rule: &Rule, node: u32) -> Result<Vec<Filling>, ForbiddenFault>
     requires { node < rule.now.nodes }
     ensures ok { IfOk result (λ found. AreBreakingFillings rule.now node found.items) }

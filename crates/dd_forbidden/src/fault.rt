@@ -1,13 +1,13 @@
-//! Why no fillings are listed.
+//! Why there is no list of breaking fillings.
 ghost use Rattle.std.specs.Prelude.{◌≡◌};
 
 use std::alloc::AllocError;
 use thiserror::Error;
 
-/// Why the forbidden patterns of a rule were not listed.
+/// Why the breaking fillings of a rule were not listed.
 #[derive(Debug, Drop, Error)]
 pub enum ForbiddenFault {
-    /// The number of symbols to the power of the number of cells that are read at the node passes 65,536.
+    /// The cells that are read at the node have more than 65,536 fillings with the whole alphabet.
     #[error("the reads have more than 65536 fillings")]
     Size,
     /// Memory ran out.

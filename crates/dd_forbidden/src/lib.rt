@@ -1,4 +1,5 @@
-//! Forbidden patterns: the fillings of the cells that a rule reads at a node that break the rule there.
+//! The breaking fillings of a rule at a node: fillings of the cells that it reads there, with allowed symbols, under which it is
+//! false.
 #![tactic(auto)]
 
 mod breaking;

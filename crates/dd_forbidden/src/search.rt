@@ -1,12 +1,12 @@
-//! The search tries, cell by cell, each symbol that the cell's node allows, in order. A branch ends once the symbols so
-//! far settle that the rule is true. Once they settle that it is false, all fillings of the branch are listed.
+//! The search for the breaking fillings. Cell by cell it tries each symbol that the cell's node allows, in order. A branch ends
+//! once the symbols so far settle that the rule is true. Once they settle that it is false, all fillings of the branch are listed.
 ghost use Rattle.std.specs.Prelude.{[], ◌∷◌, ◌≡◌, ◌<◌, ◌+◌, ◌++◌, length, map, OnOk};
 ghost use Rattle.std.specs.List.Sorted.{IsStrictlySortedBy};
 ghost use Rattle.dd_lattice.specs.Order.{cell_cmp};
 ghost use Rattle.dd_pattern.specs.Filling.{filled};
 ghost use Rattle.dd_formula.specs.LocalRule.{cells_at};
 ghost use Rattle.dd_forbidden.specs.listing.Extensions.{completions, extensions, AreOf, AreSymbols};
-ghost use Rattle.dd_forbidden.specs.listing.Saying.{SaysKept};
+ghost use Rattle.dd_forbidden.specs.listing.Saying.{SaysRule};
 
 use dd_formula::Rule;
 use dd_lattice::Cell;
@@ -15,7 +15,8 @@ use dd_pattern::Filling;
 use dd_values::Items;
 use std::alloc::{AllocError, Global};
 
-/// Appends the breaking fillings that begin with these symbols. The rest of the cells have none yet.
+/// Appends the breaking fillings that begin with `symbols`. `cells` are all cells that the rule reads at the node, and `rest` are
+/// those that have no symbol yet. `formula` is the rule's expansion over the symbols of these cells.
 pub(crate) fn extend(
     alloc: Global,
     rule: &Rule,
@@ -26,7 +27,7 @@ pub(crate) fn extend(
     symbols: &mut Items<u32>,
     found: &mut Items<Filling>,
 ) -> Result<(), AllocError>
-    requires formula { SaysKept rule.now node formula.now }
+    requires formula { SaysRule rule.now node formula.now }
     requires cells { cells.now ≡ cells_at rule.now node }
     requires ascending { IsStrictlySortedBy cell_cmp cells.now }
     requires rest { AreOf rule.now rest.now }
@@ -53,7 +54,7 @@ pub(crate) fn extend(
     Ok(())
 }
 
-/// Appends the fillings that begin with these symbols, whether the rule is true under them or not.
+/// Appends all fillings with allowed symbols that begin with `symbols`, whether the rule is true under them or not.
 fn complete(
     alloc: Global,
     rule: &Rule,
@@ -91,7 +92,7 @@ fn push_breaking(
     symbols: &[u32],
     found: &mut Items<Filling>,
 ) -> Result<(), AllocError>
-    requires formula { SaysKept rule.now node formula.now }
+    requires formula { SaysRule rule.now node formula.now }
     requires cells { cells.now ≡ cells_at rule.now node }
     requires ascending { IsStrictlySortedBy cell_cmp cells.now }
     requires length { length symbols.now ≡ length (cells_at rule.now node) }

@@ -1,4 +1,4 @@
--- What a formula's numbers and its depth are, from those of its parts.
+-- Whether a formula fits, and its depth, from those of its parts.
 use Rattle.std.proofs.Common.{◌≡◌, ℕ, ◌+◌, ◌<◌, ◌≤◌, Bool, true, false, max, List, [], ◌∷◌, length, map, take, get_or, ap, sym, ◌∙◌, arith}
 use Rattle.std.proofs.lemmas.Bool.{and_from, lt-leb, le-leb, Decides.nat_tests}
 use Rattle.std.proofs.lemmas.List.{length-map, take_all, Folds.list_all_more}
@@ -54,7 +54,7 @@ greatest_le : (fs : List Formula) (n : ℕ) → nat_le (greatest (map depth fs))
 greatest_le [] n = le-leb 0 n (omega arith)
 greatest_le (f ∷ fs) n = max_within (depth f) (greatest (map depth fs)) n ∙ ap (λ b. nat_le (depth f) n && b) (greatest_le fs n)
 
--- a list of less than two parts
+-- a list of fewer than two parts
 pub shallow_few : (fs : List Formula) (n : ℕ) → length fs < 2 → nat_le (list_depth (map depth fs)) n ≡ list_all (λ f. nat_le (depth f) n) fs
 shallow_few fs n few = rw (length-map fs depth, lt-leb 2 (length fs) few) (greatest_le fs n)
 

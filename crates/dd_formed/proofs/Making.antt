@@ -7,7 +7,7 @@ use Rattle.dd_formula.specs.{Compositions.IsCompositionFault, Compositions.compo
 use Rattle.dd_formula.specs.declared.{automaton.Cases.Cases, fault.RuleFault.RuleFault}
 use Rattle.dd_formula.specs.declared.fault.RuleFault.TheVariants.{Reach, Instances, Depth, Memory}
 use Rattle.dd_formula.specs.lemmas.AutomatonLaws.{fits_given, outer_part, inner_part, within_is}
-use Rattle.dd_formed.specs.Formed.{IsOnceMore}
+use Rattle.dd_formed.specs.Formed.{IsCheckedCopy}
 use Rattle.dd_formula.specs.declared.automaton.Automaton.TheVariants as v
 
 -- a well-formed automaton has few instances, reads nothing too far away, and isn't too deep
@@ -40,10 +40,10 @@ refused_composition s f g Depth fault other h = false≢true (sym fault.1 ∙ (l
 refused_composition s f g Memory fault other h = other refl
 
 pub refused_is : (s : CommonNumbers) (f g : Automaton) (e : RuleFault) (r : Result (Option Automaton) AllocError) → IsCompositionFault s.nodes (composition f g) e →
-    IfOk r (λ none. (none ≡ None) × (e ≢ Memory)) → IfOk r (IsOnceMore s (v.Composed f g))
-refused_is s f g e (Ok o) fault h = subst (IsOnceMore s (v.Composed f g)) (sym h.0) (refused_composition s f g e fault h.1)
+    IfOk r (λ none. (none ≡ None) × (e ≢ Memory)) → IfOk r (IsCheckedCopy s (v.Composed f g))
+refused_is s f g e (Ok o) fault h = subst (IsCheckedCopy s (v.Composed f g)) (sym h.0) (refused_composition s f g e fault h.1)
 refused_is s f g e (Err error) fault h = tt
 
-pub tells : (s : CommonNumbers) (f : Automaton) (o : Option Automaton) → IsOnceMore s f o → (is_some o ≡ true) ↔ IsAutomaton s f
+pub tells : (s : CommonNumbers) (f : Automaton) (o : Option Automaton) → IsCheckedCopy s f o → (is_some o ≡ true) ↔ IsAutomaton s f
 tells s f (Some copy) h = (λ _. h.1, λ _. refl)
 tells s f None h = (λ is. absurd (false≢true is), λ formed. absurd (h formed))

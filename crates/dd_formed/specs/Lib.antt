@@ -1,2 +1,2 @@
--- what is said of formulas and automata that are tested
+-- copies of well-formed automata
 pub mod Formed

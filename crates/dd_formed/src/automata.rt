@@ -1,9 +1,10 @@
-//! Whether automata are well formed. An automaton is well formed if it can be made again: each part is made, from the
-//! rules upwards, and the call that makes a part tests it.
+//! Whether automata are well formed. The test copies the automaton, from its rules upwards. The calls that make the parts of
+//! the copy, `Automaton::given` and `Automaton::composed`, test the limits, and refuse a part that exceeds one. So there is a
+//! copy exactly where the automaton is well formed.
 ghost use Rattle.std.specs.Prelude.{◌≡◌, ◌≢◌, ◌↔◌, ◌&&◌, IsTrue, IfOk, None, nat_lt};
 ghost use Rattle.std.specs.List.{list_all};
 ghost use Rattle.dd_formula.specs.Automata.{IsAutomaton, cases_fit, rule_has};
-ghost use Rattle.dd_formed.specs.Formed.{numbers_of, IsOnceMore};
+ghost use Rattle.dd_formed.specs.Formed.{numbers_of, IsCheckedCopy};
 
 use dd_formula::{Automaton, Cases, Rule, RuleFault};
 use dd_values::Items;
@@ -12,11 +13,15 @@ use std::alloc::{AllocError, Global};
 /// The numbers that the rules of an automaton have in common.
 #[derive(Clone, Copy)]
 pub struct CommonNumbers {
+    /// The dimension of the topology.
     pub dimension: u32,
+    /// How many nodes each position has.
     pub nodes: u32,
+    /// How many symbols the alphabet has.
     pub symbols: u32,
 }
 
+/// Whether the rule has these numbers.
 fn has_numbers(rule: &Rule, numbers: CommonNumbers) -> bool
     ensures { result ≡ rule_has (numbers_of numbers) rule.now }
 {
@@ -25,6 +30,7 @@ fn has_numbers(rule: &Rule, numbers: CommonNumbers) -> bool
         && rule.symbols() == numbers.symbols
 }
 
+/// Whether the case's rule has the numbers, and the symbol that the case gives is one of the alphabet.
 fn case_fits(case: &(Rule, u32), numbers: CommonNumbers) -> bool
     ensures { result ≡ (rule_has (numbers_of numbers) case.now.0 && nat_lt case.now.1 numbers.symbols) }
 {
@@ -37,7 +43,7 @@ fn all_cases_fit(cases: &[(Rule, u32)], numbers: CommonNumbers) -> bool
     cases.iter().all(|case| case_fits(case, numbers))
 }
 
-/// Whether each rule has the numbers, and each symbol is one of the alphabet.
+/// Whether all cases fit, and the default symbol, for cells where no rule is true, is one of the alphabet.
 fn cases_fit(cases: &Cases, numbers: CommonNumbers) -> bool
     ensures { result ≡ cases_fit (numbers_of numbers) cases.now.cases cases.now.otherwise }
 {
@@ -57,14 +63,14 @@ fn copy_of(alloc: Global, cases: &Cases) -> Result<Cases, AllocError>
     })
 }
 
-/// The automaton by these cases, if it is well formed.
+/// The automaton by these cases, or `None` where it isn't well formed.
 #[tactic(auto, using(crate::proofs::Making::no_nodes, crate::proofs::Making::unfit_given, crate::proofs::Making::many_given))]
 fn given(
     alloc: Global,
     cases: &Cases,
     numbers: CommonNumbers,
 ) -> Result<Option<Automaton>, AllocError>
-    ensures { IfOk result (IsOnceMore (numbers_of numbers) (Automaton.Given cases.now)) }
+    ensures { IfOk result (IsCheckedCopy (numbers_of numbers) (Automaton.Given cases.now)) }
 {
     if numbers.nodes == 0 {
         return Ok(None);
@@ -72,13 +78,14 @@ fn given(
     if !cases_fit(cases, numbers) {
         return Ok(None);
     }
+    // This call needs no memory. It fails only where there are too many instances.
     match Automaton::given(copy_of(alloc, cases)?, numbers.nodes) {
         Ok(automaton) => Ok(Some(automaton)),
         Err(_) => Ok(None),
     }
 }
 
-/// What a fault says of the automaton: it isn't well formed, unless memory ran out.
+/// What a fault says: the automaton isn't well formed, unless memory ran out.
 fn refused(fault: RuleFault) -> Result<Option<Automaton>, AllocError>
     ensures { IfOk result (λ none. (none ≡ None) × (fault ≢ RuleFault.Memory)) }
 {
@@ -88,7 +95,7 @@ fn refused(fault: RuleFault) -> Result<Option<Automaton>, AllocError>
     }
 }
 
-/// The composition, if it is well formed.
+/// The composition, or `None` where it isn't well formed.
 fn composed(
     alloc: Global,
     outer: Automaton,
@@ -97,7 +104,7 @@ fn composed(
 ) -> Result<Option<Automaton>, AllocError>
     requires outer { IsAutomaton (numbers_of numbers) outer }
     requires inner { IsAutomaton (numbers_of numbers) inner }
-    ensures { IfOk result (IsOnceMore (numbers_of numbers) (Automaton.Composed outer inner)) }
+    ensures { IfOk result (IsCheckedCopy (numbers_of numbers) (Automaton.Composed outer inner)) }
 {
     match Automaton::composed(alloc, outer, inner) {
         Ok(automaton) => Ok(Some(automaton)),
@@ -105,22 +112,22 @@ fn composed(
     }
 }
 
-/// A copy of the automaton, if it is well formed.
+/// A copy of the automaton, or `None` where it isn't well formed.
 #[tactic(auto, using(crate::proofs::Making::no_outer, crate::proofs::Making::no_inner))]
-fn once_more(
+fn checked_copy(
     alloc: Global,
     automaton: &Automaton,
     numbers: CommonNumbers,
 ) -> Result<Option<Automaton>, AllocError>
-    ensures { IfOk result (IsOnceMore (numbers_of numbers) automaton.now) }
+    ensures { IfOk result (IsCheckedCopy (numbers_of numbers) automaton.now) }
 {
     match automaton {
         Automaton::Given(cases) => given(alloc, cases, numbers),
         Automaton::Composed(outer, inner) => {
-            let Some(first) = once_more(alloc, outer.get(), numbers)? else {
+            let Some(first) = checked_copy(alloc, outer.get(), numbers)? else {
                 return Ok(None);
             };
-            match once_more(alloc, inner.get(), numbers)? {
+            match checked_copy(alloc, inner.get(), numbers)? {
                 Some(second) => composed(alloc, first, second, numbers),
                 None => Ok(None),
             }
@@ -128,10 +135,13 @@ fn once_more(
     }
 }
 
-/// Whether an automaton is well formed over these numbers:
-/// - There is a node, each rule has the numbers, and each symbol given is one of the alphabet.
-/// - Each part has at most 20,000 instances at each node.
-/// - Each part reads nothing more than 16 away along an axis, and nests compositions at most 64 deep.
+/// Whether the automaton is well formed over these numbers:
+/// - There is at least one node. Each rule has these numbers, and each symbol that a case gives, or that is given by default,
+///   is one of the alphabet.
+/// - Each part has at most 20,000 instances at each node, as `Automaton::instances` counts them.
+/// - Each part reads nothing further than 16 away along an axis, and nests compositions at most 64 deep.
+///
+/// The parts are the automaton itself and, in a composition, the parts of both automata.
 ///
 /// # Errors
 /// `AllocError` if memory ran out.
@@ -143,5 +153,5 @@ pub fn is_automaton(
 ) -> Result<bool, AllocError>
     ensures { IfOk result (λ is_formed. IsTrue is_formed ↔ IsAutomaton (numbers_of numbers) automaton.now) }
 {
-    Ok(once_more(alloc, automaton, numbers)?.is_some())
+    Ok(checked_copy(alloc, automaton, numbers)?.is_some())
 }

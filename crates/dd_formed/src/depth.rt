@@ -1,21 +1,22 @@
-//! How deep formulas are.
+//! Whether formulas are within the limit on depth. The depth of a formula is the greatest number of connectives and
+//! quantifiers round an atom, where a conjunction or disjunction of fewer than two parts counts for none.
 ghost use Rattle.std.specs.Prelude.{◌≡◌, ◌≤◌, ◌↔◌, IsTrue, nat_le, map};
 ghost use Rattle.std.specs.List.{list_all};
 ghost use Rattle.dd_expansion.specs.Limits.{depth, list_depth, most_nested};
 
 use dd_expansion::Formula;
 
-/// How deep a formula is at most.
+/// The greatest depth of a rule's formula.
 const MOST_NESTED: u32 = 64;
 
-/// Whether a formula is no deeper than a rule's may be. It takes no memory.
+/// Whether the formula is at most 64 deep. The formula of each rule is. The test allocates no memory.
 pub fn keeps_depth(formula: &Formula) -> bool
     ensures { IsTrue result ↔ (depth formula.now ≤ most_nested) }
 {
     is_shallow(formula, MOST_NESTED)
 }
 
-/// Whether the formula is so deep at most.
+/// Whether the formula is at most `most` deep.
 #[cycle(shallow)]
 #[tactic(auto, using(crate::proofs::Layers::depth_layers))]
 fn is_shallow(formula: &Formula, most: u32) -> bool
@@ -40,7 +41,8 @@ fn is_shallow(formula: &Formula, most: u32) -> bool
     }
 }
 
-/// A list of two parts or more is one deeper than its deepest part.
+/// Whether a conjunction or disjunction of these parts is at most `most` deep. With two parts or more it is one deeper than
+/// its deepest part.
 #[cycle(shallow)]
 #[tactic(auto, using(crate::proofs::Layers::shallow_few, crate::proofs::Layers::shallow_many, crate::proofs::Layers::shallow_none))]
 fn is_list_shallow(parts: &[Formula], most: u32) -> bool
@@ -55,6 +57,7 @@ fn is_list_shallow(parts: &[Formula], most: u32) -> bool
     are_shallow(parts, most - 1)
 }
 
+/// Whether each part is at most `most` deep.
 #[cycle(shallow)]
 fn are_shallow(parts: &[Formula], most: u32) -> bool
     ensures { result ≡ list_all (λ f. nat_le (depth f) most) parts.now }

@@ -1,4 +1,5 @@
-//! Whether the numbers in formulas name what exists.
+//! Whether the numbers in formulas name what exists, and terms and balls keep within their limits. The depth has a module of
+//! its own. Here `scope` is a count: the variables in scope have the numbers below it, and number 0 is the free one.
 ghost use Rattle.std.specs.Prelude.{◌≡◌, ◌+◌, ◌<◌, ◌^◌, ◌↔◌, ◌&&◌, IsTrue, All, length, nat_lt};
 ghost use Rattle.std.specs.List.{list_all};
 ghost use Rattle.dd_expansion.specs.Limits.{term_fits, ball_fits, balls_fit, formula_fits, depth, IsFormula};
@@ -7,18 +8,23 @@ use crate::depth::keeps_depth;
 use dd_expansion::{BallOf, Formula, Term};
 use dd_topology::Topology;
 
-/// The greatest number of moves of a term, and of balls of a quantifier, and the greatest radius of a ball.
+/// The greatest number of moves of a term. A term names a cell: moves, each by its label, lead there from the cell of a
+/// variable.
 const MOST_MOVES: usize = 16;
 
+/// The greatest number of balls of a quantifier, which ranges over their union.
 const MOST_BALLS: usize = 4;
 
+/// The greatest radius of a ball.
 const WIDEST_RADIUS: u32 = 3;
 
 /// What formulas may name: the labels and nodes of a topology, and symbols.
 #[derive(Drop)]
 struct Language<'a> {
     topology: &'a Topology,
+    /// How many labels the topology has. `Topology` has no method for it.
     labels: u32,
+    /// How many symbols the alphabet has.
     symbols: u32,
     ghost labelled: { length topology.now.labels ≡ labels },
 }
@@ -29,6 +35,7 @@ fn are_below(numbers: &[u32], limit: u32) -> bool
     numbers.iter().all(|&number| number < limit)
 }
 
+/// Whether the ball is round a variable in scope, and not too wide.
 fn ball_fits(scope: u32, ball: &BallOf) -> bool
     ensures { result ≡ ball_fits scope ball.now }
 {
@@ -48,6 +55,7 @@ fn balls_fit(scope: u32, balls: &[BallOf]) -> bool
 }
 
 impl Language<'_> {
+    /// Whether the term's variable is in scope, its moves are few enough, and their labels exist.
     fn term_fits(&self, scope: u32, term: &Term) -> bool
         ensures { result ≡ term_fits self.now.topology.now scope term.now }
     {
@@ -62,7 +70,9 @@ impl Language<'_> {
         self.term_fits(scope, left) && self.term_fits(scope, right)
     }
 
-    /// Whether the formula fits with so many variables in scope. It doesn't if there would be 2^32 of them.
+    /// Whether the formula fits with `scope` variables in scope: each variable, label, node and symbol in it exists, and terms
+    /// and balls are within their limits. The contract says nothing of formulas whose depth, added to `scope`, is 2^32 or more:
+    /// there the count of variables in scope could overflow.
     #[cycle(fits)]
     #[tactic(auto, using(crate::proofs::Layers::fits_layers, crate::proofs::Layers::depth_layers, crate::proofs::Layers::parts_within))]
     fn fits(&self, scope: u32, formula: &Formula) -> bool
@@ -91,18 +101,20 @@ impl Language<'_> {
         }
     }
 
-    /// The body has one variable more in scope.
+    /// Whether the balls of a quantifier fit, and its body with one variable more in scope.
     #[cycle(fits)]
     fn body_fits(&self, scope: u32, balls: &[BallOf], body: &Formula) -> bool
         ensures { scope + 1 + depth body.now < 2 ^ 32 →
             result ≡ (balls_fit scope balls.now && formula_fits self.now.topology.now self.now.symbols body.now (scope + 1)) }
     {
+        // The count would overflow. The contract says nothing of this case.
         if scope == u32::MAX {
             return false;
         }
         balls_fit(scope, balls) && self.fits(scope + 1, body)
     }
 
+    /// Whether each part fits.
     #[cycle(fits)]
     fn all_fit(&self, scope: u32, parts: &[Formula]) -> bool
         ensures { All (λ f. scope + depth f < 2 ^ 32) parts.now →
@@ -117,11 +129,13 @@ impl Language<'_> {
     }
 }
 
-/// Whether a formula may be made a rule over a topology with so many labels, and so many symbols. It takes no memory.
+/// Whether a rule may be made of the formula, over this topology with `labels` labels and an alphabet of `symbols` symbols:
 /// - It has one free variable, and each variable, label, node and symbol in it exists.
 /// - Its terms have at most 16 moves, and its quantifiers at most 4 balls of a radius of at most 3.
-/// - It is at most 64 deep. A list of two parts or more, an implication, an equivalence, a negation and a quantifier are
-///   one deeper than their deepest part.
+/// - It is at most 64 deep. A negation, an implication, an equivalence, a quantifier, and a conjunction or disjunction of
+///   two parts or more are one deeper than their deepest part.
+///
+/// The test allocates no memory.
 pub fn is_formula(topology: &Topology, labels: u32, symbols: u32, formula: &Formula) -> bool
     requires { length topology.now.labels ≡ labels }
     ensures { IsTrue result ↔ IsFormula topology.now symbols formula.now }

@@ -1,5 +1,5 @@
-//! Tests of formulas and automata before rules are made of them: their numbers name what exists, and they are within the
-//! limits.
+//! Whether a formula may become a rule, and whether an automaton is well formed: each number of a variable, label, node or
+//! symbol names one that exists, and limits are kept.
 #![tactic(auto)]
 
 mod automata;

@@ -1,4 +1,4 @@
--- Lists that have one item for each node.
+-- Lists with one item for each node: their items, and tests of all items.
 use Rattle.std.proofs.Common.{◌≡◌, ◌<◌, ◌≤◌, ◌-◌, ℕ, zero, suc, Bool, true, false, [], ◌∷◌, ◌++◌, length, map, get_or, refl, ap, sym, ◌∙◌, arith, inl, inr}
 use Rattle.std.proofs.{lemmas.Bool.and_parts, lemmas.List.Folds.list_all-append, Math.Nat.eq-or-lt_of_le}
 use Rattle.std.proofs.lemmas.{List.get_or_append_left, List.get_or-append_right, List.map-append, Grind.common_steps}
@@ -36,7 +36,7 @@ map-at_nodes h f (suc n) = map-append h (at_nodes f n) (f n ∷ []) ∙ ap (λ x
 list_all-more : {X : Type 0} (p : X → Bool) (f : ℕ → X) (n : ℕ) → list_all p (at_nodes f (suc n)) ≡ (list_all p (at_nodes f n) && p (f n))
 list_all-more p f n = list_all-append p (at_nodes f n) (f n ∷ []) ∙ ap (λ b. list_all p (at_nodes f n) && b) (and_true (p (f n)))
 
--- each item passes
+-- where all items pass a test, each item does
 pub all_at_nodes : {X : Type 0} (p : X → Bool) (f : ℕ → X) (n : ℕ) → list_all p (at_nodes f n) ≡ true → (a : ℕ) → a < n → p (f a) ≡ true
 all_at_nodes p f zero h a below = absurd (omega arith)
 all_at_nodes p f (suc n) h a below =
@@ -47,7 +47,7 @@ all_at_nodes p f (suc n) h a below =
       | inr earlier ↦ all_at_nodes p f n both.0 a earlier
     ]
 
--- an item that fails
+-- an item that fails the test
 pub record FailsAt {X : Type 0} (p : X → Bool) (f : ℕ → X) (n : ℕ) : Type 0 where
   pub node : ℕ
   pub exists : node < n

@@ -29,7 +29,7 @@ module _ (r : LocalRule) (some : 1 ≤ r.symbols) where
       let found = some_fails (λ e. list_all is_near (leaf_cells e)) (expansion_at r) r.nodes h in
       record { node = found.node; exists = found.exists; far = sym (near_leaves found.node) ∙ found.fails }
 
-  -- the fault with which the reads are refused
+  -- the fault of the reads is a right fault of the rule
   pub refused_from : (fault : RuleFault) → IsSmall r → (fault ≡ Memory) ⊎ ((fault ≡ Reach) × (list_all (λ e. list_all is_near (leaf_cells e)) (at_nodes (expansion_at r) r.nodes) ≡ false)) →
       IsRuleRefusal r fault
   refused_from fault small (inl is) = subst (IsRuleRefusal r) (sym is) tt

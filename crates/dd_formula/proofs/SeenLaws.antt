@@ -19,12 +19,12 @@ use Rattle.dd_formula.specs.lemmas.AutomatonLaws.{near_reads}
 use Rattle.dd_formula.specs.lemmas.ValueLaws.{origin, shifted_by_none, moved_by_none, value_by_reads, value_composed, value_below, equal_values, read_by_both}
 use Rattle.dd_formula.specs.declared.automaton.Automaton.TheVariants as v
 
--- a test of a list, by the places of its elements
+-- a list passes a test if the element at each of its places does
 by_places : {X : Type 0} (p : X → Bool) (xs : List X) → ((k : ℕ) (x : X) → k < length xs → p (get_or xs k x) ≡ true) → list_all p xs ≡ true
 by_places p [] h = refl
 by_places p (x ∷ xs) h = and_from (p x) (list_all p xs) (h zero x (omega arith)) (by_places p xs (λ k y below. h (suc k) y (omega arith)))
 
--- symbols that are those of a look at the cells
+-- a list of cells, and a list of the symbols that the look gives them
 module _ (look : Look) where
   read_at : (cs : List Cell) (ss : List ℕ) (k : ℕ) (c : Cell) → map Some ss ≡ map look cs → k < length cs → are_equal (slice_get ss k) (look (get_or cs k c)) ≡ true
   read_at [] ss k c is below = absurd (omega arith)
@@ -52,7 +52,7 @@ module _ (look : Look) where
   pub as_many : (cs : List Cell) (ss : List ℕ) → map Some ss ≡ map look cs → length ss ≡ length cs
   as_many cs ss is = sym (length-map ss Some) ∙ (ap length is ∙ length-map cs look)
 
-  -- are read back from the filling
+  -- the filling of the cells with the symbols gives each cell its symbol back
   pub read_back : (cs : List Cell) (ss : List ℕ) → IsStrictlySortedBy cell_cmp cs → map Some ss ≡ map look cs →
       list_all (λ d. are_equal (filling_look (filled cs ss) d) (look d)) cs ≡ true
   read_back cs ss up is =
@@ -72,7 +72,7 @@ seen_filling look w cs ss up is = record {
   below = λ n below. filling_below n (filled cs ss) (all_below (seen look w) n (seen_below n look w below) cs ss is);
 }
 
--- what is near the origin is seen from there
+-- a cell near the origin lies in the range of positions, so it is seen from the origin
 near_seen : (look : Look) (d : Cell) → is_near d ≡ true → seen look origin d ≡ look d
 near_seen look d near =
     let there : is_in_range d.position ≡ true = in_range d.position (omega (arith, leb-true (extent d.position) 16 near)) in
@@ -172,7 +172,7 @@ module _ (f g : Automaton) (a : ℕ) (look : Look) (h : AreReadable f g a look) 
         (λ d e. ap (λ x. are_equal (near x) (given_by x)) (shifted_by_none d) ∙ e) ((counted f).reads a) reads_back)
         ∙ sym (value_composed f g look (origin_at a))
 
--- one cell more
+-- the values at a list of cells, with one cell more
 pub values_more : {Y : Type 0} (h : Cell → Y) (cs : List Cell) (i : ℕ) (c : Cell) → i < length cs → c ≡ get_or cs i c → map h (take (i + 1) cs) ≡ map h (take i cs) ++ h c ∷ []
 values_more h cs i c below is =
     ap (map h) (take_more cs i c below) ∙ (map-append h (take i cs) (get_or cs i c ∷ []) ∙ ap (λ d. map h (take i cs) ++ h d ∷ []) (sym is))

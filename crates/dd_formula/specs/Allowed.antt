@@ -8,5 +8,6 @@ use Rattle.dd_formula.specs.LocalRule.{LocalRule, rule_allows}
 abbrev pub AreAllowed : LocalRule → Look → Type 0
 AreAllowed r look = (c : Cell) → IfSome (look c) (λ s. rule_allows r c.node s ≡ true)
 
+-- each symbol of a periodic configuration is allowed at its cell
 abbrev pub HasAllowed : LocalRule → Tile → Type 0
 HasAllowed r t = AreAllowed r (tile_look t)

@@ -1,4 +1,4 @@
--- Cellular automata: their values, their reads, and their counts.
+-- Cellular automata: their values, the cells that they read, and their limits.
 use Rattle.std.specs.Prelude.{ℕ, ◌+◌, ◌<◌, ◌≤◌, ◌≡◌, ◌==◌, ◌&&◌, ◌||◌, Bool, true, false, cond, max, nat_lt, nat_le, List, [], ◌∷◌, length, map, Option, Some, MatchOption}
 use Rattle.std.specs.List.{flat_map, list_all, range_with_len}
 use Rattle.dd_lattice.specs.{Cells.shifted, InOrder.in_order, declared.position.Cell.Cell}
@@ -8,11 +8,12 @@ use Rattle.dd_formula.specs.LocalRule.{LocalRule, is_true, reads_at, expansion_a
 use Rattle.dd_formula.specs.declared.automaton.{Automaton.Automaton, Cases.Cases}
 use Rattle.dd_formula.specs.declared.automaton.Automaton.{TheFolds.fold-Automaton, TheOpen.Automaton-F}
 
--- the symbol of the first case whose rule is true at the cell
+-- the symbol of the first case whose rule is true at the cell, else the default symbol
 abbrev pub first_case : List (LocalRule × ℕ) → ℕ → Look → Cell → ℕ
 first_case [] otherwise look at = otherwise
 first_case (case ∷ cases) otherwise look at = cond (is_true case.0 at look) case.1 (first_case cases otherwise look at)
 
+-- for each look and cell, the symbol that the cell gets
 abbrev pub Valuation : Type 0
 Valuation = Look → Cell → ℕ
 
@@ -20,29 +21,35 @@ abbrev pub value_step : Automaton-F Valuation → Valuation
 value_step (Automaton-F.Given c) look at = first_case c.cases c.otherwise look at
 value_step (Automaton-F.Composed f g) look at = f (λ c. Some (g look c)) at
 
--- the symbol that the automaton gives a cell
+-- the symbol that the automaton gives a cell; a composition gives the first automaton's, on the image under the second
 abbrev pub value : Automaton → Valuation
 value = fold-Automaton Valuation value_step
 
--- the numbers that a rule, an automaton and a configuration have in common
+-- a setting: the numbers that a rule, an automaton and a configuration must have in common
 pub record CommonNumbers : Type 0 where
   pub dimension : ℕ
   pub nodes : ℕ
+  -- the size of the alphabet
   pub symbols : ℕ
 
--- the counts of an automaton: at each node the cells that it reads, relative to the origin, and its instances; and its
--- depth
+-- what is counted of an automaton
 pub record Counted : Type 0 where
+  -- the cells that it reads at a node of the origin, perhaps some of them more than once
   pub reads : ℕ → List Cell
+  -- its instances at a node: those of each expansion that its value there takes, one for each case and one for each default
   pub instances : ℕ → ℕ
+  -- how deep compositions are nested
   pub depth : ℕ
 
+-- the cells that the rules of the cases read at a node
 abbrev pub cases_reads : List (LocalRule × ℕ) → ℕ → List Cell
 cases_reads cases a = flat_map (λ case. reads_at case.0 a) cases
 
+-- the instances of the cases at a node: those of each rule, and one for each case
 abbrev pub case_instances : ℕ → List (LocalRule × ℕ) → ℕ
 case_instances a cases = total (map (λ case. instances (expansion_at case.0 a) + 1) cases)
 
+-- what is counted of an automaton, from what is counted of its parts
 abbrev pub counted_step : Automaton-F Counted → Counted
 counted_step (Automaton-F.Given c) =
     record { reads = cases_reads c.cases; instances = λ a. case_instances a c.cases + 1; depth = 0 }
@@ -60,10 +67,11 @@ counted = fold-Automaton Counted counted_step
 abbrev pub cells_of : Automaton → ℕ → List Cell
 cells_of f a = in_order ((counted f).reads a)
 
--- the numbers fit: each rule has them, and each symbol that is given is one of the alphabet
+-- the rule has the numbers of the setting
 abbrev pub rule_has : CommonNumbers → LocalRule → Bool
 rule_has s r = r.dimension == s.dimension && r.nodes == s.nodes && r.symbols == s.symbols
 
+-- each rule has the numbers of the setting, and each symbol that is given is one of the alphabet
 abbrev pub cases_fit : CommonNumbers → List (LocalRule × ℕ) → ℕ → Bool
 cases_fit s cases otherwise = list_all (λ case. rule_has s case.0 && nat_lt case.1 s.symbols) cases && nat_lt otherwise s.symbols
 
@@ -71,35 +79,39 @@ abbrev pub automaton_fits_step : CommonNumbers → Automaton-F Bool → Bool
 automaton_fits_step s (Automaton-F.Given c) = cases_fit s c.cases c.otherwise
 automaton_fits_step s (Automaton-F.Composed f g) = f && g
 
+-- all cases of the automaton's parts fit the setting
 abbrev pub automaton_fits : CommonNumbers → Automaton → Bool
 automaton_fits s = fold-Automaton Bool (automaton_fits_step s)
 
--- whether it has a rule
 abbrev pub has_rules_step : Automaton-F Bool → Bool
 has_rules_step (Automaton-F.Given c) = nat_lt 0 (length c.cases)
 has_rules_step (Automaton-F.Composed f g) = f || g
 
+-- whether the automaton has a rule
 abbrev pub has_rules : Automaton → Bool
 has_rules = fold-Automaton Bool has_rules_step
 
--- the number of nodes of the automaton's rules, if it has one
+-- the number of nodes of the automaton's rules, or none where it has no rule
 abbrev pub IsNodesOf : Automaton → Option ℕ → Type 0
 IsNodesOf f r = MatchOption r (has_rules f ≡ false) (λ n. (s : CommonNumbers) → automaton_fits s f ≡ true → s.nodes ≡ n)
 
--- the limits of an automaton, over so many nodes
+-- the limit of instances is kept at each node below this number
 abbrev pub is_few : ℕ → Counted → Bool
 is_few nodes f = list_all (λ a. nat_le (f.instances a) most_instances) (range_with_len 0 nodes)
 
+-- the limit of reach is kept at each node below this number
 abbrev pub is_short : ℕ → Counted → Bool
 is_short nodes f = list_all (λ a. list_all is_near (f.reads a)) (range_with_len 0 nodes)
 
+-- the limit of depth is kept
 abbrev pub is_shallow : Counted → Bool
 is_shallow f = nat_le f.depth most_depth
 
+-- the limits of instances, reach and depth are kept
 abbrev pub keeps_limits : ℕ → Counted → Bool
 keeps_limits nodes f = is_few nodes f && is_short nodes f && is_shallow f
 
--- each part is within the limits
+-- what is counted of an automaton, and whether it and all its parts keep the limits
 pub record Checked : Type 0 where
   pub counts : Counted
   pub within : Bool
@@ -111,46 +123,47 @@ abbrev pub limits_step : ℕ → Automaton-F Checked → Checked
 limits_step nodes (Automaton-F.Given c) = checked nodes (counted_step (Automaton-F.Given c)) true
 limits_step nodes (Automaton-F.Composed f g) = checked nodes (counted_step (Automaton-F.Composed f.counts g.counts)) (f.within && g.within)
 
+-- the automaton and all its parts keep the limits
 abbrev pub are_within : ℕ → Automaton → Bool
 are_within nodes f = (fold-Automaton Checked (limits_step nodes) f).within
 
--- a well-formed automaton over these numbers
+-- a well-formed automaton of the setting
 pub record IsAutomaton (s : CommonNumbers) (f : Automaton) : Type 0 where
   pub some : 1 ≤ s.nodes
   pub fits : automaton_fits s f ≡ true
   pub within : are_within s.nodes f ≡ true
 
--- over some numbers the automaton is well formed, and there are at least so many nodes
+-- in some setting with at least so many nodes, the automaton is well formed
 pub record HasNodes (f : Automaton) (nodes : ℕ) : Type 0 where
   pub setting : CommonNumbers
   pub formed : IsAutomaton setting f
   pub few : nodes ≤ setting.nodes
 
--- over some numbers the automaton is well formed, and a is one of the nodes
+-- in some setting with the node a, the automaton is well formed
 pub record HasNode (f : Automaton) (a : ℕ) : Type 0 where
   pub setting : CommonNumbers
   pub formed : IsAutomaton setting f
   pub below : a < setting.nodes
 
--- over some numbers both automata are well formed, and a is one of the nodes
+-- in some setting with the node a, both automata are well formed
 pub record HaveNode (f g : Automaton) (a : ℕ) : Type 0 where
   pub setting : CommonNumbers
   pub outer : IsAutomaton setting f
   pub inner : IsAutomaton setting g
   pub below : a < setting.nodes
 
--- a cell over these numbers
+-- the cell has a position of the setting's dimension, and one of its nodes
 abbrev pub is_cell_of : CommonNumbers → Cell → Bool
 is_cell_of s c = is_cell_in s.dimension s.nodes c
 
--- the automaton can be read at these cells: over some numbers it is well formed, and they are cells that it may read at
+-- in some setting with these cells, the automaton is well formed, and each of the cells lies within the limit of reach
 pub record HasCells (f : Automaton) (cs : List Cell) : Type 0 where
   pub setting : CommonNumbers
   pub formed : IsAutomaton setting f
   pub cells : list_all (is_cell_of setting) cs ≡ true
   pub near : list_all is_near cs ≡ true
 
--- the cases of an automaton, at one of its nodes
+-- in some setting with the node a, the cases fit
 pub record HasCaseNode (c : Cases) (a : ℕ) : Type 0 where
   pub setting : CommonNumbers
   pub fit : cases_fit setting c.cases c.otherwise ≡ true

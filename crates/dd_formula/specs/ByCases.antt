@@ -1,4 +1,4 @@
--- Automata by cases that are given as formulas, and why they are refused.
+-- Automata by cases, made of formulas, and why they are refused.
 use Rattle.std.specs.Prelude.{ℕ, ◌<◌, ◌≡◌, false, List, map}
 use Rattle.dd_topology.specs.{Grid.Grid, Sets.SymbolSets}
 use Rattle.dd_expansion.specs.{declared.formulas.Formula.Formula, Limits.IsFormula}
@@ -9,28 +9,28 @@ use Rattle.dd_formula.specs.declared.{automaton.Automaton.TheOpen.Automaton-F, f
 use Rattle.dd_formula.specs.declared.fault.RuleFault.TheVariants.{Reach, Instances, Depth, Memory}
 use Rattle.dd_formula.specs.declared.automaton.Automaton.TheVariants as v
 
--- the numbers of rules over a topology and the symbols that its nodes allow
+-- the setting of a topology and its alphabet
 abbrev pub numbers_over : Grid → SymbolSets → CommonNumbers
 numbers_over g s = record { dimension = g.dimension; nodes = g.nodes; symbols = s.symbols }
 
--- a case is a formula over them, with one of the symbols
+-- a case is a formula over the topology and the alphabet, with a symbol of the alphabet
 pub record IsCaseOver (g : Grid) (s : SymbolSets) (case : Formula × ℕ) : Type 0 where
   pub formula : IsFormula g s.symbols case.0
   pub symbol : case.1 < s.symbols
 
--- the case with the formula's rule
+-- the formula's rule, with the symbol
 abbrev pub case_over : Grid → SymbolSets → Formula × ℕ → LocalRule × ℕ
 case_over g s case = (local_rule g s case.0, case.1)
 
--- the automaton that gives a cell the symbol of the first case that is true there, else the default symbol
+-- the automaton that gives a cell the symbol of the first formula that is true there, else the default symbol
 abbrev pub by_cases : Grid → SymbolSets → List (Formula × ℕ) → ℕ → Automaton
 by_cases g s cases otherwise = v.Given (record { cases = map (case_over g s) cases; otherwise = otherwise })
 
--- its counts, which don't depend on the default symbol
+-- what is counted of it, which doesn't depend on the default symbol
 abbrev pub counts_over : Grid → SymbolSets → List (Formula × ℕ) → Counted
 counts_over g s cases = counted_step (Automaton-F.Given (record { cases = map (case_over g s) cases; otherwise = 0 }))
 
--- why it isn't made: too many instances at some node; else a cell that is too far away
+-- which fault is right: too many instances at some node, else a cell that is read too far away; or no memory
 abbrev pub IsCasesRefusal : ℕ → Counted → RuleFault → Type 0
 IsCasesRefusal n f Instances = is_few n f ≡ false
 IsCasesRefusal n f Reach = PassesInstances n f × (is_short n f ≡ false)

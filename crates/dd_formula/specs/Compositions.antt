@@ -5,55 +5,58 @@ use Rattle.dd_formula.specs.declared.{automaton.Automaton.Automaton, automaton.C
 use Rattle.dd_formula.specs.declared.fault.RuleFault.TheVariants.{Reach, Instances, Depth, Memory}
 use Rattle.dd_formula.specs.declared.automaton.Automaton.TheVariants as v
 
--- both are well formed over the same numbers
+-- both automata are well formed in one setting
 pub record AreAutomata (f g : Automaton) : Type 0 where
   pub setting : CommonNumbers
   pub outer : IsAutomaton setting f
   pub inner : IsAutomaton setting g
 
--- over some numbers both are well formed, and there are at least so many nodes
+-- both are well formed in one setting that has at least so many nodes
 pub record HaveNodes (f g : Automaton) (nodes : ℕ) : Type 0 where
   pub both : AreAutomata f g
   pub few : nodes ≤ both.setting.nodes
 
--- a fact of all numbers over which both are well formed
+-- P holds of each setting in which both are well formed
 abbrev pub OverBoth : Automaton → Automaton → (CommonNumbers → Type 0) → Type 0
 OverBoth f g P = (s : CommonNumbers) → IsAutomaton s f → IsAutomaton s g → P s
 
--- the counts of the composition
+-- what is counted of the composition
 abbrev pub composition : Automaton → Automaton → Counted
 composition f g = counted (v.Composed f g)
 
--- the limits hold at so many nodes exactly if they hold at all
+-- the limits are kept at all nodes of the setting exactly if they are kept at those below this number
 pub record StandFor (s : CommonNumbers) (f : Counted) (nodes : ℕ) : Type 0 where
   pub below : nodes ≤ s.nodes
   pub few : is_few s.nodes f ≡ is_few nodes f
   pub short : is_short s.nodes f ≡ is_short nodes f
 
--- the composition has few instances at each node; it also reads nothing that is too far away; it is also not too deep
+-- the composition keeps the limit of instances
 abbrev pub PassesInstances : ℕ → Counted → Type 0
 PassesInstances n f = is_few n f ≡ true
 
+-- it keeps the limits of instances and of reach
 abbrev pub PassesReach : ℕ → Counted → Type 0
 PassesReach n f = PassesInstances n f × (is_short n f ≡ true)
 
+-- it keeps all three limits
 abbrev pub PassesDepth : ℕ → Counted → Type 0
 PassesDepth n f = PassesReach n f × (is_shallow f ≡ true)
 
--- why it isn't made: too many instances at some node; else a cell that is too far away; else it is too deep
+-- which fault is right: too many instances at some node, else a cell that is read too far away, else too great a depth; or no
+-- memory
 abbrev pub IsCompositionFault : ℕ → Counted → RuleFault → Type 0
 IsCompositionFault n f Instances = is_few n f ≡ false
 IsCompositionFault n f Reach = PassesInstances n f × (is_short n f ≡ false)
 IsCompositionFault n f Depth = PassesReach n f × (is_shallow f ≡ false)
 IsCompositionFault n f Memory = Unit {0}
 
--- cases with so many nodes: each rule has the same numbers, and each symbol that is given is one of the alphabet
+-- in some setting with exactly so many nodes, the cases fit
 pub record HaveNumbers (c : Cases) (nodes : ℕ) : Type 0 where
   pub setting : CommonNumbers
   pub fit : cases_fit setting c.cases c.otherwise ≡ true
   pub all : setting.nodes ≡ nodes
   pub some : 1 ≤ nodes
 
--- the automaton by these cases is well formed over all such numbers
+-- the automaton by these cases is well formed in each such setting
 abbrev pub IsGivenByCases : Cases → ℕ → Type 0
 IsGivenByCases c nodes = (s : CommonNumbers) → cases_fit s c.cases c.otherwise ≡ true → s.nodes ≡ nodes → IsAutomaton s (v.Given c)

@@ -1,14 +1,14 @@
--- Counts of clauses, without a bound and cut off.
+-- How many clauses a question about a rule takes, and how counts are cut off.
 use Rattle.std.specs.Prelude.{ℕ, ◌+◌, ◌-◌, ◌*◌, ◌/◌, ◌^◌, min, max, not, List, map, length}
 use Rattle.std.specs.List.{filter, range_with_len}
 use Rattle.dd_expansion.specs.Leaves.{clause_count, total}
 use Rattle.dd_formula.specs.LocalRule.{LocalRule, rule_allows, expansion_at}
 
--- a count up to a limit; each greater count is the first number past the limit
+-- the count, cut off: limit + 1 stands for each count greater than the limit
 abbrev pub cut : ℕ → ℕ → ℕ
 cut limit n = min n (limit + 1)
 
--- the sum of a number for each of the first n nodes
+-- the sum of a function over the first n nodes
 abbrev pub over_nodes : (ℕ → ℕ) → ℕ → ℕ
 over_nodes f n = total (map f (range_with_len 0 n))
 
@@ -16,18 +16,21 @@ over_nodes f n = total (map f (range_with_len 0 n))
 abbrev pub rule_clauses : LocalRule → ℕ
 rule_clauses r = over_nodes (λ a. clause_count (expansion_at r a)) r.nodes
 
--- the symbols that a node doesn't allow, in order, and how many such pairs of a node and a symbol there are
+-- the symbols that a node doesn't allow, in order
 abbrev pub disallowed : LocalRule → ℕ → List ℕ
 disallowed r a = filter (λ s. not (rule_allows r a s)) (range_with_len 0 r.symbols)
 
+-- the number of pairs of a node and a symbol that the node doesn't allow
 abbrev pub disallowed_pairs : LocalRule → ℕ
 disallowed_pairs r = over_nodes (λ a. length (disallowed r a)) r.nodes
 
--- the clauses of a cell: it has a symbol, no two of s symbols, and the rule is true there
+-- The clauses of a cell over s symbols. One says that it has a symbol, and one that the rule is true there. For each pair of
+-- symbols, one says that it doesn't have both.
 abbrev pub cell_clause_count : ℕ → ℕ
 cell_clause_count s = 2 + s * (s - 1) / 2
 
--- the clauses of a position: those of its cells, of the symbols that they don't allow, and of the rule's gates
+-- the clauses of a position: those of its cells, one for each symbol that one of its nodes doesn't allow, and those of the
+-- rule's gates
 abbrev pub place_clauses : LocalRule → ℕ
 place_clauses r = r.nodes * cell_clause_count r.symbols + disallowed_pairs r + rule_clauses r
 
@@ -35,14 +38,14 @@ place_clauses r = r.nodes * cell_clause_count r.symbols + disallowed_pairs r + r
 abbrev pub broken_clauses : LocalRule → ℕ
 broken_clauses r = rule_clauses r + 1
 
--- the clauses of a question on so many positions, where the goal takes so many clauses
+-- the clauses of a question on a region of so many positions; `goal` is the number of clauses of its goal
 abbrev pub region_clauses : LocalRule → ℕ → ℕ → ℕ
 region_clauses r goal positions = positions * place_clauses r + goal
 
--- the positions of the largest box of a question in d dimensions or of its largest torus, whichever has more
+-- in d dimensions, the number of positions of the box of this radius or of the torus of this period, whichever is greater
 abbrev pub largest_region : ℕ → ℕ → ℕ → ℕ
 largest_region d radius period = max ((2 * radius + 1) ^ d) (period ^ d)
 
--- the question on the largest of them
+-- the clauses of a question on the larger of that box and that torus
 abbrev pub largest_clauses : LocalRule → ℕ → ℕ → ℕ → ℕ
 largest_clauses r goal radius period = region_clauses r goal (largest_region r.dimension radius period)

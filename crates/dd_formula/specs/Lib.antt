@@ -14,13 +14,13 @@ pub mod Automata
 pub mod Values
 -- compositions of automata, and why they are refused
 pub mod Compositions
--- automata by cases that are given as formulas, and why they are refused
+-- automata by cases, made of formulas, and why they are refused
 pub mod ByCases
--- how many clauses a question takes
+-- how many clauses a question about a rule takes
 pub mod Counts
--- how many clauses say what an automaton gives a cell
+-- how many clauses the value of an automaton takes
 pub mod ValueCounts
--- what the evaluation of compositions keeps
+-- what each step of the evaluation of a composition needs
 pub mod valuing
 -- lemmas on these definitions, with their proofs
 pub mod lemmas

@@ -6,16 +6,17 @@ use Rattle.dd_expansion.specs.Placed.{is_flat}
 use Rattle.dd_formula.specs.{LocalRule.LocalRule, LocalRule.is_true, declared.lives.Membership.Membership}
 use Rattle.dd_formula.specs.declared.lives.Membership.TheVariants.{Inside, Outside}
 
--- the configuration has the rule's dimension, nodes and symbols
+-- the periodic configuration has the rule's dimension, its number of nodes, and symbols of its alphabet
 pub record Fits (r : LocalRule) (t : Tile) : Type 0 where
   pub dimension : t.dimension ≡ r.dimension
   pub nodes : t.nodes ≡ r.nodes
   pub symbols : All (λ s. s < r.symbols) t.symbols
 
--- the rule is true at every position of Z^d and every node, under the symbols that the look gives
+-- the rule is true at each position of Z^d and each node, under the symbols that the look gives
 abbrev pub Obeys : LocalRule → Look → Type 0
 Obeys r look = (v : Place) (a : ℕ) → is_flat r.dimension v ≡ true → a < r.nodes → is_true r (cell v a) look ≡ true
 
+-- the periodic configuration lives in the rule's subshift
 abbrev pub Lives : LocalRule → Tile → Type 0
 Lives r t = Obeys r (tile_look t)
 
@@ -25,6 +26,7 @@ pub record IsFirstFalse (r : LocalRule) (t : Tile) (c : Cell) : Type 0 where
   pub here : is_true r c (tile_look t) ≡ false
   pub before : (d : Cell) → IsInBox t d → cell_cmp d c ≡ Less → is_true r d (tile_look t) ≡ true
 
+-- which answer is right
 abbrev pub IsMembership : LocalRule → Tile → Membership → Type 0
 IsMembership r t Inside = Lives r t
 IsMembership r t (Outside c) = IsFirstFalse r t c

@@ -1,4 +1,4 @@
--- A local rule: a formula with the topology and the alphabets that it speaks of.
+-- Local rules: a formula over a topology and the alphabets of its nodes. A look-up (`Look`) gives symbols to cells, perhaps not to all.
 use Rattle.std.specs.Prelude.{ℕ, zero, suc, Bool, ◌<◌, ◌≤◌, ◌≡◌, true, false, is_some, nat_le, nat_lt, List, [], ◌∷◌, ◌++◌}
 use Rattle.std.specs.List.{list_all}
 use Rattle.dd_lattice.specs.{InOrder.in_order, declared.position.Cell.Cell}
@@ -11,20 +11,22 @@ use Rattle.dd_expansion.specs.{Reads.reads, Expansion.expansion, Leaves.leaves_p
 pub record LocalRule : Type 0 where
   pub dimension : ℕ
   pub nodes : ℕ
-  -- the size of the alphabet, and for each node whether it allows the symbol 0, 1 and so on
+  -- the size of the alphabet
   pub symbols : ℕ
+  -- for each node, whether it allows the symbol 0, the symbol 1 and so on
   pub allowed : List (List Bool)
   pub edges : List Edge
   pub formula : Formula
 
--- the rule with these parts
+-- the rule with these fields
 abbrev pub kept_rule : ℕ → ℕ → SymbolSets → List Edge → Formula → LocalRule
 kept_rule d nodes s edges f = record { dimension = d; nodes = nodes; symbols = s.symbols; allowed = s.allowed; edges = edges; formula = f }
 
--- a formula over a topology and the symbols that its nodes allow
+-- the rule of a formula over a topology and the symbols that its nodes allow
 abbrev pub local_rule : Grid → SymbolSets → Formula → LocalRule
 local_rule g s f = kept_rule g.dimension g.nodes s g.edges f
 
+-- the alphabets of a rule's nodes
 abbrev pub sets_of : LocalRule → SymbolSets
 sets_of r = symbol_sets r.symbols r.allowed
 
@@ -32,22 +34,23 @@ sets_of r = symbol_sets r.symbols r.allowed
 abbrev pub rule_allows : LocalRule → ℕ → ℕ → Bool
 rule_allows r a s = row_allows r.allowed a s
 
--- whether the rule is true at a cell, under the symbols that the look gives
+-- whether the rule's formula is true at a cell, under the symbols that the look gives
 abbrev pub is_true : LocalRule → Cell → Look → Bool
 is_true r c look = truth r.edges r.formula (c ∷ []) look
 
--- the cells that the rule reads at a node, relative to the origin
+-- the cells that the rule reads at a node of the origin, perhaps some of them more than once
 abbrev pub reads_at : LocalRule → ℕ → List Cell
 reads_at r a = reads r.edges r.formula (origin_at a ∷ [])
 
--- each cell that the rule reads at this cell is within the range of positions and has a symbol
+-- each cell that the rule reads at this cell lies in the range of positions and has a symbol
 abbrev pub is_given : LocalRule → Cell → Look → Bool
 is_given r c look = list_all (λ d. is_some (seen look c.position d)) (reads_at r c.node)
 
+-- the rule's formula at a node of the origin, without variables
 abbrev pub expansion_at : LocalRule → ℕ → Expanded
 expansion_at r a = expansion r.edges r.symbols r.formula (origin_at a ∷ [])
 
--- one item for each of the first n nodes
+-- the values of a function at the first n nodes
 abbrev pub at_nodes : {X : Type 0} → (ℕ → X) → ℕ → List X
 at_nodes f zero = []
 at_nodes f (suc n) = at_nodes f n ++ f n ∷ []
@@ -56,32 +59,35 @@ at_nodes f (suc n) = at_nodes f n ++ f n ∷ []
 abbrev pub cells_at : LocalRule → ℕ → List Cell
 cells_at r a = in_order (reads_at r a)
 
--- the limits of rules and automata: how many nodes an expansion has, how far a cell that is read lies from the origin along
--- an axis, and how deep compositions are nested
+-- the limits of rules and automata: at most so many instances at a node
 abbrev pub most_instances : ℕ
 most_instances = 20000
 
+-- each cell that is read at the origin lies at most so far away, along each axis
 abbrev pub most_reach : ℕ
 most_reach = 16
 
+-- compositions are nested at most so deep
 abbrev pub most_depth : ℕ
 most_depth = 64
 
+-- the cell lies within the limit of reach
 abbrev pub is_near : Cell → Bool
 is_near c = nat_le (extent c.position) most_reach
 
--- one of the rule's cells
+-- the cell has a position of the rule's dimension, and one of the rule's nodes
 abbrev pub is_of : LocalRule → Cell → Bool
 is_of r c = is_cell_in r.dimension r.nodes c
 
--- the rule is within these limits at each node
+-- the rule keeps the limit of instances at each node
 abbrev pub IsSmall : LocalRule → Type 0
 IsSmall r = (a : ℕ) → a < r.nodes → instances (expansion_at r a) ≤ most_instances
 
+-- the rule keeps the limit of reach at each node
 abbrev pub ReadsNear : LocalRule → Type 0
 ReadsNear r = (a : ℕ) → a < r.nodes → list_all is_near (reads_at r a) ≡ true
 
--- what each rule keeps
+-- what holds of every rule
 pub record IsRule (r : LocalRule) : Type 0 where
   pub dimension : (1 ≤ r.dimension) × (r.dimension ≤ 3)
   pub nodes : (1 ≤ r.nodes) × (r.nodes ≤ 4)
@@ -89,9 +95,9 @@ pub record IsRule (r : LocalRule) : Type 0 where
   pub allowed : IsSets r.nodes (sets_of r)
   pub small : IsSmall r
   pub short : ReadsNear r
-  -- it reads cells of Z^d
+  -- it reads cells with positions in Z^d and with its nodes
   pub placed : (a : ℕ) → a < r.nodes → list_all (is_of r) (reads_at r a) ≡ true
-  -- it asks for symbols of the alphabet
+  -- each leaf of its expansions has a symbol of the alphabet
   pub known : (a : ℕ) → a < r.nodes → leaves_pass (λ c s. nat_lt s r.symbols) (expansion_at r a) ≡ true
 
 -- a rule with its expansion and its reads at each node
@@ -100,12 +106,13 @@ pub record IsExpanded (r : LocalRule) (es : List Expanded) (cells : List (List C
   pub expansions : es ≡ at_nodes (expansion_at r) r.nodes
   pub reads : cells ≡ at_nodes (cells_at r) r.nodes
 
--- the reason why a rule isn't made
+-- at some node the rule has too many instances
 pub record IsLarge (r : LocalRule) : Type 0 where
   pub node : ℕ
   pub exists : node < r.nodes
   pub many : most_instances < instances (expansion_at r node)
 
+-- at some node the rule reads too far
 pub record IsFar (r : LocalRule) : Type 0 where
   pub node : ℕ
   pub exists : node < r.nodes

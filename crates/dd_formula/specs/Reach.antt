@@ -5,10 +5,11 @@ use Rattle.dd_topology.specs.Topology.{extent}
 use Rattle.dd_expansion.specs.Limits.{greatest}
 use Rattle.dd_formula.specs.{LocalRule.LocalRule, LocalRule.cells_at, Automata.cells_of, declared.automaton.Automaton.Automaton}
 
--- how far the farthest cell lies from the origin
+-- the greatest distance of the cell from the origin along an axis
 abbrev pub cell_extent : Cell → ℕ
 cell_extent c = extent c.position
 
+-- the greatest of these distances; 0 if there is no cell
 abbrev pub farthest : List Cell → ℕ
 farthest cs = greatest (map cell_extent cs)
 
@@ -16,13 +17,14 @@ farthest cs = greatest (map cell_extent cs)
 abbrev pub all_cells : LocalRule → List Cell
 all_cells r = flat_map (cells_at r) (range_with_len 0 r.nodes)
 
--- how far a rule reads, at any node
+-- how far a rule reads, over all nodes
 abbrev pub reach : LocalRule → ℕ
 reach r = farthest (all_cells r)
 
--- the cells that an automaton reads at the first n nodes, and how far it reads there
+-- the cells that an automaton reads at the first n nodes
 abbrev pub automaton_cells : ℕ → Automaton → List Cell
 automaton_cells n f = flat_map (cells_of f) (range_with_len 0 n)
 
+-- how far it reads there
 abbrev pub automaton_reach : ℕ → Automaton → ℕ
 automaton_reach n f = farthest (automaton_cells n f)

@@ -1,4 +1,4 @@
--- How many clauses say what an automaton gives a cell, without a bound.
+-- How many clauses the value of an automaton takes.
 use Rattle.std.specs.{Prelude.ℕ, Prelude.◌+◌, Prelude.◌*◌, Prelude.List, Prelude.map, Prelude.length, List.range_with_len}
 use Rattle.dd_lattice.specs.InOrder.{in_order}
 use Rattle.dd_expansion.specs.Leaves.{clause_count, total}
@@ -6,29 +6,32 @@ use Rattle.dd_formula.specs.{LocalRule.LocalRule, LocalRule.expansion_at, Automa
 use Rattle.dd_formula.specs.declared.automaton.{Automaton.Automaton, Cases.Cases}
 use Rattle.dd_formula.specs.declared.automaton.Automaton.{TheFolds.fold-Automaton, TheOpen.Automaton-F}
 
--- the clauses of a gate that says that all of k signals hold, or some
+-- the number of clauses of an and-gate or an or-gate over k signals
 abbrev pub gate_clause_count : ℕ → ℕ
 gate_clause_count k = k + 1
 
--- the value of an automaton by m cases: for the i-th case a gate over it and those before it, and a gate over all of them
--- for the default
+-- The clauses that choose among m cases. For each case there is a gate over it and the cases before it. For the default there
+-- is a gate over all cases.
 abbrev pub choice_clauses : ℕ → ℕ
 choice_clauses m = total (map (λ i. gate_clause_count (i + 1)) (range_with_len 0 m)) + gate_clause_count m
 
--- for each of n symbols a gate over those that give it, where each of the m cases and the default gives one
+-- The clauses of the symbols. For each of n symbols there is a gate over the cases that give it. Each of the m cases, and the
+-- default, gives one symbol, so these gates have m + 1 signals together.
 abbrev pub giving_clauses : ℕ → ℕ → ℕ
 giving_clauses n m = (m + 1) + n
 
+-- the clauses of the rules of the cases at a node
 abbrev pub case_clauses : List (LocalRule × ℕ) → ℕ → ℕ
 case_clauses cases a = total (map (λ case. clause_count (expansion_at case.0 a)) cases)
 
--- the value of an automaton by cases over n symbols
+-- the clauses of the value of an automaton by cases over n symbols, at a node
 abbrev pub given_clauses : ℕ → Cases → ℕ → ℕ
 given_clauses n c a = case_clauses c.cases a + choice_clauses (length c.cases) + giving_clauses n (length c.cases)
 
--- what is counted of an automaton over n symbols, and by nodes the clauses of its value
+-- what is counted of an automaton, and the clauses of its value
 pub record Valued : Type 0 where
   pub counts : Counted
+  -- the clauses of its value at a node
   pub clauses : ℕ → ℕ
 
 abbrev pub valued_step : ℕ → Automaton-F Valued → Valued
@@ -41,6 +44,7 @@ valued_step n (Automaton-F.Composed f g) =
       clauses = λ a. total (map (λ c. g.clauses c.node) (in_order (f.counts.reads a))) + f.clauses a;
     }
 
+-- the clauses of an automaton's value over n symbols, at a node
 abbrev pub value_clauses : ℕ → Automaton → ℕ → ℕ
 value_clauses n f = (fold-Automaton Valued (valued_step n) f).clauses
 
@@ -49,6 +53,6 @@ value_clauses n f = (fold-Automaton Valued (valued_step n) f).clauses
 abbrev pub differ_at : ℕ → Automaton → Automaton → ℕ → ℕ
 differ_at n f g a = value_clauses n f a + value_clauses n g a + n * gate_clause_count 2 + gate_clause_count n
 
--- the clauses that say that they differ at some of the nodes
+-- the clauses that say that they differ at one of the first nodes: those for each node, and one that says that one node differs
 abbrev pub differ_clauses : ℕ → ℕ → Automaton → Automaton → ℕ
 differ_clauses n nodes f g = total (map (differ_at n f g) (range_with_len 0 nodes)) + 1

@@ -6,22 +6,22 @@ use Rattle.dd_expansion.specs.Leaves.{seen}
 use Rattle.dd_formula.specs.Automata.{CommonNumbers, IsAutomaton, cases_fit, cases_reads, counted, is_cell_of}
 use Rattle.dd_formula.specs.declared.automaton.{Automaton.Automaton, Cases.Cases}
 
--- each of these cells, counted from v, is within the range of positions and has a symbol
+-- each of these cells, counted from v, lies in the range of positions and has a symbol
 abbrev pub are_given : Look → Place → List Cell → Bool
 are_given look v ds = list_all (λ d. is_some (seen look v d)) ds
 
--- the same for what the automaton reads at a cell
+-- each cell that the automaton reads at the cell c lies in the range of positions and has a symbol
 abbrev pub is_read : Automaton → Cell → Look → Bool
 is_read f c look = are_given look c.position ((counted f).reads c.node)
 
--- over some numbers the automaton is well formed, the cell has one of the nodes, and the symbols are of the alphabet
+-- in some setting with the cell's node and the look's symbols, the automaton is well formed
 pub record HasLook (f : Automaton) (c : Cell) (look : Look) : Type 0 where
   pub setting : CommonNumbers
   pub formed : IsAutomaton setting f
   pub below : c.node < setting.nodes
   pub symbols : HasSymbolsBelow setting.symbols look
 
--- the same for cases that fit the numbers, where what they read at the cell is given
+-- in some such setting the cases fit, and each cell that they read there has a symbol
 pub record HasCasesLook (cases : Cases) (c : Cell) (look : Look) : Type 0 where
   pub setting : CommonNumbers
   pub fit : cases_fit setting cases.cases cases.otherwise ≡ true
@@ -29,9 +29,10 @@ pub record HasCasesLook (cases : Cases) (c : Cell) (look : Look) : Type 0 where
   pub symbols : HasSymbolsBelow setting.symbols look
   pub given : are_given look c.position (cases_reads cases.cases c.node) ≡ true
 
--- the cells read at each node are cells of Z^d with one of the nodes, over all numbers that fit
+-- in each setting that the cases fit, each cell that they read has a position in Z^d and one of the nodes
 abbrev pub CasesArePlaced : Cases → Type 0
 CasesArePlaced c = (s : CommonNumbers) → cases_fit s c.cases c.otherwise ≡ true → (a : ℕ) → a < s.nodes → list_all (is_cell_of s) (cases_reads c.cases a) ≡ true
 
+-- the same for a well-formed automaton
 abbrev pub IsPlaced : Automaton → Type 0
 IsPlaced f = (s : CommonNumbers) → IsAutomaton s f → (a : ℕ) → a < s.nodes → list_all (is_cell_of s) ((counted f).reads a) ≡ true

@@ -1,4 +1,4 @@
-//! Cellular automata.
+//! Cellular automata, by cases or composed: the cells that they read, their instances and their depth.
 ghost use Rattle.std.specs.Prelude.{◌≡◌, ◌+◌, ◌<◌, true, length, IfOk, MatchOption, map};
 ghost use Rattle.std.specs.List.{list_all, flat_map};
 ghost use Rattle.std.specs.List.Sorted.{IsStrictlySortedBy};
@@ -18,8 +18,9 @@ use std::alloc::{AllocError, Global};
 /// An automaton that gives each cell the symbol of its first case whose rule is true there, else a default symbol.
 #[derive(Debug, Drop)]
 pub struct Cases {
-    /// Rules with the symbols that they give.
+    /// The cases: each is a rule with the symbol that it gives.
     pub cases: Items<(Rule, u32)>,
+    /// The default symbol.
     pub otherwise: u32,
 }
 
@@ -28,7 +29,7 @@ pub struct Cases {
 pub enum Automaton {
     /// Gives each cell a symbol by cases.
     Given(Cases),
-    /// Gives each cell the value of the first on the configuration of the second's values.
+    /// The first automaton applied to the image of the configuration under the second.
     Composed(Boxed<Automaton>, Boxed<Automaton>),
 }
 
@@ -50,6 +51,7 @@ impl Cases {
         })
     }
 
+    /// The cells that the rules of the cases read at a node, in cell order, each once.
     fn reads(&self, alloc: Global, node: u32) -> Result<Vec<Cell>, AllocError>
         requires { HasCaseNode self.now node }
         ensures list { IfOk result (λ v. v.items ≡ in_order (cases_reads self.now.cases node)) }
@@ -64,6 +66,7 @@ impl Cases {
         in_order(alloc, &found)
     }
 
+    /// The number of nodes of the rules, or `None` if there is no case.
     fn nodes(&self) -> Option<u32>
         ensures { MatchOption result (length self.now.cases ≡ 0)
             (λ n. (s : CommonNumbers) → cases_fit s self.now.cases self.now.otherwise ≡ true → s.nodes ≡ n) }
@@ -74,17 +77,17 @@ impl Cases {
         }
     }
 
-    /// The instances at a node, cut off. Its contract also says that no rule reads anything too far away.
+    /// The number of instances at a node, cut off past the limit. The contract also says that no rule reads too far.
     pub(crate) fn instances(&self, node: u32) -> u32
         requires { HasCaseNode self.now node }
         ensures count { result ≡ cut most_instances (case_instances node self.now.cases + 1) }
         ensures near { list_all is_near (cases_reads self.now.cases node) ≡ true }
     {
-        let mut nodes = 1;
+        let mut sum = 1;
         for (rule, _) in self.cases.as_slice() {
-            nodes = plus(MOST_INSTANCES, nodes, rule.expansion(node).instances() + 1);
+            sum = plus(MOST_INSTANCES, sum, rule.expansion(node).instances() + 1);
         }
-        nodes
+        sum
     }
 }
 
@@ -93,7 +96,7 @@ impl Automaton {
     ghost use Rattle.dd_formula.specs.Counts.{cut};
     ghost use Rattle.dd_formula.specs.LocalRule.{most_instances};
 
-    /// An automaton with the same rules and symbols in every part.
+    /// A copy.
     pub fn copy(&self, alloc: Global) -> Result<Automaton, AllocError>
         ensures { IfOk result (λ c. c ≡ self.now) }
     {
@@ -107,7 +110,7 @@ impl Automaton {
         }
     }
 
-    /// The cells that the automaton reads at a node, counted from the origin, in cell order, each once.
+    /// The cells that the automaton reads at this node of the origin, in cell order, each once.
     #[cycle(reads)]
     #[tactic(auto, using(std::proofs::lemmas::Grind::common_steps, crate::specs::lemmas::AutomatonLaws::layers))]
     pub fn reads(&self, alloc: Global, node: u32) -> Result<Vec<Cell>, AllocError>
@@ -124,7 +127,7 @@ impl Automaton {
         }
     }
 
-    /// The cells that the composition reads at a node.
+    /// The cells that the composition reads at this node of the origin, in cell order, each once.
     #[cycle(reads)]
     pub(crate) fn composed_reads(
         alloc: Global,
@@ -142,7 +145,7 @@ impl Automaton {
         inner.reads_from(alloc, cells.as_slice())
     }
 
-    /// The cells that the automaton reads at any of the cells, in cell order, each once.
+    /// The cells that the automaton reads at any of these cells, in cell order, each once.
     #[cycle(reads)]
     pub(crate) fn reads_from(&self, alloc: Global, cells: &[Cell]) -> Result<Vec<Cell>, AllocError>
         requires { HasCells self.now cells.now }
@@ -159,9 +162,10 @@ impl Automaton {
         in_order(alloc, &found)
     }
 
-    /// The number of nodes of all expansions that the automaton's value at a node takes, one more for each case and each
-    /// default. A composition counts the outer automaton at the node, and the inner one at the node and at each cell that
-    /// the outer one reads. Past 20,000 it is cut off at 20,001.
+    /// The number of instances at a node, or 20,001 if there are more than 20,000. An automaton by cases has the instances of
+    /// each rule's expansion, one more for each case, and one for the default symbol. A composition has the instances of the
+    /// outer automaton, those of the inner one at the same node, and those of the inner one at each cell that the outer one
+    /// reads.
     #[cycle(instances)]
     #[tactic(auto, using(std::proofs::lemmas::Grind::common_steps, crate::specs::lemmas::AutomatonLaws::layers))]
     pub fn instances(&self, alloc: Global, node: u32) -> Result<u32, AllocError>
@@ -176,7 +180,7 @@ impl Automaton {
         }
     }
 
-    /// The instances of the composition at a node, cut off.
+    /// The number of instances of the composition at a node, cut off past the limit.
     #[cycle(instances)]
     pub(crate) fn composed_instances(
         alloc: Global,
@@ -194,7 +198,7 @@ impl Automaton {
         Ok(plus(MOST_INSTANCES, plus(MOST_INSTANCES, first, second), rest))
     }
 
-    /// The sum of the instances at the nodes of the cells, cut off.
+    /// The sum, over the cells, of the numbers of instances at their nodes; cut off past the limit.
     #[cycle(instances)]
     pub(crate) fn instances_from(&self, alloc: Global, cells: &[Cell]) -> Result<u32, AllocError>
         requires { HasCells self.now cells.now }

@@ -1,5 +1,5 @@
-//! Automata by cases that are given as formulas. The instances of all cases are counted before any rule is made, so too
-//! many instances are reported before a read that is too far away.
+//! Automata by cases, made of formulas. The instances of all cases are counted before any rule is made. So a fault of
+//! too many instances comes before a fault of a cell that is read too far away.
 ghost use Rattle.std.specs.Prelude.{◌≡◌, ◌+◌, ◌<◌, ◌≤◌, length, map, true, IfOk, IfErr, OnOk};
 ghost use Rattle.std.specs.List.{All};
 ghost use Rattle.dd_expansion.specs.Leaves.{instances};
@@ -52,7 +52,7 @@ impl Automaton {
     }
 }
 
-/// The number of nodes of a formula's expansion, cut off.
+/// The number of instances of a formula's expansion at a node, cut off past the limit.
 fn size_at(
     alloc: Global,
     topology: &Topology,
@@ -71,7 +71,7 @@ fn size_at(
     }
 }
 
-/// The instances of the automaton at a node, cut off. Past the limit no further case is expanded.
+/// The number of instances of the automaton at a node, cut off past the limit. Past it, no further case is expanded.
 fn instances_at(
     alloc: Global,
     topology: &Topology,
@@ -92,7 +92,7 @@ fn instances_at(
     Ok(sum)
 }
 
-/// Whether the automaton has few instances at each node.
+/// Whether the automaton has at most `MOST_INSTANCES` instances at each node.
 fn has_few(
     alloc: Global,
     topology: &Topology,

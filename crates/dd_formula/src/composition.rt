@@ -1,4 +1,4 @@
-//! Compositions of automata.
+//! Compositions of automata, and the tests of their limits: instances, reach and depth.
 ghost use Rattle.std.specs.Prelude.{◌≡◌, true, IfOk, IfErr, OnOk};
 ghost use Rattle.dd_formula.specs.Automata.{CommonNumbers, IsAutomaton, is_few, is_short, is_shallow};
 ghost use Rattle.dd_formula.specs.Compositions.{AreAutomata, HaveNodes, OverBoth, StandFor, PassesDepth, IsCompositionFault, composition};
@@ -9,16 +9,16 @@ use crate::making::{MOST_INSTANCES, are_near};
 use dd_values::Boxed;
 use std::alloc::{AllocError, Global};
 
-/// The greatest depth of a composition.
+/// How deep compositions may be nested.
 const MOST_DEPTH: u32 = 64;
 
 impl Automaton {
     /// The automaton that gives each cell the value of `outer` on the configuration of `inner`'s values.
     ///
     /// # Errors
-    /// Both automata come back. `Instances` where at some node the composition has more than 20,000 instances; else `Reach`
-    /// where it reads a cell that lies more than 16 away along an axis; else `Depth` where compositions are nested more than
-    /// 64 deep; or `Memory`.
+    /// `Instances` where at some node the composition has more than 20,000 instances; else `Reach` where it reads a cell that
+    /// lies more than 16 away along an axis; else `Depth` where compositions are nested more than 64 deep; or `Memory`. Both
+    /// automata come back with the error.
     pub fn composed(
         alloc: Global,
         outer: Automaton,
@@ -37,7 +37,7 @@ impl Automaton {
     }
 }
 
-/// The composition, where there is memory for it.
+/// The composition. If memory for it runs out, both automata come back.
 fn joined(
     alloc: Global,
     outer: Automaton,
@@ -56,7 +56,7 @@ fn joined(
     }
 }
 
-/// Whether the composition is within the limits.
+/// Tests the limits of the composition one after the other: instances, reach, depth.
 fn tested(alloc: Global, outer: &Automaton, inner: &Automaton) -> Result<(), RuleFault>
     requires { AreAutomata outer.now inner.now }
     ensures ok { OnOk result (OverBoth outer.now inner.now (λ s. PassesDepth s.nodes (composition outer.now inner.now))) }
@@ -75,7 +75,7 @@ fn tested(alloc: Global, outer: &Automaton, inner: &Automaton) -> Result<(), Rul
     Ok(())
 }
 
-/// A number of nodes such that what holds at them holds at all: those of a rule, or one if there is no rule.
+/// How many nodes need a test: as many as the rules have. Without any rule all nodes are alike, and one is enough.
 fn node_count(outer: &Automaton, inner: &Automaton) -> u32
     ensures { OverBoth outer.now inner.now (λ s. StandFor s (composition outer.now inner.now) result) }
 {
@@ -88,6 +88,7 @@ fn node_count(outer: &Automaton, inner: &Automaton) -> u32
     }
 }
 
+/// Whether the composition has at most `MOST_INSTANCES` instances at each of these nodes.
 fn has_few(
     alloc: Global,
     outer: &Automaton,
@@ -105,6 +106,7 @@ fn has_few(
     Ok(true)
 }
 
+/// Whether the composition reads no cell beyond the limit of reach, at each of these nodes.
 fn has_short(
     alloc: Global,
     outer: &Automaton,
@@ -123,6 +125,7 @@ fn has_short(
     Ok(true)
 }
 
+/// Whether the composition is nested at most `MOST_DEPTH` deep.
 fn is_shallow(outer: &Automaton, inner: &Automaton) -> bool
     requires { AreAutomata outer.now inner.now }
     ensures { result ≡ is_shallow (composition outer.now inner.now) }

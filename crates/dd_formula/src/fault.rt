@@ -1,4 +1,4 @@
-//! Why no rule is made.
+//! Why no rule or automaton is made.
 ghost use Rattle.std.specs.Prelude.{◌≡◌};
 
 use std::alloc::AllocError;
@@ -10,8 +10,8 @@ pub enum RuleFault {
     /// A cell is read that lies more than 16 away along an axis.
     #[error("a cell is read that lies more than 16 away")]
     Reach,
-    /// At some node a rule's expansion has more than 20,000 nodes, or a composition more than 20,000 instances.
-    #[error("the expansion has more than 20000 nodes")]
+    /// At some node the rule or the automaton has more than 20,000 instances. `Rule` and `Automaton::instances` say what they are.
+    #[error("the expansion has more than 20000 parts")]
     Instances,
     /// Compositions are nested more than 64 deep.
     #[error("a composition is nested more than 64 deep")]

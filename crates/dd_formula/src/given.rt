@@ -7,10 +7,10 @@ use crate::automaton::{Automaton, Cases};
 use crate::making::MOST_INSTANCES;
 
 impl Automaton {
-    /// The automaton by these cases, over so many nodes. It takes no memory.
+    /// The automaton with these cases, whose rules have `nodes` nodes. It allocates nothing.
     ///
     /// # Errors
-    /// The cases come back where the automaton has more than 20,000 instances at some node.
+    /// Gives the cases back if the automaton has more than 20,000 instances at some node.
     pub fn given(cases: Cases, nodes: u32) -> Result<Automaton, Cases>
         requires { HaveNumbers cases nodes }
         ensures ok { IfOk result (λ f. f ≡ Automaton.Given cases) }
@@ -26,7 +26,7 @@ impl Automaton {
     }
 }
 
-/// Whether the automaton by these cases has few instances at each node.
+/// Whether the automaton with these cases has at most `MOST_INSTANCES` instances at each node.
 fn has_few(cases: &Cases, nodes: u32) -> bool
     requires { HaveNumbers cases.now nodes }
     ensures value { result ≡ is_few nodes (counted (Automaton.Given cases.now)) }

@@ -1,4 +1,5 @@
-//! Rules: formulas over a topology and an alphabet, their truth, and the configurations that live in their subshifts.
+//! Local rules and cellular automata: the truth of a rule, the values of an automaton, the cells that they read, and their
+//! limits. The crate also tests whether a periodic configuration is in the subshift of a rule.
 #![tactic(auto, using(std::proofs::lemmas::Grind::common_steps))]
 
 mod automaton;

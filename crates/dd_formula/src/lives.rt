@@ -5,18 +5,18 @@ use crate::rule::Rule;
 use dd_lattice::Cell;
 use dd_pattern::Periodic;
 
-/// A configuration is inside a subshift, or outside of it with a cell at which the rule is false.
+/// Whether a periodic configuration is inside a rule's subshift.
 #[derive(Debug, Clone, Copy, PartialEq, Eq)]
 pub enum Membership {
     /// The rule is true at each cell.
     Inside,
-    /// The first cell of the fundamental box, in cell order, at which the rule is false.
+    /// The rule is false at this cell of the fundamental box, and at no cell of the box before it in cell order.
     Outside(Cell),
 }
 
 impl Rule {
-    /// Whether the rule is true everywhere in a configuration, or else the first cell of the fundamental box, in cell
-    /// order, at which it is false. It takes no memory.
+    /// Whether the configuration is inside the rule's subshift: whether the rule is true at each cell. The cells of its
+    /// fundamental box are tested in cell order. It allocates nothing.
     pub fn member(&self, periodic: &Periodic) -> Membership
         requires { Fits self.now periodic.now }
         ensures { IsMembership self.now periodic.now result }

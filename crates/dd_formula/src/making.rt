@@ -1,4 +1,4 @@
-//! Lists with an item for each node: expansions, and the cells that they read.
+//! What a rule keeps for each node: the expansion, and the cells that it reads.
 ghost use Rattle.std.specs.Prelude.{◌≡◌, ◌<◌, ◌≤◌, ◌⊎◌, length, true, false, map, IfOk, IfErr, OnOk, IsTrue, ◌↔◌};
 ghost use Rattle.std.specs.List.{list_all};
 ghost use Rattle.dd_lattice.specs.InOrder.{in_order};
@@ -16,12 +16,13 @@ use dd_topology::{Edge, Sets, Topology};
 use dd_values::Items;
 use std::alloc::{AllocError, Global};
 
-/// The greatest number of nodes of an expansion.
+/// How many instances a rule or an automaton may have at a node. The instances of an expansion are its constants, its leaves
+/// and its connectives.
 pub(crate) const MOST_INSTANCES: u32 = 20_000;
-/// The greatest distance along an axis of a cell that is read.
+/// How far from the origin a cell that is read may lie, along each axis.
 const MOST_REACH: u32 = 16;
 
-/// What a rule keeps beside its formula.
+/// What a rule keeps beside its formula, its dimension and its number of nodes.
 #[derive(Drop)]
 pub(crate) struct Parts {
     pub(crate) sets: Sets,
@@ -30,7 +31,7 @@ pub(crate) struct Parts {
     pub(crate) reads: Items<Items<Cell>>,
 }
 
-/// The parts of the rule of a formula, unless they are too large.
+/// The parts of the rule of a formula, unless the rule passes a limit.
 pub(crate) fn parts_of(
     alloc: Global,
     topology: &Topology,
@@ -84,12 +85,14 @@ fn expand_at_nodes(
     Ok(expansions)
 }
 
+/// Whether the cell lies within the limit of reach.
 fn is_near(cell: &Cell) -> bool
     ensures { result ≡ is_near cell.now }
 {
     extent(&cell.position) <= MOST_REACH
 }
 
+/// Whether each of the cells lies within the limit of reach.
 pub(crate) fn are_near(cells: &[Cell]) -> bool
     ensures { result ≡ list_all is_near cells.now }
 {

@@ -10,7 +10,7 @@ use crate::rule::Rule;
 use dd_lattice::{Cell, Position};
 use std::alloc::{AllocError, Global};
 
-/// The greatest absolute value of a coordinate.
+/// The greatest absolute value among the coordinates of the position.
 pub(crate) fn extent(position: &Position) -> u32
     ensures { result ≡ extent position.now }
 {
@@ -18,7 +18,7 @@ pub(crate) fn extent(position: &Position) -> u32
     position.x.unsigned_abs().max(along_y_and_z)
 }
 
-/// How far the farthest of the cells lies from the origin.
+/// The greatest distance of any of the cells from the origin, along any axis; 0 if there is no cell.
 pub fn farthest(cells: &[Cell]) -> u32
     ensures { result ≡ farthest cells.now }
 {
@@ -30,7 +30,7 @@ pub fn farthest(cells: &[Cell]) -> u32
 }
 
 impl Rule {
-    /// How far the rule reads from the origin, at any node. It takes no memory.
+    /// How far the rule reads from the origin: the greatest distance along any axis, over all nodes. It allocates nothing.
     pub fn reach(&self) -> u32
         ensures value { result ≡ reach self.now }
         ensures near { result ≤ 16 }
@@ -45,7 +45,7 @@ impl Rule {
 }
 
 impl Automaton {
-    /// How far the automaton reads from the origin, at the first nodes.
+    /// How far the automaton reads from the origin: the greatest distance along any axis, over the first `nodes` nodes.
     pub fn reach_at(&self, alloc: Global, nodes: u32) -> Result<u32, AllocError>
         requires { HasNodes self.now nodes }
         ensures value { IfOk result (λ n. n ≡ automaton_reach nodes self.now) }
@@ -58,7 +58,7 @@ impl Automaton {
         Ok(radius)
     }
 
-    /// How far the automaton reads from the origin, at any node. One without rules reads nothing.
+    /// How far the automaton reads from the origin: the greatest distance along any axis, over all nodes; 0 if it has no rule.
     pub fn reach(&self, alloc: Global) -> Result<u32, AllocError>
         requires { (s : CommonNumbers) × IsAutomaton s self.now }
         ensures value { IfOk result (λ n. (s : CommonNumbers) → IsAutomaton s self.now → n ≡ automaton_reach s.nodes self.now) }

@@ -1,4 +1,4 @@
-//! Rules: a formula over a topology and an alphabet, with its expansion and its reads at each node.
+//! Rules. A rule has a formula over a topology and an alphabet. For each node it keeps the expansion and the cells that it reads.
 ghost use Rattle.std.specs.Prelude.{◌≡◌, ◌<◌, ◌≤◌, length, IfOk, IfErr, OnOk, if◌then◌else◌, Some, None};
 ghost use Rattle.dd_lattice.specs.Place.{Place};
 ghost use Rattle.dd_lattice.specs.Cells.{shifted, cell as at_node};
@@ -20,8 +20,10 @@ use dd_values::Items;
 use std::alloc::{AllocError, Global};
 use std::marker::Model;
 
-/// A local rule: a configuration satisfies it where its formula is true at every cell. It has 1 to 4 nodes and 1 to 16
-/// symbols; at each node its expansion has at most 20,000 nodes, and it reads nothing more than 16 away along an axis.
+/// A local rule: a configuration satisfies it if the rule's formula is true at every cell. A cell is a position with one of 1 to
+/// 4 nodes, and has one of 1 to 16 symbols. At each node the rule has an expansion: its formula without variables. This is a tree
+/// of at most 20,000 constants, leaves and connectives, which are called instances. The rule reads no cell that lies more than 16
+/// away along an axis.
 #[derive(Debug, Drop)]
 pub struct Rule {
     dim: u32,
@@ -51,8 +53,8 @@ impl Rule {
     /// The rule of a formula over a topology and the symbols that its nodes allow.
     ///
     /// # Errors
-    /// `Instances` where its expansion at some node has more than 20,000 nodes; else `Reach` where a cell is read that lies
-    /// more than 16 away along an axis; or `Memory`.
+    /// `Instances` where its expansion at some node has more than 20,000 instances; else `Reach` where a cell is read that
+    /// lies more than 16 away along an axis; or `Memory`.
     pub fn new(
         alloc: Global,
         topology: &Topology,
@@ -84,7 +86,7 @@ impl Rule {
         })
     }
 
-    /// A rule with the same formula, topology and alphabets.
+    /// A copy.
     pub fn copy(&self, alloc: Global) -> Result<Rule, AllocError>
         ensures { IfOk result (λ copy. copy ≡ self.now) }
     {
@@ -104,7 +106,7 @@ impl Rule {
         })
     }
 
-    /// The dimension. The readers take no memory.
+    /// The dimension, 1 to 3.
     pub fn dim(&self) -> u32
         ensures { result ≡ self.now.dimension }
     {
@@ -119,7 +121,7 @@ impl Rule {
         self.nodes
     }
 
-    /// The size of the alphabet, 1 to 16. Each symbol that a node allows is one of it.
+    /// The size of the alphabet, 1 to 16. The nodes allow only symbols below it.
     pub fn symbols(&self) -> u32
         ensures value { result ≡ self.now.symbols }
         ensures kept { IsRule self.now }
@@ -144,7 +146,7 @@ impl Rule {
         &self.formula
     }
 
-    /// The formula without variables that says the same at the node's cells. Its cells are counted from their position.
+    /// The rule's formula at a cell with this node, without variables. Its leaves give cells relative to that cell's position.
     pub fn expansion(&self, node: u32) -> &Expanded
         requires { node < self.now.nodes }
         ensures value { result.now ≡ expansion_at self.now node }
@@ -156,7 +158,7 @@ impl Rule {
         &self.expansions[node as usize]
     }
 
-    /// The cells that the rule reads at a node, counted from the origin, in cell order.
+    /// The cells that the rule reads at this node of the origin, in cell order, each once.
     pub fn reads(&self, node: u32) -> &[Cell]
         requires { node < self.now.nodes }
         ensures value { result.now ≡ cells_at self.now node }
@@ -165,7 +167,7 @@ impl Rule {
         self.reads[node as usize].as_slice()
     }
 
-    /// The number of clauses of the gates of the expansion at a node.
+    /// The number of clauses that encode the gates of the expansion at a node.
     pub fn clause_count(&self, node: u32) -> u64
         requires { node < self.now.nodes }
         ensures { result ≡ clause_count (expansion_at self.now node) }
@@ -175,7 +177,7 @@ impl Rule {
 }
 
 impl Rule {
-    /// The truth of the expansion under the symbols near a cell.
+    /// The truth of the expansion at a cell; `None` where some cell of its leaves has no symbol or lies out of range.
     fn truth_of_expansion<R: Reads>(&self, at: &Cell, read: &R) -> Option<bool>
         requires { at.now.node < self.now.nodes }
         ensures value { let look = seen (R.symbols read.now) at.now.position in
@@ -186,8 +188,8 @@ impl Rule {
         self.expansion(at.node).evaluate(&at.position, read)
     }
 
-    /// Whether the formula is true at a cell; `None` where some cell that the rule reads there has no symbol or leaves
-    /// the range of positions. It takes no memory.
+    /// Whether the formula is true at a cell; `None` where some cell that the rule reads there has no symbol or lies
+    /// outside the range of positions. It allocates nothing.
     pub fn truth<R: Reads>(&self, at: &Cell, read: &R) -> Option<bool>
         requires node { at.now.node < self.now.nodes }
         requires symbols { HasSymbolsBelow self.now.symbols (R.symbols read.now) }

@@ -1,4 +1,4 @@
-//! Cells that are counted from another cell.
+//! Cells moved by a vector, which is given as a position.
 ghost use Rattle.std.specs.Prelude.{◌≡◌, true, ◌++◌, ◌≤◌, map, OnOk};
 ghost use Rattle.std.specs.List.{list_all};
 ghost use Rattle.dd_lattice.specs.Cells.{shifted};
@@ -9,6 +9,7 @@ ghost use Rattle.dd_formula.specs.LocalRule.{is_near};
 use dd_lattice::{Cell, Position, shift};
 use std::alloc::AllocError;
 
+/// The sum of two positions that lie near the origin. It is in range.
 fn sum_of(p: &Position, by: &Position) -> Position
     requires near { extent p.now ≤ 16 }
     requires by { extent by.now ≤ 16 }
@@ -20,6 +21,7 @@ fn sum_of(p: &Position, by: &Position) -> Position
     sum
 }
 
+/// The cell, moved by the vector `by`.
 fn shifted(cell: &Cell, by: &Position) -> Cell
     requires near { is_near cell.now ≡ true }
     requires by { extent by.now ≤ 16 }
@@ -31,7 +33,7 @@ fn shifted(cell: &Cell, by: &Position) -> Cell
     }
 }
 
-/// Adds the cells, moved by a position.
+/// Appends the cells, moved by the vector `by`.
 pub(crate) fn push_shifted(
     found: &mut Vec<Cell>,
     by: &Position,

@@ -1,4 +1,4 @@
-//! The values of automata.
+//! The value of an automaton at a cell: the symbol that it gives the cell.
 ghost use Rattle.std.specs.Prelude.{◌≡◌, IfOk, MatchOption, true, false, map, if◌then◌else◌, Some, None};
 ghost use Rattle.std.specs.List.Sorted.{IsStrictlySortedBy};
 ghost use Rattle.dd_lattice.specs.Order.{cell_cmp};
@@ -15,7 +15,7 @@ use dd_pattern::{Filling, Reads};
 use std::alloc::{AllocError, Global};
 
 impl Cases {
-    /// The symbol of the first case whose rule is true at the cell, else the other symbol. It takes no memory.
+    /// The symbol of the first case whose rule is true at the cell, else the default symbol. It allocates nothing.
     pub fn value<R: Reads>(&self, at: &Cell, read: &R) -> u32
         requires { HasCasesLook self.now at.now (R.symbols read.now) }
         ensures { result ≡ first_case self.now.cases self.now.otherwise (R.symbols read.now) at.now }
@@ -32,8 +32,8 @@ impl Cases {
 }
 
 impl Automaton {
-    /// The automaton's value at a cell; `None` where some cell that it reads there has no symbol or leaves the range of
-    /// positions.
+    /// The symbol that the automaton gives a cell; `None` where some cell that it reads there has no symbol or lies outside
+    /// the range of positions.
     pub fn value<R: Reads>(
         &self,
         alloc: Global,
@@ -52,7 +52,7 @@ impl Automaton {
         Ok(Some(symbol))
     }
 
-    /// The value at a node of the origin. Each cell that is read there has a symbol.
+    /// The value at this node of the origin. `near` has a symbol for each cell that is read there.
     #[cycle(value)]
     pub(crate) fn value_near(
         &self,
@@ -71,8 +71,8 @@ impl Automaton {
         }
     }
 
-    /// The composition's value there: the inner automaton's values at the cells that the outer one reads, and then the
-    /// outer one's value on these.
+    /// The composition's value there: the outer automaton's value on the inner one's values at the cells that the outer one
+    /// reads.
     #[cycle(value)]
     pub(crate) fn composed_value(
         alloc: Global,
@@ -90,7 +90,7 @@ impl Automaton {
         outer.value_near(alloc, node, &values)
     }
 
-    /// The values at several cells. Each cell that is read there has a symbol.
+    /// The values at several cells. `near` has a symbol for each cell that is read for them.
     #[cycle(value)]
     pub(crate) fn values_near(
         &self,
@@ -113,7 +113,7 @@ impl Automaton {
     }
 }
 
-/// The origin, with a node.
+/// The cell of the origin with this node.
 fn origin(node: u32) -> Cell
     ensures { result ≡ origin_at node }
 {
@@ -123,8 +123,8 @@ fn origin(node: u32) -> Cell
     }
 }
 
-/// The symbols of cells that are counted from a position, or `None` where one of them has no symbol or leaves the range
-/// of positions.
+/// The filling that gives each of these cells the symbol that `read` has there, where the cells are relative to the position
+/// `at`. `None` if one of them has no symbol or lies outside the range of positions.
 fn filling_near<R: Reads>(
     alloc: Global,
     cells: Vec<Cell>,

@@ -58,7 +58,7 @@ shifted_same x n p q odd =
     let whole : n / 2 ^ k * 2 ^ k ≡ n = div-mul_cancel (2 ^ k) (power_divides n k (bit_at-trailing_zeros w64 n p q).2) in
     ap (greatest_common x) (sym whole) ∙ without_power x (n / 2 ^ k) k odd
 
--- both numbers are even
+-- the greatest common divisor of two even numbers is twice that of their halves
 pub greatest_common-halves : (a b : ℕ) → a % 2 ≡ 0 → b % 2 ≡ 0 → greatest_common (a / 2) (b / 2) * 2 ≡ greatest_common a b
 greatest_common-halves a b p q =
     let s : IsGcd (a / 2 * 2) (b / 2 * 2) (greatest_common (a / 2) (b / 2) * 2) = greatest_common-scaled (a / 2) (b / 2) 2 (omega arith) in

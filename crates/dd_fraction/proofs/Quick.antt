@@ -1,4 +1,4 @@
--- Sums and products that need no greatest common divisor, or one of smaller numbers.
+-- Sums and products that need no greatest common divisor, or only that of smaller numbers.
 use Rattle.std.proofs.Common.{◌≡◌, ℕ, suc, ◌+◌, ◌*◌, ◌^◌, ◌<◌, ◌≤◌, ◌-◌, ◌⊎◌, inl, inr, sym, ap, subst, ◌∙◌, arith, Some, true}
 use Rattle.std.proofs.lemmas.{Bool.lt-ltb, Bool.ltb-true, Int.ints, Int.by_lt_z, Int.unsigned_abs-mul}
 use Rattle.std.proofs.lemmas.Nat.Gcd.{same_from_IsGcd}
@@ -11,7 +11,7 @@ use Rattle.dd_fraction.specs.Checked.{IsFraction, is_bounded, bounded, bounded_s
 use Rattle.dd_fraction.specs.lemmas.Divisors.{greatest_common-is}
 use Rattle.dd_fraction.specs.lemmas.Lowest.{exact_same, lowest_same_at, low_fraction}
 use Rattle.dd_fraction.specs.lemmas.Laws.{plus_comm, plus_zero}
-use Rattle.dd_fraction.specs.lemmas.Results.{bounded_some, size_some, crossed, lowest_alone, plus_at}
+use Rattle.dd_fraction.specs.lemmas.Results.{bounded_some, size_some, crossed, lowest_coprime, plus_at}
 use Rattle.dd_fraction.specs.lemmas.Ring.{diff_self, diff_same, as_diff, product_above}
 
 pub within : (z : ℤ) → unsigned_abs z < 2 ^ 127 → is_bounded z ≡ true
@@ -72,7 +72,7 @@ alike_sum a b s p e small left right k =
     let four = within (pos (a.den * b.den)) (omega (arith, den, other)) in
     rw (one, two, three, four) (ap (λ (t : Exact). Some t) (k ∙ alike_plus a b p.above e))
 
--- ---- a whole side
+-- ---- one summand is a whole number
 less : (k x y z : ℕ) → y - x ≡ z → k ∣ x → k ∣ y → k ∣ z
 less k x y z e p q = subst (λ (n : ℕ). k ∣ n) e (dvd-sub k q p)
 
@@ -95,9 +95,9 @@ part k (negsuc a) (pos b) p q =
     (λ h. less k sum (suc a) b (omega (arith, ints, h)) q p)
     (λ h. more k (suc a) sum b (omega (arith, ints, h)) p q)
 
-whole_alone : (m p : ℤ) (q e : ℕ) → e ≡ 1 → greatest_common (unsigned_abs p) q ≡ 1
+whole_coprime : (m p : ℤ) (q e : ℕ) → e ≡ 1 → greatest_common (unsigned_abs p) q ≡ 1
     → greatest_common (unsigned_abs (m *ℤ pos q +ℤ p *ℤ pos e)) (e * q) ≡ 1
-whole_alone m p q e f h =
+whole_coprime m p q e f h =
     let n = unsigned_abs (m *ℤ pos q +ℤ p *ℤ pos e) in
     let left : unsigned_abs (m *ℤ pos q) ≡ unsigned_abs m * q = unsigned_abs-mul m (pos q) in
     let right : unsigned_abs (p *ℤ pos e) ≡ unsigned_abs p =
@@ -133,14 +133,14 @@ whole_side a b l r n d p q e f g h side =
       above = omega (arith, above, w.1);
       below = omega (arith, below, w.1);
       bounded = rw (y.1) bounded;
-      alone = (λ i. greatest_common (unsigned_abs (num i)) (w.1 i)) ∙ by side;
+      coprime = (λ i. greatest_common (unsigned_abs (num i)) (w.1 i)) ∙ by side;
     }
   where
     by : (a.den ≡ 1) ⊎ (b.den ≡ 1) → greatest_common (unsigned_abs (a.num *ℤ pos b.den +ℤ b.num *ℤ pos a.den)) (a.den * b.den) ≡ 1
-    by (inl s) = whole_alone a.num b.num b.den a.den s q.alone
+    by (inl s) = whole_coprime a.num b.num b.den a.den s q.coprime
     by (inr s) =
         (λ i. greatest_common (unsigned_abs (turned (a.num *ℤ pos b.den) (b.num *ℤ pos a.den) i)) (mul_comm a.den b.den i))
-        ∙ whole_alone b.num a.num a.den b.den s p.alone
+        ∙ whole_coprime b.num a.num a.den b.den s p.coprime
 
 -- ---- a factor 1 or -1
 unit_product : (a b : Exact) (n : ℤ) (d : ℕ) → a.den ≡ 1 → unsigned_abs a.num ≡ 1 → IsFraction b
@@ -155,7 +155,7 @@ unit_product a b n d e f q g h =
       above = omega (arith, den, above);
       below = omega (arith, den, below);
       bounded = omega (arith, size, bounded);
-      alone = (λ i. greatest_common (size i) (den i)) ∙ q.alone;
+      coprime = (λ i. greatest_common (size i) (den i)) ∙ q.coprime;
     }
 
 pub unit_left : (a b : Exact) (n : ℤ) (d : ℕ) → a.den ≡ 1 → unsigned_abs a.num ≡ 1 → IsFraction b
@@ -171,4 +171,4 @@ unit_right a b n d e f q g h =
 
 pub as_lowest : (r : Exact) (n : ℤ) (d : ℕ) → IsFraction (record { num = n; den = d })
     → r ≡ record { num = n; den = d } → r ≡ lowest n d
-as_lowest r n d p e = e ∙ sym (lowest_alone n d p.above p.alone)
+as_lowest r n d p e = e ∙ sym (lowest_coprime n d p.above p.coprime)

@@ -1,4 +1,4 @@
--- Sums, products and quotients whose numbers on the way are all at most 2^127 - 1 in absolute value.
+-- Sums, products and quotients, if each intermediate number fits: if it is at most 2^127 - 1 in absolute value.
 use Rattle.std.specs.Prelude.{◌≡◌, ℕ, suc, ◌*◌, ◌<◌, ◌≤◌, ◌^◌, Bool, not, ◌&&◌, Option, Some, None, cond}
 use Rattle.std.specs.{Bool.nat_eq, Bool.nat_lt, Int.RustNames.unsigned_abs}
 use lib.IntN.{ℤ, pos, negsuc, neg_ℤ, ◌+ℤ◌, ◌*ℤ◌}
@@ -12,30 +12,32 @@ is_bounded z = nat_lt (unsigned_abs z) (2 ^ 127)
 abbrev pub bounded : ℤ → Option ℤ
 bounded z = cond (is_bounded z) (Some z) None
 
+-- a number without sign, if it is bounded
 abbrev pub bounded_size : ℕ → Option ℕ
 bounded_size n = cond (nat_lt n (2 ^ 127)) (Some n) None
 
--- a fraction in lowest terms of two bounded numbers
+-- a fraction in lowest terms whose numerator and denominator are bounded
 pub record IsFraction (a : Exact) : Type 0 where
   pub above : 0 < a.den
   pub below : a.den < 2 ^ 127
   pub bounded : unsigned_abs a.num < 2 ^ 127
-  pub alone : greatest_common (unsigned_abs a.num) a.den ≡ 1
+  pub coprime : greatest_common (unsigned_abs a.num) a.den ≡ 1
 
--- a fraction of two numbers of 16 bits
+-- a fraction whose numerator and denominator fit 16 bits
 pub record IsSmall (a : Exact) : Type 0 where
   pub above : 0 < a.den
   pub below : a.den < 2 ^ 16
   pub bounded : unsigned_abs a.num ≤ 2 ^ 15
 
--- whether both products fit, before the result is brought to lowest terms
+-- whether the products of the numerators and of the denominators fit, before the result is brought to lowest terms
 abbrev pub does_product_fit : Exact → Exact → Bool
 does_product_fit a b = is_bounded (a.num *ℤ b.num) && is_bounded (pos (a.den * b.den))
 
+-- the product, if its intermediate numbers fit
 abbrev pub checked_product : Exact → Exact → Option Exact
 checked_product a b = cond (does_product_fit a b) (Some (times a b)) None
 
--- 1 over b carries its sign in the numerator
+-- a over b, as the product of a and 1 over b
 abbrev pub checked_quotient : Exact → Exact → Option Exact
 checked_quotient a b = checked_product a (inverse b)
 
@@ -46,24 +48,27 @@ does_sum_fit a b =
     && (is_bounded (b.num *ℤ pos a.den)
     && (is_bounded (a.num *ℤ pos b.den +ℤ b.num *ℤ pos a.den) && is_bounded (pos (a.den * b.den))))
 
+-- the sum, if its intermediate numbers fit
 abbrev pub checked_sum : Exact → Exact → Option Exact
 checked_sum a b = cond (does_sum_fit a b) (Some (plus a b)) None
 
--- whether the numbers of a - q · b fit: those of the product, and those of the difference
+-- whether the intermediate numbers of a - q · b fit: those of the product, and those of the difference
 abbrev pub does_less_product_fit : Exact → Exact → Exact → Bool
 does_less_product_fit a q b = does_product_fit q b && does_sum_fit a (minus (times q b))
 
+-- a - q · b, if the intermediate numbers fit
 abbrev pub checked_less_product : Exact → Exact → Exact → Option Exact
 checked_less_product a q b = cond (does_less_product_fit a q b) (Some (plus a (minus (times q b)))) None
 
--- n over d, with the sign in the numerator
+-- n over d in lowest terms, with the sign in the numerator
 abbrev pub signed_over : ℤ → ℤ → Exact
 signed_over n (pos d) = lowest n d
 signed_over n (negsuc d) = lowest (neg_ℤ n) (suc d)
 
--- whether d isn't 0 and both are bounded
+-- whether d is not 0, and n and d are bounded
 abbrev pub does_pair_fit : ℤ → ℤ → Bool
 does_pair_fit n d = not (nat_eq (unsigned_abs d) 0) && (is_bounded n && is_bounded d)
 
+-- n over d in lowest terms, if d is not 0 and both are bounded
 abbrev pub fraction_of : ℤ → ℤ → Option Exact
 fraction_of n d = cond (does_pair_fit n d) (Some (signed_over n d)) None

@@ -8,11 +8,11 @@ pub record Exact : Type 0 where
   pub num : ℤ
   pub den : ℕ
 
--- the denominator. A denominator of 0, which no fraction has, counts as 1, so that the laws need no premise
+-- The denominator. No fraction has the denominator 0; here it counts as 1, so that the laws need no premise.
 abbrev pub den_of : Exact → ℕ
 den_of a = max 1 a.den
 
--- two numbers over their greatest common divisor
+-- n over d in lowest terms: both are divided by their greatest common divisor
 unfoldable pub lowest : ℤ → ℕ → Exact
 lowest n d =
     let e = max 1 d in
@@ -23,10 +23,12 @@ lowest n d =
 abbrev pub low : Exact → Exact
 low a = lowest a.num a.den
 
+-- a fraction in lowest terms
 pub record IsLowest (a : Exact) : Type 0 where
   pub positive : 0 < a.den
-  pub alone : greatest_common (unsigned_abs a.num) a.den ≡ 1
+  pub coprime : greatest_common (unsigned_abs a.num) a.den ≡ 1
 
+-- a whole number as a fraction
 abbrev pub whole_of : ℤ → Exact
 whole_of n = record { num = n; den = 1 }
 
@@ -42,7 +44,7 @@ minus a = record { num = neg_ℤ a.num; den = a.den }
 unfoldable pub times : Exact → Exact → Exact
 times a b = lowest (a.num *ℤ b.num) (den_of a * den_of b)
 
--- d over n for an n other than 0, with the sign in the numerator
+-- d over n, where n is not 0; the sign goes to the numerator
 abbrev pub one_over : ℤ → ℕ → Exact
 one_over (pos n) d = record { num = pos d; den = n }
 one_over (negsuc n) d = record { num = neg_ℤ (pos d); den = suc n }

@@ -1,4 +1,5 @@
--- The laws of exact fractions: those of an ordered field, up to lowest terms. Every sum and product is in lowest terms.
+-- The laws of exact fractions: those of an ordered field, for fractions in lowest terms. Sums and products are always in
+-- lowest terms.
 use Rattle.std.specs.Prelude.{◌≡◌, ◌≢◌, ◌⊎◌}
 use Rattle.std.specs.declared.cmp.Ordering.TheVariants.{Less, Equal, Greater}
 use lib.IntN.{pos}
@@ -43,7 +44,7 @@ pub record AreOrderLaws : Type 0 where
   pub total : (a b : Exact) → IsAtMost a b ⊎ IsAtMost b a
   pub below : (a b : Exact) → IsBelow a b → IsAtMost a b
   pub below_or_not : (a b : Exact) → IsBelow a b ⊎ IsAtMost b a
-  pub below_alone : (a b : Exact) → IsBelow a b → IsAtMost b a → ⊥
+  pub not_both : (a b : Exact) → IsBelow a b → IsAtMost b a → ⊥
   pub below_left : (a b c : Exact) → IsBelow a b → IsAtMost b c → IsBelow a c
   pub below_right : (a b c : Exact) → IsAtMost a b → IsBelow b c → IsBelow a c
   pub less : (a b : Exact) → IsBelow a b → exact_cmp a b ≡ Less

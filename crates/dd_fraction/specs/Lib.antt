@@ -1,10 +1,10 @@
 -- exact fractions
 pub mod Exact
--- sums, products and quotients whose numbers on the way fit
+-- sums, products and quotients, if their intermediate numbers fit
 pub mod Checked
--- their order
+-- the order of exact fractions
 pub mod Order
--- their laws
+-- the laws of exact fractions
 pub mod Laws
 -- greatest common divisors
 pub mod Divisor

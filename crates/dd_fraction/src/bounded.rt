@@ -1,10 +1,11 @@
-//! Sums and products of at most 2^127 - 1 in absolute value. Since -2^127 is left out, each number has an opposite.
+//! Sums and products of at most 2^127 - 1 in absolute value. Since -2^127 is left out, each number has an opposite. A size
+//! is a number without sign.
 ghost use Rattle.std.specs.Prelude.{◌≡◌, ◌*◌, ◌^◌, ◌≤◌, IfSome, true};
 ghost use Rattle.std.specs.Int.RustNames.{unsigned_abs};
 ghost use lib.IntN.{◌*ℤ◌, ◌+ℤ◌};
 ghost use Rattle.dd_fraction.specs.Checked.{is_bounded, bounded, bounded_size};
 
-/// The product, or `None` where it passes 2^127 - 1 in absolute value.
+/// The product, or `None` if it is greater than 2^127 - 1 in absolute value.
 #[inline(always)]
 pub fn product(a: i128, b: i128) -> Option<i128>
     ensures { result ≡ bounded (a *ℤ b) }
@@ -15,7 +16,7 @@ pub fn product(a: i128, b: i128) -> Option<i128>
     }
 }
 
-/// A product of machine words, which is always bounded.
+/// The product of two machine words with a sign, which is never too large.
 #[inline(always)]
 fn word_product(a: i64, b: i64) -> i128
     ensures value { result ≡ a *ℤ b }
@@ -24,6 +25,7 @@ fn word_product(a: i64, b: i64) -> i128
     i128::from(a) * i128::from(b)
 }
 
+/// The product of any two numbers, or `None` if it is greater than 2^127 - 1 in absolute value.
 fn wide_product(a: i128, b: i128) -> Option<i128>
     ensures { result ≡ bounded (a *ℤ b) }
 {
@@ -33,7 +35,7 @@ fn wide_product(a: i128, b: i128) -> Option<i128>
     }
 }
 
-/// The sum, or `None` where it passes 2^127 - 1 in absolute value.
+/// The sum, or `None` if it is greater than 2^127 - 1 in absolute value.
 #[inline(always)]
 pub fn sum(a: i128, b: i128) -> Option<i128>
     ensures { result ≡ bounded (a +ℤ b) }
@@ -44,7 +46,7 @@ pub fn sum(a: i128, b: i128) -> Option<i128>
     }
 }
 
-/// The sum of two machine words, which is always bounded. `None` where one of the two is no machine word.
+/// The sum of two machine words with a sign, which is never too large. `None` if one of the two is not such a word.
 #[inline(always)]
 pub fn word_sum(a: i128, b: i128) -> Option<i128>
     ensures value { IfSome result (λ s. s ≡ a +ℤ b) }
@@ -58,7 +60,7 @@ pub fn word_sum(a: i128, b: i128) -> Option<i128>
     }
 }
 
-/// The product of two sizes, or `None` where it passes 2^127 - 1.
+/// The product of two sizes, or `None` if it is greater than 2^127 - 1.
 #[inline(always)]
 pub fn size_product(a: u128, b: u128) -> Option<u128>
     ensures { result ≡ bounded_size (a * b) }
@@ -69,6 +71,7 @@ pub fn size_product(a: u128, b: u128) -> Option<u128>
     }
 }
 
+/// The product of any two sizes, or `None` if it is greater than 2^127 - 1.
 fn wide_size_product(a: u128, b: u128) -> Option<u128>
     ensures { result ≡ bounded_size (a * b) }
 {
@@ -78,6 +81,7 @@ fn wide_size_product(a: u128, b: u128) -> Option<u128>
     }
 }
 
+/// The size, or `None` if it is greater than 2^127 - 1.
 #[inline(always)]
 fn if_bounded(size: u128) -> Option<u128>
     ensures { result ≡ bounded_size size }

@@ -1,25 +1,25 @@
-//! The greatest common divisor, by Euclid's rule. Once both numbers fit 64 bits, it works in machine words.
+//! The greatest common divisor, by Euclid's algorithm. Once both numbers fit 64 bits, it works in machine words.
 ghost use Rattle.std.specs.Prelude.{◌≡◌, ℕ, ◌%◌, ◌<◌, ◌≤◌, ◌/◌, ◌^◌};
 ghost use Rattle.std.specs.Int.RustNames.{unsigned_abs, int_div};
 ghost use lib.IntN.{pos};
 ghost use Rattle.dd_fraction.specs.Divisor.{greatest_common};
 
-/// The greatest number of 64 bits.
-const MOST_WORD: u128 = 18_446_744_073_709_551_615;
+/// The greatest machine word.
+const GREATEST_WORD: u128 = 18_446_744_073_709_551_615;
 
-/// The greatest number that divides both. If one of them is 0, it is the other.
+/// The greatest number that divides both. If one of the two is 0, the result is the other.
 #[inline(always)]
 pub fn greatest_common_divisor(a: u128, b: u128) -> u128
     ensures { result ≡ greatest_common a b }
 {
     let mut x = a;
     let mut y = b;
-    while y > MOST_WORD {
+    while y > GREATEST_WORD {
         let rest = x % y;
         x = y;
         y = rest;
     }
-    if x <= MOST_WORD {
+    if x <= GREATEST_WORD {
         return word_divisor(x as u64, y as u64) as u128;
     }
     if y == 0 {
@@ -28,7 +28,8 @@ pub fn greatest_common_divisor(a: u128, b: u128) -> u128
     word_divisor(y as u64, (x % y) as u64) as u128
 }
 
-/// The greatest common divisor of two machine words.
+/// The greatest common divisor of two machine words. Each round makes a step of Euclid's algorithm, and takes out a common
+/// factor of 2 if both numbers are then even. Once one of them is odd, the binary algorithm takes over.
 fn word_divisor(a: u64, b: u64) -> u64
     ensures { result ≡ greatest_common a b }
 {
@@ -48,7 +49,7 @@ fn word_divisor(a: u64, b: u64) -> u64
     word_divisor(b / 2, rest / 2) * 2
 }
 
-/// The greatest common divisor of an odd number and another one, without division (Stein 1967).
+/// The greatest common divisor of an odd number and another one, by the binary algorithm, which does not divide (Stein 1967).
 #[inline(always)]
 fn odd_divisor(a: u64, b: u64) -> u64
     requires { a % 2 ≡ 1 }
@@ -68,7 +69,7 @@ fn odd_divisor(a: u64, b: u64) -> u64
     x
 }
 
-/// A number other than 0 without its factors of 2.
+/// The greatest odd divisor of a number other than 0.
 #[inline(always)]
 fn without_twos(n: u64) -> u64
     requires { 0 < n }
@@ -79,7 +80,7 @@ fn without_twos(n: u64) -> u64
     n >> n.trailing_zeros()
 }
 
-/// The greatest common divisor of the two numbers of a fraction.
+/// The greatest common divisor of a numerator and a denominator.
 #[inline(always)]
 pub fn common_divisor(num: i128, den: u128) -> u128
     requires { 0 < den }
@@ -104,7 +105,7 @@ pub fn quotient(num: i128, divisor: u128) -> i128
     }
 }
 
-/// The quotient of a size and a divisor that is not 0, rounded down.
+/// The quotient of a number without sign and a divisor that is not 0, rounded down.
 #[inline(always)]
 pub fn size_quotient(size: u128, divisor: u128) -> u128
     requires { 0 < divisor }

@@ -1,12 +1,14 @@
 //! Laws of exact fractions, as contracts of calls that do nothing.
 ghost use Rattle.dd_fraction.specs.Laws.{AreSumLaws, AreProductLaws, AreOppositeLaws, AreOrderLaws, AreOrderedFieldLaws};
 
-/// Does nothing; its contract says that sums commute, associate, have 0, and can be cancelled.
+/// Does nothing; its contract says that addition is commutative and associative, that 0 is neutral, and that a summand may
+/// be cancelled.
 pub fn sum_laws()
     ensures { AreSumLaws }
 {}
 
-/// Does nothing; its contract says that products commute, associate, have 1 and inverses, and distribute over sums.
+/// Does nothing; its contract says that multiplication is commutative and associative, that 1 is neutral, that each fraction
+/// other than 0 has an inverse, and that multiplication distributes over addition.
 pub fn product_laws()
     ensures { AreProductLaws }
 {}
@@ -16,12 +18,12 @@ pub fn opposite_laws()
     ensures { AreOppositeLaws }
 {}
 
-/// Does nothing; its contract says that the order is total, and that `compare` is it.
+/// Does nothing; its contract says that the order is total, and that `Fraction::compare` follows it.
 pub fn order_laws()
     ensures { AreOrderLaws }
 {}
 
-/// Does nothing; its contract says that sums, and products with factors of at least 0, keep the order, and that opposites
+/// Does nothing; its contract says that adding, and multiplying by a factor of at least 0, keep the order, and that opposites
 /// reverse it.
 pub fn ordered_field_laws()
     ensures { AreOrderedFieldLaws }

@@ -14,10 +14,10 @@ use std::cmp::Ordering;
 use std::marker::Model;
 
 /// The greatest machine word with a sign.
-const MOST_SIGNED_WORD: u128 = 9_223_372_036_854_775_807;
+const GREATEST_SIGNED_WORD: u128 = 9_223_372_036_854_775_807;
 
 /// A fraction in lowest terms. Its denominator is from 1 to 2^127 - 1, and its numerator at most 2^127 - 1 in absolute
-/// value. No call takes memory.
+/// value. No call allocates memory.
 #[derive(Clone, Copy, Debug, PartialEq, Eq)]
 pub struct Fraction {
     num: i128,
@@ -38,7 +38,7 @@ impl Model for Fraction {
 }
 
 impl Fraction {
-    /// `num / den`. None where `den` is 0, or one of the two is -2^127.
+    /// `num / den` in lowest terms. `None` if `den` is 0, or one of the two is -2^127.
     pub fn new(num: i128, den: i128) -> Option<Fraction>
         ensures { result ≡ fraction_of num den }
     {
@@ -89,15 +89,16 @@ impl Fraction {
         }
     }
 
-    /// The sum. None where a cross product, their sum, or the product of the denominators passes 2^127 - 1 in absolute
-    /// value, even if the sum in lowest terms does not.
+    /// The sum. `None` if a cross product, the sum of the cross products, or the product of the denominators is greater than
+    /// 2^127 - 1 in absolute value, even if the sum in lowest terms would fit. A cross product is a numerator times the other
+    /// denominator.
     #[inline(always)]
     pub fn add(&self, other: &Fraction) -> Option<Fraction>
         ensures { result ≡ checked_sum self.now other.now }
     {
-        // This read brings in what the type guarantees.
+        // This call tells the proof what the type guarantees.
         let _ = &other.num;
-        // 0/1 adds nothing: the cross products are 0 and the other's numerator.
+        // Adding 0/1 changes nothing: the cross products are 0 and the other's numerator.
         if self.num == 0 && self.den == 1 {
             return Some(*other);
         }
@@ -107,13 +108,13 @@ impl Fraction {
         }
     }
 
-    /// The sum of two fractions with the same denominator, if all their numbers are machine words; else None. No number
-    /// on the way is then too large, and the denominator divides both cross products.
+    /// The sum of two fractions with the same denominator, without cross products. `None` if the denominators differ, or one
+    /// of the numbers is not a machine word with a sign. Cross products of such words are never too large.
     #[inline(always)]
     fn alike_sum(&self, other: &Fraction) -> Option<Fraction>
         ensures { IfSome result (λ s. Some s ≡ checked_sum self.now other.now) }
     {
-        if self.den != other.den || self.den > MOST_SIGNED_WORD {
+        if self.den != other.den || self.den > GREATEST_SIGNED_WORD {
             return None;
         }
         let num = word_sum(self.num, other.num)?;
@@ -129,15 +130,15 @@ impl Fraction {
         let right = product(other.num, self.den as i128)?;
         let num = sum(left, right)?;
         let den = size_product(self.den, other.den)?;
-        // One side is a whole number. A common divisor of the sum's numbers divides both numbers of the other side, so it
-        // is 1.
+        // One of the two is a whole number. A common divisor of `num` and `den` then divides both the numerator and the
+        // denominator of the other, so it is 1.
         if self.den == 1 || other.den == 1 {
             return Some(in_lowest_terms(num, den));
         }
         Some(reduced(num, den))
     }
 
-    /// The difference. None where the sum with the opposite of `other` is None.
+    /// The difference. `None` if the sum with the opposite of `other` is `None`.
     #[inline(always)]
     pub fn sub(&self, other: &Fraction) -> Option<Fraction>
         ensures { result ≡ checked_sum self.now (minus other.now) }
@@ -145,22 +146,22 @@ impl Fraction {
         self.add(&other.negate())
     }
 
-    /// The product. None where the product of the numerators or of the denominators passes 2^127 - 1 in absolute value,
-    /// even if the product in lowest terms does not.
+    /// The product. `None` if the product of the numerators or of the denominators is greater than 2^127 - 1 in absolute
+    /// value, even if the product in lowest terms would fit.
     #[inline(always)]
     pub fn mul(&self, other: &Fraction) -> Option<Fraction>
         ensures { result ≡ checked_product self.now other.now }
     {
         let num = product(self.num, other.num)?;
         let den = size_product(self.den, other.den)?;
-        // A factor 1 or -1 leaves the other's numbers as they are, up to the sign.
+        // A factor 1 or -1 leaves the other's numerator and denominator as they are, up to the sign.
         if self.is_unit() || other.is_unit() {
             return Some(in_lowest_terms(num, den));
         }
         Some(reduced(num, den))
     }
 
-    /// `self - factor * other`. None where the product is None, or then the difference.
+    /// `self - factor * other`. `None` if the product is `None`, or the difference after it.
     #[inline(always)]
     pub fn sub_product(&self, factor: &Fraction, other: &Fraction) -> Option<Fraction>
         ensures { result ≡ checked_less_product self.now factor.now other.now }
@@ -171,7 +172,7 @@ impl Fraction {
         }
     }
 
-    /// `self - factor * other`, where all numbers have 16 bits. None elsewhere.
+    /// `self - factor * other`, or `None` if one of the numbers does not fit 16 bits.
     #[inline(always)]
     fn small_less_product(&self, factor: &Fraction, other: &Fraction) -> Option<Fraction>
         ensures { IfSome result (λ d. Some d ≡ checked_less_product self.now factor.now other.now) }
@@ -182,7 +183,7 @@ impl Fraction {
         Some(own.less_product(&factor, &other))
     }
 
-    /// `self - factor * other`, first the product, then the difference.
+    /// `self - factor * other`: first the product, then the difference.
     #[inline(never)]
     fn wide_less_product(&self, factor: &Fraction, other: &Fraction) -> Option<Fraction>
         ensures { result ≡ checked_less_product self.now factor.now other.now }
@@ -199,7 +200,7 @@ impl Fraction {
         self.den == 1 && self.num.unsigned_abs() == 1
     }
 
-    /// The quotient by a fraction other than 0. None where the product with `1 / other` is None.
+    /// The quotient by a fraction other than 0. `None` if the product with `1 / other` is `None`.
     pub fn div(&self, other: &Fraction) -> Option<Fraction>
         requires { other.now.num ≢ pos 0 }
         ensures { result ≡ checked_quotient self.now other.now }
@@ -219,7 +220,7 @@ impl Fraction {
         }
     }
 
-    /// The order of the two fractions. It makes no product, so it always has an answer.
+    /// How the two fractions compare. No product is computed, so no number is too large.
     pub fn compare(&self, other: &Fraction) -> Ordering
         ensures { result ≡ exact_cmp self.now other.now }
     {
@@ -234,7 +235,7 @@ impl Fraction {
     }
 }
 
-/// The two numbers over their greatest common divisor.
+/// `num / den` in lowest terms.
 #[inline(always)]
 fn reduced(num: i128, den: u128) -> Fraction
     requires bounded { unsigned_abs num < 2 ^ 127 }
@@ -252,7 +253,7 @@ fn reduced(num: i128, den: u128) -> Fraction
     in_lowest_terms(quotient(num, divisor), size_quotient(den, divisor))
 }
 
-/// Two machine words over their greatest common divisor.
+/// `num / den` in lowest terms, for two machine words.
 #[inline(always)]
 pub fn reduced_words(num: i64, den: u64) -> Fraction
     requires { 0 < den }
@@ -264,6 +265,7 @@ pub fn reduced_words(num: i64, den: u64) -> Fraction
     reduced(i128::from(num), u128::from(den))
 }
 
+/// `num / den`, which is in lowest terms already.
 #[inline(always)]
 fn in_lowest_terms(num: i128, den: u128) -> Fraction
     requires { IsFraction (record { num = num; den = den }) }

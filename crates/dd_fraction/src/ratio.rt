@@ -1,4 +1,5 @@
-//! The order of two ratios, without a product. The whole parts are compared first, and if they are equal, the remainders.
+//! The order of two ratios, without a product. The whole parts are compared first. If they are equal, the inverses of what
+//! remains are compared, as in continued fractions.
 ghost use Rattle.std.specs.Prelude.{◌≡◌, ◌<◌, ◌*◌};
 ghost use Rattle.std.specs.Ordering.{nat_cmp};
 
@@ -18,7 +19,7 @@ pub fn compare_ratios(a: u128, b: u128, c: u128, d: u128) -> Ordering
         (0, 0) => Ordering::Equal,
         (0, _) => Ordering::Less,
         (_, 0) => Ordering::Greater,
-        // Inverting both ratios reverses their order, so the two change sides.
+        // Taking inverses reverses the order, so the two change sides.
         (rest, other_rest) => compare_ratios(d, other_rest, b, rest),
     }
 }

@@ -1,11 +1,11 @@
-//! Fractions of 16-bit numbers. The numbers of `a - q * b` are then machine words, so none is too large.
+//! Fractions of 16-bit numbers. For them each intermediate number of `a - q * b` is a machine word, so none is too large.
 ghost use Rattle.std.specs.Prelude.{◌≡◌, ◌<◌, Some, IfSome};
 ghost use Rattle.dd_fraction.specs.Checked.{checked_less_product};
 
 use crate::fraction::{Fraction, reduced_words};
 use std::marker::Model;
 
-/// A fraction whose numbers have 16 bits.
+/// A fraction whose numerator and denominator fit 16 bits.
 #[derive(Clone, Copy)]
 pub struct Small {
     num: i16,
@@ -26,7 +26,7 @@ impl Model for Small {
 }
 
 impl Small {
-    /// The fraction of the two numbers, where they have 16 bits.
+    /// `num / den`, or `None` if one of the two does not fit 16 bits.
     #[inline(always)]
     pub fn of(num: i128, den: u128) -> Option<Small>
         requires { 0 < den }
@@ -38,7 +38,7 @@ impl Small {
         }
     }
 
-    /// `self - factor * other`. No number on the way is too large.
+    /// `self - factor * other`. No intermediate number is too large.
     #[inline(always)]
     pub fn less_product(&self, factor: &Small, other: &Small) -> Fraction
         ensures { Some result ≡ checked_less_product self.now factor.now other.now }

@@ -1,4 +1,5 @@
--- The spike and the checkerboard, where one node allows their symbols; and the configurations of a script.
+-- Which functions are configurations of a script: the spike and the checkerboard, if its one node allows the symbols 0 and 1; and
+-- those that the script defines.
 use Rattle.std.proofs.Common.{◌≡◌, ℕ, zero, suc, ◌<◌, ◌+◌, ◌-◌, ◌*◌, ◌%◌, pos, Bool, true, false, length, refl, sym, subst, arith, inl, inr, Contains}
 use Rattle.std.proofs.lemmas.{Bool.and_from, Int.ints, Nat.mod_below, Nat.mod-mul-add}
 use Rattle.std.proofs.lemmas.List.Elements.{All-contains}
@@ -78,7 +79,7 @@ node_of t c below =
     let p = t.periods in
     mod-mul-add ((residue c.position.z p.z * p.y + residue c.position.y p.y) * p.x + residue (unsheared p c.position) p.x) t.nodes c.node below
 
--- the base of a position lies in the fundamental box, so the index of a cell's symbol is within the list
+-- a position reduced by the periods lies in the fundamental box, so the index of a cell's symbol is within the list
 number_below : (t : Tile) → IsTile t → IsReadModulo t → (c : Cell) → c.node < t.nodes → tile_index t c < length t.symbols
 number_below t ok read c below =
     let p = t.periods in

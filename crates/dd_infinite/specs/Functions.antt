@@ -1,4 +1,5 @@
--- Configurations as functions on all cells of Z^d: for which scripts, and what excludes a goal from them or maps them back.
+-- Configurations as functions on all cells of Z^d. When an accepted answer excludes a goal from them, or shows that an automaton maps
+-- their images back.
 use Rattle.std.specs.Prelude.{ℕ, ◌≡◌, ◌+◌, ◌%◌, true, pos, cond, unsigned_abs, slice_index}
 use Rattle.dd_lattice.specs.{Place.Place, Place.place, declared.position.Cell.Cell}
 use Rattle.dd_topology.specs.Balls.{same_place}
@@ -9,31 +10,31 @@ use Rattle.dd_script.specs.Parts.{Parts}
 use Rattle.dd_checker.specs.{Certificates.HasQuery, Certificates.IsCertificate, Lifted.is_yes, Lifted.IsWhole}
 use Rattle.dd_checker.specs.Inverses.{is_conjugate, IsConjugacyAt}
 
--- 1 only at the origin
+-- 1 at the origin, and 0 at all other positions
 abbrev pub spike : Cell → ℕ
 spike c = cond (same_place c.position (place (pos 0) (pos 0) (pos 0))) 1 0
 
--- 1 at an odd number of steps from the origin
+-- 1 at an odd number of steps from the origin, and 0 at all other positions
 abbrev pub checkerboard : Cell → ℕ
 checkerboard c = (unsigned_abs c.position.x + unsigned_abs c.position.y + unsigned_abs c.position.z) % 2
 
--- the symbols of a fundamental box, repeated by its periods
+-- the symbols of a fundamental box, repeated along its periods
 abbrev pub tiled : Tile → Cell → ℕ
 tiled t c = slice_index t.symbols (tile_index t c)
 
--- the script has one node, which allows the symbols of both configurations
+-- the script has one node, which allows all symbols of the spike and of the checkerboard
 pub record IsForBoth (s : Parts) : Type 0 where
   pub spike : IsWhole s 1 spike
   pub checkerboard : IsWhole s 1 checkerboard
 
--- the answer is YES to the query with this number, and a certificate of it; the position is one of Z^d
+-- there is a query with this number, from 1; the answer is YES and a certificate of it; v is a position of Z^d
 pub record IsExclusion (s : Parts) (number : ℕ) (a : Answer) (v : Place) : Type 0 where
   pub query : HasQuery s number
   pub position : is_flat s.known.setting.topology.dimension v ≡ true
   pub yes : is_yes a ≡ true
   pub certificate : IsCertificate s number a
 
--- the query with this number asks for a conjugacy; the answer is CONJUGATE and a certificate; the position is one of Z^d
+-- The query with this number, from 1, asks about a conjugacy. The answer is CONJUGATE and a certificate of it. v is a position of Z^d.
 pub record IsInversion (s : Parts) (number : ℕ) (a : Answer) (v : Place) : Type 0 where
   pub query : HasQuery s number
   pub conjugacy : IsConjugacyAt s number

@@ -1,2 +1,2 @@
--- the configurations, the scripts that allow their symbols, and what excludes a goal from them
+-- configurations as functions, and when an accepted answer excludes a goal from them, or shows that their images are mapped back
 pub mod Functions

@@ -1,4 +1,4 @@
-//! From a check to all configurations.
+//! What an accepted YES says of any configuration.
 ghost use Rattle.std.specs.Prelude.{◌≡◌, ◌↔◌, true, IsTrue, IfOk};
 ghost use Rattle.dd_expansion.specs.Placed.{is_flat};
 ghost use Rattle.dd_checker.specs.Certificates.{HasQuery};
@@ -12,12 +12,14 @@ use dd_pattern::Configuration;
 use dd_script::Script;
 use std::alloc::{AllocError, Global};
 
+/// Whether the script has a query with this number, from 1.
 pub(crate) fn has_query(script: &Script, query: u32) -> bool
     ensures { IsTrue result ↔ HasQuery script.now query }
 {
     1 <= query && query as usize <= script.queries().len()
 }
 
+/// Whether a position belongs to Z^d, where d is the script's dimension: its coordinates along further axes are 0.
 pub(crate) fn is_flat(script: &Script, place: &Position) -> bool
     ensures { result ≡ is_flat script.now.known.setting.topology.dimension place.now }
 {
@@ -31,9 +33,16 @@ fn is_yes(answer: &Answer) -> bool
     matches!(answer, Answer::Yes { .. } | Answer::YesBoth { .. })
 }
 
-/// Whether the answer is YES to the query with this number, from 1, the check accepts it, and `place` is a position of the
-/// script's dimension. Then it excludes the goal from this configuration too: if that obeys the premise everywhere, the goal
-/// does not hold at `place`.
+/// Whether the answer excludes the query's goal at the position `place` of this configuration. This is so exactly if:
+/// - the script has a query with the number `query`, from 1;
+/// - `place` is a position of Z^d;
+/// - the answer is YES, and the check accepts it for this query.
+///
+/// Then, if the configuration obeys the premise everywhere, the goal does not hold at `place`. For an equality this holds of both
+/// its box questions. `Ok(false)` says nothing of the configuration.
+///
+/// # Errors
+/// `AllocError` if memory ran out.
 #[tactic(auto, using(crate::proofs::Whole::exclusion))]
 pub fn excludes<C: Configuration>(
     alloc: Global,

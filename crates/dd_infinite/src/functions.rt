@@ -1,4 +1,4 @@
-//! Configurations that are functions on all cells, and those of a script.
+//! Two configurations that are functions on all cells, and the configurations of a script.
 ghost use Rattle.std.specs.Prelude.{◌≡◌, ◌↔◌, IsTrue, IfSome, slice_get};
 ghost use Rattle.std.specs.Option.{option_copied};
 ghost use Rattle.dd_checker.specs.Lifted.{IsWhole};
@@ -8,7 +8,7 @@ use dd_lattice::Cell;
 use dd_pattern::{Configuration, Periodic};
 use dd_script::Script;
 
-/// The symbol 1 at the origin, and 0 at all other positions. It has no period.
+/// The symbol 1 at the origin, and 0 at all other positions. This configuration has no period.
 #[derive(Debug, Clone, Copy)]
 pub struct Spike;
 
@@ -29,7 +29,7 @@ impl Configuration for Spike {
     }
 }
 
-/// The symbol 1 at an odd number of steps from the origin, and 0 at an even one.
+/// The symbol 1 at positions an odd number of steps from the origin, and 0 at all others. A step goes 1 along an axis.
 #[derive(Debug, Clone, Copy)]
 pub struct Checkerboard;
 
@@ -46,8 +46,8 @@ impl Configuration for Checkerboard {
     }
 }
 
-/// Whether positions have one node, which allows the symbols 0 and 1. Then both configurations have an allowed symbol at each
-/// cell.
+/// Whether each position has a single node, which allows the symbols 0 and 1. Then `Spike` and `Checkerboard` have an allowed
+/// symbol at each cell.
 #[tactic(auto, using(crate::proofs::Whole::for_both, crate::proofs::Whole::has_rows, crate::proofs::Whole::one_node, crate::proofs::Whole::both_allowed))]
 pub fn allows_both(script: &Script) -> bool
     ensures { IsTrue result ↔ IsForBoth script.now }
@@ -62,7 +62,7 @@ pub fn allows_both(script: &Script) -> bool
     sets.allows(0, 1)
 }
 
-/// The script's configuration with this index, from 0, if there is one. Each cell has a symbol allowed at its node.
+/// The script's configuration with this number, from 0, if there is one. At each cell it has a symbol that the node allows.
 pub fn configuration(script: &Script, number: usize) -> Option<&Periodic>
     ensures value { option_copied result ≡ slice_get script.now.configurations number }
     ensures whole { IfSome result (λ p. IsWhole script.now p.now.nodes (tiled p.now)) }
@@ -70,7 +70,7 @@ pub fn configuration(script: &Script, number: usize) -> Option<&Periodic>
     let configurations = script.configurations();
     if number < configurations.len() {
         let configuration = &configurations[number];
-        // This read brings in what the type guarantees.
+        // This call tells the proof what the type guarantees.
         let _symbols = configuration.symbols();
         Some(configuration)
     } else {

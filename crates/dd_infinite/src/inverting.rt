@@ -1,4 +1,4 @@
-//! From a check of a conjugacy to all configurations.
+//! What an accepted CONJUGATE says of any configuration.
 ghost use Rattle.std.specs.Prelude.{◌≡◌, ◌↔◌, true, IsTrue, IfOk};
 ghost use Rattle.dd_checker.specs.Lifted.{whole_look, IsWhole};
 ghost use Rattle.dd_checker.specs.Inverses.{is_conjugate, IsConjugacy, IsConjugacyAt, AreInverseIn};
@@ -12,6 +12,7 @@ use dd_pattern::Configuration;
 use dd_script::{Query, Script};
 use std::alloc::{AllocError, Global};
 
+/// Whether a query asks about a conjugacy.
 #[tactic(auto, using(dd_checker::specs::Inverses::a_conjugacy))]
 fn is_conjugacy(query: &Query) -> bool
     ensures { IsTrue result ↔ IsConjugacy query.now }
@@ -19,7 +20,7 @@ fn is_conjugacy(query: &Query) -> bool
     matches!(query, Query::Conjugate { .. })
 }
 
-/// Whether the query with this number, from 1, is a conjugacy.
+/// Whether the query with this number, from 1, asks about a conjugacy. The number 0 stands for 1.
 fn asks_conjugacy(script: &Script, query: u32) -> bool
     ensures { IsTrue result ↔ IsConjugacyAt script.now query }
 {
@@ -36,10 +37,18 @@ fn is_conjugate(answer: &Answer) -> bool
     matches!(answer, Answer::Conjugate { .. })
 }
 
-/// Whether the query with this number, from 1, is a conjugacy, the answer a CONJUGATE that the check accepts, and `place` a
-/// position of the script's dimension. Then the two automata are inverse maps for this configuration too. If it obeys the first
-/// rule everywhere, its image under the first automaton has allowed symbols and obeys the second rule at `place`, and the second
-/// automaton takes the image back to the configuration's symbols there. The same holds with rules and automata exchanged.
+/// Whether the answer shows that the query's automata are inverse maps at the position `place` of this configuration. This is so
+/// exactly if:
+/// - the script has a query with the number `query`, from 1, and it asks about a conjugacy;
+/// - `place` is a position of Z^d;
+/// - the answer is CONJUGATE, and the check accepts it for this query.
+///
+/// Then, if the configuration obeys the first rule everywhere, its image under the first automaton has allowed symbols and obeys the
+/// second rule at `place`; the second automaton takes the image back to the configuration's symbols there. The same holds with rules
+/// and automata exchanged. `Ok(false)` says nothing of the configuration.
+///
+/// # Errors
+/// `AllocError` if memory ran out.
 #[tactic(auto, using(crate::proofs::Whole::inversion))]
 pub fn maps_back<C: Configuration>(
     alloc: Global,

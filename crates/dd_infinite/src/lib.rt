@@ -1,4 +1,4 @@
-//! What a checked YES or CONJUGATE says of configurations that no data holds: functions on all cells of Z^d.
+//! What an accepted YES or CONJUGATE says of configurations that are functions on all cells of Z^d, with or without a period.
 #![tactic(auto)]
 
 mod excluding;

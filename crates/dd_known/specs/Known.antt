@@ -1,11 +1,11 @@
--- The names and numbers of what is known.
+-- The dimension of what is known, and the names that a word of a query may be.
 use Rattle.std.specs.Prelude.{ℕ, List}
 use Rattle.dd_known.specs.Tree.{Role, Known}
 
 abbrev pub dimension_of : Known → ℕ
 dimension_of k = k.setting.topology.dimension
 
--- the names that a word with this role may refer to
+-- the names that a word with this role may be
 abbrev pub named : Known → Role → List (List ℕ)
 named k Role.Rule = k.rules
 named k Role.Automaton = k.automata

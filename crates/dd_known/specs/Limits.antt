@@ -1,4 +1,4 @@
--- The limits on scripts.
+-- The limits on what a script may write.
 use Rattle.std.specs.Prelude.{ℕ}
 
 -- the greatest dimension
@@ -9,14 +9,15 @@ most_axes = 3
 abbrev pub most_letters : ℕ
 most_letters = 32
 
--- the greatest number that may be written
+-- the greatest absolute value of a number
 abbrev pub greatest_number : ℕ
 greatest_number = 1000000
 
--- the greatest numbers of nodes and of symbols
+-- the greatest number of nodes
 abbrev pub most_nodes : ℕ
 most_nodes = 4
 
+-- the greatest number of symbols
 abbrev pub most_symbols : ℕ
 most_symbols = 16
 
@@ -36,11 +37,11 @@ most_balls = 4
 abbrev pub most_in_box : ℕ
 most_in_box = 65536
 
--- the greatest number of vectors of a query
+-- the greatest number of vectors of a discharge
 abbrev pub most_vectors : ℕ
 most_vectors = 16
 
--- the greatest distance along an axis of an edge or a vector
+-- the greatest absolute value of an entry, in the offset of an edge or in a vector of a discharge
 abbrev pub farthest : ℕ
 farthest = 4
 

@@ -9,12 +9,12 @@ pub record IsGridOf (n : ℕ) (g : Grid) : Type 0 where
   pub grid : IsGrid g
   pub nodes : g.nodes ≡ n
 
--- the nodes, symbols, topology and sets agree
+-- the nodes, symbols, topology and sets fit together, and the numbers of nodes and of symbols are within their limits
 pub record IsSetting (s : Setting) : Type 0 where
   pub topology : IsGridOf (length s.nodes) s.topology
   pub nodes : (1 ≤ length s.nodes) × (length s.nodes ≤ most_nodes)
   pub symbols : (1 ≤ length s.symbols) × (length s.symbols ≤ most_symbols)
-  -- each node allows some of the symbols
+  -- each node allows one symbol or more
   pub sets : IsSets (length s.nodes) s.sets
   pub alphabet : s.sets.symbols ≡ length s.symbols
 
@@ -23,7 +23,7 @@ pub record AreWeights (symbols : ℕ) (weights : List ℕ) : Type 0 where
   pub each : length weights ≡ symbols
   pub light : All (λ w. w ≤ most_weight) weights
 
--- the numbers are within their limits and agree
+-- what a script has defined is within the limits, and its parts fit together
 pub record IsSound (k : Known) : Type 0 where
   pub setting : IsSetting k.setting
   pub weights : AreWeights (length k.setting.symbols) k.weights

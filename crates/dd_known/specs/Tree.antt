@@ -1,3 +1,3 @@
--- The types of what is known, re-exported from one place. Declares nothing.
+-- The types of what is known, in one place. Declares nothing of its own.
 pub use Rattle.dd_commands.specs.declared.{table.Role.Role}
 pub use Rattle.dd_known.specs.declared.{known.Setting.Setting, known.Known.Known, known.Context.Context}

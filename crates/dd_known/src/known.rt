@@ -4,10 +4,12 @@ use dd_topology::{Names, Sets, Topology};
 use dd_values::{Items, Limits};
 use dd_written::Text;
 
-/// What formulas may refer to. The labels of moves are those of the topology.
+/// What formulas may refer to. The topology also gives the labels of moves.
 #[derive(Drop)]
 pub struct Setting {
+    /// The names of the nodes, in the order of their numbers.
     pub nodes: Names,
+    /// The names of the symbols, in the order of their numbers.
     pub symbols: Names,
     pub topology: Topology,
     /// Which symbols each node allows.
@@ -20,25 +22,30 @@ pub struct Known {
     pub setting: Setting,
     /// Whether the script has named its nodes.
     pub nodes_are_given: bool,
-    /// The nodes whose symbols the script has restricted.
+    /// The numbers of the nodes whose symbols the script has restricted.
     pub restricted: Items<u32>,
-    /// One for each symbol.
+    /// The weight of each symbol.
     pub weights: Items<u32>,
+    /// The limits of the searches.
     pub limits: Limits,
-    /// The names of the rules, the automata and the configurations. No name is in two of them.
+    /// The names of the rules. Rules, automata and configurations have no name in common.
     pub rules: Names,
+    /// The names of the automata.
     pub automata: Names,
+    /// The names of the configurations.
     pub configurations: Names,
 }
 
-/// The context of a command: the text, the command's number, and what is known at this point.
+/// The context of a command.
 #[derive(Drop)]
 pub struct Context {
+    /// The text of the script.
     pub text: Text,
-    /// Whether the script has a topology command.
+    /// Whether the script has a `topology` command anywhere, before this command or after it.
     pub has_topology: bool,
     /// The command's number, from 1.
     pub number: u32,
+    /// What the commands before this one have defined.
     pub known: Known,
 }
 
@@ -46,7 +53,7 @@ impl Known {
     ghost use Rattle.std.specs.Prelude.{◌≡◌};
     ghost use Rattle.dd_known.specs.Known.{named};
 
-    /// The names that a word with this role may refer to.
+    /// The names that a word with this role may be: those of all rules, all automata or all configurations.
     pub fn named(&self, role: Role) -> &Names
         ensures { result.now ≡ named self.now role }
     {

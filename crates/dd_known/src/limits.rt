@@ -1,4 +1,4 @@
-//! The limits on scripts.
+//! The limits on what a script may write.
 
 /// The greatest dimension.
 pub const MOST_AXES: u32 = 3;
@@ -6,7 +6,7 @@ pub const MOST_AXES: u32 = 3;
 /// The greatest number of letters of a word.
 pub const MOST_LETTERS: u32 = 32;
 
-/// The greatest number that may be written.
+/// The greatest absolute value of a number.
 pub const GREATEST_NUMBER: u32 = 1_000_000;
 
 /// The greatest number of nodes.
@@ -27,14 +27,14 @@ pub const MOST_BALLS: usize = 4;
 /// The greatest number of cells in the box of a configuration.
 pub const MOST_IN_BOX: usize = 65_536;
 
-/// The greatest number of vectors of a query.
+/// The greatest number of vectors of a discharge.
 pub const MOST_VECTORS: usize = 16;
 
-/// The greatest distance along an axis of an edge or a vector.
+/// The greatest absolute value of an entry, in the offset of an edge or in a vector of a discharge.
 pub const FARTHEST: u32 = 4;
 
 /// The greatest period of a strip.
 pub const LONGEST_STRIP: u32 = 64;
 
-/// More names or symbols than any script has.
+/// More names, edges, vectors or symbols than any script has.
 pub const TOO_MANY: usize = 4_000_000;

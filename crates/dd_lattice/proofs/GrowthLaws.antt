@@ -223,7 +223,7 @@ axis_more n false false c up h = h
 active_more : (d e axis : ℕ) → d ≤ e → is_active d axis ≡ true → is_active e axis ≡ true
 active_more d e axis h a = grind (arith, nat_tests)
 
--- what is near on fewer axes, and level on the others, is near on more
+-- a position near the list on the first d axes, and at distance 0 on the others, is near it on more axes
 pub near_more : (d e n : ℕ) (ps : List Place) → d ≤ e → (p : Place) → IsNearby d n ps p → IsNearby e n ps p
 near_more d e n ps more p h =
     let v = seen_from h.0 p in (
@@ -248,7 +248,7 @@ far_coordinate : (x : ℤ) (n : ℕ) → 1048576 < n → (c : ℤ) × IsUpTo n (
 far_coordinate (pos a) n far = (pos a +ℤ pos n, record { low = omega (arith, ints); high = omega (arith, ints) }, λ near. absurd (let high = near.1 in omega (arith, ints)))
 far_coordinate (negsuc a) n far = (negsuc a -ℤ pos n, record { low = omega (arith, ints); high = omega (arith, ints) }, λ near. absurd (let low = near.0 in omega (arith, ints)))
 
--- past 2^20 some position near a member is out of range
+-- if n is over 2^20, some position within n of a member is out of range
 pub far_leaves : (n : ℕ) (ps : List Place) → (ps ≡ [] → ⊥) → 1048576 < n → LeavesRange (IsNearby 1 n ps)
 far_leaves n [] some far = absurd (some refl)
 far_leaves n (q ∷ ps) some far =
@@ -259,7 +259,7 @@ far_leaves n (q ∷ ps) some far =
       outside = λ near. c.2 near.0;
     }
 
--- the regions after each run, and the faults of each, for a growth on at least so many axes
+-- the regions after the runs along each axis, and their faults, for a growth on at least that many axes
 pub grown_x : (n : ℕ) (ps run : List Place) → IsRegionOf (IsStretched X (pos 0 -ℤ pos n) (pos n +ℤ pos 1) ps) run → IsRegionOf (IsNearby 1 n ps) run
 grown_x n ps run = region_same _ _ run (near_from_x n ps) (x_from_near n ps)
 

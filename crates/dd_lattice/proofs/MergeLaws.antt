@@ -10,7 +10,7 @@ use Rattle.dd_lattice.specs.listing.Merge.{next_position, from_left, from_right}
 use Rattle.dd_lattice.specs.lemmas.InOrderLaws.{places_equal, place_total}
 use Rattle.dd_values.specs.lemmas.Members.{All-from_contains, Contains-first, Contains-later, Contains-cons_cases, Contains-nil, sorted_append, sorted_push, sorted_first, sorted_rest}
 
--- the walk has merged the parts that it took, which come before the parts that are left
+-- the walk has merged the parts of both lists that it took; they come before what is left of either list
 pub record IsMerged (left left_rest right right_rest made : List Place) : Type 0 where
   pub ascending : IsStrictlySortedBy place_cmp made
   pub left_ascending : IsStrictlySortedBy place_cmp left_rest
@@ -34,7 +34,7 @@ swap_either : (left right : List Place) (p : Place) → IsInEither left right p 
 swap_either left right p (inl c) = inr c
 swap_either left right p (inr c) = inl c
 
--- the two lists change places
+-- the same with the two lists exchanged
 merged_swap : (l lr r rr made : List Place) → IsMerged l lr r rr made → IsMerged r rr l lr made
 merged_swap l lr r rr made m = record {
   ascending = m.ascending;
@@ -45,7 +45,7 @@ merged_swap l lr r rr made m = record {
   before_right = m.before_left;
 }
 
--- the members after one position is added to the left list and to the merged one
+-- the members, after one position is added to the left list and to the merged one
 members_push : (l r made : List Place) (x : Place) → ((p : Place) → Contains made p ↔ IsInEither l r p) →
     (p : Place) → Contains (made ++ x ∷ []) p ↔ IsInEither (l ++ x ∷ []) r p
 members_push l r made x same p = (
@@ -65,7 +65,7 @@ members_push l r made x same p = (
   ],
 )
 
--- if a list and one more position come before q, so does all of the longer list
+-- if a list and one more position come before q, the list with that position does too
 before_push : (made : List Place) (x q : Place) → ((p : Place) → Contains made p → place_cmp p q ≡ Less) → place_cmp x q ≡ Less →
     (p : Place) → Contains (made ++ x ∷ []) p → place_cmp p q ≡ Less
 before_push made x q old new p c = elim (Contains-push_cases made x p c) [
@@ -85,7 +85,7 @@ take_left l lr r rr made x m first = record {
   before_right = λ p q c d. before_push made x q (λ z e. m.before_right z q e d) (first q d) p c;
 }
 
--- a position that the right list has too may be added to its part
+-- the members, after a position that the left list has too is added to the right list
 members_both : (l r made : List Place) (x : Place) → Contains l x → ((p : Place) → Contains made p ↔ IsInEither l r p) →
     (p : Place) → Contains made p ↔ IsInEither l (r ++ x ∷ []) p
 members_both l r made x has same p = (
@@ -200,7 +200,7 @@ region_from xs ys made left right up same = record {
   members = same;
 }
 
--- at the end of one list the rest of the other follows
+-- once the right list is at its end, the rest of the left list follows
 left_follows : (xs ys made : List Place) (i j : ℕ) → IsRegion xs → IsRegion ys → IsMerged (take i xs) (drop i xs) (take j ys) (drop j ys) made → length ys ≤ j →
     IsRegionOf (IsInEither xs ys) (made ++ drop i xs)
 left_follows xs ys made i j left right m all =

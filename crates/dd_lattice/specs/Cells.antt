@@ -1,10 +1,11 @@
--- Cells without a bound: a place and a node number.
+-- Cells: a position, in range or not, and the number of a node.
 use Rattle.std.specs.Prelude.{ℕ}
 use Rattle.dd_lattice.specs.{Place.Place, Place.moved, declared.position.Cell.Cell}
 
+-- the cell of the node a at p
 abbrev pub cell : Place → ℕ → Cell
 cell p a = record { position = p; node = a }
 
--- the cell moved by v, with its node
+-- the cell moved by v: its node stays
 abbrev pub shifted : Place → Cell → Cell
 shifted v c = cell (moved c.position v) c.node

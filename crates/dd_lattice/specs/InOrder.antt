@@ -5,6 +5,6 @@ use Rattle.dd_lattice.specs.{declared.position.Cell.Cell, Order.cell_cmp}
 abbrev pub in_order : List Cell → List Cell
 in_order cs = fold (insert_key cell_cmp) [] cs
 
--- two lists with the same cells, in any order and any number of times
+-- each cell of one list is in the other; order and repetitions don't matter
 abbrev pub HaveSameCells : List Cell → List Cell → Type 0
 HaveSameCells cs ds = (c : Cell) → Contains cs c ↔ Contains ds c

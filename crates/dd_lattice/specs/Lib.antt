@@ -1,4 +1,4 @@
--- positions without a bound, and the range of those that code holds
+-- positions, and the range of those that code can hold
 pub mod Place
 -- cells: a position and a node
 pub mod Cells
@@ -6,11 +6,11 @@ pub mod Cells
 pub mod Order
 -- the cells of a list in cell order, each once
 pub mod InOrder
--- boxes of positions, and where a position stands in a box's list
+-- boxes of positions, and the numbers of a box's positions
 pub mod Boxes
 -- finite sets of positions in range
 pub mod Regions
--- what the loops that merge and stretch lists of positions keep
+-- definitions for the loops that merge regions and that let them grow
 pub mod listing
 -- lemmas on these definitions, with their proofs
 pub mod lemmas

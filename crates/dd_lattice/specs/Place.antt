@@ -1,6 +1,7 @@
--- Positions of Z^3 without a bound, and the range of the positions that code holds.
+-- Positions of Z^3, and the range of those that code can hold.
 use Rattle.std.specs.Prelude.{ℕ, ℤ, pos, negsuc, ◌+ℤ◌, ◌≤ℤ◌, int_le, Bool, ◌&&◌}
 
+-- a position of Z^3, in range or not
 pub record Place : Type 0 where
   pub x : ℤ
   pub y : ℤ
@@ -9,9 +10,11 @@ pub record Place : Type 0 where
 abbrev pub place : ℤ → ℤ → ℤ → Place
 place x y z = record { x = x; y = y; z = z }
 
+-- the sum of two positions
 abbrev pub moved : Place → Place → Place
 moved p by = place (p.x +ℤ by.x) (p.y +ℤ by.y) (p.z +ℤ by.z)
 
+-- the greatest absolute value of a coordinate in range, 2^20
 abbrev pub most_coordinate : ℕ
 most_coordinate = 1048576
 
@@ -22,7 +25,7 @@ IsCoordinateInRange c = (negsuc 1048575 ≤ℤ c) × (c ≤ℤ pos most_coordina
 abbrev pub IsInRange : Place → Type 0
 IsInRange p = IsCoordinateInRange p.x × IsCoordinateInRange p.y × IsCoordinateInRange p.z
 
--- the same as tests
+-- the two properties above as tests
 abbrev pub is_coordinate_in_range : ℤ → Bool
 is_coordinate_in_range c = int_le (negsuc 1048575) c && int_le c (pos most_coordinate)
 

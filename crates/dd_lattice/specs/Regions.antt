@@ -5,11 +5,12 @@ use Rattle.dd_lattice.specs.{Place.Place, Place.place, Place.moved, Place.IsInRa
 use Rattle.dd_lattice.specs.declared.fault.LatticeFault.{LatticeFault}
 use Rattle.dd_lattice.specs.declared.fault.LatticeFault.TheVariants.{Range, Memory}
 
+-- the list is a region
 pub record IsRegion (ps : List Place) : Type 0 where
   pub ascending : IsStrictlySortedBy place_cmp ps
   pub in_range : All IsInRange ps
 
--- a set of positions
+-- sets of positions, finite or not
 abbrev pub PlaceSet : Type 1
 PlaceSet = Place → Type 0
 
@@ -18,24 +19,26 @@ pub record IsRegionOf (S : PlaceSet) (ps : List Place) : Type 0 where
   pub region : IsRegion ps
   pub members : (p : Place) → Contains ps p ↔ S p
 
--- some member of the set is at a position out of range
+-- some member of S, a set of things that have positions, has its position out of range
 pub record LeavesRangeAt {X : Type 0} (position : X → Place) (S : X → Type 0) : Type 0 where
   pub at : X
   pub member : S at
   pub outside : IsInRange (position at) → ⊥
 
--- why the list of a set isn't made: `Range` only if the set leaves the range
+-- the fault is a reason why the list of a set isn't made: `Range` only if some member's position is out of range
 abbrev pub IsFaultAt : {X : Type 0} → (X → Place) → (X → Type 0) → LatticeFault → Type 0
 IsFaultAt position S Range = LeavesRangeAt position S
 IsFaultAt position S Memory = Unit {0}
 
--- a set of positions leaves the range
+-- some position of the set is out of range
 abbrev pub LeavesRange : PlaceSet → Type 0
 LeavesRange S = LeavesRangeAt (λ (p : Place). p) S
 
+-- as IsFaultAt, for a set of positions
 abbrev pub IsFaultOf : PlaceSet → LatticeFault → Type 0
 IsFaultOf S = IsFaultAt (λ (p : Place). p) S
 
+-- p is in one of the two lists, or in both
 abbrev pub IsInEither : List Place → List Place → PlaceSet
 IsInEither ps qs p = Contains ps p ⊎ Contains qs p
 
@@ -43,10 +46,10 @@ IsInEither ps qs p = Contains ps p ⊎ Contains qs p
 abbrev pub IsMoved : List Place → Place → PlaceSet
 IsMoved ps v p = (q : Place) × Contains ps q × (p ≡ moved q v)
 
--- where p stands as seen from q
+-- the position of p relative to q
 abbrev pub seen_from : Place → Place → Place
 seen_from q p = place (p.x -ℤ q.x) (p.y -ℤ q.y) (p.z -ℤ q.z)
 
--- p is within n of a position of the list on each of the first d axes, and level with it on the others
+-- p is at a distance of at most n from some position of the list on each of the first d axes, and of 0 on the others
 abbrev pub IsNearby : ℕ → ℕ → List Place → PlaceSet
 IsNearby d n ps p = (q : Place) × Contains ps q × IsCentred d n (seen_from q p)

@@ -1,12 +1,12 @@
-//! Boxes of positions, and the place of a position in the list of a box's positions.
+//! Boxes of positions. A box's positions are numbered from 0 in cell order: by z, then y, then x.
 ghost use Rattle.std.specs.Prelude.{◌≡◌, ℕ, ◌+◌, ◌*◌, ◌<◌, ◌≤◌, ℤ, pos, ◌+ℤ◌, ◌-ℤ◌, ◌≤ℤ◌, IsTrue, ◌↔◌, MatchOption, IfSome, unsigned_abs, nat_le, nat_lt, if◌then◌else◌};
 ghost use Rattle.dd_lattice.specs.Place.{Place, IsCoordinateInRange, IsInRange, place, most_coordinate};
-ghost use Rattle.dd_lattice.specs.Boxes.{IsAtMostOnEachAxis, IsBox, IsWithin, IsCentred, centred, spread, gap, volume, index_in, place_in};
+ghost use Rattle.dd_lattice.specs.Boxes.{IsAtMostOnEachAxis, IsBox, IsWithin, IsCentred, centred, spread, gap, most_gap, volume, index_in, place_in};
 
 use crate::position::{MOST_COORDINATE, Position};
 use std::marker::Model;
 
-/// The positions from `low` to `high`, where `low` is at most `high` on each axis.
+/// A box of Z^3: all positions from `low` to `high`, both included, on each axis. On each axis `low` is at most `high`.
 #[derive(Debug, Clone, Copy, PartialEq, Eq)]
 pub struct Box3 {
     pub low: Position,
@@ -25,7 +25,7 @@ impl Model for Box3 {
     ghost inverse = { λ b. record { low = b.low; high = b.high } };
 }
 
-/// How far the centred box of a radius reaches on an axis.
+/// The greatest coordinate of a centred box on an axis. The axes are numbered from 0.
 fn spread(axis: u32, dim: u32, radius: i32) -> i32
     requires { pos 0 ≤ℤ radius }
     ensures value { result ≡ pos (spread (nat_lt axis dim) (unsigned_abs radius)) }
@@ -35,6 +35,7 @@ fn spread(axis: u32, dim: u32, radius: i32) -> i32
     if axis < dim { radius } else { 0 }
 }
 
+/// The centred box of a radius that is at most 2^20. See `centred_box`.
 fn around_origin(dim: u32, radius: u32) -> Box3
     requires { radius ≤ most_coordinate }
     ensures { result ≡ centred dim radius }
@@ -52,8 +53,8 @@ fn around_origin(dim: u32, radius: u32) -> Box3
     }
 }
 
-/// The box of the positions whose first `dim` coordinates are at most `radius` in absolute value and whose others
-/// are 0, or `None` where the radius passes 2^20.
+/// The centred box of a radius: all positions whose first `dim` coordinates are at most `radius` in absolute value
+/// and whose other coordinates are 0. `None` if the radius is over 2^20.
 pub fn centred_box(dim: u32, radius: u32) -> Option<Box3>
     requires least { 1 ≤ dim }
     requires most { dim ≤ 3 }
@@ -66,7 +67,7 @@ pub fn centred_box(dim: u32, radius: u32) -> Option<Box3>
     Some(around_origin(dim, radius))
 }
 
-/// How far one position is above another, on each axis.
+/// A number of steps on each axis.
 #[derive(Clone, Copy)]
 struct Steps {
     x: u64,
@@ -74,7 +75,8 @@ struct Steps {
     z: u64,
 }
 
-fn is_below(p: &Position, q: &Position) -> bool
+/// Whether `p` is at most `q` on each axis.
+fn is_at_most(p: &Position, q: &Position) -> bool
     ensures { IsTrue result ↔ IsAtMostOnEachAxis p.now q.now }
 {
     if q.x < p.x || q.y < p.y || q.z < p.z {
@@ -83,14 +85,15 @@ fn is_below(p: &Position, q: &Position) -> bool
     true
 }
 
+/// How many steps lead from `from` up to `to` on each axis.
 fn steps_between(from: &Position, to: &Position) -> Steps
     requires { IsAtMostOnEachAxis from.now to.now }
     ensures x { result.x ≡ gap from.now.x to.now.x }
     ensures y { result.y ≡ gap from.now.y to.now.y }
     ensures z { result.z ≡ gap from.now.z to.now.z }
-    ensures x_bound { result.x ≤ 2097152 }
-    ensures y_bound { result.y ≤ 2097152 }
-    ensures z_bound { result.z ≤ 2097152 }
+    ensures x_bound { result.x ≤ most_gap }
+    ensures y_bound { result.y ≤ most_gap }
+    ensures z_bound { result.z ≤ most_gap }
     ensures from { IsInRange from.now }
     ensures to { IsInRange to.now }
 {
@@ -111,12 +114,14 @@ impl Box3 {
         (all.x + 1) * ((all.y + 1) * (all.z + 1))
     }
 
+    /// Whether the position is in the box.
     fn holds(&self, p: &Position) -> bool
         ensures { IsTrue result ↔ IsWithin self.now p.now }
     {
-        is_below(&self.low, p) && is_below(p, &self.high)
+        is_at_most(&self.low, p) && is_at_most(p, &self.high)
     }
 
+    /// The number of a position of the box.
     fn number(&self, p: &Position) -> u64
         requires { IsWithin self.now p.now }
         ensures value { result ≡ index_in self.now p.now }
@@ -127,6 +132,7 @@ impl Box3 {
         (there.z * (all.y + 1) + there.y) * (all.x + 1) + there.x
     }
 
+    /// The position with this number, which is below the volume.
     fn place(&self, index: u64) -> Position
         requires { index < volume self.now }
         ensures { result ≡ place_in self.now index }
@@ -144,7 +150,7 @@ impl Box3 {
         )
     }
 
-    /// How many positions of the box come before `p` in cell order, or `None` where `p` is outside.
+    /// The number of `p` in the box: how many of its positions come before `p` in cell order. `None` if `p` is outside.
     pub fn index_of(&self, p: &Position) -> Option<u64>
         ensures value { MatchOption result (IsWithin self.now p.now → ⊥) (λ i. (i < volume self.now) × (i ≡ index_in self.now p.now)) }
         ensures undone { IfSome result (λ i. place_in self.now i ≡ p.now) }
@@ -156,7 +162,7 @@ impl Box3 {
         }
     }
 
-    /// The position with `index` positions of the box before it, or `None` if the index is at least the volume.
+    /// The position that has this number in the box. `None` if the number is not below the volume.
     pub fn position_at(&self, index: u64) -> Option<Position>
         ensures value { MatchOption result (volume self.now ≤ index) (λ p. p ≡ place_in self.now index) }
         ensures within { IfSome result (IsWithin self.now) }
@@ -170,7 +176,7 @@ impl Box3 {
     }
 }
 
-/// The position so far above `low` on each axis.
+/// The position that is `x`, `y` and `z` steps above `low` on the three axes, and not above `high`.
 fn raised(low: &Position, high: &Position, x: u64, y: u64, z: u64) -> Position
     requires { IsAtMostOnEachAxis (place (low.now.x +ℤ pos x) (low.now.y +ℤ pos y) (low.now.z +ℤ pos z)) high.now }
     ensures { result ≡ place (low.now.x +ℤ pos x) (low.now.y +ℤ pos y) (low.now.z +ℤ pos z) }
@@ -182,6 +188,7 @@ fn raised(low: &Position, high: &Position, x: u64, y: u64, z: u64) -> Position
     }
 }
 
+/// The coordinate that is `by` steps above `low`, and not above `high`.
 fn coordinate(low: i32, high: i32, by: u64) -> i32
     requires low_near { IsCoordinateInRange low }
     requires high_near { IsCoordinateInRange high }

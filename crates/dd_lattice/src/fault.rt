@@ -5,7 +5,7 @@ ghost use Rattle.dd_lattice.specs.declared.fault.LatticeFault.TheVariants.{Memor
 use std::alloc::{AllocError, AllocFailed};
 use thiserror::Error;
 
-/// Why a region is not made.
+/// Why a region could not be made.
 #[derive(Clone, Copy, Debug, PartialEq, Eq, Error)]
 pub enum LatticeFault {
     /// A coordinate would pass 2^20 in absolute value.

@@ -8,7 +8,7 @@ use crate::position::Position;
 use std::alloc::{AllocError, Global};
 use std::cmp::Ordering;
 
-/// The lesser of the two next positions, and how many it takes from each list.
+/// The lesser of the two next positions, and how many positions the walk takes from each list for it: 0 or 1.
 #[derive(Clone, Copy)]
 struct Step {
     position: Position,
@@ -16,6 +16,7 @@ struct Step {
     from_right: usize,
 }
 
+/// The step of the walk whose next positions are these.
 fn next_of(left: &Position, right: &Position) -> Step
     ensures position { result.position ≡ next_position (place_cmp left.now right.now) left.now right.now }
     ensures left { result.from_left ≡ from_left (place_cmp left.now right.now) }
@@ -40,7 +41,7 @@ fn next_of(left: &Position, right: &Position) -> Step
     }
 }
 
-/// The positions of both lists, strictly ascending.
+/// The positions of both lists, each once, in cell order.
 pub fn merged(
     alloc: Global,
     left: &[Position],

@@ -8,7 +8,7 @@ use crate::position::Cell;
 use std::alloc::{AllocError, Global};
 use std::collections::BTreeSet;
 
-/// The cells in cell order, each once.
+/// The cells of a list, in cell order, each once.
 pub fn in_order(alloc: Global, cells: &[Cell]) -> Result<Vec<Cell>, AllocError>
     ensures list { IfOk result (λ v. v.items ≡ in_order cells.now) }
     ensures order { IfOk result (λ v. IsStrictlySortedBy cell_cmp v.items) }

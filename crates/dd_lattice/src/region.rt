@@ -13,7 +13,7 @@ use crate::position::{Position, shift};
 use std::alloc::{AllocError, Global};
 use std::marker::Model;
 
-/// A finite set of positions. Contracts see it as its strictly ascending list.
+/// A finite set of positions. Contracts see it as the strictly ascending list of its members.
 #[derive(Debug, Drop)]
 pub struct Region {
     members: Vec<Position>,
@@ -46,7 +46,7 @@ pub fn positions(alloc: Global, b: &Box3) -> Result<Region, AllocError>
 }
 
 impl Region {
-    /// No positions.
+    /// The empty region.
     pub(crate) fn empty(alloc: Global) -> Region
         ensures { result ≡ [] }
     {
@@ -55,7 +55,7 @@ impl Region {
         }
     }
 
-    /// The positions, strictly ascending in cell order.
+    /// The positions, in cell order.
     pub fn list(&self) -> &[Position]
         ensures value { result.now ≡ self.now }
         ensures region { IsRegion self.now }
@@ -73,7 +73,7 @@ impl Region {
         }
     }
 
-    /// The region moved by a position, or `Range` where a coordinate would pass 2^20.
+    /// The region moved by a position. `Range` if a coordinate would pass 2^20.
     pub fn shifted(&self, alloc: Global, by: &Position) -> Result<Region, LatticeFault>
         ensures list { IfOk result (λ r. r ≡ map (λ p. moved p by.now) self.now) }
         ensures members { MatchResult result (IsRegionOf (IsMoved self.now by.now)) (IsFaultOf (IsMoved self.now by.now)) }
@@ -82,7 +82,7 @@ impl Region {
         Ok(Region { members })
     }
 
-    /// The positions that are in one region or in the other.
+    /// The positions that are in at least one of the two regions.
     pub fn union(&self, alloc: Global, other: &Region) -> Result<Region, AllocError>
         ensures { IfOk result (IsRegionOf (IsInEither self.now other.now)) }
     {
@@ -91,6 +91,7 @@ impl Region {
     }
 }
 
+/// The positions of a region, moved by a position. `Range` if a coordinate would pass 2^20.
 fn all_moved(alloc: Global, list: &[Position], by: &Position) -> Result<Vec<Position>, LatticeFault>
     requires { IsRegion list.now }
     ensures list { IfOk result (λ v. v.items ≡ map (λ p. moved p by.now) list.now) }

@@ -19,7 +19,7 @@ only_memory n f few short Memory h = refl
 pub never_far : (n : ℕ) (f : Counted) → is_short n f ≡ true → IsCasesRefusal n f Reach → ⊥
 never_far n f short h = absurd (let both : true ≡ false = sym short ∙ h.1 in cc)
 
--- a fault that says more
+-- Q holds of a fault if P does and Q follows from P
 pub err_says : {T E : Type 0} (r : Result T E) (P Q : E → Type 0) → ((e : E) → P e → Q e) → IfErr r P → IfErr r Q
 err_says (Ok x) P Q more h = tt
 err_says (Err e) P Q more h = more e h

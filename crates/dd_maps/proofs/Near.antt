@@ -59,7 +59,7 @@ module _ (es : List Edge) (c : Cell) (close : is_near c ≡ true) where
       near_with f (map (guard s) (guarded_nodes s n)) one
       (list_all-map near (guard s) (guarded_nodes s n) ∙ all_pass (λ a. near (guard s a)) (near_guard s) (guarded_nodes s n))
 
--- so at the origin
+-- the same at the origin
 near_origin : (a : ℕ) → is_near (origin_at a) ≡ true
 near_origin a = refl
 

@@ -1,10 +1,10 @@
--- The numbers that pass a test, each with what is made of it, one number after the other.
+-- Loops over numbers that push something for each number that passes a test.
 use Rattle.std.proofs.Common.{◌≡◌, ℕ, ◌+◌, Bool, true, false, List, [], ◌∷◌, ◌++◌, map, ap, sym, ◌∙◌}
 use Rattle.std.specs.List.{filter, range_with_len}
 use Rattle.std.proofs.lemmas.List.{map-append, append-nil, append_assoc}
 use Rattle.dd_formula.specs.lemmas.Ranges.{filter_push}
 
--- behind the items of a prefix
+-- one step: the list so far has the items of `front`, and then one for each number below n that passes
 module _ {X : Type 0} (front : List X) (g : ℕ → X) (q : ℕ → Bool) (n : ℕ) (old : List X) (so_far : old ≡ front ++ map g (filter q (range_with_len 0 n))) where
   pub passed : (new : List X) (x : X) → q n ≡ true → x ≡ g n → new ≡ old ++ x ∷ [] → new ≡ front ++ map g (filter q (range_with_len 0 (n + 1)))
   passed new x here made is =
@@ -20,7 +20,7 @@ module _ {X : Type 0} (front : List X) (g : ℕ → X) (q : ℕ → Bool) (n : �
       ∙ (so_far
       ∙ ap (λ xs. front ++ map g xs) (sym (filter_push q n false here ∙ append-nil (filter q (range_with_len 0 n)))))
 
--- all of them
+-- the list after the last step
 pub whole : {X : Type 0} (front : List X) (g : ℕ → X) (q : ℕ → Bool) (n m : ℕ) (parts : List X) → parts ≡ front ++ map g (filter q (range_with_len 0 n)) → n ≡ m →
     parts ≡ front ++ map g (filter q (range_with_len 0 m))
 whole front g q n m parts so_far same = so_far ∙ ap (λ k. front ++ map g (filter q (range_with_len 0 k))) same

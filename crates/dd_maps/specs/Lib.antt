@@ -2,7 +2,7 @@
 pub mod Guarded
 -- the automata of the pairs
 pub mod Pairs
--- what is asked of an automaton's image, and of one automaton after another
+-- where an image breaks a rule, and where one automaton after another changes a symbol
 pub mod Images
 -- why no pair is made
 pub mod Refusals

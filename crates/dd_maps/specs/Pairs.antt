@@ -1,4 +1,4 @@
--- The automata by which images and conjugacies are asked for.
+-- The automata for questions on images and conjugacies.
 use Rattle.std.specs.{Prelude.ℕ, Prelude.◌-◌, Prelude.◌≡◌, Prelude.[], Prelude.◌∷◌, Prelude.map, List.range_with_len}
 use Rattle.dd_topology.specs.{Grid.Grid, Sets.SymbolSets}
 use Rattle.dd_expansion.specs.{declared.formulas.Formula.Formula, Limits.IsFormula, Limits.depth}
@@ -10,18 +10,19 @@ pub record IsRuleOver (g : Grid) (s : SymbolSets) (y : LocalRule) : Type 0 where
   pub same : y ≡ local_rule g s y.formula
   pub formula : IsFormula g s.symbols y.formula
 
--- the guarded formula of the rule, and its depth
+-- the guarded formula of the rule
 abbrev pub guarded_of : SymbolSets → LocalRule → Formula
 guarded_of s y = guarded s y.nodes y.formula
 
+-- its depth
 abbrev pub guarded_depth : SymbolSets → LocalRule → ℕ
 guarded_depth s y = depth (guarded_of s y)
 
--- gives 0 where the rule is true and the symbol is allowed, else 1
+-- the automaton that gives 0 where the rule is true and the symbol is allowed, else 1
 abbrev pub marked : Grid → SymbolSets → LocalRule → Automaton
 marked g s y = by_cases g s ((guarded_of s y, 0) ∷ []) 1
 
--- gives 0 everywhere
+-- the automaton that gives 0 everywhere
 abbrev pub always_zero : Grid → SymbolSets → Automaton
 always_zero g s = by_cases g s [] 0
 
@@ -29,6 +30,6 @@ always_zero g s = by_cases g s [] 0
 abbrev pub own_symbol : ℕ → Formula × ℕ
 own_symbol t = (symbol_is t, t)
 
--- gives each cell its symbol: a case for each symbol from 1 on, else 0
+-- the automaton that gives each cell its own symbol: it has a case for each symbol from 1 on, and the default symbol 0
 abbrev pub identity : Grid → SymbolSets → Automaton
 identity g s = by_cases g s (map own_symbol (range_with_len 1 (s.symbols - 1))) 0

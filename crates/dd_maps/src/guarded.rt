@@ -1,4 +1,5 @@
-//! The guarded formula: a formula is true, and the symbol at its cell is one that the node allows.
+//! The guarded formula of a rule. It says that the rule is true at the cell, and that the cell's symbol is one that its node
+//! allows.
 ghost use Rattle.std.specs.Prelude.{◌≡◌, ◌<◌, ◌≤◌, length, map, IfOk};
 ghost use Rattle.dd_formula.specs.LocalRule.{IsRule};
 ghost use Rattle.dd_maps.specs.Guarded.{here, symbol_is, guard, allows_all, guarded_nodes};
@@ -9,7 +10,7 @@ use dd_topology::Sets;
 use dd_values::{Boxed, Items};
 use std::alloc::{AllocError, Global};
 
-/// The cell at which a formula stands.
+/// The term that names the cell of which a formula speaks.
 fn here(alloc: Global) -> Term
     ensures { result ≡ here }
 {
@@ -19,7 +20,7 @@ fn here(alloc: Global) -> Term
     }
 }
 
-/// The symbol there is this one. It takes no memory.
+/// The formula: the cell's symbol is this one. It allocates nothing.
 pub(crate) fn symbol_is(alloc: Global, symbol: u32) -> Formula
     ensures { result ≡ symbol_is symbol }
 {
@@ -27,7 +28,7 @@ pub(crate) fn symbol_is(alloc: Global, symbol: u32) -> Formula
     Formula::Symbol { term, symbol }
 }
 
-/// The cell there doesn't have this node.
+/// The formula: the cell doesn't have this node.
 fn other_node(alloc: Global, node: u32) -> Result<Formula, AllocError>
     ensures { IfOk result (λ f. f ≡ Formula.Not (Formula.Node here node)) }
 {
@@ -49,7 +50,7 @@ fn allows_all(sets: &Sets, node: u32) -> bool
     true
 }
 
-/// The cell doesn't have this node, or its symbol is one that the node allows.
+/// The guard of a node, as a formula: the cell doesn't have this node, or its symbol is one that the node allows.
 fn guard(alloc: Global, sets: &Sets, node: u32) -> Result<Formula, AllocError>
     requires { node < length sets.now.allowed }
     ensures { IfOk result (λ f. f ≡ guard sets.now node) }
@@ -64,7 +65,7 @@ fn guard(alloc: Global, sets: &Sets, node: u32) -> Result<Formula, AllocError>
     Ok(Formula::Or(parts))
 }
 
-/// A guard for each of the first nodes that doesn't allow some symbol.
+/// The guards of the nodes that don't allow every symbol, among the first `nodes` nodes.
 fn guards(alloc: Global, sets: &Sets, nodes: u32) -> Result<Vec<Formula>, AllocError>
     requires { nodes ≤ length sets.now.allowed }
     ensures { IfOk result (λ guards. guards.items ≡ map (guard sets.now) (guarded_nodes sets.now nodes)) }
@@ -78,7 +79,7 @@ fn guards(alloc: Global, sets: &Sets, nodes: u32) -> Result<Vec<Formula>, AllocE
     Ok(guards)
 }
 
-/// The formula that says that the rule is true and the symbol is allowed. Where each node allows every symbol, it is the
+/// The guarded formula: the conjunction of the rule's formula and the guards. If every node allows all symbols, it is the
 /// rule's own formula.
 pub(crate) fn guarded(alloc: Global, sets: &Sets, rule: &Rule) -> Result<Formula, AllocError>
     requires { rule.now.nodes ≤ length sets.now.allowed }

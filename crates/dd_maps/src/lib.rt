@@ -1,6 +1,6 @@
-//! Images of subshifts under automata, and conjugacies (Hedlund 1969, Lind and Marcus 1995). A question about them
-//! becomes a pair of automata: the two differ exactly where the image of a configuration breaks a rule, or where one
-//! automaton after another isn't the identity.
+//! Images of subshifts under automata, and conjugacies (Hedlund 1969, Lind and Marcus 1995). A question about them becomes
+//! a pair of automata. For an image, the two differ exactly where the image of a configuration breaks a rule. For a
+//! conjugacy, they differ exactly where the composition of two automata changes a symbol.
 #![tactic(auto)]
 
 mod guarded;

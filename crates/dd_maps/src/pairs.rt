@@ -1,4 +1,4 @@
-//! The pairs of automata by which images and conjugacies are asked for.
+//! The pairs of automata for questions on images and conjugacies.
 ghost use Rattle.std.specs.Prelude.{◌≡◌, ◌-◌, ◌<◌, ◌≤◌, ◌↔◌, length, map, IfOk, IfErr, OnOk};
 ghost use Rattle.std.specs.List.{range_with_len};
 ghost use Rattle.dd_lattice.specs.Place.{Place};
@@ -17,9 +17,13 @@ use dd_formula::{Automaton, Formula, Rule, RuleFault};
 use dd_topology::{Sets, Topology};
 use std::alloc::{AllocError, Global};
 
-/// The automaton that gives 0 where the rule is true and the symbol is allowed, else 1. It has one case, the guarded
-/// formula: the rule's formula, and for each node that doesn't allow some symbol a part that says that the cell doesn't have
-/// this node or has one of the symbols that the node allows. Where every node allows all symbols, it is the rule's formula.
+/// The automaton that marks with 1 the cells that break the rule. It gives 0 where the rule is true and the symbol is allowed,
+/// else 1. It has one case, the guarded formula, which is the conjunction of:
+/// - the rule's formula; and
+/// - for each node that doesn't allow some symbol, a guard: the cell doesn't have this node, or it has one of the symbols
+///   that the node allows.
+///
+/// If every node allows all symbols, the guarded formula is the rule's own.
 ///
 /// # Errors
 /// `Depth` where the guarded formula is more than 64 deep; else `Instances` where the automaton has more than 20,000
@@ -59,7 +63,7 @@ fn always_zero(alloc: Global, topology: &Topology, sets: &Sets) -> Result<Automa
     Automaton::by_cases(alloc, topology, sets, &[], 0)
 }
 
-/// For each symbol from 1 on, the formula that says that the cell has it, with the symbol.
+/// The cases of the identity. Symbol 0 needs none, because it is the default symbol.
 fn own_symbols(alloc: Global, symbols: u32) -> Result<Vec<(Formula, u32)>, AllocError>
     requires { 1 ≤ symbols }
     ensures { IfOk result (λ cases. cases.items ≡ map own_symbol (range_with_len 1 (symbols - 1))) }
@@ -71,7 +75,7 @@ fn own_symbols(alloc: Global, symbols: u32) -> Result<Vec<(Formula, u32)>, Alloc
     Ok(cases)
 }
 
-/// The automaton that gives each cell its symbol.
+/// The identity: the automaton that gives each cell its own symbol.
 fn identity(alloc: Global, topology: &Topology, sets: &Sets) -> Result<Automaton, RuleFault>
     requires nodes { topology.now.nodes ≤ 4 }
     requires sets { length sets.now.allowed ≡ topology.now.nodes }
@@ -84,7 +88,7 @@ fn identity(alloc: Global, topology: &Topology, sets: &Sets) -> Result<Automaton
     Automaton::by_cases(alloc, topology, sets, cases.as_slice(), 0)
 }
 
-/// The composition of an automaton and a copy of another one.
+/// The composition of `outer` after a copy of `inner`.
 fn composed_with(alloc: Global, outer: Automaton, inner: &Automaton) -> Result<Automaton, RuleFault>
     requires { AreAutomata outer inner.now }
     ensures ok { IfOk result (λ h. h ≡ Automaton.Composed outer inner.now) }
@@ -98,10 +102,11 @@ fn composed_with(alloc: Global, outer: Automaton, inner: &Automaton) -> Result<A
     }
 }
 
-/// Two automata: the composition that takes `map` first and then what `marked` makes of the target, and the automaton
-/// that gives 0 everywhere. They give a cell different symbols exactly if its value under `map` is a symbol that the node
-/// doesn't allow, or the values break the target there. So they differ at some node of a position exactly if the image
-/// breaks the target there.
+/// Two automata, which differ at some node of a position exactly if the image under `map` breaks the target there.
+///
+/// The first is a composition: `map`, and after it the automaton that `marked` makes of the target. The second gives 0
+/// everywhere. They give a cell different symbols exactly if, in the image under `map`, the cell has a symbol that its node
+/// doesn't allow, or the target is false there.
 ///
 /// # Errors
 /// `Depth` where the target's guarded formula is more than 64 deep; else `Instances`, `Reach` and `Depth` at the limits
@@ -133,8 +138,8 @@ pub fn image_pair(
     Ok((composed, zero))
 }
 
-/// Two automata: the composition that takes `inner` first and then `outer`, and the identity. They give a cell with a
-/// symbol different symbols exactly if the composition doesn't give its symbol back.
+/// Two automata: the composition of `outer` after `inner`, and the identity. At a cell that has a symbol they differ exactly
+/// if the composition changes the symbol.
 ///
 /// # Errors
 /// `Instances`, `Reach` and `Depth` at the limits of the composition, in this order; or `Memory`.

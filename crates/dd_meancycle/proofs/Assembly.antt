@@ -5,7 +5,7 @@ use Rattle.std.specs.{Prelude.◌⊎◌, List.Contains, List.All}
 use Rattle.dd_meancycle.specs.declared.{edges.Edge.Edge, rises.Ratio.Ratio, rises.Steep.Steep}
 use Rattle.dd_meancycle.specs.table.Levels.{at, row, least, level_weight_at, AreRows, IsEdgeOf, IsAtMost}
 use Rattle.dd_meancycle.specs.table.Walks.{IsWalk, AreAmong, edges_weight, natural_potential, AreEdgePotentials, AreEdgeRanks}
-use Rattle.dd_meancycle.specs.table.Rises.{Reads, IsSteepest, IsPotential, IsGentlest, HasRiseIn, IsReduced, IsTurn, IsRank, IsHeight}
+use Rattle.dd_meancycle.specs.table.Rises.{IsTabulated, IsSteepest, IsPotential, IsGentlest, HasRiseIn, IsReduced, IsCycleOnWalk, IsRank, IsHeight}
 use Rattle.dd_meancycle.specs.table.LeastMean.{IsLeastMean}
 use Rattle.dd_meancycle.proofs.{LevelLaws.row_length, LevelLaws.least_start, LevelLaws.least_upper, WalkLaws.cycle_weighs}
 use Rattle.dd_meancycle.proofs.Karp.{cycle_light, IsLowest, HasRise, IsAbove, potential_rises, Under, under}
@@ -14,8 +14,8 @@ use Rattle.dd_meancycle.proofs.Gentle.{rise_down}
 pub weight_row : (edges : List Edge) (n : ℕ) (levels : List (List (Option ℕ))) (k v : ℕ) → AreRows edges n levels → k < length levels → level_weight_at levels k v ≡ least edges n k v
 weight_row edges n levels k v rows lt = ap (λ (x : List (Option ℕ)). at x v) (rows k lt)
 
-pub reads : (edges : List Edge) (n v : ℕ) (levels : List (List (Option ℕ))) → AreRows edges n levels → length levels ≡ n + 1 → v < n → Reads levels n v
-reads edges n v levels rows len lt = record {
+pub tabulated : (edges : List Edge) (n v : ℕ) (levels : List (List (Option ℕ))) → AreRows edges n levels → length levels ≡ n + 1 → v < n → IsTabulated levels n v
+tabulated edges n v levels rows len lt = record {
   levels_to = omega arith;
   within = λ k le. rw (rows k (omega arith), row_length edges n k) lt;
   start = weight_row edges n levels 0 v rows (omega arith) ∙ least_start edges n v lt;
@@ -47,12 +47,12 @@ scaled w c M L m l pos e h =
 
 pub least_mean_is : (edges : List Edge) (n : ℕ) (levels : List (List (Option ℕ))) (s : Steep) (mean : Ratio) (cycle : List Edge) (ps : List ℕ) →
     All (IsEdgeOf n) edges → AreRows edges n levels → length levels ≡ n + 1 → IsGentlest levels n n s → IsReduced s.mean mean →
-    ((end : ℕ) → level_weight_at levels n s.state ≡ Some end → IsTurn edges n s.state end cycle) → length ps ≡ n →
+    ((end : ℕ) → level_weight_at levels n s.state ≡ Some end → IsCycleOnWalk edges n s.state end cycle) → length ps ≡ n →
     ((v : ℕ) → v < n → IsPotential levels n v mean.weight mean.length (get_or ps v 0)) →
     IsLeastMean edges n mean.weight mean.length cycle ps
-least_mean_is edges n levels s mean cycle ps all rows len g r turn ps_len each =
+least_mean_is edges n levels s mean cycle ps all rows len g r closes ps_len each =
     let st = g.steepest in
-    let t = turn st.end st.ends in
+    let t = closes st.end st.ends in
     let positive : 0 < s.mean.length = omega (arith, st.run_is, st.shorter) in
     let above : IsAbove edges n s.state st.end s.mean.weight s.mean.length = is_above st in
     let light : edges_weight cycle * s.mean.length ≤ s.mean.weight * length cycle =

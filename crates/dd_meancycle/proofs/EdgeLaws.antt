@@ -17,7 +17,7 @@ use Rattle.dd_meancycle.specs.table.LeastMean.{IsMean, IsLeastMean, IsSmallMean}
 use Rattle.dd_meancycle.specs.lemmas.StepLaws.{step, last_slice, below_states, weight_small}
 use Rattle.dd_meancycle.specs.declared.table.EdgeMean.TheVariants as edge_mean
 
--- one number more
+-- the list of edges, with one window more
 pub edges_more : (g : Transfer) (n : ℕ) (edges : List Edge) (o : Option Edge) → AreEdgesTo g n edges → o ≡ edge_at g n → AreEdgesTo g (n + 1) (edges ++ option_to_list o)
 edges_more g n edges None so_far is = record {
   each = λ e c. elim (Contains-append_cases edges [] e c) [
@@ -98,7 +98,7 @@ fit g edges e well are c =
     let product : g.states * e.weight ≡ g.states * weight_at g (e.to % g.slices) = ap (λ (x : ℕ). g.states * x) d.weight_is in
     (d.from_below, d.to_below, omega (arith, d.weight_is, small), omega (arith, product, light))
 
--- a slice's edge is in the list
+-- each edge of the graph is in the list
 pub edge_of : (g : Transfer) (edges : List Edge) (u t v : ℕ) → AreEdges g edges → next_of g u t ≡ Some v →
     Contains edges (record { from = u; to = v; weight = weight_at g t })
 edge_of g edges u t v are h =
@@ -115,7 +115,7 @@ pub same_weight : (g : Transfer) (edges es : List Edge) → IsTransfer g → Are
 same_weight g edges [] well are among = refl
 same_weight g edges (e ∷ es) well are among = omega (arith, (edged g edges e well are among.0).weight_is, same_weight g edges es well are among.1)
 
--- what potentials and ranks say of each path
+-- how much potentials rise, and ranks fall, along a path
 pub path_weighs : (g : Transfer) (m l : ℕ) (ps : List ℤ) → ArePotentials g m l ps → (ss : List ℕ) (u v : ℕ) → IsPath g u ss v →
     ((potential_of ps v -ℤ potential_of ps u) ≤ℤ (pos (l * weight_of g ss) -ℤ pos (m * length ss)))
 path_weighs g m l ps given [] u v walk =
@@ -140,7 +140,7 @@ path_falls g ranks given (s ∷ ss) u v walk =
 pub no_cycle : (g : Transfer) (ranks : List ℕ) → AreRanks g ranks → (ss : List ℕ) → IsCycle g ss → ⊥
 no_cycle g ranks given ss is = let f = path_falls g ranks given ss is.last is.last is.closed in let t = is.turns in absurd (omega (arith, f, t))
 
--- the weight of a walk of the graph, times n, is at most 2^25 for each of its edges
+-- n times the weight of a walk is at most 2^25 times its number of edges
 walk_light : (n : ℕ) (edges es : List Edge) → All (IsEdgeOf n) edges → AreAmong edges es → n * edges_weight es ≤ length es * 2 ^ 25
 walk_light n edges [] all among = omega arith
 walk_light n edges (e ∷ es) all among =
@@ -148,7 +148,7 @@ walk_light n edges (e ∷ es) all among =
     let rest = walk_light n edges es all among.1 in
     omega (arith, first, rest)
 
--- m is at most l * 2^25 / n
+-- m * n is at most l * 2^25
 numerator_small : (n w m l c : ℕ) → 0 < c → w * l ≡ m * c → n * w ≤ c * 2 ^ 25 → l ≤ n → n ≤ 4096 → m * n ≤ 2 ^ 40
 numerator_small n w m l c some mean light short few =
     let a : (n * w) * l ≤ (c * 2 ^ 25) * l = mul-le-mul_right l light in
@@ -173,7 +173,7 @@ small_mean g edges (edge_mean.Least m l cycle ps) well are is = λ k d lt.
     omega (arith, same, small, most)
 small_mean g edges (edge_mean.NoCycle rs) well are is = tt
 
--- the numbers as whole numbers
+-- natural potentials as numbers with a sign
 signed_at : (ps : List ℕ) (v : ℕ) → potential_of (map pos ps) v ≡ pos (natural ps v)
 signed_at [] v = refl
 signed_at (p ∷ ps) zero = refl

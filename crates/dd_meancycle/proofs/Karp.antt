@@ -32,11 +32,11 @@ walk_upper edges n k (x ∷ es) u v a all among walk is =
     let e : k + suc (length es) ≡ suc k + length es = omega arith in
     rw e (at_most_more _ (r.value + edges_weight es) (a + (x.weight + edges_weight es)) (omega (arith, r.below)) rest)
 
--- no rise to the longest walk to v has a mean above m / l
+-- no rise of v to the weight `end` has a mean above m / l
 abbrev pub IsAbove : List Edge → ℕ → ℕ → ℕ → ℕ → ℕ → Type 0
 IsAbove edges n v end m l = (k before : ℕ) → k < n → least edges n k v ≡ Some before → end * l ≤ before * l + m * (n - k)
 
--- the longest walk goes round a cycle: the cycle's mean is at most m / l
+-- the mean of a cycle on a longest walk is at most m / l
 pub cycle_light : (edges : List Edge) (n i x v a end m l : ℕ) (cycle rest : List Edge) → All (IsEdgeOf n) edges →
     AreAmong edges rest → IsWalk x rest v → least edges n i x ≡ Some a → 0 < length cycle → (i + length cycle) + length rest ≡ n →
     (a + edges_weight cycle) + edges_weight rest ≡ end → IsAbove edges n v end m l → edges_weight cycle * l ≤ m * length cycle
@@ -49,7 +49,7 @@ cycle_light edges n i x v a end m l cycle rest all among walk is some len weight
     let w : (a + edges_weight cycle + edges_weight rest) * l ≡ end * l = ap (λ (z : ℕ). z * l) weight in
     omega arith
 
--- for each state with a longest walk, some rise to it has a mean of at least m / l
+-- some rise of v has a mean of at least m / l
 abbrev pub HasRise : List Edge → ℕ → ℕ → ℕ → ℕ → ℕ → Type 0
 HasRise edges n m l v end = (k : ℕ) × (before : ℕ) × (k < n) × (least edges n k v ≡ Some before) × (before * l + m * (n - k) ≤ end * l)
 

@@ -2,7 +2,7 @@ pub mod LevelLaws
 pub mod WalkLaws
 pub mod Assembly
 pub mod Gentle
-pub mod TurnLaws
+pub mod WalkCycles
 pub mod Karp
 pub mod Steps
 pub mod EdgeLaws

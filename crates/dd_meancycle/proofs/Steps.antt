@@ -40,7 +40,7 @@ better end before weight run rise d length pos a b =
 pub read_row : (edges : List Edge) (n k : ℕ) (levels : List (List (Option ℕ))) (x : List (Option ℕ)) → AreRows edges n levels → k < length levels → x ≡ get_or levels k x → x ≡ row edges n k
 read_row edges n k levels x rows lt e = e ∙ (get_or_default levels k x [] lt ∙ rows k lt)
 
--- n walks of k edges weigh at most k times what n edges do
+-- n times the least weight of a walk of k edges is at most k * 2^25
 pub row_small : (edges : List Edge) (n k v a : ℕ) → All (IsEdgeOf n) edges → least edges n k v ≡ Some a → n * a ≤ k * 2 ^ 25
 row_small edges n zero v a all e = elim (cases_lt v n) [
   | inl lt ↦ let f : Some 0 ≡ Some a = sym (get_or-replicate n v (Some 0) None lt) ∙ e in let g : 0 ≡ a = cc in let z : n * a ≡ n * 0 = ap (λ (x : ℕ). n * x) (sym g) in omega arith
@@ -105,7 +105,7 @@ rows_push edges n k levels x rows l e j lt = elim (cases_lt j (length levels)) [
       get_or_push levels x [] j (omega arith) ∙ (e ∙ ap (row edges n) (sym f))
 ]
 
--- what holds of each item, and of one more at the end, holds of each item then
+-- what holds of each item of a list and of a new item holds of each item once the new one is appended
 pub each_push : (P : ℕ → ℕ → Type 0) (xs : List ℕ) (i y : ℕ) → length xs ≡ i → ((v : ℕ) → v < i → P v (get_or xs v 0)) → P i y → (v : ℕ) → v < i + 1 → P v (get_or (xs ++ y ∷ []) v 0)
 each_push P xs i y len each here v lt = elim (cases_lt v i) [
   | inl below ↦ subst (P v) (sym (get_or_append_left xs (y ∷ []) 0 v (omega arith))) (each v below)

@@ -1,4 +1,4 @@
--- Closed walks of a transfer graph, and what shows that none has a smaller mean.
+-- The cycles of a transfer graph, and what shows that none has a smaller mean. A cycle is a closed walk, given by its states.
 use Rattle.std.specs.Prelude.{◌≡◌, ℕ, ◌+◌, ◌*◌, ◌%◌, ◌<◌, ◌≤◌, ℤ, pos, ◌-ℤ◌, ◌≤ℤ◌, unsigned_abs, List, [], ◌∷◌, length, slice_index, Some}
 use Rattle.std.specs.Int.{IsGcd}
 use Rattle.dd_values.specs.Bounds.{most_number}
@@ -10,18 +10,19 @@ abbrev pub IsPath : Transfer → ℕ → List ℕ → ℕ → Type 0
 IsPath g u [] v = u ≡ v
 IsPath g u (s ∷ ss) v = (next_of g u (s % g.slices) ≡ Some s) × IsPath g s ss v
 
--- the weights of the states' last slices, which are their numbers modulo the slices
+-- the weight of the edges to these states. The slice of each edge is the last slice of its state, whose number is that of
+-- the state modulo the number of slices.
 abbrev pub weight_of : Transfer → List ℕ → ℕ
 weight_of g [] = 0
 weight_of g (s ∷ ss) = weight_at g (s % g.slices) + weight_of g ss
 
--- each state has an edge to the next, and the last one to the first
+-- there is a state, each has an edge to the next one, and the last has an edge to the first
 pub record IsCycle (g : Transfer) (states : List ℕ) : Type 0 where
   pub last : ℕ
   pub closed : IsPath g last states last
   pub turns : 0 < length states
 
--- along each edge the potential rises by at most l times its weight less m
+-- along an edge of weight w the potential rises by at most l * w - m
 abbrev pub ArePotentials : Transfer → ℕ → ℕ → List ℤ → Type 0
 ArePotentials g m l ps = (u t v : ℕ) → next_of g u t ≡ Some v → (potential_of ps v -ℤ potential_of ps u) ≤ℤ (pos (l * weight_at g t) -ℤ pos m)
 
@@ -29,7 +30,7 @@ ArePotentials g m l ps = (u t v : ℕ) → next_of g u t ≡ Some v → (potenti
 abbrev pub AreRanks : Transfer → List ℕ → Type 0
 AreRanks g ranks = (u t v : ℕ) → next_of g u t ≡ Some v → slice_index ranks v < slice_index ranks u
 
--- a cycle whose mean is m / l in lowest terms, and potentials; no cycle has a smaller mean
+-- the cycle's mean is m / l in lowest terms, and the potentials show that no cycle has a smaller mean
 pub record IsLeastMeanCycle (g : Transfer) (m l : ℕ) (cycle : List ℕ) (ps : List ℤ) : Type 0 where
   pub cycle_is : IsCycle g cycle
   pub short : length cycle ≤ g.states
@@ -41,12 +42,13 @@ pub record IsLeastMeanCycle (g : Transfer) (m l : ℕ) (cycle : List ℕ) (ps : 
   pub bounded : (v : ℕ) → v < g.states → unsigned_abs (potential_of ps v) ≤ most_number
   pub least : (states : List ℕ) → IsCycle g states → m * length states ≤ l * weight_of g states
 
--- ranks, and no cycle
+-- the ranks show that there is no cycle
 pub record IsAcyclic (g : Transfer) (ranks : List ℕ) : Type 0 where
   pub each : length ranks ≡ g.states
   pub ranks_fall : AreRanks g ranks
   pub none : (states : List ℕ) → IsCycle g states → ⊥
 
+-- what `least_mean` gives: a cycle of least mean with potentials, or ranks
 abbrev pub IsMeanOf : Transfer → Mean → Type 0
 IsMeanOf g (Least m l cycle ps) = IsLeastMeanCycle g m l cycle ps
 IsMeanOf g (NoCycle ranks) = IsAcyclic g ranks

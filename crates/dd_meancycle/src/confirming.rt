@@ -1,5 +1,5 @@
-//! The exact check of what a search found: a cycle and potentials, which show a graph's least mean, or ranks, which show
-//! that it has no cycle.
+//! The exact check of what a search found: a cycle and potentials, which show the least mean of a graph's cycles, or ranks,
+//! which show that there is no cycle.
 ghost use Rattle.std.specs.Prelude.{◌≡◌, ℕ, ◌*◌, ◌%◌, ◌<◌, ◌≤◌, ◌↔◌, IsTrue, IfSome, length, slice_index, pos, ◌-ℤ◌, ◌≤ℤ◌, unsigned_abs, nat_le, Some};
 ghost use Rattle.std.specs.List.{All, list_all};
 ghost use Rattle.dd_values.specs.Bounds.{most_number};
@@ -7,14 +7,14 @@ ghost use Rattle.dd_transfer.specs.Graphs.{next_of, IsTransfer};
 ghost use Rattle.dd_meancycle.specs.Means.{IsCycle, IsLeastMeanCycle, IsAcyclic, weight_of};
 ghost use Rattle.dd_transfer.specs.Certificates.{potential_of};
 ghost use Rattle.dd_meancycle.specs.table.Levels.{IsEdgeOf};
-ghost use Rattle.dd_meancycle.specs.table.Lists.{AreEdges, IsRisen, IsFallen};
+ghost use Rattle.dd_meancycle.specs.table.Lists.{AreEdges, ArePotentialsAlong, AreRanksAlong};
 
 use crate::edges::Edge;
 use crate::rises::{Ratio, reduced};
 use dd_transfer::Graph;
 use dd_values::MOST_NUMBER;
 
-/// Whether an edge leads from a state to another, by the other's last slice.
+/// Whether an edge leads from `from` to `to`. It can only be the edge by the last slice of `to`.
 fn leads(graph: &Graph, from: u32, to: u32) -> bool
     ensures value { IsTrue result ↔ (next_of graph.now from (to % graph.now.slices) ≡ Some to) }
     ensures kept { IsTransfer graph.now }
@@ -25,7 +25,7 @@ fn leads(graph: &Graph, from: u32, to: u32) -> bool
     }
 }
 
-/// What a cycle weighs; `None` where it isn't closed.
+/// The weight of the cycle through these states in this order, or `None` if it is not a cycle.
 fn cycle_weight(graph: &Graph, cycle: &[u32]) -> Option<u64>
     requires { length cycle.now ≤ 4096 }
     ensures { IfSome result (λ w. IsCycle graph.now cycle.now × (w ≡ weight_of graph.now cycle.now)) }
@@ -43,8 +43,8 @@ fn cycle_weight(graph: &Graph, cycle: &[u32]) -> Option<u64>
     Some(weight)
 }
 
-/// Whether a potential rises by at most `length * weight - mean_weight`.
-fn is_rise(from: i64, to: i64, length: u64, weight: u32, mean_weight: u64) -> bool
+/// Whether the rise between two potentials is at most `length * weight - mean_weight`.
+fn is_small_rise(from: i64, to: i64, length: u64, weight: u32, mean_weight: u64) -> bool
     ensures { IsTrue result ↔ ((to -ℤ from) ≤ℤ (pos (length * weight) -ℤ pos mean_weight)) }
 {
     let product = length as u128 * weight as u128;
@@ -56,29 +56,30 @@ fn is_rise(from: i64, to: i64, length: u64, weight: u32, mean_weight: u64) -> bo
     true
 }
 
-/// Whether the potential rises by at most that along an edge.
-fn is_risen(edge: &Edge, potentials: &[i64], mean: Ratio) -> bool
+/// Whether the potential rises along the edge by at most `mean.length * weight - mean.weight`, where `weight` is the edge's.
+fn is_potential_along(edge: &Edge, potentials: &[i64], mean: Ratio) -> bool
     requires { IsEdgeOf (length potentials.now) edge.now }
     ensures { IsTrue result → (potential_of potentials.now edge.now.to -ℤ potential_of potentials.now edge.now.from) ≤ℤ (pos (mean.length * edge.now.weight) -ℤ pos mean.weight) }
 {
     let from = potentials[edge.from as usize];
     let to = potentials[edge.to as usize];
-    is_rise(from, to, mean.length, edge.weight, mean.weight)
+    is_small_rise(from, to, mean.length, edge.weight, mean.weight)
 }
 
-/// Whether the potentials rise by at most that along each edge.
-fn are_risen(edges: &[Edge], potentials: &[i64], mean: Ratio) -> bool
+/// Whether the potential rises by at most that much along each edge of the list.
+fn are_potentials_along(edges: &[Edge], potentials: &[i64], mean: Ratio) -> bool
     requires { All (IsEdgeOf (length potentials.now)) edges.now }
-    ensures { IsTrue result → IsRisen mean.weight mean.length potentials.now edges.now }
+    ensures { IsTrue result → ArePotentialsAlong mean.weight mean.length potentials.now edges.now }
 {
     for edge in edges {
-        if !is_risen(edge, potentials, mean) {
+        if !is_potential_along(edge, potentials, mean) {
             return false;
         }
     }
     true
 }
 
+/// Whether an output can hold the potential.
 fn is_bounded(potential: &i64) -> bool
     ensures { result ≡ nat_le (unsigned_abs potential.now) most_number }
 {
@@ -92,7 +93,7 @@ fn are_bounded(potentials: &[i64]) -> bool
     potentials.iter().all(|potential| is_bounded(potential))
 }
 
-/// The mean of a cycle in lowest terms, if the cycle and the potentials show that it is the graph's least one.
+/// The mean of the cycle in lowest terms, if the cycle and the potentials show that no cycle has a smaller mean.
 pub(crate) fn confirmed(
     graph: &Graph,
     edges: &[Edge],
@@ -108,34 +109,35 @@ pub(crate) fn confirmed(
     let weight = cycle_weight(graph, cycle)?;
     let length = cycle.len() as u64;
     let mean = reduced(Ratio { weight, length });
-    if are_bounded(potentials) && are_risen(edges, potentials, mean) {
+    if are_bounded(potentials) && are_potentials_along(edges, potentials, mean) {
         Some(mean)
     } else {
         None
     }
 }
 
-/// Whether the rank falls along an edge.
-fn is_fallen(edge: &Edge, ranks: &[u32]) -> bool
+/// Whether the rank falls along the edge.
+fn is_rank_along(edge: &Edge, ranks: &[u32]) -> bool
     requires { IsEdgeOf (length ranks.now) edge.now }
     ensures { IsTrue result → slice_index ranks.now edge.now.to < slice_index ranks.now edge.now.from }
 {
     ranks[edge.to as usize] < ranks[edge.from as usize]
 }
 
-fn are_fallen(edges: &[Edge], ranks: &[u32]) -> bool
+/// Whether the rank falls along each edge.
+fn are_ranks_along(edges: &[Edge], ranks: &[u32]) -> bool
     requires { All (IsEdgeOf (length ranks.now)) edges.now }
-    ensures { IsTrue result → IsFallen ranks.now edges.now }
+    ensures { IsTrue result → AreRanksAlong ranks.now edges.now }
 {
     for edge in edges {
-        if !is_fallen(edge, ranks) {
+        if !is_rank_along(edge, ranks) {
             return false;
         }
     }
     true
 }
 
-/// Whether there is a rank for each state, and each falls along each edge.
+/// Whether there is a rank for each state, and the rank falls along each edge.
 pub(crate) fn are_ranks(graph: &Graph, edges: &[Edge], ranks: &[u32]) -> bool
     requires { AreEdges graph.now edges.now }
     ensures { IsTrue result → IsAcyclic graph.now ranks.now }
@@ -143,5 +145,5 @@ pub(crate) fn are_ranks(graph: &Graph, edges: &[Edge], ranks: &[u32]) -> bool
     if ranks.len() != graph.states() as usize {
         return false;
     }
-    are_fallen(edges, ranks)
+    are_ranks_along(edges, ranks)
 }

@@ -1,4 +1,4 @@
-//! The edges of a transfer graph as a list.
+//! The edges of a transfer graph as a list. A window is a state followed by a slice, and may be an edge.
 ghost use Rattle.std.specs.Prelude.{◌≡◌, ◌*◌, ◌<◌, ◌++◌, IfOk, OnOk};
 ghost use Rattle.std.specs.Option.{option_to_list};
 ghost use Rattle.dd_meancycle.specs.table.Lists.{edge_at, AreEdges};
@@ -7,6 +7,7 @@ ghost use Rattle.dd_transfer.specs.Graphs.{IsTransfer};
 use dd_transfer::Graph;
 use std::alloc::{AllocError, Global};
 
+/// An edge between two states, with the weight of its slice.
 #[derive(Clone, Copy, Debug, Default, PartialEq, Eq)]
 pub(crate) struct Edge {
     pub from: u32,
@@ -14,7 +15,7 @@ pub(crate) struct Edge {
     pub weight: u32,
 }
 
-/// The edge of the window of this number, where it is one.
+/// The window of this number as an edge, or `None` if it is not an edge.
 fn edge_at(graph: &Graph, number: u32) -> Option<Edge>
     requires { number < graph.now.states * graph.now.slices }
     ensures { result ≡ edge_at graph.now number }
@@ -27,6 +28,7 @@ fn edge_at(graph: &Graph, number: u32) -> Option<Edge>
     Some(Edge { from, to, weight })
 }
 
+/// Appends the edge, if there is one.
 fn push_some(edges: &mut Vec<Edge>, edge: Option<Edge>) -> Result<(), AllocError>
     ensures { OnOk result (edges.new.items ≡ edges.old.items ++ option_to_list edge) }
 {

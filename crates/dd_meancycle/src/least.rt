@@ -16,11 +16,13 @@ use dd_transfer::Graph;
 use dd_values::Items;
 use std::alloc::{AllocError, Global};
 
-/// What a graph has: a cycle of least mean, in lowest terms, with potentials; or ranks that fall along each edge.
+/// A cycle of least mean, with potentials that show that it is least; or ranks that fall along each edge, so that there is no
+/// cycle.
 #[derive(Debug, Drop)]
 pub enum Mean {
-    /// The cycle has at most as many states as the graph. There is a potential for each state, at most 2^40 in absolute
-    /// value: along an edge it rises by at most `denominator * weight - numerator`, with the edge's weight.
+    /// The mean is `numerator / denominator` in lowest terms. The cycle is given by its states, at most as many as the graph
+    /// has. Each state has a potential of at most 2^40 in absolute value. Along each edge the potential rises by at most
+    /// `denominator * weight - numerator`, where `weight` is that of the edge.
     Least {
         numerator: u64,
         denominator: u64,
@@ -33,12 +35,14 @@ pub enum Mean {
     },
 }
 
+/// The states to which the edges lead.
 fn targets(alloc: Global, cycle: &[Edge]) -> Result<Vec<u32>, AllocError>
     ensures { IfOk result (λ v. v.items ≡ map (λ e. e.to) cycle.now) }
 {
     cycle.iter().map(|e| e.to).collect(alloc)
 }
 
+/// The potentials as numbers with a sign.
 fn signed(alloc: Global, potentials: &[u64]) -> Result<Vec<i64>, AllocError>
     requires { All (λ p. p ≤ most_number) potentials.now }
     ensures { IfOk result (λ v. v.items ≡ map pos potentials.now) }
@@ -50,6 +54,7 @@ fn signed(alloc: Global, potentials: &[u64]) -> Result<Vec<i64>, AllocError>
     Ok(numbers)
 }
 
+/// The same mean, with the cycle given by its states, and potentials with a sign.
 fn in_states(alloc: Global, mean: EdgeMean) -> Result<Mean, AllocError>
     requires { IsSmallMean mean }
     ensures { IfOk result (λ m. IsInStates mean m) }
@@ -76,7 +81,10 @@ fn in_states(alloc: Global, mean: EdgeMean) -> Result<Mean, AllocError>
     }
 }
 
-/// A cycle of least mean with its potentials; or ranks, exactly where the graph has no cycle.
+/// A cycle of least mean with potentials; or ranks, exactly if the graph has no cycle.
+///
+/// # Errors
+/// `AllocError` if memory ran out.
 pub fn least_mean(alloc: Global, graph: &Graph) -> Result<Mean, AllocError>
     ensures { IfOk result (IsMeanOf graph.now) }
 {
@@ -87,7 +95,7 @@ pub fn least_mean(alloc: Global, graph: &Graph) -> Result<Mean, AllocError>
     }
 }
 
-/// What the search finds, where the exact check confirms it.
+/// The result of the searches, if the exact check confirms it.
 fn sought_mean(alloc: Global, graph: &Graph, edges: &[Edge]) -> Result<Option<Mean>, AllocError>
     requires { AreEdges graph.now edges.now }
     ensures { IfOk result (λ found. IfSome found (IsMeanOf graph.now)) }
@@ -101,7 +109,7 @@ fn sought_mean(alloc: Global, graph: &Graph, edges: &[Edge]) -> Result<Option<Me
     }
 }
 
-/// No cycle, where the exact check confirms the ranks.
+/// `NoCycle`, if the exact check confirms the ranks.
 fn confirmed_ranks(graph: &Graph, edges: &[Edge], ranks: Items<u32>) -> Option<Mean>
     requires { AreEdges graph.now edges.now }
     ensures { IfSome result (IsMeanOf graph.now) }
@@ -113,7 +121,7 @@ fn confirmed_ranks(graph: &Graph, edges: &[Edge], ranks: Items<u32>) -> Option<M
     }
 }
 
-/// A cycle and potentials, where the exact check confirms them.
+/// The cycle and the potentials, if the exact check confirms them.
 fn confirmed_mean(graph: &Graph, edges: &[Edge], found: Found) -> Option<Mean>
     requires { AreEdges graph.now edges.now }
     ensures { IfSome result (IsMeanOf graph.now) }
@@ -128,7 +136,7 @@ fn confirmed_mean(graph: &Graph, edges: &[Edge], found: Found) -> Option<Mean>
     })
 }
 
-/// The answer by the table of walks of all lengths.
+/// The mean by the table of least weights, which is slower and needs no check.
 fn mean_over(alloc: Global, graph: &Graph, edges: &[Edge]) -> Result<Mean, AllocError>
     requires edges { AreEdges graph.now edges.now }
     ensures { IfOk result (IsMeanOf graph.now) }

@@ -1,4 +1,4 @@
-//! The least weights of walks by their length: the table of Karp (1978), with walks from any state.
+//! The table of Karp (1978): the least weights of walks of each length. The walks start at any state.
 ghost use Rattle.std.specs.Prelude.{◌≡◌, ℕ, ◌+◌, ◌<◌, ◌^◌, length, IfOk, slice_index_or, replicate, vec_len, Some, None, []};
 ghost use Rattle.std.specs.List.{fold, All};
 ghost use Rattle.dd_meancycle.specs.table.Levels.{level, relaxed, lowered, IsRowUpTo, IsEdgeOf, AreRows, level_weight_at};
@@ -7,7 +7,7 @@ use crate::edges::Edge;
 use std::alloc::{AllocError, Global};
 use std::marker::Model;
 
-/// The least weight of a walk of one length to each state, `None` where there is none.
+/// A row of the table: for each state, the least weight of a walk of one length to it, or `None` if there is no walk.
 #[derive(Drop)]
 pub(crate) struct Level {
     least: Vec<Option<u32>>,
@@ -21,6 +21,7 @@ impl Model for Level {
     ghost view = { λ l. l.least.items };
 }
 
+/// The smaller of the best weight so far and the weight `here`.
 fn lower(best: Option<u32>, here: u32) -> u32
     ensures { Some result ≡ lowered best here }
 {
@@ -30,7 +31,8 @@ fn lower(best: Option<u32>, here: u32) -> u32
     }
 }
 
-/// Takes the edge into account.
+/// Relaxes the edge. The lightest walk of the previous level to the edge's source, followed by the edge, is a walk to the
+/// edge's target. Its weight replaces the target's entry in `row`, if there is none or it is greater.
 fn relax(previous: &[Option<u32>], row: &mut [Option<u32>], edge: &Edge)
     requires from { edge.now.from < length previous.now }
     requires to { edge.now.to < length row.old }
@@ -47,6 +49,7 @@ fn relax(previous: &[Option<u32>], row: &mut [Option<u32>], edge: &Edge)
     row[place] = Some(lower(best, here));
 }
 
+/// Relaxes each edge.
 fn relax_all(previous: &[Option<u32>], row: &mut [Option<u32>], edges: &[Edge])
     requires edges { All (IsEdgeOf (length previous.now)) edges.now }
     requires same { length row.old ≡ length previous.now }
@@ -58,6 +61,7 @@ fn relax_all(previous: &[Option<u32>], row: &mut [Option<u32>], edges: &[Edge])
     }
 }
 
+/// A row with the same entry for each state.
 fn filled(alloc: Global, states: usize, start: Option<u32>) -> Result<Vec<Option<u32>>, AllocError>
     ensures { IfOk result (λ r. r.items ≡ replicate states start) }
 {
@@ -65,12 +69,14 @@ fn filled(alloc: Global, states: usize, start: Option<u32>) -> Result<Vec<Option
 }
 
 impl Level {
+    /// The entries, one for each state.
     fn as_slice(&self) -> &[Option<u32>]
         ensures { result.now ≡ self.now }
     {
         self.least.as_slice()
     }
 
+    /// The level of walks without edges: the weight 0 for each state.
     fn start(alloc: Global, states: usize) -> Result<Level, AllocError>
         ensures { IfOk result (λ l. l ≡ replicate states (Some 0)) }
     {
@@ -78,6 +84,7 @@ impl Level {
         Ok(Level { least })
     }
 
+    /// The level of walks that are one edge longer.
     fn next(&self, alloc: Global, edges: &[Edge]) -> Result<Level, AllocError>
         requires edges { All (IsEdgeOf (length self.now)) edges.now }
         requires small { IsRowUpTo (2 ^ 31) self.now }
@@ -90,7 +97,7 @@ impl Level {
     }
 }
 
-/// The least weight of a walk of `k` edges to the state.
+/// The least weight of a walk of `k` edges to the state, or `None` if there is no such walk.
 pub(crate) fn weight_at(levels: &[Level], k: usize, state: u32) -> Option<u32>
     requires k { k < length levels.now }
     requires state { state < length (slice_index_or levels.now k []) }
@@ -100,7 +107,7 @@ pub(crate) fn weight_at(levels: &[Level], k: usize, state: u32) -> Option<u32>
     level[state as usize]
 }
 
-/// The levels of the lengths from 0 to the number of states.
+/// The levels for the lengths from 0 to the number of states.
 pub(crate) fn levels(alloc: Global, states: u32, edges: &[Edge]) -> Result<Vec<Level>, AllocError>
     requires edges { All (IsEdgeOf states) edges.now }
     ensures rows { IfOk result (λ ls. AreRows edges.now states ls.items) }
@@ -115,6 +122,7 @@ pub(crate) fn levels(alloc: Global, states: u32, edges: &[Edge]) -> Result<Vec<L
     Ok(levels)
 }
 
+/// The entries of the level for walks of `k` edges.
 pub(crate) fn row_of(levels: &[Level], k: usize) -> &[Option<u32>]
     requires { k < length levels.now }
     ensures { result.now ≡ slice_index_or levels.now k [] }

@@ -1,4 +1,5 @@
-//! The least mean of the cycles of a transfer graph, by a cycle and potentials; or ranks where there is no cycle.
+//! The least mean of the cycles of a transfer graph. A cycle is a closed walk, and its mean is its weight divided by its
+//! number of edges. A cycle and potentials show the least mean. If there is no cycle, ranks show this.
 #![tactic(auto, using(std::proofs::lemmas::Grind::common_steps))]
 
 mod confirming;
@@ -9,6 +10,6 @@ mod ordering;
 mod rises;
 mod seeking;
 mod table;
-mod turning;
+mod walk_cycle;
 
 pub use least::{Mean, least_mean};

@@ -1,5 +1,5 @@
-//! Ranks for a graph without a cycle, after A. B. Kahn (1962): its states are removed one by one, each once no edge leads
-//! to it any more. The result is checked afterwards, so no contract says what it is.
+//! Ranks for a graph without a cycle, after A. B. Kahn (1962): a state is removed, with its edges, once no edge leads to it
+//! any more. The result is checked afterwards, so no contract says what it is.
 
 use crate::edges::Edge;
 use dd_values::Items;
@@ -16,14 +16,14 @@ fn degrees(alloc: Global, states: u32, edges: &[Edge]) -> Result<Vec<u32>, Alloc
     Ok(degrees)
 }
 
-/// The edges from a state. The list is in the order of the states that its edges leave.
+/// The edges from a state. The list must be ascending in the states from which its edges lead.
 fn edges_from(edges: &[Edge], state: u32) -> &[Edge] {
     let start = edges.partition_point(|e| e.from < state);
     let end = edges.partition_point(|e| e.from <= state);
     edges.get(start..end).unwrap_or(&[])
 }
 
-/// Removes an edge. True if no edge to the same state is left.
+/// Counts an edge as removed. True if no edge to the same state is left.
 fn is_last_to(edge: &Edge, degrees: &mut [u32]) -> bool {
     let Some(degree) = degrees.get_mut(edge.to as usize) else {
         return false
@@ -32,7 +32,7 @@ fn is_last_to(edge: &Edge, degrees: &mut [u32]) -> bool {
     *degree == 0
 }
 
-/// Removes the edges of a state, and appends the states to which no edge leads any more.
+/// Counts the edges as removed, and appends the states to which no edge leads any more.
 fn take_off(edges: &[Edge], degrees: &mut [u32], order: &mut Vec<u32>) -> Result<(), AllocError> {
     for edge in edges {
         if is_last_to(edge, degrees) {
@@ -53,7 +53,7 @@ fn sources(alloc: Global, states: u32, degrees: &[u32]) -> Result<Vec<u32>, Allo
     Ok(order)
 }
 
-/// The states, each after all states with an edge to it. States on cycles and behind them are left out.
+/// The states, each after all states with an edge to it. States that can be reached from a cycle are left out.
 fn in_order(alloc: Global, states: u32, edges: &[Edge]) -> Result<Vec<u32>, AllocError> {
     let mut degrees = degrees(alloc, states, edges)?;
     let mut order = sources(alloc, states, degrees.as_slice())?;
@@ -66,7 +66,7 @@ fn in_order(alloc: Global, states: u32, edges: &[Edge]) -> Result<Vec<u32>, Allo
     Ok(order)
 }
 
-/// A rank for each state, which should fall along each edge; `None` if some states lie on cycles or behind them.
+/// A rank for each state, which should fall along each edge; or `None` if some state can be reached from a cycle.
 pub(crate) fn sought_ranks(
     alloc: Global,
     states: u32,

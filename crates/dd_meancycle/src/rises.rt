@@ -1,25 +1,26 @@
-//! Means of rises in the table of least weights, potentials and ranks. The least mean of a cycle is the least, over the states, of
-//! the greatest of these means (Karp 1978).
+//! What is read off the table of least weights: the least mean, potentials and ranks. A rise of a state goes from its entry in
+//! some level `k` below `last` to its entry in the level `last`. Its mean is the difference of the two, divided by
+//! `last - k`. Each state has a greatest mean of a rise. The least of these is the least mean of a cycle (Karp 1978).
 ghost use Rattle.std.specs.Prelude.{◌≡◌, ℕ, ◌-◌, ◌*◌, ◌<◌, ◌≤◌, ◌^◌, length, IfOk, slice_index_or, MatchOption, ⊤, Option, None};
 ghost use Rattle.std.specs.Int.{IsGcd};
 ghost use Rattle.dd_meancycle.specs.table.Levels.{level_weight_at};
-ghost use Rattle.dd_meancycle.specs.table.Rises.{Reads, IsSteepest, IsPotential, IsSteeper, IsLesser, IsGentler, LeastSoFar, IsHeight, IsRank, IsReduced};
+ghost use Rattle.dd_meancycle.specs.table.Rises.{IsTabulated, IsSteepest, IsPotential, IsSteeper, IsLesser, IsGentler, LeastSoFar, IsHeight, IsRank, IsReduced};
 
 use crate::levels::{Level, weight_at};
 use std::alloc::{AllocError, Global};
 
+/// A mean: a weight over a number of edges.
 #[derive(Clone, Copy, Debug, Default, PartialEq, Eq)]
 pub(crate) struct Ratio {
     pub weight: u64,
     pub length: u64,
 }
 
-/// The steepest rise to the state: over the lengths `k` below `last`, the greatest rise of the least weight from `k`
-/// edges to `last`, divided by `last - k`. `None` where no walk of `last` edges leads to the state.
+/// The greatest mean of a rise of the state, or `None` if no walk of `last` edges leads to the state.
 fn steepest(levels: &[Level], last: usize, state: u32) -> Option<Ratio>
     requires last { 0 < last }
     requires few { last < 2 ^ 31 }
-    requires reads { Reads levels.now last state }
+    requires tabulated { IsTabulated levels.now last state }
     ensures is { MatchOption result (level_weight_at levels.now last state ≡ None) (λ r. IsSteepest levels.now last state r.weight r.length) }
     ensures small { MatchOption result ⊤ (λ r. (r.weight < 2 ^ 32) × (r.length < 2 ^ 31)) }
 {
@@ -34,7 +35,7 @@ fn steepest(levels: &[Level], last: usize, state: u32) -> Option<Ratio>
     Some(best)
 }
 
-/// The greater mean of `best` and of the rise from `before` to `end` along `run` edges.
+/// The greater of two means: `best`, and that of the rise from `before` to `end` over `run` edges.
 fn steeper(best: Ratio, end: u32, before: Option<u32>, run: u64) -> Ratio
     requires run { run < 2 ^ 31 }
     requires weight { best.weight < 2 ^ 32 }
@@ -56,13 +57,14 @@ fn steeper(best: Ratio, end: u32, before: Option<u32>, run: u64) -> Ratio
     }
 }
 
-/// The least of `length * weight + mean * rest` over the walks to the state.
+/// The potential of the state: the least of `mean.length * weight + mean.weight * (last - k)`, where `weight` is its entry in
+/// a level `k` below `last`.
 fn potential(levels: &[Level], last: usize, state: u32, mean: Ratio) -> u64
     requires last { 0 < last }
     requires few { last < 2 ^ 31 }
     requires mean_weight { mean.weight < 2 ^ 32 }
     requires mean_length { mean.length < 2 ^ 31 }
-    requires reads { Reads levels.now last state }
+    requires tabulated { IsTabulated levels.now last state }
     ensures { IsPotential levels.now last state mean.weight mean.length result }
 {
     let mut best = mean.weight * last as u64;
@@ -72,6 +74,7 @@ fn potential(levels: &[Level], last: usize, state: u32, mean: Ratio) -> u64
     best
 }
 
+/// The smaller of `best` and `mean.length * before + mean.weight * run`. The entry `before` is `run` levels below the last.
 fn lesser(best: u64, before: Option<u32>, mean: Ratio, run: u64) -> u64
     requires run { run < 2 ^ 31 }
     requires weight { mean.weight < 2 ^ 32 }
@@ -82,13 +85,14 @@ fn lesser(best: u64, before: Option<u32>, mean: Ratio, run: u64) -> u64
     best.min(mean.length * before as u64 + mean.weight * run)
 }
 
-/// The state whose steepest rise is least.
+/// A state, and the greatest mean of its rises.
 #[derive(Clone, Copy, Debug, Default, PartialEq, Eq)]
 pub(crate) struct Steep {
     pub state: u32,
     pub mean: Ratio,
 }
 
+/// Of `best` and the state `state`, the one with the smaller greatest mean of a rise. That of `state` is `here`.
 fn gentler(best: Option<Steep>, state: u32, here: Option<Ratio>) -> Option<Steep>
     requires best { MatchOption best ⊤ (λ b. (b.mean.weight < 2 ^ 32) × (b.mean.length < 2 ^ 31)) }
     requires here { MatchOption here ⊤ (λ h. (h.weight < 2 ^ 32) × (h.length < 2 ^ 31)) }
@@ -105,10 +109,11 @@ fn gentler(best: Option<Steep>, state: u32, here: Option<Ratio>) -> Option<Steep
     }
 }
 
+/// The state whose greatest mean of a rise is the smallest, or `None` if no walk has `last` edges.
 pub(crate) fn gentlest(levels: &[Level], last: usize, states: u32) -> Option<Steep>
     requires last { 0 < last }
     requires few { last < 2 ^ 31 }
-    requires reads { (v : ℕ) → v < states → Reads levels.now last v }
+    requires tabulated { (v : ℕ) → v < states → IsTabulated levels.now last v }
     ensures { LeastSoFar levels.now last states result }
 {
     let mut best: Option<Steep> = None;
@@ -118,6 +123,7 @@ pub(crate) fn gentlest(levels: &[Level], last: usize, states: u32) -> Option<Ste
     best
 }
 
+/// The greatest common divisor, by Euclid's algorithm.
 fn gcd(a: u64, b: u64) -> u64
     ensures { IsGcd a b result }
 {
@@ -131,6 +137,7 @@ fn gcd(a: u64, b: u64) -> u64
     x
 }
 
+/// The mean in lowest terms.
 pub(crate) fn reduced(mean: Ratio) -> Ratio
     requires { 0 < mean.length }
     ensures { IsReduced mean result }
@@ -145,6 +152,7 @@ pub(crate) fn reduced(mean: Ratio) -> Ratio
     }
 }
 
+/// The potential of each state.
 pub(crate) fn potentials(
     alloc: Global,
     levels: &[Level],
@@ -156,7 +164,7 @@ pub(crate) fn potentials(
     requires few { last < 2 ^ 31 }
     requires mean_weight { mean.weight < 2 ^ 32 }
     requires mean_length { mean.length < 2 ^ 31 }
-    requires reads { (v : ℕ) → v < states → Reads levels.now last v }
+    requires tabulated { (v : ℕ) → v < states → IsTabulated levels.now last v }
     ensures len { IfOk result (λ ps. length ps.items ≡ states) }
     ensures each { IfOk result (λ ps. (v : ℕ) → v < states → IsPotential levels.now last v mean.weight mean.length (slice_index_or ps.items v 0)) }
 {
@@ -167,9 +175,10 @@ pub(crate) fn potentials(
     Ok(potentials)
 }
 
+/// The height of the state: the greatest number of edges below `last` that a walk to it has.
 fn height(levels: &[Level], last: usize, state: u32) -> usize
     requires last { 0 < last }
-    requires reads { Reads levels.now last state }
+    requires tabulated { IsTabulated levels.now last state }
     ensures { IsHeight levels.now last state result }
 {
     let mut height = 0;
@@ -181,6 +190,7 @@ fn height(levels: &[Level], last: usize, state: u32) -> usize
     height
 }
 
+/// A rank for each state: `last` less the state's height.
 pub(crate) fn ranks(
     alloc: Global,
     levels: &[Level],
@@ -189,7 +199,7 @@ pub(crate) fn ranks(
 ) -> Result<Vec<u32>, AllocError>
     requires last { 0 < last }
     requires few { last < 2 ^ 31 }
-    requires reads { (v : ℕ) → v < states → Reads levels.now last v }
+    requires tabulated { (v : ℕ) → v < states → IsTabulated levels.now last v }
     ensures len { IfOk result (λ ps. length ps.items ≡ states) }
     ensures each { IfOk result (λ ps. (v : ℕ) → v < states → IsRank levels.now last v (slice_index_or ps.items v 0)) }
 {

@@ -1,6 +1,6 @@
-//! The search for a cycle of least mean and potentials (after E. Lawler, 1976). Potentials are lowered along the edges,
-//! with the mean of the last cycle found. If they don't come to rest, there is a cycle with a smaller mean, which is the
-//! next one. The result is checked afterwards, so no contract says what it is.
+//! The search for a cycle of least mean and for potentials (after E. Lawler, 1976). With the mean of the last cycle found,
+//! potentials are lowered along the edges until none can be lowered. If that does not end, there is a cycle with a smaller
+//! mean, and the search goes on with that cycle. The result is checked afterwards, so no contract says what it is.
 
 use crate::edges::Edge;
 use crate::rises::{Ratio, reduced};
@@ -14,23 +14,24 @@ pub(crate) struct Found {
     pub potentials: Items<i64>,
 }
 
-/// The greatest number of rounds of relaxation before the search gives up.
+/// How many rounds over all edges the search makes before it gives up.
 const MOST_ROUNDS: u32 = 4096;
 
-/// The mean with which potentials are lowered: the weight over the number of edges.
+/// The mean with which potentials are lowered: a weight over a number of edges.
 #[derive(Clone, Copy)]
 struct Slope {
     weight: i64,
     length: i64,
 }
 
-/// Steeper than each edge, so that the first cycle is found at once.
+/// A mean that is greater than each edge's weight, so that the first cycle is found at once.
 const STEEPEST: Slope = Slope {
     weight: 1 << 40,
     length: 1,
 };
 
-/// Lowers potentials along the edges, and marks the last edge by which each was lowered. True if one was.
+/// Lowers potentials along the edges, and marks for each state the last edge by which its potential was lowered. True if some
+/// potential was lowered.
 fn lower_all(
     edges: &[Edge],
     slope: Slope,
@@ -44,6 +45,7 @@ fn lower_all(
     lowered
 }
 
+/// Lowers the potential of the edge's target, if it rises too much along the edge. True if it was lowered.
 fn lower_along(
     edge: &Edge,
     slope: Slope,
@@ -68,7 +70,7 @@ fn lower_along(
     true
 }
 
-/// The edge by which a state was lowered.
+/// The marked edge to a state.
 fn parent(parents: &[Option<Edge>], state: u32) -> Option<Edge> {
     let place = state as usize;
     if place < parents.len() {
@@ -78,7 +80,7 @@ fn parent(parents: &[Option<Edge>], state: u32) -> Option<Edge> {
     }
 }
 
-/// A state of a cycle of marked edges.
+/// A state on a cycle of marked edges, if there is one. `seen` holds the number of the walk that passed each state.
 fn state_on_cycle(alloc: Global, parents: &[Option<Edge>]) -> Result<Option<u32>, AllocError> {
     let mut seen = vec![in alloc; 0u32; parents.len()]?;
     let mut mark = 0;
@@ -96,8 +98,8 @@ fn state_on_cycle(alloc: Global, parents: &[Option<Edge>]) -> Result<Option<u32>
     Ok(None)
 }
 
-/// Goes back along marked edges from a state until it meets this walk again. `None` if it comes to a state without a
-/// marked edge, or to one that an earlier walk has passed.
+/// Walks back along marked edges from a state until it comes to a state that this walk, of the number `mark`, has passed.
+/// `None` if it comes to a state without a marked edge, or to one that an earlier walk has passed.
 fn follow(parents: &[Option<Edge>], seen: &mut [u32], state: u32, mark: u32) -> Option<u32> {
     let mut at = state;
     for _ in 0..parents.len() + 1 {
@@ -142,7 +144,7 @@ fn cycle_through(
     Ok((states, slope_of(weight, length)))
 }
 
-/// The mean in lowest terms, as the check of the potentials takes it.
+/// The mean `weight / length` in lowest terms, as the exact check uses it. `STEEPEST` if the length is 0.
 fn slope_of(weight: u64, length: u64) -> Slope {
     if length == 0 {
         return STEEPEST;
@@ -154,17 +156,18 @@ fn slope_of(weight: u64, length: u64) -> Slope {
     }
 }
 
-/// A number as a signed one; a cycle's weight and length are far below the greatest.
+/// The number as one with a sign. The weight and the length of a cycle always fit.
 fn signed(number: u64) -> i64 {
     i64::try_from(number).unwrap_or(i64::MAX)
 }
 
+/// The states in the opposite order.
 fn reversed(alloc: Global, states: &[u32]) -> Result<Items<u32>, AllocError> {
     let states: Vec<u32> = states.iter().rev().copied().collect(alloc)?;
     Ok(Items::from_vec(states))
 }
 
-/// A cycle and potentials that may show the least mean.
+/// A cycle and potentials that should show the least mean. If the search gave up, they need not.
 pub(crate) fn sought(alloc: Global, states: u32, edges: &[Edge]) -> Result<Found, AllocError> {
     let count = states as usize;
     let mut potentials = vec![in alloc; 0i64; count]?;

@@ -1,4 +1,4 @@
-//! The least mean by the table of least weights of walks by their length (Karp 1978).
+//! The least mean, from a table of the least weights of walks of each length (Karp 1978).
 ghost use Rattle.std.specs.Prelude.{◌≡◌, ◌+◌, ◌<◌, ◌^◌, length, IfOk};
 ghost use Rattle.std.specs.List.{All};
 ghost use Rattle.dd_meancycle.specs.table.Levels.{IsEdgeOf, AreRows};
@@ -7,10 +7,10 @@ ghost use Rattle.dd_meancycle.specs.table.LeastMean.{IsMean};
 use crate::edges::Edge;
 use crate::levels::{Level, levels};
 use crate::rises::{gentlest, potentials, ranks, reduced};
-use crate::turning::turn;
+use crate::walk_cycle::cycle_on_walk;
 use std::alloc::{AllocError, Global};
 
-/// What a graph has: a cycle of least mean with its potentials, or ranks that fall along each edge.
+/// A cycle of least mean, by its edges, with potentials; or ranks that fall along each edge, so that there is no cycle.
 #[derive(Drop)]
 pub(crate) enum EdgeMean {
     Least {
@@ -24,7 +24,7 @@ pub(crate) enum EdgeMean {
     },
 }
 
-/// A cycle of least mean, or ranks where the graph has no cycle.
+/// A cycle of least mean, or ranks if the graph has no cycle.
 pub(crate) fn table_mean(alloc: Global, states: u32, edges: &[Edge]) -> Result<EdgeMean, AllocError>
     requires some { 0 < states }
     requires few { states < 2 ^ 31 }
@@ -35,7 +35,7 @@ pub(crate) fn table_mean(alloc: Global, states: u32, edges: &[Edge]) -> Result<E
     mean_of(alloc, states, edges, levels.as_slice())
 }
 
-/// The answer from the table of least weights.
+/// A cycle of least mean, or ranks, from the levels of the table. A level is a row of the table.
 fn mean_of(
     alloc: Global,
     states: u32,
@@ -55,7 +55,7 @@ fn mean_of(
         return Ok(EdgeMean::NoCycle { ranks });
     };
     let mean = reduced(steep.mean);
-    let cycle = turn(alloc, edges, levels, last, steep.state)?;
+    let cycle = cycle_on_walk(alloc, edges, levels, last, steep.state)?;
     let potentials = potentials(alloc, levels, last, states, mean)?;
     Ok(EdgeMean::Least {
         numerator: mean.weight,

@@ -1,4 +1,4 @@
--- Configurations without faults.
+-- A configuration without faults has a symbol for each cell of its box, and each symbol is allowed.
 use Rattle.std.proofs.Common.{◌≡◌, ◌<◌, ◌≤◌, ℕ, zero, suc, ◌+◌, ◌*◌, ◌%◌, true, List, [], ◌∷◌, length, map, Option, Some, None, refl, ap, ◌∙◌, arith, slice_index}
 use Rattle.std.proofs.lemmas.{Grind.common_steps, List.Elements.All-from_get_or}
 use Rattle.dd_topology.specs.Sets.{allows}
@@ -12,7 +12,7 @@ use Rattle.dd_meanings.proofs.{Nothing.parts, NameLaws.is_new}
 
 -- ---- symbols
 
--- a name that is allowed names a symbol that the node allows
+-- the symbol t is in the alphabet, and the node a allows it
 record IsAllowedAt (x : Context) (a : ℕ) (t : ℕ) : Type 0 where
   below : t < length x.known.setting.symbols
   allowed : allows x.known.setting.sets a t ≡ true

@@ -1,4 +1,4 @@
--- Edges, with indices in place of names: they are edges of a topology, and no two from one node have the same label.
+-- Edges without faults, with numbers in place of names, are edges of a topology. No two that leave one node have the same label.
 use Rattle.std.proofs.Common.{◌≡◌, ℕ, ◌<◌, true, List, [], ◌∷◌, ◌++◌, length, map, take, slice_index_or, Some, Contains, sym, ap, ◌∙◌, subst, arith, if◌then◌else◌, bytes_eq, is_some}
 use Rattle.std.proofs.lemmas.{Grind.common_steps, Bool.Decides.nat_tests, List.length-map, List.take-map}
 use Rattle.std.proofs.lemmas.List.{Folds.list_all-map, Sums.list_all-from_AllPass}
@@ -20,7 +20,7 @@ use Rattle.dd_meanings.proofs.{Nothing.parts, Nothing.none_at, NameLaws.is_found
 
 -- ---- labels in order of first occurrence
 
--- a name that was seen, or comes later, is in the list
+-- a name that was seen, or comes later, is in the list of names in order of first occurrence
 seen_all : (seen ns : List (List ℕ)) (m : List ℕ) → (list_any (bytes_eq m) seen || list_any (bytes_eq m) ns) ≡ true → list_any (bytes_eq m) (first_seen_names seen ns) ≡ true
 seen_all seen [] m h = grind (arith, common_steps)
 seen_all seen (n ∷ ns) m h = grind (arith, common_steps, nat_tests, bytes_eq-Decides, seen_all (if list_any (bytes_eq n) seen then seen else seen ++ n ∷ []) ns m)

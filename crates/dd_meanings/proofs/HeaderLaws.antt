@@ -1,4 +1,4 @@
--- What holds of commands of the header without faults.
+-- What holds of the meanings of commands of the header, if they have no fault.
 use Rattle.std.proofs.Common.{◌≡◌, ℕ, ◌≤◌, ◌<◌, List, [], ◌∷◌, length, map, refl, subst, arith, min}
 use Rattle.std.specs.List.{flat_map}
 use Rattle.std.proofs.lemmas.{Grind.common_steps, List.Elements.All-map}
@@ -16,7 +16,7 @@ use Rattle.dd_meanings.proofs.Nothing.{parts}
 pub dimension_is : (x : Context) (n : Number) (d : ℕ) → faults_of x (Command.Dimension n) ≡ [] → d ≡ min (written_value x.text n) 4294967295 → d ≡ written_value x.text n
 dimension_is x n d h is = grind (arith, common_steps)
 
--- the default topology has as many nodes as it should
+-- the default topology has as many nodes as were asked for
 pub default_sound : (d n : ℕ) (g : Grid) → IsGrid g → g ≡ default_grid d n → IsGridOf n (default_grid d n)
 default_sound d n g sound is = record { grid = subst IsGrid is sound; nodes = grind (arith, parts) }
 

@@ -15,7 +15,7 @@ formula_chain x j fs scope =
     ap (λ f. formula_of x f scope) (sym (v.rolls-Chain j fs))
     ∙ (ap (λ (h : List Word → Formula). h scope) (fold-roll-Formula (List Word → Formula) (formula_step x) (Written-F.Chain j fs)) ∙ ap (joined_of j) (map-map (λ (h : List Word → Formula). h scope) (formula_of x) fs))
 
--- the last two parts may be joined first
+-- the last two parts of a chain of `->` may be joined first
 pub implied_last : (fs : List Formula) (f g : Formula) → implied_of (fs ++ f ∷ [] ++ g ∷ []) ≡ implied_of (fs ++ meant.Implies f g ∷ [])
 implied_last [] f g = meant.rolls-Implies f g
 implied_last (h ∷ []) f g = ap (λ (whole : Formula). roll-Formula (Formula-F.Implies h whole)) (meant.rolls-Implies f g)
@@ -28,7 +28,7 @@ depth_chain j fs = ap tree_depth (sym (v.rolls-Chain j fs)) ∙ fold-roll-Formul
 pub depth_quantified : (q : Quantifier) (w : Word) (balls : List Ball) (f : Written) → tree_depth (v.Quantified q w balls f) ≡ 1 + tree_depth f
 depth_quantified q w balls f = ap tree_depth (sym (v.rolls-Quantified q w balls f)) ∙ fold-roll-Formula ℕ tree_depth_step (Written-F.Quantified q w balls f)
 
--- the parts of a chain from one on: the first is within its allowed depth, and so are those after it
+-- If the parts of a chain from part i on are within depth 64, below k levels, then so is part i alone, and so are those after it.
 pub depth_from : (j : Join) (n i k : ℕ) (fs : List Written) (f : Written) → i < length fs → f ≡ slice_index_or fs i f → k + chain_depth j n i (map tree_depth (drop i fs)) ≤ 64
     → (k + tree_depth f ≤ 64) × (k + chain_depth j n (i + 1) (map tree_depth (drop (i + 1) fs)) ≤ 64)
 depth_from j n i k fs f lt at le = grind (arith, parts)

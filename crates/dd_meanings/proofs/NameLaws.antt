@@ -1,4 +1,4 @@
--- Names and their indices, and names that do not repeat.
+-- Names and their numbers, and names that do not repeat.
 use Rattle.std.proofs.Common.{◌≡◌, ℕ, ◌<◌, ◌+◌, true, false, List, [], ◌∷◌, length, Some, Contains, refl, sym, ◌∙◌, arith, true≢false, bytes_eq, unwrap_or, is_some}
 use Rattle.std.proofs.lemmas.{Bool.Decides.nat_tests, Grind.common_steps}
 use Rattle.std.specs.List.{list_any}
@@ -7,12 +7,12 @@ use Rattle.dd_written.specs.Values.{word_text}
 use Rattle.dd_topology.specs.{Naming.number_of, lemmas.NamingLaws.slice_get-number_of}
 use Rattle.dd_faults.specs.{Names.unknown_variable, Names.named_again, lemmas.Repeats.among}
 
--- a name has an index exactly if it is in the list
+-- a name has a number exactly if it is in the list
 pub is_found : (names : List (List ℕ)) (text : List ℕ) → is_some (number_of names text) ≡ list_any (bytes_eq text) names
 is_found [] text = refl
 is_found (n ∷ names) text = let others = is_found names text in grind (arith, common_steps, nat_tests)
 
--- names with the same index are the same
+-- names with the same number are the same
 pub same_name : (names : List (List ℕ)) (a b : List ℕ) → is_some (number_of names a) ≡ true → is_some (number_of names b) ≡ true → unwrap_or (number_of names a) 0 ≡ unwrap_or (number_of names b) 0 → a ≡ b
 same_name names a b there there' same =
     let one = slice_get-number_of names a (unwrap_or (number_of names a) 0) (grind (arith, common_steps)) in
@@ -23,7 +23,7 @@ same_name names a b there there' same =
 pub variable_below : (bytes : List ℕ) (scope : List Word) (w : Word) → unknown_variable bytes scope w ≡ [] → variable_number bytes scope w < length scope + 1
 variable_below bytes scope w none = grind (arith, common_steps)
 
--- a name without an index is not in the list
+-- a name without a number is not in the list
 absent : (names : List (List ℕ)) (text : List ℕ) → is_some (number_of names text) ≡ false → ¬ Contains names text
 absent names text h there = true≢false (sym (is_found names text ∙ among names text there) ∙ h)
 

@@ -1,4 +1,4 @@
--- If there is no fault, no part has one.
+-- If a list of faults is empty, so is each part of it.
 use Rattle.std.proofs.Common.{◌≡◌, ℕ, ◌+◌, ◌<◌, List, [], length, drop, slice_index_or, arith}
 use Rattle.std.specs.List.{flat_map}
 use Rattle.std.proofs.lemmas.{Bool.Decides.nat_tests, List.length-map}

@@ -1,4 +1,4 @@
--- A written formula without a fault means a formula whose indices are in range and that is no deeper.
+-- A written formula without a fault means a formula that is no deeper, and whose numbers are in range.
 use Rattle.std.proofs.Common.{◌≡◌, ◌≤◌, ℕ, ◌+◌, ◌-◌, Bool, true, List, [], ◌∷◌, ◌++◌, length, map, refl, sym, ap, ◌∙◌, subst, inl, inr, arith, nat_lt, max}
 use Rattle.std.specs.List.{list_all, flat_map}
 use Rattle.std.proofs.lemmas.{Bool.and_from, Bool.lt-ltb, Bool.cases_Bool, List.length-map, List.length-append, List.Folds.list_all-map}
@@ -22,14 +22,14 @@ all_without : {X Y F : Type 0} (p : Y → Bool) (h : X → Y) (g : X → List F)
 all_without p h g each xs none = list_all-map p h xs ∙ list_all-from_AllPass (λ x. p (h x)) xs (all_where (λ x. p (h x) ≡ true) g each xs none)
 
 module _ (x : Context) (same : x.known.setting.topology.nodes ≡ length x.known.setting.nodes) (alphabet : x.known.setting.sets.symbols ≡ length x.known.setting.symbols) where
-  -- with this many variables in scope
+  -- the formula's numbers are in range, with this many variables in scope
   abbrev its_fits : Formula → ℕ → Bool
   its_fits = formula_fits x.known.setting.topology x.known.setting.sets.symbols
 
   abbrev symbol : ℕ → Bool
   symbol n = nat_lt n x.known.setting.sets.symbols
 
-  -- its indices are in range, with k variables in scope, and it is at most d deep
+  -- the formula's numbers are in range, with k variables in scope, and it is at most d deep
   abbrev Fine : Formula → ℕ → ℕ → Type 0
   Fine f k d = (its_fits f k ≡ true) × (depth f ≤ d)
 
@@ -54,7 +54,7 @@ module _ (x : Context) (same : x.known.setting.topology.nodes ≡ length x.known
     abbrev TermFits : Term → Type 0
     TermFits t = term_fits x.known.setting.topology (length scope + 1) t ≡ true
 
-    -- the right side: a symbol or a term
+    -- the right side is in range, be it a symbol or a term
     abbrev SideFits : Operand → Type 0
     SideFits (Operand.Symbol n) = symbol n ≡ true
     SideFits (Operand.Term u) = TermFits u
@@ -95,7 +95,7 @@ module _ (x : Context) (same : x.known.setting.topology.nodes ≡ length x.known
     quantified_is Quantifier.All bs f d fit body = rolled (Formula-F.ForAll bs f) (length scope + 1) (1 + d) (and_from _ _ fit body.0) (omega (arith, body.1))
     quantified_is Quantifier.Exists bs f d fit body = rolled (Formula-F.Exists bs f) (length scope + 1) (1 + d) (and_from _ _ fit body.0) (omega (arith, body.1))
 
-  -- in each scope
+  -- in each scope in which the written formula has no fault, its meaning has its numbers in range and is no deeper than itself
   abbrev IsFine : Written → Type 0
   IsFine f = (scope : List Word) → formula_faults x f scope ≡ [] → Fine (formula_of x f scope) (length scope + 1) (written_depth f)
 
@@ -117,7 +117,7 @@ module _ (x : Context) (same : x.known.setting.topology.nodes ≡ length x.known
     abbrev faults : List Known → List Fault
     faults fs = flat_map (λ (f : List Word → List Fault). f scope) (map (formula_faults x) (map (λ f. f.0) fs))
 
-    -- one sign stands above each part
+    -- chains of `&` or `|`, in which one sign stands above each part
     list_is : (j : Join) → ((n i : ℕ) → signs_over j n i ≡ 1) → (n i : ℕ) (fs : List Known) → faults fs ≡ []
         → (list_all (λ (f : ℕ → Bool). f (length scope + 1)) (map its_fits (meant fs)) ≡ true) × (1 + greatest (map depth (meant fs)) ≤ max 1 (chain_depth j n i (depths fs)))
     list_is j one n i [] none = (refl, omega arith)
@@ -131,7 +131,7 @@ module _ (x : Context) (same : x.known.setting.topology.nodes ≡ length x.known
     list_no_deeper j n [] le one = omega arith
     list_no_deeper j n (f ∷ fs) le one = grind (arith, le, one n 0)
 
-    -- the parts from part i of n on, below the i signs before them
+    -- chains of `->`: the parts from part i of n on, which stand below the i signs before them
     implied_is : (n i : ℕ) (f : Known) (fs : List Known) → n ≡ i + (1 + length fs) → faults (f ∷ fs) ≡ []
         → (its_fits (implied_of (meant (f ∷ fs))) (length scope + 1) ≡ true) × (i + depth (implied_of (meant (f ∷ fs))) ≤ chain_depth Join.Implies n i (depths (f ∷ fs)))
     implied_is n i f [] count none =
@@ -145,7 +145,7 @@ module _ (x : Context) (same : x.known.setting.topology.nodes ≡ length x.known
         let made = rolled (Formula-F.Implies (formula_of x f.0 scope) whole) (length scope + 1) (1 + max (depth (formula_of x f.0 scope)) (depth whole)) (and_from _ _ first.0 others.0) (omega arith) in
         (made.0, omega (arith, made.1, first.1, others.1, count))
 
-    -- the meaning of the first i of n parts, joined with the parts after them
+    -- chains of `<->`: `left` is what the first i of n parts mean, and the parts after them are joined to it
     iff_is : (n i : ℕ) (left : Formula) (d : ℕ) (fs : List Known) → 1 ≤ i → n ≡ i + length fs → Fine left (length scope + 1) d → faults fs ≡ []
         → Fine (iff_behind left (meant fs)) (length scope + 1) (max (d + (n - i)) (chain_depth Join.Iff n i (depths fs)))
     iff_is n i left d [] some count fine none = (fine.0, omega (arith, fine.1))

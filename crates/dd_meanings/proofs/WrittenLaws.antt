@@ -1,4 +1,4 @@
--- What holds of a written command.
+-- The body of a command that was read, and the depth of its cases.
 use Rattle.std.proofs.Common.{◌≡◌, ℕ, ◌≤◌, List, [], ◌∷◌, subst}
 use Rattle.std.proofs.lemmas.List.Elements.{All-nil, All-cons}
 use Rattle.std.specs.List.{All}
@@ -6,7 +6,7 @@ use Rattle.dd_meanings.specs.Tree.{Lexeme, Case, Command, Written}
 use Rattle.dd_written.specs.{Formulas.tree_depth, reading.Readers.ReadsAll}
 use Rattle.dd_commands.specs.{Commands.IsCase, Commands.IsBody, Scripts.IsWritten}
 
--- what holds of its parts
+-- the tokens of its body
 pub body : (bytes : List ℕ) (w : Written) (c : Command) → w.command ≡ c → IsWritten bytes w → (tokens : List Lexeme) × IsBody bytes c tokens
 body bytes w c is h = (h.is.0, subst (λ (d : Command). IsBody bytes d h.is.0) is h.is.2)
 

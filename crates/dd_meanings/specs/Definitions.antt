@@ -1,4 +1,4 @@
--- What commands define, and the limits on its size.
+-- What definitions mean, and the limits that counts exceed.
 use Rattle.std.specs.Prelude.{ℕ, List, [], ◌∷◌, ◌++◌, map, not, Option, unwrap_or}
 use Rattle.std.specs.List.{slice_get}
 use Rattle.dd_pattern.specs.{Periods.periods_of as with_shear, Tile.Tile, Tile.tile}
@@ -31,7 +31,7 @@ automaton_of x cases symbol = by_cases x.known.setting.topology x.known.setting.
 abbrev pub automaton_named : Context → List Automaton → Word → Automaton
 automaton_named x automata w = unwrap_or (slice_get automata (number_in x.text x.known.automata (Name.Word w))) (automaton.Given (record { cases = []; otherwise = 0 }))
 
--- applies the second automaton, then the first
+-- the automaton that applies `inner`, then `outer`
 abbrev pub composition_of : Context → List Automaton → Word → Word → Automaton
 composition_of x automata outer inner = automaton.Composed (automaton_named x automata outer) (automaton_named x automata inner)
 
@@ -39,18 +39,18 @@ composition_of x automata outer inner = automaton.Composed (automaton_named x au
 abbrev pub configuration_periods : List ℕ → Vector → List ℕ
 configuration_periods bytes v = period_at bytes v 0 ∷ period_at bytes v 1 ∷ period_at bytes v 2 ∷ []
 
--- the symbols are in cell order; if no shear is given, it is 0
+-- a configuration, with its symbols in cell order; if no shear is given, it is 0
 abbrev pub tile_of : Context → Vector → Option Vector → List Name → Tile
 tile_of x periods shear symbols =
     tile (dimension_of x.known) (with_shear (configuration_periods x.text periods) (shear_of x.text shear)) x.known.setting.topology.nodes (map (symbol_of x) symbols)
 
--- ---- its size
+-- ---- counts
 
 -- the counts of a rule
 abbrev pub rule_counts : LocalRule → Counted
 rule_counts r = record { reads = reads_at r; instances = λ a. instances (expansion_at r a); depth = 0 }
 
--- instances first, then reach, then depth
+-- the limits that these counts exceed, in the order in which they are tested: instances, reach, depth
 abbrev pub count_faults : ℕ → Counted → List Fault
 count_faults nodes f = over (not (is_few nodes f)) Limit.Instances ++ (over (not (is_short nodes f)) Limit.Reach ++ over (not (is_shallow f)) Limit.Depth)
 

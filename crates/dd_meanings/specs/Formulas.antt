@@ -1,4 +1,4 @@
--- Formulas, with indices in place of names.
+-- Formulas, with numbers in place of names. A scope is the list of the bound variables, the outermost first.
 use Rattle.std.specs.Prelude.{ℕ, List, [], ◌∷◌, ◌++◌, map, unwrap_or, if◌then◌else◌}
 use Rattle.dd_meanings.specs.Tree.{Word, Name, Term as WrittenTerm, Comparand, Relation, Atom, Ball, Quantifier, Join, Formula as Written, Formula-F as Written-F, fold-Formula, Context}
 use Rattle.dd_written.specs.Values.{written_value}
@@ -8,7 +8,7 @@ use Rattle.dd_expansion.specs.declared.formulas.Formula.TheOpen.{Formula-F}
 use Rattle.dd_faults.specs.{Names.number_in, Names.variable_of, Formulas.names_symbol}
 use Rattle.dd_meanings.specs.declared.atoms.Operand.{Operand}
 
--- the number of a word that is a variable
+-- the number of a variable; 0 if the word is no variable
 abbrev pub variable_number : List ℕ → List Word → Word → ℕ
 variable_number bytes scope w = unwrap_or (variable_of bytes scope w) 0
 
@@ -18,7 +18,7 @@ label_of x w = number_in x.text x.known.setting.topology.labels (Name.Word w)
 abbrev pub term_of : Context → List Word → WrittenTerm → Term
 term_of x scope t = record { variable = variable_number x.text scope t.first; moves = map (label_of x) t.moves }
 
--- the right side of `=` and `!=`: a symbol or a term
+-- the right side of `=` or `!=`: a symbol or a term
 abbrev pub side_of : Context → List Word → Comparand → Operand
 side_of x scope (Comparand.Number n) = Operand.Symbol (number_in x.text x.known.setting.symbols (Name.Number n))
 side_of x scope (Comparand.Term u) = if names_symbol x.text scope u then Operand.Symbol (number_in x.text x.known.setting.symbols (Name.Word u.first)) else Operand.Term (term_of x scope u)
@@ -31,7 +31,7 @@ abbrev pub not_equal_of : Term → Operand → Formula
 not_equal_of t (Operand.Symbol n) = roll-Formula (Formula-F.NotSymbol t n)
 not_equal_of t (Operand.Term u) = roll-Formula (Formula-F.NotSame t u)
 
--- what an atom says of its term
+-- what an atom says of its term; `@` gives `Place`, for `Same` compares symbols
 abbrev pub said_of : Context → List Word → Term → Relation → Formula
 said_of x scope t (Relation.Equal r) = equal_of t (side_of x scope r)
 said_of x scope t (Relation.NotEqual r) = not_equal_of t (side_of x scope r)
@@ -45,13 +45,13 @@ atom_of x scope a = said_of x scope (term_of x scope a.term) a.relation
 abbrev pub ball_of : Context → List Word → Ball → BallOf
 ball_of x scope b = record { variable = variable_number x.text scope b.centre; radius = written_value x.text b.radius }
 
--- `->` groups to the right
+-- a chain of `->`, which groups to the right
 abbrev pub implied_of : List Formula → Formula
 implied_of [] = roll-Formula (Formula-F.And [])
 implied_of (f ∷ []) = f
 implied_of (f ∷ g ∷ gs) = roll-Formula (Formula-F.Implies f (implied_of (g ∷ gs)))
 
--- `<->` groups to the left: joins a left side with more parts
+-- joins what is joined so far with the parts after it, since `<->` groups to the left
 abbrev pub iff_behind : Formula → List Formula → Formula
 iff_behind f [] = f
 iff_behind f (g ∷ gs) = iff_behind (roll-Formula (Formula-F.Iff f g)) gs
@@ -70,7 +70,8 @@ abbrev pub quantified_of : Quantifier → List BallOf → Formula → Formula
 quantified_of Quantifier.All balls f = roll-Formula (Formula-F.ForAll balls f)
 quantified_of Quantifier.Exists balls f = roll-Formula (Formula-F.Exists balls f)
 
--- In a scope. The variable of a quantifier is in scope in its body, but not in its balls; parentheses disappear.
+-- What a formula means in a scope, from what its parts mean. The variable of a quantifier is in scope in its body, but not in its
+-- balls. Parentheses disappear.
 abbrev pub formula_step : Context → Written-F (List Word → Formula) → List Word → Formula
 formula_step x (Written-F.Atom a) scope = atom_of x scope a
 formula_step x (Written-F.Not f) scope = roll-Formula (Formula-F.Not (f scope))

@@ -1,16 +1,16 @@
--- the types of syntax trees, of their faults and of what is known
+-- the types of syntax trees, of what is known and of faults
 pub mod Tree
--- what each command means, and the limits on its size
+-- what each command means, and the limits that a rule or an automaton exceeds by its counts
 pub mod Meanings
--- the rules and automata of a script
+-- rules and automata over the topology and the alphabets of a script
 pub mod Made
--- what holds of each meaning
+-- what always holds of a meaning
 pub mod Sound
--- what commands define, and the limits on its size
+-- what definitions mean, and the limits that counts exceed
 pub mod Definitions
--- formulas, with indices in place of names
+-- formulas, with numbers in place of names
 pub mod Formulas
 -- topologies
 pub mod Topologies
--- lemmas on these definitions, with their proofs
+-- lemmas on these definitions, for other crates
 pub mod lemmas

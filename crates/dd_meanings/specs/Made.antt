@@ -1,4 +1,4 @@
--- The rules and automata of a script.
+-- Rules and automata over the topology and the alphabets of a script.
 use Rattle.std.specs.{Prelude.ℕ, Prelude.◌≡◌, Prelude.List, Prelude.◌++◌, Prelude.length, Prelude.map, List.All}
 use Rattle.dd_expansion.specs.Limits.{IsFormula}
 use Rattle.dd_formula.specs.LocalRule.{LocalRule, local_rule, IsRule}
@@ -10,7 +10,7 @@ use Rattle.dd_meanings.specs.Tree.{Setting}
 abbrev pub script_numbers : Setting → Numbers
 script_numbers s = record { dimension = s.topology.dimension; nodes = s.topology.nodes; symbols = length s.symbols }
 
--- a rule of a formula over the script's topology and alphabet, whose nodes allow the same symbols as the script's
+-- a well-formed rule over the script's topology, symbols and sets
 pub record IsRuleOf (s : Setting) (r : LocalRule) : Type 0 where
   pub rule : IsRule r
   pub dimension : r.dimension ≡ s.topology.dimension
@@ -38,7 +38,7 @@ pub record IsAutomatonOf (s : Setting) (f : Automaton) : Type 0 where
   pub automaton : IsAutomaton (script_numbers s) f
   pub rules : All (IsMadeOver s) (rules_in f)
 
--- there is one item for each name, and each item satisfies P
+-- there are as many items as names, and P holds of each item
 pub record AreNamed {X : Type 0} (P : X → Type 0) (names : List (List ℕ)) (xs : List X) : Type 0 where
   pub named : length xs ≡ length names
   pub each : All P xs

@@ -1,4 +1,4 @@
--- What holds of each meaning.
+-- What always holds of a meaning.
 use Rattle.std.specs.Prelude.{ℕ, ◌≡◌, ◌<◌, ◌≤◌, ◌%◌, true, List, length, slice_index, Contains, Result, OnOk}
 use Rattle.std.specs.List.{All}
 use Rattle.dd_values.specs.Ranges.{AreLimits}
@@ -12,13 +12,13 @@ use Rattle.dd_meanings.specs.Tree.{Word, Command, Refusal, Setting, Context}
 use Rattle.dd_meanings.specs.{Made.IsRuleOf, Made.IsAutomatonOf, declared.meaning.Meaning.Meaning, Meanings.meaning, Meanings.counted_sizes}
 use Rattle.dd_query.specs.Queries.{IsQueryWithin}
 
--- at least one name, at most `most`, and no repetition
+-- one name or more, at most `most`, and none twice
 pub record AreNames (most : ℕ) (names : List (List ℕ)) : Type 0 where
   pub some : 1 ≤ length names
   pub few : length names ≤ most
   pub distinct : AreDistinct names
 
--- one of the nodes, and at least one of the symbols
+-- the number of a node, and the numbers of one symbol or more
 pub record IsSymbolRestriction (s : Setting) (node : ℕ) (symbols : List ℕ) : Type 0 where
   pub exists : node < length s.nodes
   pub some : 1 ≤ length symbols
@@ -36,7 +36,7 @@ pub record IsConfigurationOf (s : Setting) (t : Tile) : Type 0 where
   pub dimension : t.dimension ≡ s.topology.dimension
   pub nodes : t.nodes ≡ s.topology.nodes
   pub symbols : All (λ symbol. symbol < length s.symbols) t.symbols
-  -- the nodes vary fastest
+  -- in the order of the cells the node varies fastest, so cell i has the node i % t.nodes
   pub allowed : (i : ℕ) → i < length t.symbols → allows s.sets (i % t.nodes) (slice_index t.symbols i) ≡ true
 
 abbrev pub IsSoundMeaning : Context → Meaning → Type 0
@@ -51,6 +51,6 @@ IsSoundMeaning x (Meaning.Automaton name f) = IsNew x name × IsAutomatonOf x.kn
 IsSoundMeaning x (Meaning.Configuration name t) = IsNew x name × IsConfigurationOf x.known.setting t
 IsSoundMeaning x (Meaning.Query q) = IsQueryWithin x.known q
 
--- what a command without faults means, with what holds of every meaning; or it is refused for the first limit that it exceeds
+-- The result is what the command means, and is sound; or the command is refused for the first limit that its counts exceed.
 abbrev pub Means : Result Meaning Refusal → Context → List Automaton → Command → Type 0
 Means result x automata c = Resolves result (counted_sizes x automata c) (meaning x automata c) × OnOk result (IsSoundMeaning x (meaning x automata c))

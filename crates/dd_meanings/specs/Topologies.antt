@@ -7,15 +7,15 @@ use Rattle.dd_meanings.specs.Tree.{Kind, Name, Edge as Written}
 use Rattle.dd_written.specs.Values.{word_text}
 use Rattle.dd_query.specs.Vectors.{place_of}
 
--- the grid of a dimension
+-- the built-in topology of a dimension, with one node and the nearest neighbours along each axis
 abbrev pub plain_kind : ℕ → Kind
 plain_kind d = if d == 1 then Kind.Line else (if d == 3 then Kind.Cube else Kind.Square)
 
--- The topology after a `dim` or `nodes` command: for one node the grid of the dimension, for more nodes one without edges.
+-- The topology if the script gives none. One node has the built-in topology of the dimension. More nodes have no edges.
 abbrev pub default_grid : ℕ → ℕ → Grid
 default_grid d nodes = if nodes == 1 then grid_of (plain_kind d) else grid d nodes [] []
 
--- the names of the nodes of a kind, if the script names none
+-- the names of the nodes of a built-in topology, if the script names none
 abbrev pub kind_names : Kind → List (List ℕ)
 kind_names Kind.Line = codes "0" ∷ []
 kind_names Kind.Square = codes "0" ∷ []
@@ -26,7 +26,7 @@ kind_names Kind.Cube = codes "0" ∷ []
 
 -- ---- edges
 
--- the names, each once, in order of first occurrence
+-- the names in `seen`, and then all others, each once, in order of first occurrence
 abbrev pub first_seen_names : List (List ℕ) → List (List ℕ) → List (List ℕ)
 first_seen_names seen [] = seen
 first_seen_names seen (n ∷ ns) = first_seen_names (if list_any (bytes_eq n) seen then seen else seen ++ n ∷ []) ns
@@ -37,6 +37,7 @@ label_text bytes e = word_text bytes e.label
 abbrev pub labels_of : List ℕ → List Written → List (List ℕ)
 labels_of bytes es = first_seen_names [] (map (label_text bytes) es)
 
+-- an edge, with numbers in place of names
 abbrev pub edge_of : List ℕ → List (List ℕ) → List (List ℕ) → Written → Edge
 edge_of bytes labels nodes e =
     record {
@@ -46,6 +47,6 @@ edge_of bytes labels nodes e =
       to = number_in bytes nodes e.to;
     }
 
--- labels are numbered in order of first occurrence
+-- the topology with these edges, whose labels are numbered in order of first occurrence
 abbrev pub grid_by : List ℕ → ℕ → List (List ℕ) → List Written → Grid
 grid_by bytes d nodes es = grid d (length nodes) (labels_of bytes es) (map (edge_of bytes (labels_of bytes es) nodes) es)

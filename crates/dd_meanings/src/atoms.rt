@@ -1,4 +1,4 @@
-//! Terms, atoms and balls, with indices in place of names.
+//! Terms, atoms and balls, with numbers in place of names. A scope is the list of the bound variables, the outermost first.
 ghost use Rattle.std.specs.Prelude.{◌≡◌, ◌≤◌, [], length, map, IfOk};
 ghost use Rattle.std.specs.List.{flat_map};
 ghost use Rattle.dd_faults.specs.{Names.number_in, Formulas.names_symbol, Formulas.ball_faults};
@@ -14,7 +14,7 @@ use dd_written::{
 };
 use std::alloc::Global;
 
-/// The number of a variable; 0 if the word is none.
+/// The number of a variable: 0 for `o`, and then from 1 in the order of the scope. It is 0 if the word is no variable.
 fn variable(text: &Text, scope: &[Word], word: Word) -> u32
     requires { length scope.now ≤ 64 }
     ensures { result ≡ variable_number text.now scope.now word }
@@ -29,6 +29,7 @@ fn variable(text: &Text, scope: &[Word], word: Word) -> u32
     }
 }
 
+/// The number of a label; 0 if no edge has it.
 fn label(context: &Context, word: Word) -> u32
     ensures { result ≡ label_of context.now word }
 {
@@ -36,6 +37,7 @@ fn label(context: &Context, word: Word) -> u32
     context.known.setting.topology.label(text).unwrap_or(0)
 }
 
+/// The numbers of labels.
 fn labels(alloc: Global, context: &Context, moves: &[Word]) -> Made<Items<u32>>
     ensures { IfOk result (λ labels. labels ≡ map (label_of context.now) moves.now) }
 {
@@ -46,6 +48,7 @@ fn labels(alloc: Global, context: &Context, moves: &[Word]) -> Made<Items<u32>>
     Ok(Items::from_vec(labels))
 }
 
+/// What a term means in a scope.
 fn term(alloc: Global, context: &Context, scope: &[Word], term: &Written) -> Made<Term>
     requires { length scope.now ≤ 64 }
     ensures { IfOk result (λ t. t ≡ term_of context.now scope.now term.now) }
@@ -55,19 +58,21 @@ fn term(alloc: Global, context: &Context, scope: &[Word], term: &Written) -> Mad
     Ok(Term { variable, moves })
 }
 
+/// The number of the symbol with this name; 0 if there is none.
 fn symbol(context: &Context, name: Name) -> u32
     ensures { result ≡ number_in context.now.text context.now.known.setting.symbols name }
 {
     number_in(&context.text, &context.known.setting.symbols, name)
 }
 
-/// The right side of `=` and `!=`.
+/// The right side of `=` or `!=`: a symbol by its number, or a term.
 #[derive(Debug, Drop)]
 pub(crate) enum Operand {
     Symbol(u32),
     Term(Term),
 }
 
+/// What the right side of `=` or `!=` means in a scope.
 fn side(alloc: Global, context: &Context, scope: &[Word], side: &Comparand) -> Made<Operand>
     requires { length scope.now ≤ 64 }
     ensures { IfOk result (λ s. s ≡ side_of context.now scope.now side.now) }
@@ -83,7 +88,7 @@ fn side(alloc: Global, context: &Context, scope: &[Word], side: &Comparand) -> M
     }
 }
 
-/// The formula that a term has the symbol on the right, or that of the term on the right.
+/// The formula that the cell of a term has the symbol on the right, or the same symbol as the cell of the term on the right.
 fn equal(term: Term, side: Operand) -> Formula
     ensures { result ≡ equal_of term side }
 {
@@ -93,7 +98,7 @@ fn equal(term: Term, side: Operand) -> Formula
     }
 }
 
-/// The formula that a term has a symbol other than the right side.
+/// The formula that the cell of a term has another symbol than the one on the right, or than the cell of the term on the right.
 fn not_equal(term: Term, side: Operand) -> Formula
     ensures { result ≡ not_equal_of term side }
 {
@@ -103,6 +108,7 @@ fn not_equal(term: Term, side: Operand) -> Formula
     }
 }
 
+/// What an atom means in a scope. `@` gives `Formula::Place`, for `Formula::Same` compares symbols.
 pub(crate) fn atom(alloc: Global, context: &Context, scope: &[Word], atom: &Atom) -> Made<Formula>
     requires { length scope.now ≤ 64 }
     ensures { IfOk result (λ f. f ≡ atom_of context.now scope.now atom.now) }
@@ -126,6 +132,7 @@ pub(crate) fn atom(alloc: Global, context: &Context, scope: &[Word], atom: &Atom
     }
 }
 
+/// Balls without faults, with numbers in place of names.
 pub(crate) fn balls(
     alloc: Global,
     context: &Context,

@@ -1,4 +1,4 @@
-//! What the commands that define something mean.
+//! What definitions mean: rules, automata and configurations.
 ghost use Rattle.std.specs.Prelude.{◌≡◌, ◌≤◌, [], length, map, IfOk};
 ghost use Rattle.std.specs.List.{All, flat_map};
 ghost use Rattle.dd_written.specs.Formulas.{tree_depth};
@@ -32,7 +32,7 @@ pub fn refusal_of(fault: RuleFault) -> Refusal
     }
 }
 
-/// The rule of a formula, over the script's topology and the symbols that its nodes allow.
+/// What a definition of a rule means: the rule of its formula, over the script's topology and the symbols that the nodes allow.
 pub(crate) fn rule(alloc: Global, context: &Context, name: Word, formula: &Formula) -> Resolved
     requires sound { IsSound context.now.known }
     requires shallow { tree_depth formula.now ≤ 64 }
@@ -47,7 +47,7 @@ pub(crate) fn rule(alloc: Global, context: &Context, name: Word, formula: &Formu
     }
 }
 
-/// Cases without faults, with their formulas and the indices of their symbols.
+/// What cases without faults mean: for each, its formula and the number of its symbol.
 fn cases_of(alloc: Global, context: &Context, cases: &[Case]) -> Made<Items<(Meant, u32)>>
     requires shallow { All (λ c. tree_depth c.condition ≤ 64) cases.now }
     requires faultless { flat_map (case_faults context.now) cases.now ≡ [] }
@@ -62,7 +62,7 @@ fn cases_of(alloc: Global, context: &Context, cases: &[Case]) -> Made<Items<(Mea
     Ok(made)
 }
 
-/// The automaton with these cases, and with a symbol for cells at which no case is true.
+/// What a definition of an automaton means: it has these cases, and a default symbol for cells at which no case is true.
 pub(crate) fn automaton(
     alloc: Global,
     context: &Context,
@@ -95,7 +95,7 @@ fn named(alloc: Global, context: &Context, automata: &[Automaton], word: Word) -
     automata[number as usize].copy(alloc)
 }
 
-/// The composition of two automata, given by their names.
+/// What a composition means: `inner` is applied first, then `outer`. Both are given by their names.
 pub(crate) fn composition(
     alloc: Global,
     context: &Context,
@@ -117,7 +117,7 @@ pub(crate) fn composition(
     }
 }
 
-/// The configuration with these periods, this shear and these symbols.
+/// What a definition of a configuration means: it has these periods, this shear and these symbols.
 pub(crate) fn configuration(
     alloc: Global,
     context: &Context,

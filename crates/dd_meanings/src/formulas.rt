@@ -1,4 +1,4 @@
-//! Formulas, with indices in place of names.
+//! Formulas, with numbers in place of names.
 ghost use Rattle.std.specs.Prelude.{◌≡◌, ◌+◌, ◌≤◌, [], length, IfOk};
 ghost use Rattle.dd_written.specs.Formulas.{tree_depth};
 ghost use Rattle.dd_faults.specs.Formulas.{formula_faults};
@@ -13,7 +13,7 @@ use dd_values::{Boxed, Items};
 use dd_written::{Formula as Written, Join, Quantifier, Word};
 use std::alloc::Global;
 
-/// `->` groups to the right: joins from the last part backwards.
+/// A chain of `->`. It groups to the right, so it is joined from the last part backwards. No parts give an empty `And`.
 #[tactic(auto, using(crate::proofs::Layers::implied_last))]
 fn implied(alloc: Global, parts: Items<Formula>) -> Made<Formula>
     ensures { IfOk result (λ f. f ≡ implied_of parts) }
@@ -30,7 +30,7 @@ fn implied(alloc: Global, parts: Items<Formula>) -> Made<Formula>
     Ok(whole)
 }
 
-/// `<->` groups to the left: joins from the first part onwards.
+/// A chain of `<->`. It groups to the left, so it is joined from the first part onwards. No parts give an empty `And`.
 fn equivalent(alloc: Global, parts: Items<Formula>) -> Made<Formula>
     ensures { IfOk result (λ f. f ≡ iff_of parts) }
 {
@@ -48,6 +48,7 @@ fn equivalent(alloc: Global, parts: Items<Formula>) -> Made<Formula>
     Ok(whole)
 }
 
+/// A chain of these parts, with this sign between them.
 fn joined(alloc: Global, join: Join, parts: Items<Formula>) -> Made<Formula>
     ensures { IfOk result (λ f. f ≡ joined_of join parts) }
 {
@@ -59,6 +60,7 @@ fn joined(alloc: Global, join: Join, parts: Items<Formula>) -> Made<Formula>
     }
 }
 
+/// The formula with this quantifier, these balls and this body.
 fn quantified(quantifier: Quantifier, balls: Items<BallOf>, body: Boxed<Formula>) -> Formula
     ensures { result ≡ quantified_of quantifier balls body }
 {

@@ -1,4 +1,5 @@
-//! What the commands of the header mean.
+//! What the commands of the header mean, if they have no fault. Each has its function; `kind` is that of a built-in topology. For a
+//! topology given by edges, see `topologies`.
 ghost use Rattle.std.specs.Prelude.{◌≡◌, ◌≤◌, [], length, map, IfOk};
 ghost use Rattle.dd_commands.specs.declared.command.Command.TheVariants as command;
 ghost use Rattle.dd_known.specs.Sound.{IsSound};
@@ -23,7 +24,7 @@ pub(crate) fn dimension(alloc: Global, context: &Context, number: Number) -> Res
     let dimension = number_value(&context.text, number);
     let nodes = context.known.setting.nodes.count();
     let topology = default_topology(alloc, dimension, nodes)?;
-    // This read brings in what the type guarantees.
+    // This call tells the proof what the type guarantees.
     let _dimension = topology.dim();
     Ok(Meaning::Topology(topology))
 }
@@ -37,7 +38,7 @@ pub(crate) fn nodes(alloc: Global, context: &Context, names: &[Name]) -> Resolve
     let nodes = names_of(alloc, &context.text, names)?;
     let dimension = context.known.setting.topology.dim();
     let topology = default_topology(alloc, dimension, nodes.count())?;
-    // This read brings in what the type guarantees.
+    // This call tells the proof what the type guarantees.
     let _dimension = topology.dim();
     Ok(Meaning::Nodes {
         nodes,
@@ -52,7 +53,7 @@ pub(crate) fn alphabet(alloc: Global, context: &Context, names: &[Name]) -> Reso
     ensures { Means result context.now [] (command.Alphabet names.now) }
 {
     let symbols = names_of(alloc, &context.text, names)?;
-    // This read brings in what the type guarantees.
+    // This call tells the proof what the type guarantees.
     let _count = symbols.count();
     Ok(Meaning::Symbols(symbols))
 }
@@ -62,13 +63,13 @@ pub(crate) fn kind(alloc: Global, context: &Context, kind: Kind) -> Resolved
     ensures { Means result context.now [] (command.Topology kind) }
 {
     let topology = Topology::builtin(alloc, kind)?;
-    // This read brings in what the type guarantees.
+    // This call tells the proof what the type guarantees.
     let _dimension = topology.dim();
     if context.known.nodes_are_given {
         return Ok(Meaning::Topology(topology));
     }
     let nodes = kind_names(alloc, kind)?;
-    // This read brings in what the type guarantees.
+    // This call tells the proof what the type guarantees.
     let _count = nodes.count();
     Ok(Meaning::Nodes {
         nodes,
@@ -77,7 +78,7 @@ pub(crate) fn kind(alloc: Global, context: &Context, kind: Kind) -> Resolved
     })
 }
 
-/// The indices of symbols.
+/// The numbers of the symbols with these names; 0 for a name that no symbol has.
 pub(crate) fn symbols_of(alloc: Global, context: &Context, names: &[Name]) -> Made<Items<u32>>
     ensures { IfOk result (λ symbols. symbols ≡ map (symbol_of context.now) names.now) }
 {

@@ -1,5 +1,6 @@
-//! What commands without faults mean: the topologies, names, sets, weights and limits of the header; rules, automata and
-//! configurations; and queries. Rules and automata that are too large by their counts are refused here.
+//! What commands without faults mean. The header gives topologies, names, sets of symbols, weights and limits. Then come rules,
+//! automata, configurations and queries. A rule or an automaton is refused here if it has too many instances, reads too far or is
+//! too deep.
 #![tactic(auto, using(crate::proofs::Nothing::parts))]
 
 mod atoms;

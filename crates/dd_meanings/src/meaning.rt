@@ -11,9 +11,9 @@ use std::alloc::AllocError;
 /// What a command means.
 #[derive(Drop)]
 pub enum Meaning {
-    /// A topology of the current nodes.
+    /// A topology for the nodes that the script has so far.
     Topology(Topology),
-    /// Nodes with their topology, and whether a command named them.
+    /// The names of nodes with a topology for them, and whether a command `nodes` gave the names.
     Nodes {
         nodes: Names,
         given: bool,
@@ -21,14 +21,14 @@ pub enum Meaning {
     },
     /// The names of the symbols.
     Symbols(Names),
-    /// The symbols that a node allows.
+    /// The number of a node, and the numbers of the symbols that it allows.
     Only {
         node: u32,
         symbols: Items<u32>,
     },
-    /// One for each symbol.
+    /// The weight of each symbol.
     Weights(Items<u32>),
-    /// The greatest radius, period and number of pivots from here on.
+    /// The limits of the searches, for all queries from here on.
     Limits(Limits),
     /// A rule with its name.
     Rule {

@@ -8,7 +8,7 @@ use dd_topology::{NameFault, Names};
 use dd_written::{Name, Text, name_text};
 use std::alloc::{AllocError, Global};
 
-/// Adds a name that is not in the list.
+/// Adds a name, which is not yet in the list.
 #[tactic(auto, using(dd_faults::specs::lemmas::Repeats::not_among))]
 pub fn add_new(alloc: Global, names: &mut Names, text: &str) -> Result<(), AllocError>
     requires few { length names.old < 2 ^ 32 - 1 }
@@ -30,7 +30,7 @@ pub(crate) fn add_once(alloc: Global, names: &mut Names, text: &str) -> Result<(
     }
 }
 
-/// The list with the name 0.
+/// The list of the one name `0`.
 pub fn zero(alloc: Global) -> Result<Names, AllocError>
     ensures { IfOk result (λ names. names ≡ codes "0" ∷ []) }
 {
@@ -39,7 +39,7 @@ pub fn zero(alloc: Global) -> Result<Names, AllocError>
     Ok(names)
 }
 
-/// The list with the names 0 and 1.
+/// The list of the names `0` and `1`.
 pub fn zero_and_one(alloc: Global) -> Result<Names, AllocError>
     ensures { IfOk result (λ names. names ≡ codes "0" ∷ codes "1" ∷ []) }
 {

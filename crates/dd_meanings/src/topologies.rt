@@ -1,4 +1,4 @@
-//! The topologies of scripts: the grid of a dimension, the built-in ones, and those given by edges.
+//! The topologies of scripts: the default of a dimension, the built-in ones, and those given by edges.
 ghost use Rattle.std.specs.Prelude.{◌≡◌, ◌≤◌, [], length, map, IfOk};
 ghost use Rattle.std.specs.List.{flat_map};
 ghost use Rattle.dd_topology.specs.Grid.{grid};
@@ -19,6 +19,7 @@ use dd_topology::{Edge, Kind, Names, Topology, TopologyFault};
 use dd_written::{Name, Text, name_text};
 use std::alloc::{AllocError, Global};
 
+/// The built-in topology of a dimension, with one node and the nearest neighbours along each axis.
 fn plain_kind(dimension: u32) -> Kind
     ensures { result ≡ plain_kind dimension }
 {
@@ -29,7 +30,7 @@ fn plain_kind(dimension: u32) -> Kind
     }
 }
 
-/// The topology if none is given: for one node the grid of the dimension, for more nodes one without edges.
+/// The topology if the script gives none. One node has the built-in topology of the dimension. More nodes have no edges.
 pub(crate) fn default_topology(alloc: Global, dimension: u32, nodes: u32) -> Made<Topology>
     requires dimension { (1 ≤ dimension) × (dimension ≤ 3) }
     requires nodes { 1 ≤ nodes }
@@ -45,7 +46,7 @@ pub(crate) fn default_topology(alloc: Global, dimension: u32, nodes: u32) -> Mad
     }
 }
 
-/// The names of the nodes of a kind, if the script names none.
+/// The names of the nodes of a built-in topology, if the script names none.
 pub(crate) fn kind_names(alloc: Global, kind: Kind) -> Made<Names>
     ensures { IfOk result (λ names. names ≡ kind_names kind) }
 {
@@ -67,7 +68,7 @@ fn labels_of(alloc: Global, text: &Text, edges: &[Written]) -> Made<Names>
     Ok(labels)
 }
 
-/// An edge, with indices in place of names.
+/// An edge, with numbers in place of names.
 fn edge_of(text: &Text, labels: &Names, nodes: &Names, written: &Written) -> Edge
     requires { IsClose text.now written.now.offset }
     ensures { result ≡ edge_of text.now labels.now nodes.now written.now }
@@ -80,6 +81,7 @@ fn edge_of(text: &Text, labels: &Names, nodes: &Names, written: &Written) -> Edg
     }
 }
 
+/// Edges without faults, with numbers in place of names.
 fn edges_of(
     alloc: Global,
     context: &Context,
@@ -98,7 +100,7 @@ fn edges_of(
     Ok(edges)
 }
 
-/// The topology given by edges. Its labels are numbered in order of first occurrence.
+/// What a topology given by edges means. Its labels are numbered in order of first occurrence.
 pub(crate) fn edges(alloc: Global, context: &Context, edges: &[Written]) -> Resolved
     requires sound { IsSound context.now.known }
     requires faultless { faults_of context.now (command.Edges edges.now) ≡ [] }
@@ -110,7 +112,7 @@ pub(crate) fn edges(alloc: Global, context: &Context, edges: &[Written]) -> Reso
     let dimension = setting.topology.dim();
     match Topology::from_edges(alloc, dimension, setting.nodes.count(), labels, edges) {
         Ok(topology) => {
-            // This read brings in what the type guarantees.
+            // This call tells the proof what the type guarantees.
             let _dimension = topology.dim();
             Ok(Meaning::Topology(topology))
         }

@@ -1,4 +1,4 @@
--- The words of n symbols: which they are, that they ascend, and those that break a rule.
+-- The words of length n: that the list has each of them, that it ascends, and which of them break a rule.
 use Rattle.std.proofs.Common.{◌≡◌, ◌<◌, ◌+◌, ℕ, zero, suc, Bool, true, false, cond, List, [], ◌∷◌, length, map, get_or, refl, sym, ◌∙◌, ap, subst, inl, inr, arith}
 use Rattle.std.proofs.lemmas.Bool.{and_parts, false≢true}
 use Rattle.std.proofs.lemmas.List.Elements.{All-nil, All-cons, All-head, All-tail, All-get_or}
@@ -16,7 +16,7 @@ use Rattle.dd_minimal.proofs.Lists.{of_map, range_within, of_filter, sorted_map}
 use Rattle.dd_values.specs.lemmas.Members.{Contains-cons_cases, sorted_append, Contains-map, Contains-first, Contains-nil}
 use Rattle.dd_values.specs.lemmas.Lists.{nothing_past, range_has, in_filter, of_part}
 
--- ---- which they are
+-- ---- the list has each word
 
 pub word_rest : (m n s : ℕ) (ss : List ℕ) → IsWord m (suc n) (s ∷ ss) → IsWord m n ss
 word_rest m n s ss w = record { as_many = (let many = w.as_many in omega (arith, many)); below = All-tail (λ t. t < m) s ss w.below }
@@ -49,7 +49,7 @@ words_are m (suc n) ss c =
     let within = range_within 0 m o.part o.listed in
     subst (IsWord m (suc n)) i.is (word_cons m n o.part i.of (let below = within.below in omega (arith, below)) (words_are m n i.of i.listed))
 
--- ---- they ascend
+-- ---- the list ascends
 
 abbrev Ascends : List (List ℕ) → Type 0
 Ascends lists = IsStrictlySortedBy (slice_cmp nat_cmp) lists
@@ -95,7 +95,7 @@ allowed_word r ok (c ∷ cs) (s ∷ ss) h =
     let both = and_parts (rule_allows r c.node s) (are_allowed r cs ss) h in
     word_cons r.symbols (length cs) s ss (allowed_below r ok c.node s both.0) (allowed_word r ok cs ss both.1)
 
--- ---- those that break the rule
+-- ---- the words that break the rule
 
 broken_so : (b t : Bool) → does_break (cond b (of_truth t) Barred) ≡ true → (b ≡ true) × (t ≡ false)
 broken_so true true h = absurd (false≢true h)

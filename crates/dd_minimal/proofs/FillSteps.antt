@@ -5,7 +5,7 @@ use Rattle.std.specs.List.{flat_map, range_with_len}
 use Rattle.dd_lattice.specs.declared.position.Cell.{Cell}
 use Rattle.dd_numbered.specs.{declared.numbered.Numbered.Numbered, Numbered.holds_in, Numbered.IsSettled}
 use Rattle.dd_formula.specs.LocalRule.{LocalRule, rule_allows}
-use Rattle.dd_forbidden.specs.{Breaking.are_allowed, Breaking.is_true_at_origin, listing.Extensions.AreSymbols, listing.Saying.SaysKept}
+use Rattle.dd_forbidden.specs.{Breaking.are_allowed, Breaking.is_true_at_origin, listing.Extensions.AreSymbols, listing.Saying.SaysRule}
 use Rattle.dd_minimal.specs.{declared.outcome.Outcome.Outcome, declared.outcome.Outcome.TheVariants.Barred, Minimal.words}
 use Rattle.dd_minimal.specs.finding.Outcomes.{outcome_behind, known_outcome, of_truth}
 use Rattle.dd_minimal.proofs.AllWords.{words_are}
@@ -72,9 +72,9 @@ part_known r c cs rest o m n s split =
     ∙ map_agree (λ ss. known_outcome r (c ∷ cs) o (s ∷ ss)) (known_outcome r cs (cond (rule_allows r c.node s) o Barred)) (words m n)
     (λ ss at. known_at (rule_allows r c.node s) (are_allowed r cs ss) o)
 
--- ---- what the first symbols settle
+-- ---- what the first symbols settle of the formula
 
-pub all_settled : (r : LocalRule) (a : ℕ) (e : Numbered) (rest : List Cell) (start begun : List ℕ) (truth value : Bool) → SaysKept r a e → AreSymbols r start → begun ≡ start → value ≡ truth → IsSettled e begun value →
+pub all_settled : (r : LocalRule) (a : ℕ) (e : Numbered) (rest : List Cell) (start begun : List ℕ) (truth value : Bool) → SaysRule r a e → AreSymbols r start → begun ≡ start → value ≡ truth → IsSettled e begun value →
     map (known_outcome r rest (of_truth truth)) (words r.symbols (length rest)) ≡ map (outcome_behind r a rest start) (words r.symbols (length rest))
 all_settled r a e rest start begun truth value says below same is settled =
     map_agree (known_outcome r rest (of_truth truth)) (outcome_behind r a rest start) (words r.symbols (length rest))
@@ -84,7 +84,7 @@ all_settled r a e rest start begun truth value says below same is settled =
     sym (says (start ++ ss) symbols) ∙ (ap (λ qs. holds_in e (qs ++ ss)) (sym same) ∙ (settled ss ∙ is)) in
     ap (λ t. cond (are_allowed r rest ss) (of_truth t) Barred) (sym so))
 
-pub leaf : (r : LocalRule) (a m : ℕ) (e : Numbered) (rest : List Cell) (start now : List ℕ) (truth : Bool) → SaysKept r a e → AreSymbols r start → length rest ≡ 0 → now ≡ start → truth ≡ holds_in e now →
+pub leaf : (r : LocalRule) (a m : ℕ) (e : Numbered) (rest : List Cell) (start now : List ℕ) (truth : Bool) → SaysRule r a e → AreSymbols r start → length rest ≡ 0 → now ≡ start → truth ≡ holds_in e now →
     of_truth truth ∷ [] ≡ map (outcome_behind r a rest start) (words m (length rest))
 leaf r a m e [] start now truth says below none same is =
     ap (λ t. of_truth t ∷ []) (is ∙ (ap (holds_in e) same ∙ (says start below ∙ ap (is_true_at_origin r a) (sym (append-nil start)))))

@@ -6,7 +6,6 @@ pub mod NumberLaws
 pub mod WalkLaws
 pub mod MarkLaws
 pub mod FillSteps
-pub mod Kept
 pub mod ThinSteps
 pub mod ListSteps
 pub mod ListLaws

@@ -16,7 +16,7 @@ use Rattle.dd_values.specs.lemmas.{Booleans.or_left, Booleans.or_right, Lists.pa
 abbrev Patterns : Type 0
 Patterns = List (List (Option ℕ))
 
--- ---- what it says that all fillings that agree with a pattern break the rule
+-- ---- what follows if all fillings that agree with a pattern break the rule
 
 false_so : (g al t : Bool) → g ≡ true → al ≡ true → not (g && (al && t)) ≡ true → t ≡ false
 false_so true true true is ok h = absurd (false≢true h)
@@ -54,7 +54,7 @@ all_break_at r a p false is h =
 pub all_break_from : (r : LocalRule) (a : ℕ) (p : List (Option ℕ)) → BreaksAll r a p → all_break r a p ≡ true
 all_break_from r a p h = all_break_at r a p (all_break r a p) refl h
 
--- ---- each listed pattern is a filling thinned
+-- ---- each listed pattern is a thinned filling
 
 all_at : (P : List (Option ℕ) → Type 0) (thin : List ℕ → List (Option ℕ)) (before : Patterns) (ss : List ℕ) (more : List (List ℕ)) (b : Bool) →
     P (thin ss) → All P (listed thin before more) → All P (listed thin (before ++ thin ss ∷ []) more) →

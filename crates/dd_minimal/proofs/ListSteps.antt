@@ -1,4 +1,4 @@
--- One more filling is done, and what the list is at the end.
+-- The steps of the loop over the fillings, and the list at its end.
 use Rattle.std.proofs.Common.{◌≡◌, ◌<◌, ◌+◌, ◌^◌, ℕ, zero, suc, Bool, true, false, cond, Option, List, [], ◌∷◌, ◌++◌, length, map, drop, get_or, replicate, refl, sym, ◌∙◌, ap, subst, arith}
 use Rattle.std.proofs.lemmas.List.{append_assoc, append-nil, length-replicate, length-map}
 use Rattle.std.proofs.lemmas.List.Elements.{All-nil, All-cons, All-head, All-tail, All-push}
@@ -34,7 +34,7 @@ listed_now thin found ss rest b breaks is =
     ap (λ c. listed thin found (cond c (ss ∷ rest) rest)) breaks
     ∙ ap (λ c. cond c (listed thin found rest) (thin ss ∷ listed thin (found ++ thin ss ∷ []) rest)) is
 
--- ---- the filling with a number
+-- ---- the filling with the number `at`
 
 module _ (r : LocalRule) (a at : ℕ) (some : 0 < r.symbols) (within : at < r.symbols ^ length (cells_at r a)) where
   abbrev here : List ℕ
@@ -54,7 +54,7 @@ module _ (r : LocalRule) (a at : ℕ) (some : 0 < r.symbols) (within : at < r.sy
       ap (filter (λ ss. does_break (outcome r a ss))) (word_next r.symbols (length (cells_at r a)) at some within)
       ∙ ap (λ k. cond (does_break (outcome r a here)) (here ∷ breaking_from r a k) (breaking_from r a k)) (let next : suc at ≡ at + 1 = omega arith in next)
 
-  -- whether it is marked
+  -- the filling is marked exactly if it agrees with a pattern found before
   here_marked : (marks : List Bool) (found : Patterns) → AreMarks r.symbols (length (cells_at r a)) marks found → get_or marks at false ≡ is_covered found here
   here_marked marks found are = ap (λ i. get_or marks i false) (sym here_number) ∙ are here here_word
 
@@ -78,7 +78,7 @@ module _ (r : LocalRule) (a at : ℕ) (some : 0 < r.symbols) (within : at < r.sy
       over found marks (ap (listed thin found) rest_from
       ∙ covered_before thin found here (breaking_from r a (at + 1)) (does_break (outcome r a here)) (sym (here_marked marks found so.marks) ∙ is)) so
 
-  -- the fillings that agree with its pattern can be marked
+  -- all fillings that agree with its pattern have a mark
   pub markable : (table : List Outcome) (marks : List Bool) (p : List (Option ℕ)) (ds : List ℕ) (from : ℕ) → length marks ≡ r.symbols ^ length (cells_at r a) → IsThinned r.symbols table here p ds from →
       from + reach r.symbols ds < length marks
   markable table marks p ds from many t =
@@ -103,7 +103,7 @@ module _ (r : LocalRule) (a at : ℕ) (some : 0 < r.symbols) (within : at < r.sy
         fitting = All-push (λ q. length q ≡ n) found p so.fitting long;
       }
 
--- ---- the parts of the code
+-- ---- what the code's calls need
 
 pub outcomes_length : (r : LocalRule) (a : ℕ) → length (outcomes r a) ≡ r.symbols ^ length (cells_at r a)
 outcomes_length r a = length-map (words r.symbols (length (cells_at r a))) (outcome r a) ∙ words_length r.symbols (length (cells_at r a))

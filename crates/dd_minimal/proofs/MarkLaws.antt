@@ -16,12 +16,12 @@ use Rattle.dd_values.specs.lemmas.{Booleans.same_bool, Lists.nothing_past, Lists
 
 -- ---- folds
 
--- what each step keeps
+-- what each step keeps, the fold keeps
 fold_keeps : {X : Type 0} (step : X → ℕ → X) (Q : X → Type 0) → ((now : X) (s : ℕ) → Q now → Q (step now s)) → (xs : List ℕ) (x : X) → Q x → Q (fold step x xs)
 fold_keeps step Q keeps [] x q = q
 fold_keeps step Q keeps (s ∷ xs) x q = fold_keeps step Q keeps xs (step x s) (keeps x s q)
 
--- what one step establishes and the others keep, where L holds all the time
+-- what one step establishes and the others keep, the fold establishes; L holds before each step
 fold_brings : {X : Type 0} (step : X → ℕ → X) (L Q : X → Type 0) → ((now : X) (s : ℕ) → L now → L (step now s)) → ((now : X) (s : ℕ) → Q now → Q (step now s)) →
     (t : ℕ) → ((now : X) → L now → Q (step now t)) → (xs : List ℕ) (x : X) → Contains xs t → L x → Q (fold step x xs)
 fold_brings step L Q stands keeps t brings [] x c l = absurd (Contains-nil t c)
@@ -30,7 +30,7 @@ fold_brings step L Q stands keeps t brings (s ∷ xs) x c l = elim (Contains-con
   | inr there ↦ fold_brings step L Q stands keeps t brings xs (step x s) there (stands x s l)
 ]
 
--- a step that establishes it
+-- R holds of some member of the list
 pub record Brought (R : ℕ → Type 0) (xs : List ℕ) : Type 0 where
   pub by : ℕ
   pub listed : Contains xs by
@@ -110,7 +110,7 @@ marked_all m (Some t ∷ ps) b marks fits (s ∷ ss) w ag =
     (subst (λ i. IsMarked ((b + s * m ^ n) + number m ss) (marked m ds marks i)) start
     (marked_all m ps (b + s * m ^ n) marks (fits_behind m b n s marks small fits) ss rest both.1))
 
--- ---- no other is
+-- ---- no other filling is marked
 
 pub record IsOne (m : ℕ) (p : List (Option ℕ)) (b k : ℕ) : Type 0 where
   pub filling : List ℕ
@@ -151,7 +151,7 @@ marked_only m (Some t ∷ ps) b marks k keeps h =
       | inr one ↦ inr (one_behind m (Some t) ps b k t small (λ ss ag. and_from (nat_eq t t) (agrees ps ss) (eq-eqb t t refl) ag) one)
     ]
 
--- ---- so the marks are those of one pattern more
+-- ---- so the marks are right for one pattern more
 
 covered_more : (ps : List (List (Option ℕ))) (p : List (Option ℕ)) (ss : List ℕ) → is_covered (ps ++ p ∷ []) ss ≡ (is_covered ps ss || (agrees p ss || false))
 covered_more ps p ss = list_any-append (λ q. agrees q ss) ps (p ∷ [])

@@ -11,7 +11,7 @@ use Rattle.dd_minimal.specs.finding.Numbers.{IsWord, number, strides_of, digits}
 use Rattle.dd_minimal.proofs.AllWords.{word_rest, word_first}
 use Rattle.dd_values.specs.lemmas.Numbers.{power_some}
 
--- ---- how many there are
+-- ---- the number of words
 
 joined_length : {X : Type 0} (f : ℕ → List X) (k : ℕ) → ((s : ℕ) → length (f s) ≡ k) → (a n : ℕ) → length (flat_map f (range_with_len a n)) ≡ n * k
 joined_length f k each a zero = omega arith
@@ -45,7 +45,7 @@ number_below m (suc n) (s ∷ ss) w =
     let row = mul-add-lt s (m ^ n) (number m ss) m (word_first m (suc n) s ss w) (number_below m n ss rest) in
     omega (arith, is, power, row)
 
--- a place in parts of one length
+-- the item at an index of a list that joins parts of one length
 flat_at : {X : Type 0} (g : ℕ → List X) (d : ℕ) → ((s : ℕ) → length (g s) ≡ d) → (a c s x : ℕ) (e : X) → s < c → x < d →
     get_or (flat_map g (range_with_len a c)) (s * d + x) e ≡ get_or (g (a + s)) x e
 flat_at g d each a zero s x e within below = absurd (omega (arith, within))
@@ -85,7 +85,7 @@ table_at f m n ss d w =
 pub number_only : (m n : ℕ) (ss qs : List ℕ) → IsWord m n ss → IsWord m n qs → number m ss ≡ number m qs → ss ≡ qs
 number_only m n ss qs w v same = sym (words_at m n ss [] w) ∙ (ap (λ i. get_or (words m n) i []) same ∙ words_at m n qs [] v)
 
--- ---- the word of a number
+-- ---- the word with a number
 
 pub strides_length : (m n : ℕ) → length (strides_of m n) ≡ n
 strides_length m zero = refl
@@ -108,7 +108,7 @@ digits_number m (suc n) at some =
 pub number_of_digits : (m n at : ℕ) → 0 < m → at < m ^ n → number m (digits m (strides_of m n) at) ≡ at
 number_of_digits m n at some below = digits_number m n at some ∙ mod-eq_of_lt below
 
--- the strides are the powers that are left when the number of all words is divided again and again
+-- the state of the loop over the strides: each is the number of all words divided once more by the number of symbols
 pub record AreStrides (m n i : ℕ) (now : List ℕ) (stride : ℕ) : Type 0 where
   pub list : now ++ strides_of m (n - i) ≡ strides_of m n
   pub power : stride ≡ m ^ (n - i)

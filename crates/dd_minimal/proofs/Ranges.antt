@@ -13,7 +13,7 @@ fold_next f x a (suc n) k is = fold_next f (f x a) (a + 1) n k (omega (arith, is
 pub fold_more : {X : Type 0} (f : X → ℕ → X) (x : X) (n : ℕ) → fold f x (range_with_len 0 (n + 1)) ≡ f (fold f x (range_with_len 0 n)) n
 fold_more f x n = ap (λ i. fold f x (range_with_len 0 i)) (let next : n + 1 ≡ suc n = omega arith in next) ∙ fold_next f x 0 n n (omega arith)
 
--- ---- reaches
+-- ---- the reach of strides
 
 pub reach_last : (m : ℕ) (ds : List ℕ) (d : ℕ) → reach m (ds ++ d ∷ []) ≡ (m - 1) * d + reach m ds
 reach_last m [] d = refl

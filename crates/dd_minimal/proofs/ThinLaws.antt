@@ -6,11 +6,11 @@ use Rattle.std.specs.{Prelude.IfSome, List.All}
 use Rattle.dd_minimal.specs.{Patterns.is_kept, Patterns.agrees, Patterns.whole, Patterns.left_out, Minimal.thinned}
 use Rattle.dd_minimal.specs.finding.Numbers.{KeepsBelow}
 
--- what agrees with the second agrees with the first
+-- each filling that agrees with the second pattern agrees with the first
 abbrev pub Weaker : List (Option ℕ) → List (Option ℕ) → Type 0
 Weaker p q = (ss : List ℕ) → agrees q ss ≡ true → agrees p ss ≡ true
 
--- where a pattern is enough, so is one that fewer fillings agree with
+-- if a pattern is enough, so is each pattern that fewer fillings agree with
 abbrev pub Rises : (List (Option ℕ) → Bool) → Type 0
 Rises enough = (p q : List (Option ℕ)) → Weaker p q → enough p ≡ true → enough q ≡ true
 
@@ -45,7 +45,7 @@ whole_only (s ∷ ss) (q ∷ qs) h =
 pub thinned_agrees : (enough : List (Option ℕ) → Bool) (ss : List ℕ) → agrees (thinned enough ss) ss ≡ true
 thinned_agrees enough ss = thinned_weaker enough ss ss (whole_agrees ss)
 
--- a filling that is enough stays so
+-- a filling that is enough still is after it is thinned
 
 enough_first : (enough : List (Option ℕ) → Bool) (s : ℕ) (ss : List ℕ) (b : Bool) → enough (None ∷ whole ss) ≡ b → enough (Some s ∷ whole ss) ≡ true → enough (cond b None (Some s) ∷ whole ss) ≡ true
 enough_first enough s ss true is h = is
@@ -87,7 +87,7 @@ thinned_needs enough up (s ∷ ss) (suc k) t h =
     let first = cond (enough (None ∷ whole ss)) None (Some s) in
     thinned_needs (λ p. enough (first ∷ p)) (rises_behind enough first up) ss k t h
 
--- ---- its length and its symbols
+-- ---- the length and the symbols of a thinned filling
 
 pub thinned_length : (enough : List (Option ℕ) → Bool) (ss : List ℕ) → length (thinned enough ss) ≡ length ss
 thinned_length enough [] = refl
@@ -98,7 +98,7 @@ whole_below m [] below = All-nil (λ p. IfSome p (λ s. s < m))
 whole_below m (s ∷ ss) below =
     All-cons (λ p. IfSome p (λ t. t < m)) (Some s) (whole ss) (All-head (λ t. t < m) s ss below) (whole_below m ss (All-tail (λ t. t < m) s ss below))
 
--- ---- tests that agree on patterns as long, with symbols among the first m
+-- ---- tests that agree on all patterns of this length with symbols among the first m
 
 kept_one : (m s : ℕ) (b : Bool) → s < m → IfSome (cond b None (Some s)) (λ t. t < m)
 kept_one m s true below = tt

@@ -1,4 +1,4 @@
--- One more cell of a filling is done.
+-- The step of the loop over the cells of a filling.
 use Rattle.std.proofs.Common.{◌≡◌, ◌<◌, ◌≤◌, ◌+◌, ◌-◌, ◌*◌, ◌/◌, ◌%◌, ◌^◌, ◌&&◌, ℕ, zero, suc, Bool, true, false, not, cond, Option, Some, None, List, [], ◌∷◌, ◌++◌, length, drop, get_or, refl, sym, ◌∙◌, ap, subst, arith}
 use Rattle.std.proofs.{Math.Seq.drop-cons, lemmas.Bool.false≢true}
 use Rattle.std.proofs.lemmas.List.{append_assoc, append-nil, length-append, length-drop, get_or-map}
@@ -15,7 +15,7 @@ use Rattle.dd_minimal.proofs.ThinLaws.{whole_length, whole_below}
 use Rattle.dd_minimal.proofs.{NumberLaws.strides_length, NumberLaws.digits_word, NumberLaws.number_of_digits, WalkLaws.reach_below}
 use Rattle.dd_values.specs.lemmas.{Booleans.and_four, Numbers.power_some, Lists.list_all_agree, Lists.list_all_both}
 
--- ---- a whole filling
+-- ---- the start, where no cell is left out
 
 open_whole : (m : ℕ) (ss : List ℕ) → open_strides m (whole ss) ≡ []
 open_whole m [] = refl
@@ -41,7 +41,7 @@ start m table ss at is breaks = record {
       ∙ (ap (λ k. not (does_hold (get_or table k Barred))) (least_whole m ss ∙ is) ∙ not_held (get_or table at Barred) breaks);
 }
 
--- ---- a cell more that is left out
+-- ---- one more cell is left out
 
 same_length : (p : List (Option ℕ)) (x y : Option ℕ) (rest : List (Option ℕ)) → length (p ++ x ∷ rest) ≡ length (p ++ y ∷ rest)
 same_length [] x y rest = refl
@@ -63,7 +63,7 @@ least_less m (Some t ∷ p) s rest =
     let behind = least_less m p s rest in
     omega (arith, long, behind)
 
--- ---- walks that end in one stride more
+-- ---- walks with one stride more at the end
 
 open_left : (x : ℕ) (y : ℕ) (z : ℕ) → x + y + z ≡ x + z + y
 open_left x y z = omega arith
@@ -149,7 +149,7 @@ step m table ss rest k s p ds from stride some below count so here later small i
       };
     }
 
--- ---- in the filling with a number
+-- ---- the step in the filling with the number `at`
 
 stride_at : (m n k : ℕ) → k < n → get_or (strides_of m n) k 0 ≡ m ^ (n - suc k)
 stride_at m zero k within = absurd (omega (arith, within))
@@ -173,7 +173,7 @@ step_at m table n at k stride symbol p ds from some within is digit so =
     (All-head (λ t. t < m) symbol rest (subst (All (λ t. t < m)) here (All-drop (λ t. t < m) k ss w.below)))
     (is ∙ (stride_at m n k within ∙ ap (λ i. m ^ i) (sym dropped)))
 
--- with the strides as a list of so many
+-- the step, with the strides as the code has them
 pub step_in : (m : ℕ) (table : List Outcome) (all : List ℕ) (at k symbol : ℕ) (p : List (Option ℕ)) (ds : List ℕ) (from : ℕ) → 0 < m → all ≡ strides_of m (length all) → k < length all → symbol ≡ at / get_or all k 0 % m →
     IsThinnedTo m table (digits m all at) k p ds from → IsStep m table (digits m all at) k p ds from (get_or all k 0) symbol
 step_in m table all at k symbol p ds from some is within digit so =

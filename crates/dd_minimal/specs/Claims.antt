@@ -1,16 +1,17 @@
--- What the patterns of a minimal list say, each for itself.
+-- What each pattern of a minimal list says.
 use Rattle.std.specs.Prelude.{ℕ, ◌≡◌, ◌++◌, true, false, Option, Some, List, [], ◌∷◌, slice_get}
 use Rattle.dd_formula.specs.LocalRule.{LocalRule, cells_at}
 use Rattle.dd_forbidden.specs.Breaking.{are_allowed, is_true_at_origin, IsBreaking}
 use Rattle.dd_minimal.specs.Patterns.{agrees, is_covered, left_out}
 
--- a filling with allowed symbols that agrees with the pattern, and for which the rule is true
+-- a filling with allowed symbols that agrees with the pattern, and under which the rule is true
 pub record IsSpared (r : LocalRule) (a : ℕ) (p : List (Option ℕ)) (ss : List ℕ) : Type 0 where
   pub allowed : are_allowed r (cells_at r a) ss ≡ true
   pub agreeing : agrees p ss ≡ true
   pub holds : is_true_at_origin r a ss ≡ true
 
--- for each cell that the pattern keeps, the rule is true for some filling that agrees with it but at that cell
+-- for each cell that the pattern keeps, the rule is true under some filling with allowed symbols that agrees with the pattern
+-- except perhaps at that cell
 abbrev pub NeedsEach : LocalRule → ℕ → List (Option ℕ) → Type 0
 NeedsEach r a p = (k s : ℕ) → slice_get p k ≡ Some (Some s) → (ss : List ℕ) × IsSpared r a (left_out k p) ss
 
@@ -20,7 +21,7 @@ pub record IsNew (r : LocalRule) (a : ℕ) (before : List (List (Option ℕ))) (
   pub agreeing : agrees p ss ≡ true
   pub new : is_covered before ss ≡ false
 
--- each pattern of the list has one
+-- each pattern of the list has such a filling
 abbrev pub AreNew : LocalRule → ℕ → List (List (Option ℕ)) → List (List (Option ℕ)) → Type 0
 AreNew r a before [] = Unit {0}
 AreNew r a before (p ∷ ps) = ((ss : List ℕ) × IsNew r a before p ss) × AreNew r a (before ++ p ∷ []) ps

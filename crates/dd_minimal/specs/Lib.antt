@@ -1,8 +1,8 @@
--- patterns that leave cells out
+-- patterns: which cells of a filling they keep, and what agrees with them
 pub mod Patterns
--- the list of those that together forbid what a rule forbids, and from which no cell can be left out
+-- the minimal list of a rule at a node
 pub mod Minimal
--- what its patterns say, one by one
+-- what each pattern of a minimal list says
 pub mod Claims
--- how they are found: fillings by their numbers, and tables of them
+-- definitions for the search: numbers of fillings, tables of outcomes, and walks
 pub mod finding

@@ -1,4 +1,4 @@
--- The list of the minimal patterns of a rule at a node.
+-- The minimal list: the list of the minimal patterns of a rule at a node.
 use Rattle.std.specs.Prelude.{ℕ, zero, suc, ◌≡◌, ◌++◌, ◌&&◌, not, cond, Bool, false, Option, Some, None, List, [], ◌∷◌, length, map}
 use Rattle.std.specs.List.{All, flat_map, range_with_len, list_all}
 use Rattle.dd_formula.specs.LocalRule.{LocalRule, cells_at}
@@ -11,7 +11,7 @@ abbrev pub words : ℕ → ℕ → List (List ℕ)
 words m zero = [] ∷ []
 words m (suc n) = flat_map (λ s. map (λ ss. s ∷ ss) (words m n)) (range_with_len 0 m)
 
--- the nodes of the cells that are read allow their symbols, and the rule is true under them
+-- the symbols are allowed at the cells that are read, and the rule is true under them
 abbrev pub is_spared : LocalRule → ℕ → List ℕ → Bool
 is_spared r a ss = are_allowed r (cells_at r a) ss && is_true_at_origin r a ss
 
@@ -19,15 +19,15 @@ is_spared r a ss = are_allowed r (cells_at r a) ss && is_true_at_origin r a ss
 abbrev pub all_break : LocalRule → ℕ → List (Option ℕ) → Bool
 all_break r a p = list_all (λ ss. not (agrees p ss && is_spared r a ss)) (words r.symbols (length (cells_at r a)))
 
--- The cells of a filling are taken in order. Each is left out if the pattern without it, with all later cells kept, is
--- enough. A pattern of the later cells is enough if it is so with this cell's entry in front.
+-- The cells of a filling are taken in order. A cell is left out if the pattern that then remains, with all later cells
+-- kept, still satisfies the test `enough`. For the later cells the test is made with this cell's entry in front.
 abbrev pub thinned : (List (Option ℕ) → Bool) → List ℕ → List (Option ℕ)
 thinned enough [] = []
 thinned enough (s ∷ ss) =
     let first = cond (enough (None ∷ whole ss)) None (Some s) in
     first ∷ thinned (λ p. enough (first ∷ p)) ss
 
--- Fillings are taken in order. One that agrees with a pattern listed before is skipped, and every other is thinned and
+-- Fillings are taken in order. One that agrees with a pattern listed before is skipped. Every other one is thinned and
 -- listed.
 abbrev pub listed : (List ℕ → List (Option ℕ)) → List (List (Option ℕ)) → List (List ℕ) → List (List (Option ℕ))
 listed thin before [] = []
@@ -36,13 +36,14 @@ listed thin before (ss ∷ more) =
     (listed thin before more)
     (thin ss ∷ listed thin (before ++ thin ss ∷ []) more)
 
--- the breaking fillings are taken in lexicographic order, and a cell is left out where what still agrees breaks the rule
+-- The breaking fillings are taken in lexicographic order. In thinning, a cell is left out if every filling with allowed symbols
+-- that agrees with the rest of the pattern breaks the rule.
 pub record IsMinimalList (r : LocalRule) (a : ℕ) (ps : List (List (Option ℕ))) : Type 0 where
   pub breaking : List (List ℕ)
   pub fillings : BreakingFillings r a breaking
   pub list : ps ≡ listed (thinned (all_break r a)) [] breaking
 
--- as patterns of the node
+-- these patterns of the node are the minimal list
 pub record AreMinimal (r : LocalRule) (a : ℕ) (ps : List Partial) : Type 0 where
   pub nodes : All (λ p. p.node ≡ a) ps
   pub fitting : All (IsPartialOf r) ps

@@ -1,4 +1,4 @@
--- Patterns: a symbol for each of some cells, in their order, or none where the cell is left out.
+-- Patterns: for each cell that a rule reads, in cell order, the symbol that is kept, or none if the cell is left out.
 use Rattle.std.specs.Prelude.{ℕ, zero, suc, ◌≡◌, ◌<◌, ◌&&◌, Bool, true, false, Option, Some, None, List, [], ◌∷◌, length, map, nat_eq}
 use Rattle.std.specs.List.{list_any}
 use Rattle.dd_pattern.specs.Filling.{Filled}
@@ -25,20 +25,21 @@ is_covered ps ss = list_any (λ p. agrees p ss) ps
 abbrev pub whole : List ℕ → List (Option ℕ)
 whole ss = map Some ss
 
--- the pattern without the cell of this number
+-- the pattern with the cell at index k left out
 abbrev pub left_out : ℕ → List (Option ℕ) → List (Option ℕ)
 left_out k [] = []
 left_out zero (p ∷ ps) = None ∷ ps
 left_out (suc k) (p ∷ ps) = p ∷ left_out k ps
 
--- the pattern is one of a node of the rule, with an entry for each cell that is read there
+-- the pattern belongs to a node of the rule, and has an entry for each cell that is read there
 pub record IsPartialOf (r : LocalRule) (p : Partial) : Type 0 where
   pub node : p.node < r.nodes
   pub as_many : length p.symbols ≡ length (cells_at r p.node)
 
--- the filling gives a symbol to these cells alone
+-- the filling's domain is the cells that the rule reads at the pattern's node
 abbrev pub FillsReads : LocalRule → Partial → Filled → Type 0
 FillsReads r p f = f.cells ≡ cells_at r p.node
 
+-- the entries of the pattern
 abbrev pub pattern_of : Partial → List (Option ℕ)
 pattern_of p = p.symbols

@@ -1,9 +1,10 @@
-//! The table of what each filling does, in lexicographic order over the whole alphabet. A branch ends once the symbols so
-//! far settle the rule's truth, or a node doesn't allow its symbol.
+//! The table of outcomes, with an entry for each filling over the whole alphabet, in lexicographic order. The cells get
+//! their symbols one after another. Once the symbols so far settle the rule's truth, or one of them isn't allowed, the
+//! formula isn't tested on the fillings that begin with them.
 ghost use Rattle.std.specs.Prelude.{◌≡◌, ◌<◌, ◌++◌, length, map, IfOk, OnOk};
 ghost use Rattle.dd_formula.specs.LocalRule.{cells_at};
 ghost use Rattle.dd_forbidden.specs.listing.Extensions.{AreOf, AreSymbols};
-ghost use Rattle.dd_forbidden.specs.listing.Saying.{SaysKept};
+ghost use Rattle.dd_forbidden.specs.listing.Saying.{SaysRule};
 ghost use Rattle.dd_minimal.specs.Minimal.{words};
 ghost use Rattle.dd_minimal.specs.finding.Outcomes.{known_outcome, outcome_behind, outcomes};
 
@@ -14,7 +15,7 @@ use dd_numbered::{Numbered, Ranks};
 use dd_values::Items;
 use std::alloc::{AllocError, Global};
 
-/// What each filling of the cells that the rule reads at the node does.
+/// The outcome of each filling of the cells that the rule reads at the node.
 pub(crate) fn outcomes(alloc: Global, rule: &Rule, node: u32) -> Result<Items<Outcome>, AllocError>
     requires { node < rule.now.nodes }
     ensures { IfOk result (λ table. table ≡ outcomes rule.now node) }
@@ -29,7 +30,7 @@ pub(crate) fn outcomes(alloc: Global, rule: &Rule, node: u32) -> Result<Items<Ou
     Ok(table)
 }
 
-/// Appends the outcomes of the fillings that begin with these symbols. The rest of the cells have none yet.
+/// Appends the outcomes of the fillings that begin with these symbols. The cells of `rest` have no symbol yet.
 fn fill(
     rule: &Rule,
     node: u32,
@@ -38,7 +39,7 @@ fn fill(
     symbols: &mut Items<u32>,
     table: &mut Items<Outcome>,
 ) -> Result<(), AllocError>
-    requires formula { SaysKept rule.now node formula.now }
+    requires formula { SaysRule rule.now node formula.now }
     requires rest { AreOf rule.now rest.now }
     requires symbols { AreSymbols rule.now symbols.old }
     ensures table { OnOk result (table.new ≡ table.old ++ map (outcome_behind rule.now node rest.now symbols.old) (words rule.now.symbols (length rest.now))) }
@@ -62,7 +63,8 @@ fn fill(
     Ok(())
 }
 
-/// Appends an outcome for all fillings of the rest of the cells, except those that are barred.
+/// Appends an outcome for each filling of the cells of `rest`: the given one, or `Barred` if one of its symbols isn't
+/// allowed.
 fn fill_known(
     rule: &Rule,
     rest: &[Cell],

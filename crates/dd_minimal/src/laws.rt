@@ -1,4 +1,4 @@
-//! Laws of the minimal list, as contracts of calls that do nothing.
+//! Laws of the minimal list. Each is the contract of a call that does nothing.
 ghost use Rattle.std.specs.Prelude.{◌≡◌, ◌↔◌, ℕ, List, Option, true, false, []};
 ghost use Rattle.std.specs.List.{All};
 ghost use Rattle.dd_formula.specs.LocalRule.{LocalRule, IsRule, cells_at};
@@ -7,25 +7,26 @@ ghost use Rattle.dd_minimal.specs.Patterns.{is_covered};
 ghost use Rattle.dd_minimal.specs.Minimal.{IsMinimalList};
 ghost use Rattle.dd_minimal.specs.Claims.{NeedsEach, AreNew};
 
-/// Does nothing; its contract says that the rule is false under a filling of the reads with allowed symbols exactly if
-/// the filling agrees with a listed pattern.
+/// Does nothing. Its contract says of each filling of the reads with allowed symbols: the rule is false under it exactly
+/// if it agrees with a listed pattern.
 pub fn exact()
     ensures { (r : LocalRule) (a : ℕ) (ps : List (List (Option ℕ))) (ss : List ℕ) → IsRule r → IsMinimalList r a ps →
         are_allowed r (cells_at r a) ss ≡ true → (is_true_at_origin r a ss ≡ false) ↔ (is_covered ps ss ≡ true) }
 {}
 
-/// Does nothing; its contract says that no cell that a listed pattern keeps can be left out: the rule is true for some filling
-/// that agrees with the pattern but at that cell.
+/// Does nothing. Its contract says that no cell can be left out of a listed pattern: the rule is true under some filling
+/// with allowed symbols that agrees with the pattern except perhaps at that cell.
 pub fn needs_each()
     ensures { (r : LocalRule) (a : ℕ) (ps : List (List (Option ℕ))) → IsRule r → IsMinimalList r a ps → All (NeedsEach r a) ps }
 {}
 
-/// Does nothing; its contract says that each listed pattern has a breaking filling that agrees with none listed before it.
+/// Does nothing. Its contract says that each listed pattern agrees with a breaking filling that agrees with no pattern
+/// listed before it.
 pub fn all_new()
     ensures { (r : LocalRule) (a : ℕ) (ps : List (List (Option ℕ))) → IsMinimalList r a ps → AreNew r a [] ps }
 {}
 
-/// Does nothing; its contract says that there is one minimal list.
+/// Does nothing. Its contract says that there is at most one minimal list.
 pub fn one_list()
     ensures { (r : LocalRule) (a : ℕ) (ps qs : List (List (Option ℕ))) → IsMinimalList r a ps → IsMinimalList r a qs → ps ≡ qs }
 {

@@ -1,4 +1,5 @@
-//! Minimal forbidden patterns: patterns from which no cell can be left out, and which together forbid what a rule forbids.
+//! The minimal forbidden patterns of a rule. No cell can be left out of one of them, and together they forbid exactly
+//! what the rule forbids.
 #![tactic(auto)]
 
 mod agreement;

@@ -1,4 +1,5 @@
-//! The list: the fillings that break the rule, in lexicographic order, without those that agree with a pattern listed before.
+//! The minimal list. The fillings that break the rule are taken in lexicographic order. A marked one is skipped. Every
+//! other one is thinned and listed, and all fillings that agree with its pattern are marked.
 ghost use Rattle.std.specs.Prelude.{◌≡◌, ◌<◌, ◌^◌, length, map, IfOk};
 ghost use Rattle.std.specs.List.{All};
 ghost use Rattle.dd_formula.specs.LocalRule.{cells_at};
@@ -15,7 +16,8 @@ use dd_formula::Rule;
 use dd_values::Items;
 use std::alloc::{AllocError, Global};
 
-/// How much the number of a filling rises with the symbol of each cell.
+/// The stride of each cell: how much the number of a filling rises if the cell's symbol rises by 1. There are `fillings`
+/// fillings.
 pub(crate) fn strides_of(
     alloc: Global,
     rule: &Rule,
@@ -35,7 +37,7 @@ pub(crate) fn strides_of(
     Ok(list)
 }
 
-/// The patterns of the breaking fillings.
+/// The minimal patterns, from the outcome of each filling.
 pub(crate) fn list(
     alloc: Global,
     rule: &Rule,

@@ -1,20 +1,20 @@
-//! What a filling of the cells that a rule reads does.
+//! The outcome of a filling of the cells that a rule reads.
 ghost use Rattle.std.specs.Prelude.{◌≡◌};
 ghost use Rattle.dd_minimal.specs.finding.Outcomes.{does_break, does_hold, of_truth};
 
-/// What a filling does.
+/// The outcome of a filling.
 #[derive(Clone, Copy, Debug)]
 pub(crate) enum Outcome {
-    /// Some node doesn't allow its symbol.
+    /// Some cell has a symbol that its node doesn't allow.
     Barred,
-    /// The rule is false.
+    /// All symbols are allowed, and the rule is false.
     Breaks,
-    /// The rule is true.
+    /// All symbols are allowed, and the rule is true.
     Holds,
 }
 
 impl Outcome {
-    /// The outcome of a filling with allowed symbols.
+    /// The outcome of a filling with allowed symbols, from the rule's truth.
     pub(crate) fn of_truth(truth: bool) -> Outcome
         ensures { result ≡ of_truth truth }
     {
@@ -25,6 +25,7 @@ impl Outcome {
         }
     }
 
+    /// Whether the filling is a breaking one.
     pub(crate) fn does_break(self) -> bool
         ensures { result ≡ does_break self }
     {
@@ -34,6 +35,7 @@ impl Outcome {
         }
     }
 
+    /// Whether all symbols are allowed and the rule is true.
     pub(crate) fn does_hold(self) -> bool
         ensures { result ≡ does_hold self }
     {

@@ -2,11 +2,11 @@
 
 use dd_values::Items;
 
-/// A symbol for each cell that a rule reads at a node, or none where the cell is left out.
+/// A pattern: a symbol for each cell that a rule reads at a node, or none if the cell is left out.
 #[derive(Debug, Drop)]
 pub struct Partial {
-    /// The node.
+    /// The number of the node.
     pub node: u32,
-    /// One entry per cell that is read at the node, in cell order.
+    /// One entry for each cell that is read at the node, in cell order.
     pub symbols: Items<Option<u32>>,
 }

@@ -1,4 +1,4 @@
-//! Which cells of a filling are left out.
+//! Thinning: which cells of a breaking filling are left out.
 ghost use Rattle.std.specs.Prelude.{◌≡◌, ◌<◌, ◌^◌, ◌/◌, ◌%◌, true, length, IfOk, slice_index_or};
 ghost use Rattle.dd_minimal.specs.finding.Numbers.{digits, strides_of};
 ghost use Rattle.dd_minimal.specs.finding.Outcomes.{does_break};
@@ -10,14 +10,14 @@ use crate::walking::can_spare;
 use dd_values::Items;
 use std::alloc::{AllocError, Global};
 
-/// A pattern, and the number of the filling that agrees with it and has 0 in the cells that are left out.
+/// A pattern, with the number `from` of the filling that agrees with it and has the symbol 0 in the cells left out.
 pub(crate) struct Thinned {
     pub pattern: Items<Option<u32>>,
     pub from: usize,
 }
 
-/// Thins the breaking filling with the number `at`: in cell order, each cell that can be left out is left out. The
-/// strides of these cells are put into `left_out`.
+/// Thins the breaking filling with the number `at`: in cell order, each cell that can be left out is left out. `left_out`
+/// is cleared, and then gets the strides of the cells left out.
 pub(crate) fn thin(
     alloc: Global,
     symbols: u32,
@@ -57,7 +57,7 @@ pub(crate) fn thin(
     Ok(Thinned { pattern, from })
 }
 
-/// The symbol of the cell with the stride in the filling with the number `at`.
+/// The symbol that the filling with the number `at` has in the cell with this stride.
 fn digit(at: usize, stride: usize, symbols: u32) -> u32
     requires stride { 0 < stride }
     requires symbols { 0 < symbols }

@@ -1,12 +1,13 @@
-//! Walks over the fillings that agree with a pattern. They begin at the number of the filling that has 0 in all cells
-//! left out, and go by the strides of these cells.
+//! Walks over the fillings that agree with a pattern. Fillings are numbered from 0 in lexicographic order. The stride of a
+//! cell is how much the number rises if the cell's symbol rises by 1. A walk begins at `from`, the number of the filling
+//! that has the symbol 0 in all cells that the pattern leaves out. It goes along the strides of these cells.
 ghost use Rattle.std.specs.Prelude.{◌≡◌, ◌<◌, ◌≤◌, ◌+◌, ◌*◌, ◌-◌, ◌++◌, ◌∷◌, [], true, length};
 ghost use Rattle.dd_minimal.specs.finding.Numbers.{reach};
 ghost use Rattle.dd_minimal.specs.finding.Walks.{marked, none_holds};
 
 use crate::outcome::Outcome;
 
-/// Whether the rule is true under none of the fillings. It stops at the first under which it is.
+/// Whether the rule is true under none of the fillings of the walk. The walk stops at the first under which it is true.
 pub(crate) fn none_holds(symbols: u32, strides: &[usize], table: &[Outcome], from: usize) -> bool
     requires { from + reach symbols strides.now < length table.now }
     ensures { result ≡ none_holds symbols strides.now table.now from }
@@ -22,8 +23,8 @@ pub(crate) fn none_holds(symbols: u32, strides: &[usize], table: &[Outcome], fro
     true
 }
 
-/// Whether the rule is true under none of the fillings if one more cell, which has the symbol `kept`, is left out too.
-/// The fillings with that symbol are known to break the rule.
+/// The same for a walk along one stride more: that of a further cell, which is left out if the answer is yes. The walk
+/// passes over fillings in which this cell has the symbol `kept`, because the rule is known to be true under none of them.
 pub(crate) fn can_spare(
     symbols: u32,
     kept: u32,
@@ -45,7 +46,7 @@ pub(crate) fn can_spare(
     true
 }
 
-/// Marks all of the fillings.
+/// Marks all fillings of the walk.
 pub(crate) fn mark(symbols: u32, strides: &[usize], marks: &mut [bool], from: usize)
     requires { from + reach symbols strides.now < length marks.old }
     ensures { marks.new ≡ marked symbols strides.now marks.old from }

@@ -1,4 +1,4 @@
--- Definitions by a fold, on a list of parts, by the definition at each part.
+-- A definition by a fold, for conjunctions and disjunctions: it is applied to each part.
 use Rattle.std.proofs.Common.{◌≡◌, ℕ, Bool, List, map, ap, sym, ◌∙◌}
 use Rattle.std.proofs.lemmas.List.Folds.{list_all-map}
 use Rattle.std.specs.List.{list_all, list_any}

@@ -1,4 +1,4 @@
--- With a number in place of each cell an expansion says of the numbered symbols what it said of the cells' symbols.
+-- The formula of an expansion is true of a list exactly if the expansion is true where cells have the symbols of the list.
 use Rattle.std.proofs.Common.{◌≡◌, ℕ, Bool, false, List, [], ◌∷◌, map, refl, ap, ◌∙◌, Option, Some, None, Result, Ok, Err, IfOk}
 use Rattle.std.specs.{Prelude.not, List.list_all, List.list_any}
 use Rattle.dd_expansion.specs.declared.expanded.Expanded.{Expanded}
@@ -20,7 +20,7 @@ Same = (e : Expanded) × SaysSame e
 abbrev layer : Expanded-F Same → Expanded-F Expanded
 layer y = map-Expanded Same Expanded (λ e. e.0) y
 
--- one layer of a formula
+-- the truth of a formula from that of its parts
 opened : (x : Numbered-F Numbered) (ss : List ℕ) → holds_in (roll-Numbered x) ss ≡ holds_in_step (map-Numbered Numbered (List ℕ → Bool) holds_in x) ss
 opened x ss = ap (λ h. h ss) (fold-roll-Numbered (List ℕ → Bool) holds_in_step x)
 

@@ -3,11 +3,11 @@ use Rattle.std.proofs.Common.{◌≡◌, ℕ, zero, suc, Bool, List, [], ◌∷�
 use Rattle.std.specs.Prelude.{IfSome, Option, ◌==◌}
 use Rattle.dd_expansion.specs.Truth.{is_symbol}
 use Rattle.dd_numbered.specs.{declared.numbered.Numbered.Numbered, Numbered.holds_in, Numbered.IsSettled}
-use Rattle.dd_numbered.specs.settling.Parts.{AreAllSettled, IsAnySettled, IsTold}
+use Rattle.dd_numbered.specs.settling.Parts.{AreAllSettled, IsAnySettled, IsLeafSettled}
 use Rattle.dd_numbered.proofs.Layers.{holds_and, holds_or}
 use Rattle.dd_numbered.specs.declared.numbered.Numbered.TheVariants as formula
 
--- the answer for all parts is that for the formula
+-- a property of an option's value gives a weaker one
 if_some : {P Q : Bool → Type 0} (o : Option Bool) → ((b : Bool) → P b → Q b) → IfSome o P → IfSome o Q
 if_some None f h = tt
 if_some (Some b) f h = f b h
@@ -24,5 +24,5 @@ still_there [] more i s h = absurd (cc)
 still_there (x ∷ ss) more zero s h = h
 still_there (x ∷ ss) more (suc i) s h = still_there ss more i s h
 
-pub still_told : (ss : List ℕ) (k s there : ℕ) → slice_get ss k ≡ Some there → IsTold s k ss (there == s)
-still_told ss k s there h more = ap (is_symbol s) (still_there ss more k there h)
+pub leaf_stays_settled : (ss : List ℕ) (k s there : ℕ) → slice_get ss k ≡ Some there → IsLeafSettled s k ss (there == s)
+leaf_stays_settled ss k s there h more = ap (is_symbol s) (still_there ss more k there h)

@@ -1,6 +1,6 @@
--- Numbers of cells, and what a list of symbols says of them.
+-- Numberings of cells: the indices of their symbols in a list.
 pub mod Numbering
--- Formulas over a list of symbols: their truth, and those that say what an expansion says.
+-- Formulas over a list of symbols: their truth, and how expansions become such formulas.
 pub mod Numbered
--- What the first symbols settle of a list of parts.
+-- What the first symbols of a list settle of a leaf, and of a list of formulas.
 pub mod settling

@@ -1,4 +1,4 @@
--- Formulas without variables over a list of symbols: their truth, and those that say what an expansion says.
+-- Formulas over a list of symbols, without variables: their truth, and how expansions become such formulas.
 use Rattle.std.specs.Prelude.{ℕ, ◌≡◌, ◌++◌, not, Bool, false, Option, Some, None, List, slice_get}
 use Rattle.std.specs.{Bool.beq, List.list_all, List.list_any}
 use Rattle.dd_expansion.specs.declared.expanded.Expanded.{Expanded, TheFolds.fold-Expanded}
@@ -7,6 +7,7 @@ use Rattle.dd_numbered.specs.declared.numbered.Numbered.{Numbered, roll-Numbered
 use Rattle.dd_numbered.specs.declared.numbered.Numbered.{TheFolds.fold-Numbered, TheOpen.Numbered-F}
 use Rattle.dd_numbered.specs.Numbering.{Numbering}
 
+-- the truth of a formula, from the truth of its parts
 abbrev pub holds_in_step : Numbered-F (List ℕ → Bool) → List ℕ → Bool
 holds_in_step (Numbered-F.Constant b) ss = b
 holds_in_step (Numbered-F.Leaf k s) ss = is_symbol s (slice_get ss k)
@@ -15,19 +16,20 @@ holds_in_step (Numbered-F.And es) ss = list_all (λ e. e ss) es
 holds_in_step (Numbered-F.Or es) ss = list_any (λ e. e ss) es
 holds_in_step (Numbered-F.Iff e f) ss = beq (e ss) (f ss)
 
--- the truth under the symbols of a list
+-- the truth of a formula for a list of symbols
 abbrev pub holds_in : Numbered → List ℕ → Bool
 holds_in = fold-Numbered (List ℕ → Bool) holds_in_step
 
--- whatever symbols follow these, the truth is the same
+-- the truth is b whatever symbols follow these
 abbrev pub IsSettled : Numbered → List ℕ → Bool → Type 0
 IsSettled e ss b = (more : List ℕ) → holds_in e (ss ++ more) ≡ b
 
--- the leaf of a number; the constant false where there is none
+-- the leaf for a number, or the constant false if there is no number
 abbrev pub leaf_with : ℕ → Option ℕ → Numbered
 leaf_with s None = roll-Numbered (Numbered-F.Constant false)
 leaf_with s (Some k) = roll-Numbered (Numbered-F.Leaf k s)
 
+-- the formula of an expansion, from the formulas of its parts
 abbrev pub numbered_step : Numbering → Expanded-F Numbered → Numbered
 numbered_step number (Expanded-F.Constant b) = roll-Numbered (Numbered-F.Constant b)
 numbered_step number (Expanded-F.Leaf c s) = leaf_with s (number c)

@@ -1,5 +1,5 @@
-//! Formulas over a list of symbols: expansions with numbers in place of cells. One is made once and then tested on list
-//! after list.
+//! Formulas over a list of symbols. Such a formula is an expansion with a number in place of each cell. It is made once,
+//! and then tested on many lists.
 #![tactic(auto)]
 
 mod making;

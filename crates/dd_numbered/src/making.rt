@@ -1,4 +1,4 @@
-//! The formula over a list of symbols that says what an expansion says.
+//! How an expansion becomes a formula over a list of symbols.
 ghost use Rattle.std.specs.Prelude.{◌≡◌, ℕ, List, map, IfOk};
 ghost use Rattle.dd_expansion.specs.Leaves.{holds};
 ghost use Rattle.dd_numbered.specs.Numbered.{holds_in, numbered, leaf_with};
@@ -11,8 +11,8 @@ use dd_values::{Boxed, Items};
 use std::alloc::{AllocError, Global};
 
 impl Numbered {
-    /// The formula that is true of a list of symbols exactly if the expansion is true where each cell has the symbol at
-    /// its number. A leaf whose cell has no number is false.
+    /// The expansion with a number in place of each cell. The result is true of a list of symbols exactly if the expansion
+    /// is true when each cell has the symbol at its number. A leaf whose cell has no number becomes the constant false.
     pub fn new<N: Numbers>(
         alloc: Global,
         expanded: &Expanded,
@@ -25,6 +25,7 @@ impl Numbered {
     }
 }
 
+/// The formula of an expansion.
 #[cycle(numbered)]
 #[tactic(auto, using(crate::proofs::Layers::numbered_layers))]
 fn numbered<N: Numbers>(
@@ -47,7 +48,7 @@ fn numbered<N: Numbers>(
     }
 }
 
-/// The leaf of a number; the constant false where there is none.
+/// The leaf for a number, or the constant false if there is no number.
 fn leaf_with(symbol: u32, number: Option<usize>) -> Numbered
     ensures { result ≡ leaf_with symbol number }
 {
@@ -57,6 +58,7 @@ fn leaf_with(symbol: u32, number: Option<usize>) -> Numbered
     }
 }
 
+/// The formula of a boxed expansion, in a box.
 #[cycle(numbered)]
 fn numbered_boxed<N: Numbers>(
     alloc: Global,
@@ -68,6 +70,7 @@ fn numbered_boxed<N: Numbers>(
     Boxed::new(alloc, numbered(alloc, inner.get(), numbers)?)
 }
 
+/// The formulas of several expansions.
 #[cycle(numbered)]
 fn all_numbered<N: Numbers>(
     alloc: Global,

@@ -1,19 +1,19 @@
-//! Formulas without variables over a list of symbols.
+//! Formulas over a list of symbols, without variables.
 
 use dd_values::{Boxed, Items};
 
-/// A formula over the symbols of a list. It replaces an expansion that is tested on many lists.
+/// A formula over a list of symbols. It speaks of indices of the list as an expansion speaks of cells.
 #[derive(Debug, Drop)]
 pub enum Numbered {
     /// True or false.
     Constant(bool),
-    /// The symbol with the number in the list is this one.
+    /// The list has this symbol at the index `number`.
     Leaf { number: usize, symbol: u32 },
-    /// The part is false.
+    /// The inner formula is false.
     Not(Boxed<Numbered>),
-    /// All parts are true. It is true if there is none.
+    /// All parts are true. With no parts it is true.
     And(Items<Numbered>),
-    /// Some part is true. It is false if there is none.
+    /// Some part is true. With no parts it is false.
     Or(Items<Numbered>),
     /// Both parts are true or both are false.
     Iff(Boxed<Numbered>, Boxed<Numbered>),

@@ -1,15 +1,15 @@
-//! Numbers of cells.
+//! Numberings of cells. The number of a cell is the index of its symbol in a list.
 ghost use Rattle.std.specs.Prelude.{◌≡◌, ℕ, Option};
 ghost use Rattle.dd_lattice.specs.declared.position.Cell.{Cell};
 
 use dd_lattice;
 
-/// Gives numbers to some cells, or to all: the place of the cell's symbol in a list.
+/// A numbering of some cells, possibly of all.
 pub trait Numbers {
     /// The number of each cell of Z^3, or none.
     ghost numbering: { Self → Cell → Option ℕ };
 
-    /// The place, from 0, of the cell's symbol in a list, or none if it has none.
+    /// The index, from 0, of the cell's symbol in a list. `None` if the cell has no number.
     fn number(&self, cell: &dd_lattice::Cell) -> Option<usize>
         ensures { result ≡ numbering self.now cell.now };
 }

@@ -1,4 +1,4 @@
-//! The places of cells in a list in cell order.
+//! Cells numbered by their places in a list that is in cell order.
 ghost use Rattle.std.specs.Prelude.{◌≡◌, ◌≤◌, length};
 ghost use Rattle.std.specs.List.Sorted.{IsStrictlySortedBy, IsStrictlySortedBy-prop};
 ghost use Rattle.dd_lattice.specs.Order.{cell_cmp};
@@ -7,16 +7,17 @@ ghost use Rattle.dd_numbered.specs.Numbering.{rank};
 use crate::numbers::Numbers;
 use dd_lattice::Cell;
 
-/// Cells in cell order. Each has its place among them as its number, and each other cell has their count.
+/// Cells in cell order. The number of each is its place among them. Every other cell has their count as its number. A list
+/// with one symbol for each of them ends before that index.
 #[derive(Drop)]
 pub struct Ranks<'a> {
-    /// The cells in their order: the number of each is its place here.
+    /// The cells, strictly ascending in cell order.
     pub cells: &'a [Cell],
     pub ghost ascending: { IsStrictlySortedBy cell_cmp cells.now } by { IsStrictlySortedBy-prop cell_cmp cells.now },
 }
 
 impl<'a> Ranks<'a> {
-    /// The numbers of these cells, which must ascend strictly in cell order.
+    /// Numbers these cells. They must ascend strictly in cell order.
     pub fn new(cells: &'a [Cell]) -> Ranks<'a>
         requires { IsStrictlySortedBy cell_cmp cells.now }
         ensures { result.cells.now ≡ cells.now }
@@ -25,7 +26,7 @@ impl<'a> Ranks<'a> {
     }
 }
 
-/// The place of a cell among the cells, or as many as there are.
+/// The place, from 0, of a cell among the cells, or their count if it is none of them.
 pub fn rank(cells: &[Cell], cell: &Cell) -> usize
     requires { IsStrictlySortedBy cell_cmp cells.now }
     ensures value { result ≡ rank cells.now cell.now }

@@ -1,20 +1,20 @@
-//! What the first symbols of a list settle of a formula's truth: Kleene's three-valued truth (1938).
+//! The truth of a formula where only the first symbols of a list are known, by the three-valued logic of Kleene (1938).
 ghost use Rattle.std.specs.Prelude.{IfSome};
 ghost use Rattle.dd_numbered.specs.Numbered.{IsSettled};
-ghost use Rattle.dd_numbered.specs.settling.Parts.{AreAllSettled, IsAnySettled, IsTold};
+ghost use Rattle.dd_numbered.specs.settling.Parts.{AreAllSettled, IsAnySettled, IsLeafSettled};
 
 use crate::numbered::Numbered;
 
 impl Numbered {
-    /// The formula's truth whatever symbols follow, if Kleene's tables settle it; else `None`, even if no symbol could
-    /// change it. It takes no memory.
+    /// The formula's truth whatever symbols follow these, if Kleene's truth tables settle it. Else `None`, perhaps although
+    /// no further symbols could change the truth. It allocates nothing.
     #[cycle(settled)]
     pub fn settled(&self, symbols: &[u32]) -> Option<bool>
         ensures { IfSome result (IsSettled self.now symbols.now) }
     {
         match self {
             Numbered::Constant(value) => Some(*value),
-            Numbered::Leaf { number, symbol } => told(symbols, *number, *symbol),
+            Numbered::Leaf { number, symbol } => leaf_settled(symbols, *number, *symbol),
             Numbered::Not(inner) => {
                 let value = inner.get().settled(symbols)?;
                 Some(!value)
@@ -30,9 +30,10 @@ impl Numbered {
     }
 }
 
-/// Whether a list that begins with these symbols has the symbol at the number; `None` past their end.
-fn told(symbols: &[u32], number: usize, symbol: u32) -> Option<bool>
-    ensures { IfSome result (IsTold symbol number symbols.now) }
+/// Whether a list that begins with these symbols has `symbol` at the index `number`. `None` if the index is past their
+/// end.
+fn leaf_settled(symbols: &[u32], number: usize, symbol: u32) -> Option<bool>
+    ensures { IfSome result (IsLeafSettled symbol number symbols.now) }
 {
     if number < symbols.len() {
         Some(symbols[number] == symbol)
@@ -41,7 +42,7 @@ fn told(symbols: &[u32], number: usize, symbol: u32) -> Option<bool>
     }
 }
 
-/// Whether all parts are true: settled where one is false, or where all are settled.
+/// Whether all parts are true. It is settled if one part is settled as false, or if all parts are settled.
 #[cycle(settled)]
 fn all_settled(parts: &[Numbered], symbols: &[u32]) -> Option<bool>
     ensures { IfSome result (AreAllSettled parts.now symbols.now) }
@@ -57,7 +58,7 @@ fn all_settled(parts: &[Numbered], symbols: &[u32]) -> Option<bool>
     if known { Some(true) } else { None }
 }
 
-/// Whether some part is true: settled where one is true, or where all are settled.
+/// Whether some part is true. It is settled if one part is settled as true, or if all parts are settled.
 #[cycle(settled)]
 fn some_settled(parts: &[Numbered], symbols: &[u32]) -> Option<bool>
     ensures { IfSome result (IsAnySettled parts.now symbols.now) }

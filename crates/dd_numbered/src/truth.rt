@@ -1,4 +1,4 @@
-//! The truth of a formula under the symbols of a list.
+//! The truth of a formula for a list of symbols.
 ghost use Rattle.std.specs.Prelude.{◌≡◌, slice_get};
 ghost use Rattle.std.specs.List.{list_all, list_any};
 ghost use Rattle.dd_expansion.specs.Truth.{is_symbol};
@@ -7,7 +7,7 @@ ghost use Rattle.dd_numbered.specs.Numbered.{holds_in};
 use crate::numbered::Numbered;
 
 impl Numbered {
-    /// Whether the formula is true of the symbols; a leaf whose number is past their end is false. It takes no memory.
+    /// Whether the formula is true of the symbols. A leaf whose number is past their end is false. It allocates nothing.
     #[cycle(truth)]
     #[tactic(auto, using(crate::proofs::Layers::holds_layers))]
     pub fn truth(&self, symbols: &[u32]) -> bool
@@ -24,7 +24,7 @@ impl Numbered {
     }
 }
 
-/// Whether the list has the symbol at the number.
+/// Whether the list has `symbol` at the index `number`.
 fn is_there(symbols: &[u32], number: usize, symbol: u32) -> bool
     ensures { result ≡ is_symbol symbol (slice_get symbols.now number) }
 {
@@ -35,7 +35,7 @@ fn is_there(symbols: &[u32], number: usize, symbol: u32) -> bool
     }
 }
 
-/// Whether all of the formulas are true of the symbols. It takes no memory.
+/// Whether all of the formulas are true of the symbols. It allocates nothing.
 #[cycle(truth)]
 pub fn all_true(parts: &[Numbered], symbols: &[u32]) -> bool
     ensures { result ≡ list_all (λ e. holds_in e symbols.now) parts.now }
@@ -48,6 +48,7 @@ pub fn all_true(parts: &[Numbered], symbols: &[u32]) -> bool
     true
 }
 
+/// Whether at least one of the formulas is true of the symbols.
 #[cycle(truth)]
 fn some_true(parts: &[Numbered], symbols: &[u32]) -> bool
     ensures { result ≡ list_any (λ e. holds_in e symbols.now) parts.now }

@@ -1,11 +1,11 @@
--- Counts of what follows, and loops over a count.
+-- The value that is read, and where reading stops, don't depend on the text that has to follow. Then, loops over a count.
 use Rattle.std.proofs.Common.{◌≡◌, ℕ, suc, ◌+◌, ◌-◌, ◌*◌, ◌<◌, List, [], ◌∷◌, ◌++◌, length, Result, Ok, Err, Bool, true, false, cond, refl, sym, ap, ◌∙◌, append_assoc, arith}
 use Rattle.std.specs.Prelude.{◌==◌, ◌||◌, ℤ, Option}
 use Rattle.dd_certificate.specs.Bounds.{most_number}
 use Rattle.dd_output.specs.declared.fault.ReadFault.{ReadFault}
 use Rattle.dd_output.specs.reading.Stops.{Stop, Read, ◌>>=◌, before, Gives, Fails, goes_on, starts, digits_at, number_at, copies, many_at, begins, word_at}
 use Rattle.dd_output.specs.reading.Lists.{minus_of, plus_of, signed_at}
-use Rattle.dd_output.specs.reading.Stars.{end_byte_at, star_of, symbol_of, kept_at}
+use Rattle.dd_output.specs.reading.Stars.{end_byte_at, star_of, symbol_of, symbol_or_star_at}
 use Rattle.dd_output.proofs.Loops.{fails_then, fails_before}
 use Rattle.dd_output.specs.declared.fault.ReadFault.TheVariants as faults
 
@@ -77,18 +77,18 @@ byte_alike : (end other : ℕ) (rest more bytes : List ℕ) → Alike (end_byte_
 byte_alike end other rest more [] = refl
 byte_alike end other rest more (b ∷ bytes) = alike_cond (b == end || b == other) _ _ _ _ refl refl
 
-kept_alike : (end other : ℕ) (rest more bytes : List ℕ) → Alike (kept_at end other rest bytes) (kept_at end other more bytes)
-unfolding kept_at
-kept_alike end other rest more bytes =
+symbol_or_star_alike : (end other : ℕ) (rest more bytes : List ℕ) → Alike (symbol_or_star_at end other rest bytes) (symbol_or_star_at end other more bytes)
+unfolding symbol_or_star_at
+symbol_or_star_alike end other rest more bytes =
     alike_cond (begins 42 bytes) _ _ _ _
     (map_alike star_of _ _ (then_alike (end ∷ rest) (end ∷ more) (word_at (42 ∷ []) bytes)
     (λ x. end_byte_at end other rest x.1) (λ x. end_byte_at end other more x.1)
     (λ x. byte_alike end other rest more x.1)))
     (map_alike symbol_of _ _ (number_alike 0 most_number end other (λ _. rest) (λ _. more) bytes))
 
-pub kept_any : {X : Type 0} (view : X → (Option ℕ × ℕ) × List ℕ) (result : Result X ReadFault) (end other : ℕ) (rest bytes : List ℕ)
-    → Gives view result (kept_at end other [] bytes) → Gives view result (kept_at end other rest bytes)
-kept_any view result end other rest bytes = gives_alike view result _ _ (kept_alike end other [] rest bytes)
+pub symbol_or_star_any : {X : Type 0} (view : X → (Option ℕ × ℕ) × List ℕ) (result : Result X ReadFault) (end other : ℕ) (rest bytes : List ℕ)
+    → Gives view result (symbol_or_star_at end other [] bytes) → Gives view result (symbol_or_star_at end other rest bytes)
+symbol_or_star_any view result end other rest bytes = gives_alike view result _ _ (symbol_or_star_alike end other [] rest bytes)
 
 -- ---- loops over a count
 

@@ -4,17 +4,17 @@ use Rattle.dd_output.specs.reading.Stops.{Stop, stop, Read, ◌>>=◌, Entry, it
 use Rattle.dd_output.proofs.Loops.{Unrolls}
 use Rattle.dd_output.proofs.Readers.{Halts, Reads, bind_ok, bind_err, ok_is}
 
--- the text of such a list, from the place k on
+-- the text of such a list, from index k on
 abbrev pub entries_text : {A B : Type 0} → (ℕ → A → List ℕ) → (ℕ → B → List ℕ) → ℕ → List A → B → List ℕ
 entries_text t u k [] y = u k y
 entries_text t u k (x ∷ xs) y = t k x ++ entries_text t u (suc k) xs y
 
--- each entry fits its place
+-- each entry fits its index
 abbrev pub AllFrom : {A B : Type 0} → (ℕ → A → Type 0) → (ℕ → B → Type 0) → ℕ → List A → B → Type 0
 AllFrom F G k [] y = G k y
 AllFrom F G k (x ∷ xs) y = F k x × AllFrom F G (suc k) xs y
 
--- what fits an entry's place, and its text
+-- what fits at an index, and its text
 abbrev pub entry_fits : {A B : Type 0} → (ℕ → A → Type 0) → (ℕ → B → Type 0) → ℕ → Entry A B → Type 0
 entry_fits F G k (item x) = F k x
 entry_fits F G k (last y) = G k y
@@ -37,7 +37,7 @@ module _ {A B : Type 0} (F : ℕ → A → Type 0) (t : ℕ → A → List ℕ) 
       let one = (law k).takes bytes (item x) rest e in
       omega (arith, ap length one.0, length-append (t k x) rest, some k x one.1)
 
-  -- with the claim for the rest as an argument
+  -- one step of the induction: the claim for the rest is given
   next_same : (f g k : ℕ) (bytes : List ℕ)
       → ((rest : List ℕ) → length rest < f → length rest < g → until_at entry (suc k) f rest ≡ until_at entry (suc k) g rest)
       → length bytes < suc f → length bytes < suc g → (x : Entry A B × List ℕ) → entry k bytes ≡ Ok x

@@ -4,7 +4,7 @@ use Rattle.dd_output.specs.declared.fault.ReadFault.{ReadFault}
 use Rattle.dd_output.specs.declared.fault.ReadFault.TheVariants as faults
 use Rattle.dd_output.specs.reading.Stops.{Stop, Read, ◌>>=◌, Fails, Entry, item, entries_at, before}
 
--- what was read before, and what is still read
+-- what was read before, and what is still to be read
 abbrev pub with_front : {A B : Type 0} → List A → Read (List A × B) → Read (List A × B)
 with_front front read = read >>= λ o. Ok ((front ++ o.0.0, o.0.1), o.1)
 

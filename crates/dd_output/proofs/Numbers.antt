@@ -38,14 +38,14 @@ IsEnd_from end other e p = elim (or_cases (e == end) (e == other) p) [
 not_digit : (b end : ℕ) → is_digit b ≡ true → is_digit end ≡ false → (b == end) ≡ false
 not_digit b end is other = ne_eqb b end (λ e. both_ways (is_digit b) (rw e other) is)
 
--- a digit that was read
+-- the text of a number and one more digit is that of the number with this digit
 digit_read : (n b : ℕ) (bytes : List ℕ) → is_digit b ≡ true → 0 < n → n * 10 + (b - 48) < 2 ^ 64 → decimal n ++ b ∷ bytes ≡ decimal (n * 10 + (b - 48)) ++ bytes
 digit_read n b bytes is some fits =
     let bounds = digit_bounds b is in
     let cell : 48 + (b - 48) ≡ b = omega (arith, bounds.0) in
     rw (decimal_more n (b - 48) some (omega (arith, bounds.1)) fits, cell) (sym (append_assoc (decimal n) (b ∷ []) bytes))
 
--- which way a digit's place was read
+-- where an end or a digit may stand: which of the two was read
 either_ok : {A : Type 0} (b c : Bool) (z : A) (r : Result A Stop) (d : Stop) (y : A) → cond b (Ok z) (cond c r (Err d)) ≡ Ok y
     → ((b ≡ true) × (z ≡ y)) ⊎ ((b ≡ false) × (c ≡ true) × (r ≡ Ok y))
 either_ok true c z r d y e = inl (refl, cc)

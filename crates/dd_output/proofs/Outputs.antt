@@ -18,7 +18,7 @@ use Rattle.dd_output.proofs.Forms.{IsText, ReadsText, InBounds, number_text, onl
 use Rattle.dd_output.proofs.{Periods.cond_reads, FirstBytes.body_text, AnswerRows.answer_good}
 use Rattle.dd_certificate.specs.declared.answer.Answer.TheVariants as answer
 
--- the text of the answer at the place k, from 0
+-- the text of the answer with index k, from 0
 abbrev pub answer_text_at : ℕ → Answer → List ℕ
 answer_text_at k a = answer_text (suc k) a
 

@@ -5,7 +5,7 @@ use Rattle.std.proofs.lemmas.List.{append-nil, Concat.flat_map-cons}
 use Rattle.std.proofs.lemmas.List.Elements.{All-from_recursion, recursion_from_All, All-nil, All-cons}
 use Rattle.std.specs.{Prelude.codes, Prelude.All, Prelude.◌==◌, Prelude.nat_lt, Fmt.decimal, List.AllByRecursion}
 use Rattle.dd_certificate.specs.Text.{line_feed, after_space, spaced_out, shear_text}
-use Rattle.dd_certificate.specs.Bounds.{most_number, IsWritableNumber, HasShear}
+use Rattle.dd_certificate.specs.Bounds.{most_number, IsWritableNumber, IsShearFor}
 use Rattle.dd_output.specs.reading.Stops.{Read, number_at, Entry, item, last, entries_at, choice_at}
 use Rattle.dd_output.specs.reading.Forms.{Form, nothing, number, after}
 use Rattle.dd_output.specs.reading.Periods.{PeriodsEnd, ends, shears, period_of, period_at, shear_of, shear_at, period_entry, periods_of, periods}
@@ -102,7 +102,7 @@ period_first k (item p) good = number_first p 32 good
 period_first k (last (ends n)) good = number_first n 10 good
 period_first k (last (shears n)) good = elim good [ ]
 
--- ---- at each place
+-- ---- at each index
 
 few_to : (k : ℕ) → k < 2 → (e : Entry ℕ PeriodsEnd) → IsPeriod e → Fits k e
 few_to k few (item p) good = (good, omega (arith, few))
@@ -137,7 +137,7 @@ to_full k full (item p) good = absurd (omega (arith, full, good.1))
 to_full k full (last (ends n)) good = absurd (omega (arith, full, good.1))
 to_full k full (last (shears n)) good = good.0
 
--- by a test that doesn't depend on the bytes
+-- a choice between two readers by a test that doesn't depend on the bytes
 pub cond_reads : {A : Type 0} (F : A → Type 0) (t : A → List ℕ) (C : List ℕ → Type 0) (b : Bool) (r q : List ℕ → Read A)
     → (b ≡ true → Reads F t C r) → (b ≡ false → Reads F t C q) → Reads F t C (λ bytes. cond b (r bytes) (q bytes))
 cond_reads F t C true r q one two = one refl
@@ -172,7 +172,7 @@ periods_unroll =
 
 -- the periods and the shear, without the space before the first period
 abbrev pub PeriodsFit : List ℕ × ℕ → Type 0
-PeriodsFit x = (length x.0 ≤ 3) × ((1 ≤ length x.0) × All IsWritableNumber x.0) × IsWritableNumber x.1 × HasShear x.0 x.1
+PeriodsFit x = (length x.0 ≤ 3) × ((1 ≤ length x.0) × All IsWritableNumber x.0) × IsWritableNumber x.1 × IsShearFor x.0 x.1
 
 abbrev pub periods_rest : List ℕ × ℕ → List ℕ
 periods_rest x = drop 1 (spaced_out x.0 ++ (shear_text x.1 ++ line_feed))

@@ -1,4 +1,4 @@
--- What a reader reads and where it halts, and how readers are put together.
+-- What a reader reads and where it stops, and how readers are put together.
 use Rattle.std.proofs.Common.{◌≡◌, ℕ, zero, suc, List, [], ◌∷◌, ◌++◌, length, Result, Ok, Err, true, false, ◌⊎◌, inl, inr, refl, sym, ap, subst, ◌∙◌, append_assoc, arith}
 use Rattle.std.proofs.lemmas.List.{nil_from_length, Concat.flat_map-cons}
 use Rattle.std.proofs.lemmas.Bool.{cases_Bool, cond-true, cond-false, eq-eqb}
@@ -12,7 +12,7 @@ pub record Halts {A : Type 0} (C : List ℕ → Type 0) (r : List ℕ → Read A
   pub completed : C (front ++ s.missing)
   pub no_more : (b : ℕ) (more after : List ℕ) → s.left ≡ b ∷ more → r (front ++ b ∷ after) ≡ Err (stop (b ∷ after) s.missing)
 
--- It reads the texts t x of the values that fit, each as its one value, and stops where no such text continues.
+-- A reader that reads the texts t x of the values that fit, each as its one value, and stops where no such text continues.
 pub record Reads {A : Type 0} (F : A → Type 0) (t : A → List ℕ) (C : List ℕ → Type 0) (r : List ℕ → Read A) : Type 0 where
   pub takes : (bytes : List ℕ) (x : A) (rest : List ℕ) → r bytes ≡ Ok (x, rest) → (bytes ≡ t x ++ rest) × F x
   pub again : (x : A) (rest : List ℕ) → F x → r (t x ++ rest) ≡ Ok (x, rest)
@@ -150,7 +150,7 @@ same_reads F t C r G u D law to from done = record {
       record { front = h.front; whole = h.whole; completed = done (h.front ++ s.missing) h.completed; no_more = h.no_more };
 }
 
--- ---- so many
+-- ---- n values, one after the other
 
 split : {A : Type 0} (F : A → Type 0) (t : A → List ℕ) (n : ℕ) (xs : List A) → (length xs ≡ suc n) × AllByRecursion F xs
     → (p : A × List A) × (flat_map t xs ≡ t p.0 ++ flat_map t p.1) × (F p.0 × ((length p.1 ≡ n) × AllByRecursion F p.1)) × (p.0 ∷ p.1 ≡ xs)

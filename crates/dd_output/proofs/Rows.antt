@@ -1,4 +1,4 @@
--- The laws of the parts of answers, and of each row of the table of answers.
+-- The laws of the parts of answers: lines, patterns, cycles, amounts, sides with periods, and reasons.
 use Rattle.std.proofs.Common.{◌≡◌, ℕ, ◌≤◌, List, [], ◌∷◌, ◌++◌, length, drop, Some, None, false, inl, inr, ◌⊎◌, refl, sym, ap, subst, ◌∙◌, append_assoc, arith}
 use Rattle.std.proofs.lemmas.{Bool.ne_eqb, Fmt.decimal_digit, List.Elements.All-nil, List.Elements.All-cons}
 use Rattle.std.specs.{Prelude.ℤ, Prelude.codes, Prelude.All, Prelude.◌==◌, Fmt.decimal, Fmt.signed_decimal}

@@ -77,7 +77,7 @@ whole_stops bytes s e = elim (bind_err (output_at bytes) all_read s e) [
       })
 ]
 
--- with the next byte
+-- a prefix longer than `front` has the next byte, too
 longer : (front : List ℕ) (b : ℕ) (rest : List ℕ) (n : ℕ) (more : List ℕ) → length front < n
     → take n (front ++ b ∷ rest) ++ more ≡ front ++ b ∷ (take (n - length front - 1) rest ++ more)
 longer front b rest n more lt =
@@ -110,7 +110,7 @@ refused bytes s e left count =
       },
     )
 
--- for the code: what it returns at a stop
+-- reading that stopped gives a stop, with as many bytes left
 stop_of : (bytes : List ℕ) (left : ℕ) (r : Result Output Stop) → StoppedAt left r → (s : Stop) × (r ≡ Err s) × (length s.left ≡ left)
 stop_of bytes left (Ok o) is = elim is [ ]
 stop_of bytes left (Err s) is = (s, refl, is)

@@ -2,5 +2,5 @@
 pub mod Outputs
 -- the offset of bytes that are not well formed
 pub mod Offsets
--- the reader's steps, and what completes a text at each place
+-- the readers as functions, with a text that completes what was read wherever one stops
 pub mod reading

@@ -1,20 +1,23 @@
--- The output that bytes spell; if they spell none, how many of them begin one.
+-- The output whose text the bytes are, or their offset if there is none. The offset is the length of their longest prefix with
+-- which an output begins.
 use Rattle.std.specs.Prelude.{◌≡◌, ℕ, ◌<◌, ◌≤◌, List, ◌++◌, length, take, Result, Ok, Err}
 use Rattle.dd_output.specs.declared.{output.Output.Output, fault.CertificateFault.CertificateFault}
 use Rattle.dd_output.specs.{Outputs.output_text, Outputs.IsWritableOutput, Outputs.IsWellFormed, reading.Whole.completion}
 use Rattle.dd_output.specs.declared.fault.CertificateFault.TheVariants as faults
 
--- The longest prefix of the bytes that begins a well-formed output has this length, and `completion` completes it.
+-- The longest prefix of the bytes with which a well-formed output begins has this length, and `completion` completes it.
 pub record IsOffset (bytes : List ℕ) (offset : ℕ) : Type 0 where
   pub within : offset ≤ length bytes
   pub begins : IsWellFormed (take offset bytes ++ completion bytes)
   pub no_longer : (n : ℕ) (more : List ℕ) → offset < n → n ≤ length bytes → IsWellFormed (take n bytes ++ more) → ⊥
 
+-- the bytes are no output, and this is their offset; or memory ran out
 abbrev pub IsOutputFault : List ℕ → CertificateFault → Type 0
 IsOutputFault bytes faults.Memory = Unit {0}
 IsOutputFault bytes (faults.Malformed offset) = (IsWellFormed bytes → ⊥) × IsOffset bytes offset
 
--- the one output that the bytes spell; if they spell none, their offset
+-- What reading the bytes gives: the only output with this text, or a fault. A fault is the offset of the bytes if there is no
+-- output, or that memory ran out.
 abbrev pub ReadsOutput : List ℕ → Result Output CertificateFault → Type 0
 ReadsOutput bytes (Ok o) = IsWritableOutput o × (bytes ≡ output_text o)
 ReadsOutput bytes (Err fault) = IsOutputFault bytes fault

@@ -5,11 +5,11 @@ use Rattle.dd_values.specs.Bounds.{most_script, most_commands}
 use Rattle.dd_certificate.specs.{declared.answer.Answer.Answer, Text.line_feed, Text.answer_text, Bounds.IsWritable}
 use Rattle.dd_output.specs.declared.output.Output.{Output}
 
--- the lines before the first answer: the script, with its length before it and a line feed after it
+-- the text before the first answer: the format, the length of the script, and the script with a line feed after it
 abbrev pub header : List ℕ → List ℕ
 header script = (codes "diddy 1\nscript " ++ (decimal (length script) ++ line_feed)) ++ (script ++ line_feed)
 
--- the answers to the queries from a number on
+-- the texts of answers; the first one answers the query with this number
 abbrev pub answers_text : ℕ → List Answer → List ℕ
 answers_text first [] = []
 answers_text first (a ∷ answers) = answer_text first a ++ answers_text (suc first) answers
@@ -20,6 +20,7 @@ end_line = codes "end\n"
 abbrev pub output_text : Output → List ℕ
 output_text o = header o.script ++ (answers_text 1 o.answers ++ end_line)
 
+-- an output can hold this script and these answers
 abbrev pub IsWritableOutput : Output → Type 0
 IsWritableOutput o = (length o.script ≤ most_script) × (length o.answers ≤ most_commands) × All IsWritable o.answers
 

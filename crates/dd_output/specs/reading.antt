@@ -1,4 +1,4 @@
--- How a text is read from left to right: definitions that mirror the reader, and at each place a text that completes what was read.
+-- The readers as functions. Wherever one stops, it has a text that completes what was read.
 pub mod Stops
 pub mod Forms
 pub mod Lists

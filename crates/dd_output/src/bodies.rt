@@ -1,4 +1,5 @@
-//! The lines of an answer, by its kind.
+//! Reads the lines of an answer, without the query's number. A `YES` is an answer whose text begins with this word, and so for the
+//! other kinds.
 ghost use Rattle.std.specs.Prelude.{◌≡◌, ◌≤◌, IfOk};
 ghost use Rattle.dd_certificate.specs.Bounds.{most_number};
 ghost use Rattle.dd_output.specs.reading.Stops.{Gives, number_at, many_at, copies};
@@ -28,6 +29,7 @@ fn radius_of(bytes: &[u8]) -> Result<(u64, u8, &[u8]), ReadFault>
     number_at(bytes, 0, MOST_NUMBER, b'\n', b' ')
 }
 
+/// The second radius, and both refutations.
 #[tactic(auto, unfolding(crate::specs::reading::Grammar::right_and_refutations))]
 fn right_and_refutations_of(
     alloc: Global,
@@ -41,6 +43,7 @@ fn right_and_refutations_of(
     Ok((right, left_steps, right_steps, rest))
 }
 
+/// A `YES`, with one radius or two.
 #[tactic(auto, unfolding(crate::specs::reading::Grammar::yes_row))]
 fn yes_of(alloc: Global, bytes: &[u8]) -> Result<(Answer, &[u8]), ReadFault>
     ensures { Gives (λ x. (x.0, x.1.now)) result (grammar.yes_row.read bytes.now) }
@@ -66,7 +69,7 @@ fn yes_of(alloc: Global, bytes: &[u8]) -> Result<(Answer, &[u8]), ReadFault>
 
 // ---- NO and UNKNOWN
 
-/// The text after `NO`.
+/// A `NO`, after these two letters.
 #[tactic(auto, unfolding(crate::specs::reading::Grammar::no_row))]
 fn no_of(alloc: Global, bytes: &[u8]) -> Result<(Answer, &[u8]), ReadFault>
     ensures { Gives (λ x. (x.0, x.1.now)) result (grammar.no_row.read bytes.now) }
@@ -86,6 +89,7 @@ fn no_of(alloc: Global, bytes: &[u8]) -> Result<(Answer, &[u8]), ReadFault>
     ))
 }
 
+/// The word of a reason.
 #[tactic(auto, unfolding(crate::specs::reading::Grammar::reason_word))]
 fn reason_of(bytes: &[u8]) -> Result<(Reason, &[u8]), ReadFault>
     ensures { Gives (λ x. (x.0, x.1.now)) result (grammar.reason_word.read bytes.now) }
@@ -108,6 +112,7 @@ fn reason_of(bytes: &[u8]) -> Result<(Reason, &[u8]), ReadFault>
     }
 }
 
+/// An `UNKNOWN`.
 #[tactic(auto, unfolding(crate::specs::reading::Grammar::unknown_row))]
 fn unknown_of(bytes: &[u8]) -> Result<(Answer, &[u8]), ReadFault>
     ensures { Gives (λ x. (x.0, x.1.now)) result (grammar.unknown_row.read bytes.now) }
@@ -119,7 +124,7 @@ fn unknown_of(bytes: &[u8]) -> Result<(Answer, &[u8]), ReadFault>
 
 // ---- LIST
 
-/// The node, and then the symbols.
+/// The line of a pattern: its node, and then its symbols.
 #[tactic(auto, unfolding(crate::specs::reading::Grammar::pattern))]
 fn pattern_of(alloc: Global, bytes: &[u8]) -> Result<(Listed, &[u8]), ReadFault>
     ensures { Gives (λ x. (x.0, x.1.now)) result (grammar.pattern.read bytes.now) }
@@ -135,6 +140,7 @@ fn pattern_of(alloc: Global, bytes: &[u8]) -> Result<(Listed, &[u8]), ReadFault>
     }
 }
 
+/// The number of patterns.
 #[tactic(auto, using(crate::proofs::Counts::number_any))]
 fn count_of_patterns(bytes: &[u8]) -> Result<(u64, u8, &[u8]), ReadFault>
     ensures { Gives (λ x. ((x.0, x.1), x.2.now)) result (number_at 0 most_number 10 10 (λ n. copies n grammar.pattern.least) bytes.now) }
@@ -142,6 +148,7 @@ fn count_of_patterns(bytes: &[u8]) -> Result<(u64, u8, &[u8]), ReadFault>
     number_at(bytes, 0, MOST_NUMBER, b'\n', b'\n')
 }
 
+/// This many patterns.
 fn patterns_of(alloc: Global, count: u64, bytes: &[u8]) -> Result<(Items<Listed>, &[u8]), ReadFault>
     ensures { Gives (λ x. (x.0, x.1.now)) result (many_at grammar.pattern.read grammar.pattern.least count bytes.now) }
 {
@@ -155,7 +162,7 @@ fn patterns_of(alloc: Global, count: u64, bytes: &[u8]) -> Result<(Items<Listed>
     Ok((patterns, rest))
 }
 
-/// The text after `L`.
+/// A `LIST`, after its `L`.
 #[tactic(auto, unfolding(crate::specs::reading::Grammar::list_row))]
 fn list_of(alloc: Global, bytes: &[u8]) -> Result<(Answer, &[u8]), ReadFault>
     ensures { Gives (λ x. (x.0, x.1.now)) result (grammar.list_row.read bytes.now) }
@@ -168,7 +175,7 @@ fn list_of(alloc: Global, bytes: &[u8]) -> Result<(Answer, &[u8]), ReadFault>
 
 // ---- DENSITY, EMPTY and BOUND
 
-/// A numerator, a slash, a denominator of at least 1 and a line feed.
+/// A fraction at the end of a line. Its denominator is at least 1.
 #[tactic(auto, unfolding(crate::specs::reading::Grammar::fraction))]
 fn fraction_of(bytes: &[u8]) -> Result<(u64, u64, &[u8]), ReadFault>
     ensures { Gives (λ x. ((x.0, x.1), x.2.now)) result (grammar.fraction.read bytes.now) }
@@ -178,6 +185,7 @@ fn fraction_of(bytes: &[u8]) -> Result<(u64, u64, &[u8]), ReadFault>
     Ok((numerator, denominator, rest))
 }
 
+/// The length of the cycle.
 #[tactic(auto, using(crate::proofs::Counts::number_any))]
 fn count_of_states(bytes: &[u8]) -> Result<(u64, u8, &[u8]), ReadFault>
     ensures value { Gives (λ x. ((x.0, x.1), x.2.now)) result (number_at 1 most_number 32 32 zeros bytes.now) }
@@ -186,7 +194,7 @@ fn count_of_states(bytes: &[u8]) -> Result<(u64, u8, &[u8]), ReadFault>
     number_at(bytes, 1, MOST_NUMBER, b' ', b' ')
 }
 
-/// The number of states, and then the states.
+/// The length of the cycle, and then its states.
 #[tactic(auto, unfolding(crate::specs::reading::Grammar::cycle))]
 fn cycle_of(alloc: Global, bytes: &[u8]) -> Result<(Items<u64>, &[u8]), ReadFault>
     ensures { Gives (λ x. (x.0, x.1.now)) result (grammar.cycle.read bytes.now) }
@@ -196,6 +204,7 @@ fn cycle_of(alloc: Global, bytes: &[u8]) -> Result<(Items<u64>, &[u8]), ReadFaul
     Ok((states, rest))
 }
 
+/// The lines of the cycle and of the potentials.
 #[tactic(auto, unfolding(crate::specs::reading::Grammar::cycle_and_potentials))]
 fn cycle_and_potentials_of(
     alloc: Global,
@@ -210,6 +219,7 @@ fn cycle_and_potentials_of(
     Ok((cycle, potentials, rest))
 }
 
+/// A `DENSITY`.
 #[tactic(auto, unfolding(crate::specs::reading::Grammar::density_row))]
 fn density_of(alloc: Global, bytes: &[u8]) -> Result<(Answer, &[u8]), ReadFault>
     ensures { Gives (λ x. (x.0, x.1.now)) result (grammar.density_row.read bytes.now) }
@@ -228,6 +238,7 @@ fn density_of(alloc: Global, bytes: &[u8]) -> Result<(Answer, &[u8]), ReadFault>
     ))
 }
 
+/// An `EMPTY`.
 #[tactic(auto, unfolding(crate::specs::reading::Grammar::empty_row))]
 fn empty_of(alloc: Global, bytes: &[u8]) -> Result<(Answer, &[u8]), ReadFault>
     ensures { Gives (λ x. (x.0, x.1.now)) result (grammar.empty_row.read bytes.now) }
@@ -237,7 +248,7 @@ fn empty_of(alloc: Global, bytes: &[u8]) -> Result<(Answer, &[u8]), ReadFault>
     Ok((Answer::Empty { ranks }, rest))
 }
 
-/// Any number of numbers, each after a space.
+/// The amounts at the end of their line. There may be none.
 #[tactic(auto, unfolding(crate::specs::reading::Grammar::amounts))]
 fn amounts_of(alloc: Global, bytes: &[u8]) -> Result<(Items<u64>, &[u8]), ReadFault>
     ensures { Gives (λ x. (x.0, x.1.now)) result (grammar.amounts.read bytes.now) }
@@ -251,6 +262,7 @@ fn amounts_of(alloc: Global, bytes: &[u8]) -> Result<(Items<u64>, &[u8]), ReadFa
     }
 }
 
+/// The lines of the amounts and of the duals.
 #[tactic(auto, unfolding(crate::specs::reading::Grammar::amounts_and_duals))]
 fn amounts_and_duals_of(
     alloc: Global,
@@ -265,7 +277,7 @@ fn amounts_and_duals_of(
     Ok((amounts, duals, rest))
 }
 
-/// The text after `B`.
+/// A `BOUND`, after its `B`.
 #[tactic(auto, unfolding(crate::specs::reading::Grammar::bound_row))]
 fn bound_of(alloc: Global, bytes: &[u8]) -> Result<(Answer, &[u8]), ReadFault>
     ensures { Gives (λ x. (x.0, x.1.now)) result (grammar.bound_row.read bytes.now) }
@@ -287,8 +299,9 @@ fn bound_of(alloc: Global, bytes: &[u8]) -> Result<(Answer, &[u8]), ReadFault>
     ))
 }
 
-// ---- any answer
+// ---- OUT, IN and any answer
 
+/// An `OUT`.
 #[tactic(auto, unfolding(crate::specs::reading::Grammar::outside_row))]
 fn outside_of(alloc: Global, bytes: &[u8]) -> Result<(Answer, &[u8]), ReadFault>
     ensures { Gives (λ x. (x.0, x.1.now)) result (grammar.outside_row.read bytes.now) }
@@ -298,6 +311,7 @@ fn outside_of(alloc: Global, bytes: &[u8]) -> Result<(Answer, &[u8]), ReadFault>
     Ok((Answer::Outside { place }, rest))
 }
 
+/// An `IN`.
 #[tactic(auto, unfolding(crate::specs::reading::Grammar::inside_row))]
 fn inside_of(bytes: &[u8]) -> Result<(Answer, &[u8]), ReadFault>
     ensures { Gives (λ x. (x.0, x.1.now)) result (grammar.inside_row.read bytes.now) }
@@ -306,7 +320,7 @@ fn inside_of(bytes: &[u8]) -> Result<(Answer, &[u8]), ReadFault>
     Ok((Answer::Inside, rest))
 }
 
-/// Two kinds of answer begin with `NO`, and the next byte tells them apart.
+/// A `NO` or a `NONE`. The byte after the `NO` tells them apart.
 #[tactic(auto, unfolding(crate::specs::reading::Grammar::no_or_nothing))]
 fn no_or_nothing_of(alloc: Global, bytes: &[u8]) -> Result<(Answer, &[u8]), ReadFault>
     ensures { Gives (λ x. (x.0, x.1.now)) result (grammar.no_or_nothing.read bytes.now) }
@@ -319,6 +333,7 @@ fn no_or_nothing_of(alloc: Global, bytes: &[u8]) -> Result<(Answer, &[u8]), Read
     }
 }
 
+/// A `LIST` or a `LEAST`. The byte after the `L` tells them apart.
 #[tactic(auto, unfolding(crate::specs::reading::Grammar::list_or_least))]
 fn list_or_least_of(alloc: Global, bytes: &[u8]) -> Result<(Answer, &[u8]), ReadFault>
     ensures { Gives (λ x. (x.0, x.1.now)) result (grammar.list_or_least.read bytes.now) }
@@ -331,6 +346,7 @@ fn list_or_least_of(alloc: Global, bytes: &[u8]) -> Result<(Answer, &[u8]), Read
     }
 }
 
+/// A `BOUND` or a `BROKEN`. The byte after the `B` tells them apart.
 #[tactic(auto, unfolding(crate::specs::reading::Grammar::bound_or_broken))]
 fn bound_or_broken_of(alloc: Global, bytes: &[u8]) -> Result<(Answer, &[u8]), ReadFault>
     ensures { Gives (λ x. (x.0, x.1.now)) result (grammar.bound_or_broken.read bytes.now) }
@@ -343,7 +359,7 @@ fn bound_or_broken_of(alloc: Global, bytes: &[u8]) -> Result<(Answer, &[u8]), Re
     }
 }
 
-/// An answer of any kind. Its first byte tells the kind.
+/// An answer of any kind. Its first bytes tell which.
 #[tactic(auto, unfolding(crate::specs::reading::Grammar::answer_form))]
 pub(crate) fn answer_of(alloc: Global, bytes: &[u8]) -> Result<(Answer, &[u8]), ReadFault>
     ensures { Gives (λ x. (x.0, x.1.now)) result (grammar.answer_form.read bytes.now) }

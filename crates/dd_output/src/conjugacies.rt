@@ -1,4 +1,5 @@
-//! The answers to the four questions of a conjugacy: a refutation for each, or a configuration for one that does not hold.
+//! Reads answers about conjugacies. A conjugacy asks four questions. `CONJUGATE` has a radius and a refutation for each of them.
+//! `BROKEN` has a configuration that answers one of them with no.
 ghost use Rattle.std.specs.Prelude.{◌≡◌};
 ghost use Rattle.dd_output.specs.reading.Stops.{Gives, many_at};
 ghost use Rattle.dd_output.specs.reading.Grammar as grammar;
@@ -13,7 +14,7 @@ use dd_derivation::Step;
 use dd_values::Items;
 use std::alloc::Global;
 
-/// A given number of refutations, one after the other.
+/// This many refutations.
 fn refutations_of(
     alloc: Global,
     count: u64,
@@ -31,6 +32,7 @@ fn refutations_of(
     Ok((lists, rest))
 }
 
+/// A `CONJUGATE` answer.
 #[tactic(auto, unfolding(crate::specs::reading::Grammar::conjugate_row))]
 pub(crate) fn conjugate_of(alloc: Global, bytes: &[u8]) -> Result<(Answer, &[u8]), ReadFault>
     ensures { Gives (λ x. (x.0, x.1.now)) result (grammar.conjugate_row.read bytes.now) }
@@ -41,7 +43,7 @@ pub(crate) fn conjugate_of(alloc: Global, bytes: &[u8]) -> Result<(Answer, &[u8]
     Ok((Answer::Conjugate { radii, steps }, rest))
 }
 
-/// The text after `B`.
+/// A `BROKEN` answer, after its `B`. The part is the number of the question, from 1.
 #[tactic(auto, unfolding(crate::specs::reading::Grammar::broken_row))]
 pub(crate) fn broken_of(alloc: Global, bytes: &[u8]) -> Result<(Answer, &[u8]), ReadFault>
     ensures { Gives (λ x. (x.0, x.1.now)) result (grammar.broken_row.read bytes.now) }

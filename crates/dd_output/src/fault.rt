@@ -1,27 +1,27 @@
-//! Why a text could not be read.
+//! Why an output could not be read.
 ghost use Rattle.std.specs.Prelude.{◌≡◌};
 ghost use Rattle.dd_output.specs.declared.fault.ReadFault.TheVariants.{Memory};
 
 use std::alloc::{AllocError, AllocFailed};
 use thiserror::Error;
 
-/// Why an output could not be read.
+/// Why a whole output could not be read.
 #[derive(Clone, Copy, Debug, PartialEq, Eq, Error)]
 pub enum CertificateFault {
-    /// The bytes are no output. This many of them begin one, and one more does not.
+    /// The bytes are no output. Some output begins with this many of them, and none with one more.
     #[error("no output goes on after {0} bytes")]
     Malformed(u64),
-    /// There is no memory for the output.
+    /// Memory ran out.
     #[error("out of memory")]
     Memory,
 }
 
-/// What stopped the reading inside.
+/// Why a reader of a part of an output stopped.
 #[derive(Debug, Drop)]
 pub(crate) enum ReadFault {
     /// Memory ran out.
     Memory,
-    /// Reading stopped with this many bytes left.
+    /// The next byte is wrong, or there is none. This many bytes were left.
     Stopped(usize),
 }
 

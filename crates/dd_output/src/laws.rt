@@ -1,4 +1,4 @@
-//! Laws of outputs and their texts, for callers.
+//! Laws of outputs and their texts.
 ghost use Rattle.std.specs.Prelude.{◌≡◌, ◌++◌, ◌⊎◌, ℕ, List, Result, Ok, Err};
 ghost use Rattle.dd_output.specs.declared.output.Output.{Output};
 ghost use Rattle.dd_output.specs.Outputs.{output_text, IsWritableOutput, IsWellFormed};
@@ -7,22 +7,22 @@ ghost use Rattle.dd_output.specs.declared.fault.CertificateFault.{CertificateFau
 ghost use Rattle.dd_output.specs.declared.fault.CertificateFault.TheVariants as faults;
 ghost use Rattle.dd_output.specs.reading.Whole.{completion};
 
-/// Does nothing; its contract says that each text is the text of one output only.
+/// Does nothing. Its contract says that different outputs have different texts.
 pub fn one_output()
     ensures { (a b : Output) → IsWritableOutput a → IsWritableOutput b → output_text a ≡ output_text b → a ≡ b }
 {}
 
-/// Does nothing; its contract says that reading the text of an output gives that output, if there is memory for it.
+/// Does nothing. Its contract says that reading the text of an output gives that output, unless memory runs out.
 pub fn read_again()
     ensures { (o : Output) (read : Result Output CertificateFault) → IsWritableOutput o → ReadsOutput (output_text o) read → (read ≡ Ok o) ⊎ (read ≡ Err faults.Memory) }
 {}
 
-/// Does nothing; its contract says that bytes have at most one offset.
+/// Does nothing. Its contract says that at most one offset fits the bytes, so they determine that of `Malformed`.
 pub fn one_offset()
     ensures { (bytes : List ℕ) (m n : ℕ) → IsOffset bytes m → IsOffset bytes n → m ≡ n }
 {}
 
-/// Does nothing; its contract says that a prefix of an output, followed by the text that completes it, is an output.
+/// Does nothing. Its contract says that a prefix of an output, followed by its `completion`, is an output.
 pub fn completes()
     ensures { (front more : List ℕ) → IsWellFormed (front ++ more) → IsWellFormed (front ++ completion front) }
 {}

@@ -1,14 +1,13 @@
-//! The tokens of a text: words, numbers and raw bytes. Each includes the byte that ends it, so no token's text is a
-//! prefix of another's. A reader takes the bytes and returns those that it did not read.
+//! Reads words, numbers and raw bytes. A number has a byte that ends it, so no number's text is a prefix of another's.
 ghost use Rattle.std.specs.Prelude.{◌≡◌, ◌<◌, ◌≤◌, ◌^◌, ◌-◌, ◌*◌, ◌+◌, true, length, [], IfOk, nat_le};
 ghost use Rattle.dd_output.specs.reading.Stops.{Gives, is_digit, goes_on, starts, word_at, digits_at, number_at, bytes_at, begins};
 
 use crate::fault::ReadFault;
 
-/// Ten times a number below this one, plus a digit, fits in 64 bits.
+/// A number below this one still fits in 64 bits with one more digit.
 const SHORT: u64 = 1 << 60;
 
-/// Whether the bytes begin with this one.
+/// Whether the first of the bytes is this one.
 pub(crate) fn begins(bytes: &[u8], first: u8) -> bool
     ensures { result ≡ begins first bytes.now }
 {
@@ -18,7 +17,7 @@ pub(crate) fn begins(bytes: &[u8], first: u8) -> bool
     }
 }
 
-/// The bytes after a word.
+/// The bytes after this word.
 #[inline]
 pub(crate) fn word_at<'a>(bytes: &'a [u8], word: &[u8]) -> Result<&'a [u8], ReadFault>
     ensures { Gives (λ rest. (tt, rest.now)) result (word_at word.now bytes.now) }
@@ -40,7 +39,7 @@ fn is_digit(byte: u8) -> bool
     b'0' <= byte && byte <= b'9'
 }
 
-/// A number with one more digit.
+/// The number with one more digit.
 fn next(number: u64, digit: u8) -> u128
     requires { is_digit digit ≡ true }
     ensures { result ≡ number * 10 + (digit - 48) }
@@ -48,7 +47,7 @@ fn next(number: u64, digit: u8) -> u128
     u128::from(number) * 10 + u128::from(digit - b'0')
 }
 
-/// Whether a number with one more digit is at most the bound. The numbers of most texts are far below 2^64.
+/// Whether the number with one more digit is at most the bound. Most numbers are below `SHORT`, and need no 128 bits.
 fn has_room(bound: u64, number: u64, digit: u8) -> bool
     requires { is_digit digit ≡ true }
     ensures { result ≡ nat_le (number * 10 + (digit - 48)) bound }
@@ -60,19 +59,22 @@ fn has_room(bound: u64, number: u64, digit: u8) -> bool
     }
 }
 
+/// Whether the byte can be one more digit of the number: no digit follows a leading 0, and the bound holds.
 fn goes_on(bound: u64, number: u64, byte: u8) -> bool
     ensures { result ≡ goes_on bound number byte }
 {
     is_digit(byte) && (0 < number && has_room(bound, number, byte))
 }
 
+/// Whether the byte can be the first digit of a number from `low`, which is 0 or 1, to `bound`.
 fn starts(low: u64, bound: u64, byte: u8) -> bool
     ensures { result ≡ starts low bound byte }
 {
     is_digit(byte) && (low <= u64::from(byte - b'0') && u64::from(byte - b'0') <= bound)
 }
 
-/// The digits after the first one, up to one of the two bytes that can end the number.
+/// The rest of a number whose first digit was read before. Returns the whole number, the byte that ends it, and the bytes after
+/// that. `end` and `other` are the bytes that can end it.
 fn digits_at(
     bytes: &[u8],
     bound: u64,
@@ -104,7 +106,8 @@ fn digits_at(
     }
 }
 
-/// A number from `low`, which is 0 or 1, to `bound`, the byte that ends it, and the bytes after that.
+/// A number from `low`, which is 0 or 1, to `bound`, the byte that ends it, and the bytes after that. `end` and `other` are the
+/// bytes that can end it.
 pub(crate) fn number_at(
     bytes: &[u8],
     low: u64,

@@ -1,5 +1,9 @@
-//! Whole outputs, read back. Bytes that are no output are refused at the first byte with which no output continues.
-//! The grammar is a table of lines. Each line has a text that completes it, so the offset is exact.
+//! Reads whole outputs back, and writes them. Bytes that are no output are refused at their first wrong byte: some output begins
+//! with the bytes before it, and none with one more. The grammar is a table with a row for each kind of answer. Wherever reading
+//! stops, the grammar has a text that completes what was read. So no byte before the stop is wrong.
+//!
+//! Most functions of bytes are readers. A reader reads the value with which the bytes begin, and returns it with the bytes that are
+//! left. It stops at the first wrong byte. Its doc comment names what it reads.
 #![tactic(auto)]
 
 mod bodies;

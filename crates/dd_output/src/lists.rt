@@ -1,4 +1,4 @@
-//! Lists in a text: those that a 0 ends, and the numbers that a line ends with.
+//! Reads lists: those that a 0 ends, and the numbers that a line ends with.
 ghost use Rattle.std.specs.Prelude.{◌≡◌, ◌≤◌, ◌-◌, [], suc};
 ghost use Rattle.dd_certificate.specs.Bounds.{most_number};
 ghost use Rattle.dd_output.specs.reading.Stops.{Gives, number_at, map_at};
@@ -55,7 +55,7 @@ fn literal_entry(bytes: &[u8]) -> Result<(Option<Literal>, &[u8]), ReadFault>
     }
 }
 
-/// A clause's number, or nothing at the end of a list.
+/// The number of a clause, or nothing at the end of a list.
 fn number_entry(bytes: &[u8], end: u8) -> Result<(Option<u64>, &[u8]), ReadFault>
     ensures { Gives (λ x. (number_seen x.0, x.1.now)) result (number_entry end bytes.now) }
 {
@@ -68,99 +68,101 @@ fn number_entry(bytes: &[u8], end: u8) -> Result<(Option<u64>, &[u8]), ReadFault
     }
 }
 
-/// The clause of the literals up to the 0 that ends them. They are gathered in the room, which is emptied first.
+/// A clause: literals up to the 0 that ends them. They are gathered in the buffer, which is emptied first.
 pub(crate) fn clause_of<'a>(
     alloc: Global,
-    room: &mut Vec<Literal>,
+    buffer: &mut Vec<Literal>,
     bytes: &'a [u8],
 ) -> Result<(Clause, &'a [u8]), ReadFault>
     ensures { Gives (λ x. (x.0, x.1.now)) result (literals.read bytes.now) }
 {
-    room.clear();
+    buffer.clear();
     let mut rest = bytes;
     loop {
         let (entry, after) = literal_entry(rest)?;
         rest = after;
         match entry {
-            Some(literal) => room.push(literal)?,
-            None => return Ok((Clause::from_literals(alloc, room.as_slice())?, rest)),
+            Some(literal) => buffer.push(literal)?,
+            None => return Ok((Clause::from_literals(alloc, buffer.as_slice())?, rest)),
         }
     }
 }
 
-/// Numbers of clauses up to the 0 that ends them, and the byte after it. They are gathered in the room, which is emptied first.
+/// Numbers of clauses up to the 0 that ends them and the byte `end` after it. They are gathered in the buffer, which is emptied
+/// first.
 pub(crate) fn numbers_until<'a>(
     alloc: Global,
-    room: &mut Vec<u64>,
+    buffer: &mut Vec<u64>,
     bytes: &'a [u8],
     end: u8,
 ) -> Result<(Items<u64>, &'a [u8]), ReadFault>
     ensures { Gives (λ x. (x.0, x.1.now)) result ((numbers_until end).read bytes.now) }
 {
-    room.clear();
+    buffer.clear();
     let mut rest = bytes;
     loop {
         let (entry, after) = number_entry(rest, end)?;
         rest = after;
         match entry {
-            Some(number) => room.push(number)?,
-            None => return Ok((Items::from_slice(alloc, room.as_slice())?, rest)),
+            Some(number) => buffer.push(number)?,
+            None => return Ok((Items::from_slice(alloc, buffer.as_slice())?, rest)),
         }
     }
 }
 
-/// The byte that ends the number at a place, from 0, of a line with at least `least` numbers: a space before the last
-/// required one, and then a line feed.
-pub(crate) fn end_at(least: u64, place: u64) -> u8
-    ensures { result ≡ end_at least place }
+/// The byte that ends the number with this index, from 0, in the shortest line allowed. That line has `least` numbers. The byte is a
+/// space, or a line feed after the last one.
+pub(crate) fn end_at(least: u64, index: u64) -> u8
+    ensures { result ≡ end_at least index }
 {
-    if u128::from(place) + 1 < u128::from(least) {
+    if u128::from(index) + 1 < u128::from(least) {
         b' '
     } else {
         b'\n'
     }
 }
 
-/// The other byte that can end it: a line feed after the last number allowed, else a space.
-pub(crate) fn other_at(most: Option<u64>, place: u64) -> u8
-    ensures { result ≡ other_at most place }
+/// The byte that ends the number with this index, from 0, in the longest line allowed. That line has `most` numbers, or has no end if
+/// `most` is `None`. The byte is a space, or a line feed after the last one.
+pub(crate) fn other_at(most: Option<u64>, index: u64) -> u8
+    ensures { result ≡ other_at most index }
 {
     match most {
-        Some(most) if u128::from(most) <= u128::from(place) + 1 => b'\n',
+        Some(most) if u128::from(most) <= u128::from(index) + 1 => b'\n',
         _ => b' ',
     }
 }
 
-/// The number at a place of a line, and the byte that ends it.
+/// The number with this index in a line, and the byte that ends it.
 #[tactic(auto, using(crate::proofs::Counts::number_any))]
 fn number_in_line(
     bytes: &[u8],
     least: u64,
     most: Option<u64>,
-    place: u64,
+    index: u64,
 ) -> Result<(u64, u8, &[u8]), ReadFault>
-    ensures { Gives (λ x. ((x.0, x.1), x.2.now)) result (number_at 0 most_number (end_at least place) (other_at most place) (λ _. zeros (least - suc place)) bytes.now) }
+    ensures { Gives (λ x. ((x.0, x.1), x.2.now)) result (number_at 0 most_number (end_at least index) (other_at most index) (λ _. zeros (least - suc index)) bytes.now) }
 {
     number_at(
         bytes,
         0,
         MOST_NUMBER,
-        end_at(least, place),
-        other_at(most, place),
+        end_at(least, index),
+        other_at(most, index),
     )
 }
 
-/// A number of a line, and whether it is the last.
+/// The number with this index in a line, and whether it is the last one.
 #[tactic(auto, unfolding(crate::specs::reading::Lists::line_entry))]
 fn line_entry(
     bytes: &[u8],
     least: u64,
     most: Option<u64>,
-    place: u64,
+    index: u64,
 ) -> Result<(u64, bool, &[u8]), ReadFault>
-    ensures { Gives (λ x. (line_seen x.0 x.1, x.2.now)) result (line_entry least most place bytes.now) }
+    ensures { Gives (λ x. (line_seen x.0 x.1, x.2.now)) result (line_entry least most index bytes.now) }
 {
-    let (number, end, rest) = number_in_line(bytes, least, most, place)?;
+    let (number, end, rest) = number_in_line(bytes, least, most, index)?;
     Ok((number, end == b'\n', rest))
 }
 
@@ -173,7 +175,7 @@ pub(crate) fn numbers_of(
     most: Option<u64>,
 ) -> Result<(Items<u64>, &[u8]), ReadFault>
     requires some { 1 ≤ least }
-    requires room { AtMost most least }
+    requires allowed { AtMost most least }
     ensures { Gives (λ x. (x.0, x.1.now)) result ((numbers least most).read bytes.now) }
 {
     let mut numbers = Items::new(alloc);
@@ -188,7 +190,7 @@ pub(crate) fn numbers_of(
     }
 }
 
-/// A number after a minus sign.
+/// A number below 0, read after its minus sign.
 fn minus_at(bytes: &[u8], end: u8, other: u8) -> Result<(i64, u8, &[u8]), ReadFault>
     ensures { Gives (λ x. ((x.0, x.1), x.2.now)) result (map_at minus_of (number_at 1 most_number end other (λ _. [])) bytes.now) }
 {
@@ -210,30 +212,30 @@ fn signed_at(bytes: &[u8], end: u8, other: u8) -> Result<(i64, u8, &[u8]), ReadF
     }
 }
 
-/// The signed number at a place of a line, and the byte that ends it.
+/// The signed number with this index in a line, and the byte that ends it.
 #[tactic(auto, using(crate::proofs::Counts::signed_any))]
 fn signed_in_line(
     bytes: &[u8],
     least: u64,
     most: Option<u64>,
-    place: u64,
+    index: u64,
 ) -> Result<(i64, u8, &[u8]), ReadFault>
-    ensures { Gives (λ x. ((x.0, x.1), x.2.now)) result (signed_at most_number (end_at least place) (other_at most place) (zeros (least - suc place)) bytes.now) }
+    ensures { Gives (λ x. ((x.0, x.1), x.2.now)) result (signed_at most_number (end_at least index) (other_at most index) (zeros (least - suc index)) bytes.now) }
 {
-    signed_at(bytes, end_at(least, place), other_at(most, place))
+    signed_at(bytes, end_at(least, index), other_at(most, index))
 }
 
-/// A signed number of a line, and whether it is the last.
+/// The signed number with this index in a line, and whether it is the last one.
 #[tactic(auto, unfolding(crate::specs::reading::Lists::signed_entry))]
 fn signed_entry(
     bytes: &[u8],
     least: u64,
     most: Option<u64>,
-    place: u64,
+    index: u64,
 ) -> Result<(i64, bool, &[u8]), ReadFault>
-    ensures { Gives (λ x. (signed_seen x.0 x.1, x.2.now)) result (signed_entry least most place bytes.now) }
+    ensures { Gives (λ x. (signed_seen x.0 x.1, x.2.now)) result (signed_entry least most index bytes.now) }
 {
-    let (number, end, rest) = signed_in_line(bytes, least, most, place)?;
+    let (number, end, rest) = signed_in_line(bytes, least, most, index)?;
     Ok((number, end == b'\n', rest))
 }
 
@@ -246,7 +248,7 @@ pub(crate) fn integers_of(
     most: Option<u64>,
 ) -> Result<(Items<i64>, &[u8]), ReadFault>
     requires some { 1 ≤ least }
-    requires room { AtMost most least }
+    requires allowed { AtMost most least }
     ensures { Gives (λ x. (x.0, x.1.now)) result ((integers least most).read bytes.now) }
 {
     let mut numbers = Items::new(alloc);

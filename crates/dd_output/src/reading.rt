@@ -1,4 +1,4 @@
-//! A whole output: the script, the answers to its queries in order, and the end.
+//! Reads a whole output: the script, the answers to its queries in order, and the end.
 ghost use Rattle.std.specs.Prelude.{◌≡◌, ◌∷◌, ◌++◌, ◌<◌, [], Ok, IfOk, replicate};
 ghost use Rattle.dd_values.specs.Bounds.{most_script, most_commands};
 ghost use Rattle.dd_output.specs.Outputs.{end_line};
@@ -26,26 +26,28 @@ use std::alloc::Global;
 /// The greatest length of an output that is read, in bytes.
 pub const MOST_OUTPUT: usize = 268_435_456;
 
-/// The words before the answer to the query at this place, from 0.
-fn query_word(alloc: Global, place: u64) -> Result<Vec<u8>, ReadFault>
-    requires { place < most_commands }
-    ensures value { IfOk result (λ word. word.items ≡ query_text place) }
-    ensures fault { Gives (λ word. word.items) result (Ok (query_text place)) }
+/// The text before an answer: `query`, a space, the query's number, and a space. The number is the index plus 1.
+fn query_word(alloc: Global, index: u64) -> Result<Vec<u8>, ReadFault>
+    requires { index < most_commands }
+    ensures value { IfOk result (λ word. word.items ≡ query_text index) }
+    ensures fault { Gives (λ word. word.items) result (Ok (query_text index)) }
 {
     let mut word = Vec::new(alloc);
     word.extend_from_slice(b"query ")?;
-    push_decimal(&mut word, place + 1)?;
+    push_decimal(&mut word, index + 1)?;
     word.push(b' ')?;
     Ok(word)
 }
 
+/// The answer to the query with this index, from 0, or `None` for the end. The index is below the most queries that an output may
+/// have.
 #[tactic(auto, unfolding(crate::specs::reading::Whole::open_entry))]
-fn open_entry(alloc: Global, place: u64, bytes: &[u8]) -> Result<(Option<Answer>, &[u8]), ReadFault>
-    requires { place < most_commands }
-    ensures { Gives (λ x. (answer_seen x.0, x.1.now)) result (open_entry place bytes.now) }
+fn open_entry(alloc: Global, index: u64, bytes: &[u8]) -> Result<(Option<Answer>, &[u8]), ReadFault>
+    requires { index < most_commands }
+    ensures { Gives (λ x. (answer_seen x.0, x.1.now)) result (open_entry index bytes.now) }
 {
     if begins(bytes, b'q') {
-        let word = query_word(alloc, place)?;
+        let word = query_word(alloc, index)?;
         let rest = word_at(bytes, word.as_slice())?;
         let (answer, rest) = answer_of(alloc, rest)?;
         Ok((Some(answer), rest))
@@ -55,23 +57,24 @@ fn open_entry(alloc: Global, place: u64, bytes: &[u8]) -> Result<(Option<Answer>
     }
 }
 
-/// An answer, or nothing at the end. After the last query that there may be, only the end is left.
+/// The same for any index. After the last query that an output may have, only the end can follow.
 #[tactic(auto, unfolding(crate::specs::reading::Whole::answer_entry))]
 fn answer_entry(
     alloc: Global,
-    place: u64,
+    index: u64,
     bytes: &[u8],
 ) -> Result<(Option<Answer>, &[u8]), ReadFault>
-    ensures { Gives (λ x. (answer_seen x.0, x.1.now)) result (answer_entry place bytes.now) }
+    ensures { Gives (λ x. (answer_seen x.0, x.1.now)) result (answer_entry index bytes.now) }
 {
-    if place < MOST_COMMANDS as u64 {
-        open_entry(alloc, place, bytes)
+    if index < MOST_COMMANDS as u64 {
+        open_entry(alloc, index, bytes)
     } else {
         let rest = word_at(bytes, b"end\n")?;
         Ok((None, rest))
     }
 }
 
+/// All answers, and the end.
 fn answers_of(alloc: Global, bytes: &[u8]) -> Result<(Items<Answer>, &[u8]), ReadFault>
     ensures { Gives (λ x. (x.0, x.1.now)) result (answers_at bytes.now) }
 {
@@ -87,6 +90,7 @@ fn answers_of(alloc: Global, bytes: &[u8]) -> Result<(Items<Answer>, &[u8]), Rea
     }
 }
 
+/// The length of the script, in bytes.
 #[tactic(auto, using(crate::proofs::Counts::number_any))]
 fn size_of_script(bytes: &[u8]) -> Result<(u64, u8, &[u8]), ReadFault>
     ensures value { Gives (λ x. ((x.0, x.1), x.2.now)) result (number_at 0 most_script 10 10 (λ n. replicate n 0 ++ 10 ∷ end_line) bytes.now) }
@@ -94,6 +98,7 @@ fn size_of_script(bytes: &[u8]) -> Result<(u64, u8, &[u8]), ReadFault>
     number_at(bytes, 0, MOST_SCRIPT as u64, b'\n', b'\n')
 }
 
+/// The script, with its length before it.
 #[tactic(auto, unfolding(crate::specs::reading::Whole::script_at))]
 fn script_of(alloc: Global, bytes: &[u8]) -> Result<(Items<u8>, &[u8]), ReadFault>
     ensures { Gives (λ x. (x.0, x.1.now)) result (script_at bytes.now) }
@@ -104,6 +109,7 @@ fn script_of(alloc: Global, bytes: &[u8]) -> Result<(Items<u8>, &[u8]), ReadFaul
     Ok((Items::from_slice(alloc, script)?, rest))
 }
 
+/// An output, and the bytes after it.
 #[tactic(auto, unfolding(crate::specs::reading::Whole::output_at))]
 fn output_of(alloc: Global, bytes: &[u8]) -> Result<(Output, &[u8]), ReadFault>
     ensures { Gives (λ x. (x.0, x.1.now)) result (output_at bytes.now) }
@@ -114,6 +120,7 @@ fn output_of(alloc: Global, bytes: &[u8]) -> Result<(Output, &[u8]), ReadFault>
     Ok((Output { script, answers }, rest))
 }
 
+/// An output. No bytes may be left after it.
 #[tactic(auto, unfolding(crate::specs::reading::Whole::all_at))]
 fn all_of(alloc: Global, bytes: &[u8]) -> Result<Output, ReadFault>
     ensures { Gives (λ x. x) result (all_at bytes.now) }
@@ -125,12 +132,12 @@ fn all_of(alloc: Global, bytes: &[u8]) -> Result<Output, ReadFault>
     Ok(output)
 }
 
-/// The one output that the bytes spell.
+/// The only output with this text.
 ///
 /// # Errors
 ///
-/// `Malformed` if the bytes spell none, with the length of the longest prefix that begins some output; else `Memory`,
-/// if there is no memory for the output.
+/// `Malformed` if there is none, with the length of the longest prefix of the bytes that some output begins with. `Memory` if memory
+/// runs out.
 #[tactic(auto, using(crate::proofs::Whole::whole_takes, crate::proofs::Whole::refused_at, crate::proofs::Whole::left_fits))]
 pub fn read_output(alloc: Global, bytes: &[u8]) -> Result<Output, CertificateFault>
     ensures { ReadsOutput bytes.now result }

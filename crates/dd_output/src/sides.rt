@@ -1,4 +1,5 @@
-//! The periods of a configuration, the shear that may follow two or three of them, and the side of a query to which they belong.
+//! Reads the periods of a configuration, the shear that may follow two or three of them, and the side that may come before them.
+//! The side says which of the two rules of an equality the configuration obeys.
 ghost use Rattle.std.specs.Prelude.{◌≡◌};
 ghost use Rattle.dd_output.specs.reading.Stops.{Gives};
 ghost use Rattle.dd_output.specs.reading.Periods.{period_at, shear_at, period_entry, periods};
@@ -11,7 +12,7 @@ use dd_certificate::Side;
 use dd_values::{Items, MOST_NUMBER};
 use std::alloc::Global;
 
-/// The entry after a space of the periods' line.
+/// An entry of the line of periods, with what comes after it.
 #[derive(Clone, Copy, Debug)]
 pub(crate) enum PeriodEntry {
     /// A period, and a space after it.
@@ -22,6 +23,7 @@ pub(crate) enum PeriodEntry {
     Shear(u64),
 }
 
+/// A period.
 fn period_at(bytes: &[u8]) -> Result<(PeriodEntry, &[u8]), ReadFault>
     ensures { Gives (λ x. (period_seen x.0, x.1.now)) result (period_at bytes.now) }
 {
@@ -33,6 +35,7 @@ fn period_at(bytes: &[u8]) -> Result<(PeriodEntry, &[u8]), ReadFault>
     }
 }
 
+/// The shear, after the word `shear`.
 fn shear_at(bytes: &[u8]) -> Result<(PeriodEntry, &[u8]), ReadFault>
     ensures { Gives (λ x. (period_seen x.0, x.1.now)) result (shear_at bytes.now) }
 {
@@ -41,14 +44,14 @@ fn shear_at(bytes: &[u8]) -> Result<(PeriodEntry, &[u8]), ReadFault>
     Ok((PeriodEntry::Shear(shear), rest))
 }
 
-/// The entry at this place, from 0.
+/// The entry with this index, from 0. A shear comes after two periods at the earliest, and after three at the latest.
 #[tactic(auto, unfolding(crate::specs::reading::Periods::period_entry))]
-fn period_entry(bytes: &[u8], place: u64) -> Result<(PeriodEntry, &[u8]), ReadFault>
-    ensures { Gives (λ x. (period_seen x.0, x.1.now)) result (period_entry place bytes.now) }
+fn period_entry(bytes: &[u8], index: u64) -> Result<(PeriodEntry, &[u8]), ReadFault>
+    ensures { Gives (λ x. (period_seen x.0, x.1.now)) result (period_entry index bytes.now) }
 {
-    if place < 2 {
+    if index < 2 {
         period_at(bytes)
-    } else if place < 3 {
+    } else if index < 3 {
         if begins(bytes, b's') {
             shear_at(bytes)
         } else {
@@ -59,7 +62,7 @@ fn period_entry(bytes: &[u8], place: u64) -> Result<(PeriodEntry, &[u8]), ReadFa
     }
 }
 
-/// The periods and the shear, up to the end of their line.
+/// The periods and the shear, up to the end of their line. The shear is 0 if none is written.
 #[tactic(auto, unfolding(crate::specs::reading::Periods::periods))]
 pub(crate) fn periods_of(alloc: Global, bytes: &[u8]) -> Result<(Items<u64>, u64, &[u8]), ReadFault>
     ensures { Gives (λ x. ((x.0, x.1), x.2.now)) result (periods.read bytes.now) }
@@ -80,7 +83,7 @@ pub(crate) fn periods_of(alloc: Global, bytes: &[u8]) -> Result<(Items<u64>, u64
     }
 }
 
-/// The side, if there is one, and then the periods and the shear.
+/// The side, and then the periods and the shear. The side is `Whole` if none is written.
 #[tactic(auto, unfolding(crate::specs::reading::Grammar::side_and_periods))]
 pub(crate) fn side_and_periods_of(
     alloc: Global,

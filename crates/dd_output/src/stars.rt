@@ -1,10 +1,10 @@
-//! Patterns from which cells may be left out. Each is one line, with a star in place of each symbol left out.
+//! Reads patterns from which cells may be left out. Each pattern is a line, with a star for each cell that is left out.
 ghost use Rattle.std.specs.Prelude.{◌≡◌, ◌-◌, [], None, suc};
 ghost use Rattle.dd_certificate.specs.Bounds.{most_number};
 ghost use Rattle.dd_output.specs.reading.Stops.{Gives, number_at, many_at, copies};
 ghost use Rattle.dd_output.specs.reading.Lists.{end_at, other_at, zeros};
-ghost use Rattle.dd_output.specs.reading.Stars.{end_byte_at, kept_at, kept_entry, kept};
-ghost use Rattle.dd_output.specs.reading.Seen.{kept_seen};
+ghost use Rattle.dd_output.specs.reading.Stars.{end_byte_at, symbol_or_star_at, symbol_or_star_entry, symbols_and_stars};
+ghost use Rattle.dd_output.specs.reading.Seen.{symbol_or_star_seen};
 ghost use Rattle.dd_output.specs.reading.Grammar as grammar;
 
 use crate::fault::ReadFault;
@@ -14,7 +14,7 @@ use dd_certificate::{Answer, Starred};
 use dd_values::{Items, MOST_NUMBER};
 use std::alloc::Global;
 
-/// One of two bytes.
+/// One of the bytes `end` and `other`.
 fn end_byte_at(bytes: &[u8], end: u8, other: u8) -> Result<(u8, &[u8]), ReadFault>
     ensures { Gives (λ x. (x.0, x.1.now)) result (end_byte_at end other [] bytes.now) }
 {
@@ -30,10 +30,14 @@ fn end_byte_at(bytes: &[u8], end: u8, other: u8) -> Result<(u8, &[u8]), ReadFaul
     }
 }
 
-/// A symbol, or nothing for a star, the byte that ends it, and the bytes after that.
-#[tactic(auto, unfolding(crate::specs::reading::Stars::kept_at))]
-fn kept_at(bytes: &[u8], end: u8, other: u8) -> Result<(Option<u64>, u8, &[u8]), ReadFault>
-    ensures { Gives (λ x. ((x.0, x.1), x.2.now)) result (kept_at end other [] bytes.now) }
+/// A symbol, or `None` for a star; the byte that ends it; and the bytes after that.
+#[tactic(auto, unfolding(crate::specs::reading::Stars::symbol_or_star_at))]
+fn symbol_or_star_at(
+    bytes: &[u8],
+    end: u8,
+    other: u8,
+) -> Result<(Option<u64>, u8, &[u8]), ReadFault>
+    ensures { Gives (λ x. ((x.0, x.1), x.2.now)) result (symbol_or_star_at end other [] bytes.now) }
 {
     if begins(bytes, b'*') {
         let rest = word_at(bytes, b"*")?;
@@ -45,32 +49,35 @@ fn kept_at(bytes: &[u8], end: u8, other: u8) -> Result<(Option<u64>, u8, &[u8]),
     }
 }
 
-/// The symbol or star at a place of a line, and the byte that ends it.
-#[tactic(auto, using(crate::proofs::Counts::kept_any))]
-fn kept_in_line(bytes: &[u8], place: u64) -> Result<(Option<u64>, u8, &[u8]), ReadFault>
-    ensures { Gives (λ x. ((x.0, x.1), x.2.now)) result (kept_at (end_at 1 place) (other_at None place) (zeros (1 - suc place)) bytes.now) }
+/// The symbol or star with this index in a line, and the byte that ends it.
+#[tactic(auto, using(crate::proofs::Counts::symbol_or_star_any))]
+fn symbol_or_star_in_line(bytes: &[u8], index: u64) -> Result<(Option<u64>, u8, &[u8]), ReadFault>
+    ensures { Gives (λ x. ((x.0, x.1), x.2.now)) result (symbol_or_star_at (end_at 1 index) (other_at None index) (zeros (1 - suc index)) bytes.now) }
 {
-    kept_at(bytes, end_at(1, place), other_at(None, place))
+    symbol_or_star_at(bytes, end_at(1, index), other_at(None, index))
 }
 
-/// A symbol or a star of a line, and whether it is the last.
-#[tactic(auto, unfolding(crate::specs::reading::Stars::kept_entry))]
-fn kept_entry(bytes: &[u8], place: u64) -> Result<(Option<u64>, bool, &[u8]), ReadFault>
-    ensures { Gives (λ x. (kept_seen x.0 x.1, x.2.now)) result (kept_entry place bytes.now) }
+/// The symbol or star with this index in a line, and whether it is the last one.
+#[tactic(auto, unfolding(crate::specs::reading::Stars::symbol_or_star_entry))]
+fn symbol_or_star_entry(bytes: &[u8], index: u64) -> Result<(Option<u64>, bool, &[u8]), ReadFault>
+    ensures { Gives (λ x. (symbol_or_star_seen x.0 x.1, x.2.now)) result (symbol_or_star_entry index bytes.now) }
 {
-    let (symbol, end, rest) = kept_in_line(bytes, place)?;
+    let (symbol, end, rest) = symbol_or_star_in_line(bytes, index)?;
     Ok((symbol, end == b'\n', rest))
 }
 
 /// The symbols and stars that a line ends with.
-#[tactic(auto, unfolding(crate::specs::reading::Stars::kept))]
-fn kept_of(alloc: Global, bytes: &[u8]) -> Result<(Items<Option<u64>>, &[u8]), ReadFault>
-    ensures { Gives (λ x. (x.0, x.1.now)) result (kept.read bytes.now) }
+#[tactic(auto, unfolding(crate::specs::reading::Stars::symbols_and_stars))]
+fn symbols_and_stars_of(
+    alloc: Global,
+    bytes: &[u8],
+) -> Result<(Items<Option<u64>>, &[u8]), ReadFault>
+    ensures { Gives (λ x. (x.0, x.1.now)) result (symbols_and_stars.read bytes.now) }
 {
     let mut symbols = Items::new(alloc);
     let mut rest = bytes;
     loop {
-        let (symbol, is_last, after) = kept_entry(rest, symbols.len() as u64)?;
+        let (symbol, is_last, after) = symbol_or_star_entry(rest, symbols.len() as u64)?;
         rest = after;
         symbols.push(symbol)?;
         if is_last {
@@ -79,7 +86,7 @@ fn kept_of(alloc: Global, bytes: &[u8]) -> Result<(Items<Option<u64>>, &[u8]), R
     }
 }
 
-/// The node, and then the symbols and stars.
+/// The line of a pattern: its node, and then its symbols and stars.
 #[tactic(auto, unfolding(crate::specs::reading::Grammar::starred))]
 fn starred_of(alloc: Global, bytes: &[u8]) -> Result<(Starred, &[u8]), ReadFault>
     ensures { Gives (λ x. (x.0, x.1.now)) result (grammar.starred.read bytes.now) }
@@ -90,11 +97,12 @@ fn starred_of(alloc: Global, bytes: &[u8]) -> Result<(Starred, &[u8]), ReadFault
         let symbols = Items::new(alloc);
         Ok((Starred { node, symbols }, rest))
     } else {
-        let (symbols, rest) = kept_of(alloc, rest)?;
+        let (symbols, rest) = symbols_and_stars_of(alloc, rest)?;
         Ok((Starred { node, symbols }, rest))
     }
 }
 
+/// The number of patterns.
 #[tactic(auto, using(crate::proofs::Counts::number_any))]
 fn count_of_patterns(bytes: &[u8]) -> Result<(u64, u8, &[u8]), ReadFault>
     ensures { Gives (λ x. ((x.0, x.1), x.2.now)) result (number_at 0 most_number 10 10 (λ n. copies n grammar.starred.least) bytes.now) }
@@ -102,6 +110,7 @@ fn count_of_patterns(bytes: &[u8]) -> Result<(u64, u8, &[u8]), ReadFault>
     number_at(bytes, 0, MOST_NUMBER, b'\n', b'\n')
 }
 
+/// This many patterns.
 fn patterns_of(
     alloc: Global,
     count: u64,
@@ -119,6 +128,7 @@ fn patterns_of(
     Ok((patterns, rest))
 }
 
+/// A `MINIMAL` answer.
 #[tactic(auto, unfolding(crate::specs::reading::Grammar::minimal_row))]
 pub(crate) fn minimal_of(alloc: Global, bytes: &[u8]) -> Result<(Answer, &[u8]), ReadFault>
     ensures { Gives (λ x. (x.0, x.1.now)) result (grammar.minimal_row.read bytes.now) }

@@ -1,4 +1,4 @@
-//! Outputs written.
+//! Writes outputs.
 ghost use Rattle.std.specs.Prelude.{◌≡◌, ◌≤◌, length, IfOk};
 ghost use Rattle.dd_values.specs.Bounds.{most_commands};
 ghost use Rattle.dd_output.specs.Outputs.{header, answers_text, output_text, IsWritableOutput};
@@ -7,7 +7,8 @@ use crate::output::Output;
 use dd_certificate::{Answer, write_answer};
 use std::alloc::{AllocError, Global};
 
-/// The lines before the first answer: the script's bytes, with their number before them.
+/// The text before the first answer: the name of the format, the length of the script in bytes, and the script. Fails only if
+/// memory runs out.
 pub fn header(alloc: Global, script: &[u8]) -> Result<Vec<u8>, AllocError>
     ensures { IfOk result (λ text. text.items ≡ header script.now) }
 {
@@ -17,7 +18,7 @@ pub fn header(alloc: Global, script: &[u8]) -> Result<Vec<u8>, AllocError>
     Ok(text)
 }
 
-/// The texts of the answers to the queries from the first on.
+/// The texts of the answers. The first one answers query 1.
 #[tactic(auto, using(crate::proofs::Written::answers_next))]
 fn answers_text(alloc: Global, answers: &[Answer]) -> Result<Vec<u8>, AllocError>
     requires { length answers.now ≤ most_commands }
@@ -31,7 +32,7 @@ fn answers_text(alloc: Global, answers: &[Answer]) -> Result<Vec<u8>, AllocError
     Ok(text)
 }
 
-/// The text of an output: its script, the answers to the queries in order, and the end.
+/// The text of an output: its script, the answers to its queries in order, and the end. Fails only if memory runs out.
 pub fn write_output(alloc: Global, output: &Output) -> Result<Vec<u8>, AllocError>
     requires { IsWritableOutput output.now }
     ensures { IfOk result (λ text. text.items ≡ output_text output.now) }

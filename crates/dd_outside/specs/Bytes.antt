@@ -1,33 +1,34 @@
--- What calls do to the bytes that a source has left and a sink holds, where these are known.
+-- What reads and writes do to the bytes left in a source and held by a sink, where these bytes are known. `old` are the
+-- known bytes before, `new` those after.
 use Rattle.std.specs.Prelude.{◌≡◌, ℕ, ◌-◌, ◌^◌, ◌≤◌, ◌<◌, List, ◌++◌, length, min}
 use Rattle.std.specs.{declared.option.Option.Option, Io.KnownBytes.Appends, Io.KnownBytes.Consumes, Io.KnownBytes.IsAtEnd}
 use Rattle.std.proofs.Common.{arith}
 
--- The sink gained a prefix of the text.
+-- A prefix of the text was written: `gained`. The rest is `missing`.
 pub record GainsFront (old new : Option (List ℕ)) (text : List ℕ) : Type 0 where
   pub gained : List ℕ
   pub missing : List ℕ
   pub appends : Appends old new gained
   pub whole : text ≡ gained ++ missing
 
--- The source gave these bytes, and has no more.
+-- These bytes were read, and none is left.
 pub record ReadToEnd (old new : Option (List ℕ)) (bytes : List ℕ) : Type 0 where
   pub consumed : Consumes old new bytes
   pub at_end : IsAtEnd new
 
--- The source gave at most `limit` bytes.
+-- At most `limit` bytes were read.
 pub record GivesAtMost (old new : Option (List ℕ)) (limit : ℕ) : Type 0 where
   pub given : List ℕ
   pub consumed : Consumes old new given
   pub few : length given ≤ limit
 
--- The source gave more bytes than the limit.
+-- More than `limit` bytes were read.
 pub record GivesMore (old new : Option (List ℕ)) (limit : ℕ) : Type 0 where
   pub given : List ℕ
   pub consumed : Consumes old new given
   pub many : limit < length given
 
--- One read added `count` bytes. It added none only at the end of the source.
+-- A read appended `count` bytes to those read before. The count is 0 only at the end of the source.
 pub record ReadsOn (old new : Option (List ℕ)) (before after : List ℕ) (count : ℕ) : Type 0 where
   pub given : List ℕ
   pub consumed : Consumes old new given
@@ -35,7 +36,7 @@ pub record ReadsOn (old new : Option (List ℕ)) (before after : List ℕ) (coun
   pub counted : length given ≡ count
   pub ends : count ≡ 0 → IsAtEnd new
 
--- A 64-bit count that stops at its greatest number.
+-- A count that stops at the greatest number of 64 bits.
 abbrev pub capped : ℕ → ℕ
 capped count = min count (2 ^ 64 - 1)
 

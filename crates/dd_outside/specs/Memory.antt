@@ -1,16 +1,16 @@
--- What a source and a sink in memory hold, and how they are set up.
+-- What a source and a sink in memory hold, and how they were set up.
 use Rattle.std.specs.Prelude.{ℕ, ◌+◌, ◌-◌, List, length, take, drop}
 use Rattle.dd_outside.specs.{Bytes.capped, declared.memory.MemorySource.MemorySource, declared.memory.MemorySink.MemorySink}
 
--- The number of the next call, from 1. It stops at the greatest number of 64 bits.
+-- The number of the next call. The first call is number 1, and the count stops at the greatest number of 64 bits.
 abbrev pub next_call : ℕ → ℕ
 next_call calls = capped (calls + 1)
 
--- The bytes that the source still gives.
+-- The bytes that are left to read.
 abbrev pub source_left : MemorySource → List ℕ
 source_left source = drop source.at source.bytes.items
 
--- The most bytes that a call of the source gives.
+-- The most bytes that a call of the source reads.
 abbrev pub source_step : MemorySource → ℕ
 source_step source = source.step
 
@@ -18,14 +18,15 @@ source_step source = source.step
 abbrev pub source_failing : MemorySource → List ℕ
 source_failing source = source.plan.failing.items
 
--- The number of calls of the source so far, and of those that failed.
+-- How many calls of the source were made.
 abbrev pub source_calls : MemorySource → ℕ
 source_calls source = source.plan.calls
 
+-- How many calls of the source failed.
 abbrev pub source_faults : MemorySource → ℕ
 source_faults source = capped source.plan.faults
 
--- The bytes that the sink took.
+-- The bytes that were written to the sink.
 abbrev pub sink_held : MemorySink → List ℕ
 sink_held sink = take sink.taken sink.room.items
 
@@ -33,7 +34,7 @@ sink_held sink = take sink.taken sink.room.items
 abbrev pub sink_free : MemorySink → ℕ
 sink_free sink = length sink.room.items - sink.taken
 
--- The most bytes that a call of the sink takes.
+-- The most bytes that a call of the sink writes.
 abbrev pub sink_step : MemorySink → ℕ
 sink_step sink = sink.step
 
@@ -41,9 +42,10 @@ sink_step sink = sink.step
 abbrev pub sink_failing : MemorySink → List ℕ
 sink_failing sink = sink.plan.failing.items
 
--- The number of calls of the sink so far, and of those that failed.
+-- How many calls of the sink were made.
 abbrev pub sink_calls : MemorySink → ℕ
 sink_calls sink = sink.plan.calls
 
+-- How many calls of the sink failed.
 abbrev pub sink_faults : MemorySink → ℕ
 sink_faults sink = capped sink.plan.faults

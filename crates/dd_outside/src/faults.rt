@@ -1,16 +1,16 @@
-//! Why a read or a write failed.
+//! The errors of reads and writes.
 ghost use Rattle.std.specs.Prelude.{◌≡◌};
 ghost use Rattle.dd_outside.specs.declared.faults.ReadAllFault.TheVariants.{ReadFault, Memory};
 
 use std::alloc::{AllocError, AllocFailed};
 use thiserror::Error;
 
-/// One read or one write failed.
+/// A read or a write failed.
 #[derive(Clone, Copy, Debug, PartialEq, Eq, Error)]
 #[error("a read or a write failed")]
 pub struct Failed;
 
-/// The sink failed before a piece was written whole.
+/// A write failed before the whole piece was written.
 #[derive(Clone, Copy, Debug, PartialEq, Eq, Error)]
 #[error("a piece was not written whole")]
 pub struct WriteFault;
@@ -18,7 +18,7 @@ pub struct WriteFault;
 /// Why a source was not read to its end.
 #[derive(Clone, Copy, Debug, PartialEq, Eq, Error)]
 pub enum ReadAllFault {
-    /// The source failed.
+    /// A read failed.
     #[error("the source failed")]
     ReadFault,
     /// The source gave more bytes than the limit.

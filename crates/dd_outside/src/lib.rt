@@ -1,4 +1,5 @@
-//! Sources and sinks of bytes that count their faults, and the reading and writing of whole texts.
+//! Sources and sinks of bytes. Each counts its faults, which are its calls that failed. A source can be read to its end, and
+//! a slice can be written whole to a sink.
 #![tactic(auto)]
 
 mod faults;

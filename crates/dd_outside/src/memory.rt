@@ -1,4 +1,4 @@
-//! A source and a sink in memory. They fail at the calls that are listed.
+//! A source and a sink in memory. Their calls are numbered from 1, and those that the caller lists fail.
 ghost use Rattle.std.specs.Prelude.{◌≡◌, ◌+◌, ◌-◌, ◌^◌, ◌<◌, ◌≤◌, ◌↔◌, [], ◌++◌, Some, length, take, drop, min, ◌⊎◌, Contains, IfOk, IsTrue, IsErr};
 
 use crate::faults::Failed;
@@ -6,11 +6,14 @@ use crate::sink::Sink;
 use crate::source::Source;
 use std::alloc::{AllocError, Global};
 
-// The calls that are to fail, how many calls were made, and how many failed.
+// Which calls are to fail, how many were made, and how many failed.
 #[derive(Drop)]
 struct Plan {
+    // The numbers of the calls that are to fail.
     failing: Vec<u64>,
+    // How many calls were made.
     calls: u64,
+    // How many calls failed. Both counts stop at 2^64 - 1.
     faults: u64,
 }
 
@@ -27,7 +30,7 @@ impl Plan {
         }
     }
 
-    // Counts a call. True where it is one of those that fail.
+    // Counts a call, and returns whether it is to fail.
     fn call(&mut self) -> bool
         ensures listed { IsTrue result ↔ Contains self.old.failing.items (min (self.old.calls + 1) (2 ^ 64 - 1)) }
         ensures counted { self.new.calls ≡ min (self.old.calls + 1) (2 ^ 64 - 1) }
@@ -38,7 +41,7 @@ impl Plan {
         self.failing.contains(&self.calls)
     }
 
-    // Counts a fault.
+    // Counts a fault, and returns the error.
     fn fail(&mut self) -> Failed
         ensures faults { self.new.faults ≡ min (self.old.faults + 1) (2 ^ 64 - 1) }
         ensures calls { self.new.calls ≡ self.old.calls }
@@ -49,10 +52,11 @@ impl Plan {
     }
 }
 
-/// A source of bytes in memory. A call gives at most `step` bytes. Calls are numbered from 1, and the listed ones fail.
+/// A source of bytes in memory. A call reads at most `step` bytes. Calls are numbered from 1, and the listed ones fail.
 #[derive(Drop)]
 pub struct MemorySource {
     bytes: Vec<u8>,
+    // How many of the bytes were read.
     at: usize,
     step: usize,
     plan: Plan,
@@ -63,8 +67,7 @@ pub struct MemorySource {
 impl MemorySource {
     ghost use Rattle.dd_outside.specs.Memory.{source_step, source_failing, source_calls};
 
-    /// A source of these bytes. A call gives at most `step` of them; `step` is at least 1. The calls numbered `failing`
-    /// fail. The first call is number 1.
+    /// A source of these bytes. `step` is at least 1. `failing` lists the numbers of the calls that fail.
     pub fn new(bytes: Vec<u8>, step: usize, failing: Vec<u64>) -> Self
         requires { 1 ≤ step }
         ensures left { ⟦<MemorySource as Source>⟧.left result ≡ Some bytes.items }
@@ -82,7 +85,8 @@ impl MemorySource {
     }
 }
 
-// Copies the next bytes, at most `step` of them, and moves past them.
+// Copies the bytes from `at` on, at most `step` of them, to the start of `into`. Moves `at` past them, and returns how many
+// they are.
 pub(crate) fn give(bytes: &[u8], at: &mut usize, step: usize, into: &mut [u8]) -> usize
     requires in_range { at.old ≤ length bytes.now }
     requires moves { 0 < step }
@@ -128,11 +132,12 @@ impl Source for MemorySource {
     }
 }
 
-/// A sink in memory. A call takes at most `step` bytes. Calls are numbered from 1, and the listed ones fail. A call also
-/// fails where the next byte would pass the capacity.
+/// A sink in memory. A call writes at most `step` bytes. Calls are numbered from 1, and the listed ones fail. A write of
+/// at least one byte also fails if the sink is full.
 #[derive(Drop)]
 pub struct MemorySink {
     room: Vec<u8>,
+    // How many bytes of `room` were written.
     taken: usize,
     step: usize,
     plan: Plan,
@@ -143,7 +148,11 @@ pub struct MemorySink {
 impl MemorySink {
     ghost use Rattle.dd_outside.specs.Memory.{sink_free, sink_step, sink_failing, sink_calls};
 
-    /// All room is made here, so that a write takes no memory.
+    /// An empty sink that holds at most `capacity` bytes. `step` is at least 1. `failing` lists the numbers of the calls that
+    /// fail. A write allocates nothing.
+    ///
+    /// # Errors
+    /// `AllocError` if memory ran out.
     pub fn new(
         alloc: Global,
         capacity: usize,
@@ -166,7 +175,7 @@ impl MemorySink {
         })
     }
 
-    /// The bytes that it took.
+    /// The bytes that were written.
     pub fn held_bytes(&self) -> &[u8]
         ensures { ⟦<MemorySink as Sink>⟧.held self.now ≡ Some result.now }
     {
@@ -174,7 +183,8 @@ impl MemorySink {
     }
 }
 
-// Copies a prefix of the piece, at most `step` bytes, behind the bytes taken before.
+// Copies a prefix of the piece, at most `step` bytes, to `room` after the first `taken` bytes. Adds its length to `taken`, and
+// returns it.
 fn take_in(room: &mut [u8], taken: &mut usize, step: usize, piece: &[u8]) -> usize
     requires { taken.old ≤ length room.old }
     ensures count { result ≡ min step (min (length piece.now) (length room.old - taken.old)) }

@@ -7,7 +7,7 @@ use crate::memory::give;
 use crate::sink::Sink;
 use crate::source::Source;
 
-/// Gives these bytes, and never fails.
+/// A source of bytes in memory that never fails.
 #[derive(Drop)]
 pub struct QuietSource {
     bytes: Vec<u8>,
@@ -36,7 +36,7 @@ impl Source for QuietSource {
     }
 }
 
-/// Takes each piece whole, keeps nothing of it, and never fails.
+/// A sink that writes each piece whole, never fails, and keeps nothing.
 #[derive(Drop)]
 pub struct QuietSink;
 

@@ -1,4 +1,4 @@
-//! Sinks, and the writing of a whole piece.
+//! Sinks of bytes, and the writing of a whole slice.
 ghost use Rattle.std.specs.Prelude.{◌≡◌, ◌-◌, ◌^◌, ◌<◌, ◌≤◌, ℕ, List, [], length, Ok, IfOk, OnOk, OnErr};
 ghost use Rattle.std.specs.declared.option.Option.{Option};
 ghost use Rattle.std.specs.Io.{WritesAtMost};
@@ -8,18 +8,19 @@ ghost use Rattle.dd_outside.specs.Bytes.{GainsFront};
 
 use crate::faults::{Failed, WriteFault};
 
-/// Takes bytes.
+/// Where bytes are written to, such as a file.
 pub trait Sink {
-    /// The bytes that it took, where they are known.
+    /// The bytes that were written, where they are known.
     ghost held: { Self → Option (List ℕ) };
 
-    /// How often it has failed. The count stops at its greatest number.
+    /// How many writes have failed. The count stops at 2^64 - 1.
     ghost faults: { Self → ℕ };
 
-    /// Takes a prefix of the piece and returns its length, which is at least 1 unless the piece is empty.
+    /// Writes a prefix of the piece and returns its length, which is at least 1 unless the piece is empty.
     ///
     /// # Errors
-    /// `Failed` if the write failed. The count of faults is then one higher, and a later write may succeed.
+    /// `Failed` if the write failed. Then nothing was written, and the count of faults is one higher. A later write may
+    /// succeed.
     fn write(&mut self, piece: &[u8]) -> Result<usize, Failed>
         ensures bound { WritesAtMost result piece.now }
         ensures some { IfOk result (λ count. 0 < length piece.now → 0 < count) }
@@ -32,7 +33,7 @@ pub trait Sink {
 /// Writes a whole piece, in as many writes as it takes. An empty piece makes no write.
 ///
 /// # Errors
-/// `WriteFault` if a write failed. The sink has then taken a prefix of the piece, perhaps an empty one.
+/// `WriteFault` if a write failed. By then a prefix of the piece was written, which may be empty.
 pub fn write_whole<K: Sink>(sink: &mut K, piece: &[u8]) -> Result<(), WriteFault>
     ensures whole { OnOk result (Appends (K.held sink.old) (K.held sink.new) piece.now) }
     ensures front { OnErr result (GainsFront (K.held sink.old) (K.held sink.new) piece.now) }

@@ -1,4 +1,4 @@
-//! Sources, and the reading of one to its end.
+//! Sources of bytes, and the reading of a source to its end.
 ghost use Rattle.std.specs.Prelude.{◌≡◌, ◌+◌, ◌-◌, ◌^◌, ◌<◌, ◌≤◌, ℕ, List, length, IfOk, OnErr, IsErrOf};
 ghost use Rattle.std.specs.declared.option.Option.{Option};
 ghost use Rattle.std.specs.Io.{ReadsAtMost};
@@ -9,20 +9,19 @@ ghost use Rattle.dd_outside.specs.Bytes.{ReadsOn, ReadToEnd, GivesAtMost, GivesM
 use crate::faults::{Failed, ReadAllFault};
 use std::alloc::{AllocError, Global};
 
-/// Bytes that are read to their end.
+/// Where bytes are read from, such as a file.
 pub trait Source {
-    /// The bytes that it still gives, where they are known.
+    /// The bytes that are left to read, where they are known.
     ghost left: { Self → Option (List ℕ) };
 
-    /// How often it has failed. The count stops at its greatest number.
+    /// How many reads have failed. The count stops at 2^64 - 1.
     ghost faults: { Self → ℕ };
 
-    /// Reads bytes into the start of a slice and returns how many. It returns 0 at the end of the source, or if the slice
-    /// is empty.
+    /// Reads bytes into the start of a slice and returns how many. It returns 0 only at the end of the source, or if the
+    /// slice is empty.
     ///
     /// # Errors
-    /// `Failed` if the read failed. Nothing was read then, the count of faults is one higher, and a later read may
-    /// succeed.
+    /// `Failed` if the read failed. Then nothing was read, and the count of faults is one higher. A later read may succeed.
     fn read(&mut self, into: &mut [u8]) -> Result<usize, Failed>
         ensures bound { ReadsAtMost result into.new }
         ensures bytes { ReadConsumes (left self.old) (left self.new) result into.new }
@@ -31,32 +30,33 @@ pub trait Source {
     ghost fits: { (source : Self) → faults source ≤ 2 ^ 64 - 1 };
 }
 
-// How many bytes one read asks for.
-const PIECE: usize = 65536;
+// The most bytes that one read asks for.
+const READ_SIZE: usize = 65536;
 
-fn room_of(alloc: Global, size: usize) -> Result<Vec<u8>, AllocError>
-    ensures { IfOk result (λ room. length room.items ≡ size) }
+// A buffer of zeros.
+fn buffer_of(alloc: Global, size: usize) -> Result<Vec<u8>, AllocError>
+    ensures { IfOk result (λ buffer. length buffer.items ≡ size) }
 {
     vec![in alloc; 0; size]
 }
 
-// Reads once into `room`, and adds what was read to `bytes`.
+// Reads once into `buffer`, appends what was read to `bytes`, and returns how many bytes were read.
 fn read_on<S: Source>(
     source: &mut S,
-    room: &mut [u8],
+    buffer: &mut [u8],
     bytes: &mut Vec<u8>,
 ) -> Result<usize, ReadAllFault>
-    requires { 0 < length room.old }
+    requires { 0 < length buffer.old }
     ensures bytes { IfOk result (λ count. ReadsOn (S.left source.old) (S.left source.new) bytes.old.items bytes.new.items count) }
-    ensures fits { IfOk result (λ count. count ≤ length room.old) }
-    ensures refused { OnErr result (GivesAtMost (S.left source.old) (S.left source.new) (length room.old)) }
+    ensures fits { IfOk result (λ count. count ≤ length buffer.old) }
+    ensures refused { OnErr result (GivesAtMost (S.left source.old) (S.left source.new) (length buffer.old)) }
     ensures stopped { IsErrOf result ReadAllFault.ReadFault → GivesAtMost (S.left source.old) (S.left source.new) 0 }
     ensures later { S.faults source.old ≤ S.faults source.new }
     ensures too_long { IsErrOf result ReadAllFault.TooLong → ⊥ }
     ensures read_fault { IsErrOf result ReadAllFault.ReadFault → Rose (S.faults source.old) (S.faults source.new) }
 {
-    let count = source.read(room)?;
-    bytes.extend_from_slice(&room[..count])?;
+    let count = source.read(buffer)?;
+    bytes.extend_from_slice(&buffer[..count])?;
     Ok(count)
 }
 
@@ -65,7 +65,7 @@ fn read_on<S: Source>(
 /// # Errors
 /// - `ReadFault` if a read failed. The bytes read before are lost.
 /// - `TooLong` if the source gave more bytes than the limit.
-/// - `Memory` if memory ran out. It can come in place of the other two.
+/// - `Memory` if memory ran out. Then it stays open whether the source would have given one of the other two.
 pub fn read_all<S: Source>(
     alloc: Global,
     source: &mut S,
@@ -75,7 +75,7 @@ pub fn read_all<S: Source>(
     ensures bytes { IfOk result (λ bytes. ReadToEnd (S.left source.old) (S.left source.new) bytes.items) }
     ensures fits { IfOk result (λ bytes. length bytes.items ≤ limit) }
 
-    // `TooLong` exactly if the source gave more bytes than the limit, unless memory ran out.
+    // Unless memory runs out, the result is `TooLong` exactly if the source gives more bytes than the limit.
     ensures too_long { IsErrOf result ReadAllFault.TooLong → GivesMore (S.left source.old) (S.left source.new) limit }
     ensures stopped { IsErrOf result ReadAllFault.ReadFault → GivesAtMost (S.left source.old) (S.left source.new) limit }
     ensures refused { OnErr result (GivesAtMost (S.left source.old) (S.left source.new) (limit + 1)) }
@@ -83,11 +83,11 @@ pub fn read_all<S: Source>(
     ensures later { S.faults source.old ≤ S.faults source.new }
     ensures read_fault { IsErrOf result ReadAllFault.ReadFault → Rose (S.faults source.old) (S.faults source.new) }
 {
-    let mut room = room_of(alloc, PIECE)?;
+    let mut buffer = buffer_of(alloc, READ_SIZE)?;
     let mut bytes = Vec::new(alloc);
     while bytes.len() <= limit {
-        let most = room.len().min(limit + 1 - bytes.len());
-        let count = read_on(source, &mut room[..most], &mut bytes)?;
+        let most = buffer.len().min(limit + 1 - bytes.len());
+        let count = read_on(source, &mut buffer[..most], &mut bytes)?;
         if count == 0 {
             return Ok(bytes);
         }

@@ -1,4 +1,4 @@
-//! Sources and sinks over std's readers and writers.
+//! Sources and sinks over the readers and writers of std.
 ghost use Rattle.std.specs.Prelude.{◌≡◌};
 
 use crate::faults::Failed;
@@ -6,7 +6,7 @@ use crate::sink::Sink;
 use crate::source::Source;
 use std::io::{Read, Write};
 
-/// A reader of std, with a count of its errors.
+/// A source over a reader of std. Each error of the reader counts as a fault.
 #[derive(Drop)]
 pub struct StdSource<R> {
     reader: R,
@@ -14,7 +14,7 @@ pub struct StdSource<R> {
 }
 
 impl<R: Read> StdSource<R> {
-    /// A source over a reader, with no fault so far.
+    /// A source that reads from `reader`. Its count of faults is 0.
     pub fn new(reader: R) -> Self
         ensures left { ⟦<StdSource<R> as Source>⟧.left result ≡ R.remaining reader }
         ensures faults { ⟦<StdSource<R> as Source>⟧.faults result ≡ 0 }
@@ -43,7 +43,8 @@ impl<R: Read> Source for StdSource<R> {
     }
 }
 
-/// A writer of std, with a count of its errors. Taking nothing of a non-empty piece counts as one.
+/// A sink over a writer of std. Each error of the writer counts as a fault, and so does a write of no byte of a piece that
+/// is not empty.
 #[derive(Drop)]
 pub struct StdSink<W> {
     writer: W,
@@ -51,7 +52,7 @@ pub struct StdSink<W> {
 }
 
 impl<W: Write> StdSink<W> {
-    /// A sink over a writer, with no fault so far.
+    /// A sink that writes to `writer`. Its count of faults is 0.
     pub fn new(writer: W) -> Self
         ensures held { ⟦<StdSink<W> as Sink>⟧.held result ≡ W.contents writer }
         ensures faults { ⟦<StdSink<W> as Sink>⟧.faults result ≡ 0 }

@@ -1,4 +1,3 @@
 pub mod Pairing
 pub mod Testing
 pub mod Making
-pub mod Keeping

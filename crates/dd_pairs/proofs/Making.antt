@@ -1,50 +1,55 @@
--- The pairs of parts, one after the other, and the first fault.
+-- The pairs of comparisons, one after the other, and the first fault.
 use Rattle.std.proofs.Common.{◌≡◌, ◌<◌, ℕ, ◌+◌, List, [], ◌∷◌, ◌++◌, length, map, take, drop, get_or, Some, refl, sym, ap, subst, ◌∙◌, arith}
 use Rattle.std.proofs.lemmas.{Grind.common_steps, Grind.flat_map-append, List.Elements.All-nil, List.Elements.All-push}
 use Rattle.std.proofs.lemmas.List.{drop_more, take-append-drop, map-append}
 use Rattle.dd_known.specs.declared.known.Known.{Known}
 use Rattle.dd_faults.specs.{declared.fault.Fault.Fault, declared.fault.Refusal.Refusal, Order.Refuses}
-use Rattle.dd_pairs.specs.{declared.pair.Pair.Pair, declared.parts.Part.Part, Parts.PartOf, Parts.pair_of, Parts.IsPair}
-use Rattle.dd_pairs.specs.{Faults.part_faults, Faults.parts_faults, Faults.earliest, Made.part_of, Made.IsMade, Made.ArePairs}
+use Rattle.dd_pairs.specs.{declared.pair.Pair.Pair, declared.comparisons.Comparison.Comparison, Comparisons.ComparisonOf, Comparisons.pair_of, Comparisons.IsPair}
+use Rattle.dd_pairs.specs.{Faults.comparison_faults, Faults.faults_in_order, Faults.earliest, Made.comparison_of, Made.IsMade, Made.HavePairs, Made.ArePairs}
 
 earliest_front : (xs ys : List Fault) (f : Fault) → earliest xs ≡ Some f → earliest (xs ++ ys) ≡ Some f
 earliest_front [] ys f is = absurd cc
 earliest_front (x ∷ xs) ys f is = is
 
--- what is refused for a fault is refused for it even if others follow
+-- what is refused for its first fault is refused for that one even if others follow
 pub refuses_front : (e : Refusal) (xs ys : List Fault) → Refuses e (earliest xs) → Refuses e (earliest (xs ++ ys))
 refuses_front Refusal.Memory xs ys h = tt
 refuses_front (Refusal.At f) xs ys h = earliest_front xs ys f h
 
 module _ (k : Known) where
   pub none : ArePairs k [] []
-  none = record { are = refl; formed = All-nil (λ p. IsPair k.setting (pair_of k.setting p)); faultless = refl }
+  none = record { are = refl; sound = record { formed = All-nil (λ c. IsPair k.setting (pair_of k.setting c)); faultless = refl } }
 
-  -- one more part
-  more : (ps : List PartOf) (p : PartOf) (old new : List Pair) (pair : Pair) → ArePairs k ps old → IsMade k.setting p (part_faults k p) pair → new ≡ old ++ pair ∷ [] → ArePairs k (ps ++ p ∷ []) new
-  more ps p old new pair before made is = record {
-    are = grind (arith, common_steps, before.are, made.is);
-    formed = All-push (λ p. IsPair k.setting (pair_of k.setting p)) ps p before.formed made.formed;
-    faultless = rw (flat_map-append (part_faults k) ps (p ∷ []), before.faultless, made.faultless) refl;
+  -- one more comparison
+  more_sound : (cs : List ComparisonOf) (c : ComparisonOf) (pair : Pair) → HavePairs k cs → IsMade k.setting c (comparison_faults k c) pair → HavePairs k (cs ++ c ∷ [])
+  more_sound cs c pair before made = record {
+    formed = All-push (λ c. IsPair k.setting (pair_of k.setting c)) cs c before.formed made.formed;
+    faultless = rw (flat_map-append (comparison_faults k) cs (c ∷ []), before.faultless, made.faultless) refl;
   }
 
-  refused : (done rest : List PartOf) (p : PartOf) (e : Refusal) → parts_faults k done ≡ [] → Refuses e (earliest (part_faults k p)) → Refuses e (earliest (parts_faults k (done ++ p ∷ rest)))
-  refused done rest p e clean h =
-      rw (flat_map-append (part_faults k) done (p ∷ rest), clean) (refuses_front e (part_faults k p) (parts_faults k rest) h)
+  more : (cs : List ComparisonOf) (c : ComparisonOf) (old new : List Pair) (pair : Pair) → ArePairs k cs old → IsMade k.setting c (comparison_faults k c) pair → new ≡ old ++ pair ∷ [] → ArePairs k (cs ++ c ∷ []) new
+  more cs c old new pair before made is = record {
+    are = grind (arith, common_steps, before.are, made.is);
+    sound = more_sound cs c pair before.sound made;
+  }
 
-  module _ (parts : List Part) (i : ℕ) (part : Part) (below : i < length parts) (is : part ≡ get_or parts i part) where
-    taken : map part_of (take (i + 1) parts) ≡ map part_of (take i parts) ++ part_of part ∷ []
+  refused : (done rest : List ComparisonOf) (c : ComparisonOf) (e : Refusal) → faults_in_order k done ≡ [] → Refuses e (earliest (comparison_faults k c)) → Refuses e (earliest (faults_in_order k (done ++ c ∷ rest)))
+  refused done rest c e clean h =
+      rw (flat_map-append (comparison_faults k) done (c ∷ rest), clean) (refuses_front e (comparison_faults k c) (faults_in_order k rest) h)
+
+  module _ (comparisons : List Comparison) (i : ℕ) (comparison : Comparison) (below : i < length comparisons) (is : comparison ≡ get_or comparisons i comparison) where
+    taken : map comparison_of (take (i + 1) comparisons) ≡ map comparison_of (take i comparisons) ++ comparison_of comparison ∷ []
     taken = grind (arith, common_steps)
 
-    split : parts ≡ take i parts ++ part ∷ drop (i + 1) parts
-    split = sym (take-append-drop i parts) ∙ ap (λ rest. take i parts ++ rest) (rw is (drop_more parts i part below))
+    split : comparisons ≡ take i comparisons ++ comparison ∷ drop (i + 1) comparisons
+    split = sym (take-append-drop i comparisons) ∙ ap (λ rest. take i comparisons ++ rest) (rw is (drop_more comparisons i comparison below))
 
-    whole : map part_of parts ≡ map part_of (take i parts) ++ part_of part ∷ map part_of (drop (i + 1) parts)
-    whole = ap (map part_of) split ∙ map-append part_of (take i parts) (part ∷ drop (i + 1) parts)
+    whole : map comparison_of comparisons ≡ map comparison_of (take i comparisons) ++ comparison_of comparison ∷ map comparison_of (drop (i + 1) comparisons)
+    whole = ap (map comparison_of) split ∙ map-append comparison_of (take i comparisons) (comparison ∷ drop (i + 1) comparisons)
 
-    pub goes_on : (old new : List Pair) (pair : Pair) → ArePairs k (map part_of (take i parts)) old → IsMade k.setting (part_of part) (part_faults k (part_of part)) pair → new ≡ old ++ pair ∷ []
-        → ArePairs k (map part_of (take (i + 1) parts)) new
-    goes_on old new pair before made added = subst (λ ps. ArePairs k ps new) (sym taken) (more _ _ old new pair before made added)
+    pub goes_on : (old new : List Pair) (pair : Pair) → ArePairs k (map comparison_of (take i comparisons)) old → IsMade k.setting (comparison_of comparison) (comparison_faults k (comparison_of comparison)) pair → new ≡ old ++ pair ∷ []
+        → ArePairs k (map comparison_of (take (i + 1) comparisons)) new
+    goes_on old new pair before made added = subst (λ cs. ArePairs k cs new) (sym taken) (more _ _ old new pair before made added)
 
-    pub stops : (old : List Pair) (e : Refusal) → ArePairs k (map part_of (take i parts)) old → Refuses e (earliest (part_faults k (part_of part))) → Refuses e (earliest (parts_faults k (map part_of parts)))
-    stops old e before h = subst (λ ps. Refuses e (earliest (parts_faults k ps))) (sym whole) (refused _ _ _ e before.faultless h)
+    pub stops : (old : List Pair) (e : Refusal) → ArePairs k (map comparison_of (take i comparisons)) old → Refuses e (earliest (comparison_faults k (comparison_of comparison))) → Refuses e (earliest (faults_in_order k (map comparison_of comparisons)))
+    stops old e before h = subst (λ cs. Refuses e (earliest (faults_in_order k cs))) (sym whole) (refused _ _ _ e before.sound.faultless h)

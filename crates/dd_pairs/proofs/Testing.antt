@@ -6,16 +6,16 @@ use Rattle.dd_faults.specs.{declared.fault.Limit.Limit, declared.fault.Fault.Fau
 use Rattle.dd_question.specs.declared.excess.Excess.{Excess}
 use Rattle.dd_question.specs.Questions.{Asked, box, IsFormed, passed, excess_of}
 use Rattle.dd_pairs.specs.declared.pair.Pair.{Pair}
-use Rattle.dd_pairs.specs.Parts.{PartOf, premise, goal_of, pair_of, IsPartOf, IsPair, difference}
-use Rattle.dd_pairs.specs.{Faults.limit_of, Faults.pair_faults, Faults.part_faults, Faults.earliest, lemmas.PartLaws.part_fits}
+use Rattle.dd_pairs.specs.Comparisons.{ComparisonOf, premise, goal_of, pair_of, IsComparisonOf, IsPair, difference}
+use Rattle.dd_pairs.specs.{Faults.limit_of, Faults.pair_faults, Faults.comparison_faults, Faults.earliest, lemmas.ComparisonLaws.comparison_fits}
 
--- what is asked about the pair is the question of the part
-module _ (s : Setting) (p : PartOf) (pair : Pair) (x : LocalRule) (a : Asked) (made : pair ≡ pair_of s p) (is : x ≡ premise p) (asks : a ≡ box x (difference x pair)) where
-  pub question_is : a ≡ box (premise p) (goal_of s p)
-  question_is = asks ∙ (ap (λ q. box x (difference x q)) made ∙ ap (λ y. box y (difference y (pair_of s p))) is)
+-- what is asked about the pair is the question of the comparison
+module _ (s : Setting) (c : ComparisonOf) (pair : Pair) (x : LocalRule) (a : Asked) (made : pair ≡ pair_of s c) (is : x ≡ premise c) (asks : a ≡ box x (difference x pair)) where
+  pub question_is : a ≡ box (premise c) (goal_of s c)
+  question_is = asks ∙ (ap (λ q. box x (difference x q)) made ∙ ap (λ y. box y (difference y (pair_of s c))) is)
 
-  pub question_formed : IsSetting s → IsPartOf s p → IsPair s (pair_of s p) → IsFormed a
-  question_formed sound of formed = rw question_is (part_fits s sound p of formed)
+  pub question_formed : IsSetting s → IsComparisonOf s c → IsPair s (pair_of s c) → IsFormed a
+  question_formed sound of formed = rw question_is (comparison_fits s sound c of formed)
 
 long_passes : (b : Bool) (e : Excess) → passed b Excess.Clauses ≡ Some e → (b ≡ true) × (limit_of e ≡ Limit.Clauses)
 long_passes true e is = (refl, grind arith)
@@ -25,9 +25,9 @@ short_passes : (b : Bool) → passed b Excess.Clauses ≡ None → b ≡ false
 short_passes true is = absurd cc
 short_passes false is = refl
 
-module _ (k : Known) (p : PartOf) (clean : pair_faults k.setting p ≡ []) where
-  pub light : excess_of k.limits (box (premise p) (goal_of k.setting p)) ≡ None → part_faults k p ≡ []
-  light none = rw (clean, short_passes _ none) refl
+module _ (k : Known) (c : ComparisonOf) (clean : pair_faults k.setting c ≡ []) where
+  pub within : excess_of k.limits (box (premise c) (goal_of k.setting c)) ≡ None → comparison_faults k c ≡ []
+  within none = rw (clean, short_passes _ none) refl
 
-  pub heavy : (e : Excess) → excess_of k.limits (box (premise p) (goal_of k.setting p)) ≡ Some e → Refuses (Refusal.At (Fault.Size (limit_of e))) (earliest (part_faults k p))
-  heavy e some = let long = long_passes _ e some in rw (clean, long.0, long.1) refl
+  pub exceeds : (e : Excess) → excess_of k.limits (box (premise c) (goal_of k.setting c)) ≡ Some e → Refuses (Refusal.At (Fault.Size (limit_of e))) (earliest (comparison_faults k c))
+  exceeds e some = let long = long_passes _ e some in rw (clean, long.0, long.1) refl

@@ -8,30 +8,30 @@ use Rattle.dd_known.specs.declared.known.{Setting.Setting, Known.Known}
 use Rattle.dd_faults.specs.{declared.fault.Limit.Limit, declared.fault.Fault.Fault, Order.over}
 use Rattle.dd_meanings.specs.Definitions.{count_faults}
 use Rattle.dd_question.specs.{Boxes.is_long, declared.excess.Excess.Excess}
-use Rattle.dd_pairs.specs.Parts.{PartOf, image, change, premise, pair_of, goal_of}
+use Rattle.dd_pairs.specs.Comparisons.{ComparisonOf, image, change, premise, pair_of, goal_of}
 
--- an excess, as one of the script limits
+-- the limit that a question exceeds, as one of the limits on scripts
 abbrev pub limit_of : Excess → Limit
 limit_of Excess.Clauses = Limit.Clauses
 limit_of Excess.Patterns = Limit.Patterns
 limit_of Excess.States = Limit.States
 
--- the formula that says that the second rule holds and the symbol is allowed may be too deep
-abbrev pub guard_faults : Setting → PartOf → List Fault
+-- for an image: the formula that the second rule holds and the symbol is allowed may be too deep
+abbrev pub guard_faults : Setting → ComparisonOf → List Fault
 guard_faults s (image x f y) = over (nat_lt most_nested (guarded_depth s.sets y)) Limit.Depth
 guard_faults s (change x f g) = []
 
--- then the counts of the composition
-abbrev pub pair_faults : Setting → PartOf → List Fault
-pair_faults s p = guard_faults s p ++ count_faults s.topology.nodes (counted (pair_of s p).left)
+-- then the counts of the left automaton, a composition, may exceed their limits
+abbrev pub pair_faults : Setting → ComparisonOf → List Fault
+pair_faults s c = guard_faults s c ++ count_faults s.topology.nodes (counted (pair_of s c).left)
 
--- then the clauses of the question
-abbrev pub part_faults : Known → PartOf → List Fault
-part_faults k p = pair_faults k.setting p ++ over (is_long k.limits (premise p) (goal_of k.setting p)) Limit.Clauses
+-- then the question may take too many clauses
+abbrev pub comparison_faults : Known → ComparisonOf → List Fault
+comparison_faults k c = pair_faults k.setting c ++ over (is_long k.limits (premise c) (goal_of k.setting c)) Limit.Clauses
 
--- the faults of the parts, one part after the other
-abbrev pub parts_faults : Known → List PartOf → List Fault
-parts_faults k ps = flat_map (part_faults k) ps
+-- the faults of all comparisons, in their order
+abbrev pub faults_in_order : Known → List ComparisonOf → List Fault
+faults_in_order k cs = flat_map (comparison_faults k) cs
 
 -- the first of these faults
 abbrev pub earliest : List Fault → Option Fault

@@ -3,9 +3,9 @@ use Rattle.std.specs.Prelude.{◌≡◌, List, [], ◌∷◌}
 use Rattle.dd_boxes.specs.{declared.goals.Goal.Goal, Views.goal_of}
 use Rattle.dd_formula.specs.LocalRule.{LocalRule}
 use Rattle.dd_question.specs.{Conjugacies.ConjugacyOf, Conjugacies.conjugacy_of, declared.conjugacy.Conjugacy.Conjugacy}
-use Rattle.dd_pairs.specs.{declared.pair.Pair.Pair, Parts.difference}
+use Rattle.dd_pairs.specs.{declared.pair.Pair.Pair, Comparisons.difference}
 
--- the goal stands for the difference, whatever rule the question is about
+-- the goal says that the automata of the pair differ, whatever rule the question is about
 abbrev pub IsDifferenceOf : Pair → Goal → Type 0
 IsDifferenceOf p g = (x : LocalRule) → goal_of x g ≡ difference x p
 

@@ -1,32 +1,36 @@
--- What is made from parts that are values of the program.
+-- What the program makes from comparisons.
 use Rattle.std.specs.{Prelude.◌≡◌, Prelude.List, Prelude.[], Prelude.map, Prelude.Result, Prelude.MatchResult, List.All}
 use Rattle.dd_known.specs.declared.known.{Setting.Setting, Known.Known}
 use Rattle.dd_faults.specs.{declared.fault.Fault.Fault, declared.fault.Refusal.Refusal, Order.Refuses}
-use Rattle.dd_pairs.specs.declared.{pair.Pair.Pair, parts.Part.Part}
-use Rattle.dd_pairs.specs.{Parts.PartOf, Parts.image, Parts.change, Parts.pair_of, Parts.IsPair, Faults.parts_faults, Faults.earliest}
-use Rattle.dd_pairs.specs.declared.parts.Part.TheVariants as part
+use Rattle.dd_pairs.specs.declared.{pair.Pair.Pair, comparisons.Comparison.Comparison}
+use Rattle.dd_pairs.specs.{Comparisons.ComparisonOf, Comparisons.image, Comparisons.change, Comparisons.pair_of, Comparisons.IsPair, Faults.faults_in_order, Faults.earliest}
+use Rattle.dd_pairs.specs.declared.comparisons.Comparison.TheVariants as comparison
 
--- the part that a value of the program stands for
-abbrev pub part_of : Part → PartOf
-part_of (part.Image premise map target) = image premise.now map.now target.now
-part_of (part.Change premise outer inner) = change premise.now outer.now inner.now
+-- the comparison that a value of the program stands for
+abbrev pub comparison_of : Comparison → ComparisonOf
+comparison_of (comparison.Image premise map target) = image premise.now map.now target.now
+comparison_of (comparison.Change premise outer inner) = change premise.now outer.now inner.now
 
--- the pair of a part, which has none of these faults
-pub record IsMade (s : Setting) (p : PartOf) (faults : List Fault) (made : Pair) : Type 0 where
-  pub is : made ≡ pair_of s p
-  pub formed : IsPair s (pair_of s p)
+-- this is the pair of the comparison; it is well formed, and there are no faults
+pub record IsMade (s : Setting) (c : ComparisonOf) (faults : List Fault) (made : Pair) : Type 0 where
+  pub is : made ≡ pair_of s c
+  pub formed : IsPair s (pair_of s c)
   pub faultless : faults ≡ []
 
--- the pair is made, or refused for the first fault
-abbrev pub Makes : Setting → PartOf → List Fault → Result Pair Refusal → Type 0
-Makes s p faults result = MatchResult result (IsMade s p faults) (λ e. Refuses e (earliest faults))
+-- the pair is made, or refused for the first of these faults
+abbrev pub Makes : Setting → ComparisonOf → List Fault → Result Pair Refusal → Type 0
+Makes s c faults result = MatchResult result (IsMade s c faults) (λ e. Refuses e (earliest faults))
 
--- the pairs of parts; neither they nor the questions about them exceed a limit
-pub record ArePairs (k : Known) (ps : List PartOf) (made : List Pair) : Type 0 where
-  pub are : made ≡ map (pair_of k.setting) ps
-  pub formed : All (λ p. IsPair k.setting (pair_of k.setting p)) ps
-  pub faultless : parts_faults k ps ≡ []
+-- the pairs of comparisons are well formed; neither they nor the questions about them exceed a limit
+pub record HavePairs (k : Known) (cs : List ComparisonOf) : Type 0 where
+  pub formed : All (λ c. IsPair k.setting (pair_of k.setting c)) cs
+  pub faultless : faults_in_order k cs ≡ []
+
+-- these are the pairs of the comparisons, and none exceeds a limit
+pub record ArePairs (k : Known) (cs : List ComparisonOf) (made : List Pair) : Type 0 where
+  pub are : made ≡ map (pair_of k.setting) cs
+  pub sound : HavePairs k cs
 
 -- the pairs are made, or refused for the first limit that is exceeded
-abbrev pub MakesAll : Known → List PartOf → Result (List Pair) Refusal → Type 0
-MakesAll k ps result = MatchResult result (ArePairs k ps) (λ e. Refuses e (earliest (parts_faults k ps)))
+abbrev pub MakesAll : Known → List ComparisonOf → Result (List Pair) Refusal → Type 0
+MakesAll k cs result = MatchResult result (ArePairs k cs) (λ e. Refuses e (earliest (faults_in_order k cs)))

@@ -1,10 +1,10 @@
--- Which pairs the queries of a script ask about.
-use Rattle.std.specs.Prelude.{◌≡◌, Contains, List, [], ◌∷◌, map, Option, Some, None, option_map, unwrap_or}
+-- Which comparisons and pairs the queries of a script ask for.
+use Rattle.std.specs.Prelude.{List, [], ◌∷◌, map, Bool, true, false, Option, Some, None, option_map, unwrap_or}
 use Rattle.std.specs.List.{slice_get}
 use Rattle.dd_known.specs.declared.known.Setting.{Setting}
 use Rattle.dd_formula.specs.{LocalRule.LocalRule, declared.automaton.Automaton.Automaton}
 use Rattle.dd_query.specs.declared.queries.Query.{Query}
-use Rattle.dd_pairs.specs.{declared.pair.Pair.Pair, Parts.PartOf, Parts.image, Parts.change, Parts.pair_of}
+use Rattle.dd_pairs.specs.{declared.pair.Pair.Pair, Comparisons.ComparisonOf, Comparisons.image, Comparisons.change, Comparisons.pair_of}
 
 -- f of two items, if both are there
 abbrev pub of_both : {X Y Z : Type 0} → (X → Y → Z) → Option X → Option Y → Option Z
@@ -22,31 +22,43 @@ of_four f (Some x) y z w = of_three (f x) y z w
 of_four f None y z w = None
 
 -- whether the automaton maps configurations of the first rule to configurations of the second
-abbrev pub map_parts : LocalRule → LocalRule → Automaton → List PartOf
-map_parts x y f = image x f y ∷ []
+abbrev pub map_comparisons : LocalRule → LocalRule → Automaton → List ComparisonOf
+map_comparisons x y f = image x f y ∷ []
 
 -- whether two automata map the rules' configurations to each other, and each undoes the other
-abbrev pub conjugate_parts : LocalRule → LocalRule → Automaton → Automaton → List PartOf
-conjugate_parts x y f g = image x f y ∷ image y g x ∷ change x g f ∷ change y f g ∷ []
+abbrev pub conjugate_comparisons : LocalRule → LocalRule → Automaton → Automaton → List ComparisonOf
+conjugate_comparisons x y f g = image x f y ∷ image y g x ∷ change x g f ∷ change y f g ∷ []
 
--- the questions that a query about these rules and automata consists of
-abbrev pub parts_asked : List LocalRule → List Automaton → Query → List PartOf
-parts_asked rs fs (Query.Maps f x y) = unwrap_or (of_three map_parts (slice_get rs x) (slice_get rs y) (slice_get fs f)) []
-parts_asked rs fs (Query.Conjugate f g x y) = unwrap_or (of_four conjugate_parts (slice_get rs x) (slice_get rs y) (slice_get fs f) (slice_get fs g)) []
-parts_asked rs fs (Query.Member configuration rule) = []
-parts_asked rs fs (Query.Contains outer inner) = []
-parts_asked rs fs (Query.Equal left right) = []
-parts_asked rs fs (Query.Empty rule) = []
-parts_asked rs fs (Query.Agree left right rule) = []
-parts_asked rs fs (Query.Forbidden rule) = []
-parts_asked rs fs (Query.Minimal rule) = []
-parts_asked rs fs (Query.Density rule strip) = []
-parts_asked rs fs (Query.Least rule periods) = []
-parts_asked rs fs (Query.Discharge rule radius margin vectors) = []
+-- the comparisons that a query about these rules and automata consists of
+abbrev pub comparisons_asked : List LocalRule → List Automaton → Query → List ComparisonOf
+comparisons_asked rs fs (Query.Maps f x y) = unwrap_or (of_three map_comparisons (slice_get rs x) (slice_get rs y) (slice_get fs f)) []
+comparisons_asked rs fs (Query.Conjugate f g x y) = unwrap_or (of_four conjugate_comparisons (slice_get rs x) (slice_get rs y) (slice_get fs f) (slice_get fs g)) []
+comparisons_asked rs fs (Query.Member configuration rule) = []
+comparisons_asked rs fs (Query.Contains outer inner) = []
+comparisons_asked rs fs (Query.Equal left right) = []
+comparisons_asked rs fs (Query.Empty rule) = []
+comparisons_asked rs fs (Query.Agree left right rule) = []
+comparisons_asked rs fs (Query.Forbidden rule) = []
+comparisons_asked rs fs (Query.Minimal rule) = []
+comparisons_asked rs fs (Query.Density rule strip) = []
+comparisons_asked rs fs (Query.Least rule periods) = []
+comparisons_asked rs fs (Query.Discharge rule radius margin vectors) = []
 
+-- the pairs that the query asks about
 abbrev pub pairs_of : Setting → List LocalRule → List Automaton → Query → List Pair
-pairs_of s rs fs q = map (pair_of s) (parts_asked rs fs q)
+pairs_of s rs fs q = map (pair_of s) (comparisons_asked rs fs q)
 
--- if the pairs of each of these queries are kept, these are the pairs of one of them
-abbrev pub IsKeptFor : List Query → List (List Pair) → Query → List Pair → Type 0
-IsKeptFor qs kept q pairs = (s : Setting) (rs : List LocalRule) (fs : List Automaton) → kept ≡ map (pairs_of s rs fs) qs → Contains qs q → pairs ≡ pairs_of s rs fs q
+-- whether the query asks about pairs
+abbrev pub asks_pairs : Query → Bool
+asks_pairs (Query.Maps f x y) = true
+asks_pairs (Query.Conjugate f g x y) = true
+asks_pairs (Query.Member configuration rule) = false
+asks_pairs (Query.Contains outer inner) = false
+asks_pairs (Query.Equal left right) = false
+asks_pairs (Query.Empty rule) = false
+asks_pairs (Query.Agree left right rule) = false
+asks_pairs (Query.Forbidden rule) = false
+asks_pairs (Query.Minimal rule) = false
+asks_pairs (Query.Density rule strip) = false
+asks_pairs (Query.Least rule periods) = false
+asks_pairs (Query.Discharge rule radius margin vectors) = false

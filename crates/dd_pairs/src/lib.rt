@@ -1,10 +1,11 @@
-//! Pairs of automata. Queries about images and conjugacies ask where the two automata of a pair differ. Pairs are made once,
-//! when a query is read. The query is refused if they are too large or would take too much work.
+//! Pairs of automata. Each question of a query about an image or a conjugacy asks whether the two automata of a pair can differ.
+//! The pairs are made when the query is read. The query is refused if a pair is too large, or its question takes too many clauses.
+//! The pairs are made again when the query is answered or checked.
 #![tactic(auto)]
 
+mod comparisons;
 mod pair;
 mod pairs;
-mod parts;
 
 pub use pair::{Pair, conjugacy, limit_of};
-pub use pairs::{kept_for, pairs_of};
+pub use pairs::{asks_pairs, pairs_of};

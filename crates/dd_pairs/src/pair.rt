@@ -1,23 +1,44 @@
 //! Pairs of automata, and the questions about them.
 ghost use Rattle.std.specs.Prelude.{◌≡◌, length};
-ghost use Rattle.dd_pairs.specs.{Goals.IsConjugacyBy, Faults.limit_of};
+ghost use Rattle.dd_pairs.specs.{Comparisons.HasGates, Goals.IsConjugacyBy, Faults.limit_of};
 
 use dd_boxes::Goal;
+use dd_compile::says_its_value;
 use dd_faults::Limit;
 use dd_formula::{Automaton, Rule};
 use dd_question::{Conjugacy, Excess, Question};
 
-/// Two automata. The question is whether they differ somewhere.
+/// Two automata. The question is whether they can differ.
 #[derive(Debug, Drop)]
 pub struct Pair {
     pub left: Automaton,
     pub right: Automaton,
 }
 
+/// Does nothing. Its contract says that the automaton reads only cells of the lattice, and that the gates compiled for its value
+/// compute that value.
+fn has_gates(automaton: &Automaton)
+    ensures { HasGates automaton.now }
+{
+    automaton.reads_are_placed();
+    says_its_value(automaton);
+}
+
 impl Pair {
     ghost use Rattle.std.specs.Prelude.{◌≡◌};
     ghost use Rattle.dd_question.specs.Questions.{asked_of, box};
-    ghost use Rattle.dd_pairs.specs.{Parts.difference, Goals.IsDifferenceOf};
+    ghost use Rattle.dd_pairs.specs.{Comparisons.difference, Comparisons.HaveGates, Goals.IsDifferenceOf};
+
+    /// The pair of two automata.
+    pub(crate) fn new(left: Automaton, right: Automaton) -> Pair
+        ensures value { result ≡ record { left = left; right = right } }
+        ensures gates { HaveGates result }
+    {
+        // Both calls bring in laws of the automata.
+        has_gates(&left);
+        has_gates(&right);
+        Pair { left, right }
+    }
 
     /// The goal that the two automata give a cell different symbols.
     fn difference(&self) -> Goal<'_>
@@ -54,7 +75,7 @@ pub fn conjugacy<'a>(from: &'a Rule, to: &'a Rule, pairs: &'a [Pair]) -> Conjuga
     }
 }
 
-/// The script limit that a question exceeds.
+/// The limit that a question exceeds, as one of the limits on scripts.
 pub fn limit_of(excess: Excess) -> Limit
     ensures { result ≡ limit_of excess }
 {

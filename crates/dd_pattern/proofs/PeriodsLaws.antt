@@ -10,7 +10,7 @@ use Rattle.dd_pattern.specs.{declared.periods.Periods.Periods, Periods.periods_c
 use Rattle.dd_pattern.specs.listing.Adding.{IsAdded, HasShear, IsPeriodUpTo, HasBox, most_along}
 use Rattle.dd_pattern.specs.lemmas.PeriodsLaws.{made_periods, periods_same, periods_equal}
 
--- what was added, and then more
+-- if one step adds all of P, the next all of Q, and R is P or Q, then both add all of R
 pub added_more : (a b c : List Periods) (P Q R : Periods → Type 0) → IsAdded a b P → IsAdded b c Q → ((q : Periods) → R q → P q ⊎ Q q) →
     ((q : Periods) → P q → R q) → ((q : Periods) → Q q → R q) → IsAdded a c R
 added_more a b c P Q R first second split from_first from_second q = (
@@ -27,7 +27,7 @@ added_more a b c P Q R first second split from_first from_second q = (
 last_or_before : (n i : ℕ) → n ≤ i + 1 → (n ≤ i) ⊎ (n ≡ i + 1)
 last_or_before n i h = elim (eq-or-lt_of_le h) [ inl last ↦ inr last | inr low ↦ inl (omega arith) ]
 
--- the last shear alone
+-- q has these x, y and z, and the shear s
 record HasOnly (x y z s : ℕ) (q : Periods) : Type 0 where
   at_x : q.x ≡ x
   at_y : q.y ≡ y
@@ -78,12 +78,12 @@ insert_step k x xs rest ih Greater same q = (
   ],
 )
 
--- one insertion: these periods and those that were there
+-- an insertion adds these periods, and keeps those that were there
 insert_members : (ks : List Periods) (k q : Periods) → Contains (insert_key periods_cmp ks k) q ↔ ((k ≡ q) ⊎ Contains ks q)
 insert_members [] k q = (Contains-cons_cases k [] q, λ h. elim h [ inl is ↦ subst (Contains (k ∷ [])) is (Contains-first k []) | inr none ↦ absurd (Contains-nil q none) ])
 insert_members (x ∷ xs) k q = insert_step k x xs (insert_key periods_cmp xs k) (insert_members xs k) (periods_cmp k x) (periods_equal k x) q
 
--- one more shear
+-- the step of the loop over the shear
 pub shear_more : (a b c : List Periods) (i x y z : ℕ) → IsAdded a b (HasShear i x y z) → c ≡ insert_key periods_cmp b (made_periods x y z i) → IsAdded a c (HasShear (i + 1) x y z)
 shear_more a b c i x y z before is =
     let one : IsAdded b c (HasOnly x y z i) = λ q. (
@@ -98,7 +98,7 @@ up_to_split F f i q h = elim (last_or_before (f q) i h.most) [
   | inr last ↦ inr (subst (λ k. F k q) last h.rest)
 ]
 
--- one more value of the period
+-- the step of a loop over one of the periods
 pub level_more : (F : ℕ → Periods → Type 0) (f : Periods → ℕ) → ((k : ℕ) (q : Periods) → F k q → f q ≡ k) → (a b c : List Periods) (i : ℕ) →
     IsAdded a b (IsPeriodUpTo F f i) → IsAdded b c (F (i + 1)) → IsAdded a c (IsPeriodUpTo F f (i + 1))
 level_more F f at a b c i before one =
@@ -106,7 +106,7 @@ level_more F f at a b c i before one =
     (λ q h. record { rest = h.rest; some = h.some; most = (let low = h.most in omega arith) })
     (λ q h. (let is = at (i + 1) q h in record { rest = subst (λ k. F k q) (sym is) h; some = omega (arith, is); most = omega (arith, is) }))
 
--- a period is at most so long along its axis
+-- a period k that is at most most_along is 1 on an unused axis, and at most n
 pub along_bound : (d axis n k : ℕ) → 1 ≤ k → k ≤ most_along d axis n → (d ≤ axis → k ≡ 1) × (1 ≤ n → k ≤ n)
 along_bound d axis n k some most =
     cond_both (is_active d axis) n 1 (λ m. k ≤ m → (d ≤ axis → k ≡ 1) × (1 ≤ n → k ≤ n)) (λ used low. (λ idle. absurd (let active = ltb-true axis d used in omega arith), λ _. low))
@@ -158,7 +158,7 @@ box_from_within d n q h =
       most = h.x_most;
     }
 
--- what was added to the empty list
+-- what was added to the empty list is the whole list
 pub all_within : (d n : ℕ) (ps : List Periods) → IsAdded [] ps (HasBox d n n) → AreAllWithin d n ps
 all_within d n ps h q = (
   λ c. elim ((h q).0 c) [ inl none ↦ absurd (Contains-nil q none) | inr box ↦ within_from_box d n q box ],

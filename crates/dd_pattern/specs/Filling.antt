@@ -1,9 +1,10 @@
--- Fillings: finitely many cells in cell order, with a symbol each.
+-- Fillings: finitely many cells, with a symbol for each.
 use Rattle.std.specs.Prelude.{◌≡◌, ◌<◌, ℕ, List, Some, None, length, map, slice_get, slice_index_or}
 use Rattle.std.specs.{List.All, List.Contains, List.position_or_len, List.Sorted.IsStrictlySortedBy, Ordering.is_eq}
 use Rattle.dd_lattice.specs.{declared.position.Cell.Cell, Order.cell_cmp}
 use Rattle.dd_pattern.specs.Reading.{Look, HasSymbolsBelow}
 
+-- cells, and the symbol of each in the same order
 pub record Filled : Type 0 where
   pub cells : List Cell
   pub symbols : List ℕ
@@ -11,20 +12,21 @@ pub record Filled : Type 0 where
 abbrev pub filled : List Cell → List ℕ → Filled
 filled cs ss = record { cells = cs; symbols = ss }
 
+-- the cells are in cell order, and each has one symbol
 pub record IsFilling (f : Filled) : Type 0 where
   pub ascending : IsStrictlySortedBy cell_cmp f.cells
   pub as_many : length f.symbols ≡ length f.cells
 
--- the symbol with the number that the cell has among the cells
+-- the symbol of a cell of the domain: it has the same number among the symbols as the cell has among the cells
 abbrev pub filling_look : Filled → Look
 filling_look f c = slice_get f.symbols (position_or_len (λ d. is_eq (cell_cmp d c)) f.cells)
 
--- each cell has its symbol, and no other cell has one
+-- each cell of the domain has its symbol, and no other cell has one
 pub record IsReadByPlace (f : Filled) : Type 0 where
   pub at : (k : ℕ) (d : Cell) → k < length f.cells → filling_look f (slice_index_or f.cells k d) ≡ slice_get f.symbols k
   pub elsewhere : (c : Cell) → (Contains f.cells c → ⊥) → filling_look f c ≡ None
 
--- symbols below n are read as symbols below n
+-- if all symbols of the list are below n, so is each symbol that is read
 abbrev pub IsReadBelow : Filled → Type 0
 IsReadBelow f = (n : ℕ) → All (λ s. s < n) f.symbols → HasSymbolsBelow n (filling_look f)
 
@@ -33,7 +35,7 @@ pub record IsRestriction (f : Filled) (cs : List Cell) (g : Filled) : Type 0 whe
   pub cells : g.cells ≡ cs
   pub symbols : map Some g.symbols ≡ map (filling_look f) cs
 
--- one of these cells has no symbol
+-- one of these cells isn't in the domain
 pub record IsWanting (f : Filled) (cs : List Cell) : Type 0 where
   pub at : Cell
   pub asked : Contains cs at

@@ -1,14 +1,14 @@
 -- what is read at a cell
 pub mod Reading
--- fillings: finitely many cells in cell order, with a symbol each
+-- fillings: finitely many cells, with a symbol for each
 pub mod Filling
 -- periods with a shear
 pub mod Periods
--- periodic configurations: the symbols of one fundamental box, for every cell
+-- periodic configurations: the symbols of one fundamental box give every cell its symbol
 pub mod Tile
 -- weights of symbols
 pub mod Weight
--- what the loops that list periods add
+-- definitions for the loops that list periods
 pub mod listing
 -- lemmas on these definitions, with their proofs
 pub mod lemmas

@@ -1,10 +1,11 @@
--- Periods: the vectors (x, 0, 0), (shear, y, 0) and (0, 0, z), along which a configuration repeats.
+-- Periods, for a configuration that repeats along the vectors (x, 0, 0), (shear, y, 0) and (0, 0, z).
 use Rattle.std.specs.Prelude.{ℕ, ◌*◌, ◌<◌, ◌≤◌, ◌≡◌, ◌↔◌, List, slice_index, ℤ, pos, ◌-ℤ◌, ◌*ℤ◌, unsigned_abs}
 use Rattle.std.specs.{Int.int_rem_euclid, Int.int_div_euclid, List.Contains, Ordering.nat_cmp, Ordering.on, Ordering.then_cmp}
 use Rattle.std.specs.declared.cmp.Ordering.{Ordering, TheVariants.Less}
 use Rattle.dd_lattice.specs.Place.{Place, place}
 use Rattle.dd_pattern.specs.declared.periods.Periods.{Periods}
 
+-- the periods with this list of x, y and z, and this shear
 abbrev pub periods_of : List ℕ → ℕ → Periods
 periods_of along shear = record { x = slice_index along 0; y = slice_index along 1; z = slice_index along 2; shear = shear }
 
@@ -12,7 +13,7 @@ periods_of along shear = record { x = slice_index along 0; y = slice_index along
 abbrev pub periods_volume : Periods → ℕ
 periods_volume p = p.z * p.y * p.x
 
--- periods in d dimensions
+-- these are periods in d dimensions
 pub record ArePeriodsIn (d : ℕ) (p : Periods) : Type 0 where
   pub x_some : 0 < p.x
   pub y_some : 0 < p.y
@@ -23,7 +24,7 @@ pub record ArePeriodsIn (d : ℕ) (p : Periods) : Type 0 where
   pub shear_small : p.shear < p.x
   pub shear_unused : d < 2 → p.shear ≡ 0
 
--- a whole number modulo n
+-- a whole number modulo n, from 0 to n - 1
 abbrev pub residue : ℤ → ℕ → ℕ
 residue x n = unsigned_abs (int_rem_euclid x (pos n))
 
@@ -31,11 +32,11 @@ residue x n = unsigned_abs (int_rem_euclid x (pos n))
 abbrev pub quotient : ℤ → ℕ → ℤ
 quotient x n = int_div_euclid x (pos n)
 
--- the x of a position, once the second period vector is subtracted until y lies in the box
+-- the x of a position, after the second period vector has been subtracted until y is from 0 to p.y - 1
 abbrev pub unsheared : Periods → Place → ℤ
 unsheared p v = v.x -ℤ quotient v.y p.y *ℤ pos p.shear
 
--- a position modulo the periods
+-- the base of a position, which is the position modulo the periods
 abbrev pub base_of : Periods → Place → Place
 base_of p v = place (pos (residue (unsheared p v) p.x)) (pos (residue v.y p.y)) (pos (residue v.z p.z))
 
@@ -45,16 +46,17 @@ periods_cmp =
     then_cmp (then_cmp (then_cmp (then_cmp (on periods_volume nat_cmp) (on (λ p. p.x) nat_cmp)) (on (λ p. p.y) nat_cmp)) (on (λ p. p.z) nat_cmp))
     (on (λ p. p.shear) nat_cmp)
 
+-- q comes before p in this order
 abbrev pub IsBefore : Periods → Periods → Type 0
 IsBefore q p = periods_cmp q p ≡ Less
 
--- periods in d dimensions that are at most n along each axis
+-- these are periods in d dimensions that are at most n along each axis
 pub record AreWithin (d n : ℕ) (p : Periods) : Type 0 where
   pub periods : ArePeriodsIn d p
   pub x_most : p.x ≤ n
   pub y_most : p.y ≤ n
   pub z_most : p.z ≤ n
 
--- the list has exactly these
+-- the list has exactly the periods in d dimensions that are at most n along each axis
 abbrev pub AreAllWithin : ℕ → ℕ → List Periods → Type 0
 AreAllWithin d n ps = (p : Periods) → Contains ps p ↔ AreWithin d n p

@@ -1,4 +1,4 @@
--- Periodic configurations: the symbols of one fundamental box, for every cell of Z^d.
+-- Periodic configurations: the symbols of one fundamental box give every cell of Z^d its symbol.
 use Rattle.std.specs.Prelude.{ℕ, ◌+◌, ◌*◌, ◌-◌, ◌<◌, ◌≤◌, ◌≡◌, ◌/◌, ◌%◌, List, None, cond, nat_lt, pos, ◌+ℤ◌, length, slice_get}
 use Rattle.dd_lattice.specs.{Place.Place, Place.place, Cells.cell, Boxes.Bounds, Boxes.IsWithin, Boxes.index_in}
 use Rattle.dd_lattice.specs.declared.position.Cell.{Cell}
@@ -6,7 +6,7 @@ use Rattle.dd_pattern.specs.declared.periods.Periods.{Periods}
 use Rattle.dd_pattern.specs.Periods.{ArePeriodsIn, periods_volume, residue, unsheared, base_of}
 use Rattle.dd_pattern.specs.Reading.{Look}
 
--- the periods, and the symbols of the fundamental box in cell order
+-- a tile: the periods, and the symbols of the fundamental box in cell order
 pub record Tile : Type 0 where
   pub dimension : ℕ
   pub periods : Periods
@@ -16,6 +16,7 @@ pub record Tile : Type 0 where
 abbrev pub tile : ℕ → Periods → ℕ → List ℕ → Tile
 tile dim periods nodes symbols = record { dimension = dim; periods = periods; nodes = nodes; symbols = symbols }
 
+-- the tile gives a configuration
 pub record IsTile (t : Tile) : Type 0 where
   pub some_dimension : 0 < t.dimension
   pub most_dimension : t.dimension ≤ 3
@@ -23,47 +24,48 @@ pub record IsTile (t : Tile) : Type 0 where
   pub nodes_some : 0 < t.nodes
   pub full : length t.symbols ≡ periods_volume t.periods * t.nodes
 
--- the greatest number of symbols of a fundamental box that a value holds
+-- the greatest number of symbols of a fundamental box that code holds
 abbrev pub most_symbols : ℕ
 most_symbols = 65536
 
+-- the tile gives a configuration that code can hold
 pub record IsPeriodic (t : Tile) : Type 0 where
   pub tile : IsTile t
   pub small : length t.symbols ≤ most_symbols
 
--- the number of the cell's symbol in the list: x runs fastest among the positions, and the node inside each
+-- the index of the cell's symbol in the list. Positions are listed by z, then y, then x, and the nodes of a position follow each other
 abbrev pub tile_index : Tile → Cell → ℕ
 tile_index t c =
     let p = t.periods in
     ((residue c.position.z p.z * p.y + residue c.position.y p.y) * p.x + residue (unsheared p c.position) p.x) * t.nodes + c.node
 
--- each cell has the symbol of the same node at its position modulo the periods
+-- each cell has the symbol of the same node at its position modulo the periods; a node that is none of the tile's has none
 abbrev pub tile_look : Tile → Look
 tile_look t c = cond (nat_lt c.node t.nodes) (slice_get t.symbols (tile_index t c)) None
 
--- the cells of the fundamental box
+-- the cell is in the fundamental box: it is at its own base
 pub record IsInBox (t : Tile) (c : Cell) : Type 0 where
   pub base : base_of t.periods c.position ≡ c.position
   pub node : c.node < t.nodes
 
--- the cell of the fundamental box whose symbol stands at i in the list
+-- the cell of the fundamental box whose symbol has the index i in the list
 abbrev pub cell_in : Tile → ℕ → Cell
 cell_in t i =
     let p = t.periods in
     let k = i / t.nodes in
     cell (place (pos (k % p.x)) (pos (k / p.x % p.y)) (pos (k / p.x / p.y))) (i % t.nodes)
 
--- the box of the positions whose coordinates lie in 0 to the period less 1
+-- the positions of the fundamental box: on each axis the coordinate is from 0 to the period less 1
 abbrev pub fundamental : Periods → Bounds
 fundamental p = record { low = place (pos 0) (pos 0) (pos 0); high = place (pos (p.x - 1)) (pos (p.y - 1)) (pos (p.z - 1)) }
 
--- how many times each of the three period vectors is taken
+-- how many times each of the three period vectors is added
 pub record Times : Type 0 where
   pub first : ℕ
   pub second : ℕ
   pub third : ℕ
 
--- the position with so many of the period vectors added
+-- the position v after these vectors are added
 abbrev pub with_vectors : Periods → Times → Place → Place
 with_vectors p n v = place (v.x +ℤ pos (n.first * p.x + n.second * p.shear)) (v.y +ℤ pos (n.second * p.y)) (v.z +ℤ pos (n.third * p.z))
 

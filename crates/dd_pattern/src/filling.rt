@@ -1,4 +1,4 @@
-//! Fillings: finitely many cells with a symbol each.
+//! Fillings: finitely many cells, with a symbol for each.
 ghost use Rattle.std.specs.Prelude.{◌≡◌, ◌≤◌, length, IfOk, MatchOption};
 ghost use Rattle.std.specs.List.Sorted.{IsStrictlySortedBy};
 ghost use Rattle.dd_lattice.specs.Order.{cell_cmp};
@@ -11,7 +11,7 @@ use dd_lattice::Cell;
 use std::alloc::{AllocError, Global};
 use std::marker::Model;
 
-/// A filling of a domain: cells in strictly ascending cell order, and the symbol of each.
+/// A filling: a symbol for each cell of a finite domain. The cells are kept in strictly ascending cell order.
 #[derive(Debug, Drop)]
 pub struct Filling {
     cells: Vec<Cell>,
@@ -29,7 +29,7 @@ impl Model for Filling {
 }
 
 impl Filling {
-    /// The filling with these cells, each with the symbol at its place in the second list. It takes no memory.
+    /// The filling of these cells with these symbols, in the same order. It allocates nothing.
     pub fn new(cells: Vec<Cell>, symbols: Vec<u32>) -> Filling
         requires ascending { IsStrictlySortedBy cell_cmp cells.items }
         requires as_many { length symbols.items ≡ length cells.items }
@@ -56,12 +56,12 @@ impl Filling {
         self.symbols.as_slice()
     }
 
-    /// The filling restricted to these cells, given in cell order, or `None` if one of them isn't in the domain.
+    /// The filling restricted to these cells, which are in cell order. `None` if one of them isn't in the domain.
     pub fn restrict(&self, alloc: Global, cells: &[Cell]) -> Result<Option<Filling>, AllocError>
         requires { IsStrictlySortedBy cell_cmp cells.now }
         ensures { IfOk result (λ found. MatchOption found (IsWanting self.now cells.now) (IsRestriction self.now cells.now)) }
     {
-        // This read brings in what the type guarantees.
+        // This call tells the proof what the type guarantees: the domain ascends, and each cell has one symbol.
         let _domain = &self.cells;
         let mut symbols = Vec::with_capacity(alloc, cells.len())?;
         for cell in cells {
@@ -74,7 +74,7 @@ impl Filling {
         Ok(Some(Filling { cells, symbols }))
     }
 
-    /// The sum of the symbols' weights, where the symbol `s` has the weight `weights[s]`.
+    /// The sum of the symbols' weights, where the symbol `s` has the weight `weights[s]`. There are at most 2^32 cells.
     pub fn weight(&self, weights: &[u32]) -> u64
         requires weights { AreWeights weights.now self.now.symbols }
         requires few { length self.now.cells ≤ 4294967296 }

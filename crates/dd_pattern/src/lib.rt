@@ -1,4 +1,4 @@
-//! Fillings and periodic configurations, and what it means to read them.
+//! Fillings and periodic configurations, their weights, and what it means to read them.
 #![tactic(auto)]
 
 mod filling;

@@ -1,4 +1,4 @@
-//! Periodic configurations: the symbols of one fundamental box, for every cell of Z^d.
+//! Periodic configurations: the symbols of one fundamental box give every cell of Z^d its symbol.
 ghost use Rattle.std.specs.Prelude.{◌≡◌, ◌<◌, ◌≤◌, ◌+◌, ◌*◌, ◌^◌, [], ◌∷◌, length, slice_index, pos, IsTrue, ◌↔◌, MatchResult};
 ghost use Rattle.dd_lattice.specs.Place.{place};
 ghost use Rattle.dd_pattern.specs.Periods.{ArePeriodsIn, periods_of, periods_volume, residue, unsheared};
@@ -14,8 +14,8 @@ use std::marker::Model;
 /// The greatest number of symbols of a fundamental box.
 const MOST_SYMBOLS: usize = 65_536;
 
-/// A configuration that repeats along its period vectors. The symbols of the fundamental box, whose coordinates run from
-/// 0 to the period less 1, are listed in cell order.
+/// A configuration that repeats along its period vectors. The coordinates of the fundamental box run from 0 to the
+/// period less 1 on each axis. Its symbols are listed in cell order. Contracts see the value as a `Tile`.
 #[derive(Debug, Drop)]
 pub struct Periodic {
     dim: u32,
@@ -34,7 +34,7 @@ impl Model for Periodic {
     ghost invariant = { λ p. IsPeriodic (record { dimension = p.dim; periods = p.periods; nodes = p.nodes; symbols = p.symbols.items }) };
 }
 
-/// The number of an entry in a table of rows.
+/// The index of an entry in a table that is listed row by row. Rows and columns are counted from 0.
 fn entry(row: usize, width: u32, column: u32) -> usize
     requires { row * width + column < 2 ^ 64 }
     ensures { result ≡ row * width + column }
@@ -50,6 +50,7 @@ struct Base {
     z: u32,
 }
 
+/// The number of cells of the fundamental box.
 fn table_size(periods: &Periods, nodes: u32) -> u128
     ensures { result ≡ periods_volume periods.now * nodes }
 {
@@ -58,14 +59,15 @@ fn table_size(periods: &Periods, nodes: u32) -> u128
     rows as u128 * rest as u128
 }
 
+/// Whether the fundamental box has this number of cells.
 fn has_size(periods: &Periods, nodes: u32, count: usize) -> bool
     ensures { IsTrue result ↔ (periods_volume periods.now * nodes ≡ count) }
 {
     table_size(periods, nodes) == count as u128
 }
 
-/// Whether the periods of unused axes are 1, and the shear is less than the first period, and 0 in one dimension.
-fn are_used(dim: u32, periods: &Periods) -> bool
+/// Whether the periods of unused axes are 1, the shear is less than the first period, and it is 0 in one dimension.
+fn fit_dimension(dim: u32, periods: &Periods) -> bool
     ensures { IsTrue result ↔ ((dim < 2 → periods.now.y ≡ 1) × (dim < 3 → periods.now.z ≡ 1)
         × (periods.now.shear < periods.now.x) × (dim < 2 → periods.now.shear ≡ 0)) }
 {
@@ -78,19 +80,20 @@ fn are_used(dim: u32, periods: &Periods) -> bool
     periods.shear < periods.x
 }
 
-/// Whether these are periods in so many dimensions.
+/// Whether these are periods in `dim` dimensions.
 fn are_periods(dim: u32, periods: &Periods) -> bool
     ensures { IsTrue result ↔ ArePeriodsIn dim periods.now }
 {
-    periods.y != 0 && periods.z != 0 && are_used(dim, periods)
+    periods.y != 0 && periods.z != 0 && fit_dimension(dim, periods)
 }
 
 impl Periodic {
-    /// The configuration with these symbols. It takes no memory. The symbols come back in these cases:
+    /// The configuration with these symbols of its fundamental box, in cell order. It allocates nothing. The symbols are
+    /// given back in these cases:
     /// - `dim` isn't 1, 2 or 3, or there is no node.
     /// - A period is 0, or that of an unused axis isn't 1.
     /// - The shear isn't less than the first period, or isn't 0 in one dimension.
-    /// - The number of symbols isn't the product of the periods and of `nodes`, or passes 65,536.
+    /// - The number of symbols isn't the product of `nodes` and the three periods, or passes 65,536.
     pub fn new(
         dim: u32,
         periods: [u32; 3],
@@ -131,14 +134,15 @@ impl Periodic {
         [self.periods.x, self.periods.y, self.periods.z]
     }
 
-    /// How far the second period vector goes along x: less than the first period, and 0 in one dimension.
+    /// The shear: the first coordinate of the second period vector. It is less than the first period, and 0 in one
+    /// dimension.
     pub fn shear(&self) -> u32
         ensures { result ≡ self.now.periods.shear }
     {
         self.periods.shear
     }
 
-    /// The number of nodes of a position, at least 1.
+    /// The number of nodes at each position, at least 1.
     pub fn nodes(&self) -> u32
         ensures { result ≡ self.now.nodes }
     {
@@ -155,7 +159,7 @@ impl Periodic {
         self.symbols.as_slice()
     }
 
-    /// The sum of the weights of the fundamental box, where the symbol `s` has the weight `weights[s]`.
+    /// The sum of the weights of the symbols of the fundamental box, where the symbol `s` has the weight `weights[s]`.
     pub fn weight(&self, weights: &[u32]) -> u64
         requires { AreWeights weights.now self.now.symbols }
         ensures { result ≡ total_weight weights.now self.now.symbols }
@@ -165,13 +169,14 @@ impl Periodic {
 }
 
 impl Periodic {
+    /// The base of a position: the position of the fundamental box that is congruent to it.
     fn base(&self, position: &Position) -> Base
         ensures x { result.x ≡ residue (unsheared self.now.periods position.now) self.now.periods.x }
         ensures y { result.y ≡ residue position.now.y self.now.periods.y }
         ensures z { result.z ≡ residue position.now.z self.now.periods.z }
     {
-        let turns = quotient(position.y, self.periods.y);
-        let x = unsheared(position.x, turns, self.periods.shear);
+        let times = quotient(position.y, self.periods.y);
+        let x = unsheared(position.x, times, self.periods.shear);
         Base {
             x: residue(x, self.periods.x),
             y: residue(position.y as i64, self.periods.y),
@@ -179,6 +184,7 @@ impl Periodic {
         }
     }
 
+    /// The index of the cell's symbol in the list of symbols.
     fn index(&self, cell: &Cell) -> usize
         requires { cell.now.node < self.now.nodes }
         ensures value { result ≡ tile_index self.now cell.now }
@@ -192,7 +198,7 @@ impl Periodic {
 }
 
 impl Periodic {
-    /// The cell of the fundamental box whose symbol stands at this place in the list.
+    /// The cell of the fundamental box whose symbol has the index `number` in the list of symbols.
     #[tactic(auto, using(crate::specs::lemmas::BoxLaws::in_box, crate::specs::lemmas::BoxLaws::index_of_cell))]
     pub fn cell_at(&self, number: usize) -> Cell
         requires { number < length self.now.symbols }
@@ -214,6 +220,7 @@ impl Periodic {
     }
 }
 
+/// The position with these coordinates, which are in range.
 fn position_of(x: usize, y: usize, z: usize) -> Position
     requires x_small { x ≤ most_symbols }
     requires y_small { y ≤ most_symbols }

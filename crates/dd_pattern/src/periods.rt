@@ -1,4 +1,4 @@
-//! Periods: the vectors along which a configuration repeats, and their order.
+//! Periods: they give the vectors along which a configuration repeats.
 ghost use Rattle.std.specs.Prelude.{◌≡◌, ◌<◌, ◌≤◌, ◌+◌, ◌*◌, pos, unsigned_abs, ◌*ℤ◌, ◌-ℤ◌, IfOk, OnOk};
 ghost use Rattle.std.proofs.Common.{rules};
 ghost use Rattle.std.specs.Cmp.{partial_order_from_own_ties};
@@ -14,8 +14,9 @@ use std::alloc::{AllocError, Global};
 use std::cmp::Ordering;
 use std::collections::BTreeSet;
 
-/// The period vectors `(x, 0, 0)`, `(shear, y, 0)` and `(0, 0, z)`. Those of unused axes are 1, and the shear is less
-/// than `x`, and 0 in one dimension. Their order is by the volume `x * y * z`, then by `x`, `y`, `z` and the shear.
+/// The periods of a configuration that repeats along the vectors `(x, 0, 0)`, `(shear, y, 0)` and `(0, 0, z)`. The
+/// period of an unused axis is 1. The shear is less than `x`, and 0 in one dimension. Periods are ordered by the volume
+/// `x * y * z`, then by `x`, `y`, `z` and the shear.
 #[derive(Debug, Clone, Copy, PartialEq, Eq)]
 pub struct Periods {
     pub x: u32,
@@ -25,7 +26,7 @@ pub struct Periods {
 }
 
 impl Periods {
-    /// All periods in `dim` dimensions that are at most `most` along each axis, each with each shear, in their order.
+    /// All periods in `dim` dimensions whose `x`, `y` and `z` are at most `most`, with every shear, in their order.
     pub fn within(alloc: Global, dim: u32, most: u32) -> Result<Vec<Periods>, AllocError>
         ensures ascending { IfOk result (λ v. IsStrictlySortedBy periods_cmp v.items) }
         ensures members { IfOk result (λ v. AreAllWithin dim most v.items) }
@@ -37,6 +38,7 @@ impl Periods {
         listed(alloc, &found)
     }
 
+    /// The number of positions of the fundamental box, `x * y * z`.
     fn volume(&self) -> u128
         ensures { result ≡ periods_volume self.now }
     {
@@ -81,7 +83,7 @@ fn most_along(dim: u32, axis: u32, most: u32) -> u32
     if axis < dim { most } else { 1 }
 }
 
-/// Adds the periods with each shear.
+/// Adds the periods with these `x`, `y` and `z`, and every shear.
 fn add_shears(
     found: &mut BTreeSet<Periods>,
     dim: u32,
@@ -97,7 +99,7 @@ fn add_shears(
     Ok(())
 }
 
-/// Adds the periods with these first two, whose third is at most `high`.
+/// Adds the periods with these `x` and `y`, every `z` from 1 to `high`, and every shear.
 fn add_row(
     found: &mut BTreeSet<Periods>,
     dim: u32,
@@ -113,7 +115,7 @@ fn add_row(
     Ok(())
 }
 
-/// Adds the periods with this first one.
+/// Adds the periods with this `x`, every `y` and `z` from 1 to `most` on active axes, and every shear.
 fn add_plane(found: &mut BTreeSet<Periods>, dim: u32, most: u32, x: u32) -> Result<(), AllocError>
     ensures { OnOk result (IsAdded found.old.keys found.new.keys (HasPlane dim most x)) }
 {
@@ -132,7 +134,7 @@ fn listed(alloc: Global, found: &BTreeSet<Periods>) -> Result<Vec<Periods>, Allo
     found.iter().copied().collect(alloc)
 }
 
-/// A whole number modulo `n`.
+/// A whole number modulo `n`, from 0 to `n - 1`.
 pub(crate) fn residue(x: i64, n: u32) -> u32
     requires some { 0 < n }
     ensures value { result ≡ residue x n }
@@ -151,12 +153,12 @@ pub(crate) fn quotient(x: i32, n: u32) -> i32
     x.div_euclid(n as i32)
 }
 
-/// The coordinate along x once the second period vector has been subtracted `turns` times.
-pub(crate) fn unsheared(x: i32, turns: i32, shear: u32) -> i64
+/// The coordinate `x` of a position after `(shear, y, 0)` has been subtracted `times` times.
+pub(crate) fn unsheared(x: i32, times: i32, shear: u32) -> i64
     requires near { IsCoordinateInRange x }
-    requires turns { unsigned_abs turns ≤ most_coordinate + 1 }
+    requires times { unsigned_abs times ≤ most_coordinate + 1 }
     requires small { shear ≤ most_symbols }
-    ensures { result ≡ x -ℤ turns *ℤ pos shear }
+    ensures { result ≡ x -ℤ times *ℤ pos shear }
 {
-    x as i64 - turns as i64 * shear as i64
+    x as i64 - times as i64 * shear as i64
 }

@@ -1,15 +1,15 @@
-//! What can be read at a cell: a symbol at some cells, or a symbol at every cell.
+//! What can be read at a cell: a symbol at some cells, or at every cell.
 ghost use Rattle.std.specs.Prelude.{◌≡◌, ◌<◌, ℕ, Option};
 ghost use Rattle.dd_lattice.specs.declared.position.Cell.{Cell};
 
 use dd_lattice;
 
-/// Gives symbols to some cells, or to all.
+/// Gives symbols to some cells, possibly to all.
 pub trait Reads {
     /// The symbol of each cell of Z^3, or none.
     ghost symbols: { Self → Cell → Option ℕ };
 
-    /// The number of the cell's symbol, from 0, or none where it has no symbol.
+    /// The number of the cell's symbol, from 0. `None` if the cell has no symbol.
     fn symbol(&self, cell: &dd_lattice::Cell) -> Option<u32>
         ensures { result ≡ symbols self.now cell.now };
 }
@@ -19,8 +19,8 @@ pub trait Configuration {
     /// The number of nodes of each position.
     ghost nodes: { Self → ℕ };
 
-    /// The symbol of each cell of Z^3, past the range of positions too. It has a meaning only where the node is below
-    /// `nodes`.
+    /// The symbol of each cell of Z^3, even at a position that code can't hold. It has a meaning only where the node is
+    /// below `nodes`.
     ghost symbol_of: { Self → Cell → ℕ };
 
     /// The number of the cell's symbol, from 0. The cell's node must be below the number of nodes.

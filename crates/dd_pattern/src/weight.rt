@@ -1,8 +1,8 @@
-//! Weights of lists of symbols.
+//! The weight of a list of symbols.
 ghost use Rattle.std.specs.Prelude.{◌≡◌, ◌≤◌, length};
 ghost use Rattle.dd_pattern.specs.Weight.{AreWeights, total_weight};
 
-/// The sum of the symbols' weights.
+/// The sum of the symbols' weights, where the symbol `s` has the weight `weights[s]`. There are at most 2^32 symbols.
 pub fn weight_of(symbols: &[u32], weights: &[u32]) -> u64
     requires weights { AreWeights weights.now symbols.now }
     requires few { length symbols.now ≤ 4294967296 }

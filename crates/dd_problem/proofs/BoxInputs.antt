@@ -12,7 +12,7 @@ use Rattle.dd_compile.specs.Wiring.{wire_of}
 use Rattle.dd_formula.specs.LocalRule.{LocalRule, IsRule, reads_at}
 use Rattle.dd_boxes.specs.{Goals.GoalOf, Goals.breaks, Goals.differ, Goals.always, Fillings.in_box, Fillings.is_box_cell}
 use Rattle.dd_boxes.specs.{Boxes.origin, Boxes.Reaches, Counts.question_clauses, Counts.most_clauses, Cells.box_cells}
-use Rattle.dd_problem.specs.{pushing.Told.IsToldGoal, Layouts.box_index, Layouts.box_layout, Clauses.input, Problems.box_problem}
+use Rattle.dd_problem.specs.{pushing.GoalFacts.HasGoalFacts, Layouts.box_index, Layouts.box_layout, Clauses.input, Problems.box_problem}
 use Rattle.dd_problem.specs.pushing.{Numbered.in_turn, Pushed.wired_problem, Pushed.AreInputs, Pushed.is_goal_wired}
 use Rattle.dd_problem.specs.lemmas.BoxLayout.{box_within, box_is_layout, box_cell_there, box_cell_at}
 use Rattle.dd_problem.specs.lemmas.{BoxValues.box_values, BoxShows.goal_reads_box, CellOrder.cells_ascending}
@@ -21,7 +21,7 @@ use Rattle.dd_problem.specs.lemmas.NumberedWires.{turns_below, wire_there, wire_
 use Rattle.dd_problem.specs.lemmas.Filtered.{range_get}
 use Rattle.dd_problem.proofs.Matching.{Gives, GoalMatches, goal_is_wired, wired_is_problem}
 
--- a box in range
+-- the box lies in the range of positions
 pub spread_most : (b : Bool) (n : ℕ) → spread b n ≤ n
 spread_most true n = omega arith
 spread_most false n = omega arith
@@ -59,7 +59,7 @@ box_made x g n o rule few is = is ∙ ap (λ b. if b then Some (centred x.dimens
 pub box_ascends : (x : LocalRule) (n : ℕ) → IsRule x → IsStrictlySortedBy cell_cmp (box_cells x n)
 box_ascends x n rule = cells_ascending (centred x.dimension n) x.nodes (bounds_ordered x.dimension n) rule.nodes.0
 
--- the wires
+-- the wires of the box's cells
 pub member_is_box_cell : (x : LocalRule) (n : ℕ) (c : Cell) → Contains (box_cells x n) c → is_box_cell x n c ≡ true
 member_is_box_cell x n c h =
     (box_cell_at x n h.0 c (slice_get-get_or (box_cells x n) h.0 c h.1 ∙ ap (λ d. Some d) h.2)).0
@@ -105,19 +105,19 @@ box_nodes x n k d is = ltb-true d.node x.nodes (and_parts (in_box x.dimension n 
 pub all_box_nodes : (x : LocalRule) (n : ℕ) → All (λ (d : Cell). d.node < x.nodes) (box_cells x n)
 all_box_nodes x n = λ k d h. box_nodes x n k (get_or (box_cells x n) k d) (slice_get-get_or (box_cells x n) k d h)
 
-box_goal : (x : LocalRule) (g : GoalOf) (n : ℕ) → IsRule x → IsToldGoal x g → n ≤ 1048576 → GoalMatches (in_turn x.symbols (box_cells x n)) (box_layout x n) x.symbols (λ _. true) g
+box_goal : (x : LocalRule) (g : GoalOf) (n : ℕ) → IsRule x → HasGoalFacts x g → n ≤ 1048576 → GoalMatches (in_turn x.symbols (box_cells x n)) (box_layout x n) x.symbols (λ _. true) g
 box_goal x (breaks y) n rule ok small = λ a node. record { node = node; gives = box_gives x n rule small origin; reads = all_pass (reads_at y a) }
 box_goal x (differ s f g) n rule ok small = refl
 box_goal x always n rule ok small = tt
 
-pub box_is_problem : (x : LocalRule) (g : GoalOf) (n : ℕ) → IsRule x → IsToldGoal x g → Reaches g n → n ≤ 1048576 →
+pub box_is_problem : (x : LocalRule) (g : GoalOf) (n : ℕ) → IsRule x → HasGoalFacts x g → Reaches g n → n ≤ 1048576 →
     wired_problem (in_turn x.symbols (box_cells x n)) x g (box_cells x n) ≡ box_problem x g n
 box_is_problem x g n rule ok reach small =
     wired_is_problem (in_turn x.symbols (box_cells x n)) (box_layout x n) x (λ _ _. true) (λ _. true) g rule ok (box_is_layout x n) (goal_reads_box x g n ok reach)
     (λ k d is. record { node = box_nodes x n k d is; gives = box_gives x n rule small d.position; reads = all_pass (reads_at x d.node) })
     (box_goal x g n rule ok small)
 
-pub box_goal_wired : (x : LocalRule) (g : GoalOf) (n : ℕ) → IsRule x → IsToldGoal x g → Reaches g n → n ≤ 1048576 →
+pub box_goal_wired : (x : LocalRule) (g : GoalOf) (n : ℕ) → IsRule x → HasGoalFacts x g → Reaches g n → n ≤ 1048576 →
     is_goal_wired (in_turn x.symbols (box_cells x n)) (length (box_cells x n) * x.symbols) g ≡ true
 box_goal_wired x g n rule ok reach small =
     goal_is_wired (in_turn x.symbols (box_cells x n)) (box_layout x n) x (λ _. true) g ok (box_is_layout x n) (goal_reads_box x g n ok reach) (box_values x n rule g ok reach) (box_goal x g n rule ok small)

@@ -12,7 +12,7 @@ use Rattle.dd_compile.specs.Compiling.{made, wires_near, is_wire, certain, compi
 use Rattle.dd_compile.specs.{lemmas.MadeCount.made_same, ValueSignals.are_wired_there}
 use Rattle.dd_formula.specs.{LocalRule.LocalRule, LocalRule.IsRule, LocalRule.reads_at, LocalRule.expansion_at, Automata.counted, lemmas.ReachLaws.all_numbers}
 use Rattle.dd_boxes.specs.{Goals.GoalOf, Goals.breaks, Goals.differ, Goals.always, Boxes.origin}
-use Rattle.dd_problem.specs.{pushing.Told.IsToldGoal, Layouts.Layout, Layouts.fits_in}
+use Rattle.dd_problem.specs.{pushing.GoalFacts.HasGoalFacts, Layouts.Layout, Layouts.fits_in}
 use Rattle.dd_problem.specs.Clauses.{input, Part, cell_clauses, part_gates, part_clauses, units, some_true, some_false}
 use Rattle.dd_problem.specs.Problems.{wire, place_maker, premise_part, goal_part, input_count, problem}
 use Rattle.dd_problem.specs.{Differing.differ_made, lemmas.ValueWires.GoalWired, lemmas.ValueWires.value_is_wired}
@@ -20,7 +20,7 @@ use Rattle.dd_problem.specs.pushing.Pushed.{are_both_wired, is_wired_at, is_goal
 use Rattle.dd_problem.specs.lemmas.{RangesLeft.row_within, Reading.IsLayout, Wiring.HasReads}
 use Rattle.dd_values.specs.lemmas.Booleans.{same_bool}
 
--- at the leaves that pass p, counted from v, the wires are the layout's inputs
+-- at the cells that pass p, relative to v, the wires are the layout's inputs
 abbrev pub Gives : Wiring → Layout → ℕ → (Cell → Bool) → Place → Type 0
 Gives w l m p v = (c : Cell) (s : ℕ) → p c ≡ true → s < m → wires_near w v c s ≡ cond (l.has (shifted v c)) (Some (wire l m v c s)) None
 
@@ -128,7 +128,7 @@ GoalMatches w l m p (breaks y) = (a : ℕ) → a < y.nodes → Matches w l m p y
 GoalMatches w l m p (differ s f g) = w ≡ l.inputs
 GoalMatches w l m p always = Unit {0}
 
-goal_same : (w : Wiring) (l : Layout) (x : LocalRule) (p : Cell → Bool) (g : GoalOf) → IsToldGoal x g → IsLayout l → HasReads l g → GoalMatches w l x.symbols p g →
+goal_same : (w : Wiring) (l : Layout) (x : LocalRule) (p : Cell → Bool) (g : GoalOf) → HasGoalFacts x g → IsLayout l → HasReads l g → GoalMatches w l x.symbols p g →
     wired_goal w g ≡ goal_part l x.symbols g
 goal_same w l x p (breaks y) ok layout reads match =
     let makers = range_same (λ a. compiled w origin (expansion_at y a)) (λ a. place_maker l x.symbols y (cell origin a)) y.nodes 0
@@ -138,7 +138,7 @@ goal_same w l x p (differ s f g) ok layout reads match =
     λ i. record { makers = map (λ a. differ_made s.symbols f g (match i) (cell origin a)) (range_with_len 0 s.nodes); tail = some_true }
 goal_same w l x p always ok layout reads match = refl
 
-pub goal_is_wired : (w : Wiring) (l : Layout) (x : LocalRule) (p : Cell → Bool) (g : GoalOf) → IsToldGoal x g → IsLayout l → HasReads l g → GoalWired l x.symbols g → GoalMatches w l x.symbols p g →
+pub goal_is_wired : (w : Wiring) (l : Layout) (x : LocalRule) (p : Cell → Bool) (g : GoalOf) → HasGoalFacts x g → IsLayout l → HasReads l g → GoalWired l x.symbols g → GoalMatches w l x.symbols p g →
     is_goal_wired w (length l.places * x.symbols) g ≡ true
 goal_is_wired w l x p (breaks y) ok layout reads values match =
     all_numbers (λ a. is_wired_at w (length l.places * x.symbols) y (cell origin a)) 0 y.nodes
@@ -153,8 +153,8 @@ goal_is_wired w l x p (differ s f g) ok layout reads values match =
     (ap (λ v. are_wired_there n s.symbols v ((counted g).reads a) (cell origin a)) match ∙ value_is_wired l layout.within s g values.right a node n (omega (arith, same)))))
 goal_is_wired w l x p always ok layout reads values match = refl
 
--- all clauses
-pub wired_is_problem : (w : Wiring) (l : Layout) (x : LocalRule) (p : Cell → Cell → Bool) (q : Cell → Bool) (g : GoalOf) → IsRule x → IsToldGoal x g → IsLayout l → HasReads l g →
+-- the whole clause list
+pub wired_is_problem : (w : Wiring) (l : Layout) (x : LocalRule) (p : Cell → Cell → Bool) (q : Cell → Bool) (g : GoalOf) → IsRule x → HasGoalFacts x g → IsLayout l → HasReads l g →
     ((k : ℕ) (d : Cell) → slice_get l.places k ≡ Some d → Matches w l x.symbols (p d) x d) → GoalMatches w l x.symbols q g → wired_problem w x g l.places ≡ problem l x g
 wired_is_problem w l x p q g rule ok layout reads places goal =
     let n = input_count l x in

@@ -1,4 +1,4 @@
--- What the calls return that list the cells near those of a fundamental box.
+-- What is returned by the calls that list the cells read on a torus.
 use Rattle.std.proofs.Common.{◌≡◌, ℕ, ◌+◌, ◌*◌, ◌<◌, ◌≤◌, ◌^◌, Bool, true, false, List, [], ◌∷◌, ◌++◌, map, take, length, get_or, ap, sym, subst, ◌∙◌, arith, rules, Some, None, if◌then◌else◌, pos, ◌-ℤ◌}
 use Rattle.std.proofs.lemmas.{Int.ints, Bool.le-leb, Nat.mul-le}
 use Rattle.std.proofs.lemmas.List.{map_more, take_all, append_assoc}
@@ -10,9 +10,9 @@ use Rattle.dd_topology.specs.Topology.{extent}
 use Rattle.dd_formula.specs.LocalRule.{LocalRule, IsRule, reads_at, cells_at, is_near}
 use Rattle.dd_formula.specs.lemmas.Cuts.{flat_more}
 use Rattle.dd_boxes.specs.{Cells.box_cells, Goals.GoalOf, Boxes.goal_reach, Boxes.IsLeastRadius}
-use Rattle.dd_problem.specs.{Layouts.cells_in, pushing.Near.read_cells, pushing.Near.near_cells, pushing.Told.IsToldGoal}
+use Rattle.dd_problem.specs.{Layouts.cells_in, pushing.Near.read_cells, pushing.Near.near_cells, pushing.GoalFacts.HasGoalFacts}
 use Rattle.dd_problem.specs.lemmas.Filtered.{some_same}
-use Rattle.dd_problem.proofs.{TorusInputs.sum_in_range, TorusReach.told_near, TorusReach.radius_is}
+use Rattle.dd_problem.proofs.{TorusInputs.sum_in_range, TorusReach.facts_near, TorusReach.radius_is}
 
 -- the sum of two positions exists
 pub sum_there : (p v : Place) (o : Option Place) → extent p ≤ 16 → extent v ≤ 1048560 → o ≡ (if is_in_range (moved p v) then Some (moved p v) else None) → o ≡ Some (moved p v)
@@ -56,13 +56,13 @@ box_few d n nodes small few =
     let most : volume b * nodes ≤ 143748 = mul-le (volume b) nodes 35937 4 all few in
     omega (arith, most)
 
-module _ (x : LocalRule) (g : GoalOf) (rule : IsRule x) (told : IsToldGoal x g) (least d nodes : ℕ) (is : IsLeastRadius g least) (dim : d ≡ x.dimension) (same : nodes ≡ x.nodes)
+module _ (x : LocalRule) (g : GoalOf) (rule : IsRule x) (told : HasGoalFacts x g) (least d nodes : ℕ) (is : IsLeastRadius g least) (dim : d ≡ x.dimension) (same : nodes ≡ x.nodes)
     (o : Option Bounds) (made : o ≡ (if nat_le least 1048576 then Some (centred d least) else None)) where
   far : least ≡ goal_reach g
   far = radius_is x g least rule told is
 
   small : least ≤ 16
-  small = let reach = told_near x g told in omega (arith, far, reach)
+  small = let reach = facts_near x g told in omega (arith, far, reach)
 
   box_made : o ≡ Some (centred d least)
   box_made = made ∙ ap (λ b. if b then Some (centred d least) else None) (le-leb least 1048576 (let k = small in omega (arith, k)))

@@ -1,4 +1,4 @@
--- The state while the gates at the nodes of a position are made, each with a literal of its signal.
+-- The loop that makes the gates at the nodes of a position, and a literal of each signal.
 use Rattle.std.proofs.Common.{◌≡◌, ℕ, ◌+◌, ◌<◌, ◌≤◌, List, [], ◌∷◌, ◌++◌, map, length, refl, ap, sym, ◌∙◌, arith, length-append, append_assoc, true}
 use Rattle.std.proofs.lemmas.List.{append-nil, Elements.All-push, Elements.All-weaker}
 use Rattle.std.specs.List.{range_with_len}
@@ -21,7 +21,7 @@ use Rattle.dd_problem.specs.lemmas.Growing.{same_encoding, extended_size, extend
 abbrev pub turned_part : (ℕ → Maker) → ℕ → (Signal → Literal) → Part
 turned_part maker count turn = record { makers = map maker (range_with_len 0 count); tail = λ ss. map turn ss ∷ [] }
 
--- the gates of a rule
+-- the gates of a rule at a node of a position
 abbrev pub node_maker : Wiring → LocalRule → Place → ℕ → Maker
 node_maker w y v a = compiled w v (expansion_at y a)
 
@@ -68,7 +68,7 @@ node_few maker count turn node most start now literals p h few =
     let split = ap (λ (m : AllMade). length m.gates) (node_split maker count turn node n h) in
     omega (arith, whole, nothing, there, here, same, split, few, length-append one later)
 
--- the same for a rule, whose expansion is kept
+-- the same for a rule: there is room for the gates of its expansion at the node
 pub rule_few : (w : Wiring) (y : LocalRule) (v : Place) (turn : Signal → Literal) (node most : ℕ) (start now : Encoding) (literals : List Literal) (e : Expanded) →
     NodesLeft (node_maker w y v) y.nodes turn node start now literals → node < y.nodes → e ≡ expansion_at y node →
     size (with_parts start (turned_part (node_maker w y v) y.nodes turn ∷ [])).circuit ≤ most → size now.circuit + gate_count e ≤ most

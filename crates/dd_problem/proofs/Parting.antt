@@ -1,4 +1,4 @@
--- The state while the gates that tell two values apart are made, symbol by symbol.
+-- The loop that makes the gates that tell two values apart, symbol by symbol.
 use Rattle.std.proofs.Common.{◌≡◌, ◌<◌, ◌≤◌, ℕ, suc, ◌+◌, List, [], ◌∷◌, ◌++◌, length, drop, get_or, ap, sym, ◌∙◌, subst, arith, append_assoc, length-append}
 use Rattle.std.proofs.lemmas.List.{drop_all, append-nil}
 use Rattle.std.specs.List.{All}

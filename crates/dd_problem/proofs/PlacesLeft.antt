@@ -1,4 +1,4 @@
--- The state while the premise's clauses are made.
+-- The loop that makes the premise's clauses, cell by cell.
 use Rattle.std.proofs.Common.{◌≡◌, ℕ, ◌+◌, ◌<◌, ◌≤◌, Bool, true, false, List, [], ◌∷◌, ◌++◌, map, length, drop, get_or, refl, ap, sym, ◌∙◌, arith, append_assoc, drop-cons, add-one, Some, None}
 use Rattle.std.proofs.lemmas.{Bool.and_from, Bool.le-leb, List.append-nil, List.drop_all}
 use Rattle.std.specs.{Prelude.cond, Prelude.Option, List.filter}
@@ -16,7 +16,7 @@ use Rattle.dd_problem.specs.Encodings.{Encoding, with_clause, with_gates, with_m
 use Rattle.dd_problem.specs.pushing.Pushed.{AreInputs, is_wired_at, wired_part, wired_parts}
 use Rattle.dd_problem.specs.lemmas.Growing.{same_encoding, extended_size, extended_by_none, with_parts-append}
 
--- the wires are the same signals of more variables
+-- a signal of the first n variables is one of the first m, if m is not smaller
 wire_same : (n m : ℕ) (o : Option Signal) → ((s : Signal) → o ≡ Some s → IsSignal n s) → n ≤ m → is_wire m o ≡ is_wire n o
 wire_same n m None within more = refl
 wire_same n m (Some s) within more =
@@ -33,7 +33,7 @@ wired_same n m w x d ok more =
     near_same true o within = wire_same n m o within more
     near_same false o within = refl
 
--- one cell: its part, or nothing
+-- a cell gives its part where the premise is wired, and nothing elsewhere
 pub taken : (w : Wiring) (n : ℕ) (x : LocalRule) (d : Cell) → is_wired_at w n x d ≡ true → wired_parts w n x (d ∷ []) ≡ wired_part w x d ∷ []
 taken w n x d h = ap (λ b. map (wired_part w x) (cond b (d ∷ []) [])) h
 
@@ -46,7 +46,7 @@ place_count w n m x d h =
     ap (λ ps. length (part_gates m ps)) (taken w n x d h)
     ∙ (ap length (append-nil (gs ++ []) ∙ append-nil gs) ∙ made_count (expansion_at x d.node) (certain (wires_near w d.position)) m)
 
--- the first cell and the others
+-- the parts of the first cell, and then those of the others
 pub parts_split : (w : Wiring) (n : ℕ) (x : LocalRule) (d : Cell) (ds : List Cell) → wired_parts w n x (d ∷ ds) ≡ wired_parts w n x (d ∷ []) ++ wired_parts w n x ds
 parts_split w n x d ds = split (is_wired_at w n x d) where
   split : (b : Bool) → map (wired_part w x) (cond b (d ∷ filter (is_wired_at w n x) ds) (filter (is_wired_at w n x) ds)) ≡

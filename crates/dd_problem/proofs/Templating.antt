@@ -34,7 +34,7 @@ all_signals n m (s ∷ ss) more h =
     (and_from (nat_le 1 s.variable) (nat_le s.variable m) (le-leb 1 s.variable one.0) (le-leb s.variable m (omega (arith, one.1, more))))
     (all_signals n m ss more (λ i signal is. h (suc i) signal is))
 
--- a cell with one wire has all
+-- a cell that has the wire of one symbol has that of each
 row_full : (n m k : ℕ) (b : Bool) (o : Option (List Signal)) (s : ℕ) → n ≤ m → ((ss : List Signal) → o ≡ Some ss → length ss ≡ k) →
     ((i : ℕ) (signal : Signal) → signal_for o i ≡ Some signal → IsSignal n signal) → is_wire m (if b then signal_for o s else None) ≡ true → are_signals m k o ≡ true
 row_full n m k false o s more full fit h = absurd (cc)
@@ -55,7 +55,7 @@ same_reads n m w x d rule node near ok full more =
     row_full n m x.symbols (is_in_range (moved c.position v)) (signals_of w (shifted v c)) s more (full (shifted v c)) (ok (shifted v c)))
     h)
 
--- what a test of the reads says
+-- what the test of the cells that are read answers
 pub reads_tell : (n m : ℕ) (w : Wiring) (x : LocalRule) (d : Cell) (b r : Bool) → IsRule x → d.node < x.nodes → extent d.position ≤ 1048560 → AreInputs n w → HasAllSymbols x.symbols w → n ≤ m →
     r ≡ are_reads_wired m w x d → r ≡ b → is_wired_at w n x d ≡ b
 reads_tell n m w x d b r rule node near ok full more said told =

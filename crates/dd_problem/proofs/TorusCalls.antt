@@ -1,4 +1,4 @@
--- What the calls return from which the clauses of a torus are made.
+-- What is returned by the calls of which `torus_clauses` is made.
 use Rattle.std.proofs.Common.{◌≡◌, ℕ, ◌+◌, ◌*◌, ◌≤◌, ◌<◌, ◌^◌, true, List, map, length, refl, ap, sym, subst, ◌∙◌, arith}
 use Rattle.std.proofs.lemmas.{Nat.mul-le, List.Elements.All-map, List.Elements.All-weaker}
 use Rattle.std.proofs.lemmas.{List.FromFn.length-range_with_len, Result.IfOk-weaker}
@@ -11,7 +11,7 @@ use Rattle.dd_clause.specs.Clauses.{ClauseList}
 use Rattle.dd_compile.specs.Wiring.{Wiring}
 use Rattle.dd_formula.specs.LocalRule.{LocalRule, IsRule}
 use Rattle.dd_boxes.specs.{Goals.GoalOf, Counts.question_clauses, Counts.most_clauses, TorusPeriods.AreTorusPeriods}
-use Rattle.dd_problem.specs.{pushing.Told.IsToldGoal, Layouts.cells_in, Layouts.torus_cells}
+use Rattle.dd_problem.specs.{pushing.GoalFacts.HasGoalFacts, Layouts.cells_in, Layouts.torus_cells}
 use Rattle.dd_problem.specs.pushing.Near.{torus_layout, near_cells, number_at, numbered_by, numbered_tile, torus_inputs}
 use Rattle.dd_problem.specs.{Problems.torus_problem, pushing.Pushed.AreInputs, pushing.Pushed.is_goal_wired, pushing.Pushed.wired_problem}
 use Rattle.dd_problem.specs.{Shows.ShowsTorus, lemmas.RangesLeft.row_within, lemmas.CellOrder.cells_nodes, lemmas.Counting.variables_below}
@@ -87,7 +87,7 @@ module _ (x : LocalRule) (periods : Periods) (rule : IsRule x) (ok : AreTorusPer
       omega (arith, row, all)
 
 -- what the premise and the goal read
-module _ (x : LocalRule) (periods : Periods) (rule : IsRule x) (ok : AreTorusPeriods x.dimension x.nodes periods) (g : GoalOf) (good : IsToldGoal x g) where
+module _ (x : LocalRule) (periods : Periods) (rule : IsRule x) (ok : AreTorusPeriods x.dimension x.nodes periods) (g : GoalOf) (good : HasGoalFacts x g) where
   abbrev near : List Cell
   near = near_cells x g (torus_cells x periods)
 

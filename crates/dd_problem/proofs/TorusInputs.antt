@@ -18,7 +18,7 @@ use Rattle.dd_formula.specs.{Automata.CommonNumbers, Automata.counted, declared.
 use Rattle.dd_boxes.specs.Goals.{GoalOf, breaks, differ, always, AreOver}
 use Rattle.dd_boxes.specs.{Boxes.origin, Boxes.goal_reach, Boxes.Reaches, Fillings.in_box, Fillings.is_box_cell, Fillings.is_cell_within}
 use Rattle.dd_boxes.specs.{lemmas.RuleLaws.list_all_weaker, lemmas.FromBox.box_alike, lemmas.FromBox.box_over, TorusPeriods.AreTorusPeriods}
-use Rattle.dd_problem.specs.{pushing.Told.IsToldGoal, Layouts.torus, Layouts.torus_cells, Clauses.input, Problems.torus_problem}
+use Rattle.dd_problem.specs.{pushing.GoalFacts.HasGoalFacts, Layouts.torus, Layouts.torus_cells, Clauses.input, Problems.torus_problem}
 use Rattle.dd_problem.specs.pushing.Near.{near_cells, number_at, numbered_by, numbered_tile, torus_layout}
 use Rattle.dd_problem.specs.pushing.{Numbered.symbol_signals, Pushed.wired_problem, Pushed.is_goal_wired}
 use Rattle.dd_problem.specs.lemmas.{BoxLayout.box_within, NumberedWires.wire_there, NumberedWires.signals_there}
@@ -28,7 +28,7 @@ use Rattle.dd_problem.specs.lemmas.TorusShows.{goal_reads_torus}
 use Rattle.dd_problem.proofs.Matching.{Gives, Matches, GoalMatches, goal_is_wired, wired_is_problem}
 use Rattle.dd_problem.proofs.BoxInputs.{box_in_range}
 use Rattle.dd_problem.proofs.NearCells.{is_one_of, contained_one_of, all_are_some, near_ascends, near_has_read, near_has_box}
-use Rattle.dd_problem.proofs.{Templating.torus_near, TorusReach.told_near, TorusReach.told_reaches}
+use Rattle.dd_problem.proofs.{Templating.torus_near, TorusReach.facts_near, TorusReach.facts_reach}
 
 -- what lies near a place in range is in range
 axis_in_range : (a b : ℤ) → unsigned_abs a ≤ 16 → unsigned_abs b ≤ 1048560 → IsCoordinateInRange (a +ℤ b)
@@ -49,7 +49,7 @@ module _ (x : LocalRule) (periods : Periods) (rule : IsRule x) (ok : AreTorusPer
       omega (arith, at)
 
 -- what a question reads has its inputs
-module _ (x : LocalRule) (periods : Periods) (rule : IsRule x) (ok : AreTorusPeriods x.dimension x.nodes periods) (g : GoalOf) (good : IsToldGoal x g) where
+module _ (x : LocalRule) (periods : Periods) (rule : IsRule x) (ok : AreTorusPeriods x.dimension x.nodes periods) (g : GoalOf) (good : HasGoalFacts x g) where
   abbrev near : List Cell
   near = near_cells x g (torus_cells x periods)
 
@@ -113,7 +113,7 @@ module _ (x : LocalRule) (periods : Periods) (rule : IsRule x) (ok : AreTorusPer
   box_is_near : (c : Cell) → is_box_cell x n c ≡ true → IsNear c
   box_is_near c h =
       let both = and_parts (in_box x.dimension n c.position) (nat_lt c.node x.nodes) h in
-      let small = told_near x g good in
+      let small = facts_near x g good in
       record {
         listed = near_has_box x g (torus_cells x periods) c h;
         node = ltb-true c.node x.nodes both.1;
@@ -124,8 +124,8 @@ module _ (x : LocalRule) (periods : Periods) (rule : IsRule x) (ok : AreTorusPer
   goal_gives = torus_gives origin (is_box_cell x n) (λ c h. subst IsNear (sym (shifted_by_origin c)) (box_is_near c h))
 
   torus_goal : GoalMatches (numbered_by x.symbols numbers near) (torus_layout x g periods) x.symbols (is_box_cell x n) g
-  torus_goal = goal_of g good (told_reaches x g rule good) where
-    goal_of : (h : GoalOf) → IsToldGoal x h → Reaches h n → GoalMatches (numbered_by x.symbols numbers near) (torus_layout x g periods) x.symbols (is_box_cell x n) h
+  torus_goal = goal_of g good (facts_reach x g rule good) where
+    goal_of : (h : GoalOf) → HasGoalFacts x h → Reaches h n → GoalMatches (numbered_by x.symbols numbers near) (torus_layout x g periods) x.symbols (is_box_cell x n) h
     goal_of (breaks y) fits reach = λ a node. record {
       node = node;
       gives = goal_gives;
@@ -150,8 +150,8 @@ module _ (x : LocalRule) (periods : Periods) (rule : IsRule x) (ok : AreTorusPer
       (lt-ltb c.node x.nodes is.node, near_signals c is ∙ ap (λ m. Some (symbol_signals m (tile_index (torus x periods) c))) (sym over.symbols))
 
   pub torus_values : GoalWired (torus_layout x g periods) x.symbols g
-  torus_values = told g good (told_reaches x g rule good) where
-    told : (h : GoalOf) → IsToldGoal x h → Reaches h n → GoalWired (torus_layout x g periods) x.symbols h
+  torus_values = told g good (facts_reach x g rule good) where
+    told : (h : GoalOf) → HasGoalFacts x h → Reaches h n → GoalWired (torus_layout x g periods) x.symbols h
     told (breaks y) fits reach = tt
     told (differ s e h) fits reach = record {
       symbols = fits.over.symbols;

@@ -1,4 +1,4 @@
--- Clauses that say that each cell has one symbol, an allowed one, and clauses over the signals of gates.
+-- Clauses that say that each cell has one symbol, which its node allows, and clauses over the signals of gates.
 use Rattle.std.specs.Prelude.{ℕ, suc, ◌+◌, ◌*◌, true, false, List, [], ◌∷◌, ◌++◌, map, length}
 use Rattle.std.specs.List.{flat_map, enumerate_from, range_with_len}
 use Rattle.dd_lattice.specs.declared.position.Cell.{Cell}
@@ -12,6 +12,7 @@ use Rattle.dd_formula.specs.{LocalRule.LocalRule, Counts.disallowed}
 abbrev pub input : ℕ → ℕ → ℕ → ℕ
 input m k s = suc (k * m + s)
 
+-- the inputs of the cell with the number k, by symbol
 abbrev pub inputs_of : ℕ → ℕ → List ℕ
 inputs_of m k = map (input m k) (range_with_len 0 m)
 
@@ -32,26 +33,29 @@ none_of m k symbols = map (λ s. literal (input m k s) false ∷ []) symbols
 abbrev pub symbol_clauses : LocalRule → ℕ → ℕ → List (List Literal)
 symbol_clauses x k node = one_hot (inputs_of x.symbols k) ++ none_of x.symbols k (disallowed x node)
 
--- so does each of the cells, numbered 0, 1, .. in their order
+-- the same for each of these cells, which are numbered from `first` in their order
 abbrev pub clauses_from : LocalRule → ℕ → List Cell → List (List Literal)
 clauses_from x first cells = flat_map (λ numbered. symbol_clauses x numbered.0 numbered.1.node) (enumerate_from first cells)
 
+-- the same for all cells
 abbrev pub cell_clauses : LocalRule → List Cell → List (List Literal)
 cell_clauses x cells = clauses_from x 0 cells
 
--- gates, and then clauses over their signals
+-- one part of a problem: some gates, and then clauses over their signals
 pub record Part : Type 0 where
   pub makers : List Maker
   pub tail : List Signal → List (List Literal)
 
+-- the gates of a part after n variables
 abbrev pub made_by : Part → ℕ → AllMade
 made_by p n = all_made p.makers n
 
--- all parts, the gates of each after those of the parts before it
+-- the gates of all parts after n variables, one part after the other
 abbrev pub part_gates : ℕ → List Part → List Gate
 part_gates n [] = []
 part_gates n (p ∷ ps) = (made_by p n).gates ++ part_gates (n + length (made_by p n).gates) ps
 
+-- for each part the clauses of its gates, and then those over their signals
 abbrev pub part_clauses : ℕ → List Part → List (List Literal)
 part_clauses n [] = []
 part_clauses n (p ∷ ps) =

@@ -8,36 +8,41 @@ use Rattle.dd_boxes.specs.{Cells.box_cells, Cells.cells_on, Fillings.is_box_cell
 use Rattle.dd_compile.specs.Wiring.{Wiring}
 use Rattle.dd_problem.specs.pushing.Numbered.{in_turn}
 
--- `has`: the cells whose symbols the inputs say. `index`: the number of each cell that is read, from 0. `places`: the
--- places in the order of their numbers. `inputs`: each of the cells with its inputs as signals.
+-- which cells have inputs, the numbers of these cells, and their inputs
 pub record Layout : Type 0 where
+  -- whether a cell has inputs
   pub has : Cell → Bool
+  -- the number of a cell with inputs, from 0; on a torus, cells that are equal modulo the periods have one number
   pub index : Cell → ℕ
+  -- the cells of the box, or of the fundamental box, in the order of their numbers
   pub places : List Cell
+  -- each cell that is read, with its inputs as signals
   pub inputs : Wiring
 
 -- the cells of a box of positions in cell order: the nodes of a position stand together
 abbrev pub cells_in : Bounds → ℕ → List Cell
 cells_in b nodes = cells_on nodes (positions_of b)
 
--- the cell with this many cells before it
+-- the cell with the number k, from 0 in cell order
 abbrev pub nth_cell : Bounds → ℕ → ℕ → Cell
 nth_cell b nodes k = cell (place_in b (k / nodes)) (k % nodes)
 
--- each cell of B(n) with the number of its place in the list
+-- the number of a cell of B(n), from 0 in cell order
 abbrev pub box_index : LocalRule → ℕ → Cell → ℕ
 box_index x n c = index_in (centred x.dimension n) c.position * x.nodes + c.node
 
+-- the layout of B(n)
 abbrev pub box_layout : LocalRule → ℕ → Layout
 box_layout x n = record { has = is_box_cell x n; index = box_index x n; places = box_cells x n; inputs = in_turn x.symbols (box_cells x n) }
 
--- the fundamental box, as a configuration without symbols
+-- the torus, as a configuration without symbols
 abbrev pub torus : LocalRule → Periods → Tile
 torus x periods = tile x.dimension periods x.nodes []
 
+-- the cells of the fundamental box, in cell order
 abbrev pub torus_cells : LocalRule → Periods → List Cell
 torus_cells x periods = cells_in (fundamental periods) x.nodes
 
--- each cell that the rule reads at the place is one of the layout's
+-- each cell that the rule reads at the cell has inputs
 abbrev pub fits_in : Layout → LocalRule → Cell → Bool
 fits_in l x d = list_all (λ c. l.has (shifted d.position c)) (reads_at x d.node)

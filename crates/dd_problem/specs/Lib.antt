@@ -1,18 +1,18 @@
--- which cells have inputs
+-- which cells have inputs, and in which order
 pub mod Layouts
--- the clauses over them
+-- the clauses over inputs and over the signals of gates
 pub mod Clauses
--- the gates that say that the values of two automata at a cell are different
+-- the gates that say whether the values of two automata at a cell are different
 pub mod Differing
 -- a circuit and its clauses, as they grow
 pub mod Encodings
 -- the clauses of a whole question on a box and on a torus
 pub mod Problems
--- symbols by the numbers of cells
+-- the symbols of cells, and their inputs in an assignment
 pub mod Symbols
 -- when clauses say what a question asks
 pub mod Shows
--- the same clauses over the inputs that the code keeps, and facts about goals while their clauses are made
+-- the same clauses over the inputs that the code keeps, and the facts about goals that proofs need
 pub mod pushing
--- lemmas on these definitions, with their proofs, for other crates to cite
+-- lemmas on these definitions, with their proofs
 pub mod lemmas

@@ -11,15 +11,15 @@ use Rattle.dd_boxes.specs.{Goals.GoalOf, Goals.breaks, Goals.differ, Goals.alway
 use Rattle.dd_problem.specs.{Layouts.Layout, Layouts.fits_in, Layouts.box_layout, pushing.Near.torus_layout, Differing.differ_made}
 use Rattle.dd_problem.specs.Clauses.{input, cell_clauses, Part, part_gates, part_clauses, units, some_true, some_false}
 
--- the signal that says that a cell, counted from v, has the symbol s of m
+-- the signal that says that the cell c, relative to v, has the symbol s of m symbols
 abbrev pub wire : Layout → ℕ → Place → Cell → ℕ → Signal
 wire l m v c s = signal_of (input m (l.index (shifted v c)) s)
 
--- the gates of a rule at a place
+-- the gates of a rule at a cell, over m symbols
 abbrev pub place_maker : Layout → ℕ → LocalRule → Cell → Maker
 place_maker l m r d = made (wire l m d.position) (expansion_at r d.node)
 
--- the rule is true at the place
+-- the rule is true at the cell
 abbrev pub premise_part : Layout → LocalRule → Cell → Part
 premise_part l x d = record { makers = place_maker l x.symbols x d ∷ []; tail = units }
 
@@ -30,25 +30,29 @@ goal_part l m (differ s f g) =
     record { makers = map (λ a. differ_made s.symbols f g l.inputs (cell origin a)) (range_with_len 0 s.nodes); tail = some_true }
 goal_part l m always = record { makers = []; tail = λ _. [] }
 
--- the premise at each place where it fits, in their order, and then the goal
+-- the premise at each cell where all that it reads has inputs, in the order of the cells, and then the goal
 abbrev pub problem_parts : Layout → LocalRule → GoalOf → List Part
 problem_parts l x g = map (premise_part l x) (filter (fits_in l x) l.places) ++ goal_part l x.symbols g ∷ []
 
+-- the number of inputs
 abbrev pub input_count : Layout → LocalRule → ℕ
 input_count l x = length l.places * x.symbols
 
+-- the clauses of the cells, and then those of the premise and the goal
 abbrev pub problem_clauses : Layout → LocalRule → GoalOf → List (List Literal)
 problem_clauses l x g = cell_clauses x l.places ++ part_clauses (input_count l x) (problem_parts l x g)
 
--- the inputs are the first variables, and the gates follow
+-- the whole clause list: its first variables are the inputs, and those of the gates follow
 abbrev pub problem : Layout → LocalRule → GoalOf → ClauseList
 problem l x g = record {
   variables = input_count l x + length (part_gates (input_count l x) (problem_parts l x g));
   clauses = problem_clauses l x g;
 }
 
+-- on the box of radius n
 abbrev pub box_problem : LocalRule → GoalOf → ℕ → ClauseList
 box_problem x g n = problem (box_layout x n) x g
 
+-- on the torus of these periods
 abbrev pub torus_problem : LocalRule → GoalOf → Periods → ClauseList
 torus_problem x g periods = problem (torus_layout x g periods) x g

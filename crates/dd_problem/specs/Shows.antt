@@ -1,4 +1,4 @@
--- When clauses say what a box question asks.
+-- When clauses say what a box question asks. `set` is an assignment.
 use Rattle.std.specs.Prelude.{◌≡◌, ◌<◌, ℕ, Bool, true, List}
 use Rattle.dd_lattice.specs.declared.position.Cell.{Cell}
 use Rattle.dd_pattern.specs.{declared.periods.Periods.Periods, Reading.Look, Tile.Tile}
@@ -23,12 +23,13 @@ pub record Shows (clauses : List (List Literal)) (x : LocalRule) (g : GoalOf) (n
 abbrev pub AreRefuted : List (List Literal) → Type 0
 AreRefuted clauses = (set : ℕ → Bool) → Satisfies set clauses → ⊥
 
--- so the clauses are refuted exactly if the box suffices
+-- the clauses are refuted exactly if the box suffices
 pub record DecidesBox (clauses : List (List Literal)) (x : LocalRule) (g : GoalOf) (n : ℕ) : Type 0 where
   pub suffices : AreRefuted clauses → Suffices x g n
   pub refuted : Suffices x g n → AreRefuted clauses
 
--- The same for the periodic configurations of these periods and shear that live and have the goal at the origin.
+-- The same for periodic configurations: they have these periods and this shear, live in the premise's subshift, and have the
+-- goal at the origin.
 pub record ShowsTorus (clauses : List (List Literal)) (x : LocalRule) (g : GoalOf) (periods : Periods) : Type 0 where
   pub each : (set : ℕ → Bool) → Satisfies set clauses → (t : Tile) × HasPeriods periods t × IsWitness x g t × AreRead set x.symbols t.symbols
   pub every : (t : Tile) → HasPeriods periods t → IsWitness x g t → (set : ℕ → Bool) × Satisfies set clauses × AreRead set x.symbols t.symbols

@@ -1,4 +1,4 @@
--- Symbols for the cells of a layout, by the cells' numbers.
+-- The symbols of the cells of a layout, by the cells' numbers, and the inputs that say them. `set` is an assignment.
 use Rattle.std.specs.Prelude.{ℕ, ◌≡◌, ◌<◌, ◌==◌, Bool, true, List, Some, None, cond, length, slice_get, slice_index, slice_index_or}
 use Rattle.std.specs.List.{All}
 use Rattle.dd_lattice.specs.declared.position.Cell.{Cell}
@@ -13,11 +13,11 @@ pub record AreSymbols (x : LocalRule) (cells : List Cell) (symbols : List ℕ) :
   pub below : All (λ s. s < x.symbols) symbols
   pub allowed : (k : ℕ) (c : Cell) → slice_get cells k ≡ Some c → rule_allows x c.node (slice_index symbols k) ≡ true
 
--- of the inputs of each cell, exactly that of its symbol is true
+-- of the inputs of each cell, over m symbols, exactly that of its symbol is true
 abbrev pub AreRead : (ℕ → Bool) → ℕ → List ℕ → Type 0
 AreRead set m symbols = (k s : ℕ) → k < length symbols → s < m → set (input m k s) ≡ is_symbol s (slice_get symbols k)
 
--- each cell of the layout has the symbol with its number
+-- each cell of the layout has the symbol that stands at its number
 abbrev pub layout_look : Layout → List ℕ → Look
 layout_look l symbols c = cond (l.has c) (slice_get symbols (l.index c)) None
 
@@ -29,6 +29,6 @@ IsSymbolRead set m k s = (s < m) × ((t : ℕ) → t < m → set (input m k t) �
 abbrev pub HasOneEach : (ℕ → Bool) → ℕ → ℕ → Type 0
 HasOneEach set m n = (k : ℕ) → k < n → (s : ℕ) × IsSymbolRead set m k s
 
--- the list has the symbol of each of the first n cells
+-- the list has the symbols of the first n cells
 abbrev pub AreAllRead : (ℕ → Bool) → ℕ → ℕ → List ℕ → Type 0
 AreAllRead set m n symbols = (length symbols ≡ n) × ((k d : ℕ) → k < n → IsSymbolRead set m k (slice_index_or symbols k d))

@@ -1,4 +1,4 @@
 pub mod Pushed
 pub mod Numbered
 pub mod Near
-pub mod Told
+pub mod GoalFacts

@@ -1,4 +1,4 @@
-//! Box questions on a box.
+//! The clauses of a box question on a box.
 ghost use Rattle.std.specs.Prelude.{◌≡◌, ◌≤◌, IfOk};
 ghost use Rattle.dd_lattice.specs.Boxes.{centred, volume};
 ghost use Rattle.dd_boxes.specs.Goals.{IsGoalFor};
@@ -8,7 +8,7 @@ ghost use Rattle.dd_boxes.specs.Views.{goal_of};
 ghost use Rattle.dd_problem.specs.Problems.{box_problem};
 ghost use Rattle.dd_problem.specs.Shows.{Shows, DecidesBox};
 
-use crate::goals::told_goal;
+use crate::goals::goal_facts;
 use crate::layouts::{cells_of, inputs_in_turn};
 use crate::problems::problem;
 use dd_boxes::Goal;
@@ -18,8 +18,11 @@ use dd_lattice::centred_box;
 use std::alloc::{AllocError, Global};
 
 /// The clauses that ask for an admissible filling of the box with the goal at the origin. The radius is at least the
-/// goal's least one. The variable `1 + k * symbols + s` says that the `k`-th cell of the box, from 0 in cell order,
-/// has the symbol `s`. The variables of the gates follow.
+/// goal's least radius. The variable `1 + k * symbols + s` says that the cell with the number `k` has the symbol `s`. The
+/// cells of the box are numbered from 0 in cell order. The variables of the gates follow.
+///
+/// # Errors
+/// `AllocError` if memory ran out.
 pub fn box_clauses(
     alloc: Global,
     premise: &Rule,
@@ -33,8 +36,8 @@ pub fn box_clauses(
     ensures shows { IfOk result (λ cnf. Shows cnf.clauses premise.now (goal_of premise.now goal.now) radius) }
     ensures decides { IfOk result (λ cnf. DecidesBox cnf.clauses premise.now (goal_of premise.now goal.now) radius) }
 {
-    // This call brings in a fact: the gates of the goal say what it asks.
-    told_goal(premise, goal);
+    // This call brings in facts: what the goal reads, and what the gates of its values say.
+    goal_facts(premise, goal);
     let symbols = premise.symbols();
     let bounds = centred_box(premise.dim(), radius).unwrap();
     let cells = cells_of(alloc, &bounds, premise.nodes())?;

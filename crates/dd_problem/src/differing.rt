@@ -1,4 +1,4 @@
-//! The values of two automata as gates that say that they are different.
+//! Gates that say whether the values of two automata at a cell are different.
 ghost use Rattle.std.specs.Prelude.{◌≡◌, ◌≤◌, ◌<◌, ◌+◌, ◌++◌, true, length, All, IfOk};
 ghost use Rattle.dd_values.specs.Bounds.{most_variables};
 ghost use Rattle.dd_lattice.specs.Cells.{cell};
@@ -17,7 +17,8 @@ use dd_formula::{Automaton, Rule};
 use dd_lattice::{Cell, Position};
 use std::alloc::{AllocError, Global};
 
-/// Adds for each symbol a gate that says that the first signal is true and the second isn't.
+/// Adds for each symbol a gate that says that it is the first value and not the second. Returns the gates' signals. `first` and
+/// `second` hold, for each symbol, the signal that says that it is this value.
 fn compile_apart(
     circuit: &mut Circuit,
     alloc: Global,
@@ -40,7 +41,8 @@ fn compile_apart(
     Ok(signals)
 }
 
-/// Adds the gates of both values at a node of the origin, and returns the signal that says that they are different.
+/// Adds the gates of both automata's values at a node of the origin. Returns the signal that says whether the values are
+/// different.
 pub(crate) fn compile_differ(
     circuit: &mut Circuit,
     alloc: Global,

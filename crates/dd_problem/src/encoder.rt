@@ -27,7 +27,7 @@ use dd_lattice::{Cell, Position};
 use std::alloc::{AllocError, Global};
 use std::marker::Model;
 
-/// A circuit and clauses over its signals. The clause list has a variable for each signal, even if memory ran out.
+/// A circuit, and clauses over its signals. The clause list has as many variables as the circuit, even after memory ran out.
 #[derive(Drop)]
 pub(crate) struct Encoder {
     alloc: Global,
@@ -47,7 +47,8 @@ impl Model for Encoder {
     ghost invariant = { λ e. e.cnf.variables ≡ size_of e.circuit.inputs e.circuit.gates };
 }
 
-/// Adds a variable for each signal of the circuit and, if a signal was made, the clauses of the gates from `before` on.
+/// Gives the clause list as many variables as the circuit has. If `made` is a signal, also adds the clauses of all gates but the
+/// first `before`, and returns the signal.
 fn push_made(
     alloc: Global,
     cnf: &mut Cnf,
@@ -69,7 +70,7 @@ fn push_made(
 }
 
 impl Encoder {
-    /// The clauses, over inputs only.
+    /// An encoder with these clauses. All their variables are inputs, and there is no gate yet.
     pub(crate) fn new(alloc: Global, cnf: Cnf) -> Encoder
         ensures { result ≡ over_inputs cnf }
     {
@@ -80,14 +81,14 @@ impl Encoder {
         }
     }
 
-    /// The circuit.
+    /// The circuit so far.
     pub(crate) fn circuit(&self) -> &Circuit
         ensures { result.now ≡ self.now.circuit }
     {
         &self.circuit
     }
 
-    /// The clauses, with a variable for each signal.
+    /// The clauses, with a variable for each input and each gate.
     pub(crate) fn into_cnf(self) -> Cnf
         ensures { result ≡ clause_list self }
     {
@@ -103,8 +104,8 @@ impl Encoder {
         push_clause(self.alloc, &mut self.cnf, literals)
     }
 
-    /// Adds the gates of a formula whose cells are counted from `at`, and their clauses, and returns its signal. If
-    /// memory runs out, some may have been added.
+    /// Adds the gates of a formula at the position `at`, and the clauses of these gates. The formula's cells are relative to `at`.
+    /// Returns the signal that says whether the formula is true. If memory runs out, some gates and clauses may have been added.
     pub(crate) fn push_formula(
         &mut self,
         expanded: &Expanded,
@@ -123,7 +124,8 @@ impl Encoder {
         push_made(self.alloc, &mut self.cnf, &self.circuit, before, made)
     }
 
-    /// Adds the gates of the template at the cell, and their clauses, and returns the signal. If memory runs out, some may have been added.
+    /// Adds the gates of the template at the cell, and the clauses of these gates. Returns the signal that says whether the
+    /// template's rule is true there. If memory runs out, some gates and clauses may have been added.
     pub(crate) fn push_template(
         &mut self,
         template: &Template,
@@ -146,8 +148,8 @@ impl Encoder {
         push_made(self.alloc, &mut self.cnf, &self.circuit, before, made)
     }
 
-    /// Adds the gates that say that the values at a node of the origin are different, and their clauses, and returns
-    /// the signal. If memory runs out, some may have been added.
+    /// Adds the gates of the values of two automata at a node of the origin, and the clauses of these gates. Returns the signal
+    /// that says whether the values are different. If memory runs out, some gates and clauses may have been added.
     pub(crate) fn push_apart(
         &mut self,
         premise: &Rule,

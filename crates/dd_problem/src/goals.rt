@@ -1,16 +1,17 @@
-//! What the gates of a goal keep.
+//! Facts about a goal that proofs need.
 ghost use Rattle.dd_boxes.specs.Goals.{IsGoalFor};
 ghost use Rattle.dd_boxes.specs.Views.{goal_of};
-ghost use Rattle.dd_problem.specs.pushing.Told.{IsToldGoal};
+ghost use Rattle.dd_problem.specs.pushing.GoalFacts.{HasGoalFacts};
 
 use dd_boxes::Goal;
 use dd_compile::says_its_value;
 use dd_formula::Rule;
 
-/// Reads the goal's rule or automata only for their invariants.
-pub(crate) fn told_goal(premise: &Rule, goal: &Goal)
+/// Does nothing but bring in facts. Its contract says that the goal's rule has the invariant of rules, that the goal's automata read
+/// only cells of the lattice, and that the gates of their values compute the values.
+pub(crate) fn goal_facts(premise: &Rule, goal: &Goal)
     requires { IsGoalFor premise.now (goal_of premise.now goal.now) }
-    ensures { IsToldGoal premise.now (goal_of premise.now goal.now) }
+    ensures { HasGoalFacts premise.now (goal_of premise.now goal.now) }
 {
     match goal {
         Goal::Breaks(rule) => {

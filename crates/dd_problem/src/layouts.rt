@@ -1,4 +1,4 @@
-//! The cells of a box of positions, and inputs for them.
+//! The cells of a box of positions, and the inputs that say which symbols they have.
 ghost use Rattle.std.specs.Prelude.{◌≡◌, ◌≤◌, ◌<◌, ◌+◌, ◌*◌, length, IfOk};
 ghost use Rattle.std.specs.List.Sorted.{IsStrictlySortedBy};
 ghost use Rattle.dd_values.specs.Bounds.{most_variables};
@@ -12,7 +12,7 @@ use dd_compile::Inputs;
 use dd_lattice::{Box3, Cell};
 use std::alloc::{AllocError, Global};
 
-/// The cell with `number` cells of the box before it.
+/// The cell of the box with this number, from 0 in cell order.
 fn nth_cell(bounds: &Box3, nodes: u32, number: u64) -> Cell
     requires { number < volume bounds.now * nodes }
     ensures { result ≡ nth_cell bounds.now nodes number }
@@ -24,7 +24,7 @@ fn nth_cell(bounds: &Box3, nodes: u32, number: u64) -> Cell
     }
 }
 
-/// The cells of a box in cell order, the nodes of a position together.
+/// The cells of a box in cell order: the nodes of a position stand together.
 pub(crate) fn cells_of(alloc: Global, bounds: &Box3, nodes: u32) -> Result<Vec<Cell>, AllocError>
     requires { volume bounds.now * nodes ≤ most_variables }
     ensures { IfOk result (λ v. v.items ≡ cells_in bounds.now nodes) }
@@ -37,7 +37,7 @@ pub(crate) fn cells_of(alloc: Global, bounds: &Box3, nodes: u32) -> Result<Vec<C
     Ok(cells)
 }
 
-/// The signals that say which of `symbols` symbols the cell with this number has.
+/// The signals of the cell with this number: for each of `symbols` symbols, one that says that the cell has it.
 pub(crate) fn symbol_signals(
     alloc: Global,
     number: u32,
@@ -56,7 +56,7 @@ pub(crate) fn symbol_signals(
     Ok(signals)
 }
 
-/// Inputs for the cells, which have the numbers 0, 1, .. in their order.
+/// Inputs for the cells, which are numbered from 0 in their order.
 pub(crate) fn inputs_in_turn(
     alloc: Global,
     cells: &[Cell],

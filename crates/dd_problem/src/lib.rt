@@ -1,4 +1,6 @@
-//! Box questions as clauses.
+//! Box questions as clauses. The clauses of a box are satisfiable exactly if it has an admissible filling with the goal at the
+//! origin. Those of a torus are satisfiable exactly if some configuration of its periods lives in the premise's subshift and has the
+//! goal at the origin. A satisfying assignment of a torus's clauses is read back as such a configuration.
 #![tactic(auto)]
 
 mod boxes;

@@ -12,6 +12,7 @@ use dd_formula::Rule;
 use dd_lattice::Cell;
 use std::alloc::{AllocError, Global};
 
+/// The literal that says that the variable is false.
 fn negative(variable: u32) -> Literal
     ensures { result ≡ literal variable false }
 {
@@ -21,7 +22,7 @@ fn negative(variable: u32) -> Literal
     }
 }
 
-/// Adds the clauses that say that `first` isn't true together with a variable from `from` to before `end`.
+/// Adds the clauses that say that `first` isn't true together with any of the variables from `from` to `end - 1`.
 fn push_pairs_of(
     alloc: Global,
     cnf: &mut Cnf,
@@ -42,7 +43,7 @@ fn push_pairs_of(
     Ok(())
 }
 
-/// Adds the clauses that say that no two of the variables from `from` to before `end` are true.
+/// Adds the clauses that say that no two of the variables from `from` to `end - 1` are true.
 fn push_pairs(alloc: Global, cnf: &mut Cnf, from: u32, end: u32) -> Result<(), AllocError>
     requires first { 1 ≤ from }
     requires order { from ≤ end }
@@ -56,7 +57,7 @@ fn push_pairs(alloc: Global, cnf: &mut Cnf, from: u32, end: u32) -> Result<(), A
     Ok(())
 }
 
-/// Adds the clause that says that some variable from `from` to before `end` is true.
+/// Adds the clause that says that some variable from `from` to `end - 1` is true.
 fn push_some(alloc: Global, cnf: &mut Cnf, from: u32, end: u32) -> Result<(), AllocError>
     requires first { 1 ≤ from }
     requires order { from ≤ end }
@@ -120,7 +121,8 @@ fn push_cell(
     push_disallowed(alloc, cnf, premise, number, node)
 }
 
-/// Adds the clauses that say that each of the cells has one symbol, which its node allows. If memory runs out, some may have been added.
+/// Adds the clauses that say that each of the cells has one symbol, which its node allows. If memory runs out, some may have
+/// been added.
 pub(crate) fn push_cells(
     alloc: Global,
     cnf: &mut Cnf,

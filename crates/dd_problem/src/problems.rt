@@ -1,4 +1,4 @@
-//! All clauses of a problem.
+//! All clauses of a box question, over the inputs of the cells of a box or of a torus.
 ghost use Rattle.std.specs.Prelude.{◌≡◌, ◌≤◌, ◌<◌, ◌-◌, ◌*◌, true, length, All, IfOk};
 ghost use Rattle.dd_lattice.specs.Place.{most_coordinate};
 ghost use Rattle.dd_values.specs.Bounds.{most_variables};

@@ -1,4 +1,4 @@
-//! Box questions on a torus.
+//! The clauses of a box question on a torus.
 ghost use Rattle.std.specs.Prelude.{◌≡◌, ◌≤◌, ◌<◌, ◌+◌, ◌-◌, ◌*◌, ◌++◌, true, map, All, IfOk, OnOk};
 ghost use Rattle.std.specs.List.{list_all, range_with_len};
 ghost use Rattle.std.specs.List.Sorted.{IsStrictlySortedBy};
@@ -21,9 +21,9 @@ ghost use Rattle.dd_problem.specs.Layouts.{torus_cells};
 ghost use Rattle.dd_problem.specs.Problems.{torus_problem};
 ghost use Rattle.dd_problem.specs.pushing.Near.{near_cells, number_at, numbered_by, numbered_tile, torus_inputs};
 ghost use Rattle.dd_problem.specs.Shows.{ShowsTorus};
-ghost use Rattle.dd_problem.specs.pushing.Told.{IsToldGoal};
+ghost use Rattle.dd_problem.specs.pushing.GoalFacts.{HasGoalFacts};
 
-use crate::goals::told_goal;
+use crate::goals::goal_facts;
 use crate::layouts::{cells_of, symbol_signals};
 use crate::problems::problem;
 use dd_boxes::{Goal, least_radius};
@@ -34,7 +34,7 @@ use dd_lattice::{Box3, Cell, Position, centred_box, shift};
 use dd_pattern::{Configuration, Periodic, Periods};
 use std::alloc::{AllocError, Global};
 
-/// The box of the positions whose coordinates run from 0 to the periods less 1.
+/// The fundamental box: along each axis its coordinates run from 0 to the period minus 1.
 fn fundamental(periods: &Periods) -> Box3
     requires x { (1 ≤ periods.now.x) × (periods.now.x ≤ 65536) }
     requires y { (1 ≤ periods.now.y) × (periods.now.y ≤ 65536) }
@@ -51,9 +51,9 @@ fn fundamental(periods: &Periods) -> Box3
     }
 }
 
-/// The cells of the least box that holds what the goal reads at the origin.
+/// The cells of the box whose radius is the goal's least one. They include all that the goal reads at the origin.
 fn goal_cells(alloc: Global, premise: &Rule, goal: &Goal) -> Result<Vec<Cell>, AllocError>
-    requires { IsToldGoal premise.now (goal_of premise.now goal.now) }
+    requires { HasGoalFacts premise.now (goal_of premise.now goal.now) }
     ensures { IfOk result (λ v. v.items ≡ box_cells premise.now (goal_reach (goal_of premise.now goal.now))) }
 {
     let nodes = premise.nodes();
@@ -74,7 +74,7 @@ fn shifted(cell: &Cell, by: &Position) -> Cell
     }
 }
 
-/// Adds the cells, moved by a position.
+/// Appends the cells, moved by a position.
 fn push_shifted(found: &mut Vec<Cell>, by: &Position, cells: &[Cell]) -> Result<(), AllocError>
     requires near { list_all is_near cells.now ≡ true }
     requires by { extent by.now ≤ most_coordinate - 16 }
@@ -86,7 +86,7 @@ fn push_shifted(found: &mut Vec<Cell>, by: &Position, cells: &[Cell]) -> Result<
     Ok(())
 }
 
-/// The cells in cell order, each once. Many are listed more than once, so they are sorted in place.
+/// The cells in cell order, each once. Many come more than once, so they are sorted in place.
 fn once_each(cells: Vec<Cell>) -> Vec<Cell>
     ensures { result.items ≡ in_order cells.items }
 {
@@ -96,14 +96,14 @@ fn once_each(cells: Vec<Cell>) -> Vec<Cell>
     found
 }
 
-/// The cells that the premise reads at the cells, and those of the least box that holds what the goal reads at the origin.
+/// The cells that the premise reads at these cells, and those of the box of the goal's least radius; in cell order, each once.
 fn near_cells(
     alloc: Global,
     premise: &Rule,
     goal: &Goal,
     cells: &[Cell],
 ) -> Result<Vec<Cell>, AllocError>
-    requires goal { IsToldGoal premise.now (goal_of premise.now goal.now) }
+    requires goal { HasGoalFacts premise.now (goal_of premise.now goal.now) }
     requires nodes { All (λ d. d.node < premise.now.nodes) cells.now }
     requires near { All (λ d. extent d.position ≤ most_coordinate - 16) cells.now }
     ensures { IfOk result (λ v. v.items ≡ near_cells premise.now (goal_of premise.now goal.now) cells.now) }
@@ -115,7 +115,8 @@ fn near_cells(
     Ok(once_each(found))
 }
 
-/// Inputs for the cells, each with those of the number there.
+/// Inputs for the cells: each cell has the signals of the number that `numbers` gives it. `numbers` is a configuration with
+/// numbers in place of symbols.
 fn inputs_by_number(
     alloc: Global,
     cells: &[Cell],
@@ -135,7 +136,7 @@ fn inputs_by_number(
     Ok(inputs)
 }
 
-/// The numbers from 0 on.
+/// The numbers from 0 to `count - 1`.
 fn counted(alloc: Global, count: u32) -> Result<Vec<u32>, AllocError>
     ensures { IfOk result (λ v. v.items ≡ range_with_len 0 count) }
 {
@@ -146,7 +147,8 @@ fn counted(alloc: Global, count: u32) -> Result<Vec<u32>, AllocError>
     Ok(numbers)
 }
 
-/// The configuration of these periods in which each cell of the fundamental box has its number, from 0 in cell order.
+/// The configuration of these periods in which each cell of the fundamental box has its number, from 0 in cell order, in place of
+/// a symbol.
 fn numbering(alloc: Global, premise: &Rule, periods: &Periods) -> Result<Periodic, AllocError>
     requires { AreTorusPeriods premise.now.dimension premise.now.nodes periods.now }
     ensures { IfOk result (λ t. t ≡ numbered_tile premise.now periods.now) }
@@ -161,8 +163,8 @@ fn numbering(alloc: Global, premise: &Rule, periods: &Periods) -> Result<Periodi
     )
 }
 
-/// Inputs for what the premise and the goal read from the cells of the fundamental box: each cell has the inputs of
-/// the cell at its position modulo the periods.
+/// Inputs for what the premise reads at the cells of the fundamental box, and for what the goal reads at the origin. Each cell
+/// has the inputs of the cell of the fundamental box that it equals modulo the periods.
 fn torus_inputs(
     alloc: Global,
     premise: &Rule,
@@ -170,7 +172,7 @@ fn torus_inputs(
     periods: &Periods,
     cells: &[Cell],
 ) -> Result<Inputs, AllocError>
-    requires goal { IsToldGoal premise.now (goal_of premise.now goal.now) }
+    requires goal { HasGoalFacts premise.now (goal_of premise.now goal.now) }
     requires cells { cells.now ≡ torus_cells premise.now periods.now }
     requires periods { AreTorusPeriods premise.now.dimension premise.now.nodes periods.now }
     ensures { IfOk result (λ inputs. inputs ≡ torus_inputs premise.now (goal_of premise.now goal.now) periods.now) }
@@ -182,8 +184,11 @@ fn torus_inputs(
 }
 
 /// The clauses that ask for a configuration of these periods and this shear that lives in the premise's subshift and
-/// has the goal at the origin. The variable `1 + k * symbols + s` says that the `k`-th cell of the fundamental box,
-/// from 0 in cell order, has the symbol `s`. The variables of the gates follow.
+/// has the goal at the origin. The variable `1 + k * symbols + s` says that the cell with the number `k` has the symbol `s`.
+/// The cells of the fundamental box are numbered from 0 in cell order. The variables of the gates follow.
+///
+/// # Errors
+/// `AllocError` if memory ran out.
 pub fn torus_clauses(
     alloc: Global,
     premise: &Rule,
@@ -197,8 +202,8 @@ pub fn torus_clauses(
     ensures exact { IfOk result (λ cnf. cnf ≡ torus_problem premise.now (goal_of premise.now goal.now) (periods_of periods shear)) }
     ensures shows { IfOk result (λ cnf. ShowsTorus cnf.clauses premise.now (goal_of premise.now goal.now) (periods_of periods shear)) }
 {
-    // This call brings in a fact: the gates of the goal say what it asks.
-    told_goal(premise, goal);
+    // This call brings in facts: what the goal reads, and what the gates of its values say.
+    goal_facts(premise, goal);
     let [x, y, z] = periods;
     let torus = Periods { x, y, z, shear };
     let nodes = premise.nodes();

@@ -1,4 +1,4 @@
-//! The configuration for which a satisfying assignment of a torus's clauses stands.
+//! A satisfying assignment of a torus's clauses, read back as a periodic configuration.
 ghost use Rattle.std.specs.Prelude.{◌≡◌, ◌<◌, ◌*◌, ℕ, false, length, slice_index_or, All, IfOk};
 ghost use Rattle.dd_values.specs.Variables.{true_variables};
 ghost use Rattle.dd_pattern.specs.Periods.{periods_of, periods_volume};
@@ -13,7 +13,7 @@ use dd_formula::Rule;
 use dd_pattern::Periodic;
 use std::alloc::{AllocError, Global};
 
-/// Whether the value exists and is true.
+/// Whether the input has a value, and the value is true. Inputs are counted from 0: input `i` is the variable `i + 1`.
 fn is_true(values: &[bool], input: usize) -> bool
     ensures { result ≡ slice_index_or values.now input false }
 {
@@ -34,7 +34,7 @@ fn symbol_read(values: &[bool], number: u32, symbols: u32) -> u32
     0
 }
 
-/// The symbols of the cells with the numbers from 0 on.
+/// The symbols of the first `count` cells.
 fn symbols_read(
     alloc: Global,
     values: &[bool],
@@ -51,7 +51,11 @@ fn symbols_read(
     Ok(read)
 }
 
-/// The configuration of these periods and this shear in which each cell of the fundamental box has the symbol whose input is true.
+/// The configuration of these periods and this shear in which each cell of the fundamental box has the symbol whose input is
+/// true.
+///
+/// # Errors
+/// `AllocError` if memory ran out.
 pub fn read_torus(
     alloc: Global,
     premise: &Rule,

@@ -1,4 +1,4 @@
-//! The program: its arguments, standard input and output, its engines, and its status.
+//! The program: its arguments, standard input and output, engines and exit code.
 #![tactic(auto)]
 
 use dd_engines::{Engine, Propagator, Roster, Walker};
@@ -8,15 +8,17 @@ use std::alloc::AllocError;
 use std::process::ExitCode;
 use std::{env, io};
 
-/// The exit code if the arguments can't be read. `Status` uses 0 to 7.
+/// The exit code if the arguments can't be read. The codes 0 to 7 are those of `Status`.
 const NO_WORDS: u8 = 8;
 
-/// The most variables that the walking engine flips each time it is asked.
+/// The most variables that the walker flips each time it is asked.
 const FLIPS: u32 = 10_000;
 
 /// Why the arguments could not be read.
 enum WordsFault {
+    /// Memory ran out.
     Memory,
+    /// The arguments can't be read for another reason.
     Other,
 }
 
@@ -41,7 +43,7 @@ fn words_of(rt: &HostRuntime) -> Result<Vec<String>, WordsFault> {
     Ok(words)
 }
 
-// Runs the session that the arguments ask for. Its roster asks the propagator first, then the walker.
+// Does what the arguments ask for. The roster asks the propagator first, then the walker.
 fn run(rt: &HostRuntime, words: &[String]) -> Result<Status, AllocError> {
     let alloc = rt.alloc();
     let mut engines: Vec<Box<dyn Engine>> = Vec::new(alloc);

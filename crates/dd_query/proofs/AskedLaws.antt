@@ -1,15 +1,15 @@
--- What holds of a query without a fault.
+-- A query without a fault is within its bounds.
 use Rattle.std.proofs.Common.{◌≡◌, ◌<◌, ◌≤◌, ℕ, suc, false, List, [], ◌∷◌, length, map, subst, slice_index, arith, leb-true}
 use Rattle.std.specs.List.{flat_map, list_any, zip}
 use Rattle.dd_query.specs.Tree.{Word, Role, Lists, QueryKind, Request, Context}
 use Rattle.dd_commands.specs.{Table.row, Commands.IsRequest}
 use Rattle.dd_known.specs.{Known.named, Sound.IsSound}
-use Rattle.dd_faults.specs.Commands.{is_far, unless, word_faults, radius_faults, list_faults, has_symbols, request_faults}
+use Rattle.dd_faults.specs.Commands.{is_far, dimension_unless, word_faults, radius_faults, list_faults, has_symbols, request_faults}
 use Rattle.dd_faults.specs.lemmas.Nothing.{both_nil, fits, parts}
 use Rattle.dd_query.specs.{Parts.number_of_word, Parts.word_at, Queries.query_of, Queries.IsQueryWithin}
 use Rattle.dd_query.proofs.{ShapeLaws.value_small, ShapeLaws.strip_is, ShapeLaws.all_close, ShapeLaws.vectors_are, TorusLaws.torus_is}
 
--- each index belongs to something with the role at its place
+-- each number belongs to something of the role at its index
 abbrev AreThere : Context → List Role → (ℕ → ℕ) → Type 0
 AreThere x [] number = Unit {0}
 AreThere x (r ∷ rs) number = (number 0 < length (named x.known r)) × AreThere x rs (λ i. number (suc i))
@@ -20,7 +20,7 @@ words_there x (r ∷ rs) [] long none = absurd (omega (arith, long))
 words_there x (r ∷ rs) (w ∷ ws) long none = (grind (arith, parts), words_there x rs ws (omega (arith, long)) (both_nil _ _ none).1)
 
 module _ (x : Context) (r : Request) where
-  -- the request with the words, numbers and vectors of r, but of this kind
+  -- the request r, but of this kind
   abbrev asks : QueryKind → Request
   asks k = record r { kind = k }
 
@@ -31,7 +31,7 @@ module _ (x : Context) (r : Request) where
     radii : flat_map (radius_faults x) r.numbers ≡ []
     radii = (both_nil _ _ (both_nil _ _ none).1).0
 
-    behind : (list_faults x (row k).lists r.vectors ≡ []) × (unless (has_symbols x (row k).symbols) ≡ [])
+    behind : (list_faults x (row k).lists r.vectors ≡ []) × (dimension_unless (has_symbols x (row k).symbols) ≡ [])
     behind = both_nil _ _ (both_nil _ _ (both_nil _ _ none).1).1
 
     lists : list_faults x (row k).lists r.vectors ≡ []

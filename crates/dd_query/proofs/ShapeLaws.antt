@@ -1,4 +1,4 @@
--- The numbers, the strips and the vectors of queries without a fault.
+-- If a query has no fault, its numbers, its strip and its vectors are within their bounds.
 use Rattle.std.proofs.Common.{◌≡◌, ◌≤◌, ◌+◌, ℕ, zero, suc, false, List, [], ◌∷◌, length, map, get_or, ◌∙◌, arith, rules, slice_get}
 use Rattle.std.proofs.lemmas.{Bool.or_parts, Bool.ltb-false, List.length-map}
 use Rattle.std.proofs.lemmas.List.{Folds.list_all-map, Folds.list_any_none, Sums.list_all-from_AllPass}
@@ -29,7 +29,7 @@ period_within bytes [] j h = (omega arith, omega arith)
 period_within bytes (e ∷ es) zero h = grind (arith, parts)
 period_within bytes (e ∷ es) (suc j) h = period_within bytes es j (or_parts _ _ h).1
 
--- the first vector gives the periods, if there is one
+-- the periods of a strip without a fault are within their bounds; the first vector gives them, if there is one
 pub strip_is : (x : Context) (vs : List Vector) → flat_map (strip_faults x) vs ≡ [] → AreStripPeriods (dimension_of x.known) (strip_periods x.text vs)
 strip_is x [] none = search rules
 strip_is x (v ∷ vs) none =

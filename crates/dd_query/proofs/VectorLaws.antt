@@ -13,7 +13,7 @@ use Rattle.dd_faults.specs.{Commands.entry_value, Commands.has_entries, Commands
 abbrev vector : List Entry → Vector
 vector es = record { entries = es }
 
--- vectors with the same entries, of at most 4, have the same key
+-- vectors with the same entries have the same key, if no entry is over 4 in absolute value
 same_key : (bytes : List ℕ) (es fs : List Entry) → length es ≡ length fs → ((axis : ℕ) → axis < length es → coordinate bytes (vector es) axis ≡ coordinate bytes (vector fs) axis) →
     is_far bytes (vector es) ≡ false → is_far bytes (vector fs) ≡ false → vector_key bytes (vector es) ≡ vector_key bytes (vector fs)
 same_key bytes [] [] long is near nearby = refl
@@ -30,7 +30,7 @@ same_at bytes u v is (suc zero) below = ap (λ (p : Place). p.y) is
 same_at bytes u v is (suc (suc zero)) below = ap (λ (p : Place). p.z) is
 same_at bytes u v is (suc (suc (suc axis))) below = absurd (omega (arith, below))
 
--- an entry for each axis, and no far entry
+-- the vector has an entry for each axis, and none is far
 abbrev pub IsGiven : List ℕ → ℕ → Vector → Type 0
 IsGiven bytes d v = (has_entries d v ≡ true) × (is_far bytes v ≡ false)
 

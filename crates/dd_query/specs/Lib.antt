@@ -2,7 +2,7 @@
 pub mod Tree
 -- the positions that vectors stand for
 pub mod Vectors
--- the words, numbers and vectors of a query
+-- what the words, numbers and vectors of a query stand for
 pub mod Parts
 -- queries from their syntax trees, and what holds of each
 pub mod Queries

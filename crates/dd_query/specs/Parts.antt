@@ -1,4 +1,4 @@
--- The words, numbers and vectors of a query, with indices in place of names.
+-- What the words, numbers and vectors of a query stand for.
 use Rattle.std.specs.Prelude.{ℕ, ◌≡◌, ◌≤◌, ◌*◌, List, [], ◌∷◌, map, slice_get, slice_index}
 use Rattle.std.specs.{List.zip, Option.option_map_or}
 use Rattle.dd_query.specs.Tree.{Word, Name, Role, Vector, Request, Context}
@@ -7,15 +7,15 @@ use Rattle.dd_commands.specs.Table.{row}
 use Rattle.dd_known.specs.{Known.named, Limits.longest_strip}
 use Rattle.dd_faults.specs.{Names.number_in, Commands.period_at}
 
--- the index of what a word names, among the things with its role
+-- a word names a rule, an automaton or a configuration, as its role says: the number of that one among its kind
 abbrev pub number_of_word : Context → Role × Word → ℕ
 number_of_word x w = number_in x.text (named x.known w.0) (Name.Word w.1)
 
--- the index of what the word at this place names, by its role in the table
+-- the same for the word at this index; its role stands in the table of queries
 abbrev pub word_at : Context → Request → ℕ → ℕ
 word_at x r place = slice_index (map (number_of_word x) (zip (row r.kind).names r.words)) place
 
--- the value of the number at this place
+-- the value of the number at this index; 0 if there is none
 abbrev pub value_at : Context → Request → ℕ → ℕ
 value_at x r place = option_map_or (written_value x.text) (slice_get r.numbers place) 0
 
@@ -24,12 +24,12 @@ abbrev pub strip_periods : List ℕ → List Vector → List ℕ
 strip_periods bytes [] = 1 ∷ 1 ∷ []
 strip_periods bytes (v ∷ vs) = period_at bytes v 0 ∷ period_at bytes v 1 ∷ []
 
--- the periods of a torus; 1 for a missing axis
+-- the periods of a torus along the three axes; 1 for a missing axis
 abbrev pub torus_periods : List ℕ → List Vector → List ℕ
 torus_periods bytes [] = 1 ∷ 1 ∷ 1 ∷ []
 torus_periods bytes (v ∷ vs) = period_at bytes v 0 ∷ period_at bytes v 1 ∷ period_at bytes v 2 ∷ []
 
--- the periods of a strip in d dimensions: from 1 on within the limit, and 1 along an axis that there is not
+-- the periods of a strip in d dimensions: each is 1 to `longest_strip`, and along a missing axis it is 1
 pub record AreStripPeriods (d : ℕ) (strip : List ℕ) : Type 0 where
   pub second : (1 ≤ slice_index strip 0) × (slice_index strip 0 ≤ longest_strip)
   pub third : (1 ≤ slice_index strip 1) × (slice_index strip 1 ≤ longest_strip)

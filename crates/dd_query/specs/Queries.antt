@@ -1,4 +1,4 @@
--- Queries from their syntax trees, and what holds of each.
+-- Queries from their syntax trees, and the bounds of their numbers and vectors.
 use Rattle.std.specs.Prelude.{◌<◌, ◌≤◌, length, map}
 use Rattle.dd_values.specs.Bounds.{widest_radius}
 use Rattle.dd_pattern.specs.Periods.{periods_of}
@@ -7,7 +7,7 @@ use Rattle.dd_query.specs.{Tree.QueryKind, Tree.Request, Tree.Known, Tree.Contex
 use Rattle.dd_query.specs.Parts.{word_at, value_at, strip_periods, AreStripPeriods, torus_periods}
 use Rattle.dd_query.specs.declared.queries.Query.{Query}
 
--- the query with this syntax tree, by its kind
+-- the query of this kind, with the words, numbers and vectors of a syntax tree
 abbrev pub query_asked : QueryKind → Context → Request → Query
 query_asked QueryKind.Member x r = Query.Member (word_at x r 0) (word_at x r 1)
 query_asked QueryKind.Contains x r = Query.Contains (word_at x r 0) (word_at x r 1)
@@ -22,11 +22,12 @@ query_asked QueryKind.Density x r = Query.Density (word_at x r 0) (strip_periods
 query_asked QueryKind.Least x r = Query.Least (word_at x r 0) (torus_periods x.text r.vectors)
 query_asked QueryKind.Discharge x r = Query.Discharge (word_at x r 0) (value_at x r 0) (value_at x r 1) (map (place_of x.text) r.vectors)
 
+-- the query with this syntax tree
 abbrev pub query_of : Context → Request → Query
 query_of x r = query_asked r.kind x r
 
--- Its indices belong to rules, automata and configurations. Its periods, radii and vectors are within their bounds. If it asks
--- about maps, there are at least two symbols.
+-- Each number of the query is that of a known rule, automaton or configuration. Its periods, radius, margin and vectors are within
+-- their bounds. If it asks about images or a conjugacy, there are at least two symbols.
 abbrev pub IsQueryWithin : Known → Query → Type 0
 IsQueryWithin k (Query.Member configuration rule) = (configuration < length k.configurations) × (rule < length k.rules)
 IsQueryWithin k (Query.Contains outer inner) = (outer < length k.rules) × (inner < length k.rules)

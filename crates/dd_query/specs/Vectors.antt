@@ -3,13 +3,14 @@ use Rattle.std.specs.{Prelude.◌≡◌, Prelude.ℕ, Prelude.List, Prelude.fals
 use Rattle.dd_lattice.specs.Place.{Place, place}
 use Rattle.dd_faults.specs.{Tree.Vector, Commands.signed_value, Commands.is_far}
 
--- the value of the entry for an axis; 0 if there is none
+-- the coordinate along an axis: the value of the entry for it, or 0 if there is none
 abbrev pub coordinate : List ℕ → Vector → ℕ → ℤ
 coordinate bytes v axis = option_map_or (signed_value bytes) (slice_get v.entries axis) (pos 0)
 
+-- the position whose coordinates are the entries of this vector
 abbrev pub place_of : List ℕ → Vector → Place
 place_of bytes v = place (coordinate bytes v 0) (coordinate bytes v 1) (coordinate bytes v 2)
 
--- no entry is more than 4 in absolute value
+-- no entry is over `farthest` in absolute value
 abbrev pub IsClose : List ℕ → Vector → Type 0
 IsClose bytes v = is_far bytes v ≡ false

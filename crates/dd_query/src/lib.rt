@@ -1,4 +1,4 @@
-//! The queries of scripts.
+//! The queries of scripts, with numbers in place of the names of rules, automata and configurations.
 #![tactic(auto)]
 
 mod parts;

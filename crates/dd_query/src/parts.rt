@@ -1,4 +1,4 @@
-//! The words, numbers and vectors of a query, with indices in place of names.
+//! What the words, numbers and vectors of a query stand for.
 ghost use Rattle.std.specs.Prelude.{◌≡◌, ◌≤◌, false, length, map, min, IfOk};
 ghost use Rattle.std.specs.List.{list_any};
 ghost use Rattle.dd_pattern.specs.Periods.{periods_of};
@@ -16,7 +16,8 @@ use dd_values::Items;
 use dd_written::{Name, Text, number_value};
 use std::alloc::{AllocError, Global};
 
-/// The index of what the word at `place` names.
+/// The word at the index `place` names a rule, an automaton or a configuration. This is the number of that one among its kind; 0
+/// if there is no such word.
 pub(crate) fn word_at(context: &Context, request: &Request, place: usize) -> u32
     ensures { result ≡ word_at context.now request.now place }
 {
@@ -27,7 +28,7 @@ pub(crate) fn word_at(context: &Context, request: &Request, place: usize) -> u32
     number_in(&context.text, context.known.named(*role), Name::Word(*word))
 }
 
-/// The value of the number at `place`, at most 4,294,967,295.
+/// The value of the number at the index `place`, cut off at `u32::MAX`; 0 if there is no such number.
 pub(crate) fn value_at(context: &Context, request: &Request, place: usize) -> u32
     ensures { result ≡ min (value_at context.now request.now place) 4294967295 }
 {
@@ -35,7 +36,7 @@ pub(crate) fn value_at(context: &Context, request: &Request, place: usize) -> u3
     number.map_or(0, |number| number_value(&context.text, *number))
 }
 
-/// The periods of a strip along the second and the third axis.
+/// The periods of a strip along the second and the third axis; 1 for a missing axis.
 pub(crate) fn strip_of(context: &Context, vectors: &[Vector]) -> [u32; 2]
     requires { AreStripPeriods context.now.known.setting.topology.dimension (strip_periods context.now.text vectors.now) }
     ensures { result ≡ strip_periods context.now.text vectors.now }
@@ -47,7 +48,7 @@ pub(crate) fn strip_of(context: &Context, vectors: &[Vector]) -> [u32; 2]
     }
 }
 
-/// The periods of a torus along the three axes.
+/// The periods of a torus along the three axes; 1 for a missing axis.
 pub(crate) fn torus_of(context: &Context, vectors: &[Vector]) -> [u32; 3]
     requires nodes { 1 ≤ length context.now.known.setting.nodes }
     requires periods { AreTorusPeriods context.now.known.setting.topology.dimension (length context.now.known.setting.nodes)
@@ -65,7 +66,7 @@ pub(crate) fn torus_of(context: &Context, vectors: &[Vector]) -> [u32; 3]
     }
 }
 
-/// The positions that vectors without far entries stand for.
+/// For each vector, the position whose coordinates are its entries.
 pub(crate) fn positions(
     alloc: Global,
     text: &Text,

@@ -1,4 +1,4 @@
-//! The queries of a script, and how they are read from their syntax trees.
+//! The queries of a script, and how they are made from their syntax trees.
 ghost use Rattle.std.specs.Prelude.{◌≡◌, ◌≤◌, [], false, length, IfOk, OnOk};
 ghost use Rattle.std.specs.List.{list_any};
 ghost use Rattle.dd_commands.specs.{Table.row, Commands.IsRequest};
@@ -15,11 +15,11 @@ use dd_lattice::Position;
 use dd_values::Items;
 use std::alloc::{AllocError, Global};
 
-/// A query of a script. Rules, automata and configurations are given by index, each kind numbered from 0 in the order of
-/// definition.
+/// A query of a script. Rules are given by their numbers: they are counted from 0, in the order of their definitions. Automata are
+/// counted likewise, and so are configurations.
 #[derive(Debug, Drop)]
 pub enum Query {
-    /// Whether the configuration lives in the rule's subshift.
+    /// Whether the configuration is in the rule's subshift.
     Member {
         configuration: u32,
         rule: u32,
@@ -50,7 +50,7 @@ pub enum Query {
         from: u32,
         to: u32,
     },
-    /// Whether `there` maps the subshift of `from` onto that of `to`, and `back` is its inverse.
+    /// Whether `there` maps the subshift of `from` onto that of `to`, with `back` as its inverse.
     Conjugate {
         there: u32,
         back: u32,
@@ -61,21 +61,23 @@ pub enum Query {
     Forbidden {
         rule: u32,
     },
-    /// The smallest patterns that the rule forbids.
+    /// The minimal patterns that the rule forbids.
     Minimal {
         rule: u32,
     },
-    /// The least density over a strip, given by its periods along the second and the third axis; 1 for a missing axis.
+    /// The least density that the rule allows on a strip. `strip` has its periods along the second and the third axis; along a
+    /// missing axis the period is 1.
     Density {
         rule: u32,
         strip: [u32; 2],
     },
-    /// The least weight of a fundamental box over the configurations with these periods; 1 for a missing axis.
+    /// The least weight of a fundamental box, over the configurations of the rule's subshift that have these periods. Along a
+    /// missing axis the period is 1.
     Least {
         rule: u32,
         periods: [u32; 3],
     },
-    /// The best discharging bound of a radius and a margin along these vectors.
+    /// The best lower bound on the rule's density by discharging along these vectors, with a radius and a margin.
     Discharge {
         rule: u32,
         radius: u32,
@@ -115,7 +117,7 @@ fn conjugate(context: &Context, request: &Request) -> Query
     }
 }
 
-/// The query with this syntax tree, of any kind.
+/// The query with this syntax tree, whose numbers and vectors are within their bounds.
 fn asked(alloc: Global, context: &Context, request: &Request) -> Result<Query, AllocError>
     requires within { IsQueryWithin context.now.known (query_of context.now request.now) }
     requires nodes { 1 ≤ length context.now.known.setting.nodes }

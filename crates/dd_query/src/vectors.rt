@@ -8,7 +8,7 @@ use dd_faults::signed_value;
 use dd_lattice::Position;
 use dd_written::Text;
 
-/// The value of the entry for an axis; 0 if there is none.
+/// The coordinate along an axis: the value of the entry for it, or 0 if there is none.
 fn coordinate(text: &Text, vector: &Vector, axis: usize) -> i32
     requires { IsClose text.now vector.now }
     ensures value { result ≡ coordinate text.now vector.now axis }
@@ -20,7 +20,7 @@ fn coordinate(text: &Text, vector: &Vector, axis: usize) -> i32
     }
 }
 
-/// The position with the entries of a vector as its coordinates; missing ones are 0.
+/// The position whose coordinates are the entries of this vector. Missing coordinates are 0.
 pub fn position_of(text: &Text, vector: &Vector) -> Position
     requires { IsClose text.now vector.now }
     ensures { result ≡ place_of text.now vector.now }

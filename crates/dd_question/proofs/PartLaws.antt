@@ -1,4 +1,4 @@
--- Tests that fail if a fact doesn't hold, and lists of different vectors.
+-- A false test decides a fact that doesn't hold. A list has no repeats exactly if its vectors are distinct.
 use Rattle.std.proofs.Common.{◌≡◌, Bool, true, false, List, [], ◌∷◌, refl}
 use Rattle.std.proofs.lemmas.Bool.{and_parts, or_parts, false≢true}
 use Rattle.std.specs.{Prelude.◌↔◌, Prelude.not, List.AllByRecursion, List.IsDistinct, Ordering.is_eq}

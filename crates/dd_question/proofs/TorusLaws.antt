@@ -2,11 +2,11 @@
 use Rattle.std.proofs.Common.{◌≡◌, ℕ, ◌+◌, ◌*◌, ap, ◌∙◌, arith}
 use Rattle.dd_formula.specs.{Counts.cut, lemmas.Cuts.cut_times_left, lemmas.Cuts.cut_times_right}
 
--- the product of a count that was cut off
+-- a product, cut off, from a factor that was cut off
 pub next_factor : (l first second whole part : ℕ) → first ≡ cut l whole → second ≡ cut l (first * part) → second ≡ cut l (whole * part)
 next_factor l first second whole part is told = told ∙ (ap (λ n. cut l (n * part)) is ∙ cut_times_left l whole part)
 
--- the product of two counts that were cut off
+-- a product, cut off, from two factors that were cut off
 both_factors : (l a b product first second : ℕ) → a ≡ cut l first → b ≡ cut l second → product ≡ cut l (a * b) → product ≡ cut l (first * second)
 both_factors l a b product first second is_a is_b told =
     next_factor l a product first b is_a told ∙ (ap (λ n. cut l (first * n)) is_b ∙ cut_times_right l first second)

@@ -1,10 +1,11 @@
--- Questions with the limits within which they are asked, and how they are checked.
+-- Questions with the limits of their search, and how they are checked.
 use Rattle.std.specs.Prelude.{◌≡◌, Some}
 use Rattle.dd_values.specs.{Ranges.AreLimits, declared.limits.Limits.Limits}
 use Rattle.dd_question.specs.declared.{excess.Excess.Excess, fault.QuestionFault.QuestionFault}
 use Rattle.dd_question.specs.Questions.{Asked, IsFormed, IsPartFault, excess_of, IsSoundAsked}
 use Rattle.dd_question.specs.declared.fault.QuestionFault.TheVariants as fault
 
+-- a question, and the limits of its search
 pub record AskedWithin : Type 0 where
   pub question : Asked
   pub limits : Limits
@@ -12,12 +13,12 @@ pub record AskedWithin : Type 0 where
 abbrev pub asked_within : Limits → Asked → AskedWithin
 asked_within l a = record { question = a; limits = l }
 
--- the invariant of a checked question: the limits are in range, its parts fit together, and it passes no limit
+-- what holds of a checked question: the limits are in range, its parts fit together, and it passes no limit
 pub record IsChecked (q : AskedWithin) : Type 0 where
   pub limits : AreLimits q.limits
   pub sound : IsSoundAsked q.limits q.question
 
--- why a question isn't checked: the limits are out of range; else some part doesn't fit the others; else it passes a limit
+-- which fault is right: the limits are out of range; else some part doesn't fit those before it; else the question passes a limit
 pub data IsFaultWithin (l : Limits) (a : Asked) : QuestionFault → Type 0 where
   limits_fault : ¬ AreLimits l → IsFaultWithin l a fault.Limits
   part_fault : {f : QuestionFault} → AreLimits l → IsPartFault a f → IsFaultWithin l a f

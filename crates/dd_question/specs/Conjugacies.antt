@@ -6,17 +6,18 @@ use Rattle.dd_formula.specs.LocalRule.{LocalRule}
 use Rattle.dd_boxes.specs.{Goals.GoalOf, Views.goal_of}
 use Rattle.dd_question.specs.{Boxes.is_long, declared.conjugacy.Conjugacy.Conjugacy}
 
--- two subshifts, and the goals that must hold nowhere in them
+-- Two subshifts, and the goals of four box questions about them. The maps are inverse to each other exactly if no goal holds
+-- anywhere.
 pub record ConjugacyOf : Type 0 where
   pub from : LocalRule
   pub to : LocalRule
-  -- in the first, the map doesn't lead into the second
+  -- the goal for the first: the map leads out of the second
   pub image : GoalOf
-  -- in the second, the map back doesn't lead into the first
+  -- the goal for the second: the map back leads out of the first
   pub image_back : GoalOf
-  -- in the first, the map and then the map back change something
+  -- the goal for the first: the map and then the map back change something
   pub round : GoalOf
-  -- in the second, the map back and then the map change something
+  -- the goal for the second: the map back and then the map change something
   pub round_back : GoalOf
 
 -- the four box questions in order, each by its premise and its goal
@@ -27,7 +28,7 @@ parts c = (c.from, c.image) ∷ (c.to, c.image_back) ∷ (c.from, c.round) ∷ (
 abbrev pub IsPart : ConjugacyOf → ℕ → LocalRule → GoalOf → Type 0
 IsPart c k x g = (1 ≤ k) × (slice_get (parts c) (k - 1) ≡ Some (x, g))
 
--- a claim about box questions holds for all four
+-- a claim about box questions, IsSaid, holds of all four
 pub record EachPart (IsSaid : LocalRule → GoalOf → Type 0) (c : ConjugacyOf) : Type 0 where
   pub image : IsSaid c.from c.image
   pub image_back : IsSaid c.to c.image_back
@@ -38,7 +39,7 @@ pub record EachPart (IsSaid : LocalRule → GoalOf → Type 0) (c : ConjugacyOf)
 abbrev pub is_some_long : Limits → ConjugacyOf → Bool
 is_some_long l c = list_any (λ (p : LocalRule × GoalOf). is_long l p.0 p.1) (parts c)
 
--- what a value of the program asks
+-- the conjugacy that a value of the code stands for
 abbrev pub conjugacy_of : Conjugacy → ConjugacyOf
 conjugacy_of c = record {
   from = c.from.now;

@@ -1,17 +1,18 @@
--- Densities of strips: how many states and windows a strip has.
+-- Questions for the least density of a strip: how many states and windows its transfer graph has.
 use Rattle.std.specs.Prelude.{ℕ, ◌*◌, ◌||◌, List, Bool, nat_lt, slice_index}
 use Rattle.dd_formula.specs.LocalRule.{LocalRule}
 use Rattle.dd_counts.specs.Rules.{states, longer_states, most_states, most_longer_states}
 use Rattle.dd_strip.specs.Strips.{IsStrip, HasWeights, IsFew, strip_for}
 
--- a strip of this many positions per slice has too many states or windows
+-- a strip whose slices have this many positions has too many states or windows
 abbrev pub has_many_states : LocalRule → ℕ → Bool
 has_many_states x volume = nat_lt most_states (states x volume) || nat_lt most_longer_states (longer_states x volume)
 
+-- the number of positions of a slice
 abbrev pub strip_volume : List ℕ → ℕ
 strip_volume strip = slice_index strip 0 * slice_index strip 1
 
--- the strip's transfer graph has few states and windows, and each symbol has a weight
+-- a sound question: the strip's transfer graph has few enough states and windows, and each symbol has a weight
 pub record IsNarrow (x : LocalRule) (periods ws : List ℕ) : Type 0 where
   pub strip : IsStrip x periods
   pub weights : HasWeights x ws

@@ -1,15 +1,20 @@
 -- questions about rules: when their parts fit together, which limit they pass, and when they are sound
 pub mod Questions
--- questions with the limits within which they are asked, and how they are checked
+-- questions with the limits of their search, and how they are checked
 pub mod Checked
--- bounds for each kind of question: box questions, the four of a conjugacy, lists of patterns, densities, least weights and discharges
+-- box questions
 pub mod Boxes
+-- the four box questions of a conjugacy
 pub mod Conjugacies
+-- lists of forbidden patterns
 pub mod Lists
+-- least densities of strips
 pub mod Densities
+-- least weights on tori
 pub mod Tori
+-- discharges
 pub mod Discharges
--- lemmas on allowed symbols, with their proofs, for other crates to cite
+-- lemmas on these definitions, with their proofs
 pub mod lemmas
--- goals as they are measured, and the tests of vectors
+-- the measures of goals, and the tests of vectors
 pub mod measuring

@@ -1,11 +1,12 @@
--- Lists of forbidden patterns: how many patterns a node has.
+-- Questions for lists of forbidden patterns: how many patterns a rule has at a node.
 use Rattle.std.specs.{Prelude.ℕ, Prelude.◌<◌, Prelude.◌≤◌, Prelude.Bool, Prelude.nat_lt, List.list_any, List.range_with_len}
 use Rattle.dd_formula.specs.LocalRule.{LocalRule}
 use Rattle.dd_counts.specs.Rules.{pattern_count, most_patterns}
 
+-- at some node the cells that the rule reads have too many fillings
 abbrev pub has_many_patterns : LocalRule → Bool
 has_many_patterns x = list_any (λ a. nat_lt most_patterns (pattern_count x a)) (range_with_len 0 x.nodes)
 
--- at each node the cells that the rule reads have few fillings
+-- at each node the cells that the rule reads have few enough fillings
 abbrev pub HasFewPatterns : LocalRule → Type 0
 HasFewPatterns x = (a : ℕ) → a < x.nodes → pattern_count x a ≤ most_patterns

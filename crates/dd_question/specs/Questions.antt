@@ -16,28 +16,32 @@ use Rattle.dd_question.specs.declared.excess.Excess.TheVariants as excess
 use Rattle.dd_question.specs.declared.fault.QuestionFault.TheVariants as fault
 use Rattle.dd_question.specs.declared.question.Question.TheVariants as question
 
+-- A question, as contracts see it. `ws` lists the weights of the symbols, and `vs` the vectors of a discharge.
 pub data Asked : Type 0 where
   -- does the configuration live in the rule's subshift?
   membership : LocalRule → Tile → Asked
-  -- can a configuration that obeys the rule have the goal?
+  -- the box question: does no configuration that obeys the rule have the goal at any position?
   box : LocalRule → GoalOf → Asked
-  -- can a configuration of either rule break the other?
+  -- do the rules allow the same configurations?
   equality : LocalRule → LocalRule → Asked
-  -- which symbols of the cells that the rule reads at a node break it there?
+  -- Which patterns does the rule forbid? A pattern gives symbols to the cells that the rule reads at a node, and the rule is
+  -- false there.
   listing : LocalRule → Asked
-  -- which symbols of some of these cells break it there, where none of them can be left out?
+  -- Which minimal patterns forbid what the rule forbids? A minimal pattern gives symbols to some of the cells that the rule
+  -- reads at a node. None of them can be left out.
   smallest : LocalRule → Asked
   -- are two maps between the subshifts of two rules inverse to each other?
   conjugacy : ConjugacyOf → Asked
-  -- with these weights, what is the least weight per position of the configurations with these periods along the axes after the first?
+  -- what is the least weight per position of a configuration with these periods along the axes after the first?
   density : LocalRule → List ℕ → List ℕ → Asked
-  -- with these weights, what is the least weight of a fundamental box with these periods and no shear?
+  -- what is the least weight of the fundamental box, over the configurations with these periods and no shear?
   least : LocalRule → List ℕ → List ℕ → Asked
-  -- With these weights, how much does each position hold at least, after each has sent amounts along these vectors?
-  -- The pattern of this radius around a position determines what it sends. The domain is grown by this margin.
+  -- How much does each position hold at least, after each has sent amounts along these vectors? The pattern around
+  -- a position determines what it sends; the first number is its radius. The second number is the margin: the fillings that
+  -- are looked at reach farther by it.
   discharge : LocalRule → ℕ → ℕ → List Place → List ℕ → Asked
 
--- what a value of the program asks
+-- the question that a value of the code stands for
 abbrev pub asked_of : Question → Asked
 asked_of (question.Membership rule configuration) = membership rule.now configuration.now
 asked_of (question.Box premise goal) = box premise.now (goal_of premise.now goal)
@@ -49,7 +53,7 @@ asked_of (question.Density rule strip weights) = density rule.now strip weights.
 asked_of (question.Least rule periods weights) = least rule.now periods weights.now
 asked_of (question.Discharge rule radius margin vectors weights) = discharge rule.now radius margin vectors.now weights.now
 
--- whether it is decided by boxes and periods, which engines search
+-- whether the question is one or more box questions, which engines search
 abbrev pub is_box_question : Asked → Bool
 is_box_question (membership x t) = false
 is_box_question (box x g) = true
@@ -61,7 +65,7 @@ is_box_question (density x strip ws) = false
 is_box_question (least x along ws) = false
 is_box_question (discharge x radius margin vs ws) = false
 
--- its parts have the same dimension, nodes and alphabet, and each symbol of a configuration is one that its node allows
+-- its parts fit together
 abbrev pub IsFormed : Asked → Type 0
 IsFormed (membership x t) = IsRule x × IsTile t × Fits x t × HasAllowed x t
 IsFormed (box x g) = IsFormedBox x g
@@ -73,7 +77,7 @@ IsFormed (density x strip ws) = IsRule x × IsStrip x strip × HasWeights x ws
 IsFormed (least x along ws) = IsRule x × AreTorusPeriods x.dimension x.nodes (periods_of along 0) × HasWeights x ws
 IsFormed (discharge x radius margin vs ws) = IsRule x × IsDischargeable x radius margin vs ws
 
--- the first of its parts, in this order, that doesn't fit those before it; memory may run out at any
+-- the fault of the first of its parts, in this order, that doesn't fit those before it; memory may run out at any of them
 pub data IsPartFault : Asked → QuestionFault → Type 0 where
   configuration_fault : {x : LocalRule} {t : Tile} → ¬ Fits x t → IsPartFault (membership x t) fault.Configuration
   symbols_fault : {x : LocalRule} {t : Tile} → Fits x t → ¬ HasAllowed x t → IsPartFault (membership x t) fault.Symbols
@@ -89,10 +93,11 @@ pub data IsPartFault : Asked → QuestionFault → Type 0 where
       IsPartFault (discharge x radius margin vs ws) f
   memory_fault : {a : Asked} → IsPartFault a fault.Memory
 
+-- the limit e, if b says that it is passed
 abbrev pub passed : Bool → Excess → Option Excess
 passed b e = if b then Some e else None
 
--- the limit on its work that it passes, if any
+-- the limit on its work that the question passes, if any
 abbrev pub excess_of : Limits → Asked → Option Excess
 excess_of l (membership x t) = None
 excess_of l (box x g) = passed (is_long l x g) excess.Clauses
@@ -104,7 +109,7 @@ excess_of l (density x strip ws) = passed (has_many_states x (strip_volume strip
 excess_of l (least x along ws) = passed (is_heavy x along ws) excess.Clauses
 excess_of l (discharge x radius margin vs ws) = None
 
--- its parts fit together, and it passes no limit
+-- a sound question: its parts fit together, and it passes no limit
 abbrev pub IsSoundAsked : Limits → Asked → Type 0
 IsSoundAsked l (membership x t) = IsRule x × IsTile t × Fits x t × HasAllowed x t
 IsSoundAsked l (box x g) = IsSoundBox l x g

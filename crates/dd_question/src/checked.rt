@@ -1,9 +1,9 @@
-//! Questions whose parts fit together and that pass no limit.
+//! Checked questions.
 use crate::question::Question;
 use dd_values::Limits;
 use std::marker::Model;
 
-/// A question whose parts fit together and that passes no limit, and the limits within which it is asked.
+/// A question whose parts fit together and that passes no limit on its work, with the limits of its search.
 #[derive(Drop)]
 pub struct CheckedQuestion<'a> {
     question: Question<'a>,
@@ -26,14 +26,13 @@ impl<'a> Model for CheckedQuestion<'a> {
     ghost invariant = { λ c. IsChecked (asked_within c.limits (asked_of c.question)) };
 }
 
-/// Nothing here takes memory.
 impl<'a> CheckedQuestion<'a> {
     ghost use Rattle.std.specs.Prelude.{◌≡◌};
     ghost use Rattle.dd_values.specs.Ranges.{AreLimits};
     ghost use Rattle.dd_question.specs.Questions.{asked_of, IsSoundAsked};
     ghost use Rattle.dd_question.specs.Checked.{asked_within, IsChecked};
 
-    /// A question whose parts are known to fit together, and which passes none of these limits.
+    /// A question that is known to be sound: its parts fit together, and it passes no limit. It takes no memory.
     pub fn known(question: Question<'a>, limits: Limits) -> CheckedQuestion<'a>
         requires limits { AreLimits limits }
         requires sound { IsSoundAsked limits (asked_of question) }
@@ -42,7 +41,7 @@ impl<'a> CheckedQuestion<'a> {
         CheckedQuestion { question, limits }
     }
 
-    /// What is asked.
+    /// The question.
     pub fn question(&self) -> Question<'a>
         ensures value { asked_of result ≡ self.now.question }
         ensures sound { IsSoundAsked self.now.limits (asked_of result) }
@@ -51,7 +50,7 @@ impl<'a> CheckedQuestion<'a> {
         self.question
     }
 
-    /// How far it is searched.
+    /// The limits of its search.
     pub fn limits(&self) -> &Limits
         ensures value { result.now ≡ self.now.limits }
         ensures kept { IsChecked self.now }

@@ -1,4 +1,4 @@
-//! Questions are checked: the limits, whether the parts go together, and the limit on its work that a question passes.
+//! The check of a question: whether the limits are in range, whether its parts fit together, and whether it asks for too much work.
 ghost use Rattle.std.specs.Prelude.{◌≡◌, IfOk, IfErr, OnOk};
 ghost use Rattle.dd_question.specs.Questions.{asked_of, IsFormed, IsPartFault};
 ghost use Rattle.dd_question.specs.Checked.{asked_within, IsFaultWithin};
@@ -15,7 +15,7 @@ use dd_values::Limits;
 use std::alloc::Global;
 
 impl<'a> Question<'a> {
-    /// Whether its parts fit together.
+    /// Tests whether the parts of the question fit together.
     fn check_parts(&self, alloc: Global) -> Result<(), QuestionFault>
         ensures ok { OnOk result (IsFormed (asked_of self.now)) }
         ensures fault { IfErr result (IsPartFault (asked_of self.now)) }
@@ -29,7 +29,7 @@ impl<'a> Question<'a> {
             Question::Equality { left, right } => check_equality(left, right),
             Question::Conjugacy { conjugacy } => check_conjugacy(alloc, &conjugacy),
             Question::Listing { rule } | Question::Smallest { rule } => {
-                // This read brings in what the type guarantees.
+                // This call tells the proof what the type guarantees.
                 let _nodes = rule.nodes();
                 Ok(())
             }

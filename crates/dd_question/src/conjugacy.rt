@@ -1,4 +1,4 @@
-//! Whether two automata are inverse maps between two subshifts, as four box questions.
+//! Conjugacies: whether two automata are inverse maps between two subshifts, as four box questions.
 ghost use Rattle.std.specs.Prelude.{◌≡◌, IfSome, None, is_none};
 ghost use Rattle.dd_formula.specs.LocalRule.{LocalRule};
 ghost use Rattle.dd_boxes.specs.Goals.{GoalOf};
@@ -8,26 +8,27 @@ ghost use Rattle.dd_question.specs.Conjugacies.{conjugacy_of, IsPart};
 use dd_boxes::Goal;
 use dd_formula::Rule;
 
-/// Two subshifts, and what must hold nowhere in them, as goals of four box questions.
+/// Two subshifts, and the goals of four box questions about them. The maps are inverse to each other exactly if no goal holds
+/// anywhere.
 #[derive(Clone, Copy)]
 pub struct Conjugacy<'a> {
-    /// The first subshift.
+    /// The rule of the first subshift.
     pub from: &'a Rule,
-    /// The second.
+    /// The rule of the second subshift.
     pub to: &'a Rule,
-    /// In the first, the map doesn't lead into the second.
+    /// The goal for the first: the map leads out of the second.
     pub image: Goal<'a>,
-    /// In the second, the map back doesn't lead into the first.
+    /// The goal for the second: the map back leads out of the first.
     pub image_back: Goal<'a>,
-    /// In the first, the map and then the map back change something.
+    /// The goal for the first: the map and then the map back change something.
     pub round: Goal<'a>,
-    /// In the second, the map back and then the map change something.
+    /// The goal for the second: the map back and then the map change something.
     pub round_back: Goal<'a>,
 }
 
 impl<'a> Conjugacy<'a> {
-    /// The premise and the goal of the question with this number, 1 to 4: the image, the image of the map back, the
-    /// round trip from the first, and that from the second.
+    /// The premise and the goal of the box question with this number, or `None` where there is none. Question 1 is about
+    /// `image`, 2 about `image_back`, 3 about `round`, and 4 about `round_back`.
     pub fn part(&self, number: u64) -> Option<(&'a Rule, Goal<'a>)>
         ensures part { IfSome result (λ p. IsPart (conjugacy_of self.now) number p.0.now (goal_of p.0.now p.1)) }
         ensures none { result ≡ None → (x : LocalRule) (g : GoalOf) → ¬ IsPart (conjugacy_of self.now) number x g }

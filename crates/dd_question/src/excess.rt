@@ -1,12 +1,13 @@
-//! Limits on the work that questions ask for.
+//! The limits on the work of a question.
 
-/// A limit on its work that a question passes.
+/// The limit on its work that a question passes.
 #[derive(Clone, Copy, Debug, PartialEq, Eq)]
 pub enum Excess {
-    /// More than 2,000,000 clauses in the largest box or torus that may be tried, or with the greatest weight that may be asked for.
+    /// More than 2,000,000 clauses. They are counted for the largest box or torus that a search may try; for a least weight, for
+    /// the greatest weight that the fundamental box can have.
     Clauses,
-    /// More than 65,536 patterns at a node.
+    /// More than 65,536 fillings of the cells that the rule reads at a node. Each may be a pattern.
     Patterns,
-    /// More than 4,096 states of a strip, or more than 131,072 windows.
+    /// More than 4,096 states of a strip's transfer graph, or more than 131,072 windows, which are one slice longer.
     States,
 }

@@ -1,27 +1,28 @@
-//! What can be wrong with a question.
+//! The faults of a question.
 ghost use Rattle.std.specs.Prelude.{◌≡◌};
 
 use crate::excess::Excess;
 use std::alloc::AllocError;
 use thiserror::Error;
 
-/// Why a question is not checked.
+/// Why a question does not pass its check.
 #[derive(Debug, Drop, Error)]
 pub enum QuestionFault {
-    /// The radius is over 8, the period isn't 1 to 8, or the pivots are over 100,000.
+    /// The limits of the search are out of range: the radius is over 8, the period isn't 1 to 8, or the number of pivots is over
+    /// 100,000.
     #[error("the limits are out of range")]
     Limits,
-    /// The configuration has another dimension or other nodes than the rule, or a symbol that isn't of its alphabet.
+    /// The configuration has another dimension or another number of nodes than the rule, or a symbol outside the rule's alphabet.
     #[error("the configuration doesn't fit the rule")]
     Configuration,
     /// The configuration has a symbol that its node doesn't allow.
     #[error("the configuration has a symbol that its node doesn't allow")]
     Symbols,
-    /// The goal's rule has another dimension, other nodes or another alphabet than the premise, or one of its automata isn't well
-    /// formed over those of the premise.
+    /// The goal's rule differs from the premise in its dimension, its number of nodes or its alphabet. Or one of the goal's automata
+    /// isn't well formed over those of the premise.
     #[error("the goal doesn't fit the premise")]
     Goal,
-    /// The two rules differ in dimension, nodes or alphabet.
+    /// The two rules differ in their dimension, their number of nodes or their alphabet.
     #[error("the rules have not the same dimension, nodes and alphabet")]
     Rules,
     /// A period of the strip isn't 1 to 64, or isn't 1 past the rule's dimension.
@@ -30,7 +31,7 @@ pub enum QuestionFault {
     /// There isn't one weight of at most 1,000 for each symbol.
     #[error("there isn't one weight of at most 1000 for each symbol")]
     Weights,
-    /// A period of the torus is 0, or isn't 1 past the rule's dimension, or its fundamental box has more than 65,536 cells.
+    /// A period of the torus is 0, or isn't 1 past the rule's dimension, or the fundamental box has more than 65,536 cells.
     #[error("a period of the torus is out of range")]
     Periods,
     /// The radius of the patterns is over 3.

@@ -9,9 +9,9 @@ ghost use Rattle.dd_question.specs.Conjugacies.{EachPart, conjugacy_of, is_some_
 ghost use Rattle.dd_question.specs.Lists.{has_many_patterns};
 ghost use Rattle.dd_question.specs.Densities.{has_many_states, strip_volume};
 
-use crate::aims::{MOST_CLAUSES, aim_of};
 use crate::conjugacy::Conjugacy;
 use crate::excess::Excess;
+use crate::measures::{MOST_CLAUSES, measure_of};
 use crate::question::Question;
 use crate::tori::is_heavy;
 use dd_boxes::Goal;
@@ -23,19 +23,25 @@ use dd_formula::Rule;
 use dd_values::Limits;
 use std::alloc::{AllocError, Global};
 
-/// Whether the question with this premise and this goal has too many clauses, in the largest box or torus that may be tried.
+/// Whether the box question of this premise and this goal has too many clauses, in the largest box or torus that may be tried.
 fn is_long(alloc: Global, limits: &Limits, premise: &Rule, goal: &Goal) -> Result<bool, AllocError>
     requires limits { AreLimits limits.now }
     requires goal { IsGoalFor premise.now (goal_of premise.now goal.now) }
     ensures { IfOk result (λ long. long ≡ is_long limits.now premise.now (goal_of premise.now goal.now)) }
 {
-    let aim = aim_of(alloc, premise, goal)?;
-    let radius = limits.radius.max(aim.radius);
-    let clauses = question_clauses(premise, aim.clauses, radius, limits.period, MOST_CLAUSES);
+    let measure = measure_of(alloc, premise, goal)?;
+    let radius = limits.radius.max(measure.radius);
+    let clauses = question_clauses(
+        premise,
+        measure.clauses,
+        radius,
+        limits.period,
+        MOST_CLAUSES,
+    );
     Ok(clauses > MOST_CLAUSES)
 }
 
-/// Whether one of the four questions has too many clauses.
+/// Whether one of the four box questions of a conjugacy has too many clauses.
 fn is_some_long(alloc: Global, limits: &Limits, c: &Conjugacy) -> Result<bool, AllocError>
     requires limits { AreLimits limits.now }
     requires formed { EachPart IsFormedBox (conjugacy_of c.now) }
@@ -48,6 +54,7 @@ fn is_some_long(alloc: Global, limits: &Limits, c: &Conjugacy) -> Result<bool, A
     Ok(image || image_back || round || round_back)
 }
 
+/// Whether, at some node, the cells that the rule reads have too many fillings.
 fn has_many_patterns(rule: &Rule) -> bool
     ensures { result ≡ has_many_patterns rule.now }
 {
@@ -59,6 +66,7 @@ fn has_many_patterns(rule: &Rule) -> bool
     false
 }
 
+/// Whether the transfer graph over a strip has too many states or windows, where each slice has `volume` positions.
 fn has_many_states(rule: &Rule, volume: u32) -> bool
     ensures { result ≡ has_many_states rule.now volume }
 {
@@ -66,6 +74,7 @@ fn has_many_states(rule: &Rule, volume: u32) -> bool
         || longer_states(rule, volume, MOST_LONGER_STATES) > MOST_LONGER_STATES
 }
 
+/// The number of positions of a slice of the strip.
 fn strip_volume(strip: [u32; 2]) -> u32
     requires second { slice_index strip 0 ≤ 64 }
     requires third { slice_index strip 1 ≤ 64 }
@@ -75,7 +84,7 @@ fn strip_volume(strip: [u32; 2]) -> u32
 }
 
 impl Question<'_> {
-    /// The limit that the work of the question passes, if any, when box questions are searched within these limits.
+    /// The limit on its work that the question passes, if any. Box questions are searched within the given limits.
     ///
     /// # Errors
     /// `AllocError` if memory runs out.

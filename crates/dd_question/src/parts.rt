@@ -1,4 +1,4 @@
-//! Whether the parts of a question fit together.
+//! Tests whether the parts of a question fit together.
 ghost use Rattle.std.specs.Prelude.{◌≡◌, ◌≤◌, ◌<◌, ◌↔◌, IsTrue, IfOk, IfErr, OnOk, All};
 ghost use Rattle.dd_values.specs.Bounds.{most_weight};
 ghost use Rattle.dd_expansion.specs.Placed.{is_flat};
@@ -24,20 +24,23 @@ use dd_pattern::Periodic;
 use dd_values::{MOST_WEIGHT, WIDEST_RADIUS};
 use std::alloc::{AllocError, Global};
 
-/// The greatest period of a strip, and the greatest number of the vectors of a discharge and their greatest coordinate.
+/// The greatest period of a strip.
 const LONGEST: u32 = 64;
 
+/// How many vectors a discharge may have.
 const MOST_VECTORS: usize = 16;
 
+/// How long a vector of a discharge may be along each axis.
 const FARTHEST: u32 = 4;
 
+/// Whether each symbol is below the limit.
 fn are_below(symbols: &[u32], limit: u32) -> bool
     ensures { IsTrue result ↔ All (λ s. s < limit) symbols.now }
 {
     symbols.iter().all(|&symbol| symbol < limit)
 }
 
-/// Whether the configuration has the rule's dimension, nodes and symbols.
+/// Whether the configuration has the rule's dimension, its number of nodes, and symbols of its alphabet.
 fn fits(rule: &Rule, configuration: &Periodic) -> bool
     ensures { IsTrue result ↔ Fits rule.now configuration.now }
 {
@@ -46,7 +49,7 @@ fn fits(rule: &Rule, configuration: &Periodic) -> bool
         && are_below(configuration.symbols(), rule.symbols())
 }
 
-/// Whether each symbol of the fundamental box is one that its node allows.
+/// Whether each symbol of the configuration is one that its node allows.
 pub fn has_allowed(rule: &Rule, configuration: &Periodic) -> bool
     requires { Fits rule.now configuration.now }
     ensures { IsTrue result ↔ HasAllowed rule.now configuration.now }
@@ -61,12 +64,13 @@ pub fn has_allowed(rule: &Rule, configuration: &Periodic) -> bool
     true
 }
 
+/// Tests the parts of a membership question.
 #[tactic(auto, using(crate::specs::Questions::configuration_fault, crate::specs::Questions::symbols_fault))]
 pub(crate) fn check_member(rule: &Rule, configuration: &Periodic) -> Result<(), QuestionFault>
     ensures ok { OnOk result (IsFormed (asked.membership rule.now configuration.now)) }
     ensures fault { IfErr result (IsPartFault (asked.membership rule.now configuration.now)) }
 {
-    // Read for what their types keep.
+    // These calls tell the proof what the types guarantee.
     let _nodes = rule.nodes();
     let _symbols = configuration.symbols();
     if !fits(rule, configuration) {
@@ -78,7 +82,7 @@ pub(crate) fn check_member(rule: &Rule, configuration: &Periodic) -> Result<(), 
     Ok(())
 }
 
-/// Whether the rules have the same dimension, nodes and alphabet.
+/// Whether the rules have the same dimension, number of nodes and alphabet.
 fn are_alike(left: &Rule, right: &Rule) -> bool
     ensures alike { IsTrue result ↔ AreAlike left.now right.now }
     ensures left { IsRule left.now }
@@ -89,7 +93,7 @@ fn are_alike(left: &Rule, right: &Rule) -> bool
     others == nodes && right.dim() == left.dim() && right.symbols() == left.symbols()
 }
 
-/// Whether both automata are well formed over the numbers of the rule.
+/// Whether both automata are well formed over the rule's dimension, number of nodes and alphabet.
 fn are_over(
     alloc: Global,
     rule: &Rule,
@@ -109,7 +113,7 @@ fn are_over(
     is_automaton(alloc, right, numbers)
 }
 
-/// Whether the goal may be looked for where the premise holds.
+/// Whether the goal fits the premise.
 fn is_goal_for(alloc: Global, premise: &Rule, goal: &Goal) -> Result<bool, AllocError>
     ensures value { IfOk result (λ is_goal. IsTrue is_goal ↔ IsGoalFor premise.now (goal_of premise.now goal.now)) }
     ensures rule { OnOk result (KeepsRule (goal_of premise.now goal.now)) }
@@ -121,12 +125,13 @@ fn is_goal_for(alloc: Global, premise: &Rule, goal: &Goal) -> Result<bool, Alloc
     }
 }
 
+/// Tests the parts of a box question.
 #[tactic(auto, using(crate::specs::Questions::goal_fault, crate::specs::Questions::memory_fault))]
 pub(crate) fn check_box(alloc: Global, premise: &Rule, goal: &Goal) -> Result<(), QuestionFault>
     ensures ok { OnOk result (IsFormed (asked.box premise.now (goal_of premise.now goal.now))) }
     ensures fault { IfErr result (IsPartFault (asked.box premise.now (goal_of premise.now goal.now))) }
 {
-    // This read brings in what the type guarantees.
+    // This call tells the proof what the type guarantees.
     let _nodes = premise.nodes();
     if !is_goal_for(alloc, premise, goal)? {
         return Err(QuestionFault::Goal);
@@ -134,7 +139,7 @@ pub(crate) fn check_box(alloc: Global, premise: &Rule, goal: &Goal) -> Result<()
     Ok(())
 }
 
-/// Whether each of the four questions may be asked.
+/// Tests the parts of the four box questions of a conjugacy.
 #[tactic(auto, using(crate::specs::Questions::conjugacy_fault))]
 pub(crate) fn check_conjugacy(alloc: Global, c: &Conjugacy) -> Result<(), QuestionFault>
     ensures ok { OnOk result (IsFormed (asked.conjugacy (conjugacy_of c.now))) }
@@ -146,6 +151,7 @@ pub(crate) fn check_conjugacy(alloc: Global, c: &Conjugacy) -> Result<(), Questi
     check_box(alloc, c.to, &c.round_back)
 }
 
+/// Tests the parts of an equality question.
 #[tactic(auto, using(crate::specs::Questions::rules_fault))]
 pub(crate) fn check_equality(left: &Rule, right: &Rule) -> Result<(), QuestionFault>
     ensures ok { OnOk result (IsFormed (asked.equality left.now right.now)) }
@@ -157,7 +163,7 @@ pub(crate) fn check_equality(left: &Rule, right: &Rule) -> Result<(), QuestionFa
     Ok(())
 }
 
-/// Whether the rule may have a strip with these periods.
+/// Whether these are periods of a strip of the rule's dimension.
 fn is_strip(rule: &Rule, periods: [u32; 2]) -> bool
     ensures { IsTrue result ↔ IsStrip rule.now periods }
 {
@@ -171,6 +177,7 @@ fn is_strip(rule: &Rule, periods: [u32; 2]) -> bool
         && (3 <= dimension || z == 1)
 }
 
+/// Whether each weight is at most 1,000.
 fn are_light(weights: &[u32]) -> bool
     ensures { IsTrue result ↔ All (λ w. w ≤ most_weight) weights.now }
 {
@@ -185,6 +192,7 @@ pub(crate) fn has_weights(rule: &Rule, weights: &[u32]) -> bool
     weights.len() == rule.symbols() as usize && are_light(weights)
 }
 
+/// Tests the parts of a density question.
 #[tactic(auto, using(crate::specs::Questions::strip_fault, crate::specs::Questions::weights_fault))]
 pub(crate) fn check_density(
     rule: &Rule,
@@ -194,7 +202,7 @@ pub(crate) fn check_density(
     ensures ok { OnOk result (IsFormed (asked.density rule.now strip weights.now)) }
     ensures fault { IfErr result (IsPartFault (asked.density rule.now strip weights.now)) }
 {
-    // This read brings in what the type guarantees.
+    // This call tells the proof what the type guarantees.
     let _nodes = rule.nodes();
     if !is_strip(rule, strip) {
         return Err(QuestionFault::Strip);
@@ -212,6 +220,7 @@ fn is_flat(dimension: u32, vector: &Position) -> bool
     (1 < dimension || vector.y == 0) && (2 < dimension || vector.z == 0)
 }
 
+/// Whether the vector is at most 4 long along each axis.
 fn is_near(vector: &Position) -> bool
     ensures { IsTrue result ↔ IsNear vector.now }
 {
@@ -220,12 +229,14 @@ fn is_near(vector: &Position) -> bool
         && vector.z.unsigned_abs() <= FARTHEST
 }
 
+/// Whether amounts may be sent along the vector.
 fn is_vector(dimension: u32, vector: &Position) -> bool
     ensures { IsTrue result ↔ IsVector dimension vector.now }
 {
     is_near(vector) && is_flat(dimension, vector)
 }
 
+/// Whether the vector is in the list.
 fn is_among(vector: &Position, others: &[Position]) -> bool
     ensures { result ≡ is_among vector.now others.now }
 {
@@ -242,6 +253,7 @@ fn are_apart(vectors: &[Position]) -> bool
     }
 }
 
+/// Whether each of the vectors is one along which amounts may be sent.
 fn are_short(dimension: u32, vectors: &[Position]) -> bool
     ensures { IsTrue result ↔ All (IsVector dimension) vectors.now }
 {
@@ -253,7 +265,7 @@ fn are_short(dimension: u32, vectors: &[Position]) -> bool
     true
 }
 
-/// Whether amounts may be sent along these vectors.
+/// Whether these may be the vectors of a discharge.
 #[tactic(auto, using(crate::proofs::PartLaws::apart_distinct))]
 fn are_vectors(dimension: u32, vectors: &[Position]) -> bool
     ensures { IsTrue result ↔ AreVectors dimension vectors.now }
@@ -264,6 +276,7 @@ fn are_vectors(dimension: u32, vectors: &[Position]) -> bool
         && are_short(dimension, vectors)
 }
 
+/// Tests the parts of a discharge question.
 #[tactic(auto, using(crate::specs::Questions::discharge_fault, crate::specs::Discharges::radius_fault, crate::specs::Discharges::margin_fault, crate::specs::Discharges::vectors_fault, crate::specs::Discharges::amounts_fault))]
 pub(crate) fn check_discharge(
     rule: &Rule,
@@ -275,7 +288,7 @@ pub(crate) fn check_discharge(
     ensures ok { OnOk result (IsFormed (asked.discharge rule.now radius margin vectors.now weights.now)) }
     ensures fault { IfErr result (IsPartFault (asked.discharge rule.now radius margin vectors.now weights.now)) }
 {
-    // This read brings in what the type guarantees.
+    // This call tells the proof what the type guarantees.
     let _nodes = rule.nodes();
     if radius > WIDEST_RADIUS {
         return Err(QuestionFault::Radius);

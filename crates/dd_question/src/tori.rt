@@ -1,4 +1,4 @@
-//! Least weights on tori: which may be asked for, and how many clauses they take.
+//! Questions for a least weight on a torus: which may be asked, and how many clauses they take.
 ghost use Rattle.std.specs.Prelude.{◌≡◌, ◌<◌, ◌^◌, ◌↔◌, IsTrue, IfErr, OnOk, length};
 ghost use Rattle.dd_pattern.specs.Periods.{periods_of, ArePeriodsIn};
 ghost use Rattle.dd_pattern.specs.Tile.{most_symbols};
@@ -10,16 +10,16 @@ ghost use Rattle.dd_question.specs.Questions as asked;
 ghost use Rattle.dd_question.specs.Questions.{IsFormed, IsPartFault};
 ghost use Rattle.dd_question.specs.Tori.{positions_in, cells_in, weight_clauses, is_heavy};
 
-use crate::aims::MOST_CLAUSES;
 use crate::fault::QuestionFault;
+use crate::measures::MOST_CLAUSES;
 use crate::parts::has_weights;
 use dd_counts::place_clauses;
 use dd_formula::{Rule, plus, times};
 
-/// The greatest number of cells of a fundamental box.
+/// How many cells a fundamental box may have.
 const MOST_CELLS: u32 = 65_536;
 
-/// The positions of the fundamental box, or `limit + 1` if they pass the limit, which is below 2^31.
+/// The number of positions of the fundamental box, or `limit + 1` where it is greater than the limit. The limit is below 2^31.
 fn positions_in(limit: u32, periods: [u32; 3]) -> u32
     requires { limit < 2 ^ 31 }
     ensures { result ≡ cut limit (positions_in periods) }
@@ -28,7 +28,7 @@ fn positions_in(limit: u32, periods: [u32; 3]) -> u32
     times(limit, times(limit, z, y), x)
 }
 
-/// The cells of the fundamental box, cut off in the same way.
+/// The number of cells of the fundamental box, or `limit + 1` where it is greater than the limit.
 fn cells_in(limit: u32, rule: &Rule, periods: [u32; 3]) -> u32
     requires { limit < 2 ^ 31 }
     ensures { result ≡ cut limit (cells_in rule.now periods) }
@@ -44,13 +44,14 @@ fn are_periods(dimension: u32, periods: [u32; 3]) -> bool
     1 <= x && 1 <= y && 1 <= z && (2 <= dimension || y == 1) && (3 <= dimension || z == 1)
 }
 
-/// Whether the rule may have a torus with these periods.
+/// Whether these are periods of a torus for the rule: the fundamental box has few enough cells.
 fn is_torus(rule: &Rule, periods: [u32; 3]) -> bool
     ensures { IsTrue result ↔ AreTorusPeriods rule.now.dimension rule.now.nodes (periods_of periods 0) }
 {
     are_periods(rule.dim(), periods) && cells_in(MOST_CELLS, rule, periods) <= MOST_CELLS
 }
 
+/// Tests the parts of a question for a least weight.
 #[tactic(auto, using(crate::specs::Questions::periods_fault, crate::specs::Questions::symbol_weights_fault))]
 pub(crate) fn check_least(
     rule: &Rule,
@@ -60,7 +61,7 @@ pub(crate) fn check_least(
     ensures ok { OnOk result (IsFormed (asked.least rule.now periods weights.now)) }
     ensures fault { IfErr result (IsPartFault (asked.least rule.now periods weights.now)) }
 {
-    // This read brings in what the type guarantees.
+    // This call tells the proof what the type guarantees.
     let _nodes = rule.nodes();
     if !is_torus(rule, periods) {
         return Err(QuestionFault::Periods);
@@ -71,6 +72,7 @@ pub(crate) fn check_least(
     Ok(())
 }
 
+/// The greatest weight; 0 where there is none.
 fn greatest(weights: &[u32]) -> u32
     ensures { result ≡ greatest weights.now }
 {
@@ -80,7 +82,7 @@ fn greatest(weights: &[u32]) -> u32
     }
 }
 
-/// The clauses that ask for a weight, up to the greatest that the fundamental box can have, cut off past 2,000,000.
+/// How many clauses it takes to ask for a weight below the greatest that the fundamental box can have; cut off past 2,000,000.
 fn weight_clauses(rule: &Rule, periods: [u32; 3], weights: &[u32]) -> u32
     requires { length weights.now ≡ rule.now.symbols }
     ensures { result ≡ cut most_clauses (weight_clauses rule.now periods weights.now) }
@@ -95,7 +97,7 @@ fn weight_clauses(rule: &Rule, periods: [u32; 3], weights: &[u32]) -> u32
     plus(MOST_CLAUSES, plus(MOST_CLAUSES, torus, gates), 1)
 }
 
-/// Whether these clauses are more than 2,000,000.
+/// Whether a question for a least weight takes more than 2,000,000 clauses.
 pub(crate) fn is_heavy(rule: &Rule, periods: [u32; 3], weights: &[u32]) -> bool
     requires { length weights.now ≡ rule.now.symbols }
     ensures { result ≡ is_heavy rule.now periods weights.now }

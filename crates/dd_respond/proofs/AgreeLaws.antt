@@ -1,4 +1,5 @@
--- Two right answers to a question differ only in their evidence: there is one least radius, one first period, one first cell.
+-- Two right answers to a question differ only in their evidence: there is one least radius, and the first periods and the
+-- first cell are unique.
 use Rattle.std.proofs.Common.{◌≡◌, ℕ, ◌≤◌, List, [], ◌∷◌, refl, ap, sym, subst, ◌∙◌, arith, inl, inr}
 use Rattle.std.proofs.lemmas.{Bool.cases_order, Cmp.nat_cmp_total, Cmp.on_total, Cmp.then_total}
 use Rattle.std.specs.{Prelude.◌⊎◌, Prelude.max, declared.cmp.Ordering.Ordering}
@@ -31,7 +32,7 @@ use Rattle.dd_certificate.specs.declared.answer.Reason.TheVariants as reason
 use Rattle.dd_contain.specs.declared.decision.Decision.TheVariants as decision
 use Rattle.dd_question.specs.Questions as asked
 
--- ---- there is only one least and only one first
+-- ---- there is only one least number and only one first period
 
 least_one : (S : ℕ → Type 0) (low high n m : ℕ) → IsLeast S low high n → IsLeast S low high m → n ≡ m
 least_one S low high n m one other = elim (cases_order n m) [
@@ -50,7 +51,7 @@ periods_total =
     (on_total (λ (p : Periods). p.z) nat_cmp_total))
     (on_total (λ (p : Periods). p.shear) nat_cmp_total)
 
--- one of two periods is before the other, or they are the same
+-- of two periods one comes before the other, or they are the same
 in_order : (p q : Periods) → IsBefore p q ⊎ (IsBefore q p ⊎ (p ≡ q))
 in_order p q = cases (periods_cmp p q) refl where
   cases : (o : Ordering) → periods_cmp p q ≡ o → IsBefore p q ⊎ (IsBefore q p ⊎ (p ≡ q))

@@ -1,4 +1,4 @@
--- What holds for any answer, and which questions ask no engine.
+-- What follows for any answer, and which questions ask no engine.
 use Rattle.std.proofs.{Common.List, Common.true, Common.false, Common.refl, lemmas.Bool.false≢true}
 use Rattle.std.specs.Prelude.{IsTrue}
 use Rattle.dd_engines.specs.Rounds.{Seen, FirstAsked}

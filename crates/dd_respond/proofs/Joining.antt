@@ -13,11 +13,11 @@ use Rattle.dd_respond.specs.joining.Findings.{AreYes, none_yet, one_more, AreFou
 use Rattle.dd_respond.proofs.AgreeLaws.{yes_not_no, unknown_not_no}
 use Rattle.dd_contain.specs.declared.decision.Decision.TheVariants as decision
 
--- one item more
+-- if all items have a property, and one more has it, so have all of the longer list
 all_more : {A : Type 0} (P : A → Type 0) (xs : List A) (x : A) → All P xs → P x → All P (xs ++ x ∷ [])
 all_more P xs x all one = All-append P xs (x ∷ []) all (All-cons P x [] one (All-nil P))
 
--- from all numbers below one to those below the next
+-- if no number below k has a property, and k doesn't have it, no number below k + 1 has it
 none_more : (P : ℕ → Type 0) (number : ℕ) → ((k : ℕ) → 1 ≤ k → k < number → P k → ⊥) → (P number → ⊥) → (k : ℕ) → 1 ≤ k → k < number + 1 → P k → ⊥
 none_more P number none never k low below holds = elim (cases_lt k number) [
   | inl before ↦ none k low before holds

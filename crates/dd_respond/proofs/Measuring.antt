@@ -5,7 +5,7 @@ use Rattle.std.specs.Int.{IsGcd}
 use Rattle.dd_lattice.specs.Place.{Place}
 use Rattle.dd_expansion.specs.Limits.{greatest}
 use Rattle.dd_formula.specs.LocalRule.{LocalRule, IsRule}
-use Rattle.dd_counts.specs.Rules.{window, slices, states}
+use Rattle.dd_counts.specs.Rules.{state_length, slices, states}
 use Rattle.dd_strip.specs.{declared.strip.Strip.Strip, Strips.positions, Strips.IsStrip, Strips.strip_for}
 use Rattle.dd_transfer.specs.Certificates.{IsDensityCertificate, IsEmptyCertificate}
 use Rattle.dd_strips.specs.{Strips.IsLeastDensity, Claims.StripLeast, Claims.StripEmpty, Claims.spread_of}
@@ -27,7 +27,7 @@ AreLeast = (r : LocalRule) (periods ws : List ℕ) (p q : ℕ) (walk : List ℕ)
 
 abbrev AreEmpty : Type 0
 AreEmpty = (r : LocalRule) (periods ranks : List ℕ) → IsRule r → IsStrip r periods → IsEmptyCertificate r (strip_for r periods) ranks →
-    StripEmpty r (strip_for r periods) (greatest ranks + window r)
+    StripEmpty r (strip_for r periods) (greatest ranks + state_length r)
 
 pub density_right : AreLeast → AreEmpty → (x : LocalRule) (strip ws : List ℕ) → IsRule x → IsStrip x strip → (d : Density) →
     IsCertifiedDensity x (strip_for x strip) ws d → IsRightDensity x strip ws (written_density d)
@@ -39,7 +39,7 @@ density_right least empty x strip ws rule narrow (density.Empty ranks) h =
 -- a transfer graph has a state
 some_state : (x : LocalRule) (s : Strip) → IsRule x → 1 ≤ states x (positions s)
 some_state x s rule =
-    one-le-pow (window x) (slices x (positions s)) (one-le-pow (x.nodes * positions s) x.symbols rule.symbols.0)
+    one-le-pow (state_length x) (slices x (positions s)) (one-le-pow (x.nodes * positions s) x.symbols rule.symbols.0)
 
 pub density_fits : (x : LocalRule) (strip ws : List ℕ) → IsRule x → IsNarrow x strip ws → (d : Density) →
     IsCertifiedDensity x (strip_for x strip) ws d → IsSmallDensity x (strip_for x strip) d → IsWritable (written_density d)

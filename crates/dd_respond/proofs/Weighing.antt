@@ -1,4 +1,4 @@
--- Answers to how little a fundamental box can weigh: they are right, an output can hold them, and they have one first line.
+-- Answers about the least weight of a fundamental box: they are right, an output can hold them, and they have one first line.
 use Rattle.std.proofs.Common.{◌≡◌, ℕ, suc, ◌+◌, ◌*◌, ◌≤◌, true, List, length, refl, ap, arith, inl, inr}
 use Rattle.std.proofs.lemmas.{Nat.mul-le, Bool.cases_lt}
 use Rattle.dd_values.specs.Bounds.{most_variables}
@@ -34,13 +34,13 @@ least_agree x along ws a b (has_least h lives refuted) (has_none none others) = 
 least_agree x along ws a b (has_none none others) (has_least k lives refuted) = absurd (none k.some.0 k.some.1)
 least_agree x along ws a b (has_none none refuted) (has_none there others) = record { line = λ number. refl; unknown = refl }
 
--- ---- what is found is right
+-- ---- the answer is right
 
 pub least_right : (x : LocalRule) (along ws : List ℕ) (f : LeastWeight) → IsLeast x (periods_of along 0) ws f → IsRightLeast x along ws (written_weight f)
 least_right x along ws (least.Least w t steps) h = has_least {t = t} h.least (h.lives, h.weighs) (λ some. (h.refutes some).refuting)
 least_right x along ws (least.Nothing steps) h = has_none h.0 h.1.refuting
 
--- ---- an output can hold it
+-- ---- an output can hold the answer
 
 -- an output can hold the steps of refutations with few variables
 abbrev RefutationsFit : Type 0

@@ -1,4 +1,4 @@
--- Which answers about conjugacies are right.
+-- Which answers about conjugacies are right. A conjugacy comes down to four questions, which are numbered from 1.
 use Rattle.std.specs.Prelude.{ℕ, List, [], ◌∷◌}
 use Rattle.dd_derivation.specs.declared.step.Step.{Step}
 use Rattle.dd_pattern.specs.Tile.{Tile}
@@ -13,7 +13,7 @@ use Rattle.dd_certificate.specs.declared.answer.Answer.TheVariants as answer
 use Rattle.dd_certificate.specs.declared.answer.Reason.TheVariants as reason
 use Rattle.dd_contain.specs.declared.decision.Decision.TheVariants as decision
 
--- the question with this number is decided so within the limits
+-- the question with the number k has the decision d within the limits
 pub record ComesTo (l : Limits) (c : ConjugacyOf) (k : ℕ) (d : Decision) : Type 0 where
   pub premise : LocalRule
   pub goal : GoalOf
@@ -24,12 +24,12 @@ pub record ComesTo (l : Limits) (c : ConjugacyOf) (k : ℕ) (d : Decision) : Typ
 abbrev pub IsNoAt : Limits → ConjugacyOf → ℕ → Type 0
 IsNoAt l c k = (t : Tile) × ComesTo l c k (decision.No t)
 
--- the answer if the question with this number is answered NO
+-- the answer if the question with the number k is answered NO with the configuration t
 abbrev pub written_broken : ℕ → Tile → Answer
 written_broken k t = answer.Broken k (written_periods t) t.periods.shear t.symbols
 
--- BROKEN by the first of the four questions that is answered NO; else CONJUGATE if all are answered YES; else UNKNOWN. Questions
--- after one that is answered NO are left open.
+-- The right answer is BROKEN, by the first of the four questions that is answered NO. Questions after it don't count. If none is
+-- answered NO, the right answer is CONJUGATE if all are answered YES, and else UNKNOWN.
 pub data IsRightConjugacy (l : Limits) (c : ConjugacyOf) : Answer → Type 0 where
   first_no : {k : ℕ} {t : Tile} → IsLeast (IsNoAt l c) 1 4 k → ComesTo l c k (decision.No t) →
       IsRightConjugacy l c (written_broken k t)

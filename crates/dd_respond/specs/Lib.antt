@@ -2,15 +2,15 @@
 pub mod Right
 -- which answers about least densities and discharging are right
 pub mod Bounds
--- which answers to the question how little a fundamental box can weigh are right
+-- which answers about the least weight of a fundamental box are right
 pub mod Tori
 -- which answers about conjugacies are right
 pub mod Conjugacies
--- the questions of a conjugacy, answered one after the other
+-- the four questions of a conjugacy, answered in turn
 pub mod joining
 -- what all right answers to a question have in common
 pub mod Laws
 -- which decisions an output can hold
 pub mod Writable
--- which questions are put to engines
+-- which questions ask engines, and what this does to the roster
 pub mod Asking

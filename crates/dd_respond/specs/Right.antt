@@ -41,13 +41,13 @@ written_equality (equal.Yes left right) = answer.YesBoth left.radius right.radiu
 written_equality (equal.No h t) = written_no (side_of h) t
 written_equality equal.Unknown = answer.Unknown reason.Limits
 
--- the answer of the box question with this premise and this goal, decided within the limits
+-- the right answer to the box question with this premise and this goal, within the limits
 pub record IsRightBox (l : Limits) (x : LocalRule) (g : GoalOf) (a : Answer) : Type 0 where
   pub decision : Decision
   pub decided : IsDecided x g l.radius l.period decision
   pub written : a ≡ written_decision decision
 
--- the answer of a question of equality, decided within the limits
+-- the right answer to a question of equality, within the limits
 pub record IsRightEqual (l : Limits) (x y : LocalRule) (a : Answer) : Type 0 where
   pub decision : Equality
   pub decided : IsEqualDecided x y l.radius l.period decision
@@ -55,7 +55,7 @@ pub record IsRightEqual (l : Limits) (x y : LocalRule) (a : Answer) : Type 0 whe
 
 -- ---- all questions
 
--- The answer is right within these limits. If a question has only one answer, the answer is that one.
+-- the answer is right within these limits
 abbrev pub IsRightTo : Limits → Asked → Answer → Type 0
 IsRightTo l (asked.membership x t) a = IsMemberCertificate x t a
 IsRightTo l (asked.box x g) a = IsRightBox l x g a
@@ -67,13 +67,12 @@ IsRightTo l (asked.smallest x) a = IsMinimalCertificate x a
 IsRightTo l (asked.conjugacy c) a = IsRightConjugacy l c a
 IsRightTo l (asked.least x along ws) a = IsRightLeast x along ws a
 
--- The response to a question within these limits.
+-- the response to a question within these limits
 pub record IsResponse (l : Limits) (k : Asked) (a : Answer) : Type 0 where
-  -- The answer is right.
   pub right : IsRightTo l k a
-  -- An output can hold it: each number and each list is within its bounds.
+  -- an output can hold the answer: each number and each list is within its bounds
   pub writable : IsWritable a
 
--- the answer is not definite: its first line says that a stated limit was met
+-- the answer is UNKNOWN: its first line gives the reason
 abbrev pub is_unknown : Answer → Bool
 is_unknown a = starts_with nat_eq (verdict_text a) (codes "UNKNOWN ")

@@ -4,13 +4,13 @@ use Rattle.dd_contain.specs.declared.{decision.Decision.Decision, equal.Equality
 use Rattle.dd_contain.specs.declared.decision.Decision.TheVariants as decision
 use Rattle.dd_contain.specs.declared.equal.Equality.TheVariants as equality
 
--- an output can hold the evidence of a YES
+-- an output can hold the evidence of the decision: the steps of a YES
 abbrev pub IsWritableDecision : Decision → Type 0
 IsWritableDecision (decision.Yes n steps) = IsWritableRefutation steps
 IsWritableDecision (decision.No t) = Unit {0}
 IsWritableDecision decision.Unknown = Unit {0}
 
--- an output can hold the evidence of both sides
+-- an output can hold the evidence of the decision of an equality: the steps of both sides of a YES
 abbrev pub IsWritableEquality : Equality → Type 0
 IsWritableEquality (equality.Yes left right) = IsWritableRefutation left.steps × IsWritableRefutation right.steps
 IsWritableEquality (equality.No h t) = Unit {0}

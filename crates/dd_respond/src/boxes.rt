@@ -19,7 +19,7 @@ use dd_pattern::Periodic;
 use dd_values::{Items, Limits};
 use std::alloc::{AllocError, Global};
 
-/// The same numbers, as wide as in answers.
+/// The same numbers in 64 bits, as answers write them.
 pub(crate) fn widened(alloc: Global, numbers: &[u32]) -> Result<Items<u64>, AllocError>
     ensures same { IfOk result (λ wide. wide ≡ numbers.now) }
     ensures writable { IfOk result (All IsWritableNumber) }
@@ -44,6 +44,7 @@ fn written_no(alloc: Global, side: Side, periodic: &Periodic) -> Result<Answer, 
     })
 }
 
+/// The answer that a decision gives.
 fn written_decision(alloc: Global, decision: Decision) -> Result<Answer, AllocError>
     requires { IsWritableDecision decision }
     ensures same { IfOk result (λ answer. answer ≡ written_decision decision) }
@@ -61,6 +62,7 @@ fn written_decision(alloc: Global, decision: Decision) -> Result<Answer, AllocEr
     }
 }
 
+/// The side, in an answer, of one half of an equality.
 fn side_of(half: Half) -> Side
     ensures { result ≡ side_of half }
 {
@@ -70,6 +72,7 @@ fn side_of(half: Half) -> Side
     }
 }
 
+/// The answer that the decision of an equality gives.
 fn written_equality(alloc: Global, equality: Equality) -> Result<Answer, AllocError>
     requires { IsWritableEquality equality }
     ensures same { IfOk result (λ answer. answer ≡ written_equality equality) }
@@ -89,7 +92,7 @@ fn written_equality(alloc: Global, equality: Equality) -> Result<Answer, AllocEr
     }
 }
 
-/// Decides a box question within the limits. The roster is asked first.
+/// The answer to a box question within the limits. The engines of the roster are asked first.
 pub(crate) fn decided<E: Engine>(
     alloc: Global,
     premise: &Rule,
@@ -108,7 +111,8 @@ pub(crate) fn decided<E: Engine>(
     written_decision(alloc, decision)
 }
 
-/// Decides, within the limits, whether two rules allow the same configurations. The roster is asked first.
+/// The answer to the question whether two rules allow the same configurations, within the limits. The engines of
+/// the roster are asked first.
 pub(crate) fn compared<E: Engine>(
     alloc: Global,
     left: &Rule,

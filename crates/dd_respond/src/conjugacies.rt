@@ -1,4 +1,5 @@
-//! Answers to questions about conjugacies.
+//! Answers to questions about conjugacies. A conjugacy comes down to four box questions, its parts, numbered from 1. They are
+//! decided in turn, until one is answered NO.
 ghost use Rattle.std.specs.Prelude.{◌≡◌, ◌≤◌, ◌∷◌, ◌++◌, [], false, IfOk, OnOk, MatchOption};
 ghost use Rattle.dd_certificate.specs.Bounds.{IsWritable, IsWritableNumber, IsWritablePart};
 ghost use Rattle.dd_engines.specs.Rosters.{roster_seen};
@@ -20,15 +21,18 @@ use dd_question::Conjugacy;
 use dd_values::{Items, Limits};
 use std::alloc::{AllocError, Global};
 
-/// The questions answered so far, if none was answered NO: the radius and the steps of each YES, and whether one was left open.
+/// The answers so far, none of them NO.
 #[derive(Drop)]
 struct Findings {
+    /// The radius of each YES.
     radii: Items<u64>,
+    /// The steps of each YES.
     steps: Items<Items<Step>>,
+    /// Whether the limits left some question undecided.
     is_open: bool,
 }
 
-/// A question that was answered NO, by its number, with a configuration that shows it.
+/// The number of a question that was answered NO, with a configuration that shows it.
 #[derive(Drop)]
 struct Failed {
     number: u64,
@@ -36,6 +40,7 @@ struct Failed {
 }
 
 impl Findings {
+    /// No answers yet.
     fn new(alloc: Global) -> Findings
         ensures radii { result.radii ≡ [] }
         ensures steps { result.steps ≡ [] }
@@ -48,7 +53,7 @@ impl Findings {
         }
     }
 
-    /// Adds a question that was answered YES.
+    /// Adds a YES.
     fn push(&mut self, radius: u32, steps: Items<Step>) -> Result<(), AllocError>
         ensures radii { OnOk result (self.new.radii ≡ self.old.radii ++ radius ∷ []) }
         ensures steps { OnOk result (self.new.steps ≡ self.old.steps ++ steps ∷ []) }
@@ -60,7 +65,7 @@ impl Findings {
     }
 }
 
-/// Decides the question with this number. The roster is asked first.
+/// Decides the question with this number. The engines of the roster are asked first.
 fn part_decided<E: Engine>(
     alloc: Global,
     conjugacy: &Conjugacy,
@@ -82,7 +87,8 @@ fn part_decided<E: Engine>(
     }
 }
 
-/// The first question answered NO; later ones are not asked. If there is none, `findings` has the answers of all four.
+/// The first of the four questions that is answered NO. Later ones are not asked. If there is none, `findings` has the
+/// answers of all four.
 fn first_failed<E: Engine>(
     alloc: Global,
     conjugacy: &Conjugacy,
@@ -127,6 +133,7 @@ fn written_broken(alloc: Global, number: u64, periodic: &Periodic) -> Result<Ans
     })
 }
 
+/// The answer if no question is answered NO: CONJUGATE, or UNKNOWN if some question was left open.
 fn written_findings(findings: Findings) -> Answer
     ensures { result ≡ written_findings findings }
 {
@@ -141,7 +148,8 @@ fn written_findings(findings: Findings) -> Answer
     }
 }
 
-/// Decides, within the limits, whether two maps between two subshifts are inverse to each other. The roster is asked first.
+/// The answer to the question whether two maps between two subshifts are inverse to each other, within the limits. The
+/// roster is asked first.
 pub(crate) fn conjugate<E: Engine>(
     alloc: Global,
     conjugacy: &Conjugacy,

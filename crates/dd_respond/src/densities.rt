@@ -10,6 +10,7 @@ use dd_formula::Rule;
 use dd_strips::{strip_empty, strip_least};
 use std::alloc::{AllocError, Global};
 
+/// The answer that a least density gives.
 fn written_density(density: Density) -> Answer
     ensures { result ≡ written_density density }
 {
@@ -29,7 +30,8 @@ fn written_density(density: Density) -> Answer
     }
 }
 
-/// The least density of the configurations on a strip, or that there are none, each with its evidence.
+/// The least density of the configurations that live on a strip, or the answer that there are none. Both come with their
+/// evidence.
 pub(crate) fn least(
     alloc: Global,
     rule: &Rule,
@@ -42,7 +44,7 @@ pub(crate) fn least(
 {
     strip_least();
     strip_empty();
-    // This read brings in what the type guarantees.
+    // This call tells the proof what the type guarantees.
     let _nodes = rule.nodes();
     let density = least_density(alloc, rule, strip, weights)?;
     Ok(written_density(density))

@@ -11,6 +11,7 @@ use dd_formula::Rule;
 use dd_lattice::Position;
 use std::alloc::{AllocError, Global};
 
+/// The answer that a bound gives.
 fn written_bound(bound: Bound) -> Answer
     requires { IsSmallBound bound }
     ensures same { result ≡ written_bound bound }
@@ -25,7 +26,7 @@ fn written_bound(bound: Bound) -> Answer
     }
 }
 
-/// Why there is no bound; an error if memory ran out.
+/// The reason why there is no bound. `AllocError` if memory ran out.
 #[tactic(auto, using(crate::specs::Bounds::for_large, crate::specs::Bounds::for_overflow, crate::specs::Bounds::for_pivots))]
 fn reason_of(fault: DischargeFault) -> Result<Reason, AllocError>
     ensures reason { IfOk result (IsReasonOf fault) }
@@ -38,7 +39,7 @@ fn reason_of(fault: DischargeFault) -> Result<Reason, AllocError>
     }
 }
 
-/// The best bound with its evidence, or the reason why there is none.
+/// The best bound of a discharge with its evidence, or the reason why there is none.
 pub(crate) fn discharged(
     alloc: Global,
     rule: &Rule,

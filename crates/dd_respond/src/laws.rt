@@ -9,8 +9,8 @@ use dd_discharge::one_outcome;
 use dd_evidence::{one_list, one_starred};
 use dd_strips::one_density;
 
-/// Does nothing; its contract says that all right answers to a sound question within the same limits have the same first line.
-/// They differ only in their evidence.
+/// Does nothing. Its contract says that all right answers to a sound question within the same limits have the same first line of
+/// text. They differ only in their evidence.
 pub fn one_response()
     ensures { (limits : AnyLimits) (question : Asked) (a b : AnyAnswer) → IsSoundAsked limits question → IsRightTo limits question a →
         IsRightTo limits question b → SayTheSame a b }

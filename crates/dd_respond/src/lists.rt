@@ -17,7 +17,7 @@ pub(crate) fn listed(alloc: Global, rule: &Rule) -> Result<Answer, AllocError>
     ensures writable { IfOk result IsWritable }
 {
     lists_fit();
-    // This read brings in what the type guarantees.
+    // This call tells the proof what the type guarantees.
     let _nodes = rule.nodes();
     let patterns = forbidden_patterns(alloc, rule)?;
     Ok(Answer::List { patterns })

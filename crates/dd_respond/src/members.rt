@@ -29,7 +29,8 @@ fn written_cell(alloc: Global, dim: u32, cell: &Cell) -> Result<Items<i64>, Allo
     Ok(place)
 }
 
-/// Whether a configuration lives in a rule's subshift; if not, the first cell at which the rule is false.
+/// The answer whether a configuration lives in a rule's subshift. If it doesn't, the answer has the first cell at which the rule
+/// is false.
 #[tactic(auto, using(dd_evidence::specs::Answers::member_inside, dd_evidence::specs::Answers::member_outside))]
 pub(crate) fn member(alloc: Global, rule: &Rule, periodic: &Periodic) -> Result<Answer, AllocError>
     requires { Fits rule.now periodic.now }
@@ -40,7 +41,7 @@ pub(crate) fn member(alloc: Global, rule: &Rule, periodic: &Periodic) -> Result<
     match rule.member(periodic) {
         Membership::Inside => Ok(Answer::Inside),
         Membership::Outside(cell) => {
-            // Read for what their types keep.
+            // These calls tell the proof what the types guarantee.
             let _nodes = rule.nodes();
             let _symbols = periodic.symbols();
             let place = written_cell(alloc, rule.dim(), &cell)?;

@@ -17,7 +17,7 @@ pub(crate) fn smallest(alloc: Global, rule: &Rule) -> Result<Answer, AllocError>
     ensures writable { IfOk result IsWritable }
 {
     starred_fit();
-    // This read brings in what the type guarantees.
+    // This call tells the proof what the type guarantees.
     let _nodes = rule.nodes();
     let patterns = minimal_patterns(alloc, rule)?;
     Ok(Answer::Minimal { patterns })

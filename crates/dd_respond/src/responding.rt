@@ -1,4 +1,4 @@
-//! Questions answered one by one.
+//! The answer to a question, by its kind.
 ghost use Rattle.std.specs.Prelude.{IfOk, OnOk};
 ghost use Rattle.dd_certificate.specs.Bounds.{IsWritable};
 ghost use Rattle.dd_engines.specs.Rosters.{roster_seen};
@@ -65,7 +65,8 @@ fn by_kind<E: Engine>(
 
 /// The right answer to a question within its limits. An output can hold each of its numbers and lists.
 ///
-/// A box question goes to the roster as in `decide`. No other question asks an engine. The roster is kept.
+/// A question that comes down to box questions asks the roster, as in `decide`. No other question asks an engine. The sound
+/// engines stay in the roster.
 pub fn respond<E: Engine>(
     alloc: Global,
     question: &CheckedQuestion,

@@ -1,4 +1,4 @@
-//! Answers to the question how little a fundamental box can weigh.
+//! Answers to questions about the least weight of a fundamental box.
 ghost use Rattle.std.specs.Prelude.{◌≡◌, IfOk};
 ghost use Rattle.dd_certificate.specs.Bounds.{IsWritable};
 ghost use Rattle.dd_counter.specs.Least.{IsLeast};
@@ -12,7 +12,8 @@ use dd_counter::{LeastWeight, least_weight};
 use dd_formula::Rule;
 use std::alloc::{AllocError, Global};
 
-/// The least weight, with a configuration that has it and steps that refute smaller ones; or steps that refute that one lives.
+/// The answer that a least weight gives. It has a configuration of this weight, and steps that refute smaller weights. If no
+/// configuration lives in the rule's subshift, the answer has steps that refute that any does.
 fn written_weight(alloc: Global, found: LeastWeight) -> Result<Answer, AllocError>
     ensures { IfOk result (λ answer. answer ≡ written_weight found) }
 {
@@ -42,7 +43,7 @@ pub(crate) fn lightest(
     ensures writable { IfOk result IsWritable }
 {
     refutations_fit();
-    // This read brings in what the type guarantees.
+    // This call tells the proof what the type guarantees.
     let _nodes = rule.nodes();
     let found = least_weight(alloc, rule, periods, weights)?;
     written_weight(alloc, found)

@@ -30,7 +30,7 @@ same_mapped {Y} f g a (suc n) same =
     ap (λ y. y ∷ map f (range_with_len (a + 1) n)) (same a (omega arith) (omega arith))
     ∙ ap (λ (ys : List Y). g a ∷ ys) (same_mapped f g (a + 1) n (λ k low high. same k (omega (arith, low)) (omega (arith, high))))
 
--- and at all places of it but one
+-- two functions that agree on a range except at one number
 pub set_mapped : {Y : Type 0} (f g : ℕ → Y) (a n j : ℕ) (y : Y) → j < n → y ≡ g (a + j) → ((k : ℕ) → (k ≡ a + j → ⊥) → f k ≡ g k) → set (map f (range_with_len a n)) j y ≡ map g (range_with_len a n)
 set_mapped f g a zero j y below is same = absurd (omega (arith, below))
 set_mapped {Y} f g a (suc n) zero y below is same =
@@ -46,7 +46,7 @@ kept_if : (b : Bool) (xs : List Cell) (c : Cell) → b ≡ false → xs ≡ xs +
 kept_if true xs c h = absurd (false≢true (sym h))
 kept_if false xs c h = sym (append-nil xs)
 
--- the cells of each other number are left as they are
+-- the list of each other number stays as it is
 pub chosen_left : (ns : List ℕ) (cs : List Cell) (k i : ℕ) → i < length ns → i < length cs → (get_or ns i 0 ≡ k → ⊥) →
     chosen (take i ns) (take i cs) k ≡ chosen (take (i + 1) ns) (take (i + 1) cs) k
 chosen_left ns cs k i h h' other =
@@ -55,7 +55,7 @@ chosen_left ns cs k i h h' other =
     kept_if (nat_eq (get_or ns i 0) k) (chosen (take i ns) (take i cs) k) (get_or cs i d) (ne_eqb (get_or ns i 0) k other)
     ∙ (sym (chosen_more ns cs k i d h h') ∙ ap (λ j. chosen (take j ns) (take j cs) k) next)
 
--- the list of its own number gets one more
+-- the list of a cell's own number gets this cell
 pub chosen_kept : (ns : List ℕ) (cs : List Cell) (k i : ℕ) (d : Cell) → i < length ns → i < length cs → get_or ns i 0 ≡ k →
     chosen (take i ns) (take i cs) k ++ get_or cs i d ∷ [] ≡ chosen (take (i + 1) ns) (take (i + 1) cs) k
 chosen_kept ns cs k i d h h' is =
@@ -63,7 +63,7 @@ chosen_kept ns cs k i d h h' is =
     ap (λ b. chosen (take i ns) (take i cs) k ++ cond b (get_or cs i d ∷ []) []) (sym (eq-eqb (get_or ns i 0) k is))
     ∙ (sym (chosen_more ns cs k i d h h') ∙ ap (λ j. chosen (take j ns) (take j cs) k) next)
 
--- one more cell in the list of its number
+-- the lists of all numbers, after one more cell is put into the list of its number
 pub put_in : (ns : List ℕ) (cs : List Cell) (n i number : ℕ) (d : Cell) (list pushed : List Cell) (old new : List (List Cell)) → i < length ns → i < length cs → number ≡ get_or ns i 0 → number < n →
     old ≡ map (chosen (take i ns) (take i cs)) (range_with_len 0 n) → list ≡ get_or old number list → d ≡ get_or cs i d → pushed ≡ list ++ d ∷ [] → new ≡ set old number pushed →
     new ≡ map (chosen (take (i + 1) ns) (take (i + 1) cs)) (range_with_len 0 n)
@@ -76,7 +76,7 @@ put_in ns cs n i number d list pushed old new h h' of below before lent at more 
     more ∙ (ap (λ (ds : List Cell). ds ++ d ∷ []) here ∙ (ap (λ e. f number ++ e ∷ []) at ∙ (chosen_kept ns cs number i d h h' (sym of) ∙ ap g none))) in
     is ∙ (ap (λ ls. set ls number pushed) before ∙ set_mapped f g 0 n number pushed below one (λ k apart. chosen_left ns cs k i h h' (λ e. apart (omega (arith, of, e)))))
 
--- a number past them is left out
+-- a cell whose number is past the range is left out
 pub left_out : (ns : List ℕ) (cs : List Cell) (n i : ℕ) (old new : List (List Cell)) → i < length ns → i < length cs → n ≤ get_or ns i 0 →
     old ≡ map (chosen (take i ns) (take i cs)) (range_with_len 0 n) → new ≡ old → new ≡ map (chosen (take (i + 1) ns) (take (i + 1) cs)) (range_with_len 0 n)
 left_out ns cs n i old new h h' past before is =

@@ -11,12 +11,12 @@ use Rattle.dd_rows.specs.{declared.fault.RowsFault.TheVariants.Memory, declared.
 use Rattle.dd_rows.specs.{Fillings.look_of, Fillings.fillings, Fillings.HasFewFillings, Patterns.patterns}
 use Rattle.dd_rows.specs.Programs.{rows, first_seen, greatest_weight_row, row_of, column_count, most_columns, most_rows, IsProgramOf, IsLargeProgram}
 use Rattle.dd_rows.specs.listing.{Levels.IsWord, Views.AreViews, Views.view_of}
-use Rattle.dd_rows.specs.listing.Sparse.{capped, asked_row}
+use Rattle.dd_rows.specs.listing.Sparse.{capped, required_row}
 use Rattle.dd_rows.specs.listing.Shown.{patterns_shown, rows_shown, IsProgramShown, IsLargeShown}
 use Rattle.dd_rows.specs.lemmas.Growing.{fillings_are}
 use Rattle.dd_boxes.specs.{Cells.box_cells, Boxes.origin}
 use Rattle.dd_numbered.specs.Numbering.{rank}
-use Rattle.dd_rows.proofs.RowLaws.{all_shown, all_asked}
+use Rattle.dd_rows.proofs.RowLaws.{all_shown, all_required}
 
 pub memory_fault : (fault : RowsFault) (P : Type 0) → fault ≡ Memory → OnLarge fault P
 memory_fault fault P is = subst (λ f. OnLarge f P) (sym is) tt
@@ -44,9 +44,9 @@ module _ (x : LocalRule) (radius margin : ℕ) (vs : List Place) (cs : List Cell
         let qs = patterns x radius vs cs in
         let first : capped (length v.givers) (length ps) most ≡ greatest_weight_row x ws vs qs =
         ap (λ n. capped n (length ps) most) givers_size ∙ (ap (λ rs. capped (length vs) (length rs) most) shown_are ∙ ap (capped (length vs) (length qs)) heaviest) in
-        let others : map (asked_row ps v ws) lists ≡ map (λ ss. row_of x ws radius vs qs (look_of cs ss)) (fillings x cs) =
-        ap (λ rs. map (asked_row rs v ws) lists) shown_are ∙ (ap (map (asked_row qs v ws)) listed ∙ all_asked x radius vs cs v are qs ws (fillings x cs)) in
-        ap first_seen (ap (λ (r : Row). r ∷ map (asked_row ps v ws) lists) first ∙ ap (λ (rs : List Row). greatest_weight_row x ws vs qs ∷ rs) others)
+        let others : map (required_row ps v ws) lists ≡ map (λ ss. row_of x ws radius vs qs (look_of cs ss)) (fillings x cs) =
+        ap (λ rs. map (required_row rs v ws) lists) shown_are ∙ (ap (map (required_row qs v ws)) listed ∙ all_required x radius vs cs v are qs ws (fillings x cs)) in
+        ap first_seen (ap (λ (r : Row). r ∷ map (required_row ps v ws) lists) first ∙ ap (λ (rs : List Row). greatest_weight_row x ws vs qs ∷ rs) others)
 
     pub program_from : IsGround x radius margin vs cs → HasFewFillings x cs → (p : Rows) → IsProgramShown v ws most lists p → IsProgramOf x ws radius margin vs p
     program_from ground few p shown = record {

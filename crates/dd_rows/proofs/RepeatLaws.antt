@@ -1,4 +1,4 @@
--- A filling whose views show what those of the last one show gives no new pattern and no new row.
+-- If the views show the same in a filling as in the last one, it shows no new pattern and requires no new row.
 use Rattle.std.proofs.Common.{◌≡◌, ◌<◌, ◌+◌, ℕ, zero, suc, Bool, true, false, cond, List, [], ◌∷◌, ◌++◌, length, get_or, map, take, refl, sym, ◌∙◌, ap, subst, inl, inr, arith}
 use Rattle.std.proofs.lemmas.Bool.{and_from, eq-eqb}
 use Rattle.std.proofs.lemmas.List.{append-nil, map-append, map_more, take_more}
@@ -14,7 +14,7 @@ use Rattle.dd_pattern.specs.Weight.{total_weight}
 use Rattle.dd_rows.specs.{declared.rows.Row.Row, declared.rows.Rows.Rows, declared.views.Views.Views, Patterns.in_lexicographic_order}
 use Rattle.dd_rows.specs.Programs.{add_row, is_same_row, first_seen, coefficients, column_count, most_columns, most_rows}
 use Rattle.dd_rows.specs.listing.Views.{symbols_at, patterns_seen, with_patterns}
-use Rattle.dd_rows.specs.listing.Sparse.{asked_row, asked_rows, capped}
+use Rattle.dd_rows.specs.listing.Sparse.{required_row, required_rows, capped}
 use Rattle.dd_rows.specs.listing.Shown.{patterns_shown, IsProgramShown, IsLargeShown}
 use Rattle.dd_rows.specs.listing.Repeats.{ShowAlike, EndsAlike, ShowsSame, HasKnown}
 use Rattle.dd_rows.proofs.SortedLists.{insert_present, insert_ascends, ascends_empty}
@@ -26,7 +26,7 @@ take_past [] (suc i) past = refl
 take_past (x ∷ xs) zero past = absurd (omega (arith, past))
 take_past (x ∷ xs) (suc i) past = ap (λ ys. x ∷ ys) (take_past xs i (omega (arith, past)))
 
--- ---- keys that are put in twice
+-- ---- keys that are inserted twice
 
 module _ {K : Type 0} {R : K → K → Ordering} (o : IsTotalOrder R) where
   -- an equal key stands in the list
@@ -79,7 +79,7 @@ module _ {K : Type 0} {R : K → K → Ordering} (o : IsTotalOrder R) where
   put_twice : (more ks : List K) → IsStrictlySortedBy R ks → fold (insert_key R) (fold (insert_key R) ks more) more ≡ fold (insert_key R) ks more
   put_twice more ks up = nothing_new more (fold (insert_key R) ks more) (all_ascend more ks up) (all_new more ks)
 
--- ---- a row that is put behind twice
+-- ---- a row that is appended twice
 
 same_row : (r : Row) → is_same_row r r ≡ true
 same_row r = and_from (pointwise int_eq r.coefficients r.coefficients) (nat_eq r.bound r.bound) ((signed_items r.coefficients r.coefficients).1 refl) (eq-eqb r.bound r.bound refl)
@@ -105,10 +105,10 @@ module _ (v : Views) where
       ∙ fold-append (insert_key (slice_cmp nat_cmp)) [] (flat_map (patterns_seen v) lists) (patterns_seen v ss)
 
   rows_push : (ps : List (List ℕ)) (ws : List ℕ) (most : ℕ) (lists : List (List ℕ)) (ss : List ℕ) →
-      first_seen (asked_rows ps v ws most (lists ++ ss ∷ [])) ≡ add_row (first_seen (asked_rows ps v ws most lists)) (asked_row ps v ws ss)
+      first_seen (required_rows ps v ws most (lists ++ ss ∷ [])) ≡ add_row (first_seen (required_rows ps v ws most lists)) (required_row ps v ws ss)
   rows_push ps ws most lists ss =
-      ap (λ (rs : List Row). first_seen (capped (length v.givers) (length ps) most ∷ rs)) (map-append (asked_row ps v ws) lists (ss ∷ []))
-      ∙ fold-append add_row [] (asked_rows ps v ws most lists) (asked_row ps v ws ss ∷ [])
+      ap (λ (rs : List Row). first_seen (capped (length v.givers) (length ps) most ∷ rs)) (map-append (required_row ps v ws) lists (ss ∷ []))
+      ∙ fold-append add_row [] (required_rows ps v ws most lists) (required_row ps v ws ss ∷ [])
 
   patterns_ascend : (lists : List (List ℕ)) → IsStrictlySortedBy (slice_cmp nat_cmp) (patterns_shown v lists)
   patterns_ascend lists = all_ascend nat_list_cmp_total (flat_map (patterns_seen v) lists) [] (ascends_empty (slice_cmp nat_cmp))
@@ -116,8 +116,8 @@ module _ (v : Views) where
   seen_alike : (ss ts : List ℕ) → ShowAlike v ss ts → patterns_seen v ss ≡ patterns_seen v ts
   seen_alike ss ts h = ap (λ q. q ∷ map (symbols_at ss) v.givers) h.origin ∙ ap (λ (qs : List (List ℕ)). symbols_at ts v.origin ∷ qs) h.givers
 
-  asked_alike : (ps : List (List ℕ)) (ws ss ts : List ℕ) → ShowAlike v ss ts → asked_row ps v ws ss ≡ asked_row ps v ws ts
-  asked_alike ps ws ss ts h =
+  required_alike : (ps : List (List ℕ)) (ws ss ts : List ℕ) → ShowAlike v ss ts → required_row ps v ws ss ≡ required_row ps v ws ts
+  required_alike ps ws ss ts h =
       let sides : coefficients ps (symbols_at ss v.origin) (map (symbols_at ss) v.givers) ≡ coefficients ps (symbols_at ts v.origin) (map (symbols_at ts) v.givers) =
       ap (λ out. coefficients ps out (map (symbols_at ss) v.givers)) h.origin ∙ ap (coefficients ps (symbols_at ts v.origin)) h.givers in
       let weight : total_weight ws (symbols_at ss v.centre) ≡ total_weight ws (symbols_at ts v.centre) = ap (total_weight ws) h.centre in
@@ -129,10 +129,10 @@ module _ (v : Views) where
   pub same_kept : (lists shown : List (List ℕ)) (ss : List ℕ) → ShowsSame v lists shown → ShowsSame v (lists ++ ss ∷ []) (shown ++ ss ∷ [])
   same_kept lists shown ss same = record {
     patterns = patterns_push shown ss ∙ (ap (λ ps. with_patterns ps (patterns_seen v ss)) same.patterns ∙ sym (patterns_push lists ss));
-    rows = λ ps ws most. rows_push ps ws most shown ss ∙ (ap (λ rs. add_row rs (asked_row ps v ws ss)) (same.rows ps ws most) ∙ sym (rows_push ps ws most lists ss));
+    rows = λ ps ws most. rows_push ps ws most shown ss ∙ (ap (λ rs. add_row rs (required_row ps v ws ss)) (same.rows ps ws most) ∙ sym (rows_push ps ws most lists ss));
   }
 
-  -- what the last one shows is there
+  -- what the last filling shows is there already
   patterns_there : (front : List (List ℕ)) (last ss : List ℕ) → ShowAlike v last ss →
       with_patterns (patterns_shown v (front ++ last ∷ [])) (patterns_seen v ss) ≡ patterns_shown v (front ++ last ∷ [])
   patterns_there front last ss alike =
@@ -141,11 +141,11 @@ module _ (v : Views) where
       ∙ (put_twice nat_list_cmp_total (patterns_seen v last) (patterns_shown v front) (patterns_ascend front) ∙ sym (patterns_push front last)))
 
   rows_there : (ps : List (List ℕ)) (ws : List ℕ) (most : ℕ) (front : List (List ℕ)) (last ss : List ℕ) → ShowAlike v last ss →
-      add_row (first_seen (asked_rows ps v ws most (front ++ last ∷ []))) (asked_row ps v ws ss) ≡ first_seen (asked_rows ps v ws most (front ++ last ∷ []))
+      add_row (first_seen (required_rows ps v ws most (front ++ last ∷ []))) (required_row ps v ws ss) ≡ first_seen (required_rows ps v ws most (front ++ last ∷ []))
   rows_there ps ws most front last ss alike =
-      ap (add_row (first_seen (asked_rows ps v ws most (front ++ last ∷ [])))) (sym (asked_alike ps ws last ss alike))
-      ∙ (ap (λ rs. add_row rs (asked_row ps v ws last)) (rows_push ps ws most front last)
-      ∙ (row_twice (first_seen (asked_rows ps v ws most front)) (asked_row ps v ws last) ∙ sym (rows_push ps ws most front last)))
+      ap (add_row (first_seen (required_rows ps v ws most (front ++ last ∷ [])))) (sym (required_alike ps ws last ss alike))
+      ∙ (ap (λ rs. add_row rs (required_row ps v ws last)) (rows_push ps ws most front last)
+      ∙ (row_twice (first_seen (required_rows ps v ws most front)) (required_row ps v ws last) ∙ sym (rows_push ps ws most front last)))
 
   pub same_skipped : (lists shown : List (List ℕ)) (ss : List ℕ) → ShowsSame v lists shown → EndsAlike v shown ss → ShowsSame v (lists ++ ss ∷ []) shown
   same_skipped lists shown ss same ends = record {
@@ -153,9 +153,9 @@ module _ (v : Views) where
         sym (ap (λ ls. with_patterns (patterns_shown v ls) (patterns_seen v ss)) ends.is ∙ (patterns_there ends.front ends.last ss ends.alike ∙ ap (patterns_shown v) (sym ends.is)))
         ∙ (ap (λ ps. with_patterns ps (patterns_seen v ss)) same.patterns ∙ sym (patterns_push lists ss));
     rows = λ ps ws most.
-        sym (ap (λ ls. add_row (first_seen (asked_rows ps v ws most ls)) (asked_row ps v ws ss)) ends.is
-        ∙ (rows_there ps ws most ends.front ends.last ss ends.alike ∙ ap (λ ls. first_seen (asked_rows ps v ws most ls)) (sym ends.is)))
-        ∙ (ap (λ rs. add_row rs (asked_row ps v ws ss)) (same.rows ps ws most) ∙ sym (rows_push ps ws most lists ss));
+        sym (ap (λ ls. add_row (first_seen (required_rows ps v ws most ls)) (required_row ps v ws ss)) ends.is
+        ∙ (rows_there ps ws most ends.front ends.last ss ends.alike ∙ ap (λ ls. first_seen (required_rows ps v ws most ls)) (sym ends.is)))
+        ∙ (ap (λ rs. add_row rs (required_row ps v ws ss)) (same.rows ps ws most) ∙ sym (rows_push ps ws most lists ss));
   }
 
   -- ---- the program
@@ -163,7 +163,7 @@ module _ (v : Views) where
   pub program_same : (ws : List ℕ) (most : ℕ) (lists shown : List (List ℕ)) (p : Rows) → ShowsSame v lists shown → IsProgramShown v ws most shown p → IsProgramShown v ws most lists p
   program_same ws most lists shown p same is = record {
     patterns_are = is.patterns_are ∙ same.patterns;
-    rows_are = is.rows_are ∙ (same.rows (patterns_shown v shown) ws most ∙ ap (λ ps. first_seen (asked_rows ps v ws most lists)) same.patterns);
+    rows_are = is.rows_are ∙ (same.rows (patterns_shown v shown) ws most ∙ ap (λ ps. first_seen (required_rows ps v ws most lists)) same.patterns);
     few_columns = is.few_columns;
     few_rows = is.few_rows;
   }
@@ -171,7 +171,7 @@ module _ (v : Views) where
   pub large_same : (ws : List ℕ) (most : ℕ) (lists shown : List (List ℕ)) → ShowsSame v lists shown → IsLargeShown v ws most shown → IsLargeShown v ws most lists
   large_same ws most lists shown same (inl wide) = inl (subst (λ ps. most_columns < column_count (length v.givers) (length ps)) same.patterns wide)
   large_same ws most lists shown same (inr many) =
-      inr (subst (λ (rs : List Row). most_rows < length rs) (same.rows (patterns_shown v shown) ws most ∙ ap (λ ps. first_seen (asked_rows ps v ws most lists)) same.patterns) many)
+      inr (subst (λ (rs : List Row). most_rows < length rs) (same.rows (patterns_shown v shown) ws most ∙ ap (λ ps. first_seen (required_rows ps v ws most lists)) same.patterns) many)
 
 -- ---- the loops
 

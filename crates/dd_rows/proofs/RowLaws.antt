@@ -1,4 +1,4 @@
--- What the views of a filling show are its patterns and its row.
+-- The views of a filling show its patterns and the row that it requires.
 use Rattle.std.proofs.Common.{◌≡◌, ◌<◌, ◌≤◌, ◌+◌, ◌*◌, ◌-◌, ◌^◌, min, mul-le-mul_left, ℕ, List, [], ◌∷◌, ◌++◌, length, get_or, map, take, drop, sym, ◌∙◌, ap, arith}
 use Rattle.std.proofs.lemmas.{List.take-append-drop, List.Concat.flat_map-append, List.Sums.fold-append, Simd.map-map}
 use Rattle.std.specs.{Prelude.unwrap_or, Prelude.slice_get, List.flat_map, List.range_with_len, Ordering.nat_cmp}
@@ -11,7 +11,7 @@ use Rattle.dd_rows.specs.{declared.views.Views.Views, Fillings.look_of}
 use Rattle.dd_rows.specs.Patterns.{pattern_at, givers, patterns_in, in_lexicographic_order}
 use Rattle.dd_rows.specs.Programs.{coefficients, row_of, column_count, most_columns}
 use Rattle.dd_rows.specs.listing.Views.{AreViews, view_of, symbols_at, patterns_seen, with_patterns}
-use Rattle.dd_rows.specs.listing.Sparse.{asked_row}
+use Rattle.dd_rows.specs.listing.Sparse.{required_row}
 use Rattle.dd_boxes.specs.{Cells.box_cells, Boxes.origin}
 use Rattle.dd_numbered.specs.Numbering.{rank}
 use Rattle.dd_rows.proofs.{Steps.flat_map_next, Collected.front_folded, SortedLists.insert_grows}
@@ -39,8 +39,8 @@ module _ (x : LocalRule) (radius : ℕ) (vs : List Place) (cs : List Cell) (v : 
       in_lexicographic_order (flat_map (patterns_seen v) fillings) ≡ in_lexicographic_order (flat_map (λ ss. patterns_in (box_cells x radius) vs (look_of cs ss)) fillings)
   all_shown fillings = ap in_lexicographic_order (flat_map_agree (patterns_seen v) (λ ss. patterns_in (box_cells x radius) vs (look_of cs ss)) patterns_shown fillings)
 
-  asked_is : (ps : List (List ℕ)) (ws ss : List ℕ) → asked_row ps v ws ss ≡ row_of x ws radius vs ps (look_of cs ss)
-  asked_is ps ws ss =
+  required_is : (ps : List (List ℕ)) (ws ss : List ℕ) → required_row ps v ws ss ≡ row_of x ws radius vs ps (look_of cs ss)
+  required_is ps ws ss =
       let box = box_cells x radius in
       let look = look_of cs ss in
       let sides : coefficients ps (symbols_at ss v.origin) (map (symbols_at ss) v.givers) ≡ coefficients ps (pattern_at box look origin) (givers box vs look) =
@@ -49,8 +49,8 @@ module _ (x : LocalRule) (radius : ℕ) (vs : List Place) (cs : List Cell) (v : 
       ap (total_weight ws) (ap (symbols_at ss) are.centre ∙ map-map (λ i. unwrap_or (slice_get ss i) 0) (λ a. rank cs (cell origin a)) (range_with_len 0 x.nodes)) in
       λ i. record { coefficients = sides i; bound = weight i }
 
-  pub all_asked : (ps : List (List ℕ)) (ws : List ℕ) (fillings : List (List ℕ)) → map (asked_row ps v ws) fillings ≡ map (λ ss. row_of x ws radius vs ps (look_of cs ss)) fillings
-  all_asked ps ws fillings = map_alike (asked_row ps v ws) (λ ss. row_of x ws radius vs ps (look_of cs ss)) (asked_is ps ws) fillings
+  pub all_required : (ps : List (List ℕ)) (ws : List ℕ) (fillings : List (List ℕ)) → map (required_row ps v ws) fillings ≡ map (λ ss. row_of x ws radius vs ps (look_of cs ss)) fillings
+  all_required ps ws fillings = map_alike (required_row ps v ws) (λ ss. row_of x ws radius vs ps (look_of cs ss)) (required_is ps ws) fillings
 
 -- the patterns of one filling more
 pub patterns_next : (f : List ℕ → List (List ℕ)) (lists : List (List ℕ)) (i : ℕ) (d : List ℕ) (old new : List (List ℕ)) → i < length lists →
@@ -60,7 +60,7 @@ patterns_next f lists i d old new below before at is =
     ∙ (sym (fold-append (insert_key (slice_cmp nat_cmp)) [] (flat_map f (take i lists)) (f d))
     ∙ ap in_lexicographic_order (ap (λ e. flat_map f (take i lists) ++ f e) at ∙ sym (flat_map_next f lists i d below))))
 
--- no fewer than those of the first fillings
+-- more fillings show no fewer patterns
 pub patterns_grow : (f : List ℕ → List (List ℕ)) (lists : List (List ℕ)) (n : ℕ) →
     length (in_lexicographic_order (flat_map f (take n lists))) ≤ length (in_lexicographic_order (flat_map f lists))
 patterns_grow f lists n =
@@ -69,7 +69,7 @@ patterns_grow f lists n =
     let front = front_folded (insert_key (slice_cmp nat_cmp)) (insert_grows (slice_cmp nat_cmp)) [] (flat_map f (take n lists)) (flat_map f (drop n lists)) in
     omega (arith, sizes, front)
 
--- too many columns so far
+-- too many columns so far are too many in the end
 pub columns_large : (v now all product : ℕ) → product ≡ min (v * now) (2 ^ 64 - 1) → 256 ≤ product → now ≤ all → most_columns < column_count v all
 columns_large v now all product is many more =
     let times = mul-le-mul_left v more in

@@ -17,7 +17,7 @@ use Rattle.dd_rows.specs.declared.{sparse.Exchange.Exchange, sparse.SparseRow.Sp
 use Rattle.dd_rows.specs.{declared.views.Views.Views, Patterns.pattern_number}
 use Rattle.dd_rows.specs.Programs.{one_at, coefficients, is_same_row, add_row, first_seen, most_rows}
 use Rattle.dd_rows.specs.listing.Views.{symbols_at}
-use Rattle.dd_rows.specs.listing.Sparse.{capped, exchange_of, entry, entries, dense, IsExchange, IsSparse, AreSparse, IsWithRow, exchanges_of, asked_row, asked_rows}
+use Rattle.dd_rows.specs.listing.Sparse.{capped, exchange_of, entry, entries, dense, IsExchange, IsSparse, AreSparse, IsWithRow, exchanges_of, required_row, required_rows}
 use Rattle.dd_rows.specs.lemmas.UnitLaws.{one_elsewhere}
 use Rattle.dd_pattern.specs.Weight.{total_weight}
 use Rattle.dd_rows.proofs.Collected.{folded_next, folded_large}
@@ -30,7 +30,7 @@ one_here k = ap (λ b. pos (cond b 1 0)) (eq-eqb k k refl)
 record Agree (p a b c d : ℕ) : Type 0 where
   at : (k : ℕ) → k < p → (one_at k a -ℤ one_at k b) ≡ (one_at k c -ℤ one_at k d)
 
--- a 1 that stands there is the other's
+-- where one difference is 1, so is the other
 same_one : (p a b c d : ℕ) → Agree p a b c d → a < p → (a ≡ b → ⊥) → a ≡ c
 same_one p a b c d agree below apart = elim (cases_eq a c) [
   | inl same ↦ same
@@ -60,7 +60,7 @@ same_first p a b c d agree most most' apart apart' = elim (cases_lt a p) [
 same_pair : (e f : Exchange) → e.gives ≡ f.gives → e.receives ≡ f.receives → e ≡ f
 same_pair e f given received = λ i. record { gives = given i; receives = received i }
 
--- a difference of two that differ is not 0 everywhere
+-- the exchange of two different patterns is not 0 everywhere
 some_one : (p c d : ℕ) → ((k : ℕ) → k < p → pos 0 ≡ (one_at k c -ℤ one_at k d)) → c ≤ p → d ≤ p → (c ≡ d → ⊥) → ⊥
 some_one p c d zeros most most' apart = elim (cases_lt c p) [
   | inl below ↦
@@ -137,7 +137,7 @@ list_any_in P f p q same [] all = refl
 list_any_in P f p q same (x ∷ xs) all =
     ap (λ b. b || list_any p (map f xs)) (same x (all_first P x xs all)) ∙ ap (λ b. q x || b) (list_any_in P f p q same xs (all_rest P x xs all))
 
--- a row more, among the rows that they stand for
+-- one row more
 module _ (v p : ℕ) (eq : SparseRow → SparseRow → Bool) (tells : (a b : SparseRow) → Decides (eq a b) (AreAlike a b)) where
   found_alike : (r : SparseRow) (rs : List SparseRow) → IsSparse v p r → AreSparse v p rs → list_any (is_same_row (dense p r)) (map (dense p) rs) ≡ list_any (eq r) rs
   found_alike r rs one all =
@@ -228,7 +228,7 @@ pub cap_stands : (v p most : ℕ) (r : SparseRow) → r.exchanges.items ≡ repl
 cap_stands v p most r is bound = λ i. record { coefficients = pos 1 ∷ ((ap (flat_map (entries p)) is ∙ all_zeros v p) i); bound = bound i }
 
 pub row_stands : (ps : List (List ℕ)) (v : Views) (ws ss : List ℕ) (r : SparseRow) → r.exchanges.items ≡ exchanges_of ps v ss → r.bound ≡ total_weight ws (symbols_at ss v.centre) →
-    dense (length ps) r ≡ asked_row ps v ws ss
+    dense (length ps) r ≡ required_row ps v ws ss
 row_stands ps v ws ss r is bound =
     let sides : (dense (length ps) r).coefficients ≡ coefficients ps (symbols_at ss v.origin) (map (symbols_at ss) v.givers) =
     ap (λ es. pos 1 ∷ flat_map (entries (length ps)) es) is ∙ exchanges_stand ps v ss in
@@ -260,26 +260,26 @@ module _ (ps : List (List ℕ)) (v : Views) (ws : List ℕ) (most : ℕ) where
   rows_begin old new cap none is bound w =
       w.rows ∙ (ap (λ rs. add_row (map (dense (length ps)) rs) (dense (length ps) cap)) none ∙ ap (λ (r : Row). r ∷ []) (cap_stands (length v.givers) (length ps) most cap is bound))
 
-  -- the first row alone is not too much
+  -- the first row alone is not too many
   pub first_fits : (old : List SparseRow) (cap : SparseRow) → old ≡ [] → most_rows < length (add_row (map (dense (length ps)) old) (dense (length ps) cap)) → ⊥
   first_fits old cap none many =
       let size : length (add_row (map (dense (length ps)) old) (dense (length ps) cap)) ≡ 1 = ap (λ rs. length (add_row (map (dense (length ps)) rs) (dense (length ps) cap))) none in
       omega (arith, size, many)
 
   pub rows_next : (lists : List (List ℕ)) (i : ℕ) (d : List ℕ) (old new : List SparseRow) (r : SparseRow) → i < length lists →
-      map (dense (length ps)) old ≡ fold add_row begun (map (asked_row ps v ws) (take i lists)) → d ≡ get_or lists i d → dense (length ps) r ≡ asked_row ps v ws d →
-      IsWithRow (length v.givers) (length ps) old r new → map (dense (length ps)) new ≡ fold add_row begun (map (asked_row ps v ws) (take (i + 1) lists))
+      map (dense (length ps)) old ≡ fold add_row begun (map (required_row ps v ws) (take i lists)) → d ≡ get_or lists i d → dense (length ps) r ≡ required_row ps v ws d →
+      IsWithRow (length v.givers) (length ps) old r new → map (dense (length ps)) new ≡ fold add_row begun (map (required_row ps v ws) (take (i + 1) lists))
   rows_next lists i d old new r below before at stands w =
-      folded_next add_row begun (asked_row ps v ws) lists i d (map (dense (length ps)) old) (map (dense (length ps)) new) below before at
+      folded_next add_row begun (required_row ps v ws) lists i d (map (dense (length ps)) old) (map (dense (length ps)) new) below before at
       (w.rows ∙ ap (add_row (map (dense (length ps)) old)) stands)
 
   pub rows_large : (lists : List (List ℕ)) (i : ℕ) (d : List ℕ) (old : List SparseRow) (r : SparseRow) → i < length lists →
-      map (dense (length ps)) old ≡ fold add_row begun (map (asked_row ps v ws) (take i lists)) → d ≡ get_or lists i d → dense (length ps) r ≡ asked_row ps v ws d →
-      most_rows < length (add_row (map (dense (length ps)) old) (dense (length ps) r)) → most_rows < length (first_seen (asked_rows ps v ws most lists))
+      map (dense (length ps)) old ≡ fold add_row begun (map (required_row ps v ws) (take i lists)) → d ≡ get_or lists i d → dense (length ps) r ≡ required_row ps v ws d →
+      most_rows < length (add_row (map (dense (length ps)) old) (dense (length ps) r)) → most_rows < length (first_seen (required_rows ps v ws most lists))
   rows_large lists i d old r below before at stands many =
       let new = add_row (map (dense (length ps)) old) (dense (length ps) r) in
-      folded_large add_row add_grows most_rows begun (asked_row ps v ws) lists (i + 1) new
-      (folded_next add_row begun (asked_row ps v ws) lists i d (map (dense (length ps)) old) new below before at (ap (add_row (map (dense (length ps)) old)) stands))
+      folded_large add_row add_grows most_rows begun (required_row ps v ws) lists (i + 1) new
+      (folded_next add_row begun (required_row ps v ws) lists i d (map (dense (length ps)) old) new below before at (ap (add_row (map (dense (length ps)) old)) stands))
       many
 
 -- what the test of two sparse rows tells

@@ -17,7 +17,7 @@ kept_one : {X : Type 0} (p : X → Bool) (b : Bool) (x : X) → filter p (cond b
 kept_one p true x = refl
 kept_one p false x = refl
 
--- what one symbol more gives
+-- the lists that one more symbol gives
 pub extended_one : (x : LocalRule) (q : List ℕ → Bool) (a : ℕ) (ss : List ℕ) (n : ℕ) →
     extended_below x q a ss (suc n)
     ≡ extended_below x q a ss n ++ cond (rule_allows x a n) (cond (q (ss ++ n ∷ [])) ((ss ++ n ∷ []) ∷ []) []) []
@@ -32,7 +32,7 @@ extended_one x q a ss n =
     ∙ (filter-append q (map f (filter p old)) (map f (filter p (n ∷ [])))
     ∙ ap (λ more. filter q (map f (filter p old)) ++ more) (ap (filter q) (one_or_none f (p n) n) ∙ kept_one q (p n) (f n)))))
 
--- a longer range gives no fewer
+-- a longer range of symbols gives no fewer lists
 pub extended_grows : (x : LocalRule) (q : List ℕ → Bool) (a : ℕ) (ss : List ℕ) (n k : ℕ) →
     length (extended_below x q a ss n) ≤ length (extended_below x q a ss (n + k))
 extended_grows x q a ss n zero =
@@ -57,7 +57,7 @@ extended_kept x q a ss new n m next allowed is kept =
     ∙ (ap (λ (ts : List ℕ). extended_below x q a ss n ++ cond (q ts) (ts ∷ []) []) (sym is)
     ∙ ap (λ b. extended_below x q a ss n ++ cond b (new ∷ []) []) kept)))
 
--- one that is cut
+-- one more symbol that is allowed, but with which the rule is false
 pub extended_cut : (x : LocalRule) (q : List ℕ → Bool) (a : ℕ) (ss new : List ℕ) (n m : ℕ) → m ≡ suc n → rule_allows x a n ≡ true → new ≡ ss ++ n ∷ [] →
     q new ≡ false → extended_below x q a ss m ≡ extended_below x q a ss n
 extended_cut x q a ss new n m next allowed is cut =
@@ -67,7 +67,7 @@ extended_cut x q a ss new n m next allowed is cut =
     ∙ (ap (λ (ts : List ℕ). extended_below x q a ss n ++ cond (q ts) (ts ∷ []) []) (sym is)
     ∙ (ap (λ b. extended_below x q a ss n ++ cond b (new ∷ []) []) cut ∙ append-nil (extended_below x q a ss n)))))
 
--- one that the node doesn't allow
+-- one more symbol that the node doesn't allow
 pub extended_barred : (x : LocalRule) (q : List ℕ → Bool) (a : ℕ) (ss : List ℕ) (n m : ℕ) → m ≡ suc n → rule_allows x a n ≡ false →
     extended_below x q a ss m ≡ extended_below x q a ss n
 extended_barred x q a ss n m next barred =
@@ -75,7 +75,7 @@ extended_barred x q a ss n m next barred =
     ∙ (extended_one x q a ss n
     ∙ (ap (λ b. extended_below x q a ss n ++ cond b (cond (q (ss ++ n ∷ [])) ((ss ++ n ∷ []) ∷ []) []) []) barred ∙ append-nil (extended_below x q a ss n)))
 
--- what the lists up to one give is no more than what all give
+-- the items of a list up to one of them give no more than all of them
 pub flat_map_grows : {X Y : Type 0} (f : X → List Y) (xs : List X) (i : ℕ) (d : X) → i < length xs → length (flat_map f (take i xs) ++ f (get_or xs i d)) ≤ length (flat_map f xs)
 flat_map_grows f xs i d below =
     let first = take (i + 1) xs in
@@ -92,7 +92,7 @@ pub flat_map_next : {X Y : Type 0} (f : X → List Y) (xs : List X) (i : ℕ) (d
 flat_map_next f xs i d below =
     ap (flat_map f) (take_more xs i d below) ∙ (flat_map-append f (take i xs) (get_or xs i d ∷ []) ∙ ap (λ ys. flat_map f (take i xs) ++ ys) (append-nil (f (get_or xs i d))))
 
--- too many lists of symbols already
+-- if there are too many lists with the symbols up to n, there are too many with all symbols
 pub extended_large : (x : LocalRule) (q : List ℕ → Bool) (a : ℕ) (ss new : List ℕ) (n m most : ℕ) (old next : List (List ℕ)) → n < m → rule_allows x a n ≡ true → new ≡ ss ++ n ∷ [] →
     q new ≡ true → next ≡ old ++ extended_below x q a ss n → length next ≡ most → most < length (old ++ extended_below x q a ss m)
 extended_large x q a ss new n m most old next below allowed is kept so_far full =

@@ -5,15 +5,15 @@ use Rattle.dd_lattice.specs.declared.position.Cell.{Cell}
 use Rattle.dd_formula.specs.LocalRule.{LocalRule}
 use Rattle.dd_boxes.specs.Cells.{cells_on}
 
--- D: the box of the radius, and for each vector v this box moved by -v
+-- the domain D: the centred box of the radius, and for each vector v this box moved by -v
 abbrev pub IsInDomain : ℕ → ℕ → List Place → PlaceSet
 IsInDomain d radius vs p = IsCentred d radius p ⊎ ((v : Place) × Contains vs v × IsCentred d radius (moved p v))
 
--- G: D grown by the margin along each active axis
+-- the ground G: D grown by the margin along each active axis
 abbrev pub IsInGround : ℕ → ℕ → ℕ → List Place → PlaceSet
 IsInGround d radius margin vs p = (q : Place) × IsInDomain d radius vs q × IsCentred d margin (seen_from q p)
 
--- the cells of G
+-- cs are the cells of G
 pub record IsGround (x : LocalRule) (radius margin : ℕ) (vs : List Place) (cs : List Cell) : Type 0 where
   pub positions : List Place
   pub region : IsRegionOf (IsInGround x.dimension radius margin vs) positions

@@ -6,7 +6,7 @@ use Rattle.dd_pattern.specs.{Reading.Look, Filling.filled, Filling.filling_look}
 use Rattle.dd_formula.specs.LocalRule.{LocalRule, rule_allows, is_true}
 use Rattle.dd_boxes.specs.Fillings.{place_fits}
 
--- the symbols of the cells, in their order
+-- the filling that gives the symbols ss to the cells cs, in order
 abbrev pub look_of : List Cell → List ℕ → Look
 look_of cs ss = filling_look (filled cs ss)
 
@@ -14,29 +14,31 @@ look_of cs ss = filling_look (filled cs ss)
 abbrev pub allowed_symbols : LocalRule → ℕ → List ℕ
 allowed_symbols x a = filter (rule_allows x a) (range_with_len 0 x.symbols)
 
--- all lists of symbols that the nodes of the cells allow
+-- all lists of symbols, one for each cell, that the nodes of the cells allow
 abbrev pub words : LocalRule → List Cell → List (List ℕ)
 words x [] = [] ∷ []
 words x (c ∷ cs) = flat_map (λ s. map (λ ss. s ∷ ss) (words x cs)) (allowed_symbols x c.node)
 
--- the rule is true at the place, if this fits
+-- whether the rule is true at the cell c, if c and all cells that the rule reads there have symbols
 abbrev pub is_true_if_it_fits : LocalRule → Look → Cell → Bool
 is_true_if_it_fits x look c = not (place_fits x look c) || is_true x c look
 
--- this holds at each place of the cells; no other place fits
+-- Whether this holds at each of the cells. It holds at any other cell, since that cell has no symbol itself.
 abbrev pub is_admissible : LocalRule → List Cell → List ℕ → Bool
 is_admissible x cs ss = list_all (is_true_if_it_fits x (look_of cs ss)) cs
 
+-- the admissible fillings of the cells
 abbrev pub fillings : LocalRule → List Cell → List (List ℕ)
 fillings x cs = filter (is_admissible x cs) (words x cs)
 
 abbrev pub most_fillings : ℕ
 most_fillings = 65536
 
--- the cells up to some number have too many fillings
+-- some prefix of the cells has too many fillings
 pub record HasManyFillings (x : LocalRule) (cs : List Cell) : Type 0 where
   pub cells : ℕ
   pub many : most_fillings < length (fillings x (take cells cs))
 
+-- no prefix of the cells has too many fillings
 abbrev pub HasFewFillings : LocalRule → List Cell → Type 0
 HasFewFillings x cs = (k : ℕ) → k ≤ length cs → length (fillings x (take k cs)) ≤ most_fillings

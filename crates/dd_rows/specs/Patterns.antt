@@ -1,4 +1,4 @@
--- The patterns around a position that sends along some vectors, and around those that send to it.
+-- The patterns around a position that gives along some vectors, and around those that give to it.
 use Rattle.std.specs.Prelude.{ℕ, List, [], ◌∷◌, map, unwrap_or}
 use Rattle.std.specs.{List.fold, List.flat_map, List.position_or_len, Ordering.nat_cmp, Ordering.is_eq, Cmp.Lexicographic.slice_cmp}
 use Rattle.std.specs.BTreeSet.{insert_key}
@@ -10,19 +10,19 @@ pub use Rattle.dd_boxes.specs.Boxes.{origin}
 use Rattle.dd_boxes.specs.Cells.{box_cells}
 use Rattle.dd_rows.specs.Fillings.{look_of, fillings}
 
--- the symbols of the box, moved to the position
+-- the pattern around the position p: the symbols of the box moved to p
 abbrev pub pattern_at : List Cell → Look → Place → List ℕ
 pattern_at box look p = map (λ c. unwrap_or (look (shifted p c)) 0) box
 
--- around the positions from which the origin receives: -v along the vector v
+-- The patterns around the positions from which the origin receives. Along the vector v it receives from -v.
 abbrev pub givers : List Cell → List Place → Look → List (List ℕ)
 givers box vs look = map (λ v. pattern_at box look (reversed v)) vs
 
--- around the origin, and around these
+-- the pattern around the origin, then those around the positions from which it receives
 abbrev pub patterns_in : List Cell → List Place → Look → List (List ℕ)
 patterns_in box vs look = pattern_at box look origin ∷ givers box vs look
 
--- lists of symbols in lexicographic order, each once
+-- the lists in lexicographic order, each once
 abbrev pub in_lexicographic_order : List (List ℕ) → List (List ℕ)
 in_lexicographic_order lists = fold (insert_key (slice_cmp nat_cmp)) [] lists
 
@@ -30,6 +30,6 @@ in_lexicographic_order lists = fold (insert_key (slice_cmp nat_cmp)) [] lists
 abbrev pub patterns : LocalRule → ℕ → List Place → List Cell → List (List ℕ)
 patterns x radius vs cs = in_lexicographic_order (flat_map (λ ss. patterns_in (box_cells x radius) vs (look_of cs ss)) (fillings x cs))
 
--- the number of a pattern among the patterns
+-- the index of the pattern q in the list
 abbrev pub pattern_number : List (List ℕ) → List ℕ → ℕ
 pattern_number ps q = position_or_len (λ p. is_eq (slice_cmp nat_cmp p q)) ps

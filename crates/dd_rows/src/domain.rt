@@ -1,4 +1,4 @@
-//! The domain of a discharge, grown by its margin.
+//! The cells whose fillings a discharge looks at. They are its ground: its domain, grown by its margin.
 ghost use Rattle.std.specs.Prelude.{◌≡◌, ◌<◌, ◌≤◌, IfOk, IfErr, [], All};
 ghost use Rattle.std.specs.List.Sorted.{IsStrictlySortedBy};
 ghost use Rattle.dd_values.specs.Bounds.{widest_radius};
@@ -17,7 +17,7 @@ use dd_topology::reversed;
 use dd_values::Items;
 use std::alloc::{AllocError, Global};
 
-/// The positions of the centred box.
+/// The positions of the centred box of the radius. It fails only if memory runs out.
 fn box_region(alloc: Global, dim: u32, radius: u32) -> Result<Region, RowsFault>
     requires least { 1 ≤ dim }
     requires most { dim ≤ 3 }
@@ -27,13 +27,15 @@ fn box_region(alloc: Global, dim: u32, radius: u32) -> Result<Region, RowsFault>
     ensures memory { IfErr result (λ fault. fault ≡ RowsFault.Memory) }
 {
     let Some(bounds) = centred_box(dim, radius) else {
+        // Never taken: the radius is at most 3.
         return Err(RowsFault::Memory);
     };
     let region = positions(alloc, &bounds)?;
     Ok(region)
 }
 
-/// The box of the radius, and this box moved by the opposite of each vector.
+/// The domain: the centred box of the radius, and this box moved by the opposite of each vector. It fails only if memory
+/// runs out.
 fn domain(alloc: Global, dim: u32, radius: u32, vectors: &[Position]) -> Result<Region, RowsFault>
     requires least { 1 ≤ dim }
     requires most { dim ≤ 3 }
@@ -48,7 +50,7 @@ fn domain(alloc: Global, dim: u32, radius: u32, vectors: &[Position]) -> Result<
         let moved = match around.shifted(alloc, &reversed(vector)) {
             Ok(moved) => moved,
             Err(LatticeFault::Memory) => return Err(RowsFault::Memory),
-            // Positions of the box lie within 3 of the origin, and vectors reach 4.
+            // On each axis, positions of the box lie within 3 of the origin, and vectors reach at most 4.
             Err(LatticeFault::Range) => unreachable!(),
         };
         all = all.union(alloc, &moved)?;
@@ -56,7 +58,7 @@ fn domain(alloc: Global, dim: u32, radius: u32, vectors: &[Position]) -> Result<
     Ok(all)
 }
 
-/// The cells of a region, in cell order.
+/// The cells at the positions of a region, in cell order.
 fn cells_on(alloc: Global, nodes: u32, positions: &[Position]) -> Result<Items<Cell>, AllocError>
     ensures { IfOk result (λ cells. cells ≡ cells_on nodes positions.now) }
 {
@@ -72,7 +74,7 @@ fn cells_on(alloc: Global, nodes: u32, positions: &[Position]) -> Result<Items<C
     Ok(cells)
 }
 
-/// The cells of the box of the radius, in cell order.
+/// The cells of the centred box of the radius, in cell order. It fails only if memory runs out.
 pub(crate) fn box_cells(alloc: Global, rule: &Rule, radius: u32) -> Result<Items<Cell>, RowsFault>
     requires { radius ≤ widest_radius }
     ensures cells { IfOk result (λ cells. cells ≡ box_cells rule.now radius) }
@@ -85,7 +87,7 @@ pub(crate) fn box_cells(alloc: Global, rule: &Rule, radius: u32) -> Result<Items
     Ok(cells)
 }
 
-/// The cells of the domain grown by the margin, in cell order. It fails only if memory runs out.
+/// The ground: the cells of the domain grown by the margin, in cell order. It fails only if memory runs out.
 pub fn ground(
     alloc: Global,
     rule: &Rule,
@@ -108,7 +110,7 @@ pub fn ground(
     let region = match near.grow(alloc, dim, margin) {
         Ok(region) => region,
         Err(LatticeFault::Memory) => return Err(RowsFault::Memory),
-        // Positions of the domain lie within 7 of the origin.
+        // On each axis, positions of the domain lie within 7 of the origin, and the margin is at most 3.
         Err(LatticeFault::Range) => unreachable!(),
     };
     let positions = region.list();

@@ -1,4 +1,4 @@
-//! Why a rule has no program along some vectors.
+//! Why there is no program of a rule along some vectors.
 ghost use Rattle.std.specs.Prelude.{◌≡◌};
 
 use std::alloc::AllocError;

@@ -1,5 +1,7 @@
-//! The linear program of a rule along some vectors: the domain on which the rule is discharged, its admissible fillings, and the
-//! patterns and distinct rows that they give.
+//! The linear program of a discharge. Each position first holds the weight of its symbols. Along each of some vectors it gives
+//! an amount that depends on the pattern around it. The program seeks amounts with which the least that any position then
+//! holds is as great as possible. This crate makes the program. It lists the cells around the origin that matter, and their
+//! admissible fillings. From these come the patterns that they show, and the distinct rows that they require.
 #![tactic(auto, using(std::proofs::lemmas::Grind::common_steps))]
 
 mod domain;

@@ -1,4 +1,4 @@
-//! Patterns: the symbols of a box around a position, and lists of distinct ones in lexicographic order.
+//! Patterns: the symbols of a box around a position; and lists of distinct patterns in lexicographic order.
 ghost use Rattle.std.specs.Prelude.{◌≡◌, ◌≤◌, ◌∷◌, [], Some, length, nat_eq, IfOk, OnOk};
 ghost use Rattle.std.specs.Ordering.{nat_cmp};
 ghost use Rattle.std.specs.Cmp as comparisons;
@@ -66,7 +66,7 @@ impl Ord for Pattern {
 }
 
 impl Pattern {
-    /// No symbols. It takes no memory.
+    /// The pattern without symbols. It allocates nothing.
     pub(crate) fn new(alloc: Global) -> Pattern
         ensures { result ≡ [] }
     {
@@ -75,19 +75,20 @@ impl Pattern {
         }
     }
 
-    /// Replaces its symbols by those with these numbers, and keeps its memory.
+    /// Replaces the pattern's symbols by those of the cells with these numbers. Its memory is used again.
     pub(crate) fn read(&mut self, symbols: &[u32], numbers: &[usize]) -> Result<(), AllocError>
         ensures { OnOk result (self.new ≡ symbols_at symbols.now numbers.now) }
     {
         self.symbols.clear();
         for number in numbers {
-            // No cell that is looked for lies outside those that have a symbol.
+            // Each of these cells has a symbol, so the 0 is never taken.
             self.symbols
                 .push(symbols.get(*number).copied().unwrap_or(0))?;
         }
         Ok(())
     }
 
+    /// Its symbols, in cell order.
     pub(crate) fn symbols(&self) -> &[u32]
         ensures { result.now ≡ self.now }
     {
@@ -115,7 +116,7 @@ impl Model for Patterns {
 }
 
 impl Patterns {
-    /// No patterns. It takes no memory.
+    /// The empty list. It allocates nothing.
     pub(crate) fn new(alloc: Global) -> Patterns
         ensures { result ≡ [] }
     {
@@ -124,13 +125,14 @@ impl Patterns {
         }
     }
 
+    /// How many patterns there are.
     pub(crate) fn len(&self) -> usize
         ensures { result ≡ length self.now }
     {
         self.list.len()
     }
 
-    /// Inserts the pattern at its place, unless it is there.
+    /// Inserts the pattern at its place, unless it is in the list.
     pub(crate) fn insert(&mut self, alloc: Global, pattern: &Pattern) -> Result<(), AllocError>
         ensures { OnOk result (self.new ≡ insert_key (slice_cmp nat_cmp) self.old pattern.now) }
     {
@@ -144,7 +146,7 @@ impl Patterns {
         }
     }
 
-    /// The number of the pattern among them, or as many as there are.
+    /// The index of the pattern in the list, or the list's length if it is not in it.
     pub(crate) fn number(&self, pattern: &Pattern) -> usize
         ensures { result ≡ pattern_number self.now pattern.now }
     {

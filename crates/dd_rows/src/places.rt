@@ -1,4 +1,5 @@
-//! The rule at places of a list of cells, as formulas over the cells' symbols.
+//! The rule at some places, as formulas over the symbols of a list of cells. A place is one of the cells; a cell's number is
+//! its index in the list.
 ghost use Rattle.std.specs.Prelude.{◌≡◌, ◌<◌, IfOk};
 ghost use Rattle.std.specs.List.Sorted.{IsStrictlySortedBy, IsStrictlySortedBy-prop};
 ghost use Rattle.dd_lattice.specs.Order.{cell_cmp};
@@ -11,7 +12,7 @@ use dd_numbered::{Numbered, Numbers, rank};
 use dd_values::Items;
 use std::alloc::{AllocError, Global};
 
-/// Cells in cell order, and a position from which others are counted.
+/// Gives numbers to cells that are named relative to the position `at`: their indices in `cells`, which is in cell order.
 #[derive(Drop)]
 struct Near<'a> {
     cells: &'a [Cell],
@@ -41,7 +42,7 @@ impl Numbers for Near<'_> {
     }
 }
 
-/// The rule at a place, over the symbols of the cells.
+/// The rule at the place, over the symbols of the cells.
 fn formula_at(
     alloc: Global,
     rule: &Rule,

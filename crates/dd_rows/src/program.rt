@@ -8,7 +8,7 @@ ghost use Rattle.dd_rows.specs.Faults.{OnLarge};
 ghost use Rattle.dd_rows.specs.Patterns.{in_lexicographic_order};
 ghost use Rattle.dd_rows.specs.Programs.{IsProgramOf, IsRowsFault, add_row, first_seen, column_count, most_columns, most_rows};
 ghost use Rattle.dd_rows.specs.listing.Views.{symbols_at, patterns_seen, with_patterns};
-ghost use Rattle.dd_rows.specs.listing.Sparse.{dense, exchanges_of, asked_row, asked_rows, IsSparse, AreSparse, IsWithRow};
+ghost use Rattle.dd_rows.specs.listing.Sparse.{dense, exchanges_of, required_row, required_rows, IsSparse, AreSparse, IsWithRow};
 ghost use Rattle.dd_rows.specs.listing.Shown.{IsProgramShown, IsLargeShown};
 
 use crate::domain::ground;
@@ -29,10 +29,10 @@ use std::alloc::{AllocError, Global};
 /// The greatest number of columns of a program.
 const MOST_COLUMNS: usize = 256;
 
-/// The greatest number of rows.
+/// The greatest number of rows of a program.
 const MOST_ROWS: usize = 2_048;
 
-/// Adds the patterns that one filling shows.
+/// Inserts the patterns that one filling shows. Each is first written to `seen`.
 fn add_patterns(
     alloc: Global,
     symbols: &[u32],
@@ -51,7 +51,7 @@ fn add_patterns(
     Ok(())
 }
 
-/// The patterns that the fillings show. The search for them ends once they give too many columns.
+/// The patterns that the fillings show. The call stops once there are too many columns.
 fn all_patterns(
     alloc: Global,
     fillings: &[Items<u32>],
@@ -74,8 +74,8 @@ fn all_patterns(
     Ok(patterns)
 }
 
-/// The row that a filling requires.
-fn asked_row(
+/// The row that a filling requires. Each of its patterns is first written to `seen`.
+fn required_row(
     alloc: Global,
     symbols: &[u32],
     views: &Views,
@@ -88,14 +88,14 @@ fn asked_row(
     requires small { All (λ w. w ≤ most_weight) weights.now }
     requires nodes { length views.now.centre ≤ 4 }
     ensures exchanges { IfOk result (λ row. row.exchanges.items ≡ exchanges_of patterns.now views.now symbols.now) }
-    ensures row { IfOk result (λ row. dense (length patterns.now) row ≡ asked_row patterns.now views.now weights.now symbols.now) }
+    ensures row { IfOk result (λ row. dense (length patterns.now) row ≡ required_row patterns.now views.now weights.now symbols.now) }
 {
     let list = exchanges(alloc, symbols, views, patterns, seen)?;
     seen.read(symbols, views.centre.as_slice())?;
     Ok(SparseRow::new(list, weight_of(seen.symbols(), weights)))
 }
 
-/// Adds a row after the others, unless it is there.
+/// Appends a row, unless it is among the rows.
 fn add_row(rows: &mut IndexSet<SparseRow>, row: SparseRow) -> Result<(), RowsFault>
     ensures ok { (vectors : ℕ) → (patterns : ℕ) → AreSparse vectors patterns rows.old.keys → IsSparse vectors patterns row →
         OnOk result (IsWithRow vectors patterns rows.old.keys row rows.new.keys) }
@@ -113,8 +113,8 @@ fn add_row(rows: &mut IndexSet<SparseRow>, row: SparseRow) -> Result<(), RowsFau
     Ok(())
 }
 
-/// The distinct rows that the fillings require, after the one that no position holds more than the heaviest. The
-/// search for them ends once there are too many.
+/// The distinct rows that the fillings require, after a first row. This says that column 0 is at most `heaviest`, the greatest
+/// weight that a position can have. The call stops once there are too many rows.
 fn distinct_rows(
     alloc: Global,
     fillings: &[Items<u32>],
@@ -128,17 +128,17 @@ fn distinct_rows(
     requires small { All (λ w. w ≤ most_weight) weights.now }
     requires nodes { length views.now.centre ≤ 4 }
     ensures ok { IfOk result (λ rows. map (dense (length patterns.now)) rows.keys
-        ≡ first_seen (asked_rows patterns.now views.now weights.now heaviest fillings.now)) }
+        ≡ first_seen (required_rows patterns.now views.now weights.now heaviest fillings.now)) }
     ensures few { IfOk result (λ rows. length rows.keys ≤ most_rows) }
     ensures err { IfErr result (λ fault. OnLarge fault
-        (most_rows < length (first_seen (asked_rows patterns.now views.now weights.now heaviest fillings.now)))) }
+        (most_rows < length (first_seen (required_rows patterns.now views.now weights.now heaviest fillings.now)))) }
 {
     let cap = SparseRow::cap(alloc, views.givers.len(), heaviest)?;
     let mut seen = Pattern::new(alloc);
     let mut rows = IndexSet::new(alloc);
     add_row(&mut rows, cap)?;
     for symbols in fillings {
-        let row = asked_row(
+        let row = required_row(
             alloc,
             symbols.as_slice(),
             views,
@@ -166,6 +166,7 @@ fn dense_rows(
     Ok(list)
 }
 
+/// The greatest of the weights, or 0 if there is none.
 fn greatest_weight(weights: &[u32]) -> u32
     ensures { result ≡ greatest weights.now }
 {
@@ -176,7 +177,7 @@ fn greatest_weight(weights: &[u32]) -> u32
     most
 }
 
-/// The program of a list of fillings: the patterns that they show, and the distinct rows that they require.
+/// The program of these fillings: the patterns that they show, and the distinct rows that they require.
 fn program_listed(
     alloc: Global,
     fillings: &[Items<u32>],
@@ -199,7 +200,7 @@ fn program_listed(
     })
 }
 
-/// The program of the fillings, made from those whose views show something new.
+/// The same program, made faster: repeated fillings are left out first.
 fn program_shown(
     alloc: Global,
     fillings: &[Items<u32>],
@@ -218,11 +219,13 @@ fn program_shown(
     program_listed(alloc, shown.as_slice(), views, weights, heaviest)
 }
 
-/// The program of a rule along the vectors, for a domain of the radius grown by the margin. Each symbol has a weight.
+/// The program of a rule along the vectors, for the domain of the radius, grown by the margin. There is one weight for each
+/// symbol.
 ///
 /// # Errors
-/// `Large` exactly if a prefix of the cells of the grown domain has more than 65,536 admissible fillings, or the
-/// program has more than 256 columns or 2,048 rows; else `Memory`.
+/// - `Large` if a prefix of the cells of the grown domain has more than 65,536 admissible fillings, or the program has more
+///   than 256 columns or 2,048 rows. There is no program then.
+/// - `Memory` if memory ran out.
 pub fn program_of(
     alloc: Global,
     rule: &Rule,

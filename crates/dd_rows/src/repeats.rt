@@ -1,4 +1,5 @@
-//! Fillings whose views show nothing new: in lexicographic order many neighbours differ only where no view reads them.
+//! Leaves out fillings whose views show nothing new. In lexicographic order, many neighbouring fillings differ only where no
+//! view reads them.
 ghost use Rattle.std.specs.Prelude.{◌≡◌, ℕ, map, unwrap_or, slice_get, IfOk, IsTrue};
 ghost use Rattle.dd_rows.specs.listing.Views.{symbols_at};
 ghost use Rattle.dd_rows.specs.listing.Repeats.{ShowAlike, EndsAlike, ShowsSame, HasKnown};
@@ -7,7 +8,7 @@ use crate::views::Views;
 use dd_values::Items;
 use std::alloc::{AllocError, Global};
 
-/// The symbol with the number, or 0 past the end.
+/// The symbol of the cell with this number, or 0 past the end.
 fn symbol_at(symbols: &[u32], number: usize) -> u32
     ensures { result ≡ unwrap_or (slice_get symbols.now number) 0 }
 {
@@ -18,7 +19,7 @@ fn symbol_at(symbols: &[u32], number: usize) -> u32
     }
 }
 
-/// Whether the symbols with these numbers are the same.
+/// Whether the two fillings have the same symbols at the cells with these numbers.
 fn are_same(one: &[u32], other: &[u32], numbers: &[usize]) -> bool
     ensures { IsTrue result → symbols_at one.now numbers.now ≡ symbols_at other.now numbers.now }
 {
@@ -32,7 +33,7 @@ fn are_same(one: &[u32], other: &[u32], numbers: &[usize]) -> bool
     true
 }
 
-/// Whether the symbols with each of these lists of numbers are the same.
+/// Whether the two fillings have the same symbols at the cells with the numbers of each list.
 fn are_all_same(one: &[u32], other: &[u32], lists: &[Items<usize>]) -> bool
     ensures { IsTrue result → map (symbols_at one.now) lists.now ≡ map (symbols_at other.now) lists.now }
 {
@@ -44,7 +45,7 @@ fn are_all_same(one: &[u32], other: &[u32], lists: &[Items<usize>]) -> bool
     true
 }
 
-/// Whether the views show the same in both.
+/// Whether the views show the same in both fillings.
 fn show_alike(one: &[u32], other: &[u32], views: &Views) -> bool
     ensures { IsTrue result → ShowAlike views.now one.now other.now }
 {
@@ -57,7 +58,7 @@ fn show_alike(one: &[u32], other: &[u32], views: &Views) -> bool
     are_all_same(one, other, views.givers.as_slice())
 }
 
-/// Whether the views show the same in the last filling.
+/// Whether the views show the same in the last of the fillings `shown` as in the filling `symbols`.
 fn ends_alike(shown: &[Items<u32>], symbols: &[u32], views: &Views) -> bool
     ensures { IsTrue result → EndsAlike views.now shown.now symbols.now }
 {
@@ -67,7 +68,8 @@ fn ends_alike(shown: &[Items<u32>], symbols: &[u32], views: &Views) -> bool
     }
 }
 
-/// The fillings without those whose views show the same as in the one before. They give the same patterns and rows.
+/// The fillings without those in which the views show the same as in the filling before. They show the same patterns and
+/// require the same rows.
 pub(crate) fn without_repeats(
     alloc: Global,
     fillings: &[Items<u32>],

@@ -1,4 +1,5 @@
-//! The search for fillings: cell by cell, it finds all fillings of the first cells.
+//! The search for fillings. Level by level, it finds all admissible fillings of the first cells, with one cell more in each
+//! level. A cell's number is its index in the list of cells.
 ghost use Rattle.std.specs.Prelude.{◌≡◌, ◌<◌, ◌≤◌, ◌+◌, ◌++◌, [], ◌∷◌, length, map, IfOk, OnOk, IfErr};
 ghost use Rattle.std.specs.List.{flat_map, range_with_len};
 ghost use Rattle.std.specs.List.Sorted.{IsStrictlySortedBy};
@@ -19,7 +20,7 @@ use dd_numbered::{Numbered, all_true, rank};
 use dd_values::Items;
 use std::alloc::{AllocError, Global};
 
-/// The greatest number of admissible fillings of the first cells.
+/// The greatest number of fillings in a level.
 const MOST_FILLINGS: usize = 65_536;
 
 /// Appends one symbol.
@@ -30,7 +31,8 @@ fn write_symbol(longer: &mut Vec<u32>, symbol: u32) -> Result<(), AllocError>
     Ok(())
 }
 
-/// Adds each list of the symbols and one more for which the formulas are true. The lists are first written into `longer`.
+/// Appends to `next` the list `symbols` with one more symbol at its end, for each such symbol that the node allows and with
+/// which the formulas are true. Each list is first written to `longer`.
 fn extend(
     alloc: Global,
     rule: &Rule,
@@ -64,7 +66,7 @@ fn extend(
     Ok(())
 }
 
-/// The fillings of one more cell.
+/// The next level, with one more cell, whose node is `node`.
 fn next_level(
     alloc: Global,
     rule: &Rule,
@@ -93,7 +95,8 @@ fn next_level(
     Ok(next)
 }
 
-/// For each of the cells, the greatest among its number and those of the cells that the rule reads there.
+/// For each cell, its last number: the greatest among its own number and those of the cells that the rule reads there. The
+/// rule can be tested at the cell once the cell with this number has a symbol.
 fn last_numbers(alloc: Global, rule: &Rule, cells: &[Cell]) -> Result<Vec<usize>, AllocError>
     requires ascending { IsStrictlySortedBy cell_cmp cells.now }
     requires nodes { AreOf rule.now cells.now }
@@ -107,7 +110,7 @@ fn last_numbers(alloc: Global, rule: &Rule, cells: &[Cell]) -> Result<Vec<usize>
     Ok(numbers)
 }
 
-/// The greatest among the number of the cell and those of the cells that the rule reads there.
+/// The last number of one cell.
 fn last_number(rule: &Rule, cells: &[Cell], cell: &Cell) -> usize
     requires ascending { IsStrictlySortedBy cell_cmp cells.now }
     requires node { cell.now.node < rule.now.nodes }
@@ -121,7 +124,8 @@ fn last_number(rule: &Rule, cells: &[Cell], cell: &Cell) -> usize
     last
 }
 
-/// The number of a cell that is read at a cell.
+/// The number of a cell that the rule reads at a cell, where `read` is relative to the cell's position. If it is not one of
+/// the cells, the result is the length of their list.
 pub(crate) fn number_of_read(cells: &[Cell], cell: &Cell, read: &Cell) -> usize
     requires ascending { IsStrictlySortedBy cell_cmp cells.now }
     requires near { AreInRange cells.now }
@@ -139,7 +143,7 @@ pub(crate) fn number_of_read(cells: &[Cell], cell: &Cell, read: &Cell) -> usize
     }
 }
 
-/// A number of empty lists.
+/// A list of `count` empty lists.
 fn empty_lists(alloc: Global, count: usize) -> Result<Vec<Items<Cell>>, AllocError>
     ensures { IfOk result (λ lists. lists.items ≡ map (chosen [] []) (range_with_len 0 count)) }
 {
@@ -150,7 +154,7 @@ fn empty_lists(alloc: Global, count: usize) -> Result<Vec<Items<Cell>>, AllocErr
     Ok(lists)
 }
 
-/// For each number, the cells that have it, by the number of each cell.
+/// For each number `k` below the length of the list, the cells `cells[i]` with `numbers[i] == k`.
 fn places_by_number(
     alloc: Global,
     numbers: &[usize],
@@ -170,11 +174,12 @@ fn places_by_number(
     Ok(places)
 }
 
-/// All fillings of the cells with symbols that their nodes allow, under which the rule is true at each place that fits, in
-/// the lexicographic order of their symbols.
+/// All admissible fillings of the cells, in the lexicographic order of their symbols. Each symbol is allowed by its node, and
+/// the rule is true at each of the cells where all cells that it reads have symbols.
 ///
 /// # Errors
-/// `Large` if a prefix of the cells has more than 65,536 of them; else `Memory`.
+/// - `Large` if a prefix of the cells has more than 65,536 admissible fillings.
+/// - `Memory` if memory ran out.
 pub fn fillings(alloc: Global, rule: &Rule, cells: &[Cell]) -> Result<Items<Items<u32>>, RowsFault>
     requires ascending { IsStrictlySortedBy cell_cmp cells.now }
     requires nodes { AreOf rule.now cells.now }

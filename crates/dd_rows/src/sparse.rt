@@ -1,5 +1,5 @@
-//! Rows by what they say along each vector. Along each vector at most two of a row's coefficients are not 0, so a few
-//! numbers tell rows apart.
+//! Rows in a sparse form. Along each vector at most two of a row's coefficients are not 0, so a few numbers
+//! describe a row.
 ghost use Rattle.std.specs.Prelude.{◌≡◌, ◌++◌, ◌∷◌, [], pos, None, replicate, length, map, IfOk, OnOk};
 ghost use Rattle.dd_pattern.specs.Weight.{total_weight};
 ghost use Rattle.dd_rows.specs.Patterns.{pattern_number};
@@ -12,21 +12,21 @@ use crate::views::Views;
 use dd_values::Items;
 use std::alloc::{AllocError, Global};
 
-/// The numbers of the patterns by which the origin sends along a vector and receives along it, if these differ.
+/// The numbers of two different patterns: the one by which the origin gives along a vector, and the one by which it receives.
 #[derive(Clone, Copy, PartialEq, Eq, Hash)]
 pub(crate) struct Exchange {
     gives: usize,
     receives: usize,
 }
 
-/// A row: for each vector what is exchanged along it, and the right side.
+/// A row: for each vector what the origin exchanges along it, and the bound. `None` stands for two equal patterns.
 #[derive(PartialEq, Eq, Hash, Drop)]
 pub(crate) struct SparseRow {
     exchanges: Vec<Option<Exchange>>,
     bound: u64,
 }
 
-/// The exchange of two patterns. If they are the same, the amounts sent and received cancel.
+/// The exchange of two patterns. If they are equal, the amounts that are given and received cancel.
 fn exchange_between(gives: usize, receives: usize) -> Option<Exchange>
     ensures { result ≡ exchange_of gives receives }
 {
@@ -37,7 +37,7 @@ fn exchange_between(gives: usize, receives: usize) -> Option<Exchange>
     }
 }
 
-/// The number of the pattern that the symbols show at these cells.
+/// The number of the pattern that the filling shows at the cells with these numbers. The pattern is written to `seen`.
 fn number_seen(
     symbols: &[u32],
     numbers: &[usize],
@@ -50,7 +50,7 @@ fn number_seen(
     Ok(patterns.number(seen))
 }
 
-/// What the symbols of a filling exchange along each vector.
+/// What the origin exchanges along each vector in a filling.
 pub(crate) fn exchanges(
     alloc: Global,
     symbols: &[u32],
@@ -69,7 +69,7 @@ pub(crate) fn exchanges(
     Ok(list)
 }
 
-/// The coefficient of the pattern with the number.
+/// The coefficient of the pattern with the number `pattern`, along the vector of the exchange.
 fn entry(exchange: &Option<Exchange>, pattern: usize) -> i64
     ensures { result ≡ entry exchange.now pattern }
 {
@@ -81,7 +81,7 @@ fn entry(exchange: &Option<Exchange>, pattern: usize) -> i64
     }
 }
 
-/// Appends the coefficients of the first `patterns` patterns.
+/// Appends the coefficients along the vector, for `patterns` patterns.
 fn push_entries(
     coefficients: &mut Items<i64>,
     exchange: &Option<Exchange>,
@@ -96,6 +96,7 @@ fn push_entries(
 }
 
 impl SparseRow {
+    /// The row with these exchanges and this bound.
     pub(crate) fn new(exchanges: Vec<Option<Exchange>>, bound: u64) -> SparseRow
         ensures exchanges { result.exchanges.items ≡ exchanges.items }
         ensures bound { result.bound ≡ bound }
@@ -103,7 +104,7 @@ impl SparseRow {
         SparseRow { exchanges, bound }
     }
 
-    /// The row along `vectors` vectors that says that no position holds more than the bound.
+    /// The row along `vectors` vectors that says "column 0 is at most the bound".
     pub(crate) fn cap(alloc: Global, vectors: usize, bound: u64) -> Result<SparseRow, AllocError>
         ensures exchanges { IfOk result (λ row. row.exchanges.items ≡ replicate vectors None) }
         ensures bound { IfOk result (λ row. row.bound ≡ bound) }
@@ -112,7 +113,7 @@ impl SparseRow {
         Ok(SparseRow { exchanges, bound })
     }
 
-    /// All its coefficients, for `patterns` patterns.
+    /// The same row with all its coefficients, for `patterns` patterns.
     pub(crate) fn dense(&self, alloc: Global, patterns: usize) -> Result<Row, AllocError>
         ensures { IfOk result (λ row. row ≡ dense patterns self.now) }
     {

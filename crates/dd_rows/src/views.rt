@@ -1,4 +1,4 @@
-//! The places, among the cells of the fillings, of the cells that a row of the program reads.
+//! The cells that a row of the program reads, by their numbers. A cell's number is its index among the cells of the fillings.
 ghost use Rattle.std.specs.Prelude.{◌≡◌, ◌<◌, ◌≤◌, ◌*◌, pos, map, length, IfOk, IfErr};
 ghost use Rattle.std.specs.List.{All, range_with_len};
 ghost use Rattle.std.specs.List.Sorted.{IsStrictlySortedBy};
@@ -22,18 +22,18 @@ use std::alloc::{AllocError, Global};
 
 const ORIGIN: Position = Position { x: 0, y: 0, z: 0 };
 
-/// The numbers of cells among the cells of the fillings.
+/// The numbers of the cells that a row reads. A list of such numbers is a view: it shows a part of a filling.
 #[derive(Drop)]
 pub(crate) struct Views {
-    /// The cells of the origin's position.
+    /// The cells at the origin, one for each node.
     pub(crate) centre: Items<usize>,
     /// The cells of the box around the origin.
     pub(crate) origin: Items<usize>,
-    /// For each vector the cells of the box around its opposite, from where the origin receives.
+    /// For each vector, the cells of the box around its opposite. From there the origin receives along the vector.
     pub(crate) givers: Items<Items<usize>>,
 }
 
-/// The numbers of the cells of the box around a position.
+/// The numbers of the cells of the box around the position `at`. `boxed` lists the cells of the box around the origin.
 fn view(
     alloc: Global,
     cells: &[Cell],
@@ -92,7 +92,7 @@ fn centre(alloc: Global, cells: &[Cell], nodes: u32) -> Result<Items<usize>, All
 }
 
 impl Views {
-    /// The views of a rule's discharge along the vectors.
+    /// The views of a rule's discharge along the vectors. It fails only if memory runs out.
     pub(crate) fn new(
         alloc: Global,
         rule: &Rule,

@@ -5,11 +5,11 @@ use Rattle.std.proofs.lemmas.Fmt.{length-decimal-le_succ}
 use Rattle.dd_values.specs.Bounds.{most_script}
 use Rattle.dd_sample.specs.Sample.{IsSampleNumber, rules_text, queries_text, sample_text}
 
--- at most as long as its length
+-- a list of length n has at most n items
 fits : (xs : List ℕ) (n : ℕ) → length xs ≡ n → length xs ≤ n
 fits xs n is = omega (arith, is)
 
--- one list after the other
+-- the length of two lists, one after the other
 joined : (xs ys : List ℕ) (m n : ℕ) → length xs ≤ m → length ys ≤ n → length (xs ++ ys) ≤ m + n
 joined xs ys m n few fewer = omega (arith, length-append xs ys, few, fewer)
 
@@ -20,7 +20,7 @@ repeated (suc n) xs is = omega (arith, length-append xs (repeat n xs), is, repea
 within : (n most : ℕ) → n ≤ most → most ≤ most_script → n ≤ most_script
 within n most few limit = omega (arith, few, limit)
 
--- ---- from the end of the sample to its beginning
+-- ---- the lengths of the parts, from the end of the sample to its beginning
 
 abbrev after_symbols : List ℕ
 after_symbols = codes "\n" ++ queries_text

@@ -9,21 +9,21 @@ use Rattle.dd_sample.specs.Sample.{IsWrittenBy}
 abbrev pub IsLed : List ℕ → Type 0
 IsLed word = (slice_index word 0 ≡ 43) ⊎ (slice_index word 0 ≡ 48)
 
--- the number of a sample begins with a digit from 1 to 9
+-- a word that gives the number of a sample begins with neither a plus nor a zero
 pub not_led : (word : List ℕ) (n : ℕ) → IsWrittenBy word n → ¬ IsLed word
 not_led word n writes (inl plus) = omega (arith, first_decimal n (omega (arith, writes.0.0)) (omega (arith, writes.0.1)), ap (λ w. slice_index w 0) writes.1, plus)
 not_led word n writes (inr nought) = omega (arith, first_decimal n (omega (arith, writes.0.0)) (omega (arith, writes.0.1)), ap (λ w. slice_index w 0) writes.1, nought)
 
--- what is read from a word that gives the number of a sample
+-- from a word that gives the number of a sample, `parse` reads that number
 pub read_again : {E : Type 0} (word : List ℕ) (n : ℕ) (r : Result ℕ E) → ParsesUnsigned 32 10 word r → IsWrittenBy word n → r ≡ Ok n
 read_again word n r parsed writes = parse-decimal 32 n word r (omega (arith, writes.0.1)) (omega (arith, writes.0.1)) writes.1 parsed
 
--- only the word 0 gives 0
+-- a decimal that doesn't begin with a zero is at least 1
 not_0 : (word : List ℕ) (n : ℕ) → word ≡ decimal n → ¬ IsLed word → 1 ≤ n
 not_0 word zero is plain = absurd (plain (inr (ap (λ w. slice_index w 0) (is ∙ decimal_digit 0 (omega arith)))))
 not_0 word (suc n) is plain = omega arith
 
--- the number that was read from another word
+-- if `parse` reads a number up to 16384 from a word that begins with neither plus nor zero, the word gives that number
 pub written : {E : Type 0} (word : List ℕ) (n : ℕ) (r : Result ℕ E) → r ≡ Ok n → ParsesUnsigned 32 10 word r → ¬ IsLed word → n ≤ 16384
     → IsWrittenBy word n
 written word n r is_read parsed plain few =

@@ -2,15 +2,15 @@
 use Rattle.std.specs.Prelude.{◌≡◌, ℕ, ◌*◌, ◌≤◌, List, ◌++◌, codes, Option, Some, None}
 use Rattle.std.specs.{List.repeat, Fmt.decimal}
 
--- There is a sample with this number. The configuration of the last sample has as many symbols as a script allows.
+-- There is a sample with this number. The configuration of the sample 16384 has as many symbols as a script allows.
 abbrev pub IsSampleNumber : ℕ → Type 0
 IsSampleNumber number = (1 ≤ number) × (number ≤ 16384)
 
--- the word is this number of a sample, in decimal
+-- the word is this number, in decimal, and there is a sample with it
 abbrev pub IsWrittenBy : List ℕ → ℕ → Type 0
 IsWrittenBy word number = IsSampleNumber number × (word ≡ decimal number)
 
--- the sample number that the word gives, or none if it gives none
+-- this is the sample number that the word gives, or `None` if it gives none
 abbrev pub IsNumberOf : List ℕ → Option ℕ → Type 0
 IsNumberOf word (Some number) = IsWrittenBy word number
 IsNumberOf word None = (number : ℕ) → ¬ IsWrittenBy word number

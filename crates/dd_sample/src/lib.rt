@@ -1,4 +1,5 @@
-//! The sample scripts, one for each number. All have the same queries; the number determines the length of the configuration.
+//! The sample scripts, one for each number from 1 to 16,384. All have the same rules and queries. Each defines one configuration,
+//! whose height is twice the number.
 #![tactic(auto)]
 
 mod number;

@@ -5,9 +5,9 @@ ghost use Rattle.dd_sample.specs.Sample.{IsSampleNumber, sample_text};
 
 use std::alloc::{AllocError, Global};
 
-/// The sample script with this number. Its first query asks about a configuration with four symbols for each unit of the number.
-/// The other queries are the same in all samples: three of containment, one of which takes a box of radius 3, one of equality, a
-/// density and a bound. The text is no longer than a script may be.
+/// The sample script with this number. Its configuration is 2 wide and 2 * `number` high, and only the first query asks about it.
+/// The other queries are three containments, an equality, a density and a bound. The answer to one of the containments takes a box
+/// of radius 3. The text is no longer than a script may be.
 #[tactic(auto, unfolding(crate::specs::Sample::sample_text), using(crate::proofs::Lengths::sample_fits))]
 pub fn sample_script(alloc: Global, number: u32) -> Result<Vec<u8>, AllocError>
     requires { IsSampleNumber number }

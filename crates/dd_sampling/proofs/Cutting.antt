@@ -1,4 +1,5 @@
--- The tokens of a text after another text, of a number before a bracket, and of symbols.
+-- The tokens of a text after another text, of a number before a bracket, and of symbols. Bytes are written by their codes: 10 ends a line,
+-- 32 is a blank, 48 to 57 are the digits, and 93 is the closing bracket.
 use Rattle.std.proofs.Common.{◌≡◌, ℕ, zero, suc, ◌+◌, ◌-◌, ◌*◌, ◌<◌, ◌≤◌, List, [], ◌∷◌, ◌++◌, length, map, true, codes, refl, sym, ap, subst, ◌∙◌, arith}
 use Rattle.std.specs.List.{prefix_len, repeat}
 use Rattle.dd_tokens.specs.declared.{token.Token.Token, token.Tokens.Tokens, piece.Piece.Piece}
@@ -6,7 +7,7 @@ use Rattle.dd_tokens.specs.declared.piece.Piece.TheVariants.{Gap, Cut, Fault}
 use Rattle.dd_tokens.specs.Format.{tokens_after, first, front, with_piece, piece_size, with_front, is_digit}
 use Rattle.dd_tokens.specs.declared.token.TokenKind.TheVariants as token
 
--- ---- shifted by p bytes
+-- ---- tokens moved p bytes further on, as they stand after a text of p bytes
 
 abbrev pub up_token : ℕ → Token → Token
 up_token p t = record { kind = t.kind; start = p + t.start; length = t.length }
@@ -40,7 +41,7 @@ abbrev pub AreDigits : List ℕ → Type 0
 AreDigits [] = Unit {0}
 AreDigits (d ∷ ds) = (48 ≤ d) × (d ≤ 57) × AreDigits ds
 
--- bytes within a token are skipped
+-- the bytes ds belong to a token that began before them, so they are skipped
 over : (ds : List ℕ) (place : ℕ) (ys : List ℕ) → tokens_after (length ds) place (ds ++ ys) ≡ tokens_after 0 (place + length ds) ys
 over [] place ys = ap (λ (q : ℕ). tokens_after 0 q ys) (omega arith)
 over (d ∷ ds) place ys =
@@ -89,7 +90,7 @@ number_begins d bytes low high =
     let back : 49 + (d - 49) ≡ d = omega (arith, low) in
     subst (λ (b : ℕ). front b bytes ≡ Cut token.Number (1 + prefix_len is_digit bytes)) back (begins (d - 49) bytes (omega (arith, low, high)))
 
--- the number, and the bracket after it
+-- the tokens of a number, of the bracket after it, and of what follows
 pub number_before : (d : ℕ) (ds ys : List ℕ) (place : ℕ) → 49 ≤ d → d ≤ 57 → AreDigits ds
     → tokens_after 0 place (d ∷ (ds ++ 93 ∷ ys))
     ≡ with_front (number_token place (1 + length ds) ∷ mark_token (place + (1 + length ds)) ∷ []) (tokens_after 0 (place + (1 + length ds) + 1) ys)
@@ -105,13 +106,15 @@ number_before d ds ys place low high all =
 
 -- ---- symbols
 
+-- the text of the symbols of two rows, called a turn
 abbrev pub turn : List ℕ
 turn = codes " 1 0 0 1"
 
+-- the tokens of a turn that begins at this place
 abbrev pub four : ℕ → List Token
 four place = number_token (place + 1) 1 ∷ number_token (place + 3) 1 ∷ number_token (place + 5) 1 ∷ number_token (place + 7) 1 ∷ []
 
--- the tokens of n turns, from a position on
+-- the tokens of this many turns, the first of which begins at this place
 abbrev pub turn_tokens : ℕ → ℕ → List Token
 turn_tokens place zero = []
 turn_tokens place (suc n) = four place ++ turn_tokens (place + 8) n
@@ -122,7 +125,7 @@ before_blank_at_0 ys = refl
 before_line_feed_at_0 : (ys : List ℕ) → tokens_after 0 0 (turn ++ 10 ∷ ys) ≡ with_front (four 0) (tokens_after 0 8 (10 ∷ ys))
 before_line_feed_at_0 ys = refl
 
--- the tokens of a turn, followed by these bytes
+-- the tokens of a turn followed by these bytes, at any place if they are known at place 0
 one_turn : (place : ℕ) (zs : List ℕ) → tokens_after 0 0 (turn ++ zs) ≡ with_front (four 0) (tokens_after 0 8 zs)
     → tokens_after 0 place (turn ++ zs) ≡ with_front (four place) (tokens_after 0 (place + 8) zs)
 one_turn place zs at_0 =

@@ -18,8 +18,9 @@ use Rattle.dd_sampling.proofs.Sizes.{known}
 use Rattle.dd_written.specs.declared.tree.Quantifier.TheVariants as quantifier
 use Rattle.dd_faults.specs.declared.fault.Limit.TheVariants as limit
 
--- ---- the folds, layer by layer
+-- ---- faults and meanings, which are folds of a formula, layer by layer
 
+-- the faults of a formula in each scope
 abbrev Faulty : Type 0
 Faulty = List Word → List Fault
 
@@ -42,6 +43,7 @@ chain_faulty x j fs scope = ap (λ (g : Faulty). g scope) (fold-roll-Formula Fau
 
 ruleset faulties = (atom_faulty, not_faulty, quantified_faulty, group_faulty, chain_faulty)
 
+-- what a formula means in each scope
 abbrev Meaning : Type 0
 Meaning = List Word → Meant
 
@@ -64,7 +66,7 @@ chain_meaning x j fs scope = ap (λ (g : Meaning). g scope) (fold-roll-Formula M
 
 ruleset meanings = (atom_meaning, not_meaning, quantified_meaning, group_meaning, chain_meaning)
 
--- ---- the rules, atom by atom
+-- ---- the faults and the meaning of each rule, atom by atom
 
 hard_faults : (x : Context) → formula_faults x hard []
     ≡ atom_faults x [] (told (here 28) 30) ++ ((atom_faults x [] (told (step 36 38) 41) ++ (atom_faults x [] (told (step 45 47) 50) ++ [])) ++ [])
@@ -102,8 +104,9 @@ zero_means x = simp meanings
 dom_means : (x : Context) → formula_of x dom [] ≡ quantified_of quantifier.Exists (ball_of x [] (ball 162 163) ∷ []) (atom_of x (word_at 160 1 ∷ []) (told (here 166) 168))
 dom_means x = simp meanings
 
--- ---- their contexts
+-- ---- the contexts of commands
 
+-- the context of a command of a sample, after these rules and configurations were defined
 abbrev pub standing : List ℕ → ℕ → List (List ℕ) → List (List ℕ) → Context
 standing bytes number rules configurations = record { text = bytes; has_topology = false; number = number; known = known rules configurations }
 
@@ -117,6 +120,7 @@ rule_faultless : (x : Context) (s named l : ℕ) (tokens : List Lexeme) (f : For
 rule_faultless x s named l tokens f fs is =
     ap (λ (gs : List Fault). over (nat_lt 1000 x.number) limit.Commands ++ (flat_map (token_faults x.text) (w s 4 ∷ w named l ∷ tokens) ++ (named_again x.text x.known (word_at named l) ++ gs))) is
 
+-- the names of the rules after the first rule command, after the second, and so on
 abbrev pub names_1 : List (List ℕ)
 names_1 = codes "hard" ∷ []
 

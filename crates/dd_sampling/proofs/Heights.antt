@@ -15,6 +15,7 @@ value_more : (v : ℕ) (ds : List ℕ) (d : ℕ) → value_from v (ds ++ d ∷ [
 value_more v [] d = refl
 value_more v (e ∷ ds) d = value_more (v * 10 + (e - 48)) ds d
 
+-- the list holds only digits, and their value is the number
 abbrev IsWrittenAs : ℕ → List ℕ → Type 0
 IsWrittenAs n ds = AreDigits ds × (value_from 0 ds ≡ n)
 

@@ -1,4 +1,4 @@
--- For each kind of written formula: its text, where it may stand, and its depth.
+-- For each kind of written formula: its text, where it may stand in another formula, and its depth.
 use Rattle.std.proofs.Common.{◌≡◌, ℕ, ◌+◌, ◌≤◌, List, [], ◌∷◌, ◌++◌, length, map, Bool, true, ap, arith}
 use Rattle.std.specs.{Prelude.◌&&◌, Prelude.nat_le, Prelude.◌-◌, List.flat_map, List.list_all}
 use Rattle.dd_written.specs.declared.{lexeme.Word.Word, lexeme.Lexeme.Lexeme, tree.Atom.Atom, tree.Ball.Ball}

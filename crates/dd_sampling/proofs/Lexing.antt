@@ -1,4 +1,4 @@
--- What tokens mean to the grammar, if their text follows another one.
+-- The lexemes of tokens whose text follows another text.
 use Rattle.std.proofs.Common.{◌≡◌, ℕ, zero, suc, ◌+◌, List, [], ◌∷◌, ◌++◌, length, map, take, drop, Option, Some, None, refl, ap, ◌∙◌, arith}
 use Rattle.dd_tokens.specs.declared.token.{Token.Token, TokenKind.TokenKind}
 use Rattle.dd_written.specs.declared.lexeme.{Mark.Mark, Word.Word, Number.Number}
@@ -18,13 +18,13 @@ stands_behind (x ∷ xs) ys k =
     let one_on : suc (length xs) + k ≡ suc (length xs + k) = omega arith in
     ap (λ (j : ℕ). drop j (x ∷ (xs ++ ys))) one_on ∙ stands_behind xs ys k
 
--- if xs and then ys stand at p, ys stands after xs
+-- if xs followed by ys stands at p, ys stands after xs
 pub stands_after : (bytes : List ℕ) (p : ℕ) (xs ys : List ℕ) (q : ℕ) → Stands bytes p (xs ++ ys) → q ≡ p + length xs → Stands bytes q ys
 stands_after bytes p xs ys q stands is k =
     let at : q + k ≡ p + (length xs + k) = omega (arith, is) in
     ap (λ (j : ℕ). drop j bytes) at ∙ (stands (length xs + k) ∙ stands_behind xs ys k)
 
--- ---- the same, shifted by p bytes
+-- ---- lexemes moved p bytes further on
 
 abbrev pub up_word : ℕ → Word → Word
 up_word p w = record { start = p + w.start; length = w.length }

@@ -38,7 +38,7 @@ use Rattle.dd_question.specs.declared.excess.Excess.TheVariants as excess
 pub none_and : (xs ys : List Fault) → xs ≡ [] → ys ≡ [] → xs ++ ys ≡ []
 none_and xs ys first second = ap (λ (zs : List Fault). zs ++ ys) first ∙ second
 
--- ---- values, tokens and vectors, shifted by p bytes
+-- ---- values, tokens and vectors, moved p bytes further on
 
 value_up : (bytes : List ℕ) (p : ℕ) (ys : List ℕ) → Stands bytes p ys → (k : Number) → written_value bytes (up_number p k) ≡ written_value ys k
 value_up bytes p ys stands k = ap (λ (t : List ℕ). value_from 0 (unsigned t)) (number_up bytes p ys stands k)
@@ -91,12 +91,13 @@ repeats_up bytes p ys stands seen (x ∷ xs) =
 
 -- ---- words
 
--- a word that is one of these names
+-- a word that is one of these names is known
 named : (bytes : List ℕ) (names : List (List ℕ)) (v : Word) (t : List ℕ) → word_text bytes v ≡ t → is_some (number_of names t) ≡ true → missing bytes names (name.Word v) ≡ []
 named bytes names v t is known =
     ap (λ (s : List ℕ). when (not (is_some (number_of names s))) (fault.Unknown (name.Word v))) is
     ∙ ap (λ (b : Bool). when (not b) (fault.Unknown (name.Word v))) known
 
+-- the context of the query that is the command with this number
 abbrev pub asked_in : List ℕ → ℕ → Context
 asked_in bytes number = standing bytes number names_5 (codes "c" ∷ [])
 
@@ -133,7 +134,7 @@ zero_dies_faultless bytes p stands =
     two_named bytes names_5 names_5 (up_word p (word_at 80 4)) (up_word p (word_at 85 4)) (codes "zero") (codes "dies")
     (word_up bytes p tail_text stands (word_at 80 4)) (word_up bytes p tail_text stands (word_at 85 4)) refl refl
 
--- its only word is known, and its period is 5
+-- the fault of a strip with the period v; the strip of the samples has the period 5
 abbrev strip_by : ℕ → List Fault
 strip_by v = over (nat_lt v 1 || nat_lt 64 v || false) limit.Periods
 
@@ -145,7 +146,7 @@ density_faultless bytes p stands =
     ap (λ (v : ℕ). over (nat_lt 1000000 v) limit.Number ++ [] ++ ((missing bytes names_5 (name.Word (up_word p (word_at 99 3))) ++ []) ++ ((strip_by v ++ []) ++ []))) five
     ∙ ap (λ (fs : List Fault). (fs ++ []) ++ []) known
 
--- the tokens, the word, the numbers and the vectors of the last query
+-- the last query: its tokens, word, numbers and vectors have no fault
 pub discharge_faultless : (bytes : List ℕ) (p : ℕ) → Stands bytes p tail_text → written_faults (asked_in bytes 14) (question_written p discharge_dom) ≡ []
 unfolding digits
 discharge_faultless bytes p stands =
@@ -181,8 +182,9 @@ rules_5 = plain_rule hard_meant ∷ plain_rule row_meant ∷ plain_rule dies_mea
 
 -- the script with these queries
 abbrev pub script : List Tile → List Query → Parts
-script tiles queries = record { known = known names_5 (codes "c" ∷ []); rules = rules_5; automata = []; configurations = tiles; queries = queries; pairs = [] }
+script tiles queries = record { known = known names_5 (codes "c" ∷ []); rules = rules_5; automata = []; configurations = tiles; queries = queries }
 
+-- the limit that a query exceeds
 abbrev pub excess_at : List ℕ → ℕ → ℕ → List Tile → List Query → Word × Request → Option Excess
 excess_at bytes number p tiles queries a = query_excess (script tiles queries) (query_of (asked_in bytes number) (up_request p a.1))
 

@@ -18,6 +18,7 @@ use Rattle.dd_topology.specs.{Builtin.square, Sets.all_symbols}
 use Rattle.dd_sampling.proofs.Meant.{plain_rule, Counts, hard_meant, row_meant, dies_meant, zero_meant, dom_meant, hard_counts, row_counts, dies_counts, zero_counts, dom_counts}
 use Rattle.dd_faults.specs.declared.fault.Limit.TheVariants as limit
 
+-- the limits of the searches of a sample
 abbrev pub limits : Limits
 limits = record { radius = 3; period = 3; pivots = 1000 }
 
@@ -25,6 +26,7 @@ limits = record { radius = 3; period = 3; pivots = 1000 }
 abbrev pub setting : Setting
 setting = record { nodes = codes "0" ∷ []; symbols = codes "0" ∷ codes "1" ∷ []; topology = square; sets = all_symbols 1 2 }
 
+-- what is known after these rules and configurations were defined
 abbrev pub known : List (List ℕ) → List (List ℕ) → Known
 known rules configurations =
     record {
@@ -40,6 +42,7 @@ known rules configurations =
 
 -- ---- definitions
 
+-- the limits that a rule with these counts exceeds
 abbrev few_and_near : ℕ → List Cell → List Fault
 few_and_near nodes cells = over (not (nat_le nodes 20000 && true)) limit.Instances ++ (over (not (list_all is_near cells && true)) limit.Reach ++ [])
 
@@ -66,7 +69,8 @@ dom_few = rule_faultless dom_counts refl
 
 -- ---- questions
 
--- by the counts of the premise and of the goal's rule
+-- whether a question has too many clauses, by its premise, the clauses of the premise and of the goal's rule, and the cells that
+-- the goal's rule reads
 abbrev long_by : LocalRule → ℕ → ℕ → List Cell → Bool
 long_by x clauses goal cells =
     nat_lt most_clauses (largest_region x.dimension (max 3 (farthest (in_order cells ++ []))) 3 * (x.nodes * cell_clause_count x.symbols + disallowed_pairs x + (clauses + 0)) + (goal + 0 + 1))

@@ -94,7 +94,7 @@ question_stands bytes p ys stands a word good all =
       ordered = omega arith;
     }
 
--- ---- from the tail to the whole text
+-- ---- the parts of the text after the symbols, then of the whole text
 
 abbrev question_parts : ℕ → List (List Lexeme)
 question_parts p = (parts (map (up_lexeme p) tail_lexemes)).1
@@ -148,7 +148,7 @@ all_commands more digits ns ps ws some behind =
       ),
     )
 
--- ---- the whole
+-- ---- the whole sample
 
 abbrev symbols : List ℕ → ℕ → List Number
 symbols ds k = turn_numbers (symbols_at ds) k

@@ -67,7 +67,7 @@ known_symbols more (k ∷ ks) i all =
     none_and (symbol_fault k (i % 1) (number_text (front_text ++ more) k)) (symbol_faults (behind more 7 names_5) (i + 1) (map name.Number ks))
     (allowed (front_text ++ more) k i all.0) (known_symbols more ks (i + 1) all.1)
 
--- ---- its periods
+-- ---- the periods of the configuration
 
 pub count_is : (k q : ℕ) → length (turn_numbers q k) ≡ 4 * k
 count_is zero q = refl
@@ -86,7 +86,7 @@ no_hyphen d ds low = ap (λ (b : Bool). if b then ds else d ∷ ds) (ne_eqb d 45
 height_value : (d : ℕ) (ds : List ℕ) (k h : ℕ) → 49 ≤ d → value_from 0 (d ∷ ds) ≡ h → written_value (front_text ++ from_digits d ds k) (number_at 181 (1 + length ds)) ≡ h
 height_value d ds k h low is = ap (λ (t : List ℕ). value_from 0 (unsigned t)) (height_text d ds k) ∙ (ap (value_from 0) (no_hyphen d ds low) ∙ is)
 
--- the faults of the box, by its height and the number of its symbols
+-- the faults of the fundamental box, by its height and the number of its symbols
 abbrev box_by : ℕ → ℕ → List Fault
 box_by h count = if 2 * (h * 1) * 1 == count then over (nat_lt 65536 count || nat_le 2 0) limit.Periods else fault.Dimension ∷ []
 

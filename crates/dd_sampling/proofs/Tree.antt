@@ -1,4 +1,4 @@
--- The commands of a sample: its limits, its rules and its queries.
+-- The commands of a sample: its limits, its rules and its queries. Words and numbers are given by their positions in the text.
 use Rattle.std.proofs.Common.{ℕ, List, [], ◌∷◌, ◌++◌, map, None}
 use Rattle.dd_written.specs.declared.lexeme.{Word.Word, Number.Number, Lexeme.Lexeme}
 use Rattle.dd_written.specs.declared.tree.{Term.Term, Atom.Atom, Ball.Ball}
@@ -18,10 +18,11 @@ use Rattle.dd_commands.specs.declared.table.QueryKind.TheVariants as kind
 use Rattle.dd_commands.specs.declared.command.Entry.TheVariants as entry
 use Rattle.dd_commands.specs.declared.command.Command.TheVariants as command
 
+-- the word at s, of l letters
 abbrev pub word_at : ℕ → ℕ → Word
 word_at s l = record { start = s; length = l }
 
--- ---- lexemes
+-- ---- lexemes: a word, and a number of one digit
 
 abbrev pub w : ℕ → ℕ → Lexeme
 w s l = lexeme.Word (word_at s l)
@@ -29,7 +30,9 @@ w s l = lexeme.Word (word_at s l)
 abbrev pub n : ℕ → Lexeme
 n s = lexeme.Number (number_at s 1)
 
--- ---- formulas: each of their words, numbers and moves by its position
+-- ---- formulas
+
+-- terms: the variable at s, without a move, with the move at m, and with the moves at m and k
 
 abbrev pub here : ℕ → Term
 here s = record { first = word_at s 1; moves = [] }
@@ -40,6 +43,7 @@ step s m = record { first = word_at s 1; moves = word_at m 2 ∷ [] }
 abbrev pub steps : ℕ → ℕ → ℕ → Term
 steps s m k = record { first = word_at s 1; moves = word_at m 2 ∷ word_at k 2 ∷ [] }
 
+-- the atom that the term has the symbol written at s
 abbrev pub told : Term → ℕ → Atom
 told t s = record { term = t; relation = relation.Equal (side.Number (number_at s 1)) }
 
@@ -75,7 +79,7 @@ zero_rule = is (here 145) 147
 abbrev pub dom : Formula
 dom = roll-Formula (Formula-F.Quantified quantifier.Exists (word_at 160 1) (ball 162 163 ∷ []) (is (here 166) 168))
 
--- ---- their texts
+-- ---- the lexemes of the formulas
 
 abbrev pub hard_text : List Lexeme
 hard_text =
@@ -103,7 +107,7 @@ dom_text =
     lexeme.Mark mark.Exists ∷ w 160 1 ∷ lexeme.Mark mark.OpenList ∷ w 162 1 ∷ n 163 ∷ lexeme.Mark mark.CloseList ∷ w 166 1
     ∷ lexeme.Mark mark.Equal ∷ n 168 ∷ []
 
--- ---- queries, by their positions after the symbols
+-- ---- queries; positions are counted from the end of the symbols
 
 abbrev pub asking : ℕ → ℕ → QueryKind → List Word → List Number → List Vector → Word × Request
 asking s l q ws ns vs = (word_at s l, record { kind = q; words = ws; numbers = ns; vectors = vs })
@@ -143,7 +147,7 @@ discharge_dom =
 abbrev pub questions : List (Word × Request)
 questions = member_hard ∷ row_hard ∷ hard_row ∷ hard_equals_row ∷ zero_dies ∷ density_dom ∷ discharge_dom ∷ []
 
--- ---- the same, shifted by p bytes
+-- ---- queries moved p bytes further on
 
 abbrev pub up_entry : ℕ → Entry → Entry
 up_entry p (entry.Number k) = entry.Number (up_number p k)

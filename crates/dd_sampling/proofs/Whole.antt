@@ -1,4 +1,5 @@
--- The tokens of a sample.
+-- The tokens of a sample. Its text is a front, the digits of the height, the symbols, and a tail. Front and tail are the same in all
+-- samples, so their tokens are computed. Those of the digits and of the symbols follow by induction.
 use Rattle.std.proofs.Common.{◌≡◌, ℕ, zero, suc, ◌+◌, ◌*◌, ◌≤◌, List, [], ◌∷◌, ◌++◌, length, map, take, drop, true, codes, refl, sym, ap, ◌∙◌, arith, append_assoc, length-append, append-nil, subst}
 use Rattle.std.proofs.lemmas.{List.map-append, Bool.eq-eqb, Bool.lt-ltb, Bool.and_from}
 use Rattle.std.proofs.lemmas.List.Folds.{list_all-append}
@@ -27,17 +28,19 @@ front_tokens = (tokens_of front_text).list
 abbrev pub tail_tokens : List Token
 tail_tokens = (tokens_of tail_text).list
 
--- a sample whose height has these digits
+-- a sample up to the end of its symbols, which are n turns; its height is written by the digit d and then the digits ds
 abbrev pub upper : ℕ → List ℕ → ℕ → List ℕ
 upper d ds n = front_text ++ (d ∷ (ds ++ 93 ∷ repeat n turn))
 
+-- the whole sample
 abbrev pub whole : ℕ → List ℕ → ℕ → List ℕ
 whole d ds n = upper d ds n ++ tail_text
 
--- the position at which the symbols begin
+-- the position at which the symbols begin: the front has 181 bytes
 abbrev pub symbols_at : List ℕ → ℕ
 symbols_at ds = 181 + (1 + length ds) + 1
 
+-- the position at which the text after the symbols begins
 abbrev pub tail_at : List ℕ → ℕ → ℕ
 tail_at ds n = symbols_at ds + 8 * n
 
@@ -68,6 +71,7 @@ from_digits d ds n = d ∷ (ds ++ 93 ∷ (repeat n turn ++ tail_text))
 pub regrouped : (d : ℕ) (ds : List ℕ) (n : ℕ) → whole d ds n ≡ front_text ++ from_digits d ds n
 regrouped d ds n = ap (λ (ys : List ℕ). front_text ++ (d ∷ ys)) (append_assoc ds (93 ∷ repeat n turn) tail_text)
 
+-- the tokens from the digits on
 abbrev pub rest_tokens : List ℕ → ℕ → List Token
 rest_tokens ds n = number_token 181 (1 + length ds) ∷ mark_token (181 + (1 + length ds)) ∷ (turn_tokens (symbols_at ds) n ++ map (up_token (tail_at ds n)) tail_tokens)
 
@@ -93,7 +97,7 @@ cut d ds n low high digits =
     ∙ (ap (λ (ts : Tokens). with_front front_tokens (with_front (number_token 181 (1 + length ds) ∷ mark_token (181 + (1 + length ds)) ∷ []) ts))
     (turns n (symbols_at ds) queries_text ∙ ap (with_front (turn_tokens (symbols_at ds) n)) (tail_cut (tail_at ds n))))))
 
--- ---- as the grammar sees them
+-- ---- the tokens as lexemes
 
 abbrev pub front_lexemes : List Lexeme
 front_lexemes = map (lexeme_of front_text) front_tokens
@@ -152,7 +156,7 @@ whole_length d ds n =
     let last : length tail_text ≡ 152 = refl in
     length-append (upper d ds n) tail_text ∙ omega (arith, upper_length d ds n, last)
 
--- ---- its bytes are ASCII
+-- ---- the bytes of a sample are ASCII
 
 ascii_digits : (ds : List ℕ) → AreDigits ds → list_all is_ascii ds ≡ true
 ascii_digits [] digits = refl

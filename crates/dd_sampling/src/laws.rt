@@ -4,7 +4,7 @@ ghost use Rattle.dd_sample.specs.Sample.{IsSampleNumber, sample_text};
 ghost use Rattle.dd_script.specs.Parts.{Parts};
 ghost use Rattle.dd_script.specs.Scripts.{Spells};
 
-/// Does nothing; its contract says that the text of each sample spells a script.
+/// Does nothing. Its contract says that the text of each sample spells a script.
 #[tactic(auto, using(crate::proofs::Spelling::samples_spell))]
 pub fn samples_spell()
     ensures { (number : ℕ) → IsSampleNumber number → (script : Parts) × Spells (sample_text number) script }

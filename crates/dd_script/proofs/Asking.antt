@@ -9,9 +9,9 @@ use Rattle.dd_pattern.specs.Tile.{Tile}
 use Rattle.dd_formula.specs.{Living.Fits, Allowed.HasAllowed}
 use Rattle.dd_question.specs.{Questions.Asked, Questions.membership, Questions.box, Questions.IsFormed, Questions.excess_of, Questions.IsSoundAsked}
 use Rattle.dd_question.specs.lemmas.AllowedLaws.{allowed_from_box}
-use Rattle.dd_pairs.specs.lemmas.{PartLaws.part_fits, QueryLaws.item_at}
-use Rattle.dd_script.specs.{Parts.Parts, Parts.Known, Parts.LocalRule, Parts.Automaton, Parts.Query, Questions.asked, Questions.map_question, Questions.conjugacy_question, Questions.parts_for, Asking.AreOf, Asking.AreSound}
-use Rattle.dd_pairs.specs.{Parts.PartOf, Parts.image, Parts.change, Parts.pair_of, Parts.IsPair, Queries.of_both, Queries.of_three, Queries.of_four, Queries.map_parts, Queries.conjugate_parts}
+use Rattle.dd_pairs.specs.lemmas.{ComparisonLaws.comparison_fits, QueryLaws.item_at}
+use Rattle.dd_script.specs.{Parts.Parts, Parts.Known, Parts.LocalRule, Parts.Automaton, Parts.Query, Questions.asked, Questions.map_question, Questions.conjugacy_question, Questions.comparisons_for, Asking.AreOf, Asking.AreSound}
+use Rattle.dd_pairs.specs.{Comparisons.ComparisonOf, Comparisons.image, Comparisons.change, Comparisons.pair_of, Comparisons.IsPair, Queries.of_both, Queries.of_three, Queries.of_four, Queries.map_comparisons, Queries.conjugate_comparisons}
 use Rattle.dd_script.specs.Kept.{IsQueryOf, IsScriptOf, IsAutomatonOf, IsQueryWithin, IsRuleOf, IsConfigurationOf}
 
 -- a rule and a configuration of one script
@@ -46,24 +46,24 @@ module _ (s : Parts) (ok : IsScriptOf s) where
   membership_fits (Some x) (Some t) of kept = ((of.rule, kept.tile, member_fits s.known x t of kept, member_allowed s.known x t of kept), of)
 
   -- the pair of each of these parts is well formed
-  abbrev ArePaired : List PartOf → Type 0
+  abbrev ArePaired : List ComparisonOf → Type 0
   ArePaired ps = All (λ p. IsPair s.known.setting (pair_of s.known.setting p)) ps
 
   map_fits : (o p : Option LocalRule) (q : Option Automaton) → IfSome o (IsRuleOf s.known.setting) → IfSome p (IsRuleOf s.known.setting) → IfSome q (IsAutomatonOf s.known.setting)
-      → ArePaired (unwrap_or (of_three map_parts o p q) []) → IfSome (of_three (map_question s.known.setting) o p q) FitsIn
+      → ArePaired (unwrap_or (of_three map_comparisons o p q) []) → IfSome (of_three (map_question s.known.setting) o p q) FitsIn
   map_fits None p q of to map pairs = tt
   map_fits (Some x) None q of to map pairs = tt
   map_fits (Some x) (Some y) None of to map pairs = tt
-  map_fits (Some x) (Some y) (Some f) of to map pairs = (part_fits s.known.setting ok.known.setting (image x f y) (of, map, to) (pairs 0 (image x f y) (omega arith)), of)
+  map_fits (Some x) (Some y) (Some f) of to map pairs = (comparison_fits s.known.setting ok.known.setting (image x f y) (of, map, to) (pairs 0 (image x f y) (omega arith)), of)
 
   conjugate_fits : (o p : Option LocalRule) (q r : Option Automaton) → IfSome o (IsRuleOf s.known.setting) → IfSome p (IsRuleOf s.known.setting) → IfSome q (IsAutomatonOf s.known.setting) → IfSome r (IsAutomatonOf s.known.setting)
-      → ArePaired (unwrap_or (of_four conjugate_parts o p q r) []) → IfSome (of_four (conjugacy_question s.known.setting) o p q r) FitsIn
+      → ArePaired (unwrap_or (of_four conjugate_comparisons o p q r) []) → IfSome (of_four (conjugacy_question s.known.setting) o p q r) FitsIn
   conjugate_fits None p q r of to there back pairs = tt
   conjugate_fits (Some x) None q r of to there back pairs = tt
   conjugate_fits (Some x) (Some y) None r of to there back pairs = tt
   conjugate_fits (Some x) (Some y) (Some f) None of to there back pairs = tt
   conjugate_fits (Some x) (Some y) (Some f) (Some g) of to there back pairs =
-      let fits = part_fits s.known.setting ok.known.setting in (
+      let fits = comparison_fits s.known.setting ok.known.setting in (
         record {
           image = fits (image x f y) (of, there, to) (pairs 0 (image x f y) (omega arith));
           image_back = fits (image y g x) (to, back, of) (pairs 1 (image y g x) (omega arith));
@@ -73,7 +73,7 @@ module _ (s : Parts) (ok : IsScriptOf s) where
         (of, to),
       )
 
-  asked_fits : (q : Query) → IsQueryWithin s.known q → ArePaired (parts_for s q) → IfSome (asked s q) FitsIn
+  asked_fits : (q : Query) → IsQueryWithin s.known q → ArePaired (comparisons_for s q) → IfSome (asked s q) FitsIn
   asked_fits (Query.Discharge rule radius margin vectors) within pairs = grind (arith, item_at ok.rules rule, within.3)
   asked_fits (Query.Agree left right rule) within pairs = agreement_fits _ _ _ (item_at ok.rules rule) (item_at ok.automata left) (item_at ok.automata right)
   asked_fits (Query.Member configuration rule) within pairs = membership_fits _ _ (item_at ok.rules rule) (item_at ok.configurations configuration)
@@ -81,7 +81,7 @@ module _ (s : Parts) (ok : IsScriptOf s) where
   asked_fits (Query.Conjugate there back from to) within pairs = conjugate_fits _ _ _ _ (item_at ok.rules from) (item_at ok.rules to) (item_at ok.automata there) (item_at ok.automata back) pairs
   asked_fits q within pairs = grind (arith, item_at ok.rules, item_at ok.automata, item_at ok.configurations)
 
-  pub question_fits : (q : Query) (a : Asked) → IsQueryWithin s.known q → ArePaired (parts_for s q) → asked s q ≡ Some a → FitsIn a
+  pub question_fits : (q : Query) (a : Asked) → IsQueryWithin s.known q → ArePaired (comparisons_for s q) → asked s q ≡ Some a → FitsIn a
   question_fits q a within pairs is = subst (λ (o : Option Asked). IfSome o FitsIn) is (asked_fits q within pairs)
 
   -- a question that exceeds no limit is sound
@@ -89,4 +89,4 @@ module _ (s : Parts) (ok : IsScriptOf s) where
   questions_sound law q a there is =
       let of = All-contains (IsQueryOf s) s.queries q ok.queries there in
       let fits = question_fits q a of.within of.pairs.formed is in
-      record { sound = law s.known.limits a fits.0 (sym (ap (option_and_then (excess_of s.known.limits)) is) ∙ of.light); of = fits.1 }
+      record { sound = law s.known.limits a fits.0 (sym (ap (option_and_then (excess_of s.known.limits)) is) ∙ of.within_limits); of = fits.1 }

@@ -4,26 +4,30 @@ use Rattle.std.proofs.lemmas.{Grind.common_steps, List.Elements.All-push}
 use Rattle.std.proofs.lemmas.List.FromFn.{length-range_with_len, get_or-range_with_len}
 use Rattle.std.specs.{List.All, List.range_with_len, Option.option_or, Option.option_map}
 use Rattle.dd_topology.specs.Sets.{IsSets}
-use Rattle.dd_script.specs.{Tree.Command, declared.draft.Draft.Draft, Drafts.parts_of, Parts.Parts, Parts.Known}
-use Rattle.dd_script.specs.{Kept.IsQueryOf, Kept.IsScriptOf, Walk.with, Walk.asked_fault, Walk.parts_in, Walk.pairs_in, Walk.word_text}
+use Rattle.dd_script.specs.{Tree.Command, Tree.Head, declared.draft.Draft.Draft, Drafts.parts_of, Parts.Parts, Parts.Known}
+use Rattle.dd_script.specs.{Kept.IsQueryOf, Kept.IsScriptOf, Walk.with, Walk.asked_fault, Walk.comparisons_in, Walk.word_text}
 use Rattle.dd_commands.specs.Heads.{head_of, stage, next_stage}
 use Rattle.dd_meanings.specs.{Meanings.meaning, Sound.IsSoundMeaning}
-use Rattle.dd_pairs.specs.Made.{ArePairs}
+use Rattle.dd_pairs.specs.Made.{HavePairs}
 use Rattle.dd_script.proofs.Growing.{stay, one_more, more}
 
 -- nothing is defined or asked
 abbrev pub IsFresh : Parts → Type 0
 IsFresh s = (s.rules ≡ []) × (s.automata ≡ []) × (s.configurations ≡ []) × (s.queries ≡ [])
 
+-- the stage of the last command of the header
+abbrev last_of_header : ℕ
+last_of_header = stage Head.Limits
+
 -- while a command of this stage belongs to the header, nothing is defined
 abbrev pub IsReady : ℕ → Parts → Type 0
-IsReady place s = place ≤ 6 → IsFresh s
+IsReady place s = place ≤ last_of_header → IsFresh s
 
--- the default weights 0, 1, .. are at most 1,000
+-- the default weights 0, 1, .. are at most 1,000, as there are at most 1,001 of them
 light_range : (n : ℕ) → n ≤ 1001 → All (λ w. w ≤ 1000) (range_with_len 0 n)
 light_range n le = λ i d lt. omega (arith, le, length-range_with_len 0 n, get_or-range_with_len 0 n i d)
 
--- if the first of two options that is there is None, the second is None
+-- if neither of two options is there, the second is not there
 second_none : {X Y : Type 0} (o : Option Y) (f : X → Y) (p : Option X) → option_or o (option_map f p) ≡ None → p ≡ None
 second_none o f p e = grind arith
 
@@ -42,16 +46,16 @@ module _ (d : Draft) (is : IsScriptOf (parts_of d)) where
 
   -- a header command may change all that is known but the names; a later one only adds definitions and queries
   pub kept_behind : (c : Command) → IsReady (stage (head_of c)) s → IsSoundMeaning d.context (meaning d.context d.made.automata c) → asked_fault s (meaning d.context d.made.automata c) ≡ None
-      → ArePairs d.context.known (parts_in s (meaning d.context d.made.automata c)) (pairs_in s (meaning d.context d.made.automata c)) → HasSets (behind c).known → IsScriptOf (behind c)
-  kept_behind (Command.Rule name f) ready sound light pairs has =
-      more s is (one_more (word_text d.context.text name) _ is.rules sound.1) (stay is.automata) (stay is.configurations) s.queries s.pairs is.queries is.pairs
-  kept_behind (Command.Automaton name cases symbol) ready sound light pairs has =
-      more s is (stay is.rules) (one_more (word_text d.context.text name) _ is.automata sound.1) (stay is.configurations) s.queries s.pairs is.queries is.pairs
-  kept_behind (Command.Composition name outer inner) ready sound light pairs has =
-      more s is (stay is.rules) (one_more (word_text d.context.text name) _ is.automata sound.1) (stay is.configurations) s.queries s.pairs is.queries is.pairs
-  kept_behind (Command.Configuration name periods shear symbols) ready sound light pairs has =
-      more s is (stay is.rules) (stay is.automata) (one_more (word_text d.context.text name) _ is.configurations sound.1) s.queries s.pairs is.queries is.pairs
-  kept_behind (Command.Query r) ready sound light pairs has =
-      more s is (stay is.rules) (stay is.automata) (stay is.configurations) _ _
-      (All-push (IsQueryOf s) s.queries _ is.queries (record { within = sound; pairs = pairs; light = second_none _ _ _ light })) (grind (arith, common_steps, is.pairs))
-  kept_behind c ready sound light pairs has = grind (arith, common_steps, light_range, length-range_with_len)
+      → HavePairs d.context.known (comparisons_in s (meaning d.context d.made.automata c)) → HasSets (behind c).known → IsScriptOf (behind c)
+  kept_behind (Command.Rule name f) ready sound faultless pairs has =
+      more s is (one_more (word_text d.context.text name) _ is.rules sound.1) (stay is.automata) (stay is.configurations) s.queries is.queries
+  kept_behind (Command.Automaton name cases symbol) ready sound faultless pairs has =
+      more s is (stay is.rules) (one_more (word_text d.context.text name) _ is.automata sound.1) (stay is.configurations) s.queries is.queries
+  kept_behind (Command.Composition name outer inner) ready sound faultless pairs has =
+      more s is (stay is.rules) (one_more (word_text d.context.text name) _ is.automata sound.1) (stay is.configurations) s.queries is.queries
+  kept_behind (Command.Configuration name periods shear symbols) ready sound faultless pairs has =
+      more s is (stay is.rules) (stay is.automata) (one_more (word_text d.context.text name) _ is.configurations sound.1) s.queries is.queries
+  kept_behind (Command.Query r) ready sound faultless pairs has =
+      more s is (stay is.rules) (stay is.automata) (stay is.configurations) _
+      (All-push (IsQueryOf s) s.queries _ is.queries (record { within = sound; pairs = pairs; within_limits = second_none _ _ _ faultless }))
+  kept_behind c ready sound faultless pairs has = grind (arith, common_steps, light_range, length-range_with_len)

@@ -3,14 +3,14 @@ use Rattle.std.proofs.Common.{◌≡◌, ℕ, ◌+◌, ◌<◌, ◌≤◌, List,
 use Rattle.std.proofs.lemmas.{Grind.common_steps, List.drop_all, List.Elements.All-get_or}
 use Rattle.std.specs.Option.{option_or, option_map}
 use Rattle.dd_script.specs.{Tree.Lexeme, Tree.Syntax, declared.draft.Draft.Draft, Parts.Parts, Kept.IsScriptOf}
-use Rattle.dd_script.specs.Walk.{start, asked_fault, parts_in, pairs_in, Located, located, first_from, after_all, has_topology, first_located_fault, script_of, Written, stage_of, Fault, first_fault, written_faults, Meaning, meaning_of, counted_sizes}
+use Rattle.dd_script.specs.Walk.{start, asked_fault, comparisons_in, Located, located, first_from, after_all, has_topology, first_located_fault, script_of, Written, stage_of, Fault, first_fault, written_faults, Meaning, meaning_of, counted_sizes}
 use Rattle.dd_script.specs.Scripts.{Spells, kind_of, HasFault}
 use Rattle.dd_script.specs.Drafts.{parts_of, draft_of, with_meaning, fault_at, Means}
 use Rattle.dd_written.specs.Lexemes.{lexemes_of}
-use Rattle.dd_commands.specs.Scripts.{parts, stage_after, AreCommands, IsScript, IsWritten}
+use Rattle.dd_commands.specs.Scripts.{parts as texts_of, stage_after, AreCommands, IsScript, IsWritten}
 use Rattle.dd_faults.specs.lemmas.Nothing.{none_first, parts as no_faults}
 use Rattle.dd_meanings.specs.Sound.{IsSoundMeaning}
-use Rattle.dd_pairs.specs.Made.{ArePairs}
+use Rattle.dd_pairs.specs.Made.{HavePairs}
 use Rattle.dd_script.proofs.Kept.{IsReady, HasSets, ready_behind, kept_behind}
 
 -- ---- one command
@@ -23,23 +23,23 @@ module _ (d : Draft) (w : Written) (m : Meaning) (none : first_fault (written_fa
   pub asked_is : fault_at d w ≡ asked_fault (parts_of d) m
   asked_is = rw (none, few, is)
 
-  pub means : IsSoundMeaning d.context (meant d w) → asked_fault (parts_of d) m ≡ None → ArePairs d.context.known (parts_in (parts_of d) m) (pairs_in (parts_of d) m) → Means d w m
-  means sound light pairs = record {
-    faultless = asked_is ∙ light;
+  pub means : IsSoundMeaning d.context (meant d w) → asked_fault (parts_of d) m ≡ None → HavePairs d.context.known (comparisons_in (parts_of d) m) → Means d w m
+  means sound within_limits pairs = record {
+    faultless = asked_is ∙ within_limits;
     is = is;
     sound = rw is sound;
-    light = light;
+    within_limits = within_limits;
     pairs = pairs;
     counted = grind (arith, no_faults, none_first (written_faults d.context w) none);
   }
 
 -- ---- the commands
 
--- the first fault from here on, and the script that the remaining commands lead to
+-- the first fault of the remaining commands, and the script that they lead to
 abbrev rest_of : Draft → List Written → Option Located × Parts
 rest_of d ws = (first_from d.context.text d.context.has_topology d.context.number (parts_of d) ws, after_all d.context.text d.context.has_topology d.context.number (parts_of d) ws)
 
--- i commands are read, without a fault; so the rest has the first fault of the whole text, and leads to the whole script
+-- i commands are read, without a fault; so the first fault of the rest is that of the whole text, and the rest leads to the script
 pub record Sofar (text : List ℕ) (ws : List Written) (i : ℕ) (d : Draft) : Type 0 where
   pub from : ℕ
   pub left : List (List Lexeme)
@@ -55,7 +55,7 @@ tree_of text ws = record { text = text; commands = ws }
 pub begins : (text : List ℕ) (ws : List Written) (d : Draft) → IsScript text (tree_of text ws) → d ≡ draft_of text (has_topology ws) 1 start → IsScriptOf start → Sofar text ws 0 d
 begins text ws d written begun kept =
     subst (Sofar text ws 0) (sym begun)
-    (record { from = 0; left = (parts (lexemes_of text)).1; are = written.1.1; fresh = λ header. (refl, refl, refl, refl); script = kept; same_text = refl; leads = refl })
+    (record { from = 0; left = (texts_of (lexemes_of text)).1; are = written.1.1; fresh = λ header. (refl, refl, refl, refl); script = kept; same_text = refl; leads = refl })
 
 -- the command's stage is at least `from`; the later commands start from the stage after it
 next_one : (text : List ℕ) (from : ℕ) (ps : List (List Lexeme)) (w : Written) (ws : List Written) → AreCommands text from ps (w ∷ ws)
@@ -70,7 +70,7 @@ module _ (text : List ℕ) (ws : List Written) (i : ℕ) (d : Draft) (w : Writte
   here : (sofar.from ≤ stage_of w) × (left : List (List Lexeme)) × AreCommands text (stage_after w) left (drop (i + 1) ws)
   here = next_one text sofar.from sofar.left w (drop (i + 1) ws) (rw split at sofar.are)
 
-  -- `rest_of`, if this is the first fault of the command at i
+  -- `rest_of` before the command at i, if that command has this first fault
   abbrev rest_with : Option Fault → Option Located × Parts
   rest_with found =
       let rest = rest_of (with_meaning d (meant d w)) (drop (i + 1) ws) in (option_or (option_map (located d.context.number) found) rest.0, rest.1)
@@ -91,7 +91,7 @@ module _ (text : List ℕ) (ws : List Written) (i : ℕ) (d : Draft) (w : Writte
         left = here.1;
         are = here.2;
         fresh = ready_behind d sofar.script w.command ready;
-        script = kept_behind d sofar.script w.command ready (rw means.is at means.sound) (rw means.is at means.light) (rw means.is at means.pairs) (rw all at has);
+        script = kept_behind d sofar.script w.command ready (rw means.is at means.sound) (rw means.is at means.within_limits) (rw means.is at means.pairs) (rw all at has);
         same_text = sofar.same_text;
         leads = leads_with None means.faultless;
       })

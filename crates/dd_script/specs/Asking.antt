@@ -1,10 +1,10 @@
--- What is known of each question of a script.
+-- What holds of each question of a script.
 use Rattle.std.specs.{Prelude.◌≡◌, Prelude.Some, List.Contains}
 use Rattle.dd_question.specs.Questions as question
 use Rattle.dd_question.specs.Questions.{Asked, IsSoundAsked}
 use Rattle.dd_script.specs.{Kept.IsRuleOf, Parts.Parts, Parts.Known, Parts.Query, Questions.asked}
 
--- the rules of a question are the script's
+-- the rules of the question have the script's topology, nodes and symbols
 abbrev pub AreOf : Known → Asked → Type 0
 AreOf k (question.membership x t) = IsRuleOf k.setting x
 AreOf k (question.box x g) = IsRuleOf k.setting x
@@ -16,7 +16,7 @@ AreOf k (question.density x strip ws) = IsRuleOf k.setting x
 AreOf k (question.least x along ws) = IsRuleOf k.setting x
 AreOf k (question.discharge x radius margin vs ws) = IsRuleOf k.setting x
 
--- the question is well formed, exceeds no limit, and is about the script's rules
+-- the question is well formed, exceeds no limit, and has rules as `AreOf` says
 pub record IsSoundIn (k : Known) (a : Asked) : Type 0 where
   pub sound : IsSoundAsked k.limits a
   pub of : AreOf k a

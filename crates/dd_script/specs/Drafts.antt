@@ -3,19 +3,20 @@ use Rattle.std.specs.Prelude.{ℕ, ◌+◌, ◌≡◌, ◌≤◌, List, Bool, Op
 use Rattle.dd_values.specs.Bounds.{most_commands}
 use Rattle.dd_script.specs.{Tree.SyntaxFault, declared.draft.Draft.Draft, declared.fault.ScriptFault.ScriptFault}
 use Rattle.dd_script.specs.{declared.fault.ScriptKind.ScriptKind, Parts.Parts, Parts.parts}
-use Rattle.dd_script.specs.Walk.{with, context, asked_fault, parts_in, pairs_in, meaning_at, fault_of, Written, Fault, Meaning}
+use Rattle.dd_script.specs.Walk.{with, context, asked_fault, comparisons_in, meaning_at, fault_of, Written, Fault, Meaning}
 use Rattle.dd_meanings.specs.Sound.{IsSoundMeaning}
-use Rattle.dd_pairs.specs.Made.{ArePairs}
+use Rattle.dd_pairs.specs.Made.{HavePairs}
 
+-- the script after the commands read so far
 abbrev pub parts_of : Draft → Parts
 parts_of d = parts d.context.known d.made
 
--- the draft at the command with the number n
+-- the draft before the command with the number n
 abbrev pub draft_of : List ℕ → Bool → ℕ → Parts → Draft
 draft_of text topology n s =
     record {
       context = context text topology n s;
-      made = record { rules = s.rules; automata = s.automata; configurations = s.configurations; queries = s.queries; pairs = s.pairs };
+      made = record { rules = s.rules; automata = s.automata; configurations = s.configurations; queries = s.queries };
     }
 
 -- the draft after a command with this meaning
@@ -31,11 +32,11 @@ pub record Means (d : Draft) (w : Written) (m : Meaning) : Type 0 where
   pub faultless : fault_at d w ≡ None
   pub is : m ≡ meaning_at d.context.text d.context.has_topology d.context.number (parts_of d) w
   pub sound : IsSoundMeaning d.context m
-  pub light : asked_fault (parts_of d) m ≡ None
-  pub pairs : ArePairs d.context.known (parts_in (parts_of d) m) (pairs_in (parts_of d) m)
+  pub within_limits : asked_fault (parts_of d) m ≡ None
+  pub pairs : HavePairs d.context.known (comparisons_in (parts_of d) m)
   pub counted : d.context.number ≤ most_commands
 
--- the command that is not well formed, or memory ran out
+-- the fault names the command that is not well formed, or says that memory ran out
 abbrev pub IsUnread : SyntaxFault → ScriptFault → Type 0
 IsUnread SyntaxFault.Memory e = e ≡ record { command = 0; kind = ScriptKind.Memory }
 IsUnread (SyntaxFault.At n) e = e ≡ record { command = n; kind = ScriptKind.Syntax }

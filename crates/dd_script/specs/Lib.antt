@@ -1,4 +1,4 @@
--- the types of syntax trees, of their faults and of what is known
+-- types of other crates: syntax trees, their faults, and what is known
 pub mod Tree
 -- the parts of a script
 pub mod Parts
@@ -8,7 +8,7 @@ pub mod Questions
 pub mod Kept
 -- what each command changes, and the first fault
 pub mod Walk
--- what is known of each question of a script
+-- what holds of each question of a script
 pub mod Asking
 -- which bytes spell a script, and how all others are refused
 pub mod Scripts

@@ -3,20 +3,18 @@ use Rattle.std.specs.Prelude.{List}
 pub use Rattle.dd_formula.specs.{LocalRule.LocalRule, declared.automaton.Automaton.Automaton}
 pub use Rattle.dd_pattern.specs.Tile.{Tile}
 pub use Rattle.dd_known.specs.declared.{known.Setting.Setting, known.Known.Known}
-pub use Rattle.dd_pairs.specs.declared.pair.Pair.{Pair}
 pub use Rattle.dd_query.specs.declared.queries.Query.{Query}
 use Rattle.dd_script.specs.declared.script.Made.{Made}
 
--- What a script says of cells and names; its rules, automata and configurations, in the order of their definitions; its queries
--- in order; and for each query the pairs of automata that it asks about.
+-- A script, as a value of specs. `known` holds what it says of cells, and its names, weights and limits. The rules, automata and
+-- configurations are in the order of their definitions, and the queries in the order in which they are asked.
 pub record Parts : Type 0 where
   pub known : Known
   pub rules : List LocalRule
   pub automata : List Automaton
   pub configurations : List Tile
   pub queries : List Query
-  pub pairs : List (List Pair)
 
 -- what is known, with what is defined and asked
 abbrev pub parts : Known → Made → Parts
-parts k m = record { known = k; rules = m.rules; automata = m.automata; configurations = m.configurations; queries = m.queries; pairs = m.pairs }
+parts k m = record { known = k; rules = m.rules; automata = m.automata; configurations = m.configurations; queries = m.queries }

@@ -2,22 +2,23 @@
 use Rattle.std.specs.{Prelude.ℕ, Prelude.◌-◌, Prelude.List, Prelude.Option, Prelude.option_map, List.slice_get, Option.option_and_then}
 use Rattle.dd_boxes.specs.{Goals.breaks, Goals.differ, Goals.always, Views.numbers_of}
 use Rattle.dd_question.specs.{Questions.Asked, Questions.excess_of, declared.excess.Excess.Excess}
-use Rattle.dd_pairs.specs.{Parts.PartOf, Parts.image, Parts.change, Parts.pair_of, Parts.goal_of, Goals.conjugacy_by}
+use Rattle.dd_pairs.specs.{Comparisons.ComparisonOf, Comparisons.image, Comparisons.change, Comparisons.pair_of, Comparisons.goal_of, Goals.conjugacy_by}
 use Rattle.dd_question.specs.Questions as question
 pub use Rattle.dd_pairs.specs.Queries.{of_both, of_three, of_four}
-use Rattle.dd_pairs.specs.Queries.{parts_asked, pairs_of}
-use Rattle.dd_script.specs.Parts.{Parts, LocalRule, Automaton, Query, Pair, Setting}
+use Rattle.dd_pairs.specs.Queries.{comparisons_asked, pairs_of}
+use Rattle.dd_pairs.specs.declared.pair.Pair.{Pair}
+use Rattle.dd_script.specs.Parts.{Parts, LocalRule, Automaton, Query, Setting}
 
--- whether the automaton maps configurations of the first rule to configurations of the second
+-- does the automaton map configurations of the first rule to configurations of the second?
 abbrev pub map_question : Setting → LocalRule → LocalRule → Automaton → Asked
 map_question s x y f = question.box x (goal_of s (image x f y))
 
--- whether two automata map the rules' configurations to each other, and are inverse to each other
+-- does each automaton map configurations of one rule to those of the other, and are the two inverse to each other?
 abbrev pub conjugacy_question : Setting → LocalRule → LocalRule → Automaton → Automaton → Asked
 conjugacy_question s x y f g =
     question.conjugacy (conjugacy_by x y (pair_of s (image x f y)) (pair_of s (image y g x)) (pair_of s (change x g f)) (pair_of s (change y f g)))
 
--- what the query asks, if its rules, automata and configuration exist
+-- what the query asks, if the rules, automata and configuration that it names exist
 abbrev pub asked : Parts → Query → Option Asked
 asked s (Query.Member configuration rule) = of_both question.membership (slice_get s.rules rule) (slice_get s.configurations configuration)
 asked s (Query.Contains outer inner) = of_both (λ x y. question.box x (breaks y)) (slice_get s.rules inner) (slice_get s.rules outer)
@@ -34,13 +35,13 @@ asked s (Query.Density rule strip) = option_map (λ x. question.density x strip 
 asked s (Query.Least rule periods) = option_map (λ x. question.least x periods s.known.weights) (slice_get s.rules rule)
 asked s (Query.Discharge rule radius margin vectors) = option_map (λ x. question.discharge x radius margin vectors s.known.weights) (slice_get s.rules rule)
 
--- the limit that the query's question exceeds, if it is searched up to the script's limits
+-- the limit on its work that the query's question exceeds, if any; the work depends on the script's limits of search
 abbrev pub query_excess : Parts → Query → Option Excess
 query_excess s q = option_and_then (excess_of s.known.limits) (asked s q)
 
--- the box questions of a query, each with the pair of automata that it compares
-abbrev pub parts_for : Parts → Query → List PartOf
-parts_for s q = parts_asked s.rules s.automata q
+-- the comparisons that a query consists of; then the pairs of automata that it asks about
+abbrev pub comparisons_for : Parts → Query → List ComparisonOf
+comparisons_for s q = comparisons_asked s.rules s.automata q
 
 abbrev pub pairs_for : Parts → Query → List Pair
 pairs_for s q = pairs_of s.known.setting s.rules s.automata q

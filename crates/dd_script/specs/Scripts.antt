@@ -5,7 +5,7 @@ use Rattle.dd_script.specs.{Tree.Syntax, Tree.Fault, declared.fault.ScriptKind.S
 use Rattle.dd_script.specs.{Parts.Parts, Walk.located, Walk.first_located_fault, Walk.script_of, Walk.Limit, Walk.Fault}
 use Rattle.dd_commands.specs.Scripts.{IsScript, IsSyntaxFault}
 
--- the bytes are a text of the grammar, without a fault, and this is its meaning
+-- the bytes are a text of the grammar, without a fault, and the script is its meaning
 pub record Spells (bytes : List ℕ) (s : Parts) : Type 0 where
   pub tree : Syntax
   pub written : IsScript bytes tree
@@ -20,7 +20,7 @@ pub data RefusalKind : Type 0 where
   dimension : RefusalKind
   size : Limit → RefusalKind
 
--- the kind of a fault, with the text of the name
+-- the kind of a fault; a name is given by its text
 abbrev pub kind_of : List ℕ → Fault → RefusalKind
 kind_of bytes (Fault.Unknown name) = unknown (name_text bytes name)
 kind_of bytes (Fault.Twice name) = twice (name_text bytes name)
@@ -28,7 +28,7 @@ kind_of bytes Fault.TwiceVector = twice (codes "vector")
 kind_of bytes Fault.Dimension = dimension
 kind_of bytes (Fault.Size l) = size l
 
--- the bytes are a text of the grammar, and the first fault of its commands is of this kind
+-- the bytes are a text of the grammar; the first fault of its commands is of this kind, in the command with the number n
 pub record HasFault (bytes : List ℕ) (n : ℕ) (k : RefusalKind) : Type 0 where
   pub tree : Syntax
   pub written : IsScript bytes tree
@@ -36,7 +36,7 @@ pub record HasFault (bytes : List ℕ) (n : ℕ) (k : RefusalKind) : Type 0 wher
   pub comes_first : first_located_fault bytes tree.commands ≡ Some (located n found)
   pub is : k ≡ kind_of bytes found
 
--- how the bytes are refused: by the first command that is not well formed, otherwise by the first fault
+-- the bytes are refused for the first command that is not well formed, otherwise for the first fault
 abbrev pub RefusedAs : List ℕ → ℕ → RefusalKind → Type 0
 RefusedAs bytes n syntax = IsSyntaxFault bytes n
 RefusedAs bytes n (unknown text) = HasFault bytes n (unknown text)
@@ -44,7 +44,7 @@ RefusedAs bytes n (twice text) = HasFault bytes n (twice text)
 RefusedAs bytes n dimension = HasFault bytes n dimension
 RefusedAs bytes n (size l) = HasFault bytes n (size l)
 
--- refused so; or memory ran out, and then only the number 0 is promised
+-- the bytes are refused as above; or memory ran out, and then only the number 0 is promised
 abbrev pub IsRefusedAs : List ℕ → ℕ → ScriptKind → Type 0
 IsRefusedAs bytes n ScriptKind.Syntax = RefusedAs bytes n syntax
 IsRefusedAs bytes n (ScriptKind.Unknown text) = RefusedAs bytes n (unknown (string_bytes text))

@@ -1,5 +1,5 @@
 -- The commands of a script one by one: what each changes, and the first fault.
-use Rattle.std.specs.Prelude.{ℕ, ◌+◌, List, [], ◌∷◌, ◌++◌, length, map, Bool, ◌==◌, Option, Some, None, unwrap_or}
+use Rattle.std.specs.Prelude.{ℕ, ◌+◌, List, [], ◌∷◌, ◌++◌, length, Bool, ◌==◌, Option, Some, None, unwrap_or}
 use Rattle.std.specs.{List.list_any, List.range_with_len, Option.option_or, Option.option_map, Option.option_and_then}
 use Rattle.dd_topology.specs.Sets.{restricted}
 pub use Rattle.dd_written.specs.Values.{word_text}
@@ -10,13 +10,13 @@ pub use Rattle.dd_faults.specs.{declared.fault.Limit.Limit, declared.fault.Fault
 pub use Rattle.dd_meanings.specs.{declared.meaning.Meaning.Meaning, Meanings.meaning as meaning_of, Meanings.counted_sizes}
 pub use Rattle.dd_pairs.specs.Faults.{limit_of}
 use Rattle.dd_start.specs.Start.{known_start, allowing, unrestricted}
-use Rattle.dd_pairs.specs.{Parts.PartOf, Parts.pair_of, Faults.parts_faults, Faults.earliest}
-use Rattle.dd_script.specs.{Questions.query_excess, Questions.parts_for, Questions.pairs_for, Parts.Parts, Parts.Query, Parts.Pair}
+use Rattle.dd_pairs.specs.{Comparisons.ComparisonOf, Faults.faults_in_order, Faults.earliest}
+use Rattle.dd_script.specs.{Questions.query_excess, Questions.comparisons_for, Parts.Parts, Parts.Query}
 
 -- ---- the defaults
 
 abbrev pub start : Parts
-start = record { known = known_start; rules = []; automata = []; configurations = []; queries = []; pairs = [] }
+start = record { known = known_start; rules = []; automata = []; configurations = []; queries = [] }
 
 -- ---- what a command changes
 
@@ -37,7 +37,7 @@ with bytes s (Meaning.Automaton name automaton) =
     record s { known = record (s.known) { automata = s.known.automata ++ word_text bytes name ∷ [] }; automata = s.automata ++ automaton ∷ [] }
 with bytes s (Meaning.Configuration name configuration) =
     record s { known = record (s.known) { configurations = s.known.configurations ++ word_text bytes name ∷ [] }; configurations = s.configurations ++ configuration ∷ [] }
-with bytes s (Meaning.Query query) = record s { queries = s.queries ++ query ∷ []; pairs = s.pairs ++ pairs_for s query ∷ [] }
+with bytes s (Meaning.Query query) = record s { queries = s.queries ++ query ∷ [] }
 
 -- ---- one command after the other
 
@@ -45,7 +45,7 @@ with bytes s (Meaning.Query query) = record s { queries = s.queries ++ query ∷
 abbrev pub context : List ℕ → Bool → ℕ → Parts → Context
 context bytes topology n s = record { text = bytes; has_topology = topology; number = n; known = s.known }
 
--- the query, if it is one
+-- the query, if the command is one
 abbrev pub query_in : Meaning → Option Query
 query_in (Meaning.Topology g) = None
 query_in (Meaning.Nodes nodes given g) = None
@@ -58,30 +58,30 @@ query_in (Meaning.Automaton name automaton) = None
 query_in (Meaning.Configuration name configuration) = None
 query_in (Meaning.Query query) = Some query
 
--- the first limit that the query's pairs or the questions about them exceed; otherwise the limit that the query's question exceeds
+-- the first limit that the query's pairs or the questions about them exceed; otherwise the limit that the query's own question
+-- exceeds
 abbrev pub query_fault : Parts → Query → Option Fault
-query_fault s q = option_or (earliest (parts_faults s.known (parts_for s q))) (option_map (λ e. Fault.Size (limit_of e)) (query_excess s q))
+query_fault s q = option_or (earliest (faults_in_order s.known (comparisons_for s q))) (option_map (λ e. Fault.Size (limit_of e)) (query_excess s q))
 
+-- the same for a command, if it is a query
 abbrev pub asked_fault : Parts → Meaning → Option Fault
 asked_fault s m = option_and_then (query_fault s) (query_in m)
 
--- the box questions of a query, each with the pair of automata that it compares
-abbrev pub parts_in : Parts → Meaning → List PartOf
-parts_in s m = unwrap_or (option_map (parts_for s) (query_in m)) []
-
-abbrev pub pairs_in : Parts → Meaning → List Pair
-pairs_in s m = map (pair_of s.known.setting) (parts_in s m)
+-- the comparisons that the command consists of, if it is a query
+abbrev pub comparisons_in : Parts → Meaning → List ComparisonOf
+comparisons_in s m = unwrap_or (option_map (comparisons_for s) (query_in m)) []
 
 abbrev pub meaning_at : List ℕ → Bool → ℕ → Parts → Written → Meaning
 meaning_at bytes topology n s w = meaning_of (context bytes topology n s) s.automata w.command
 
--- The first fault of the command's text; otherwise the first limit on counts that is exceeded; otherwise the limit that the
--- query's question exceeds.
+-- The first fault of the command's text; otherwise the first limit on counts that is exceeded; otherwise `asked_fault` of the
+-- command's meaning.
 abbrev pub fault_of : List ℕ → Bool → ℕ → Parts → Written → Option Fault
 fault_of bytes topology n s w =
     option_or (first_fault (written_faults (context bytes topology n s) w))
     (option_or (first_fault (counted_sizes (context bytes topology n s) s.automata w.command)) (asked_fault s (meaning_at bytes topology n s w)))
 
+-- the script after this command
 abbrev pub next : List ℕ → Bool → ℕ → Parts → Written → Parts
 next bytes topology n s w = with bytes s (meaning_at bytes topology n s w)
 
@@ -103,7 +103,7 @@ abbrev pub after_all : List ℕ → Bool → ℕ → Parts → List Written → 
 after_all bytes topology n s [] = s
 after_all bytes topology n s (w ∷ ws) = after_all bytes topology (n + 1) (next bytes topology n s w) ws
 
--- whether its stage is that of a topology command
+-- whether the command gives a topology, by its name or by its edges: these commands have one stage
 abbrev pub is_topology : Written → Bool
 is_topology w = stage_of w == stage Head.Topology
 

@@ -6,8 +6,8 @@ ghost use Rattle.dd_commands.specs.Scripts.{IsWritten};
 ghost use Rattle.dd_known.specs.Sound.{IsSound};
 ghost use Rattle.dd_faults.specs.Order.{Accepts, Refuses};
 ghost use Rattle.dd_meanings.specs.Sound.{IsSoundMeaning};
-ghost use Rattle.dd_pairs.specs.Made.{ArePairs};
-ghost use Rattle.dd_script.specs.{Kept.IsScriptOf, Walk.start, Walk.asked_fault, Walk.parts_in, Walk.pairs_in};
+ghost use Rattle.dd_pairs.specs.Made.{HavePairs};
+ghost use Rattle.dd_script.specs.{Kept.IsScriptOf, Walk.start, Walk.asked_fault, Walk.comparisons_in};
 ghost use Rattle.dd_script.specs.Drafts.{parts_of, draft_of, with_meaning, fault_at, Means};
 
 use crate::questions::question_of;
@@ -16,7 +16,7 @@ use dd_commands::Written;
 use dd_faults::{Fault, Refusal, check};
 use dd_known::{Context, TOO_MANY};
 use dd_meanings::{Meaning, add_new, mean};
-use dd_pairs::{Pair, limit_of, pairs_of};
+use dd_pairs::{limit_of, pairs_of};
 use dd_start::{allow_all, numbers_below, start};
 use dd_topology::Names;
 use dd_values::{Boxed, Items};
@@ -30,7 +30,7 @@ pub(crate) struct Draft {
     pub(crate) made: Made,
 }
 
-/// Adds a name that is not in the list. A list longer than any script's is reported as out of memory.
+/// Adds a name that the list does not hold. If the list is longer than any script's, the error is that memory ran out.
 fn add_name(alloc: Global, text: &Text, names: &mut Names, name: Word) -> Result<(), AllocError>
     requires { ¬ Contains names.old (word_text text.now name) }
     ensures { OnOk result (names.new ≡ names.old ++ word_text text.now name ∷ []) }
@@ -60,20 +60,20 @@ impl Draft {
                 automata: Items::new(alloc),
                 configurations: Items::new(alloc),
                 queries: Items::new(alloc),
-                pairs: Items::new(alloc),
             },
         })
     }
 
-    /// The pairs that a query asks about. The query is refused if one of its pairs or its question exceeds a limit.
-    fn weigh(&self, alloc: Global, meaning: &Meaning) -> Result<Items<Pair>, Refusal>
+    /// Refuses a query if one of its pairs, the question about one of them, or its own question exceeds a limit. Accepts every
+    /// other command.
+    fn check_limits(&self, alloc: Global, meaning: &Meaning) -> Result<(), Refusal>
         requires script { IsScriptOf (parts_of self.now) }
         requires sound { IsSoundMeaning self.now.context meaning.now }
         ensures accepts { Accepts result (asked_fault (parts_of self.now) meaning.now) }
-        ensures pairs { IfOk result (ArePairs self.now.context.known (parts_in (parts_of self.now) meaning.now)) }
+        ensures pairs { OnOk result (HavePairs self.now.context.known (comparisons_in (parts_of self.now) meaning.now)) }
     {
         let Meaning::Query(query) = meaning else {
-            return Ok(Items::new(alloc));
+            return Ok(());
         };
         let known = &self.context.known;
         let made = &self.made;
@@ -87,37 +87,27 @@ impl Draft {
         let question = question_of(known, made, query, pairs.as_slice());
         match question.excess(alloc, &known.limits)? {
             Some(excess) => Err(Refusal::At(Fault::Size(limit_of(excess)))),
-            None => Ok(pairs),
+            None => Ok(()),
         }
     }
 
-    /// The meaning of the next command, and the pairs that it asks about. If it has a fault, its first fault.
-    pub(crate) fn meaning_of(
-        &self,
-        alloc: Global,
-        written: &Written,
-    ) -> Result<(Meaning, Items<Pair>), Refusal>
+    /// The meaning of the next command, or its first fault.
+    pub(crate) fn meaning_of(&self, alloc: Global, written: &Written) -> Result<Meaning, Refusal>
         requires written { IsWritten self.now.context.text written.now }
         requires script { IsScriptOf (parts_of self.now) }
-        ensures { MatchResult result (λ meant. Means self.now written.now meant.0 × (meant.1 ≡ pairs_in (parts_of self.now) meant.0)) (λ refusal. Refuses refusal (fault_at self.now written.now)) }
+        ensures { MatchResult result (Means self.now written.now) (λ refusal. Refuses refusal (fault_at self.now written.now)) }
     {
         check(alloc, &self.context, written)?;
         let meaning = mean(alloc, &self.context, self.made.automata.as_slice(), written)?;
-        let pairs = self.weigh(alloc, &meaning)?;
-        Ok((meaning, pairs))
+        self.check_limits(alloc, &meaning)?;
+        Ok(meaning)
     }
 
-    /// Adds the next command, which has this meaning and asks about these pairs.
-    pub(crate) fn add(
-        &mut self,
-        alloc: Global,
-        meaning: Meaning,
-        pairs: Items<Pair>,
-    ) -> Result<(), AllocError>
+    /// Adds the next command, whose meaning this is.
+    pub(crate) fn add(&mut self, alloc: Global, meaning: Meaning) -> Result<(), AllocError>
         requires counted { self.old.context.number ≤ most_commands }
         requires sound { IsSound self.old.context.known }
         requires meaning { IsSoundMeaning self.old.context meaning }
-        requires pairs { pairs ≡ pairs_in (parts_of self.old) meaning }
         ensures { OnOk result (self.new ≡ with_meaning self.old meaning) }
     {
         self.context.number += 1;
@@ -172,10 +162,7 @@ impl Draft {
                 made.configurations.push(configuration)?;
                 add_name(alloc, text, &mut known.configurations, name)
             }
-            Meaning::Query(query) => {
-                made.pairs.push(pairs)?;
-                made.queries.push(query)
-            }
+            Meaning::Query(query) => made.queries.push(query),
         }
     }
 

@@ -17,7 +17,7 @@ pub enum ScriptKind {
     /// This name is unknown.
     #[error("unknown name {0}")]
     Unknown(String),
-    /// This name is given twice. It is `vector` if a vector is.
+    /// This name is given twice. If a vector is given twice, the text is `vector`.
     #[error("{0} is given twice")]
     Twice(String),
     /// A dimension or a number of entries is wrong.
@@ -31,9 +31,9 @@ pub enum ScriptKind {
     Memory,
 }
 
-/// Why a text is not a script. `command` is the first command that is not well formed. If all are, it is the first one with a
-/// fault, and `kind` is that command's first fault. Commands are numbered from 1; 0 stands for what comes before the first, and
-/// for no command if memory ran out.
+/// Why a text is not a script. `command` is the number of the first command that is not well formed. If all are well formed, it is
+/// that of the first command with a fault, and `kind` is the first fault of that command. Commands are numbered from 1. The number
+/// 0 stands for what comes before the first command; it is also given if memory ran out.
 #[derive(Debug, Drop, Error)]
 #[error("command {command}: {kind}")]
 pub struct ScriptFault {

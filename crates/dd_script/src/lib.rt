@@ -9,6 +9,7 @@ mod script;
 
 pub use dd_boxes::Goal;
 pub use dd_faults::Limit;
+pub use dd_pairs::Pair;
 pub use dd_query::Query;
 pub use dd_question::{CheckedQuestion, Question};
 pub use dd_values::Limits;

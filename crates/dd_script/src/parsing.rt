@@ -15,6 +15,7 @@ use dd_faults::{Fault, Refusal};
 use dd_written::{Text, name_text};
 use std::alloc::{AllocError, Global};
 
+/// Whether a command gives a topology, by its name or by its edges.
 fn is_topology(written: &Written) -> bool
     ensures { result ≡ is_topology written.now }
 {
@@ -32,7 +33,12 @@ fn has_topology(commands: &[Written]) -> bool
 }
 
 /// The refusal of the command with this number for this fault.
-fn told(alloc: Global, text: &Text, command: u32, fault: Fault) -> Result<ScriptFault, AllocError>
+fn refusal_for(
+    alloc: Global,
+    text: &Text,
+    command: u32,
+    fault: Fault,
+) -> Result<ScriptFault, AllocError>
     requires { HasFault text.now command (kind_of text.now fault) }
     ensures { IfOk result (IsScriptRefusal text.now) }
 {
@@ -48,7 +54,7 @@ fn told(alloc: Global, text: &Text, command: u32, fault: Fault) -> Result<Script
     Ok(ScriptFault { command, kind })
 }
 
-/// Reads all commands of a text. If one has a fault, the error is the first such command, with its first fault.
+/// Adds all commands of a text to the draft. If one has a fault, the error is the first such command, with its first fault.
 fn walk(alloc: Global, draft: &mut Draft, commands: &[Written]) -> Result<(), ScriptFault>
     requires begun { draft.old ≡ draft_of draft.old.context.text (has_topology commands.now) 1 start }
     requires kept { IsScriptOf start }
@@ -60,15 +66,15 @@ fn walk(alloc: Global, draft: &mut Draft, commands: &[Written]) -> Result<(), Sc
 {
     for written in commands {
         match draft.meaning_of(alloc, written) {
-            Ok((meaning, pairs)) => {
-                draft.add(alloc, meaning, pairs)?;
-                // This read brings in what the type guarantees.
+            Ok(meaning) => {
+                draft.add(alloc, meaning)?;
+                // This call tells the proof what the type `Sets` guarantees.
                 let _symbols = draft.context.known.setting.sets.symbols();
             }
             Err(Refusal::Memory) => return Err(ScriptFault::from(AllocError)),
             Err(Refusal::At(fault)) => {
                 let context = &draft.context;
-                return Err(told(alloc, &context.text, context.number, fault)?);
+                return Err(refusal_for(alloc, &context.text, context.number, fault)?);
             }
         }
     }
@@ -96,8 +102,8 @@ fn script_of(alloc: Global, text: Text, commands: &[Written]) -> Result<Script, 
 /// The script that the bytes spell, or why they spell none.
 ///
 /// # Errors
-/// The first command that is not well formed; otherwise the first command with a fault, and its first fault: an unknown name, a
-/// repetition, a wrong dimension or number of entries, or a limit exceeded, in this order. Or memory ran out.
+/// The first command that is not well formed; otherwise the first command with a fault, and its first fault. Faults come in this
+/// order: an unknown name, a repetition, a wrong dimension or number of entries, a limit exceeded. Or memory ran out.
 pub fn parse(alloc: Global, bytes: &[u8]) -> Result<Script, ScriptFault>
     requires { length bytes.now ≤ most_script }
     ensures spelled { IfOk result (Spells bytes.now) }

@@ -2,36 +2,35 @@
 use crate::questions::question_of;
 use dd_formula::{Automaton, Rule};
 use dd_known::Known;
-use dd_pairs::{Pair, kept_for};
+use dd_pairs::{Pair, pairs_of};
 use dd_pattern::Periodic;
 use dd_query::Query;
 use dd_question::{CheckedQuestion, sound_questions};
 use dd_topology::{Names, Sets, Topology};
 use dd_values::{Boxed, Items, Limits};
+use std::alloc::{AllocError, Global};
 use std::marker::Model;
 
-/// What the commands after the header define and ask, in order.
+/// What the commands define and ask, in order.
 #[derive(Drop)]
 pub(crate) struct Made {
     pub(crate) rules: Items<Rule>,
     pub(crate) automata: Items<Automaton>,
     pub(crate) configurations: Items<Periodic>,
     pub(crate) queries: Items<Query>,
-    /// For each query, the pairs that it asks about.
-    pub(crate) pairs: Items<Items<Pair>>,
 }
 
-/// What is known and made in a script.
+/// All that a script says. `known` holds what it says of cells, and its names, weights and limits. `made` holds what it defines and asks.
 #[derive(Drop)]
 pub(crate) struct Contents {
     pub(crate) known: Known,
     pub(crate) made: Made,
 }
 
-/// A script: its topology, nodes, symbols, weights and limits, what it defines, and what it asks. Its numbers are in range, its
-/// parts agree in dimension, nodes and symbols, and it exceeds no limit.
+/// A script: its topology, nodes, symbols, weights and limits, what it defines, and what it asks. Its numbers are in range. What it
+/// defines has the script's dimension, nodes and symbols. The script exceeds no limit.
 ///
-/// It is small: its parts are on the heap.
+/// A value of this type is small: its contents are on the heap.
 #[derive(Drop)]
 pub struct Script {
     pub(crate) contents: Boxed<Contents>,
@@ -107,7 +106,7 @@ impl Script {
         self.contents.get().known.weights.as_slice()
     }
 
-    /// The limits of the search for its answers.
+    /// The limits of the search for answers.
     pub fn limits(&self) -> &Limits
         ensures value { result.now ≡ self.now.known.limits }
         ensures kept { IsScriptOf self.now }
@@ -151,32 +150,52 @@ impl Script {
     }
 }
 
-/// What the queries ask. These methods allocate nothing.
+/// What the queries ask.
 impl Script {
-    ghost use Rattle.std.specs.Prelude.{◌≡◌, Contains};
+    ghost use Rattle.std.specs.Prelude.{◌≡◌, Contains, IfOk};
+    ghost use Rattle.dd_script.specs.Questions.{pairs_for};
     ghost use Rattle.dd_script.specs.Asking.{Asks, AreSound};
 
-    /// What a query of the script asks, of any kind. It has the rules, automata and configurations themselves in place of their
-    /// indices, the script's limits, and the script's weights if the query weighs configurations.
-    pub fn question<'a>(&'a self, query: &'a Query) -> CheckedQuestion<'a>
+    /// The pairs of automata that a query of the script asks about: none, unless it is about images or a conjugacy. A script doesn't
+    /// keep them, since each may be as large as the script.
+    ///
+    /// # Errors
+    /// Memory ran out.
+    pub fn pairs(&self, alloc: Global, query: &Query) -> Result<Items<Pair>, AllocError>
         requires { Contains self.now.queries query.now }
+        ensures { IfOk result (λ pairs. pairs ≡ pairs_for self.now query.now) }
+    {
+        let contents = self.contents.get();
+        let made = &contents.made;
+        let rules = made.rules.as_slice();
+        let automata = made.automata.as_slice();
+        match pairs_of(alloc, &contents.known, rules, automata, query) {
+            Ok(pairs) => Ok(pairs),
+            // The script was accepted with this query, so no limit is exceeded.
+            Err(_) => Err(AllocError),
+        }
+    }
+
+    /// What a query of the script asks, with rules, automata and configurations in place of their indices. `pairs` are those of the
+    /// query. The question has the script's limits; if it weighs configurations, it has the script's weights. Nothing is allocated.
+    pub fn question<'a>(&'a self, query: &'a Query, pairs: &'a [Pair]) -> CheckedQuestion<'a>
+        requires query { Contains self.now.queries query.now }
+        requires pairs { pairs.now ≡ pairs_for self.now query.now }
         ensures asks { Asks self.now query.now result.question }
         ensures limits { result.limits ≡ self.now.known.limits }
     {
         self.sound_questions();
         let contents = self.contents.get();
-        let made = &contents.made;
-        let pairs = kept_for(made.queries.as_slice(), made.pairs.as_slice(), query);
-        let question = question_of(&contents.known, made, query, pairs);
+        let question = question_of(&contents.known, &contents.made, query, pairs);
         CheckedQuestion::known(question, *self.limits())
     }
 
-    /// Does nothing; its contract says that what the queries ask is sound.
+    /// Does nothing. Its contract says that what the queries ask is well formed and exceeds no limit.
     pub fn sound_questions(&self)
         ensures { AreSound self.now }
     {
         sound_questions();
-        // This read brings in what the type guarantees.
+        // This call tells the proof what the type guarantees.
         let _limits = self.limits();
     }
 }

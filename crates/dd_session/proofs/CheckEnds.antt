@@ -1,4 +1,4 @@
--- How a check ended, and what the bytes of a source decide of it.
+-- How a check ended, and what the bytes of a source, where they are known, decide of it.
 use Rattle.std.proofs.Common.{◌≡◌, ◌≢◌, inl, inr, ℕ, suc, ◌+◌, ◌≤◌, List, [], ◌++◌, Bool, true, false, None, Some, refl, sym, ◌∙◌, ap, subst, length, arith, append-nil, length-append}
 use Rattle.std.proofs.KnownBytes.{Consumes-nil}
 use Rattle.std.specs.declared.option.Option.{Option}
@@ -7,13 +7,13 @@ use Rattle.dd_output.specs.{declared.output.Output.Output, Outputs.output_text, 
 use Rattle.dd_script.specs.{Parts.Parts, Scripts.Spells, Scripts.RefusedAs, Scripts.RefusalKind}
 use Rattle.dd_session.specs.declared.status.Status.{Status}
 use Rattle.dd_session.specs.declared.status.Status.TheVariants.{Definite, SomeUnknown, Refused, ReadFault, WriteFault, Memory, BadWords, Rejected}
-use Rattle.dd_session.specs.{Output.long_line, Sides.Told, Sides.RefusedBy}
+use Rattle.dd_session.specs.{Output.long_line, Sides.Change, Sides.RefusedBy}
 use Rattle.dd_session.specs.Checks.{most_checked, IsOutput, IsCheckable, IsRefusedOutput, malformed, no_script, IsCheckedOutput}
 use Rattle.dd_session.specs.Checked.{CheckedOver, CheckEnded, CheckDecides, WholeCheck, WholeRejection, WholeRefusedOutput, Read}
-use Rattle.dd_session.proofs.Decided.{NeverBoth, told_bytes, told_more}
+use Rattle.dd_session.proofs.Decided.{NeverBoth, known_bytes, known_more}
 
 -- The input was read to its end.
-pub ended_check : {S K : Type 0} (source : Told S) (sink : Told K) (given bytes : List ℕ) (status : Status)
+pub ended_check : {S K : Type 0} (source : Change S) (sink : Change K) (given bytes : List ℕ) (status : Status)
     → ReadToEnd source.bytes_old source.bytes_new given → length given ≤ most_checked → bytes ≡ given → CheckedOver sink bytes status
     → CheckEnded source sink status
 ended_check source sink given bytes status to_end short same over = by_status status (subst (λ (l : List ℕ). CheckedOver sink l status) same over) where
@@ -32,7 +32,7 @@ ended_check source sink given bytes status to_end short same over = by_status st
   by_status Rejected over = of_given _ over
 
 -- The input was too long.
-pub check_long : {S K : Type 0} (source : Told S) (sink : Told K) (status : Status) → GivesMore source.bytes_old source.bytes_new most_checked
+pub check_long : {S K : Type 0} (source : Change S) (sink : Change K) (status : Status) → GivesMore source.bytes_old source.bytes_new most_checked
     → RefusedBy sink long_line status → CheckEnded source sink status
 check_long source sink Refused more wrote = inl (more, wrote)
 check_long source sink WriteFault more wrote = (inl (more, wrote.0), wrote.1)
@@ -50,15 +50,15 @@ took_output old new bytes to_end short = record { given = bytes; consumed = to_e
 
 -- ---- what the bytes decide
 
--- a text is of one output at most
+-- a text is the text of at most one output
 abbrev pub OneOutput : Type 0
 OneOutput = (a b : Output) → IsWritableOutput a → IsWritableOutput b → output_text a ≡ output_text b → a ≡ b
 
 too_long : (bytes : List ℕ) (left : Option (List ℕ)) → GivesMore (Some bytes) left most_checked → ¬ IsCheckedOutput bytes
-too_long bytes left more can = omega (arith, told_more bytes left most_checked more, can.short)
+too_long bytes left more can = omega (arith, known_more bytes left most_checked more, can.short)
 
--- no check ends by bad words
-pub never_bad : {S K : Type 0} (source : Told S) (sink : Told K) (status : Status) → CheckEnded source sink status → status ≢ BadWords
+-- no check ends with `BadWords`
+pub never_bad : {S K : Type 0} (source : Change S) (sink : Change K) (status : Status) → CheckEnded source sink status → status ≢ BadWords
 never_bad source sink status ended is = let none : ⊥ = subst (CheckEnded source sink) is ended in none
 
 module _ (one_output : OneOutput) (never_both : NeverBoth) where
@@ -71,17 +71,17 @@ module _ (one_output : OneOutput) (never_both : NeverBoth) where
       let same : p ≡ o = same_output bytes p o of_p can.output in
       never_both o.script s n k can.spelled (subst (λ (q : Output). RefusedAs q.script n k) same refused)
 
-  -- what holds of the bytes that were given holds of those that were told
-  of_told : (bytes : List ℕ) (left : Option (List ℕ)) (P : List ℕ → Type 0) → Read (Some bytes) left P → (length bytes ≤ most_checked) × P bytes
-  of_told bytes left P given =
-      let same : bytes ≡ given.bytes = told_bytes bytes given.bytes left given.read in
+  -- what holds of the bytes that were read holds of those that were known
+  of_known : (bytes : List ℕ) (left : Option (List ℕ)) (P : List ℕ → Type 0) → Read (Some bytes) left P → (length bytes ≤ most_checked) × P bytes
+  of_known bytes left P given =
+      let same : bytes ≡ given.bytes = known_bytes bytes given.bytes left given.read in
       (rw same given.short, subst P (sym same) given.holds)
 
-  of_source : {S : Type 0} (source : Told S) (bytes : List ℕ) (P : List ℕ → Type 0) → source.bytes_old ≡ Some bytes
+  of_source : {S : Type 0} (source : Change S) (bytes : List ℕ) (P : List ℕ → Type 0) → source.bytes_old ≡ Some bytes
       → Read source.bytes_old source.bytes_new P → (length bytes ≤ most_checked) × P bytes
-  of_source source bytes P is given = of_told bytes source.bytes_new P (subst (λ t. Read t source.bytes_new P) is given)
+  of_source source bytes P is given = of_known bytes source.bytes_new P (subst (λ t. Read t source.bytes_new P) is given)
 
-  pub check_decided : {S K : Type 0} (source : Told S) (sink : Told K) (status : Status) → CheckEnded source sink status
+  pub check_decided : {S K : Type 0} (source : Change S) (sink : Change K) (status : Status) → CheckEnded source sink status
       → (bytes : List ℕ) → source.bytes_old ≡ Some bytes → CheckDecides bytes status
   check_decided source sink status ended bytes is = record {
     definite = λ e.

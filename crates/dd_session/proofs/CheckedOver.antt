@@ -7,7 +7,7 @@ use Rattle.dd_script.specs.{declared.fault.ScriptKind.ScriptKind, Parts.Parts}
 use Rattle.dd_script.specs.Scripts.{Spells, IsRefusedAs, syntax, unknown, twice, dimension, size}
 use Rattle.dd_session.specs.declared.status.Status.{Status}
 use Rattle.dd_session.specs.declared.status.Status.TheVariants.{Definite, SomeUnknown, Refused, ReadFault, WriteFault, Memory, BadWords, Rejected}
-use Rattle.dd_session.specs.{Answers.has_unknown, Output.IsLineOf, Sides.Told, Sides.RefusedBy, Sides.RefusedFor, Sides.status_of}
+use Rattle.dd_session.specs.{Answers.has_unknown, Output.IsLineOf, Sides.Change, Sides.RefusedBy, Sides.RefusedFor, Sides.status_of}
 use Rattle.dd_session.specs.Checks.{offset_line, IsOutput, IsCheckable, IsRefusedOutput, malformed, no_script}
 use Rattle.dd_session.specs.Checked.{CheckedOver}
 use Rattle.dd_session.specs.checking.Judged.{RejectedHere, AcceptedAll, AllJudged, checked_status}
@@ -17,8 +17,8 @@ use Rattle.dd_script.specs.declared.fault.ScriptKind.TheVariants as refused
 output_itself : (o : Output) → IsWritableOutput o → IsOutput (output_text o) o
 output_itself o writable = record { writable = writable; text_is = refl }
 
--- the line for a refusal was written, or a front of it
-pub refused_over : {K : Type 0} (sink : Told K) (bytes line : List ℕ) (status : Status) → IsRefusedOutput bytes line → RefusedBy sink line status
+-- the line for a refusal was written, or a prefix of it
+pub refused_over : {K : Type 0} (sink : Change K) (bytes line : List ℕ) (status : Status) → IsRefusedOutput bytes line → RefusedBy sink line status
     → CheckedOver sink bytes status
 refused_over sink bytes line Refused why wrote = record { line = line; refused = why; appends = wrote }
 refused_over sink bytes line WriteFault why wrote = (inr record { line = line; refused = why; front = wrote.0 }, wrote.1)
@@ -30,7 +30,7 @@ refused_over sink bytes line BadWords why wrote = absurd wrote
 refused_over sink bytes line Rejected why wrote = absurd wrote
 
 -- the bytes are no output
-pub offset_over : {K : Type 0} (sink : Told K) (bytes line text : List ℕ) (offset : ℕ) (status : Status) → IsOutputFault bytes (faults.Malformed offset)
+pub offset_over : {K : Type 0} (sink : Change K) (bytes line text : List ℕ) (offset : ℕ) (status : Status) → IsOutputFault bytes (faults.Malformed offset)
     → line ≡ offset_line offset → text ≡ line → RefusedBy sink text status → CheckedOver sink bytes status
 offset_over sink bytes line text offset status none is same wrote =
     refused_over sink bytes line status (malformed offset none.0 none.1 is) (subst (λ (l : List ℕ). RefusedBy sink l status) same wrote)
@@ -50,8 +50,8 @@ few_bytes o bytes writable is = rw is writable.0
 pub same_spelled : (o : Output) (bytes : List ℕ) (s : Parts) → bytes ≡ o.script → Spells bytes s → Spells o.script s
 same_spelled o bytes s is spelled = subst (λ (l : List ℕ). Spells l s) is spelled
 
--- the script in the output is none
-pub script_over : {K : Type 0} (sink : Told K) (o : Output) (bytes : List ℕ) (n : ℕ) (kind : ScriptKind) (status : Status) → IsWritableOutput o
+-- the script in the output is no script
+pub script_over : {K : Type 0} (sink : Change K) (o : Output) (bytes : List ℕ) (n : ℕ) (kind : ScriptKind) (status : Status) → IsWritableOutput o
     → bytes ≡ o.script → IsRefusedAs bytes n kind → RefusedFor sink (codes "refused script") n kind status → CheckedOver sink (output_text o) status
 script_over sink o bytes n kind status writable of fault (inl refused) =
     refused_over sink (output_text o) refused.line status
@@ -62,7 +62,7 @@ checkable : (o : Output) (s : Parts) → IsWritableOutput o → Spells o.script 
 checkable o s writable spelled = record { output = output_itself o writable; spelled = spelled }
 
 -- all queries were accepted
-accepted_over : {K : Type 0} (sink : Told K) (o : Output) (s : Parts) (has : Bool) (status : Status) → IsWritableOutput o → Spells o.script s
+accepted_over : {K : Type 0} (sink : Change K) (o : Output) (s : Parts) (has : Bool) (status : Status) → IsWritableOutput o → Spells o.script s
     → AcceptedAll sink.bytes_old sink.bytes_new s o.answers → has ≡ has_unknown o.answers → status ≡ status_of has
     → CheckedOver sink (output_text o) status
 accepted_over sink o s true status writable spelled accepted is status_is =
@@ -79,7 +79,7 @@ accepted_over sink o s false status writable spelled accepted is status_is =
     })
 
 -- a query was rejected
-rejected_over : {K : Type 0} (sink : Told K) (o : Output) (s : Parts) (status : Status) → IsWritableOutput o → Spells o.script s
+rejected_over : {K : Type 0} (sink : Change K) (o : Output) (s : Parts) (status : Status) → IsWritableOutput o → Spells o.script s
     → RejectedHere sink.bytes_old sink.bytes_new s o.answers → status ≡ Rejected → CheckedOver sink (output_text o) status
 rejected_over sink o s status writable spelled here status_is =
     subst (CheckedOver sink (output_text o)) (sym status_is)
@@ -90,7 +90,7 @@ rejected_over sink o s status writable spelled here status_is =
     })
 
 -- the check came to its end
-pub judged_over : {K : Type 0} (sink : Told K) (o : Output) (s : Parts) (answers : List Answer) (accepted : Bool) (status : Status) → IsWritableOutput o
+pub judged_over : {K : Type 0} (sink : Change K) (o : Output) (s : Parts) (answers : List Answer) (accepted : Bool) (status : Status) → IsWritableOutput o
     → Spells o.script s → answers ≡ o.answers → AllJudged sink.bytes_old sink.bytes_new s answers accepted
     → status ≡ checked_status accepted (has_unknown answers) → CheckedOver sink (output_text o) status
 judged_over sink o s answers true status writable spelled same judged is =
@@ -103,5 +103,5 @@ judged_over sink o s answers false status writable spelled same judged is =
 pub few_answers : (o : Output) (answers : List Answer) → IsWritableOutput o → answers ≡ o.answers → length answers ≤ 1000
 few_answers o answers writable is = rw is writable.1
 
-pub same_over : {K : Type 0} (sink : Told K) (bytes other : List ℕ) (status : Status) → bytes ≡ other → CheckedOver sink other status → CheckedOver sink bytes status
+pub same_over : {K : Type 0} (sink : Change K) (bytes other : List ℕ) (status : Status) → bytes ≡ other → CheckedOver sink other status → CheckedOver sink bytes status
 same_over sink bytes other status is over = subst (λ (l : List ℕ). CheckedOver sink l status) (sym is) over

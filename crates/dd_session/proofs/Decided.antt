@@ -1,4 +1,4 @@
--- What the bytes of a source decide.
+-- What the bytes of a source, where they are known, decide of the status of a run.
 use Rattle.std.proofs.Common.{◌≡◌, ◌≢◌, inl, inr, ℕ, suc, ◌+◌, ◌≤◌, List, [], Bool, refl, true, false, ◌++◌, None, Some, sym, ◌∙◌, ap, subst, length, arith, append-nil, length-append}
 use Rattle.std.proofs.KnownBytes.{Consumes-nil}
 use Rattle.std.specs.declared.option.Option.{Option}
@@ -7,22 +7,23 @@ use Rattle.dd_outside.specs.Bytes.{ReadToEnd, GivesMore, GivesAtMost}
 use Rattle.dd_script.specs.{Parts.Parts, Scripts.Spells, Scripts.RefusedAs, Scripts.RefusalKind}
 use Rattle.dd_session.specs.declared.status.Status.{Status}
 use Rattle.dd_session.specs.declared.status.Status.TheVariants.{Definite, SomeUnknown, Refused, ReadFault, WriteFault, Memory, BadWords, Rejected}
-use Rattle.dd_session.specs.Sides.{Told}
+use Rattle.dd_session.specs.Sides.{Change}
 use Rattle.dd_session.specs.Runs.{RanOver, Ended, IsAccepted, IsAcceptedAs, DecidesStatus, RanWhole, RefusedWhole, IsRefusedInput, IsRefusedBy, too_long, no_run}
 
--- What was read to the end is what was told.
-pub told_bytes : (bytes given : List ℕ) (left : Option (List ℕ)) → ReadToEnd (Some bytes) left given → bytes ≡ given
-told_bytes bytes given None to_end = absurd to_end.consumed
-told_bytes bytes given (Some rest) to_end = to_end.consumed ∙ ap (λ (l : List ℕ). given ++ l) to_end.at_end ∙ append-nil given
+-- The bytes that were read to the end are those that were known.
+pub known_bytes : (bytes given : List ℕ) (left : Option (List ℕ)) → ReadToEnd (Some bytes) left given → bytes ≡ given
+known_bytes bytes given None to_end = absurd to_end.consumed
+known_bytes bytes given (Some rest) to_end = to_end.consumed ∙ ap (λ (l : List ℕ). given ++ l) to_end.at_end ∙ append-nil given
 
-pub told_more : (bytes : List ℕ) (left : Option (List ℕ)) (limit : ℕ) → GivesMore (Some bytes) left limit → suc limit ≤ length bytes
-told_more bytes None limit more = absurd more.consumed
-told_more bytes (Some rest) limit more = omega (arith, ap length more.consumed, length-append more.given rest, more.many)
+pub known_more : (bytes : List ℕ) (left : Option (List ℕ)) (limit : ℕ) → GivesMore (Some bytes) left limit → suc limit ≤ length bytes
+known_more bytes None limit more = absurd more.consumed
+known_more bytes (Some rest) limit more = omega (arith, ap length more.consumed, length-append more.given rest, more.many)
 
--- bytes spell one script at most, and are not refused then
+-- bytes spell at most one script
 abbrev pub OneScript : Type 0
 OneScript = (bytes : List ℕ) (s t : Parts) → Spells bytes s → Spells bytes t → s ≡ t
 
+-- bytes that spell a script are not refused
 abbrev pub NeverBoth : Type 0
 NeverBoth = (bytes : List ℕ) (s : Parts) (n : ℕ) (k : RefusalKind) → Spells bytes s → RefusedAs bytes n k → ⊥
 
@@ -31,15 +32,15 @@ module _ (never_both : NeverBoth) where
   refused_no_script bytes line s refused spelled = never_both bytes s refused.command refused.kind spelled refused.no_script
 
   not_accepted : (bytes line : List ℕ) (left : Option (List ℕ)) → IsRefusedInput (Some bytes) left line → ¬ IsAccepted bytes
-  not_accepted bytes line left (too_long more is) accepted = absurd (omega (arith, told_more bytes left most_script more, accepted.short))
+  not_accepted bytes line left (too_long more is) accepted = absurd (omega (arith, known_more bytes left most_script more, accepted.short))
   not_accepted bytes line left (no_run given to_end short refused) accepted =
       refused_no_script bytes line accepted.script
-      (subst (λ (l : List ℕ). IsRefusedBy l line) (sym (told_bytes bytes given left to_end)) refused) accepted.spelled
+      (subst (λ (l : List ℕ). IsRefusedBy l line) (sym (known_bytes bytes given left to_end)) refused) accepted.spelled
 
   ran_accepted : (bytes : List ℕ) (left held_old held_new : Option (List ℕ)) (has : Bool)
       → RanWhole (Some bytes) left held_old held_new has → IsAcceptedAs has bytes
   ran_accepted bytes left held_old held_new has ran =
-      let same : bytes ≡ ran.bytes = told_bytes bytes ran.bytes left ran.read in
+      let same : bytes ≡ ran.bytes = known_bytes bytes ran.bytes left ran.read in
       record {
         accepted = record {
           short = rw same ran.short;
@@ -49,7 +50,7 @@ module _ (never_both : NeverBoth) where
         is_open = ran.run.is_open;
       }
 
-  pub decided : {S K : Type 0} (source : Told S) (sink : Told K) (status : Status) → Ended source sink status
+  pub decided : {S K : Type 0} (source : Change S) (sink : Change K) (status : Status) → Ended source sink status
       → (bytes : List ℕ) → source.bytes_old ≡ Some bytes → DecidesStatus bytes status
   decided source sink status ended bytes is = record {
     definite = λ e.
@@ -67,7 +68,7 @@ module _ (never_both : NeverBoth) where
 -- ---- how a session ended, by how the run over the bytes ended
 
 -- The input was read to its end.
-pub ended_run : {S K : Type 0} (source : Told S) (sink : Told K) (given bytes : List ℕ) (status : Status) → ReadToEnd source.bytes_old source.bytes_new given
+pub ended_run : {S K : Type 0} (source : Change S) (sink : Change K) (given bytes : List ℕ) (status : Status) → ReadToEnd source.bytes_old source.bytes_new given
     → length given ≤ most_script → bytes ≡ given → RanOver sink bytes status → Ended source sink status
 ended_run source sink given bytes status to_end short same ran = by_status status (subst (λ (l : List ℕ). RanOver sink l status) same ran) where
   no_line : (line : List ℕ) → IsRefusedBy given line → IsRefusedInput source.bytes_old source.bytes_new line
@@ -85,8 +86,8 @@ ended_run source sink given bytes status to_end short same ran = by_status statu
   by_status BadWords run = absurd run
   by_status Rejected run = absurd run
 
--- no run ends by bad words
-pub never_ran : {S K : Type 0} (source : Told S) (sink : Told K) (status : Status) → Ended source sink status → status ≢ BadWords
+-- no run ends with `BadWords`
+pub never_ran : {S K : Type 0} (source : Change S) (sink : Change K) (status : Status) → Ended source sink status → status ≢ BadWords
 never_ran source sink status ended is = let none : ⊥ = subst (Ended source sink) is ended in none
 
 -- ---- how much was taken

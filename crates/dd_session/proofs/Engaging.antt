@@ -1,4 +1,4 @@
--- How queries ask engines, one after the other, and when nobody was asked.
+-- How queries ask engines, one after the other, and when no engine was asked.
 use Rattle.std.proofs.Common.{◌≡◌, ◌⊎◌, ℕ, ◌+◌, ◌<◌, ◌≤◌, List, [], ◌∷◌, ◌++◌, length, take, get_or, Bool, true, false, Some, None, refl, sym, ◌∙◌, subst, inl, inr, Result, Ok, Err}
 use Rattle.std.proofs.{KnownBytes.Appends-trans, lemmas.Bool.false≢true}
 use Rattle.std.specs.{Prelude.IsSomeAnd, Prelude.IsTrue, Prelude.IfOk, Prelude.OnErr, declared.option.Option.Option, Io.KnownBytes.Appends}
@@ -14,10 +14,10 @@ use Rattle.dd_answer.specs.Asking.{AsksBoxes, AsksSomeBoxes}
 use Rattle.dd_respond.specs.Asking.{IsBoxQuestion, Engages}
 use Rattle.dd_session.specs.declared.status.Status.{Status}
 use Rattle.dd_session.specs.declared.status.Status.TheVariants.{Definite, SomeUnknown, Refused, ReadFault, WriteFault, Memory, BadWords, Rejected}
-use Rattle.dd_session.specs.{declared.stream.RunFault.RunFault, Output.header, Sides.Told, Sides.RefusedBy, Sides.status_of}
+use Rattle.dd_session.specs.{declared.stream.RunFault.RunFault, Output.header, Sides.Change, Sides.RefusedBy, Sides.status_of}
 use Rattle.dd_session.specs.{Written.AnsweredToEnd, Written.AnsweredShort, Runs.IsAccepted}
 use Rattle.dd_session.specs.Asking.{HeaderTaken, Begun, HasBegun, IsToEnd, IsUnanswered, AsksFirstOver, AsksFirst}
-use Rattle.dd_session.proofs.{Decided.told_bytes, Streamed.one_more}
+use Rattle.dd_session.proofs.{Decided.known_bytes, Streamed.one_more}
 
 -- ---- queries one by one
 
@@ -52,7 +52,7 @@ some_right s (x ∷ xs) ys asks = inr (some_right s xs ys asks)
 pub engaged_none : (s : Parts) (all : List Seen) → Engages (AsksSomeBoxes s []) all all
 engaged_none s all = record { first = λ none. absurd none; nobody = λ _. refl }
 
--- what was asked of late was asked since any earlier time
+-- an engine that was asked since a moment was asked since any earlier one
 module _ (earlier : (before between after : List Seen) → Kept before between → FirstAsked between after → FirstAsked before after) where
   -- One more query was answered.
   engaged_more : (s : Parts) (queries : List Query) (q : Query) (a b c : List Seen) → Kept a b
@@ -74,12 +74,12 @@ module _ (earlier : (before between after : List Seen) → Kept before between �
   engaged_next s queries q done a b c less is kept so_far one =
       subst (λ (l : List Query). Engages (AsksSomeBoxes s l) a c) (one_more queries done q less is) (engaged_more s (take done queries) q a b c kept so_far one)
 
--- ---- nobody is asked before the lines before the first answer are written
+-- ---- no engine is asked before the header is written
 
 pub header_then : (a b c : Option (List ℕ)) (bytes text more : List ℕ) → text ≡ header bytes → Appends a b text → Appends b c more → HeaderTaken a c bytes
 header_then a b c bytes text more is before after = record { more = more; appends = Appends-trans a b c _ _ (subst (Appends a b) is before) after }
 
--- The header was written, and then all answers or a front of them.
+-- The header was written, and then all answers or a prefix of them.
 pub taken_before : (a b c : Option (List ℕ)) (bytes : List ℕ) (s : Parts) (text : List ℕ) (r : Result Bool RunFault) → text ≡ header bytes → Appends a b text
     → IfOk r (λ u. AnsweredToEnd answer_text b c s u) → OnErr r (AnsweredShort answer_text b c s) → HeaderTaken a c bytes
 taken_before a b c bytes s text (Ok u) is before whole short = header_then a b c bytes text _ is before whole.appends
@@ -101,31 +101,31 @@ pub refused_unasked : (P : Type 0) (bytes : List ℕ) (left_old left_new held_ol
 refused_unasked P bytes left_old left_new held_old held_new is never (inl p) = p
 refused_unasked P bytes left_old left_new held_old held_new is never (inr run) =
     let to_end : ReadToEnd (Some bytes) left_new run.bytes = subst (λ t. ReadToEnd t left_new run.bytes) is run.read in
-    let same : bytes ≡ run.bytes = told_bytes bytes run.bytes left_new to_end in
+    let same : bytes ≡ run.bytes = known_bytes bytes run.bytes left_new to_end in
     absurd (never record {
       short = rw same run.short;
       script = run.run.script;
       spelled = subst (λ (l : List ℕ). Spells l run.run.script) (sym same) run.run.spelled;
     })
 
--- ---- by the status
+-- ---- what the status says of the engines
 
 pub asks_first : (left_old left_new : Option (List ℕ)) (before after : List Seen) (given bytes : List ℕ) → ReadToEnd left_old left_new given → bytes ≡ given
     → AsksFirstOver bytes before after → AsksFirst left_old left_new before after
 asks_first left_old left_new before after given bytes to_end same over =
     record { bytes = given; read = to_end; run = subst (λ (l : List ℕ). AsksFirstOver l before after) same over }
 
--- the same sample by two numbers that are one
+-- samples with equal numbers are the same
 pub same_sample : (before after : List Seen) (m n : ℕ) → m ≡ n → AsksFirstOver (sample_text m) before after → AsksFirstOver (sample_text n) before after
 same_sample before after m n is over = subst (λ (k : ℕ). AsksFirstOver (sample_text k) before after) is over
 
--- a run to the end has answered its queries
+-- a run that came to its end has answered its queries
 pub never_unanswered : (has : Bool) (status : Status) → status ≡ status_of has → IsUnanswered status → ⊥
 never_unanswered true status is unanswered = let none : ⊥ = subst IsUnanswered is unanswered in none
 never_unanswered false status is unanswered = let none : ⊥ = subst IsUnanswered is unanswered in none
 
--- an input that is refused has no query that is answered
-pub never_to_end : {K : Type 0} (sink : Told K) (line : List ℕ) (status : Status) → RefusedBy sink line status → IsToEnd status → ⊥
+-- a session that refuses its input answers no query
+pub never_to_end : {K : Type 0} (sink : Change K) (line : List ℕ) (status : Status) → RefusedBy sink line status → IsToEnd status → ⊥
 never_to_end sink line Definite wrote to_end = wrote
 never_to_end sink line SomeUnknown wrote to_end = wrote
 never_to_end sink line Refused wrote to_end = to_end

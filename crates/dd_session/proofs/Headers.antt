@@ -1,4 +1,4 @@
--- The lines before the first answer are those of an output.
+-- The header that a run writes is the header of an output.
 use Rattle.std.proofs.Common.{◌≡◌, ℕ, List}
 use Rattle.dd_output.specs.Outputs.{header as lines_before}
 use Rattle.dd_session.specs.Output.{header}

@@ -3,7 +3,7 @@ use Rattle.std.proofs.Common.{◌≡◌, ◌⊎◌, inl, inr, ℕ, suc, ◌+◌,
 use Rattle.std.proofs.{KnownBytes.Appends-trans, lemmas.Bool.cases_lt, lemmas.Option.slice_get_within, lemmas.Option.slice_get_read}
 use Rattle.std.specs.{Prelude.◌↔◌, Prelude.IsSomeAnd, Prelude.Result, Prelude.Ok, Prelude.Err, Prelude.OnErr, List.slice_get, List.list_any}
 use Rattle.std.specs.{declared.option.Option.Option, Io.KnownBytes.Appends}
-use Rattle.dd_outside.specs.{Bytes.GainsFront, lemmas.Told.front_after}
+use Rattle.dd_outside.specs.{Bytes.GainsFront, lemmas.ByteLaws.front_after}
 use Rattle.dd_certificate.specs.declared.answer.Answer.{Answer}
 use Rattle.dd_query.specs.declared.queries.Query.{Query}
 use Rattle.dd_script.specs.{Parts.Parts, Questions.query_at}
@@ -15,7 +15,7 @@ use Rattle.dd_session.specs.Checks.{accepted_line, rejected_line, accepted_lines
 use Rattle.dd_session.specs.Checked.{CheckFront}
 use Rattle.dd_session.specs.checking.Judged.{IsJudged, Judged, JudgedFront, nothing, part, most_of, RejectedHere, AcceptedEach, AcceptedAll, EachJudged}
 
--- ---- a fact of what is there
+-- ---- facts of an item that is there
 
 some_there : {X : Type 0} (o : Option X) (P : X → Type 0) → IsSomeAnd o P → (x : X) × (o ≡ Some x) × P x
 some_there None P fact = absurd fact
@@ -30,7 +30,7 @@ on_err (Err e) P fact = fact
 
 -- ---- one answer
 
--- where an answer is accepted, there are the answer and the query
+-- if an answer is accepted, there are an answer and a query with its number
 pub accepted_within : (s : Parts) (answers : List Answer) (n : ℕ) → IsAcceptedAt s answers n → (n - 1 < length answers) × (n - 1 < length s.queries)
 accepted_within s answers n accepted =
     let there = some_there (slice_get answers (n - 1)) (λ a. IsCertificate s n a) accepted in
@@ -40,7 +40,7 @@ accepted_within s answers n accepted =
 pub has_query_at : (s : Parts) (n : ℕ) → 1 ≤ n → n - 1 < length s.queries → HasQuery s n
 has_query_at s n numbered less = record { numbered = numbered; within = omega (arith, numbered, less) }
 
--- the answer with the number is the one that was checked
+-- if this is the answer with the number and is accepted there, it is a certificate
 at_number : (s : Parts) (answers : List Answer) (n : ℕ) (a : Answer) → slice_get answers (n - 1) ≡ Some a → IsAcceptedAt s answers n → IsCertificate s n a
 at_number s answers n a is accepted = subst (λ (o : Option Answer). IsSomeAnd o (λ b. IsCertificate s n b)) is accepted
 
@@ -97,7 +97,7 @@ rejected_next s answers a b c done number is less accepted before one = record {
       (Appends-trans a b c (accepted_lines done) (rejected_line number) before one.appends);
 }
 
--- a front of the next line was written
+-- a prefix of the next line was written
 pub front_next : (s : Parts) (answers : List Answer) (a b c : Option (List ℕ)) (done number : ℕ) → number ≡ done + 1 → done < most_of s answers
     → AcceptedTo s answers done → Appends a b (accepted_lines done) → JudgedFront b c s answers number → CheckFront a c s answers
 front_next s answers a b c done number is less accepted before (nothing front) = record {
@@ -135,7 +135,7 @@ pub below_most : (s : Parts) (answers : List Answer) (queries : List Query) (mos
     → done < most → done < most_of s answers
 below_most s answers queries most done same is less = subst (λ (n : ℕ). done < n) (most_are s answers queries most same is) less
 
--- where all numbers are accepted, there are as many answers as queries
+-- if the answer with each number is accepted, there are as many answers as queries
 as_many : (queries answers most : ℕ) → most ≡ max queries answers → (1 ≤ most → (most - 1 < answers) × (most - 1 < queries)) → answers ≡ queries
 as_many queries answers most is within = elim (cases_lt 0 most) [
   | inl some ↦ (let both = within (omega (arith, some)) in omega (arith, is, some, both.0, both.1))
@@ -147,7 +147,7 @@ same_length s answers all =
     as_many (length s.queries) (length answers) (most_of s answers) refl
     (λ some. accepted_within s answers (most_of s answers) (all (most_of s answers) some (omega arith)))
 
--- certificates claim what is true
+-- what a certificate claims is true
 abbrev AreTrue : Parts → Type 0
 AreTrue s = (number : ℕ) (a : Answer) → IsCertificate s number a → Claim s number a
 
@@ -177,7 +177,7 @@ finished_all s answers a b c line certified each is wrote = record {
       (subst (λ (n : ℕ). Appends a b (accepted_lines n)) (most_is s answers each.accepted) each.appends) (subst (Appends b c) is wrote);
 }
 
--- a front of the last line was written
+-- a prefix of the last line was written
 pub finished_front : (s : Parts) (answers : List Answer) (a b c : Option (List ℕ)) (line : List ℕ) → AreTrue s → AcceptedEach a b s answers
     → line ≡ checked_line (length answers) → GainsFront b c line → CheckFront a c s answers
 finished_front s answers a b c line certified each is front =
@@ -190,7 +190,7 @@ finished_front s answers a b c line certified each is front =
           (subst (λ (n : ℕ). Appends a b (accepted_lines n)) (most_is s answers each.accepted) each.appends) (subst (GainsFront b c) is front);
     }
 
--- the last line was not made
+-- memory ran out before the last line was made
 pub unfinished_front : (s : Parts) (answers : List Answer) (a b : Option (List ℕ)) → AcceptedEach a b s answers → CheckFront a b s answers
 unfinished_front s answers a b each = record {
   done = most_of s answers;
@@ -214,7 +214,7 @@ each_rejected s answers a b t is told = subst (EachJudged a b s answers) is told
 pub judged_as : (s : Parts) (answers : List Answer) (a b : Option (List ℕ)) (n : ℕ) (t u : Bool) → t ≡ u → Judged a b s answers n t → Judged a b s answers n u
 judged_as s answers a b n t u is told = subst (Judged a b s answers n) is told
 
--- whether an answer is that it is not known
+-- whether some answer is UNKNOWN, said in two ways
 pub unknown_any : (answers : List Answer) → list_any is_unknown answers ≡ has_unknown answers
 unknown_any [] = refl
 unknown_any (a ∷ answers) = ap (λ (b : Bool). is_unknown a || b) (unknown_any answers)

@@ -1,4 +1,4 @@
--- A script has no more queries than commands, and no more commands than the limit on them.
+-- A script has at most as many queries as the limit on its commands.
 use Rattle.std.proofs.Common.{◌≡◌, ℕ, ◌+◌, ◌≤◌, List, [], ◌∷◌, ◌++◌, length, Bool, true, false, Option, None, Some, nat_lt, refl, sym, subst, arith, length-append}
 use Rattle.std.proofs.lemmas.Bool.{ltb-false}
 use Rattle.std.specs.{Prelude.if◌then◌else◌, List.flat_map, Option.option_or, Option.option_map}
@@ -16,7 +16,7 @@ use Rattle.dd_faults.specs.declared.fault.Limit.TheVariants as limit
 use Rattle.dd_faults.specs.declared.fault.Fault.TheVariants as fault
 use Rattle.dd_meanings.specs.declared.meaning.Meaning.TheVariants as meaning
 
--- ---- where nothing is found, nothing is found first
+-- ---- options that are None
 
 front_none : {X : Type 0} (a b : Option X) → option_or a b ≡ None → a ≡ None
 front_none None b is = refl

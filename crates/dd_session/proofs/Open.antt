@@ -8,13 +8,14 @@ use Rattle.dd_script.specs.{Parts.Parts, Scripts.Spells}
 use Rattle.dd_answer.specs.Right.{Right}
 use Rattle.dd_respond.specs.{Right.is_unknown, Laws.SayTheSame}
 use Rattle.dd_session.specs.{Answers.AllRight, Answers.IsOpenAs, Answers.has_unknown, declared.status.Status.Status}
-use Rattle.dd_session.specs.{Sides.Told, Sides.status_of, Written.WholeOutput, Runs.RanOver, Runs.WholeRun}
+use Rattle.dd_session.specs.{Sides.Change, Sides.status_of, Written.WholeOutput, Runs.RanOver, Runs.WholeRun}
 use Rattle.dd_values.specs.lemmas.Booleans.{or_none}
 
+-- all right answers to a query of the script have the same first line
 abbrev pub AnswersAgree : Parts → Type 0
 AnswersAgree s = (q : Query) (a b : Answer) → Contains s.queries q → Right s q a → Right s q b → SayTheSame a b
 
--- a query among these with a right answer that is not known
+-- some query among these has the right answer UNKNOWN
 abbrev IsOpenIn : Parts → List Query → Type 0
 IsOpenIn s queries = (q : Query) × Contains queries q × ((a : Answer) × Right s q a × (is_unknown a ≡ true))
 
@@ -55,7 +56,7 @@ whole_run old new bytes s has agree spelled output = record {
 }
 
 -- the status of a whole run
-pub whole_over : {K : Type 0} (sink : Told K) (bytes : List ℕ) (s : Parts) (has : Bool) (status : Status) → AnswersAgree s → Spells bytes s →
+pub whole_over : {K : Type 0} (sink : Change K) (bytes : List ℕ) (s : Parts) (has : Bool) (status : Status) → AnswersAgree s → Spells bytes s →
     WholeOutput sink.bytes_old sink.bytes_new bytes s has → status ≡ status_of has → RanOver sink bytes status
 whole_over sink bytes s true status agree spelled output is =
     subst (RanOver sink bytes) (sym is) (whole_run sink.bytes_old sink.bytes_new bytes s true agree spelled output)

@@ -2,7 +2,7 @@
 use Rattle.std.proofs.Common.{◌≡◌, ℕ, ◌+◌, ◌<◌, List, [], ◌∷◌, ◌++◌, length, take, drop, get_or, Bool, true, false, ◌||◌, refl, sym, ◌∙◌, ap, subst, inl, inr, Result, Ok, Err, IfOk, OnOk, OnErr, append-nil, append_assoc, length-append, take-append-drop, length-take-le, arith}
 use Rattle.std.proofs.{KnownBytes.Appends-trans, KnownBytes.Appends-nil, lemmas.List.take_more}
 use Rattle.std.specs.{declared.option.Option.Option, Io.KnownBytes.Appends}
-use Rattle.dd_outside.specs.{Bytes.GainsFront, lemmas.Told.front_after}
+use Rattle.dd_outside.specs.{Bytes.GainsFront, lemmas.ByteLaws.front_after}
 use Rattle.dd_certificate.specs.{declared.answer.Answer.Answer, Text.answer_text, Bounds.IsWritable}
 use Rattle.dd_query.specs.declared.queries.Query.{Query}
 use Rattle.dd_answer.specs.Right.{Right}
@@ -46,7 +46,7 @@ one_more queries done q less is = ap (λ (x : Query). take done queries ++ x ∷
 after_first : (queries : List Query) (done next : ℕ) → done < length queries → next ≡ done + 1 → next ≡ 1 + length (take done queries)
 after_first queries done next less is = omega (arith, is, length-take-le done queries (omega (arith, less)))
 
--- ---- answers one by one, of each of which so much is written
+-- ---- answers one by one, each whole or its first line
 
 -- Nothing was written of a text.
 pub front_of_nothing : (a : Option (List ℕ)) (text : List ℕ) → GainsFront a a text
@@ -131,7 +131,7 @@ module _ (written : ℕ → Answer → List ℕ) where
       subst (λ (l : List Query). Answered written a c s l 1 (u || v)) (one_more queries done q less is)
       (answered_more a b c s (take done queries) (q ∷ []) 1 next u v so_far (after_first queries done next less is_next) one)
 
-  -- A front of the answer to the next query was written.
+  -- A prefix of the answer to the next query was written.
   pub front_next : (a b c : Option (List ℕ)) (s : Parts) (queries : List Query) (q : Query) (done next : ℕ) (u : Bool)
       → done < length queries → q ≡ get_or queries done q → next ≡ done + 1
       → Answered written a b s (take done queries) 1 u → AnsweredFront written b c s (q ∷ []) next → AnsweredFront written a c s queries 1
@@ -153,7 +153,7 @@ module _ (written : ℕ → Answer → List ℕ) where
     appends = Appends-trans a b c _ _ answered.appends last;
   }
 
-  -- A front of the answers was written.
+  -- A prefix of the answers was written.
   pub short_in_answers : (a b : Option (List ℕ)) (s : Parts) → AnsweredFront written a b s s.queries 1 → AnsweredShort written a b s
   short_in_answers a b s more = record {
     answers = more.answers;
@@ -163,7 +163,7 @@ module _ (written : ℕ → Answer → List ℕ) where
     front = subst (GainsFront a b) (sym (append-nil (texts written 1 more.answers))) more.front;
   }
 
-  -- The answers to all queries, and a front of the end line.
+  -- The answers to all queries, and a prefix of the end line, were written.
   pub short_at_end : (a b c : Option (List ℕ)) (s : Parts) (u : Bool) → Answered written a b s s.queries 1 u → GainsFront b c end_line → AnsweredShort written a c s
   short_at_end a b c s u answered more = record {
     answers = answered.answers;
@@ -208,7 +208,7 @@ whole_output a b c bytes s text (Ok u) is before lines = record {
 }
 whole_output a b c bytes s text (Err e) is before lines = tt
 
--- The header was written, and a front of what follows it.
+-- The header was written, and a prefix of what follows it.
 pub cut_in_answers : (a b c : Option (List ℕ)) (bytes : List ℕ) (s : Parts) (text : List ℕ) (r : Result Bool RunFault)
     → text ≡ header bytes → Appends a b text → OnErr r (AnsweredShort answer_text b c s) → OnErr r (CutShort a c bytes s)
 cut_in_answers a b c bytes s text (Ok u) is before lines = tt

@@ -1,4 +1,4 @@
--- The words of a session.
+-- What the words of a session ask for.
 use Rattle.std.proofs.Common.{◌≡◌, ℕ, List, [], ◌∷◌, length, map, codes, decimal, Option, Some, None, sym, ◌∙◌, ap, arith}
 use Rattle.std.proofs.lemmas.{Fmt.decimal_injective, List.length-map}
 use Rattle.dd_sample.specs.Sample.{IsNumberOf}
@@ -12,7 +12,7 @@ abbrev second : List (List ℕ) → List ℕ
 second [] = []
 second (word ∷ words) = first words
 
--- one word is not both
+-- one word is not both `run` and `check`
 pub different : (words : List (List ℕ)) → IsOnly (codes "run") words → ¬ IsOnly (codes "check") words
 different words is other =
     let same : 3 ≡ 5 = ap (λ (ws : List (List ℕ)). length (first ws)) (sym is ∙ other) in omega (arith, same)
@@ -21,7 +21,7 @@ different words is other =
 pub alone : (text : List ℕ) (words : List (List ℕ)) (number : ℕ) → IsOnly text words → ¬ IsSample number words
 alone text words number is sample = let same : 1 ≡ 2 = ap (λ (ws : List (List ℕ)). length ws) (sym is ∙ sample.1) in omega (arith, same)
 
--- words ask for one sample
+-- words ask for at most one sample
 pub one_sample : (words : List (List ℕ)) (m n : ℕ) → IsSample m words → IsSample n words → m ≡ n
 one_sample words m n one other =
     let same : decimal m ≡ decimal n = ap second (sym one.1 ∙ other.1) in
@@ -35,7 +35,7 @@ two_words word number (Some n) is of = (of.0, ap (λ (w : List ℕ). w ∷ numbe
 two_words word number None is of = λ n sample.
     of n (sample.0, ap second sample.1)
 
--- another word than `sample` before the second
+-- the first of two words is not `sample`
 pub another_word : (word number : List ℕ) → ¬ (word ≡ codes "sample") → IsSampleOf (word ∷ number ∷ []) None
 another_word word number is_not = λ n sample. is_not (ap first sample.1)
 

@@ -1,4 +1,4 @@
--- That a run's whole output is accepted by a check.
+-- The output of a run, and the checks that come to their end.
 use Rattle.std.specs.Prelude.{◌≡◌, ◌≤◌, ℕ, List, length, Bool}
 use Rattle.dd_values.specs.Bounds.{most_script}
 use Rattle.dd_certificate.specs.declared.answer.Answer.{Answer}

@@ -1,4 +1,4 @@
--- The answers of a run, and their texts.
+-- The answers of a run, whether some query has no definite answer, and the texts of answers.
 use Rattle.std.specs.Prelude.{◌≡◌, ℕ, ◌+◌, List, [], ◌∷◌, ◌++◌, Bool, true, false, ◌||◌, ⊤}
 use Rattle.std.specs.List.{Contains}
 use Rattle.dd_certificate.specs.{declared.answer.Answer.Answer, Bounds.IsWritable}
@@ -12,7 +12,7 @@ abbrev pub has_unknown : List Answer → Bool
 has_unknown [] = false
 has_unknown (a ∷ answers) = is_unknown a || has_unknown answers
 
--- these are right answers to the first of the queries, in order, and an output can hold each
+-- the answers are right answers to the first queries, in order, and an output can hold each
 abbrev pub AllRight : Parts → List Query → List Answer → Type 0
 AllRight s queries [] = ⊤
 AllRight s [] (a ∷ answers) = ⊥
@@ -22,12 +22,12 @@ AllRight s (q ∷ queries) (a ∷ answers) = Right s q a × IsWritable a × AllR
 abbrev pub IsOpen : Parts → Type 0
 IsOpen s = (q : Query) × Contains s.queries q × ((a : Answer) × Right s q a × (is_unknown a ≡ true))
 
--- whether that is so
+-- whether some query of the script has no definite answer
 abbrev pub IsOpenAs : Bool → Parts → Type 0
 IsOpenAs true s = IsOpen s
 IsOpenAs false s = IsOpen s → ⊥
 
--- the answers as they are written, numbered from `first` on: `written` gives the text of each, or its first line
+-- The texts of answers, one after the other, numbered from `first` on. `written` gives the text of each, or its first line.
 abbrev pub texts : (ℕ → Answer → List ℕ) → ℕ → List Answer → List ℕ
 texts written first [] = []
 texts written first (a ∷ answers) = written first a ++ texts written (first + 1) answers

@@ -8,12 +8,14 @@ use Rattle.dd_script.specs.{Parts.Parts, Scripts.Spells}
 use Rattle.dd_answer.specs.Asking.{AsksSomeBoxes}
 use Rattle.dd_session.specs.declared.status.Status.{Status}
 use Rattle.dd_session.specs.declared.status.Status.TheVariants.{Definite, SomeUnknown, Refused, ReadFault, WriteFault, Memory, BadWords, Rejected}
-use Rattle.dd_session.specs.{Output.header, Runs.IsAccepted, Sides.Told}
+use Rattle.dd_session.specs.{Output.header, Runs.IsAccepted, Sides.Change}
 
--- The engines before and after a call: the roster itself, and what is seen of each engine.
+-- The engines before and after a call.
 pub record Engines (E : Type 0) : Type 0 where
+  -- the roster before and after
   pub old : Roster E
   pub new : Roster E
+  -- what is seen of each engine, before and after
   pub before : List Seen
   pub after : List Seen
 
@@ -21,31 +23,31 @@ abbrev pub engines : {E : Type 0} → (E → ℕ) → (E → ℕ) → (E → Boo
 engines asked given sound old new =
     record { old = old; new = new; before = roster_seen asked given sound old; after = roster_seen asked given sound new }
 
--- no engine was asked
+-- no engine was asked, and the roster is as it was
 abbrev pub AreUnasked : {E : Type 0} → Engines E → Type 0
 AreUnasked roster = roster.new ≡ roster.old
 
 -- ---- when the first engine is asked
 
--- The lines before the first answer were written whole.
+-- The header, which is all lines before the first answer, was written whole.
 pub record HeaderTaken (old new : Option (List ℕ)) (bytes : List ℕ) : Type 0 where
   pub more : List ℕ
   pub appends : Appends old new (header bytes ++ more)
 
--- The bytes are a script, and the lines before its first answer were written whole.
+-- The bytes are a script, and the header was written whole.
 pub record Begun (old new : Option (List ℕ)) (bytes : List ℕ) : Type 0 where
   pub script : Parts
   pub spelled : Spells bytes script
   pub taken : HeaderTaken old new bytes
 
--- The source was read to its end, it gave a script, and the lines before its first answer were written whole.
+-- The source was read to its end, it gave a script, and the header was written whole.
 pub record HasBegun (left_old left_new held_old held_new : Option (List ℕ)) : Type 0 where
   pub bytes : List ℕ
   pub read : ReadToEnd left_old left_new bytes
   pub short : length bytes ≤ most_script
   pub run : Begun held_old held_new bytes
 
--- all queries were answered
+-- the status says that all queries were answered
 abbrev pub IsToEnd : Status → Type 0
 IsToEnd Definite = Unit {0}
 IsToEnd SomeUnknown = Unit {0}
@@ -56,7 +58,7 @@ IsToEnd Memory = ⊥
 IsToEnd BadWords = ⊥
 IsToEnd Rejected = ⊥
 
--- no query was answered
+-- the status says that no query was answered
 abbrev pub IsUnanswered : Status → Type 0
 IsUnanswered Definite = ⊥
 IsUnanswered SomeUnknown = ⊥
@@ -67,14 +69,13 @@ IsUnanswered Memory = ⊥
 IsUnanswered BadWords = Unit {0}
 IsUnanswered Rejected = Unit {0}
 
--- The bytes are a script. Where one of its queries asks a box question, the first engine that is left, if one is left, was
--- asked.
+-- The bytes are a script. If one of its queries asks a box question, the first engine that is left was asked, if one is left.
 pub record AsksFirstOver (bytes : List ℕ) (before after : List Seen) : Type 0 where
   pub script : Parts
   pub spelled : Spells bytes script
   pub first : AsksSomeBoxes script script.queries → FirstAsked before after
 
--- The source was read to its end, and this holds of its bytes.
+-- The source was read to its end, and the same holds of its bytes.
 pub record AsksFirst (left_old left_new : Option (List ℕ)) (before after : List Seen) : Type 0 where
   pub bytes : List ℕ
   pub read : ReadToEnd left_old left_new bytes
@@ -82,18 +83,18 @@ pub record AsksFirst (left_old left_new : Option (List ℕ)) (before after : Lis
 
 -- ---- what a session does with the engines
 
--- Whatever the words: the roster is kept.
+-- What holds for all words: the roster is kept.
 pub record AreKept {E : Type 0} (roster : Engines E) (status : Status) : Type 0 where
   -- Each sound engine is still there, in order, and no count has fallen.
   pub kept : Kept roster.before roster.after
-  -- Where no query is answered, no engine is asked.
+  -- If no query is answered, no engine is asked.
   pub unanswered : IsUnanswered status → AreUnasked roster
 
--- With `run`.
-pub record RunConsults {S K E : Type 0} (source : Told S) (sink : Told K) (roster : Engines E) (status : Status) : Type 0 where
-  -- No engine is asked before the lines before the first answer are written whole.
+-- What holds for the word `run`.
+pub record RunConsults {S K E : Type 0} (source : Change S) (sink : Change K) (roster : Engines E) (status : Status) : Type 0 where
+  -- No engine is asked before the header is written whole.
   pub late : AreUnasked roster ⊎ HasBegun source.bytes_old source.bytes_new sink.bytes_old sink.bytes_new
   -- No engine is asked for an input that is refused.
   pub refused : (bytes : List ℕ) → source.bytes_old ≡ Some bytes → ¬ IsAccepted bytes → AreUnasked roster
-  -- Where all queries were answered and one of them asks a box question, the first engine that is left was asked.
+  -- If all queries were answered and one of them asks a box question, the first engine that is left was asked.
   pub asked : IsToEnd status → AsksFirst source.bytes_old source.bytes_new roster.before roster.after

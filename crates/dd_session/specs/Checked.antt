@@ -7,15 +7,15 @@ use Rattle.dd_output.specs.declared.output.Output.{Output}
 use Rattle.dd_script.specs.Parts.{Parts}
 use Rattle.dd_session.specs.declared.status.Status.{Status}
 use Rattle.dd_session.specs.declared.status.Status.TheVariants.{Definite, SomeUnknown, Refused, ReadFault, WriteFault, Memory, BadWords, Rejected}
-use Rattle.dd_session.specs.{Output.long_line, Sides.Told, Sides.IsUntouched, Sides.HasFailed}
+use Rattle.dd_session.specs.{Output.long_line, Sides.Change, Sides.IsUntouched, Sides.HasFailed}
 use Rattle.dd_session.specs.Checks.{accepted_lines, checked_line, rejected_line, most_checked, AcceptedTo, IsEnding, IsCheckable, IsRefusedOutput, IsAllAccepted, IsRejectedAfter, IsCheckedOutput}
 
--- All answers in the bytes are accepted, and the whole text that says so was written.
+-- All answers in the bytes are accepted, and the whole text that says so was written. `has` says whether some answer is UNKNOWN.
 pub record WholeCheck (old new : Option (List ℕ)) (has : Bool) (bytes : List ℕ) : Type 0 where
   pub all : IsAllAccepted has bytes
   pub appends : Appends old new (accepted_lines (length all.output.answers) ++ checked_line (length all.output.answers))
 
--- Some answer is rejected, and the whole text up to the first such was written.
+-- Some query is rejected, and the whole text up to the line of the first one was written.
 pub record WholeRejection (old new : Option (List ℕ)) (bytes : List ℕ) : Type 0 where
   pub done : ℕ
   pub rejected : IsRejectedAfter done bytes
@@ -49,7 +49,7 @@ pub record ShortRefusedOutput (old new : Option (List ℕ)) (bytes : List ℕ) :
   pub front : GainsFront old new line
 
 -- What a check of these bytes wrote, by its status.
-abbrev pub CheckedOver : {K : Type 0} → Told K → List ℕ → Status → Type 0
+abbrev pub CheckedOver : {K : Type 0} → Change K → List ℕ → Status → Type 0
 CheckedOver sink bytes Definite = WholeCheck sink.bytes_old sink.bytes_new false bytes
 CheckedOver sink bytes SomeUnknown = WholeCheck sink.bytes_old sink.bytes_new true bytes
 CheckedOver sink bytes Refused = WholeRefusedOutput sink.bytes_old sink.bytes_new bytes
@@ -60,23 +60,23 @@ CheckedOver sink bytes ReadFault = ⊥
 CheckedOver sink bytes BadWords = ⊥
 CheckedOver sink bytes Rejected = WholeRejection sink.bytes_old sink.bytes_new bytes
 
--- The source was read to its end, it gave at most 268,435,456 bytes, and this holds of them.
+-- The source was read to its end, its bytes were not too many, and P holds of them.
 pub record Read (left_old left_new : Option (List ℕ)) (P : List ℕ → Type 0) : Type 0 where
   pub bytes : List ℕ
   pub read : ReadToEnd left_old left_new bytes
   pub short : length bytes ≤ most_checked
   pub holds : P bytes
 
--- The same, of a source before and after a call.
-abbrev pub OfBytes : {S : Type 0} → Told S → (List ℕ → Type 0) → Type 0
+-- The same, for the change of a source.
+abbrev pub OfBytes : {S : Type 0} → Change S → (List ℕ → Type 0) → Type 0
 OfBytes source P = Read source.bytes_old source.bytes_new P
 
 -- The source gave more bytes than are checked.
-abbrev pub IsTooLong : {S : Type 0} → Told S → Type 0
+abbrev pub IsTooLong : {S : Type 0} → Change S → Type 0
 IsTooLong source = GivesMore source.bytes_old source.bytes_new most_checked
 
--- What a check read and wrote, by its status. A fault comes only where the source or the sink failed in this call.
-abbrev pub CheckEnded : {S K : Type 0} → Told S → Told K → Status → Type 0
+-- What a check read and wrote, by its status. `ReadFault` and `WriteFault` come only if the source or the sink failed in this call.
+abbrev pub CheckEnded : {S K : Type 0} → Change S → Change K → Status → Type 0
 CheckEnded source sink Definite = OfBytes source (WholeCheck sink.bytes_old sink.bytes_new false)
 CheckEnded source sink SomeUnknown = OfBytes source (WholeCheck sink.bytes_old sink.bytes_new true)
 CheckEnded source sink Refused =

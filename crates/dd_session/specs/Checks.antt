@@ -20,20 +20,20 @@ accepted_line number = codes "query " ++ (decimal number ++ codes " accepted\n")
 abbrev pub rejected_line : ℕ → List ℕ
 rejected_line number = codes "query " ++ (decimal number ++ codes " rejected\n")
 
--- after the lines of all queries: how many there are
+-- after the lines of all queries: how many queries there are
 abbrev pub checked_line : ℕ → List ℕ
 checked_line count = codes "checked " ++ (decimal count ++ codes "\n")
 
--- the lines for the first queries, all accepted
+-- the lines for the queries 1 to `done`, all accepted
 abbrev pub accepted_lines : ℕ → List ℕ
 accepted_lines zero = []
 accepted_lines (suc done) = accepted_lines done ++ accepted_line (done + 1)
 
--- for bytes that are no output: so many of them begin one
+-- for bytes that are no output: `offset` is the length of their longest prefix that begins one
 abbrev pub offset_line : ℕ → List ℕ
 offset_line offset = codes "refused at " ++ (decimal offset ++ codes "\n")
 
--- for an output whose script is none
+-- for an output that gives no script as its script
 abbrev pub script_line : ℕ → RefusalKind → List ℕ
 script_line command k = refused_line (codes "refused script") command k
 
@@ -47,17 +47,17 @@ IsAcceptedAt s answers number = IsSomeAnd (slice_get answers (number - 1)) (λ a
 abbrev pub IsTrueAt : Parts → List Answer → ℕ → Type 0
 IsTrueAt s answers number = IsSomeAnd (slice_get answers (number - 1)) (λ a. Claim s number a)
 
--- the first answers are accepted
+-- the answers 1 to `done` are accepted
 abbrev pub AcceptedTo : Parts → List Answer → ℕ → Type 0
 AcceptedTo s answers done = (number : ℕ) → 1 ≤ number → number ≤ done → IsAcceptedAt s answers number
 
--- There is one answer to each query, a certificate, and what it claims is true.
+-- There is one answer to each query. Each answer is a certificate, and what it claims is true.
 pub record AllAccepted (s : Parts) (answers : List Answer) : Type 0 where
   pub each : length answers ≡ length s.queries
   pub accepted : AcceptedTo s answers (length answers)
   pub claims : (number : ℕ) → 1 ≤ number → number ≤ length answers → IsTrueAt s answers number
 
--- After so many accepted answers comes a query without an answer, an answer without a query, or an answer that is no certificate.
+-- After `done` accepted answers comes a query without an answer, an answer without a query, or an answer that is no certificate.
 pub record FirstRejected (s : Parts) (answers : List Answer) (done : ℕ) : Type 0 where
   pub within : done < max (length s.queries) (length answers)
   pub before : AcceptedTo s answers done
@@ -70,25 +70,25 @@ pub record IsOutput (bytes : List ℕ) (o : Output) : Type 0 where
   pub writable : IsWritableOutput o
   pub text_is : bytes ≡ output_text o
 
--- They are, and the output's script is this one.
+-- The bytes are the text of this output, and its script is this one.
 pub record IsCheckable (bytes : List ℕ) (o : Output) (s : Parts) : Type 0 where
   pub output : IsOutput bytes o
   pub spelled : Spells o.script s
 
--- The bytes are no output, or the script in them is none, and this line says so.
+-- The bytes are no output, or the script in them is no script, and this line says so.
 pub data IsRefusedOutput (bytes : List ℕ) (line : List ℕ) : Type 0 where
   malformed : (offset : ℕ) → ¬ IsWellFormed bytes → IsOffset bytes offset → line ≡ offset_line offset → IsRefusedOutput bytes line
   no_script : (o : Output) → IsOutput bytes o → (command : ℕ) (k : RefusalKind) → RefusedAs o.script command k → line ≡ script_line command k
       → IsRefusedOutput bytes line
 
--- How the text goes on after the lines of so many accepted queries: with the line of the first rejected query, or with the last line.
--- Where the check was broken off, it may stop there.
+-- How the text goes on after the lines of `done` accepted queries: with the line of the first rejected query, or with the last line.
+-- It goes on with nothing if the check was broken off there.
 pub data IsEnding (s : Parts) (answers : List Answer) (done : ℕ) (ending : List ℕ) : Type 0 where
   broken_off : ending ≡ [] → IsEnding s answers done ending
   rejected : FirstRejected s answers done → ending ≡ rejected_line (done + 1) → IsEnding s answers done ending
   finished : AllAccepted s answers → done ≡ length answers → ending ≡ checked_line done → IsEnding s answers done ending
 
--- The bytes are such an output, and each of its answers is accepted. `has` says whether some answer is UNKNOWN.
+-- The bytes are an output with a script, and each of its answers is accepted. `has` says whether some answer is UNKNOWN.
 pub record IsAllAccepted (has : Bool) (bytes : List ℕ) : Type 0 where
   pub output : Output
   pub script : Parts
@@ -96,14 +96,14 @@ pub record IsAllAccepted (has : Bool) (bytes : List ℕ) : Type 0 where
   pub accepted : AllAccepted script output.answers
   pub unknown_is : has_unknown output.answers ≡ has
 
--- The bytes are such an output, and after so many accepted queries comes one that is rejected.
+-- The bytes are an output with a script, and after `done` accepted queries comes one that is rejected.
 pub record IsRejectedAfter (done : ℕ) (bytes : List ℕ) : Type 0 where
   pub output : Output
   pub script : Parts
   pub checkable : IsCheckable bytes output script
   pub rejected : FirstRejected script output.answers done
 
--- The bytes are such an output, of at most 268,435,456 bytes.
+-- The bytes are an output with a script, and are not too long.
 pub record IsCheckedOutput (bytes : List ℕ) : Type 0 where
   pub short : length bytes ≤ most_checked
   pub output : Output

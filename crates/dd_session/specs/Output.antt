@@ -1,4 +1,4 @@
--- The texts that a run writes.
+-- The whole output of a run, and the lines for inputs that are refused.
 use Rattle.std.specs.{Prelude.◌≡◌, Prelude.ℕ, Prelude.List, Prelude.◌++◌, Prelude.codes, Prelude.string_bytes, Fmt.decimal}
 use Rattle.dd_faults.specs.declared.fault.Limit.{Limit}
 use Rattle.dd_certificate.specs.{declared.answer.Answer.Answer, Text.answer_text}
@@ -9,15 +9,15 @@ use Rattle.dd_session.specs.Answers.{texts}
 use Rattle.dd_faults.specs.declared.fault.Limit.TheVariants as limit
 use Rattle.dd_script.specs.declared.fault.ScriptKind.TheVariants as refused
 
--- The lines before the first answer, which proofs of runs need not look into.
+-- The header of an output: all lines before the first answer. Proofs of runs need not look into it.
 unfoldable pub header : List ℕ → List ℕ
 header bytes = lines_before bytes
 
--- The whole output for these bytes of a script and these answers to its queries, in order.
+-- The whole output for a script that these bytes spell, with these answers to its queries, in order.
 abbrev pub output_of : List ℕ → List Answer → List ℕ
 output_of bytes answers = header bytes ++ texts answer_text 1 answers ++ end_line
 
--- ---- the lines for an input that is refused
+-- ---- the lines for inputs that are refused
 
 -- for an input that is too long
 abbrev pub long_line : List ℕ
@@ -45,6 +45,7 @@ limit_text limit.Patterns = codes "patterns"
 limit_text limit.States = codes "states"
 limit_text limit.Clauses = codes "clauses"
 
+-- what is wrong with a command
 abbrev pub refusal_kind_text : RefusalKind → List ℕ
 refusal_kind_text syntax = codes "syntax"
 refusal_kind_text (unknown name) = codes "unknown " ++ name
@@ -52,7 +53,7 @@ refusal_kind_text (twice name) = codes "twice " ++ name
 refusal_kind_text dimension = codes "dimension"
 refusal_kind_text (size l) = codes "size " ++ limit_text l
 
--- for bytes that are no script: these words, the number of the command, and what is wrong with it
+-- for bytes that are no script: `words`, the number of the command, and what is wrong with it
 abbrev pub refused_line : List ℕ → ℕ → RefusalKind → List ℕ
 refused_line words command k = words ++ (codes " " ++ (decimal command ++ (codes " " ++ (refusal_kind_text k ++ codes "\n"))))
 
@@ -60,7 +61,7 @@ refused_line words command k = words ++ (codes " " ++ (decimal command ++ (codes
 abbrev pub refused_words : List ℕ
 refused_words = codes "refused"
 
--- this is the line for what was found wrong with a command; want of memory has no line
+-- this is the line for a script that is refused for this kind of fault; if memory ran out, there is no line
 abbrev pub IsLineOf : List ℕ → ℕ → ScriptKind → List ℕ → Type 0
 IsLineOf words command refused.Syntax line = line ≡ refused_line words command syntax
 IsLineOf words command (refused.Unknown name) line = line ≡ refused_line words command (unknown (string_bytes name))

@@ -7,7 +7,7 @@ use Rattle.dd_script.specs.{Parts.Parts, Scripts.Spells, Scripts.RefusedAs, Scri
 use Rattle.dd_session.specs.declared.status.Status.{Status}
 use Rattle.dd_session.specs.declared.status.Status.TheVariants.{Definite, SomeUnknown, Refused, ReadFault, WriteFault, Memory, BadWords, Rejected}
 use Rattle.dd_session.specs.{Answers.IsOpenAs, Output.long_line, Output.refused_line, Output.refused_words}
-use Rattle.dd_session.specs.{Sides.Told, Sides.IsUntouched, Sides.HasFailed, Written.WholeOutput, Written.CutShort}
+use Rattle.dd_session.specs.{Sides.Change, Sides.IsUntouched, Sides.HasFailed, Written.WholeOutput, Written.CutShort}
 
 -- The bytes are a script, and its whole output was written. `has` says whether some answer is UNKNOWN, which depends on the script alone.
 pub record WholeRun (old new : Option (List ℕ)) (bytes : List ℕ) (has : Bool) : Type 0 where
@@ -36,7 +36,7 @@ pub record RanShort (left_old left_new held_old held_new : Option (List ℕ)) : 
   pub short : length bytes ≤ most_script
   pub run : ShortRun held_old held_new bytes
 
--- The bytes are a script, of at most 1,048,576 bytes.
+-- The bytes spell a script and are not too many: a run accepts them.
 pub record IsAccepted (bytes : List ℕ) : Type 0 where
   pub short : length bytes ≤ most_script
   pub script : Parts
@@ -82,7 +82,7 @@ pub record RefusedShort (left_old left_new held_old held_new : Option (List ℕ)
 -- ---- by the status
 
 -- What a run over these bytes wrote, by its status.
-abbrev pub RanOver : {K : Type 0} → Told K → List ℕ → Status → Type 0
+abbrev pub RanOver : {K : Type 0} → Change K → List ℕ → Status → Type 0
 RanOver sink bytes Definite = WholeRun sink.bytes_old sink.bytes_new bytes false
 RanOver sink bytes SomeUnknown = WholeRun sink.bytes_old sink.bytes_new bytes true
 RanOver sink bytes Refused = WholeRefusal sink.bytes_old sink.bytes_new bytes
@@ -92,8 +92,8 @@ RanOver sink bytes ReadFault = ⊥
 RanOver sink bytes BadWords = ⊥
 RanOver sink bytes Rejected = ⊥
 
--- What a run read and wrote, by its status. A fault comes only where the source or the sink failed in this call.
-abbrev pub Ended : {S K : Type 0} → Told S → Told K → Status → Type 0
+-- What a run read and wrote, by its status. `ReadFault` and `WriteFault` come only if the source or the sink failed in this call.
+abbrev pub Ended : {S K : Type 0} → Change S → Change K → Status → Type 0
 Ended source sink Definite = RanWhole source.bytes_old source.bytes_new sink.bytes_old sink.bytes_new false
 Ended source sink SomeUnknown = RanWhole source.bytes_old source.bytes_new sink.bytes_old sink.bytes_new true
 Ended source sink Refused = RefusedWhole source.bytes_old source.bytes_new sink.bytes_old sink.bytes_new
@@ -105,7 +105,7 @@ Ended source sink Memory = RanShort source.bytes_old source.bytes_new sink.bytes
 Ended source sink BadWords = ⊥
 Ended source sink Rejected = ⊥
 
--- The bytes are a script that is run. `has` says whether some query of it has no definite answer.
+-- A run accepts the bytes. `has` says whether some query of their script has no definite answer.
 pub record IsAcceptedAs (has : Bool) (bytes : List ℕ) : Type 0 where
   pub accepted : IsAccepted bytes
   pub is_open : IsOpenAs has accepted.script

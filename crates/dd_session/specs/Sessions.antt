@@ -1,9 +1,9 @@
--- What a session does, by the words after the program's name: the contract of `run_diddy`, from the top.
+-- What a session does for the words after the program's name. These are the promises of the contract of `run_diddy`.
 use Rattle.std.specs.Prelude.{◌≡◌, ◌↔◌, ◌≤◌, ◌+◌, ℕ, List, Some, codes}
 use Rattle.dd_values.specs.Bounds.{most_script}
 use Rattle.dd_outside.specs.Bytes.{GivesAtMost}
 use Rattle.dd_sample.specs.Sample.{sample_text}
-use Rattle.dd_session.specs.{declared.status.Status.Status, declared.status.Status.TheVariants.BadWords, Sides.Told, Sides.IsUntouched}
+use Rattle.dd_session.specs.{declared.status.Status.Status, declared.status.Status.TheVariants.BadWords, Sides.Change, Sides.IsUntouched}
 use Rattle.dd_session.specs.{Words.IsOnly, Words.IsSample, Words.AreBad, Runs.Ended, Runs.DecidesStatus, Checks.most_checked}
 use Rattle.dd_session.specs.{Checked.CheckEnded, Checked.CheckDecides, Samples.SampleEnded}
 use Rattle.dd_session.specs.Asking.{Engines, AreUnasked, AreKept, RunConsults, IsToEnd, AsksFirstOver}
@@ -11,35 +11,35 @@ use Rattle.dd_session.specs.Asking.{Engines, AreUnasked, AreKept, RunConsults, I
 -- ---- what each word does
 
 -- A run reads a script from the source, and writes its output, with a right answer to each query, to the sink.
-pub record IsRun {S K : Type 0} (source : Told S) (sink : Told K) (status : Status) : Type 0 where
+pub record IsRun {S K : Type 0} (source : Change S) (sink : Change K) (status : Status) : Type 0 where
   -- What was read and what was written, by the status.
   pub ended : Ended source sink status
-  -- Where the source tells its bytes: a run is of a script, some query of which is unknown exactly where the status says so, and what is
-  -- refused is none.
+  -- If the bytes of the source are known: they are a script if they are run, and no script or too long if they are refused. Some query
+  -- has no definite answer exactly if the status says so.
   pub decided : (bytes : List ℕ) → source.bytes_old ≡ Some bytes → DecidesStatus bytes status
-  -- At most 1,048,577 bytes are taken from the source.
+  -- At most one byte more than a script may have is taken from the source.
   pub taken : GivesAtMost source.bytes_old source.bytes_new (most_script + 1)
 
 -- A check reads an output from the source, and writes to the sink whether the answer to each query is accepted.
-pub record IsCheck {S K : Type 0} (source : Told S) (sink : Told K) (status : Status) : Type 0 where
+pub record IsCheck {S K : Type 0} (source : Change S) (sink : Change K) (status : Status) : Type 0 where
   -- What was read and what was written, by the status.
   pub ended : CheckEnded source sink status
-  -- Where the source tells its bytes: what is accepted is an output of certificates, what is rejected has an answer that is none, and
-  -- what is refused is no output of a script.
+  -- If the bytes of the source are known: what is accepted is an output of certificates. What is rejected is an output in which an
+  -- answer is missing, is one too many, or is no certificate. What is refused is no output with a script, or is too long.
   pub decided : (bytes : List ℕ) → source.bytes_old ≡ Some bytes → CheckDecides bytes status
-  -- At most 268,435,457 bytes are taken from the source.
+  -- At most one byte more than an output may have is taken from the source.
   pub taken : GivesAtMost source.bytes_old source.bytes_new (most_checked + 1)
 
--- A sample's run writes the first lines of right answers to the queries of the sample script with a number.
-pub record IsSampleRun {S K : Type 0} (number : ℕ) (source : Told S) (sink : Told K) (status : Status) : Type 0 where
+-- A sample's run writes the first line of a right answer to each query of the sample script with this number.
+pub record IsSampleRun {S K : Type 0} (number : ℕ) (source : Change S) (sink : Change K) (status : Status) : Type 0 where
   -- What was written, by the status.
   pub ended : SampleEnded sink number status
   -- The source is left as it is.
   pub source_kept : IsUntouched source
 
--- Other words ask for nothing.
-pub record IsIdle {S K : Type 0} (words : List (List ℕ)) (source : Told S) (sink : Told K) (status : Status) : Type 0 where
-  -- The status says so, and comes for no other words.
+-- Words that ask for nothing.
+pub record IsIdle {S K : Type 0} (words : List (List ℕ)) (source : Change S) (sink : Change K) (status : Status) : Type 0 where
+  -- The status is `BadWords` exactly if the words ask for nothing.
   pub says : (status ≡ BadWords) ↔ AreBad words
   -- Nothing is read then.
   pub source_kept : status ≡ BadWords → IsUntouched source
@@ -49,12 +49,12 @@ pub record IsIdle {S K : Type 0} (words : List (List ℕ)) (source : Told S) (si
 -- ---- the whole
 
 -- The counts of faults of the source and of the sink never fall.
-pub record KeepsCounts {S K : Type 0} (source : Told S) (sink : Told K) : Type 0 where
+pub record KeepsCounts {S K : Type 0} (source : Change S) (sink : Change K) : Type 0 where
   pub source_faults : source.faults_old ≤ source.faults_new
   pub sink_faults : sink.faults_old ≤ sink.faults_new
 
 -- What a session reads and writes, and its status.
-pub record IsSession {S K : Type 0} (words : List (List ℕ)) (source : Told S) (sink : Told K) (status : Status) : Type 0 where
+pub record IsSession {S K : Type 0} (words : List (List ℕ)) (source : Change S) (sink : Change K) (status : Status) : Type 0 where
   pub run : IsOnly (codes "run") words → IsRun source sink status
   pub check : IsOnly (codes "check") words → IsCheck source sink status
   pub sample : (number : ℕ) → IsSample number words → IsSampleRun number source sink status
@@ -62,12 +62,12 @@ pub record IsSession {S K : Type 0} (words : List (List ℕ)) (source : Told S) 
   pub faults : KeepsCounts source sink
 
 -- Which engines a session asks.
-pub record Consults {S K E : Type 0} (words : List (List ℕ)) (source : Told S) (sink : Told K) (roster : Engines E) (status : Status) : Type 0 where
-  -- The roster is kept, and where no query is answered no engine is asked.
+pub record Consults {S K E : Type 0} (words : List (List ℕ)) (source : Change S) (sink : Change K) (roster : Engines E) (status : Status) : Type 0 where
+  -- The roster is kept. If no query is answered, no engine is asked.
   pub always : AreKept roster status
   -- A run asks no engine before its header is written, nor for an input that is refused.
   pub run : IsOnly (codes "run") words → RunConsults source sink roster status
   -- A check asks no engine.
   pub check : IsOnly (codes "check") words → AreUnasked roster
-  -- Where all queries of a sample were answered and one of them asks a box question, the first engine that is left was asked.
+  -- If all queries of a sample were answered and one of them asks a box question, the first engine that is left was asked.
   pub sample : (number : ℕ) → IsSample number words → IsToEnd status → AsksFirstOver (sample_text number) roster.before roster.after

@@ -8,27 +8,31 @@ use Rattle.dd_session.specs.declared.status.Status.{Status}
 use Rattle.dd_session.specs.declared.status.Status.TheVariants.{Definite, SomeUnknown, Refused, ReadFault, WriteFault, Memory, BadWords, Rejected}
 use Rattle.dd_session.specs.Output.{IsLineOf}
 
--- A source or a sink before and after a call: itself, the bytes that it tells, and how often it failed.
-pub record Told (X : Type 0) : Type 0 where
+-- A source or a sink before and after a call.
+pub record Change (X : Type 0) : Type 0 where
   pub old : X
   pub new : X
+  -- the bytes left in the source or held by the sink, if they are known
   pub bytes_old : Option (List ℕ)
   pub bytes_new : Option (List ℕ)
+  -- how often the source or sink has failed
   pub faults_old : ℕ
   pub faults_new : ℕ
 
-abbrev pub told : {X : Type 0} → (X → Option (List ℕ)) → (X → ℕ) → X → X → Told X
-told bytes faults old new =
+abbrev pub change : {X : Type 0} → (X → Option (List ℕ)) → (X → ℕ) → X → X → Change X
+change bytes faults old new =
     record { old = old; new = new; bytes_old = bytes old; bytes_new = bytes new; faults_old = faults old; faults_new = faults new }
 
-abbrev pub IsUntouched : {X : Type 0} → Told X → Type 0
+-- the source or sink is as it was
+abbrev pub IsUntouched : {X : Type 0} → Change X → Type 0
 IsUntouched side = side.new ≡ side.old
 
-abbrev pub HasFailed : {X : Type 0} → Told X → Type 0
+-- the source or sink failed in the call
+abbrev pub HasFailed : {X : Type 0} → Change X → Type 0
 HasFailed side = Rose side.faults_old side.faults_new
 
--- This line for a refused input was written, or a prefix of it where the sink failed.
-abbrev pub RefusedBy : {K : Type 0} → Told K → List ℕ → Status → Type 0
+-- The line for a refused input was written, or a prefix of it if the sink failed.
+abbrev pub RefusedBy : {K : Type 0} → Change K → List ℕ → Status → Type 0
 RefusedBy sink line Refused = Appends sink.bytes_old sink.bytes_new line
 RefusedBy sink line WriteFault = GainsFront sink.bytes_old sink.bytes_new line × HasFailed sink
 RefusedBy sink line Definite = ⊥
@@ -38,14 +42,14 @@ RefusedBy sink line Memory = ⊥
 RefusedBy sink line BadWords = ⊥
 RefusedBy sink line Rejected = ⊥
 
--- The line for what is wrong with a command, which begins with these words, was written, or a prefix of it.
-pub record LineRefused {K : Type 0} (sink : Told K) (words : List ℕ) (command : ℕ) (kind : ScriptKind) (status : Status) : Type 0 where
+-- The line for a script that is refused was written, or a prefix of it if the sink failed. The line begins with `words`.
+pub record LineRefused {K : Type 0} (sink : Change K) (words : List ℕ) (command : ℕ) (kind : ScriptKind) (status : Status) : Type 0 where
   pub line : List ℕ
   pub line_is : IsLineOf words command kind line
   pub wrote : RefusedBy sink line status
 
--- That is so, or memory ran out before anything was written.
-abbrev pub RefusedFor : {K : Type 0} → Told K → List ℕ → ℕ → ScriptKind → Status → Type 0
+-- The same, or memory ran out before anything was written.
+abbrev pub RefusedFor : {K : Type 0} → Change K → List ℕ → ℕ → ScriptKind → Status → Type 0
 RefusedFor sink words command kind status = LineRefused sink words command kind status ⊎ ((status ≡ Memory) × IsUntouched sink)
 
 -- The status of a run that came to its end, by whether some answer is UNKNOWN.

@@ -1,4 +1,6 @@
--- Right answers to the queries of a script, as they are written: `written` says how much of each, by its number.
+-- Right answers to the queries of a script, as they are written. `written` gives the text of an answer to the query with a number: the
+-- whole answer or its first line. `old` and `new` are the bytes that the sink holds before and after, if they are known. `has` says
+-- whether some answer is UNKNOWN.
 use Rattle.std.specs.Prelude.{◌≡◌, ◌⊎◌, ℕ, List, [], ◌++◌, length, Bool}
 use Rattle.std.specs.{declared.option.Option.Option, Io.KnownBytes.Appends}
 use Rattle.dd_outside.specs.Bytes.{GainsFront}
@@ -16,7 +18,7 @@ pub record Answered (written : ℕ → Answer → List ℕ) (old new : Option (L
   pub unknown_is : has_unknown answers ≡ has
   pub appends : Appends old new (texts written first answers)
 
--- A prefix of right answers to the first of these queries was written.
+-- A prefix of the text of right answers to these queries was written.
 pub record AnsweredFront (written : ℕ → Answer → List ℕ) (old new : Option (List ℕ)) (s : Parts) (queries : List Query) (first : ℕ) : Type 0 where
   pub answers : List Answer
   pub right : AllRight s queries answers
@@ -30,7 +32,7 @@ pub record AnsweredToEnd (written : ℕ → Answer → List ℕ) (old new : Opti
   pub unknown_is : has_unknown answers ≡ has
   pub appends : Appends old new (texts written 1 answers ++ end_line)
 
--- A prefix of that was written: of right answers to the first queries, and of the end line once all queries have an answer.
+-- A prefix of that text was written: of right answers to the first queries, and of the end line once all queries have an answer.
 pub record AnsweredShort (written : ℕ → Answer → List ℕ) (old new : Option (List ℕ)) (s : Parts) : Type 0 where
   pub answers : List Answer
   pub ending : List ℕ

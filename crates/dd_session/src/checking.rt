@@ -29,7 +29,7 @@ pub(crate) fn has_unknown(answers: &[Answer]) -> bool
     answers.iter().any(|answer| is_unknown(answer))
 }
 
-// The line for the query with this number.
+// The line that says whether the answer to the query with this number is accepted.
 fn verdict_line(alloc: Global, number: u32, accepted: bool) -> Result<String, AllocError>
     ensures { IfOk result (λ line. string_bytes line ≡ verdict_line number accepted) }
 {
@@ -47,7 +47,7 @@ fn checked_line(alloc: Global, count: usize) -> Result<String, AllocError>
     format!(in alloc; "checked {count}\n")
 }
 
-// Whether a query and an answer have this number, and the answer is a certificate.
+// Whether there are a query and an answer with this number, from 1, and the answer is a certificate of the query.
 fn is_accepted(
     alloc: Global,
     script: &Script,
@@ -66,7 +66,7 @@ fn is_accepted(
     Ok(verdict == Verdict::Accepted)
 }
 
-// Checks one answer and writes its line. True where it is accepted.
+// Checks one answer and writes its line. True if the answer is accepted.
 fn check_one<K: Sink>(
     alloc: Global,
     script: &Script,
@@ -85,7 +85,7 @@ fn check_one<K: Sink>(
     Ok(accepted)
 }
 
-// Checks the answers in order, and stops at the first that is rejected. True where all are accepted.
+// Checks the answers in order, and stops at the first that is rejected. True if all are accepted.
 fn check_each<K: Sink>(
     alloc: Global,
     script: &Script,
@@ -108,7 +108,8 @@ fn check_each<K: Sink>(
     Ok(true)
 }
 
-/// Checks the answers in order, and stops at the first that is rejected. Where all are accepted, writes how many there are. True then.
+/// Checks the answers in order, and stops at the first that is rejected. If all are accepted, writes how many there are. True if all
+/// are accepted.
 pub(crate) fn check_all<K: Sink>(
     alloc: Global,
     script: &Script,

@@ -4,7 +4,7 @@ ghost use Rattle.dd_outside.specs.Bytes.{GivesAtMost};
 ghost use Rattle.dd_output.specs.Outputs.{output_text, IsWritableOutput};
 ghost use Rattle.dd_script.specs.Scripts.{Spells};
 ghost use Rattle.dd_session.specs.Answers.{has_unknown};
-ghost use Rattle.dd_session.specs.Sides.{told};
+ghost use Rattle.dd_session.specs.Sides.{change};
 ghost use Rattle.dd_session.specs.Checks.{most_checked, offset_line};
 ghost use Rattle.dd_session.specs.Checked.{CheckedOver, CheckEnded};
 ghost use Rattle.dd_session.specs.Sessions.{IsCheck, KeepsCounts};
@@ -21,7 +21,7 @@ use dd_script::{Script, parse};
 use dd_spelling::spelled_or_refused;
 use std::alloc::{AllocError, Global};
 
-// The status of a check that came to its end.
+// The status of a check that came to its end. `accepted` says whether all answers are accepted.
 fn checked_status(accepted: bool, answers: &[Answer]) -> Status
     ensures { result ≡ checked_status accepted (has_unknown answers.now) }
 {
@@ -32,11 +32,11 @@ fn checked_status(accepted: bool, answers: &[Answer]) -> Status
     }
 }
 
-// Checks the answers of an output, given its script.
+// Checks the answers of an output whose script was parsed.
 fn check_script<K: Sink>(alloc: Global, output: &Output, script: &Script, sink: &mut K) -> Status
     requires writable { IsWritableOutput output.now }
     requires spelled { Spells output.now.script script.now }
-    ensures checked { CheckedOver (told K.held K.faults sink.old sink.new) (output_text output.now) result }
+    ensures checked { CheckedOver (change K.held K.faults sink.old sink.new) (output_text output.now) result }
     ensures later { K.faults sink.old ≤ K.faults sink.new }
 {
     let answers = output.answers.as_slice();
@@ -50,7 +50,7 @@ fn check_script<K: Sink>(alloc: Global, output: &Output, script: &Script, sink: 
 // Checks an output.
 fn check_output<K: Sink>(alloc: Global, output: &Output, sink: &mut K) -> Status
     requires { IsWritableOutput output.now }
-    ensures checked { CheckedOver (told K.held K.faults sink.old sink.new) (output_text output.now) result }
+    ensures checked { CheckedOver (change K.held K.faults sink.old sink.new) (output_text output.now) result }
     ensures later { K.faults sink.old ≤ K.faults sink.new }
 {
     match parse(alloc, output.script.as_slice()) {
@@ -59,7 +59,7 @@ fn check_output<K: Sink>(alloc: Global, output: &Output, sink: &mut K) -> Status
     }
 }
 
-// The line for bytes that are no output.
+// The line for bytes that are no output. `offset` is the length of their longest prefix that begins an output.
 fn offset_line(alloc: Global, offset: u64) -> Result<String, AllocError>
     ensures { IfOk result (λ line. string_bytes line ≡ offset_line offset) }
 {
@@ -68,7 +68,7 @@ fn offset_line(alloc: Global, offset: u64) -> Result<String, AllocError>
 
 // Checks an input that is not too long.
 fn check_bytes<K: Sink>(alloc: Global, bytes: &[u8], sink: &mut K) -> Status
-    ensures checked { CheckedOver (told K.held K.faults sink.old sink.new) bytes.now result }
+    ensures checked { CheckedOver (change K.held K.faults sink.old sink.new) bytes.now result }
     ensures later { K.faults sink.old ≤ K.faults sink.new }
 {
     match read_output(alloc, bytes) {
@@ -83,9 +83,9 @@ fn check_bytes<K: Sink>(alloc: Global, bytes: &[u8], sink: &mut K) -> Status
 
 // Checks what the source gives.
 fn check<S: Source, K: Sink>(alloc: Global, source: &mut S, sink: &mut K) -> Status
-    ensures ended { CheckEnded (told S.left S.faults source.old source.new) (told K.held K.faults sink.old sink.new) result }
+    ensures ended { CheckEnded (change S.left S.faults source.old source.new) (change K.held K.faults sink.old sink.new) result }
     ensures taken { GivesAtMost (S.left source.old) (S.left source.new) (most_checked + 1) }
-    ensures faults { KeepsCounts (told S.left S.faults source.old source.new) (told K.held K.faults sink.old sink.new) }
+    ensures faults { KeepsCounts (change S.left S.faults source.old source.new) (change K.held K.faults sink.old sink.new) }
 {
     match read_all(alloc, source, MOST_OUTPUT) {
         Ok(bytes) => check_bytes(alloc, &bytes, sink),
@@ -97,18 +97,21 @@ fn check<S: Source, K: Sink>(alloc: Global, source: &mut S, sink: &mut K) -> Sta
 
 /// Reads an output from the source and checks the answer to each query of its script. Each line is written as soon as it is known.
 ///
-/// For each query in order the line `query K accepted` is written, and after the last one `checked COUNT`. Then each answer is a
-/// certificate, and what it claims of all infinite configurations is true. The line `query K rejected` ends the check at the first query
-/// that has no answer, or whose answer is no certificate, and at the first answer that has no query.
+/// The line for the query with the number K is `query K accepted` or `query K rejected`. A query is rejected if it has no answer, or if
+/// its answer is no certificate; an answer without a query is rejected too. The first rejection ends the check. If there is none, the
+/// last line is `checked COUNT`. Then each answer is a certificate, and what it claims of all infinite configurations is true.
 ///
-/// Three kinds of input are refused by one line. `refused long`: it has more than 268,435,456 bytes. `refused at OFFSET`: it is no output,
-/// and so many of its bytes begin one. `refused script C KIND`: its script is none, with the number of the command and what is wrong with it.
+/// Three kinds of input are refused, each by one line:
+/// - `refused long`: the input has more than `MOST_OUTPUT` bytes.
+/// - `refused at OFFSET`: the input is no output. OFFSET is the length of its longest prefix that begins an output.
+/// - `refused script C KIND`: the script in the output is no script. C is the number of the command at fault, and KIND says what is
+///   wrong with it.
 ///
 /// If the source fails, nothing is written. If the sink fails or memory runs out, only a prefix of these lines may have been written. At
-/// most 268,435,457 bytes are taken from the source.
+/// most `MOST_OUTPUT` + 1 bytes are taken from the source.
 pub fn check_diddy<S: Source, K: Sink>(alloc: Global, source: &mut S, sink: &mut K) -> Status
-    ensures checked { IsCheck (told S.left S.faults source.old source.new) (told K.held K.faults sink.old sink.new) result }
-    ensures faults { KeepsCounts (told S.left S.faults source.old source.new) (told K.held K.faults sink.old sink.new) }
+    ensures checked { IsCheck (change S.left S.faults source.old source.new) (change K.held K.faults sink.old sink.new) result }
+    ensures faults { KeepsCounts (change S.left S.faults source.old source.new) (change K.held K.faults sink.old sink.new) }
 {
     one_output();
     spelled_or_refused();

@@ -12,14 +12,14 @@ use dd_output::one_output;
 use dd_script::Script;
 use dd_spelling::one_script;
 
-/// Does nothing. Its contract says that a check that comes to its end accepts the whole output of a run over a script, with the run's
-/// status, if that output has at most 268,435,456 bytes.
+/// Does nothing. Its contract says that a check accepts the whole output of a run over a script. If the output has at most
+/// `MOST_OUTPUT` bytes and the check comes to its end, the check has the status of the run.
 pub fn runs_are_accepted(script: &Script)
     ensures accepted { (bytes text : List ℕ) (has : Bool) → IsRunOutput bytes script.now has text → IsAllAccepted has text }
     ensures same_status { (bytes text : List ℕ) (has : Bool) (status : AnyStatus) → IsRunOutput bytes script.now has text → length text ≤ most_checked →
         CheckDecides text status → IsJudgement status → status ≡ status_of has }
 {
-    // This read brings in what the type guarantees.
+    // This call tells the proof what the type guarantees.
     let _limits = script.limits();
     right_is_certificate();
     certified(script);

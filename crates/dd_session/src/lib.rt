@@ -1,4 +1,4 @@
-//! Whole sessions: the run of a script, from its bytes to those of its answers, the check of such an output, and the run of a sample.
+//! Whole sessions. A session runs a script, from its bytes to the bytes of its answers; or checks such an output; or runs a sample.
 #![tactic(auto)]
 
 mod checking;

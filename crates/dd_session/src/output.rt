@@ -1,4 +1,4 @@
-//! The texts that a run writes.
+//! The lines for inputs that are refused.
 ghost use Rattle.std.specs.Prelude.{◌≡◌, IfOk, string_bytes, ◌++◌, codes};
 ghost use Rattle.dd_session.specs.Output.{limit_text, IsLineOf, header};
 ghost use Rattle.std.specs.Fmt.{decimal};
@@ -6,6 +6,7 @@ ghost use Rattle.std.specs.Fmt.{decimal};
 use dd_script::{Limit, ScriptKind};
 use std::alloc::{AllocError, Global};
 
+// The word for a limit in the line of a refusal.
 fn limit_text(limit: Limit) -> &'static str
     ensures { result.now ≡ limit_text limit }
 {
@@ -33,7 +34,7 @@ fn limit_text(limit: Limit) -> &'static str
     }
 }
 
-// The line for a refused command: these words, its number, the fault, and a name where the fault has one.
+// The line for a refused command: `words`, the command's number, `fault`, and `name`, which may be the word for a limit or empty.
 fn refused_line(
     alloc: Global,
     words: &str,
@@ -46,7 +47,7 @@ fn refused_line(
     format!(in alloc; "{words} {command} {fault}{name}\n")
 }
 
-/// The line for bytes that are no script. It begins with these words. Want of memory has no line.
+/// The line for bytes that are no script. It begins with `words`. If memory ran out, now or when the bytes were read, there is no line.
 pub(crate) fn refused_text(
     alloc: Global,
     words: &str,

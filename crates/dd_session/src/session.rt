@@ -1,4 +1,4 @@
-//! A session, by the words of the command line.
+//! A session: what it does for the words of the command line.
 ghost use Rattle.std.specs.Prelude.{◌≡◌, ◌≢◌, ◌⊎◌, ◌+◌, ◌≤◌, ◌↔◌, ℕ, List, Some, IsTrue, IfOk, map, codes, string_bytes, length};
 ghost use Rattle.dd_values.specs.Bounds.{most_script, most_commands};
 ghost use Rattle.dd_outside.specs.Bytes.{GivesAtMost};
@@ -9,7 +9,7 @@ ghost use Rattle.dd_script.specs.Scripts.{Spells};
 ghost use Rattle.dd_answer.specs.Asking.{AsksSomeBoxes};
 ghost use Rattle.dd_session.specs.Asking.{engines, AreKept, HeaderTaken, Begun, HasBegun, IsToEnd, AsksFirstOver, AsksFirst};
 ghost use Rattle.dd_session.specs.Words.{IsOnly, IsSampleOf};
-ghost use Rattle.dd_session.specs.Sides.{told, status_of, RefusedBy, RefusedFor};
+ghost use Rattle.dd_session.specs.Sides.{change, status_of, RefusedBy, RefusedFor};
 ghost use Rattle.dd_session.specs.Runs.{RanOver, Ended};
 ghost use Rattle.dd_session.specs.Sessions.{IsSession, KeepsCounts, Consults};
 ghost use Rattle.dd_session.specs.Samples.{is_memory, LinesOf, SampleEnded};
@@ -34,6 +34,7 @@ fn is_text(word: &String, text: &str) -> bool
     word.as_str() == text
 }
 
+// Whether there is one word, and it is this text.
 fn is_only(words: &[String], text: &str) -> bool
     ensures { IsTrue result ↔ IsOnly text.now (map string_bytes words.now) }
 {
@@ -43,7 +44,7 @@ fn is_only(words: &[String], text: &str) -> bool
     }
 }
 
-// The number of the sample that the words ask for.
+// The number of the sample that the words ask for, if they ask for one.
 #[tactic(auto, using(crate::proofs::Words::two_words, crate::proofs::Words::another_word, crate::proofs::Words::other_length))]
 fn sample_of(words: &[String]) -> Option<u32>
     ensures { IsSampleOf (map string_bytes words.now) result }
@@ -59,9 +60,9 @@ fn sample_of(words: &[String]) -> Option<u32>
     }
 }
 
-/// Writes the line for an input that is refused.
+/// Writes the line for an input that is refused. The result is the status of the session.
 pub(crate) fn refuse<K: Sink>(sink: &mut K, line: &[u8]) -> Status
-    ensures wrote { RefusedBy (told K.held K.faults sink.old sink.new) line.now result }
+    ensures wrote { RefusedBy (change K.held K.faults sink.old sink.new) line.now result }
     ensures later { K.faults sink.old ≤ K.faults sink.new }
 {
     match write_whole(sink, line) {
@@ -70,14 +71,14 @@ pub(crate) fn refuse<K: Sink>(sink: &mut K, line: &[u8]) -> Status
     }
 }
 
-/// Writes the line for bytes that are no script. It begins with these words.
+/// Writes the line for bytes that are no script. It begins with `words`. The result is the status of the session.
 pub(crate) fn refuse_fault<K: Sink>(
     alloc: Global,
     words: &str,
     fault: &ScriptFault,
     sink: &mut K,
 ) -> Status
-    ensures wrote { RefusedFor (told K.held K.faults sink.old sink.new) words.now fault.now.command fault.now.kind result }
+    ensures wrote { RefusedFor (change K.held K.faults sink.old sink.new) words.now fault.now.command fault.now.kind result }
     ensures later { K.faults sink.old ≤ K.faults sink.new }
 {
     match refused_text(alloc, words, fault.command, &fault.kind) {
@@ -86,7 +87,7 @@ pub(crate) fn refuse_fault<K: Sink>(
     }
 }
 
-// Runs an accepted script.
+// Runs the script that these bytes spell.
 fn run_accepted<K: Sink, E: Engine>(
     alloc: Global,
     bytes: &[u8],
@@ -95,7 +96,7 @@ fn run_accepted<K: Sink, E: Engine>(
     roster: &mut Roster<E>,
 ) -> Status
     requires { Spells bytes.now script.now }
-    ensures ran { RanOver (told K.held K.faults sink.old sink.new) bytes.now result }
+    ensures ran { RanOver (change K.held K.faults sink.old sink.new) bytes.now result }
     ensures later { K.faults sink.old ≤ K.faults sink.new }
     ensures kept { AreKept (engines E.asked E.given E.sound roster.old roster.new) result }
     ensures late { (roster.new ≡ roster.old) ⊎ HeaderTaken (K.held sink.old) (K.held sink.new) bytes.now }
@@ -120,7 +121,7 @@ pub(crate) fn status_of(has_unknown: bool) -> Status
     }
 }
 
-// Runs an input that is not too long.
+// Runs the script that these bytes spell, or refuses them if they spell none.
 fn run_bytes<K: Sink, E: Engine>(
     alloc: Global,
     bytes: &[u8],
@@ -128,7 +129,7 @@ fn run_bytes<K: Sink, E: Engine>(
     roster: &mut Roster<E>,
 ) -> Status
     requires { length bytes.now ≤ most_script }
-    ensures ran { RanOver (told K.held K.faults sink.old sink.new) bytes.now result }
+    ensures ran { RanOver (change K.held K.faults sink.old sink.new) bytes.now result }
     ensures later { K.faults sink.old ≤ K.faults sink.new }
     ensures kept { AreKept (engines E.asked E.given E.sound roster.old roster.new) result }
     ensures late { (roster.new ≡ roster.old) ⊎ Begun (K.held sink.old) (K.held sink.new) bytes.now }
@@ -142,16 +143,16 @@ fn run_bytes<K: Sink, E: Engine>(
     }
 }
 
-// The word `run`.
+// Does what the word `run` asks for.
 fn run<S: Source, K: Sink, E: Engine>(
     alloc: Global,
     source: &mut S,
     sink: &mut K,
     roster: &mut Roster<E>,
 ) -> Status
-    ensures ended { Ended (told S.left S.faults source.old source.new) (told K.held K.faults sink.old sink.new) result }
+    ensures ended { Ended (change S.left S.faults source.old source.new) (change K.held K.faults sink.old sink.new) result }
     ensures taken { GivesAtMost (S.left source.old) (S.left source.new) (most_script + 1) }
-    ensures faults { KeepsCounts (told S.left S.faults source.old source.new) (told K.held K.faults sink.old sink.new) }
+    ensures faults { KeepsCounts (change S.left S.faults source.old source.new) (change K.held K.faults sink.old sink.new) }
     ensures kept { AreKept (engines E.asked E.given E.sound roster.old roster.new) result }
     ensures late { (roster.new ≡ roster.old) ⊎ HasBegun (S.left source.old) (S.left source.new) (K.held sink.old) (K.held sink.new) }
     ensures asked { IsToEnd result → AsksFirst (S.left source.old) (S.left source.new) (roster_seen E.asked E.given E.sound roster.old) (roster_seen E.asked E.given E.sound roster.new) }
@@ -177,7 +178,7 @@ fn sample(alloc: Global, number: u32) -> Result<Script, AllocError>
     requires { IsSampleNumber number }
     ensures { IfOk result (λ script. Spells (sample_text number) script) }
 {
-    // Laws: each sample spells a script, so it is not refused.
+    // Bring in laws: each sample spells a script, so it is not refused.
     samples_spell();
     spelled_or_refused();
     let bytes = sample_script(alloc, number)?;
@@ -201,7 +202,7 @@ fn run_lines<K: Sink, E: Engine>(
     roster: &mut Roster<E>,
 ) -> Status
     requires { length script.now.queries ≤ most_commands }
-    ensures wrote { LinesOf (told K.held K.faults sink.old sink.new) script.now result }
+    ensures wrote { LinesOf (change K.held K.faults sink.old sink.new) script.now result }
     ensures later { K.faults sink.old ≤ K.faults sink.new }
     ensures kept { AreKept (engines E.asked E.given E.sound roster.old roster.new) result }
     ensures asked { IsToEnd result → AsksSomeBoxes script.now script.now.queries → FirstAsked (roster_seen E.asked E.given E.sound roster.old) (roster_seen E.asked E.given E.sound roster.new) }
@@ -214,7 +215,7 @@ fn run_lines<K: Sink, E: Engine>(
     }
 }
 
-// The word `sample` and a number.
+// Does what the word `sample` and this number ask for.
 fn run_sample<K: Sink, E: Engine>(
     alloc: Global,
     number: u32,
@@ -222,7 +223,7 @@ fn run_sample<K: Sink, E: Engine>(
     roster: &mut Roster<E>,
 ) -> Status
     requires { IsSampleNumber number }
-    ensures ended { SampleEnded (told K.held K.faults sink.old sink.new) number result }
+    ensures ended { SampleEnded (change K.held K.faults sink.old sink.new) number result }
     ensures later { K.faults sink.old ≤ K.faults sink.new }
     ensures kept { AreKept (engines E.asked E.given E.sound roster.old roster.new) result }
     ensures asked { IsToEnd result → AsksFirstOver (sample_text number) (roster_seen E.asked E.given E.sound roster.old) (roster_seen E.asked E.given E.sound roster.new) }
@@ -239,24 +240,25 @@ fn run_sample<K: Sink, E: Engine>(
 ///
 /// `run` reads a script from the source and writes its output to the sink, with a right answer to each query. An output can hold each
 /// answer: its numbers and lists are within their bounds. The status says whether some answer is UNKNOWN, which depends on the script alone.
-/// An input of more than 1,048,576 bytes is refused by the line `refused long`. One that is no script is refused by `refused C KIND`, with the
-/// number of the command and what is wrong with it. At most 1,048,577 bytes are taken from the source.
+/// An input of more than `MOST_SCRIPT` bytes is refused by the line `refused long`. An input that is no script is refused by the line
+/// `refused C KIND`: C is the number of the command at fault, and KIND says what is wrong with it. At most `MOST_SCRIPT` + 1 bytes are
+/// taken from the source.
 ///
-/// `check` does what `check_diddy` does.
+/// `check` reads an output and checks it, as `check_diddy` says.
 ///
 /// `sample N` runs the sample script with the number N, whose text `sample_script` gives. N is a number from 1 to 16,384, in decimal without
-/// a leading zero. The first line of a right answer to each query is written as soon as it is known, and then `end`. The source is left as
-/// it is.
+/// a leading zero. For each query the first line of a right answer is written as soon as it is known. The line `end` comes last. The source
+/// is left as it is.
 ///
 /// If the source fails, nothing is written. If the sink fails or memory runs out, only a prefix of the text may have been written.
 ///
 /// `run` and `sample` ask the engines of the roster before each search of a box question. What is written is right whatever they propose.
 /// So wherever the status is `Definite` or `SomeUnknown`, it and the first line of each answer are the same over every roster. Other statuses
-/// need not be the same, since an engine may run out of memory.
+/// may differ, since an engine may run out of memory.
 ///
-/// The roster is kept: each sound engine is still there, in order, on every return. `run` asks no engine before the lines before the first
-/// answer are written whole, and none for an input that is refused. `check` asks none. Where a run or a sample comes to its end and some query
-/// is a box question, the first engine that is left was asked, and only engines that aren't sound were let go before it.
+/// The roster is kept: on every return each sound engine is still there, in order. `run` asks no engine before its header, all lines before
+/// the first answer, is written whole. It asks none for an input that is refused. `check` asks no engine. If a run or a sample comes to its
+/// end and some query is a box question, the first engine that is left was asked, and only engines that aren't sound were dropped before it.
 pub fn run_diddy<S: Source, K: Sink>(
     alloc: Global,
     words: &[String],
@@ -264,8 +266,9 @@ pub fn run_diddy<S: Source, K: Sink>(
     sink: &mut K,
     roster: &mut Roster,
 ) -> Status
-    ensures session { IsSession (map string_bytes words.now) (told S.left S.faults source.old source.new) (told K.held K.faults sink.old sink.new) result }
-    ensures engines { Consults (map string_bytes words.now) (told S.left S.faults source.old source.new) (told K.held K.faults sink.old sink.new)
+    ensures session { IsSession (map string_bytes words.now) (change S.left S.faults source.old source.new) (change K.held K.faults sink.old sink.new)
+        result }
+    ensures engines { Consults (map string_bytes words.now) (change S.left S.faults source.old source.new) (change K.held K.faults sink.old sink.new)
         (engines asked given sound roster.old roster.new) result }
 {
     // A law: a roster that is not asked stays as it is.

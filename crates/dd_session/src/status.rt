@@ -1,13 +1,13 @@
 //! How a session ended.
 
-/// How a session ended. A program ends with the variant's number.
+/// How a session ended. The variant's number is the exit code of the program.
 #[derive(Clone, Copy, Debug, PartialEq, Eq)]
 pub enum Status {
     /// Every query has a definite answer.
     Definite = 0,
     /// Some answer is UNKNOWN: it is not known within the stated limits.
     SomeUnknown = 1,
-    /// The input was refused, and nothing was run.
+    /// The input was refused, and no query was answered or checked.
     Refused = 2,
     /// The source failed.
     ReadFault = 3,
@@ -17,6 +17,6 @@ pub enum Status {
     Memory = 5,
     /// The words ask for nothing that a session does.
     BadWords = 6,
-    /// A checked answer is no certificate.
+    /// A check found an answer missing, one too many, or one that is no certificate.
     Rejected = 7,
 }

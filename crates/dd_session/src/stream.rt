@@ -1,4 +1,4 @@
-//! The answers to a script, whole or only their first lines. Each is written as soon as it is made.
+//! The answers to a script, written whole or only by their first lines. Each is written as soon as it is found.
 ghost use Rattle.std.specs.Prelude.{◌≡◌, ◌⊎◌, ◌≤◌, ◌∷◌, [], length, Contains, IfOk, OnOk, OnErr};
 ghost use Rattle.std.specs.Io.KnownBytes.{Appends};
 ghost use Rattle.dd_values.specs.Bounds.{most_commands};
@@ -23,6 +23,7 @@ use dd_query::Query;
 use dd_script::Script;
 use std::alloc::{AllocError, Global};
 
+/// Why the writing of answers broke off.
 #[derive(Clone, Copy, Debug, PartialEq, Eq)]
 pub(crate) enum RunFault {
     /// The sink failed.
@@ -52,7 +53,7 @@ impl From<dd_outside::WriteFault> for RunFault {
 pub(crate) enum Form {
     /// All its lines.
     Whole,
-    /// The first line.
+    /// Its first line alone.
     Line,
 }
 
@@ -73,7 +74,7 @@ fn text_in(alloc: Global, form: Form, number: u32, answer: &Answer) -> Result<Ve
     }
 }
 
-// Writes the answer to the query with this number, in this form. True where it is unknown.
+// Writes the answer to the query with this number, in this form. True if it is UNKNOWN.
 fn write_one<K: Sink>(
     alloc: Global,
     form: Form,
@@ -91,7 +92,7 @@ fn write_one<K: Sink>(
     Ok(is_unknown(answer))
 }
 
-// Answers one query and writes the answer, in this form. True where it is unknown.
+// Answers one query and writes the answer, in this form. True if it is UNKNOWN.
 fn answer_one<K: Sink, E: Engine>(
     alloc: Global,
     script: &Script,
@@ -111,7 +112,7 @@ fn answer_one<K: Sink, E: Engine>(
     write_one(alloc, form, number, &found, sink)
 }
 
-// Answers all queries in order. Each answer is written before the next one is made. True where some answer is unknown.
+// Answers all queries in order. Each answer is written before the next one is searched for. True if some answer is UNKNOWN.
 #[tactic(auto, using(dd_values::specs::lemmas::Lists::contains_at, crate::proofs::Streamed::answered_next, crate::proofs::Engaging::engaged_next))]
 fn answer_all<K: Sink, E: Engine>(
     alloc: Global,
@@ -126,7 +127,7 @@ fn answer_all<K: Sink, E: Engine>(
     ensures faults { HasSinkCause (K.faults sink.old) (K.faults sink.new) result }
     ensures engines { AreEngaged (AsksSomeBoxes script.now script.now.queries) (roster_seen E.asked E.given E.sound roster.old) (roster_seen E.asked E.given E.sound roster.new) result }
 {
-    // Laws of a roster that is asked several times.
+    // Bring in laws of a roster that is asked several times.
     kept_is_reflexive();
     kept_is_transitive();
     first_asked_earlier();
@@ -138,7 +139,7 @@ fn answer_all<K: Sink, E: Engine>(
     Ok(has_unknown)
 }
 
-/// Answers all queries in order, and writes the answers and the end line. True where some answer is unknown.
+/// Answers all queries in order, and writes the answers and the end line. True if some answer is UNKNOWN.
 pub(crate) fn answer_to_end<K: Sink, E: Engine>(
     alloc: Global,
     script: &Script,
@@ -157,7 +158,8 @@ pub(crate) fn answer_to_end<K: Sink, E: Engine>(
     Ok(has_unknown)
 }
 
-/// Runs an accepted script. True where some answer is unknown. No engine is asked before the header is written whole.
+/// Runs a script: writes its output to the sink. True if some answer is UNKNOWN. The header is all lines before the first answer. No
+/// engine is asked before the header is written whole.
 pub(crate) fn run_script<K: Sink, E: Engine>(
     alloc: Global,
     bytes: &[u8],
@@ -172,7 +174,7 @@ pub(crate) fn run_script<K: Sink, E: Engine>(
     ensures engines { AreEngaged (AsksSomeBoxes script.now script.now.queries) (roster_seen E.asked E.given E.sound roster.old) (roster_seen E.asked E.given E.sound roster.new) result }
     ensures late { (roster.new ≡ roster.old) ⊎ HeaderTaken (K.held sink.old) (K.held sink.new) bytes.now }
 {
-    // A law: a roster that is not asked stays as it is.
+    // Brings in a law: if no engine is asked, the roster keeps its engines.
     kept_is_reflexive();
     let header = header(alloc, bytes)?;
     write_whole(sink, &header)?;

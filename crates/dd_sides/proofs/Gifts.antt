@@ -1,20 +1,24 @@
--- Gifts along vectors: what a position gives depends on its surroundings, and is bounded. If each position of a box holds and
--- gives at most what it has and receives, the box has what its positions hold, up to what comes in from outside.
+-- Gifts along vectors: what a position gives depends on its surroundings, and is bounded. Suppose that what each position of a
+-- box holds and gives is at most what it has and receives. Then what all of them hold is at most what the box has, plus the
+-- most that may come in from outside.
 use Rattle.std.proofs.Common.{◌≡◌, ℕ, ◌+◌, ◌-◌, ◌*◌, ◌≤◌, List, [], ◌∷◌, ap, arith}
 use Rattle.dd_lattice.specs.{Place.Place, Regions.seen_from}
 use Rattle.dd_sides.specs.Sums.{Size, box_sum, size_volume}
 use Rattle.dd_sides.specs.lemmas.BoxLaws.{IsAt, kept, box_moved, box_at_most, box_add, box_times, box_const, box_shifted, kept_at_most}
 
+-- what each position gives along one vector, and the most that any gives
 pub record Gift : Type 0 where
   pub along : Place
   pub most : ℕ
   pub give : Place → ℕ
   pub within : (p : Place) → give p ≤ most
 
+-- what the position p gives along all vectors
 abbrev pub given : List Gift → Place → ℕ
 given [] p = 0
 given (g ∷ gs) p = g.give p + given gs p
 
+-- what the position p receives along all vectors
 abbrev pub received : List Gift → Place → ℕ
 received [] p = 0
 received (g ∷ gs) p = g.give (seen_from g.along p) + received gs p

@@ -1,9 +1,11 @@
--- The boundary term of a bound: each vector's greatest amount, for each position of Side(n) that may receive it from outside.
+-- The boundary term of a bound: the most that Side(n) may receive from outside. Along each vector, this is the greatest amount
+-- times the number of positions that receive from outside.
 use Rattle.std.specs.Prelude.{ℕ, ◌+◌, ◌-◌, ◌*◌, ◌^◌, Bool, cond, ℤ, unsigned_abs, List, [], ◌∷◌, take, drop}
 use Rattle.dd_lattice.specs.{Place.Place, Boxes.is_active}
 use Rattle.dd_expansion.specs.Limits.{greatest}
 
--- on an active axis max(0, n - |c|), where c is the entry of the vector; otherwise 1
+-- How many coordinates of Side(n) on an axis receive from inside it along the entry c of a vector. On an active axis this is
+-- max(0, n - |c|), otherwise 1.
 abbrev pub left_on : Bool → ℕ → ℤ → ℕ
 left_on active n c = cond active (n - unsigned_abs c) 1
 
@@ -11,12 +13,12 @@ left_on active n c = cond active (n - unsigned_abs c) 1
 abbrev pub inner_count : ℕ → ℕ → Place → ℕ
 inner_count d n v = left_on (is_active d 0) n v.x * (left_on (is_active d 1) n v.y * left_on (is_active d 2) n v.z)
 
--- how many receive along v from outside it
+-- how many positions of Side(n) receive along v from outside it
 abbrev pub outer_count : ℕ → ℕ → Place → ℕ
 outer_count d n v = n ^ d - inner_count d n v
 
--- The sum over the vectors of the greatest amount times this number. `amounts` lists one amount for each pattern along the first
--- vector, then along the second, and so on.
+-- The boundary term: the sum, over the vectors, of the greatest amount times `outer_count`. `amounts` has one amount for each pattern along the
+-- first vector, then along the second, and so on.
 abbrev pub boundary : ℕ → ℕ → ℕ → List Place → List ℕ → ℕ
 boundary d n patterns [] amounts = 0
 boundary d n patterns (v ∷ vs) amounts = greatest (take patterns amounts) * outer_count d n v + boundary d n patterns vs (drop patterns amounts)

@@ -2,9 +2,9 @@
 pub mod Sums
 -- boxes of every side at every position, their fillings and their weight
 pub mod Sides
--- how much may come into a box from outside
+-- how much a box may receive from outside
 pub mod Boundaries
--- a bound over all boxes
+-- what a bound says of all boxes
 pub mod Lifted
 -- lemmas on these definitions, for other crates
 pub mod lemmas

@@ -14,8 +14,9 @@ use Rattle.dd_sides.specs.{Sides.IsSideFilling, Sides.side_weight, Boundaries.bo
 abbrev pub reach_of : ℕ → ℕ → List Place → ℕ
 reach_of radius margin vs = radius + margin + greatest (map extent vs)
 
--- For each side n and position u of Z^d: move Side(n) to u and grow it by this reach. Each admissible filling of it weighs on
--- Side(n) at least what the n^d positions hold, over the common denominator, less what may come in from outside.
+-- For each side n and position u of Z^d: move Side(n) to u, and grow it by this reach. In each admissible filling of the grown
+-- box, the weight of the box of side n is at least n^d times the bound, less what the box may receive from outside. All three
+-- are taken over the common denominator.
 pub record HoldsOnSides (x : LocalRule) (ws : List ℕ) (radius margin : ℕ) (vs : List Place) (b : Bound) : Type 0 where
   pub program : Rows
   pub is_program : IsProgramOf x ws radius margin vs program

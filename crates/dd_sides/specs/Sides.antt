@@ -11,6 +11,7 @@ use Rattle.dd_sides.specs.Sums.{Size, box_sizes, box_sum, is_in_box}
 abbrev pub side_length : Bool → ℕ → ℕ
 side_length active n = cond active n 1
 
+-- the size of Side(n) in dimension d
 abbrev pub side : ℕ → ℕ → Size
 side d n = box_sizes (side_length (is_active d 0) n) (side_length (is_active d 1) n) (side_length (is_active d 2) n)
 
@@ -27,20 +28,20 @@ is_in_grown d n e u p =
 abbrev pub one_only : Place → Place → ℕ
 one_only q p = cond (int_eq p.x q.x && int_eq p.y q.y && int_eq p.z q.z) 1 0
 
--- what the tests and the sums mean
+-- what is_in_box, box_sum and is_in_grown mean
 pub record IsSide (d n : ℕ) (u : Place) : Type 0 where
   -- the positions of the box are those of Side(n), moved by u
   pub positions : (p : Place) → (is_in_box (side d n) u p ≡ true) ↔ IsInSide d n (seen_from u p)
   -- a sum over the box takes each of them once, and no other position
   pub once : (q : Place) → box_sum (side d n) u (one_only q) ≡ cond (is_in_box (side d n) u q) 1 0
-  -- the box grown by e has the positions within e of one of them
+  -- the grown box has exactly the positions within e of one of them
   pub grown : (e : ℕ) (p : Place) → (is_in_grown d n e u p ≡ true) ↔ ((q : Place) × IsInSide d n (seen_from u q) × IsCentred d e (seen_from q p))
 
 -- the cells of the grown box, with each node
 abbrev pub is_grown_cell : LocalRule → ℕ → ℕ → Place → Cell → Bool
 is_grown_cell x n e u c = is_in_grown x.dimension n e u c.position && nat_lt c.node x.nodes
 
--- exactly these cells have symbols, and the symbols are allowed
+-- exactly the cells of the grown box have symbols, and the symbols are allowed
 pub record IsSideFilling (x : LocalRule) (n e : ℕ) (u : Place) (look : Look) : Type 0 where
   pub domain : (c : Cell) → is_some (look c) ≡ is_grown_cell x n e u c
   pub allowed : AreAllowed x look

@@ -28,6 +28,7 @@ size_volume s = s.x * (s.y * s.z)
 abbrev pub is_on : ℕ → ℤ → ℤ → Bool
 is_on n a c = int_le a c && int_lt c (a +ℤ pos n)
 
+-- p is a position of the box whose least corner is u
 abbrev pub is_in_box : Size → Place → Place → Bool
 is_in_box s u p = is_on s.x u.x p.x && is_on s.y u.y p.y && is_on s.z u.z p.z
 

@@ -12,8 +12,9 @@ ghost use Rattle.dd_sides.specs.Sides.{side, IsSide};
 ghost use Rattle.dd_sides.specs.Boundaries.{outer_count};
 ghost use Rattle.dd_sides.specs.Lifted.{HoldsOnSides};
 
-/// Does nothing; its contract describes the box of side n at u. Its positions are those of `Side(n)`, moved by u. A sum over the
-/// box takes each once. The box grown by e has the positions within e of the box.
+/// Does nothing; its contract describes the box of side n at u. Its positions are those of Side(n), moved by u. Side(n) is the
+/// box of side n whose least corner is the origin. A sum over the box takes each of its positions once. Grown by e, the box
+/// has exactly the positions within e of it.
 #[tactic(auto, using(crate::proofs::SideParts::side_is))]
 pub fn sides_are()
     ensures { (d n : ℕ) (u : Place) → 1 ≤ d → 1 ≤ n → is_flat d u ≡ true → IsSide d n u }
@@ -26,14 +27,15 @@ pub fn received_is_given()
     ensures { (s : Size) (u v : Place) (give : Place → ℕ) → box_sum s u (λ p. give (seen_from v p)) ≡ box_sum s (seen_from v u) give }
 {}
 
-/// Does nothing; its contract says how many positions of a box of side n receive along a vector from outside it.
+/// Does nothing; its contract says how many positions of a box of side n receive along a vector from outside the box.
 #[tactic(auto, using(crate::proofs::SideLaws::side_count))]
 pub fn boundary_count()
     ensures { (d n : ℕ) (u v : Place) → 1 ≤ d → d ≤ 3 → is_flat d v ≡ true →
         box_sum (side d n) u (from_outside (side d n) u v) ≡ outer_count d n v }
 {}
 
-/// Does nothing; its contract says that a certified bound holds over every box, of any side and at any position.
+/// Does nothing; its contract says that a certified bound holds over every box, of any side and at any position: the box weighs
+/// at least what the bound says, less what it may receive from outside.
 pub fn bound_holds()
     ensures { (x : LocalRule) (ws : List ℕ) (radius margin : ℕ) (vs : List Place) (b : Bound) → IsRule x → AreVectors x.dimension vs →
         IsBoundCertificate x ws radius margin vs b → HoldsOnSides x ws radius margin vs b }

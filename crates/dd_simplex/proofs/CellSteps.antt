@@ -74,7 +74,7 @@ subtract_step q us bs i a b v p r e =
     drop-set_past : (us : List Exact) (i : ℕ) (v : Exact) → drop (i + 1) (slice_set us i v) ≡ drop (i + 1) us
     drop-set_past us i v = drop-set-lt (i + 1) us i v (omega arith)
 
--- any loop that maps in place while a test holds
+-- a loop that maps a list in place while a test holds
 unread_in : {X : Type 0} (f : X → X) (xs ys : List X) (i : ℕ) (x : X) → i < length xs → ys ≡ map f (take i xs) ++ drop i xs → get_or ys i x ≡ get_or xs i x
 unread_in f xs ys i x p e = grind (arith, common_steps, length-map (take i xs) f)
 
@@ -86,7 +86,7 @@ in_place_step f fit xs ys i x y p is all e t s =
     let at : fit (get_or xs i x) ≡ true = ap fit (sym same) ∙ t in
     (rw (list_all_more fit xs i x p, all, at) refl, ap (slice_set ys i) s ∙ map_over_more f xs ys i x p e is)
 
--- the emptied place: 0 less a product fits where the product fits
+-- 0 minus a number that fits, fits
 pub emptied_fits : (q : Exact) → 0 < q.den → unsigned_abs q.num < 2 ^ 127 → q.den < 2 ^ 127 → does_sum_fit zero_of (minus q) ≡ true
 unfolding one
 emptied_fits q o p r =

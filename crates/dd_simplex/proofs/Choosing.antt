@@ -13,7 +13,7 @@ use Rattle.dd_simplex.specs.table.Choices.{IsChosen, does_precede, Precedes, Lea
 true_false : true ≡ false → ⊥
 true_false e = absurd cc
 
--- ---- one place more
+-- ---- from the first n places to one more
 pub chosen_stays : (fit : ℕ → Bool) (Before : ℕ → ℕ → Type 0) (n : ℕ) (o : Option ℕ) → IsChosen fit Before n o → fit n ≡ false → IsChosen fit Before (n + 1) o
 chosen_stays fit Before n None h f = λ i p. ⊎_elim (λ (s : i ≡ n). ap fit s ∙ f) (λ (s : i ≢ n). h i (omega (arith, p, s))) (cases_eq i n)
 chosen_stays fit Before n (Some e) h f = (
@@ -101,7 +101,7 @@ over_no z h = grind (arith, ints)
 pub over_yes : (z : ℤ) → le_z z (pos 0) ≡ false → int_lt (pos 0) z ≡ true
 over_yes z h = grind (arith, ints)
 
--- ---- the line that leaves, one line more
+-- ---- from the first n lines to one more: the line that leaves
 pub fits_more : (lines : List Line) (e n : ℕ) → DoRatiosFit lines e n
     → (does_limit lines e n ≡ true → does_product_fit (line_at lines n).bound (inverse (fraction_at (line_at lines n).cells e)) ≡ true)
     → DoRatiosFit lines e (n + 1)

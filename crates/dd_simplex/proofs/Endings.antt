@@ -43,7 +43,7 @@ joined_slack p u s k = ap (λ (b : Bool). cond b (u (p.columns + k)) (s (p.colum
     take_off n k = omega arith
 
 module _ (p : LinearProgram) (d : Dictionary) (g : IsProgram p) (r : IsReached p d) where
-  -- columns u and slacks s that meet the rows with σ times their bounds
+  -- the price of the slack of row k
   abbrev slack_price : ℕ → Exact
   slack_price k = price d (p.columns + k)
 
@@ -268,7 +268,7 @@ module _ (p : LinearProgram) (d : Dictionary) (g : IsProgram p) (r : IsReached p
           by true s = rw s (zero_times (d.bound w))
           by false s = rw s (times_zero (d.cost w))
 
-  -- ---- all of it
+  -- ---- the columns are best
   pub is_best : entering (count p) d ≡ None → (columns duals : List Exact) → length columns ≡ p.columns → ((j : ℕ) → j < p.columns → fraction_at columns j ≡ column_of d j)
       → length duals ≡ length p.rows → ((k : ℕ) → k < length p.rows → fraction_at duals k ≡ dual_of p d k)
       → low d.value ≡ d.value → low (column_of d 0) ≡ column_of d 0 → IsBest p d.value columns duals

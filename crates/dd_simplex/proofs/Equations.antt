@@ -1,4 +1,5 @@
--- What a dictionary says of its variables: an equation for each basic one, and the objective. A pivot keeps what it says.
+-- What a dictionary says of its variables: an equation for each basic one, and the objective. A pivot changes neither the
+-- solutions of the equations nor the objective's value.
 use Rattle.std.proofs.Common.{◌≡◌, ◌≢◌, ℕ, ◌<◌, Bool, true, false, ◌&&◌, ⊎_elim, refl, sym, ap, subst, ◌∙◌, arith}
 use Rattle.std.proofs.lemmas.Bool.{cases_eq}
 use Rattle.std.specs.Bool.{nat_eq}
@@ -21,8 +22,8 @@ Holds n d s x = (v : ℕ) → v < n → d.is_basic v ≡ true → left_side n d 
 abbrev pub objective : ℕ → Dictionary → Exact → (ℕ → Exact) → Exact
 objective n d s x = plus (times s d.value) (fraction_sum (λ w. times (price d w) (x w)) n)
 
--- e enters and r leaves
-pub record IsTurn (n : ℕ) (d : Dictionary) (e r : ℕ) : Type 0 where
+-- in a pivot e enters and r leaves
+pub record IsPivot (n : ℕ) (d : Dictionary) (e r : ℕ) : Type 0 where
   pub entering : e < n
   pub leaving : r < n
   pub free : d.is_basic e ≡ false
@@ -38,7 +39,7 @@ eq_same v w h = grind arith
 pub apart : (d : Dictionary) (v w : ℕ) → d.is_basic v ≡ true → d.is_basic w ≡ false → v ≢ w
 apart d v w p q s = true_false (sym p ∙ (ap d.is_basic s ∙ q))
 
--- who is basic after the pivot
+-- which variables are basic after the pivot
 abbrev pub basic_then : Dictionary → ℕ → ℕ → ℕ → Bool
 basic_then d e r v = (pivoted d e r).is_basic v
 
@@ -56,7 +57,7 @@ then_other d e r v h k = rw (eq_other v e h, eq_other v r k) (and_true (d.is_bas
     and_true false = refl
 
 -- coefficients in the new row: those of the old one, divided by the pivot
-pub new_row : (n : ℕ) (d : Dictionary) (e r w : ℕ) → IsTurn n d e r → dictionary_coefficient (pivoted d e r) e w ≡ times (dictionary_coefficient d r w) (inverse (d.entry r e))
+pub new_row : (n : ℕ) (d : Dictionary) (e r w : ℕ) → IsPivot n d e r → dictionary_coefficient (pivoted d e r) e w ≡ times (dictionary_coefficient d r w) (inverse (d.entry r e))
 new_row n d e r w t = ⊎_elim at_e (λ (h : w ≢ e). ⊎_elim (at_r h) (λ (k : w ≢ r). other h k (d.is_basic w) refl) (cases_eq w r)) (cases_eq w e)
   where
     k : Exact
@@ -88,7 +89,7 @@ idle : (a q : Exact) → plus a (times q zero_of) ≡ low a
 idle a q = ap (plus a) (times_zero q) ∙ plus_zero a
 
 -- coefficients in a row that stays, and in the objective: the old one less a multiple of the new row's
-pub row_then : (n : ℕ) (d : Dictionary) (e r v w : ℕ) → IsTurn n d e r → d.is_basic v ≡ true → v ≢ r
+pub row_then : (n : ℕ) (d : Dictionary) (e r v w : ℕ) → IsPivot n d e r → d.is_basic v ≡ true → v ≢ r
     → dictionary_coefficient (pivoted d e r) v w ≡ plus (dictionary_coefficient d v w) (times (minus (d.entry v e)) (dictionary_coefficient (pivoted d e r) e w))
 row_then n d e r v w t b vr = ⊎_elim at_v (λ (f : w ≢ v). ⊎_elim (at_e f) (λ (h : w ≢ e). ⊎_elim (at_r f h) (λ (k : w ≢ r). other f h k (d.is_basic w) refl) (cases_eq w r)) (cases_eq w e)) (cases_eq w v)
   where
@@ -121,7 +122,7 @@ row_then n d e r v w t b vr = ⊎_elim at_v (λ (f : w ≢ v). ⊎_elim (at_e f)
     other f h l true s = rw (eq_other w v f, eq_other w e h, eq_other w r l, s) (sym (idle zero_of (minus q) ∙ zero_is))
     other f h l false s = rw (eq_other w v f, eq_other w e h, eq_other w r l, eq_other v e ve, eq_same e e refl, s) (ap (plus (d.entry v w)) (minus_times q _))
 
-pub price_then : (n : ℕ) (d : Dictionary) (e r w : ℕ) → IsTurn n d e r
+pub price_then : (n : ℕ) (d : Dictionary) (e r w : ℕ) → IsPivot n d e r
     → price (pivoted d e r) w ≡ plus (price d w) (times (minus (d.cost e)) (dictionary_coefficient (pivoted d e r) e w))
 price_then n d e r w t = ⊎_elim at_e (λ (h : w ≢ e). ⊎_elim (at_r h) (λ (k : w ≢ r). other h k (d.is_basic w) refl) (cases_eq w r)) (cases_eq w e)
   where
@@ -156,20 +157,20 @@ times_swap a b c = sym (times_assoc a b c) ∙ (ap (λ (t : Exact). times t c) (
 spread : (s b q c : Exact) → times s (less_product b q c) ≡ plus (times s b) (times (minus q) (times s c))
 spread s b q c = times_plus s b (minus (times q c)) ∙ ap (plus (times s b)) (ap (times s) (minus_times q c) ∙ times_swap s (minus q) c)
 
-new_side : (n : ℕ) (d : Dictionary) (e r : ℕ) (x : ℕ → Exact) → IsTurn n d e r → left_side n (pivoted d e r) x e ≡ times (left_side n d x r) (inverse (d.entry r e))
+new_side : (n : ℕ) (d : Dictionary) (e r : ℕ) (x : ℕ → Exact) → IsPivot n d e r → left_side n (pivoted d e r) x e ≡ times (left_side n d x r) (inverse (d.entry r e))
 new_side n d e r x t = sum_scaled (dictionary_coefficient (pivoted d e r) e) (dictionary_coefficient d r) x (inverse (d.entry r e)) n (λ w p. new_row n d e r w t)
 
-side_then : (n : ℕ) (d : Dictionary) (e r v : ℕ) (x : ℕ → Exact) → IsTurn n d e r → d.is_basic v ≡ true → v ≢ r
+side_then : (n : ℕ) (d : Dictionary) (e r v : ℕ) (x : ℕ → Exact) → IsPivot n d e r → d.is_basic v ≡ true → v ≢ r
     → left_side n (pivoted d e r) x v ≡ plus (left_side n d x v) (times (minus (d.entry v e)) (left_side n (pivoted d e r) x e))
 side_then n d e r v x t b h =
     sum_with (dictionary_coefficient (pivoted d e r) v) (dictionary_coefficient d v) (dictionary_coefficient (pivoted d e r) e) x (minus (d.entry v e)) n (λ w p. row_then n d e r v w t b h)
 
-new_holds : (n : ℕ) (d : Dictionary) (e r : ℕ) (s : Exact) (x : ℕ → Exact) → IsTurn n d e r → Holds n d s x → left_side n (pivoted d e r) x e ≡ times s (new_bound d e r)
+new_holds : (n : ℕ) (d : Dictionary) (e r : ℕ) (s : Exact) (x : ℕ → Exact) → IsPivot n d e r → Holds n d s x → left_side n (pivoted d e r) x e ≡ times s (new_bound d e r)
 new_holds n d e r s x t h =
     new_side n d e r x t ∙ (ap (λ (y : Exact). times y (inverse (d.entry r e))) (h r t.leaving t.basic) ∙ times_assoc s (d.bound r) (inverse (d.entry r e)))
 
-pub turn_forth : (n : ℕ) (d : Dictionary) (e r : ℕ) (s : Exact) (x : ℕ → Exact) → IsTurn n d e r → Holds n d s x → Holds n (pivoted d e r) s x
-turn_forth n d e r s x t h v p b = ⊎_elim
+pub pivot_forth : (n : ℕ) (d : Dictionary) (e r : ℕ) (s : Exact) (x : ℕ → Exact) → IsPivot n d e r → Holds n d s x → Holds n (pivoted d e r) s x
+pivot_forth n d e r s x t h v p b = ⊎_elim
     (λ (u : v ≡ e). subst (λ (w : ℕ). left_side n (pivoted d e r) x w ≡ times s ((pivoted d e r).bound w)) (sym u)
     (new_holds n d e r s x t h ∙ ap (times s) (sym (bound_new d e r))))
     (λ (f : v ≢ e).
@@ -180,8 +181,8 @@ turn_forth n d e r s x t h v p b = ⊎_elim
     ∙ (sym (spread s (d.bound v) (d.entry v e) (new_bound d e r)) ∙ ap (times s) (sym (bound_then d e r v f)))))
     (cases_eq v e)
 
-pub turn_back : (n : ℕ) (d : Dictionary) (e r : ℕ) (s : Exact) (x : ℕ → Exact) → IsTurn n d e r → Holds n (pivoted d e r) s x → Holds n d s x
-turn_back n d e r s x t h v p b = ⊎_elim
+pub pivot_back : (n : ℕ) (d : Dictionary) (e r : ℕ) (s : Exact) (x : ℕ → Exact) → IsPivot n d e r → Holds n (pivoted d e r) s x → Holds n d s x
+pivot_back n d e r s x t h v p b = ⊎_elim
     (λ (u : v ≡ r). subst (λ (w : ℕ). left_side n d x w ≡ times s (d.bound w)) (sym u) leaving)
     (λ (f : v ≢ r).
     let ve : v ≢ e = apart d v e b t.free in
@@ -210,8 +211,8 @@ turn_back n d e r s x t h v p b = ⊎_elim
         ∙ (ap (λ (y : Exact). times y (d.entry r e)) (sym (new_side n d e r x t) ∙ (new ∙ sym (times_assoc s (d.bound r) k)))
         ∙ (undo (times s (d.bound r)) ∙ low_times s (d.bound r))))
 
-pub turn_objective : (n : ℕ) (d : Dictionary) (e r : ℕ) (s : Exact) (x : ℕ → Exact) → IsTurn n d e r → Holds n d s x → objective n (pivoted d e r) s x ≡ objective n d s x
-turn_objective n d e r s x t h =
+pub pivot_objective : (n : ℕ) (d : Dictionary) (e r : ℕ) (s : Exact) (x : ℕ → Exact) → IsPivot n d e r → Holds n d s x → objective n (pivoted d e r) s x ≡ objective n d s x
+pivot_objective n d e r s x t h =
     let c = d.cost e in
     let b = new_bound d e r in
     let old = fraction_sum (λ w. times (price d w) (x w)) n in

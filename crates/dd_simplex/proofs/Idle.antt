@@ -23,7 +23,7 @@ zero_fraction_is b f e = exact_same b zero_of e den
     den =
         sym (greatest_common-zero b.den)
         ∙ (ap (greatest_common b.den) (sym left)
-        ∙ (sym (greatest_common-step 0 b.den f.above) ∙ (ap (λ (z : ℤ). greatest_common (unsigned_abs z) b.den) (sym e) ∙ f.alone)))
+        ∙ (sym (greatest_common-step 0 b.den f.above) ∙ (ap (λ (z : ℤ). greatest_common (unsigned_abs z) b.den) (sym e) ∙ f.coprime)))
 
 -- a signed number whose bits are 0
 pub zero_from : (x : ℤ) → SFits w128 x → nat_eq (of_z w128 x) 0 ≡ true → x ≡ pos 0

@@ -1,4 +1,4 @@
--- The rows behind the leaving one.
+-- The lines after the leaving one.
 use Rattle.std.proofs.Common.{◌≡◌, ℕ, zero, suc, ◌+◌, ◌<◌, List, [], ◌∷◌, ◌++◌, length, take, drop, add-one, refl, sym, ap, subst, ◌∙◌, arith, drop-cons}
 use Rattle.std.proofs.lemmas.List.{Elements.All-drop, Elements.All-weaker, length-map, get_or-set_same}
 use Rattle.std.specs.{Prelude.map, List.All, List.slice_set}
@@ -7,7 +7,7 @@ use Rattle.dd_simplex.specs.Programs.{zero_of, fraction_at}
 use Rattle.dd_fraction.specs.Exact.{Exact, plus, times}
 use Rattle.dd_simplex.proofs.CellSteps.{solved_size}
 
--- the leaving line and those behind it
+-- `drop r` gives the leaving line and those after it
 pub parted : (rows back : List Line) (leaving : Line) (r : ℕ) → r < length rows → drop r rows ≡ leaving ∷ back → (leaving ≡ line_at rows r) × (back ≡ drop (suc r) rows)
 parted rows back leaving r p s =
     let at : drop r rows ≡ line_at rows r ∷ drop (suc r) rows = drop-cons rows r (record { basic = 0; bound = zero_of; cells = [] }) p in
@@ -22,20 +22,20 @@ back_sizes rows back leaving new r v e p s sizes n =
     All-weaker (λ l. length l.cells ≡ length (line_at rows r).cells) (λ l. length l.cells ≡ length new.cells) (λ l h. h ∙ sym size) back
     (subst (All (λ l. length l.cells ≡ length (line_at rows r).cells)) (sym parts.1) (All-drop (λ l. length l.cells ≡ length (line_at rows r).cells) (suc r) rows sizes))
 
--- the rows after a turn, as the dictionary has them
+-- a pivot maps each row but the one that it replaces
 rows_go : {A B : Type 0} (f : A → B) (xs : List A) (r : ℕ) (p : B) → r < length xs → map f (take r xs) ++ p ∷ map f (drop (suc r) xs) ≡ slice_set (map f xs) r p
 rows_go f [] r p h = absurd (omega arith)
 rows_go f (x ∷ xs) zero p h = refl
 rows_go f (x ∷ xs) (suc r) p h = ap (λ t. f x ∷ t) (rows_go f xs r p (omega arith))
 
-pub rows_turned : {A B : Type 0} (f : A → B) (xs : List A) (r : ℕ) (p : B) → r < length xs → map f (take r xs) ++ p ∷ map f (drop (r + 1) xs) ≡ slice_set (map f xs) r p
-rows_turned f xs r p h = rw add-one (rows_go f xs r p h)
+pub rows_pivoted : {A B : Type 0} (f : A → B) (xs : List A) (r : ℕ) (p : B) → r < length xs → map f (take r xs) ++ p ∷ map f (drop (r + 1) xs) ≡ slice_set (map f xs) r p
+rows_pivoted f xs r p h = rw add-one (rows_go f xs r p h)
 
 -- the solved line, at its new place
 pub changed_at : (lines : List Line) (e r v : ℕ) → r < length lines → line_at (changed_lines e r v lines) r ≡ solved_line v e (line_at lines r)
 changed_at lines e r v h =
     let pivot = solved_line v e (line_at lines r) in
-    ap (λ (ls : List Line). line_at ls r) (rows_turned (changed_line e pivot) lines r pivot h) ∙ get_or-set_same (map (changed_line e pivot) lines) r pivot _ (simp length-map h)
+    ap (λ (ls : List Line). line_at ls r) (rows_pivoted (changed_line e pivot) lines r pivot h) ∙ get_or-set_same (map (changed_line e pivot) lines) r pivot _ (simp length-map h)
 
 abbrev pub table_of : List Line → List ℕ → Exact → List Exact → Table
 table_of lines others value costs = record { lines = lines; others = others; value = value; costs = costs }

@@ -54,7 +54,7 @@ module _ (n : ℕ) (t : Table) (d : Dictionary) (k : IsTable t) (s : StandsFor n
   RE : R ≢ E
   RE = apart d (line_at t.lines r).basic (other_at t.others e) (s.basic_is r line) (s.other_is e inside)
 
-  -- the basic variable of a line that stays is neither of the two
+  -- the basic variable of a line that stays is neither E, which enters, nor R, which leaves
   stays_E : (i : ℕ) → i < length t.lines → (line_at t.lines i).basic ≢ E
   stays_E i p = apart d (line_at t.lines i).basic (other_at t.others e) (s.basic_is i p) (s.other_is e inside)
 
@@ -65,7 +65,7 @@ module _ (n : ℕ) (t : Table) (d : Dictionary) (k : IsTable t) (s : StandsFor n
   abbrev d2 : Dictionary
   d2 = pivoted d E R
 
-  -- a line's coefficients us, which stand for a
+  -- the new coefficients of a line or of the objective; the old ones are the list us, and a in the dictionary
   replaced_at : (q : Exact) (us : List Exact) (a : ℕ → Exact) (j : ℕ) → length us ≡ length t.others → j < length t.others
       → ((i : ℕ) → i < length t.others → a (other_at t.others i) ≡ fraction_at us i)
       → replaced d E R q (other_at new_others j) (a (other_at new_others j)) ≡ fraction_at (less q (slice_set us e zero_of) pivot.cells) j

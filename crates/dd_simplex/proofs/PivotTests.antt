@@ -1,4 +1,5 @@
--- The pivot of a table, number by number: its cells and its tests are those of the dictionary that it stands for.
+-- The pivot of a table, number by number: its cells, and the tests whether they fit, are those of the dictionary that the
+-- table stands for.
 use Rattle.std.proofs.Common.{◌≡◌, ◌≢◌, ℕ, ◌+◌, ◌<◌, List, length, take, drop, Bool, true, false, not, ◌&&◌, ◌||◌, cond, Some, None, ⊎_elim, refl, sym, ap, subst, ◌∙◌, arith}
 use Rattle.std.proofs.lemmas.{Bool.cases_eq, List.length-set}
 use Rattle.std.specs.{Bool.nat_eq, List.slice_set, List.list_all}
@@ -29,7 +30,7 @@ less_fraction a q b p o r f =
     let two = IsFraction-minus (times q b) one in
     sum_fraction a (minus (times q b)) p two.above (and_right (does_product_fit q b) (does_sum_fit a (minus (times q b))) f)
 
--- at an emptied place, the difference fits if the product does
+-- at a place that is set to 0, the difference fits if the product does
 emptied_less : (q b : Exact) → 0 < q.den → 0 < b.den → does_product_fit q b ≡ true → does_less_fit zero_of q b ≡ true
 emptied_less q b p r f =
     let g = product_fraction q b p r f in
@@ -82,7 +83,7 @@ module _ (n : ℕ) (t : Table) (d : Dictionary) (k : IsTable t) (s : StandsFor n
       subst (λ (a : Exact). 0 < a.den) (sym at)
       (let l = IsLowest-times (fraction_at (slice_set (line_at t.lines r).cells e one_of) j) (inverse (fraction_at (line_at t.lines r).cells e)) in l.positive)
 
-  -- ---- coefficients us, of a line whose coefficient at e is q
+  -- ---- the coefficients us of a line whose coefficient at e is q
   emptied_size : (us : List Exact) → length us ≡ length t.others → length (slice_set us e zero_of) ≡ length pivot.cells
   emptied_size us h = length-set us e zero_of ∙ (h ∙ sym pivot_length)
 
@@ -160,7 +161,7 @@ module _ (n : ℕ) (t : Table) (d : Dictionary) (k : IsTable t) (s : StandsFor n
       first : does_product_fit (line_at t.lines r).bound (inverse c) ≡ does_quotient_fit (d.bound R) (d.entry R E)
       first = sym (λ z. does_product_fit (s.bounds r line z) (inverse (cell_is z)))
 
-      -- what is divided at each place
+      -- the number that is divided at each place
       divided : (j : ℕ) → j < length t.others → fraction_at (slice_set (line_at t.lines r).cells e one_of) j ≡ cond (nat_eq (other_at t.others j) E) one_of (d.entry R (other_at t.others j))
       divided j p = ⊎_elim
           (λ (v : j ≡ e).

@@ -1,11 +1,11 @@
--- Lists of the code place by place: what a loop over cells made, and whether its numbers fit.
+-- What a loop over cells made at each place, and whether its numbers fit.
 use Rattle.std.proofs.Common.{◌≡◌, ◌≢◌, ℕ, zero, suc, ◌+◌, ◌<◌, List, [], ◌∷◌, length, get_or, take, drop, Bool, true, ◌&&◌, refl, sym, ap, ◌∙◌, arith}
 use Rattle.std.proofs.lemmas.List.{length-map, length-set, get_or-set_same, get_or-set_other}
 use Rattle.std.specs.{Prelude.map, List.slice_set, List.list_all}
 use Rattle.dd_fraction.specs.Exact.{Exact, times, inverse}
 use Rattle.dd_simplex.specs.{Programs.fraction_at, Programs.zero_of, Programs.one_of, Dictionaries.less_product, Runs.does_less_fit}
 use Rattle.dd_simplex.specs.table.Lines.{Line, line_at, less, do_all_less_fit, solved_line, changed_line, changed_lines}
-use Rattle.dd_simplex.proofs.{Firsts.and_left, Firsts.and_right, LineSteps.rows_turned}
+use Rattle.dd_simplex.proofs.{Firsts.and_left, Firsts.and_right, LineSteps.rows_pivoted}
 use Rattle.dd_values.specs.lemmas.{Booleans.and_both, Lists.list_at}
 
 pub map_at : {A B : Type 0} (f : A → B) (xs : List A) (i : ℕ) (a : A) (b : B) → i < length xs → get_or (map f xs) i b ≡ f (get_or xs i a)
@@ -42,7 +42,7 @@ pub list_true : {A : Type 0} (f : A → Bool) (xs : List A) (a : A) → ((i : �
 list_true f [] a h = refl
 list_true f (x ∷ xs) a h = and_both (f x) (list_all f xs) (h 0 (omega arith)) (list_true f xs a (λ i p. h (suc i) (omega (arith, p))))
 
--- ---- a list but for one place
+-- ---- a list with one place changed
 beside_go : {A : Type 0} (f : A → Bool) (xs : List A) (r i : ℕ) (a : A) → (list_all f (take r xs) && list_all f (drop (suc r) xs)) ≡ true
     → i < length xs → i ≢ r → f (get_or xs i a) ≡ true
 beside_go f [] r i a h p k = absurd (omega (arith, p))
@@ -86,14 +86,14 @@ pub lines_size : (lines : List Line) (e r v : ℕ) → r < length lines → leng
 lines_size lines e r v h =
     let f = changed_line e (solved_line v e (line_at lines r)) in
     let p = solved_line v e (line_at lines r) in
-    ap length (rows_turned f lines r p h) ∙ (length-set (map f lines) r p ∙ length-map lines f)
+    ap length (rows_pivoted f lines r p h) ∙ (length-set (map f lines) r p ∙ length-map lines f)
 
 pub line_other : (lines : List Line) (e r v i : ℕ) → r < length lines → i < length lines → i ≢ r
     → line_at (changed_lines e r v lines) i ≡ changed_line e (solved_line v e (line_at lines r)) (line_at lines i)
 line_other lines e r v i h q k =
     let f = changed_line e (solved_line v e (line_at lines r)) in
     let p = solved_line v e (line_at lines r) in
-    ap (λ (ls : List Line). line_at ls i) (rows_turned f lines r p h) ∙ (get_or-set_other (map f lines) r i p _ k ∙ map_at f lines i _ _ q)
+    ap (λ (ls : List Line). line_at ls i) (rows_pivoted f lines r p h) ∙ (get_or-set_other (map f lines) r i p _ k ∙ map_at f lines i _ _ q)
 
 -- ---- the cells of a pivot
 pub solved_at : (v e j : ℕ) (l : Line) → j < length l.cells → fraction_at (solved_line v e l).cells j ≡ times (fraction_at (slice_set l.cells e one_of) j) (inverse (fraction_at l.cells e))

@@ -1,4 +1,5 @@
--- What holds of each dictionary that a run comes to.
+-- What holds of each dictionary that a run reaches: its bounds are at least 0, its equations have the same solutions as those
+-- of the first dictionary, and its objective has the same value.
 use Rattle.std.proofs.Common.{◌≡◌, ◌≢◌, ℕ, zero, suc, ◌+◌, ◌-◌, ◌<◌, ◌≤◌, length, Bool, true, false, not, ◌&&◌, ◌||◌, Some, None, ◌⊎◌, inl, inr, ⊎_elim, refl, sym, ap, subst, ◌∙◌, arith}
 use Rattle.std.proofs.lemmas.{Bool.cases_eq, Int.ints}
 use Rattle.std.specs.{Bool.nat_lt, Ordering.is_gt, Int.RustNames.int_lt, declared.cmp.Ordering.Ordering}
@@ -16,7 +17,7 @@ use Rattle.dd_simplex.specs.Runs.{is_over, may_enter, entering, ratio, is_limiti
 use Rattle.dd_simplex.specs.Laws.{dictionary_coefficient, price}
 use Rattle.dd_simplex.proofs.Totals.{eq_same, total_same, total_pick, total_split, zero_nonneg}
 use Rattle.dd_simplex.proofs.Firsts.{and_left, and_right, all_at, first_some, first_none}
-use Rattle.dd_simplex.proofs.Equations.{left_side, Holds, objective, IsTurn, turn_forth, turn_back, turn_objective, then_other, then_leaving, apart, true_false}
+use Rattle.dd_simplex.proofs.Equations.{left_side, Holds, objective, IsPivot, pivot_forth, pivot_back, pivot_objective, then_other, then_leaving, apart, true_false}
 use Rattle.dd_values.specs.lemmas.Booleans.{not_true, lt_yes, lt_no, eq_other}
 
 pub record IsReached (p : LinearProgram) (d : Dictionary) : Type 0 where
@@ -104,7 +105,7 @@ reached_start p g = record {
         by true e = rw (e, eq_other 0 w (λ (u : 0 ≡ w). s (sym u))) (zero_times (x w))
         by false e = rw e (zero_times (x w))
 
--- ---- a turn
+-- ---- a pivot
 sign_cases : (n : ℤ) → (pos 0 <ℤ n) ⊎ (pos 0 ≤ℤ neg_ℤ n)
 sign_cases (pos zero) = inr (omega (arith, ints))
 sign_cases (pos (suc n)) = inl (omega (arith, ints))
@@ -127,35 +128,35 @@ bound_sign a b y p q least = ⊎_elim up down (sign_cases a.num)
     down : pos 0 ≤ℤ neg_ℤ a.num → IsNonneg (plus b (minus (times a y)))
     down s = nonneg_plus b _ p (subst IsNonneg (sym (minus_times a y)) (nonneg_times (minus a) y (record { sign = s }) q))
 
--- no row allows less than the leaving one
+-- the row of r has the least ratio, so r leaves
 pub record IsLeast (n : ℕ) (d : Dictionary) (e r : ℕ) : Type 0 where
-  pub turn : IsTurn n d e r
+  pub pivot : IsPivot n d e r
   pub least : (v : ℕ) → v < n → d.is_basic v ≡ true → IsPositive (d.entry v e) → IsAtMost (ratio d e r) (ratio d e v)
 
 pub reached_pivot : (p : LinearProgram) (d : Dictionary) (e r : ℕ) → IsReached p d → IsLeast (count p) d e r → IsReached p (pivoted d e r)
 reached_pivot p d e r g l = record {
   bounds = bounds;
-  forth = λ s x h. turn_forth n d e r s x l.turn (g.forth s x h);
-  back = λ s x h. g.back s x (turn_back n d e r s x l.turn h);
-  worth = λ s x h. turn_objective n d e r s x l.turn (g.forth s x h) ∙ g.worth s x h;
+  forth = λ s x h. pivot_forth n d e r s x l.pivot (g.forth s x h);
+  back = λ s x h. g.back s x (pivot_back n d e r s x l.pivot h);
+  worth = λ s x h. pivot_objective n d e r s x l.pivot (g.forth s x h) ∙ g.worth s x h;
 }
   where
     n : ℕ
     n = count p
 
     y : IsNonneg (new_bound d e r)
-    y = nonneg_times (d.bound r) (inverse (d.entry r e)) (g.bounds r l.turn.leaving l.turn.basic) (positive_nonneg _ (positive_inverse (d.entry r e) l.turn.positive))
+    y = nonneg_times (d.bound r) (inverse (d.entry r e)) (g.bounds r l.pivot.leaving l.pivot.basic) (positive_nonneg _ (positive_inverse (d.entry r e) l.pivot.positive))
 
     bounds : (v : ℕ) → v < count p → (pivoted d e r).is_basic v ≡ true → IsNonneg ((pivoted d e r).bound v)
     bounds v q b = ⊎_elim
         (λ (s : v ≡ e). subst (λ (u : ℕ). IsNonneg ((pivoted d e r).bound u)) (sym s) (rw (eq_same e) y))
         (λ (f : v ≢ e).
-        let vr : v ≢ r = λ (u : v ≡ r). true_false (sym b ∙ (ap (pivoted d e r).is_basic u ∙ then_leaving d e r (apart d r e l.turn.basic l.turn.free) l.turn.basic)) in
+        let vr : v ≢ r = λ (u : v ≡ r). true_false (sym b ∙ (ap (pivoted d e r).is_basic u ∙ then_leaving d e r (apart d r e l.pivot.basic l.pivot.free) l.pivot.basic)) in
         let old : d.is_basic v ≡ true = sym (then_other d e r v f vr) ∙ b in
         rw (eq_other v e f) (bound_sign (d.entry v e) (d.bound v) (new_bound d e r) (g.bounds v q old) y (l.least v q old)))
         (cases_eq v e)
 
--- ---- what the choices say
+-- ---- what the choices of the entering and the leaving variable mean
 pub over_positive : (a : Exact) → is_over a ≡ true → IsPositive a
 over_positive a e = record { sign = omega (arith, ints, e) }
 
@@ -182,7 +183,7 @@ entering_is n d e h =
       cost = over_positive (d.cost e) (and_right (not (d.is_basic e)) (is_over (d.cost e)) f.1);
     }
 
--- if nothing enters, no price is over 0
+-- if nothing enters, no price is greater than 0
 pub entering_none : (n : ℕ) (d : Dictionary) (w : ℕ) → entering n d ≡ None → w < n → IsNonneg (minus (price d w))
 entering_none n d w h q = by (d.is_basic w) refl
   where
@@ -218,7 +219,7 @@ leaving_is n d e r g h =
     let limit : is_limiting d e r ≡ true = and_left (is_limiting d e r) all f.1 in
     let least : all ≡ true = and_right (is_limiting d e r) all f.1 in
     record {
-      turn = record {
+      pivot = record {
         entering = g.within;
         leaving = f.0;
         free = g.free;

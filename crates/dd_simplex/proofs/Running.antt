@@ -1,4 +1,4 @@
--- Along the run, the table stands for a dictionary. The program's run goes on from there.
+-- Along the run, the table stands for a dictionary, and from this dictionary the run goes on as from the first one.
 use Rattle.std.proofs.Common.{◌≡◌, ◌≢◌, ℕ, zero, suc, ◌+◌, ◌<◌, List, length, Bool, true, false, ◌&&◌, cond, Option, Some, None, ⊎_elim, refl, sym, ap, subst, ◌∙◌, arith}
 use Rattle.std.proofs.lemmas.{Int.ints, List.length-set}
 use lib.IntN.{ℤ, pos}
@@ -6,10 +6,10 @@ use lib.Signed.{◌<ℤ◌}
 use Rattle.dd_fraction.specs.{Exact.Exact, Exact.low, Checked.IsFraction, lemmas.Lowest.low_fraction, lemmas.Lowest.zero_is}
 use Rattle.dd_simplex.specs.Programs.{LinearProgram, IsProgram, IsBest, fraction_at}
 use Rattle.dd_simplex.specs.Dictionaries.{Dictionary, count, start_dictionary, pivoted}
-use Rattle.dd_simplex.specs.Runs.{is_over, entering, leaving, does_turn_fit, do_ratios_fit, Ends, Overflows, AtLimit, turn, turn_or_end, run, stop_of, RunEnds, column_of, dual_of}
+use Rattle.dd_simplex.specs.Runs.{is_over, entering, leaving, does_iteration_fit, do_ratios_fit, Ends, Overflows, AtLimit, iteration, iterate_or_end, run, stop_of, RunEnds, column_of, dual_of}
 use Rattle.dd_simplex.specs.table.Lines.{Table, line_at, other_at, changed_table}
 use Rattle.dd_simplex.specs.table.{Choices.HasMisfit, Standing.IsTable, Standing.StandsFor}
-use Rattle.dd_simplex.specs.table.Steps.{DoesEnter, DoesLeave, HasTurned, HasLeft, IsStuck, IsStart}
+use Rattle.dd_simplex.specs.table.Steps.{DoesEnter, DoesLeave, HasIterated, HasLeft, IsStuck, IsStart}
 use Rattle.dd_simplex.specs.table.Values.{column_so_far, dual_so_far, GiveColumns, GiveDuals}
 use Rattle.dd_simplex.proofs.{Endings.is_best, Places.lines_size, PivotStanding.pivot_stands, PivotStanding.pivot_table}
 use Rattle.dd_simplex.proofs.PivotTests.{table_stands}
@@ -18,6 +18,7 @@ use Rattle.dd_simplex.proofs.Standing.{entering_stands, entering_none_stands, un
 use Rattle.dd_simplex.proofs.{Starting.start_table, Starting.start_stands, Unbounded.is_limited, Unbounded.always_leaves}
 use Rattle.dd_values.specs.lemmas.Booleans.{and_both, and_second, lt_yes}
 
+-- the table t stands for a dictionary from which the run has at most `left` more pivots
 pub record IsAlong (p : LinearProgram) (pivots left : ℕ) (t : Table) : Type 0 where
   pub dictionary : Dictionary
   pub table : IsTable t
@@ -38,9 +39,9 @@ along_start p k t g h = record {
   width = h.width;
 }
 
--- ---- one turn of the run, from what enters and leaves
-turn_is : (n k : ℕ) (d : Dictionary) (e : ℕ) (o : Option ℕ) → entering n d ≡ Some e → leaving n d e ≡ o → run n (suc k) d ≡ turn (run n k) n d e o
-turn_is n k d e o h l = rw (h, l) refl
+-- ---- one iteration of the run, from what enters and leaves
+iteration_is : (n k : ℕ) (d : Dictionary) (e : ℕ) (o : Option ℕ) → entering n d ≡ Some e → leaving n d e ≡ o → run n (suc k) d ≡ iteration (run n k) n d e o
+iteration_is n k d e o h l = rw (h, l) refl
 
 place_in : (t : Table) (e : ℕ) → IsTable t → DoesEnter t (Some e) → e < length t.others
 place_in t e k h = let p = h.0 in let q = k.costs in omega (arith, p, q)
@@ -54,13 +55,13 @@ not_zero a h e = let s = (over_positive a h).sign in bad a.num s e
     bad : (z : ℤ) → pos 0 <ℤ z → z ≡ pos 0 → ⊥
     bad z s e = omega (arith, ints, s, e)
 
-pub along_turn : (p : LinearProgram) (k left : ℕ) (t new : Table) → IsAlong p k (suc left) t → HasTurned t new → IsAlong p k left new
-along_turn p k left t new a h = subst (IsAlong p k left) (sym h.pivoted) (record {
+pub along_iteration : (p : LinearProgram) (k left : ℕ) (t new : Table) → IsAlong p k (suc left) t → HasIterated t new → IsAlong p k left new
+along_iteration p k left t new a h = subst (IsAlong p k left) (sym h.pivoted) (record {
   dictionary = pivoted d E R;
   table = pivot_table n t d a.table s h.place h.line inside line (not_zero (fraction_at (line_at t.lines h.line).cells h.place) h.leaves.1) h.fit;
   stands = pivot_stands n t d a.table s h.place h.line inside line;
   reached = reached_pivot p d E R a.reached (leaving_is n d E R (entering_is n d E enters) leaves);
-  rest = sym (turn_is n left d E (Some R) enters leaves ∙ ap (λ (b : Bool). cond b (run n left (pivoted d E R)) Overflows) fits) ∙ a.rest;
+  rest = sym (iteration_is n left d E (Some R) enters leaves ∙ ap (λ (b : Bool). cond b (run n left (pivoted d E R)) Overflows) fits) ∙ a.rest;
   height = lines_same ∙ a.height;
   width = others_same ∙ a.width;
 })
@@ -98,7 +99,7 @@ along_turn p k left t new a h = subst (IsAlong p k left) (sym h.pivoted) (record
     leaves : leaving (count p) a.dictionary (other_at t.others h.place) ≡ Some (line_at t.lines h.line).basic
     leaves = leaving_stands (count p) t a.dictionary a.table a.stands h.place inside h.line h.leaves
 
-    fits : does_turn_fit (count p) a.dictionary (other_at t.others h.place) (line_at t.lines h.line).basic ≡ true
+    fits : does_iteration_fit (count p) a.dictionary (other_at t.others h.place) (line_at t.lines h.line).basic ≡ true
     fits = and_both _ _ (ratios_stand (count p) t a.dictionary a.table a.stands h.place inside h.ratios)
         (sym (table_stands (count p) t a.dictionary a.table a.stands h.place h.line inside line) ∙ h.fit)
 
@@ -124,7 +125,7 @@ along_stuck p k left t g a h = ⊎_elim ratio (λ s. ⊎_elim none misfit s) h.r
     by_leaving : do_ratios_fit (count p) a.dictionary (other_at t.others h.place) ≡ false → (o : Option ℕ) → leaving (count p) a.dictionary (other_at t.others h.place) ≡ o → stop_of p k ≡ Overflows
     by_leaving f None l = absurd (always_leaves p d (other_at t.others h.place) g a.reached (entering_is n d (other_at t.others h.place) enters) l)
     by_leaving f (Some r) l =
-        sym a.rest ∙ (turn_is n left d (other_at t.others h.place) (Some r) enters l
+        sym a.rest ∙ (iteration_is n left d (other_at t.others h.place) (Some r) enters l
         ∙ ap (λ (b : Bool). cond b (run n left (pivoted d (other_at t.others h.place) r)) Overflows) (and_first _ _ f))
 
     ratio : HasMisfit t.lines h.place → stop_of p k ≡ Overflows
@@ -139,14 +140,14 @@ along_stuck p k left t g a h = ⊎_elim ratio (λ s. ⊎_elim none misfit s) h.r
         let E = other_at t.others h.place in
         let R = (line_at t.lines m.line).basic in
         let leaves : leaving n d E ≡ Some R = leaving_stands n t d a.table a.stands h.place inside m.line m.leaves in
-        let fits : does_turn_fit n d E R ≡ false =
+        let fits : does_iteration_fit n d E R ≡ false =
         and_second (do_ratios_fit n d E) _ (sym (table_stands n t d a.table a.stands h.place m.line inside line) ∙ m.misfit) in
-        sym a.rest ∙ (turn_is n left d E (Some R) enters leaves ∙ ap (λ (b : Bool). cond b (run n left (pivoted d E R)) Overflows) fits)
+        sym a.rest ∙ (iteration_is n left d E (Some R) enters leaves ∙ ap (λ (b : Bool). cond b (run n left (pivoted d E R)) Overflows) fits)
 
 -- ---- the end, and the limit
 pub along_limit : (p : LinearProgram) (k : ℕ) (t : Table) (e : ℕ) → IsAlong p k 0 t → DoesEnter t (Some e) → stop_of p k ≡ AtLimit
 along_limit p k t e a h =
-    sym a.rest ∙ ap (turn_or_end (λ _. AtLimit) a.dictionary) (enters_is (count p) t a.dictionary a.table a.stands e h)
+    sym a.rest ∙ ap (iterate_or_end (λ _. AtLimit) a.dictionary) (enters_is (count p) t a.dictionary a.table a.stands e h)
 
 end_is : (n k : ℕ) (d : Dictionary) → entering n d ≡ None → run n k d ≡ Ends d
 end_is n zero d h = rw h refl
@@ -213,7 +214,7 @@ module _ (p : LinearProgram) (k left : ℕ) (t : Table) (g : IsProgram p) (a : I
   along_best = subst (λ (v : Exact). IsBest p v columns duals) a.stands.value
       (is_best p a.dictionary g a.reached nothing_enters columns duals width column_at height dual_at value_low column_low)
 
--- ---- as the code has it
+-- ---- the solution that the code reads off
 pub others_within : (p : LinearProgram) (k left c : ℕ) (t : Table) → IsAlong p k left t → c ≡ p.columns → (j : ℕ) → j < length t.others → other_at t.others j < c + length t.lines
 others_within p k left c t a e j q = let z = a.height in let y = a.stands.other_in j q in omega (arith, z, y, e)
 

@@ -4,8 +4,8 @@ use Rattle.std.proofs.lemmas.List.{ext_get_or}
 use Rattle.dd_fraction.specs.Exact.{Exact}
 use Rattle.dd_simplex.specs.Programs.{LinearProgram, IsProgram, fraction_at, zero_of}
 use Rattle.dd_simplex.specs.Dictionaries.{Dictionary, count, start_dictionary, pivoted}
-use Rattle.dd_simplex.specs.Runs.{entering, leaving, does_turn_fit, Stop, Ends, Overflows, AtLimit, Unbounded, turn, turn_or_end, run, stop_of, RunOverflows, RunPivots, column_of, dual_of}
-use Rattle.dd_simplex.specs.Laws.{DoesEnd, HasOneStop, dictionary_after, after_turn, leaving_for, IsSoundDictionary}
+use Rattle.dd_simplex.specs.Runs.{entering, leaving, does_iteration_fit, Stop, Ends, Overflows, AtLimit, Unbounded, iteration, iterate_or_end, run, stop_of, RunOverflows, RunPivots, column_of, dual_of}
+use Rattle.dd_simplex.specs.Laws.{DoesEnd, HasOneStop, dictionary_after, after_iteration, leaving_for, IsSoundDictionary}
 use Rattle.dd_simplex.proofs.Endings.{reduced_column, reduced_value, combined_column, combined_bound}
 use Rattle.dd_simplex.proofs.Reaching.{IsReached, entering_is, leaving_is, reached_start, reached_pivot}
 use Rattle.dd_simplex.proofs.Unbounded.{always_leaves}
@@ -15,7 +15,7 @@ use Rattle.dd_simplex.specs.lemmas.Dictionaries.{ends_same}
 never_unbounded : (p : LinearProgram) (k : ℕ) (d : Dictionary) → IsProgram p → IsReached p d → run (count p) k d ≡ Unbounded → ⊥
 never_unbounded p zero d g r h = at (entering (count p) d) h
   where
-    at : (o : Option ℕ) → turn_or_end (λ _. AtLimit) d o ≡ Unbounded → ⊥
+    at : (o : Option ℕ) → iterate_or_end (λ _. AtLimit) d o ≡ Unbounded → ⊥
     at None h = absurd cc
     at (Some e) h = absurd cc
 never_unbounded p (suc k) d g r h = at (λ (t : Dictionary) (q : IsReached p t). never_unbounded p k t g q) (entering (count p) d) refl h
@@ -26,16 +26,16 @@ never_unbounded p (suc k) d g r h = at (λ (t : Dictionary) (q : IsReached p t).
     going again e s n l false h = absurd cc
 
     under : ((t : Dictionary) → IsReached p t → run (count p) k t ≡ Unbounded → ⊥) → (e : ℕ) → entering (count p) d ≡ Some e → (o : Option ℕ) → leaving (count p) d e ≡ o
-        → turn (run (count p) k) (count p) d e o ≡ Unbounded → ⊥
+        → iteration (run (count p) k) (count p) d e o ≡ Unbounded → ⊥
     under again e n None l h = always_leaves p d e g r (entering_is (count p) d e n) l
-    under again e n (Some s) l h = going again e s n l (does_turn_fit (count p) d e s) h
+    under again e n (Some s) l h = going again e s n l (does_iteration_fit (count p) d e s) h
 
     at : ((t : Dictionary) → IsReached p t → run (count p) k t ≡ Unbounded → ⊥) → (o : Option ℕ) → entering (count p) d ≡ o
-        → turn_or_end (λ e. turn (run (count p) k) (count p) d e (leaving (count p) d e)) d o ≡ Unbounded → ⊥
+        → iterate_or_end (λ e. iteration (run (count p) k) (count p) d e (leaving (count p) d e)) d o ≡ Unbounded → ⊥
     at again None n h = absurd cc
     at again (Some e) n h = under again e n (leaving (count p) d e) refl h
 
--- the first n values of a function
+-- n values of a function, from that of i on
 listed : (ℕ → Exact) → ℕ → ℕ → List Exact
 listed f i zero = []
 listed f i (suc n) = f i ∷ listed f (suc i) n
@@ -97,18 +97,18 @@ one_stop_of p k g = record {
     by AtLimit h = inr (inr h)
     by Unbounded h = absurd (never_unbounded p k (start_dictionary p) g (reached_start p g) h)
 
--- ---- the dictionaries on the way
+-- ---- the dictionaries of a run
 pub reached_after : (p : LinearProgram) (k : ℕ) (d t : Dictionary) → IsReached p d → dictionary_after (count p) k d ≡ Some t → IsReached p t
 reached_after p zero d t r h = let s : d ≡ t = cc in subst (IsReached p) s r
 reached_after p (suc k) d t r h = at (λ (u : Dictionary) (q : IsReached p u) (l : dictionary_after (count p) k u ≡ Some t). reached_after p k u t q l) (entering (count p) d) refl h
   where
     under : ((u : Dictionary) → IsReached p u → dictionary_after (count p) k u ≡ Some t → IsReached p t) → (e : ℕ) → entering (count p) d ≡ Some e → (o : Option ℕ) → leaving (count p) d e ≡ o
-        → after_turn (dictionary_after (count p) k) d (Some e) o ≡ Some t → IsReached p t
+        → after_iteration (dictionary_after (count p) k) d (Some e) o ≡ Some t → IsReached p t
     under again e n None l h = absurd cc
     under again e n (Some s) l h = again (pivoted d e s) (reached_pivot p d e s r (leaving_is (count p) d e s (entering_is (count p) d e n) l)) h
 
     at : ((u : Dictionary) → IsReached p u → dictionary_after (count p) k u ≡ Some t → IsReached p t) → (o : Option ℕ) → entering (count p) d ≡ o
-        → after_turn (dictionary_after (count p) k) d o (leaving_for (count p) d o) ≡ Some t → IsReached p t
+        → after_iteration (dictionary_after (count p) k) d o (leaving_for (count p) d o) ≡ Some t → IsReached p t
     at again None n h = absurd cc
     at again (Some e) n h = under again e n (leaving (count p) d e) refl h
 

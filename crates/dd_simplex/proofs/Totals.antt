@@ -37,7 +37,7 @@ pub total_times : (k : Exact) (f : ℕ → Exact) (n : ℕ) → fraction_sum (λ
 total_times k f zero = sym (times_zero k)
 total_times k f (suc n) = ap (λ (t : Exact). plus t (times k (f n))) (total_times k f n) ∙ sym (times_plus k (fraction_sum f n) (f n))
 
--- one term that isn't 0
+-- a sum with at most one term that isn't 0
 pub total_pick : (f : ℕ → Exact) (w n : ℕ) → w < n → ((v : ℕ) → v < n → v ≢ w → f v ≡ zero_of) → fraction_sum f n ≡ low (f w)
 total_pick f w zero p h = absurd (omega (arith, p))
 total_pick f w (suc n) p h = ⊎_elim
@@ -49,7 +49,7 @@ total_pick f w (suc n) p h = ⊎_elim
     ∙ (plus_low_left (f w) zero_of ∙ plus_zero (f w)))
     (cases_eq n w)
 
--- the first n, and then m more
+-- a sum of n + m numbers: the first n, and then m more
 pub total_split : (f : ℕ → Exact) (n m : ℕ) → fraction_sum f (n + m) ≡ plus (fraction_sum f n) (fraction_sum (λ k. f (n + k)) m)
 total_split f n zero = ap (fraction_sum f) (add_zero n) ∙ (sym (total_low f n) ∙ sym (plus_zero (fraction_sum f n)))
   where
@@ -85,7 +85,7 @@ low_each : (f : ℕ → Exact) (n : ℕ) → fraction_sum (λ v. low (f v)) n �
 low_each f zero = refl
 low_each f (suc n) = plus_low_right (fraction_sum (λ v. low (f v)) n) (f n) ∙ ap (λ (t : Exact). plus t (f n)) (low_each f n)
 
--- two terms that aren't 0
+-- a sum with at most two terms that aren't 0
 pub total_two : (f : ℕ → Exact) (a b n : ℕ) → a < n → b < n → a ≢ b → ((v : ℕ) → v < n → v ≢ a → v ≢ b → f v ≡ zero_of) → fraction_sum f n ≡ plus (f a) (f b)
 total_two f a b n p q ab h =
     sym (low_each f n)

@@ -1,5 +1,5 @@
--- Something always leaves. If nothing limited the entering variable, it could grow for ever, and column 0 with it. But by
--- the first row column 0 and its slack, neither below 0, sum to the cap.
+-- Some variable always leaves. If none limited the entering variable, it could grow for ever, and column 0 with it. But by the
+-- first row, column 0 and its slack are at least 0 and sum to the cap.
 use Rattle.std.proofs.Common.{◌≡◌, ◌≢◌, ℕ, ◌+◌, ◌<◌, Bool, true, false, not, ◌&&◌, ◌||◌, cond, None, ⊎_elim, refl, sym, ap, subst, ◌∙◌, arith}
 use Rattle.std.proofs.lemmas.{Bool.cases_eq, Int.ints}
 use Rattle.std.specs.{Bool.nat_eq, Ordering.is_gt}

@@ -1,6 +1,6 @@
--- A dictionary gives some variables, the basic ones, and the objective z in terms of the others:
--- x_v = bound v - Σ_w entry v w · x_w and z = value + Σ_w cost w · x_w, over the variables w that aren't basic (Dantzig,
--- Linear Programming and Extensions, 1963; in this form Chvátal, Linear Programming, 1983).
+-- A dictionary gives its basic variables v, and the objective z, in terms of its nonbasic variables w:
+-- x_v = bound v - Σ_w entry v w · x_w and z = value + Σ_w cost w · x_w (Dantzig, Linear Programming and Extensions, 1963;
+-- in this form Chvátal, Linear Programming, 1983). The right side for x_v is the row of v.
 -- Column j is the variable j, and the slack of row k is the variable columns + k.
 use Rattle.std.specs.Prelude.{ℕ, ◌+◌, ◌-◌, length, Bool, not, ◌&&◌, ◌||◌, cond}
 use Rattle.std.specs.Bool.{nat_eq, nat_lt}
@@ -18,7 +18,7 @@ pub record Dictionary : Type 0 where
 abbrev pub count : LinearProgram → ℕ
 count p = p.columns + length p.rows
 
--- the slacks are basic, and the objective is column 0
+-- the first dictionary: the slacks are basic, and the objective is column 0
 abbrev pub start_dictionary : LinearProgram → Dictionary
 start_dictionary p = record {
   is_basic = λ v. not (nat_lt v p.columns);
@@ -34,18 +34,18 @@ fraction_quotient a b = times a (inverse b)
 abbrev pub less_product : Exact → Exact → Exact → Exact
 less_product a q b = plus a (minus (times q b))
 
--- the entering variable's row: the leaving variable's row, solved for it
+-- In a pivot, the variable e enters and becomes basic, and r leaves. The row of e is the row of r, solved for e.
 abbrev pub new_bound : Dictionary → ℕ → ℕ → Exact
 new_bound d e r = fraction_quotient (d.bound r) (d.entry r e)
 
 abbrev pub new_entry : Dictionary → ℕ → ℕ → ℕ → Exact
 new_entry d e r w = fraction_quotient (cond (nat_eq w r) one_of (d.entry r w)) (d.entry r e)
 
--- what becomes of a coefficient a at w in a line whose coefficient at the entering variable is q
+-- the new coefficient at w of a row or of the objective; the old ones were a at w, and q at e
 abbrev pub replaced : Dictionary → ℕ → ℕ → Exact → ℕ → Exact → Exact
 replaced d e r q w a = cond (nat_eq w r) (minus (times q (new_entry d e r w))) (less_product a q (new_entry d e r w))
 
--- the dictionary after the variables e and r have changed places
+-- the dictionary after e has entered and r has left
 abbrev pub pivoted : Dictionary → ℕ → ℕ → Dictionary
 pivoted d e r = record {
   is_basic = λ v. nat_eq v e || (d.is_basic v && not (nat_eq v r));

@@ -1,12 +1,12 @@
--- linear programs, their columns and duals, and what is best
+-- linear programs, their columns and duals, and which columns are best
 pub mod Programs
--- the dictionary of a simplex run, and one pivot of it
+-- dictionaries, and one pivot of a dictionary
 pub mod Dictionaries
--- the run by Bland's rule, with a limit on its pivots and on its numbers
+-- the run by Bland's rule, with limits on its pivots and its numbers
 pub mod Runs
 -- how a run stops, and what its dictionaries are
 pub mod Laws
--- what the code keeps of a dictionary
+-- tables: dictionaries as the code keeps them
 pub mod table
 -- lemmas on these definitions, with their proofs
 pub mod lemmas

@@ -1,10 +1,10 @@
--- Linear programs over exact fractions, what columns and duals are, and when columns are best.
+-- Linear programs over exact fractions. A column is a variable of the program. Duals prove that columns are best.
 use Rattle.std.specs.Prelude.{◌≡◌, ℕ, zero, suc, ◌<◌, ◌-◌, List, [], ◌∷◌, length, slice_index_or, replicate, cond}
 use Rattle.std.specs.Bool.{nat_eq}
 use lib.IntN.{ℤ, pos}
 use Rattle.dd_fraction.specs.{Exact.Exact, Exact.plus, Exact.times, Exact.whole_of, Order.IsAtMost, Order.IsNonneg}
 
--- the sum of coefficient times column is at most the bound
+-- "the sum of coefficient times column is at most the bound"
 pub record ProgramRow : Type 0 where
   pub coefficients : List Exact
   pub bound : Exact
@@ -20,6 +20,7 @@ zero_of = whole_of (pos 0)
 abbrev pub one_of : Exact
 one_of = whole_of (pos 1)
 
+-- the fraction at a place of a list, and 0 past its end
 abbrev pub fraction_at : List Exact → ℕ → Exact
 fraction_at xs i = slice_index_or xs i zero_of
 
@@ -39,11 +40,11 @@ bound_at p k = (row_at p k).bound
 abbrev pub unit : ℕ → ℕ → Exact
 unit v w = cond (nat_eq v w) one_of zero_of
 
--- column 0 at most the cap
+-- "column 0 is at most the cap"
 abbrev pub cap_row : ℕ → ℤ → ProgramRow
 cap_row columns cap = record { coefficients = one_of ∷ replicate (columns - 1) zero_of; bound = whole_of cap }
 
--- the first row is that of a cap, each row has a coefficient for each column, and no bound is below 0
+-- there is a column; each row has a coefficient for each column and a bound of at least 0; the first row is that of a cap
 pub record IsProgram (p : LinearProgram) : Type 0 where
   pub wide : 0 < p.columns
   pub rows : 0 < length p.rows
@@ -56,26 +57,26 @@ abbrev pub fraction_sum : (ℕ → Exact) → ℕ → Exact
 fraction_sum f zero = zero_of
 fraction_sum f (suc n) = plus (fraction_sum f n) (f n)
 
--- columns of at least 0 that meet each row
+-- the columns are feasible: they are at least 0 and meet each row
 pub record IsFeasible (p : LinearProgram) (columns : List Exact) : Type 0 where
   pub size : length columns ≡ p.columns
   pub signs : (j : ℕ) → j < p.columns → IsNonneg (fraction_at columns j)
   pub rows : (k : ℕ) → k < length p.rows
       → IsAtMost (fraction_sum (λ j. times (coefficient p k j) (fraction_at columns j)) p.columns) (bound_at p k)
 
--- factors of at least 0, one for each row: the rows times their factors sum to at least 1 in column 0, and at least 0 in
--- each other column
+-- The duals are feasible: each row has one of at least 0. The rows times their duals sum to at least 1 in column 0, and to at
+-- least 0 in each other column.
 pub record AreDuals (p : LinearProgram) (duals : List Exact) : Type 0 where
   pub size : length duals ≡ length p.rows
   pub signs : (k : ℕ) → k < length p.rows → IsNonneg (fraction_at duals k)
   pub sums : (j : ℕ) → j < p.columns
       → IsAtMost (unit 0 j) (fraction_sum (λ k. times (fraction_at duals k) (coefficient p k j)) (length p.rows))
 
--- the bounds times the duals
+-- the sum of the bounds times the duals
 abbrev pub dual_objective : LinearProgram → List Exact → Exact
 dual_objective p duals = fraction_sum (λ k. times (fraction_at duals k) (bound_at p k)) (length p.rows)
 
--- columns and duals of equal value, so that no columns give more
+-- the columns and the duals are feasible and have the same value, so no other columns give more
 pub record IsBest (p : LinearProgram) (value : Exact) (columns duals : List Exact) : Type 0 where
   pub feasible : IsFeasible p columns
   pub dual : AreDuals p duals

@@ -1,5 +1,6 @@
--- The run by Bland's rule (1977): of the variables that may enter, or leave, the least is taken. It stops with the best
--- value, at a limit on its pivots, or where one of its numbers passes 2^127 - 1 in absolute value.
+-- The run by Bland's rule (1977): of the variables that may enter, the least enters; of those that may leave, the least leaves.
+-- The run stops with the best value, at a limit on its pivots, or at a number that is greater than 2^127 - 1 in absolute
+-- value. Other numbers fit.
 use Rattle.std.specs.Prelude.{◌≡◌, ℕ, zero, suc, ◌+◌, ◌<◌, List, length, Bool, true, not, ◌&&◌, ◌||◌, cond, Option, Some, None}
 use Rattle.std.specs.{Bool.nat_eq, Int.RustNames.int_lt, Ordering.is_gt}
 use lib.IntN.{pos}
@@ -10,10 +11,11 @@ use Rattle.dd_simplex.specs.Programs.{LinearProgram, fraction_at, zero_of, one_o
 use Rattle.dd_simplex.specs.Dictionaries.{Dictionary, count, start_dictionary, pivoted, fraction_quotient, new_bound, new_entry}
 use Rattle.dd_simplex.specs.declared.fault.SimplexFault.TheVariants as fault
 
+-- greater than 0
 abbrev pub is_over : Exact → Bool
 is_over a = int_lt (pos 0) a.num
 
--- true of each number below n
+-- whether f is true of each number below n
 abbrev pub all_below : (ℕ → Bool) → ℕ → Bool
 all_below f zero = true
 all_below f (suc n) = all_below f n && f n
@@ -22,15 +24,16 @@ abbrev pub or_else : Option ℕ → Option ℕ → Option ℕ
 or_else None o = o
 or_else (Some m) o = Some m
 
--- the least number below n of which it is true
+-- the least number below n of which f is true
 abbrev pub first_below : (ℕ → Bool) → ℕ → Option ℕ
 first_below f zero = None
 first_below f (suc n) = or_else (first_below f n) (cond (f n) (Some n) None)
 
+-- a variable may enter if it is nonbasic and its cost is greater than 0
 abbrev pub may_enter : Dictionary → ℕ → Bool
 may_enter d w = not (d.is_basic w) && is_over (d.cost w)
 
--- of the first n variables, the one that enters
+-- which of the first n variables enters
 abbrev pub entering : ℕ → Dictionary → Option ℕ
 entering n d = first_below (may_enter d) n
 
@@ -38,21 +41,24 @@ entering n d = first_below (may_enter d) n
 abbrev pub ratio : Dictionary → ℕ → ℕ → Exact
 ratio d e v = fraction_quotient (d.bound v) (d.entry v e)
 
+-- whether v falls as e grows
 abbrev pub is_limiting : Dictionary → ℕ → ℕ → Bool
 is_limiting d e v = d.is_basic v && is_over (d.entry v e)
 
--- v limits e, and no variable has a smaller ratio
+-- whether v limits e, and no limiting variable has a smaller ratio
 abbrev pub may_leave : ℕ → Dictionary → ℕ → ℕ → Bool
 may_leave n d e v =
     is_limiting d e v && all_below (λ u. not (is_limiting d e u) || not (is_gt (exact_cmp (ratio d e v) (ratio d e u)))) n
 
+-- which of the first n variables leaves when e enters
 abbrev pub leaving : ℕ → Dictionary → ℕ → Option ℕ
 leaving n d e = first_below (may_leave n d e) n
 
--- whether the numbers of a quotient, and of `a - q · b`, fit
+-- whether the numbers of a quotient fit
 abbrev pub does_quotient_fit : Exact → Exact → Bool
 does_quotient_fit a b = does_product_fit a (inverse b)
 
+-- whether the numbers of a - q · b fit
 abbrev pub does_less_fit : Exact → Exact → Exact → Bool
 does_less_fit a q b = does_product_fit q b && does_sum_fit a (minus (times q b))
 
@@ -60,65 +66,74 @@ does_less_fit a q b = does_product_fit q b && does_sum_fit a (minus (times q b))
 abbrev pub do_ratios_fit : ℕ → Dictionary → ℕ → Bool
 do_ratios_fit n d e = all_below (λ v. not (is_limiting d e v) || does_quotient_fit (d.bound v) (d.entry v e)) n
 
--- whether those of the entering variable's row fit; the quotient of 1 goes to the place of the leaving variable
+-- whether the numbers of the entering variable's row fit. The leaving variable has the coefficient 1 before the division;
+-- it is tested at e, whose place it takes.
 abbrev pub does_row_fit : ℕ → Dictionary → ℕ → ℕ → Bool
 does_row_fit n d e r =
     does_quotient_fit (d.bound r) (d.entry r e)
     && all_below (λ w. d.is_basic w || does_quotient_fit (cond (nat_eq w e) one_of (d.entry r w)) (d.entry r e)) n
 
--- whether those of the coefficients a of a line fit, where q is its coefficient at e
+-- whether the new coefficients of a row or of the objective fit; the old ones were a w at each w, and q at e
 abbrev pub do_coefficients_fit : ℕ → Dictionary → ℕ → ℕ → Exact → (ℕ → Exact) → Bool
 do_coefficients_fit n d e r q a =
     all_below (λ w. d.is_basic w || cond (nat_eq w e) (does_product_fit q (new_entry d e r r)) (does_less_fit (a w) q (new_entry d e r w))) n
 
--- whether those of the other rows fit
+-- whether the numbers of the other rows fit
 abbrev pub do_others_fit : ℕ → Dictionary → ℕ → ℕ → Bool
 do_others_fit n d e r =
     all_below (λ v. (not (d.is_basic v) || nat_eq v r)
     || (does_less_fit (d.bound v) (d.entry v e) (new_bound d e r) && do_coefficients_fit n d e r (d.entry v e) (d.entry v))) n
 
--- whether those of the objective fit
+-- whether the numbers of the objective fit
 abbrev pub does_objective_fit : ℕ → Dictionary → ℕ → ℕ → Bool
 does_objective_fit n d e r =
     (does_product_fit (d.cost e) (new_bound d e r) && does_sum_fit d.value (times (d.cost e) (new_bound d e r)))
     && do_coefficients_fit n d e r (d.cost e) d.cost
 
-abbrev pub does_turn_fit : ℕ → Dictionary → ℕ → ℕ → Bool
-does_turn_fit n d e r =
+-- whether all numbers of an iteration fit
+abbrev pub does_iteration_fit : ℕ → Dictionary → ℕ → ℕ → Bool
+does_iteration_fit n d e r =
     do_ratios_fit n d e && (does_row_fit n d e r && (do_others_fit n d e r && does_objective_fit n d e r))
 
--- how a run stops: with no cost over 0, at a number that doesn't fit, at the limit, or since nothing limits what enters
+-- how a run stops
 pub data Stop : Type 0 where
+  -- no variable may enter
   Ends : Dictionary → Stop
+  -- a number does not fit
   Overflows : Stop
+  -- a variable may enter, but no pivot is left
   AtLimit : Stop
+  -- no variable limits the one that enters
   Unbounded : Stop
 
--- a turn in which e enters, and then the run that follows
-abbrev pub turn : (Dictionary → Stop) → ℕ → Dictionary → ℕ → Option ℕ → Stop
-turn next n d e None = Unbounded
-turn next n d e (Some r) = cond (does_turn_fit n d e r) (next (pivoted d e r)) Overflows
+-- an iteration in which e enters, and the run `next` after it
+abbrev pub iteration : (Dictionary → Stop) → ℕ → Dictionary → ℕ → Option ℕ → Stop
+iteration next n d e None = Unbounded
+iteration next n d e (Some r) = cond (does_iteration_fit n d e r) (next (pivoted d e r)) Overflows
 
-abbrev pub turn_or_end : (ℕ → Stop) → Dictionary → Option ℕ → Stop
-turn_or_end go_on d None = Ends d
-turn_or_end go_on d (Some e) = go_on e
+-- how the run goes on with the variable that enters; it ends if there is none
+abbrev pub iterate_or_end : (ℕ → Stop) → Dictionary → Option ℕ → Stop
+iterate_or_end go_on d None = Ends d
+iterate_or_end go_on d (Some e) = go_on e
 
--- the run of at most k pivots
+-- the run of at most k pivots from the dictionary d over n variables: how it stops
 abbrev pub run : ℕ → ℕ → Dictionary → Stop
-run n zero d = turn_or_end (λ e. AtLimit) d (entering n d)
-run n (suc k) d = turn_or_end (λ e. turn (run n k) n d e (leaving n d e)) d (entering n d)
+run n zero d = iterate_or_end (λ e. AtLimit) d (entering n d)
+run n (suc k) d = iterate_or_end (λ e. iteration (run n k) n d e (leaving n d e)) d (entering n d)
 
+-- how the run of a program stops, if it has at most k pivots
 abbrev pub stop_of : LinearProgram → ℕ → Stop
 stop_of p k = run (count p) k (start_dictionary p)
 
--- a column's value, and a row's dual
+-- the value of column j
 abbrev pub column_of : Dictionary → ℕ → Exact
 column_of d j = cond (d.is_basic j) (d.bound j) zero_of
 
+-- the dual of row k
 abbrev pub dual_of : LinearProgram → Dictionary → ℕ → Exact
 dual_of p d k = cond (d.is_basic (p.columns + k)) zero_of (minus (d.cost (p.columns + k)))
 
--- the run ends with the value, the columns and the duals
+-- the run of at most k pivots ends with this value, these columns and these duals
 pub record RunEnds (p : LinearProgram) (k : ℕ) (value : Exact) (columns duals : List Exact) : Type 0 where
   pub dictionary : Dictionary
   pub ends : stop_of p k ≡ Ends dictionary
@@ -131,10 +146,11 @@ pub record RunEnds (p : LinearProgram) (k : ℕ) (value : Exact) (columns duals 
 abbrev pub RunOverflows : LinearProgram → ℕ → Type 0
 RunOverflows p k = stop_of p k ≡ Overflows
 
+-- the run reaches its limit of pivots
 abbrev pub RunPivots : LinearProgram → ℕ → Type 0
 RunPivots p k = stop_of p k ≡ AtLimit
 
--- what each refusal says of the run
+-- what each fault says of the run; `Memory` says nothing
 abbrev pub IsRunRefusal : LinearProgram → ℕ → SimplexFault → Type 0
 IsRunRefusal p k fault.Overflow = RunOverflows p k
 IsRunRefusal p k fault.Pivots = RunPivots p k

@@ -1,14 +1,14 @@
-//! The faults of runs.
+//! The faults of the simplex method.
 ghost use Rattle.std.specs.Prelude.{◌≡◌};
 ghost use Rattle.dd_simplex.specs.declared.fault.SimplexFault.TheVariants.{Memory};
 
 use std::alloc::AllocError;
 use thiserror::Error;
 
-/// Why a run has no result.
+/// Why a run of the simplex method has no result.
 #[derive(Clone, Copy, Debug, PartialEq, Eq, Error)]
 pub enum SimplexFault {
-    /// A number of the run passes 2^127 - 1 in absolute value.
+    /// A number of the run is greater than 2^127 - 1 in absolute value.
     #[error("a number of the simplex run passes 127 bits")]
     Overflow,
     /// The run needs more pivots than its limit.

@@ -1,22 +1,23 @@
-//! Laws of runs.
+//! Laws of the simplex method, as contracts of calls that do nothing.
 ghost use Rattle.dd_simplex.specs.Laws.{HasOneStop, AreSoundDictionaries};
 
 use crate::program::Program;
 
-/// Does nothing; its contract says that a run stops in exactly one way: it ends with one result, one of its numbers
-/// passes 2^127 - 1, or it reaches its limit of pivots.
+/// Does nothing; its contract says that a run stops in exactly one way: it ends with one result, one of its numbers is
+/// greater than 2^127 - 1 in absolute value, or it reaches its limit of pivots.
 pub fn one_stop(_program: &Program, _pivots: u32)
     ensures { HasOneStop _program.now _pivots }
 {
-    // This read brings in what the type guarantees.
+    // This call tells the proof what the type guarantees.
     let _columns = _program.columns();
 }
 
-/// Does nothing; its contract is about the dictionaries of a run. Their rows and objective are combinations of the
-/// program's rows, no bound falls below 0, and a variable always leaves, so no run is unbounded.
+/// Does nothing; its contract is about the dictionaries of a run. Their rows are combinations of the program's rows. Their
+/// objective is column 0, less such a combination. No bound falls below 0. Where a variable enters, another leaves, so no
+/// run is unbounded.
 pub fn sound_pivots(_program: &Program)
     ensures { AreSoundDictionaries _program.now }
 {
-    // This read brings in what the type guarantees.
+    // This call tells the proof what the type guarantees.
     let _columns = _program.columns();
 }

@@ -1,4 +1,6 @@
-//! Linear programs over exact fractions, maximised by Bland's pivot rule.
+//! Linear programs over exact fractions, maximised by the simplex method with Bland's rule. A column is a variable of the
+//! program, and a row is an inequality. The slack of a row is its bound less its left side. Columns and slacks are the
+//! variables of a dictionary, which gives some of them, the basic ones, and the objective in terms of the others.
 #![tactic(auto, using(std::proofs::lemmas::Grind::common_steps))]
 
 mod fault;

@@ -1,4 +1,4 @@
-//! A line of a dictionary: a basic variable in terms of the others.
+//! A line of a dictionary: one basic variable in terms of the nonbasic ones.
 ghost use Rattle.std.specs.Prelude.{◌≡◌, ◌≢◌, ◌<◌, true, List, length, map};
 ghost use Rattle.std.specs.List.{list_all, All};
 ghost use lib.IntN.{pos};
@@ -10,7 +10,8 @@ ghost use Rattle.dd_simplex.specs.table.Lines.{IsIdle, HasFractions, less, do_al
 use dd_fraction::Fraction;
 use std::marker::Model;
 
-/// `basic = bound - sum of cell times variable`, over the variables that aren't basic.
+/// The equation `basic = bound - sum of cell times variable`, with one cell for each nonbasic variable. A cell is at the place
+/// that its variable has in the tableau's list of nonbasic variables.
 #[derive(Drop)]
 pub struct Line {
     pub basic: usize,
@@ -34,7 +35,7 @@ impl Line {
         self.basic
     }
 
-    /// Solves the line for the variable at the place `e`. False where a number is too large.
+    /// Solves the line for the variable `entering`, which is at the place `e`. False if a number is too large.
     pub fn solve(&mut self, e: usize, entering: usize) -> bool
         requires place { e < length self.old.cells }
         requires cell { (fraction_at self.old.cells e).num ≢ pos 0 }
@@ -51,8 +52,8 @@ impl Line {
         divide(self.cells.as_mut_slice(), &cell)
     }
 
-    /// Puts the solved line in place of the variable at the place `e`. False where a number is too large. A line without
-    /// this variable is not touched.
+    /// Substitutes the solved line `pivot` for the variable at the place `e`. A line whose cell there is 0 stays as it is. False
+    /// if a number is too large.
     pub fn substitute(&mut self, e: usize, pivot: &Line) -> bool
         requires place { e < length self.old.cells }
         requires size { length self.old.cells ≡ length pivot.now.cells }
@@ -67,7 +68,7 @@ impl Line {
         self.take_multiple(e, pivot)
     }
 
-    /// Subtracts the solved line, times the cell at `e`, from the line.
+    /// Subtracts the solved line `pivot`, times the cell at `e`, from the line. False if a number is too large.
     fn take_multiple(&mut self, e: usize, pivot: &Line) -> bool
         requires place { e < length self.old.cells }
         requires size { length self.old.cells ≡ length pivot.now.cells }
@@ -90,7 +91,7 @@ fn is_zero(fraction: &Fraction) -> bool
     fraction.num() == 0
 }
 
-/// Divides each cell. False where a number is too large; then some cells are divided.
+/// Divides each cell by `by`. False if a number is too large; then only some cells are divided.
 fn divide(cells: &mut [Fraction], by: &Fraction) -> bool
     requires { by.now.num ≢ pos 0 }
     ensures fits { result ≡ list_all (λ a. does_product_fit a (inverse by.now)) cells.old }
@@ -105,7 +106,7 @@ fn divide(cells: &mut [Fraction], by: &Fraction) -> bool
     true
 }
 
-/// Subtracts `factor` times the other cells from the cells. False where a number is too large; then some cells are
+/// Subtracts `factor` times `others` from the cells, place by place. False if a number is too large; then only some cells are
 /// changed.
 pub fn subtract(cells: &mut [Fraction], factor: &Fraction, others: &[Fraction]) -> bool
     requires { length cells.old ≡ length others.now }
@@ -124,18 +125,18 @@ pub fn subtract(cells: &mut [Fraction], factor: &Fraction, others: &[Fraction]) 
     true
 }
 
-/// Whether subtracting `factor` times `other` from the cell changes nothing, since one of the two is 0. The cell's
-/// numerator is read for its facts alone: the fraction is in lowest terms, with numbers that fit.
+/// Whether subtracting `factor` times `other` from the cell changes nothing, since one of the two is 0.
 fn is_idle(cell: &Fraction, factor: &Fraction, other: &Fraction) -> bool
     ensures { result ≡ true → IsIdle cell.now factor.now other.now }
 {
+    // This call tells the proof what the type guarantees.
     let _num = cell.num();
     let num = factor.num();
     let other_num = other.num();
     num == 0 || other_num == 0
 }
 
-/// Puts the solved line into each line. False where a number is too large.
+/// Substitutes the solved line `pivot` into each line. False if a number is too large.
 fn substitute_each(lines: &mut [Line], e: usize, pivot: &Line) -> bool
     requires place { e < length pivot.now.cells }
     requires sizes { All (λ l. length l.cells ≡ length pivot.now.cells) lines.old }
@@ -152,8 +153,8 @@ fn substitute_each(lines: &mut [Line], e: usize, pivot: &Line) -> bool
     true
 }
 
-/// The lines of a pivot: that at `r` is solved for the variable at `e`, and put into the others. False where a number is
-/// too large.
+/// Pivots the lines: line `r` is solved for the variable `entering`, which is at the place `e`, and substituted into the
+/// other lines. False if a number is too large.
 pub fn pivot_lines(lines: &mut [Line], e: usize, r: usize, entering: usize) -> bool
     requires line { r < length lines.old }
     requires place { e < length (line_at lines.old r).cells }

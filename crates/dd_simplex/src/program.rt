@@ -1,4 +1,4 @@
-//! A linear program, row by row.
+//! Linear programs.
 ghost use Rattle.std.specs.Prelude.{◌≡◌, [], ◌∷◌, ◌++◌, ◌<◌, ◌^◌, length, IfOk, OnOk, OnErr};
 ghost use lib.IntN.{pos};
 ghost use lib.Signed.{◌≤ℤ◌};
@@ -9,7 +9,7 @@ use dd_fraction::Fraction;
 use std::alloc::{AllocError, Global};
 use std::marker::Model;
 
-/// A row: the sum of coefficient times column is at most the bound.
+/// A row: the sum of coefficient times column is at most the bound. There is one coefficient for each column.
 #[derive(Debug, Drop)]
 pub struct Constraint {
     pub coefficients: Vec<Fraction>,
@@ -24,7 +24,8 @@ impl Model for Constraint {
     ghost view = { λ c. record { coefficients = c.coefficients.items; bound = c.bound } };
 }
 
-/// A linear program over columns of at least 0 that maximises column 0. Its first row is "column 0 at most a cap".
+/// A linear program: maximise column 0, with each column at least 0, under the rows. The first row is "column 0 is at most a
+/// cap".
 #[derive(Debug, Drop)]
 pub struct Program {
     columns: u32,
@@ -42,7 +43,7 @@ impl Model for Program {
 }
 
 impl Program {
-    /// The program whose one row is "column 0 at most `cap`". It has at least one column, and the cap is at least 0.
+    /// The program whose only row is "column 0 is at most `cap`". There is at least one column, and the cap is at least 0.
     ///
     /// # Errors
     /// `AllocError` if memory ran out.
@@ -64,8 +65,8 @@ impl Program {
         Ok(Program { columns, rows })
     }
 
-    /// Adds the row "the sum of coefficient times column is at most `bound`", with one coefficient for each column and a
-    /// bound of at least 0.
+    /// Adds the row "the sum of coefficient times column is at most `bound`". There is one coefficient for each column, and the
+    /// bound is at least 0.
     ///
     /// # Errors
     /// `AllocError` if memory ran out. The program is then unchanged.
@@ -94,6 +95,7 @@ impl Program {
         self.columns as usize
     }
 
+    /// The rows. The first one is that of the cap.
     pub(crate) fn rows(&self) -> &[Constraint]
         ensures { result.now ≡ self.now.rows }
     {

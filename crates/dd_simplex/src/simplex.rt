@@ -1,4 +1,4 @@
-//! The run: pivots by Bland's rule until no variable enters.
+//! The simplex method: pivots by Bland's rule until no variable may enter the basis.
 ghost use Rattle.std.specs.Prelude.{◌≡◌, IfOk, IfErr};
 ghost use Rattle.dd_simplex.specs.Programs.{IsBest};
 ghost use Rattle.dd_simplex.specs.Runs.{RunEnds, IsRunRefusal};
@@ -10,12 +10,12 @@ use crate::start::first_tableau;
 use std::alloc::{AllocError, Global};
 
 /// Maximises column 0 by Bland's rule (1977) in at most `pivots` pivots. The columns found are at least 0 and meet each
-/// row. No others give more, since the duals have the same value.
+/// row. No other columns give more, since the duals have the same value.
 ///
 /// # Errors
-/// - `Overflow` exactly if a number of the run passes 2^127 - 1 in absolute value.
+/// - `Memory` if memory ran out. Else:
+/// - `Overflow` exactly if a number of the run is greater than 2^127 - 1 in absolute value.
 /// - `Pivots` exactly if the run has not ended after that many pivots.
-/// - `Memory` if memory ran out.
 pub fn maximise(alloc: Global, program: &Program, pivots: u32) -> Result<Solved, SimplexFault>
     ensures ends { IfOk result (λ solved. RunEnds program.now pivots solved.value solved.columns solved.duals) }
     ensures best { IfOk result (λ solved. IsBest program.now solved.value solved.columns solved.duals) }
@@ -24,7 +24,7 @@ pub fn maximise(alloc: Global, program: &Program, pivots: u32) -> Result<Solved,
     let columns = program.columns();
     let mut tableau = first_tableau(alloc, program)?;
     for _ in 0..pivots {
-        if !tableau.turn()? {
+        if !tableau.iterate()? {
             return Ok(read_off(alloc, &tableau, columns)?);
         }
     }

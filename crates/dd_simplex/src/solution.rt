@@ -1,4 +1,4 @@
-//! The columns and the duals that a dictionary gives.
+//! The solution that the last dictionary of a run gives: columns and duals.
 ghost use Rattle.std.specs.Prelude.{◌≡◌, ℕ, ◌+◌, ◌<◌, ◌≤◌, length, IfOk};
 ghost use Rattle.dd_simplex.specs.table.Lines.{other_at};
 ghost use Rattle.dd_simplex.specs.table.Values.{GiveColumns, GiveDuals};
@@ -9,17 +9,21 @@ use dd_fraction::Fraction;
 use dd_values::Items;
 use std::alloc::{AllocError, Global};
 
-/// The best columns of a program, their value, and duals of the same value. Each row has a dual of at least 0. The rows
-/// times their duals sum to at least 1 in column 0 and to at least 0 in every other.
+/// The best columns of a program, and duals that prove that they are best. Each row has a dual of at least 0. The rows times
+/// their duals sum to at least 1 in column 0, and to at least 0 in every other column. The bounds times the duals sum to the
+/// value.
 #[derive(Debug, Drop)]
 pub struct Solved {
+    /// The greatest value of column 0.
     pub value: Fraction,
+    /// A value for each column.
     pub columns: Items<Fraction>,
+    /// A dual for each row.
     pub duals: Items<Fraction>,
 }
 
-/// Reads the solution off the tableau. A basic variable has its bound as value, every other one 0. A row's dual is its
-/// slack's cost with the sign changed.
+/// Reads the solution off the tableau. A basic variable has its bound as value, a nonbasic one has 0. A row's dual is the
+/// cost of its slack with the sign changed, or 0 if the slack is basic.
 pub fn read_off(alloc: Global, tableau: &Tableau, columns: usize) -> Result<Solved, AllocError>
     requires costs { length tableau.now.costs ≡ length tableau.now.others }
     requires others { (j : ℕ) → j < length tableau.now.others → other_at tableau.now.others j < columns + length tableau.now.lines }
@@ -34,6 +38,7 @@ pub fn read_off(alloc: Global, tableau: &Tableau, columns: usize) -> Result<Solv
     })
 }
 
+/// The value of each column.
 fn column_values(
     alloc: Global,
     lines: &[Line],
@@ -52,6 +57,7 @@ fn column_values(
     Ok(Items::from_vec(values))
 }
 
+/// The dual of each row.
 fn dual_values(
     alloc: Global,
     tableau: &Tableau,

@@ -1,4 +1,4 @@
-//! The dictionary of a program's start: the slacks are basic, and the objective is column 0.
+//! The first tableau of a program: the slacks are basic, and the objective is column 0.
 ghost use Rattle.std.specs.Prelude.{◌≡◌, ℕ, ◌+◌, ◌<◌, ◌≤◌, ◌^◌, length, slice_index_or, IfOk};
 ghost use Rattle.dd_fraction.specs.Checked.{IsFraction};
 ghost use Rattle.dd_simplex.specs.Programs.{fraction_at, unit, row_at};
@@ -11,7 +11,7 @@ use crate::tableau::Tableau;
 use dd_fraction::Fraction;
 use std::alloc::{AllocError, Global};
 
-/// The tableau of the start.
+/// The first tableau of a program.
 pub fn first_tableau(alloc: Global, program: &Program) -> Result<Tableau, AllocError>
     ensures { IfOk result (λ tableau. IsStart program.now tableau) }
 {
@@ -27,7 +27,7 @@ pub fn first_tableau(alloc: Global, program: &Program) -> Result<Tableau, AllocE
     })
 }
 
-/// A line for each row, whose basic variable is the row's slack.
+/// A line for each row. Its basic variable is the row's slack.
 fn slack_lines(alloc: Global, rows: &[Constraint], columns: usize) -> Result<Vec<Line>, AllocError>
     requires { columns < 2 ^ 32 }
     ensures { IfOk result (λ lines. AreLinesOf rows.now columns lines.items) }
@@ -45,7 +45,7 @@ fn slack_lines(alloc: Global, rows: &[Constraint], columns: usize) -> Result<Vec
     Ok(lines)
 }
 
-/// The same fractions.
+/// A copy of the fractions.
 fn copied(alloc: Global, fractions: &[Fraction]) -> Result<Vec<Fraction>, AllocError>
     ensures same { IfOk result (λ copy. copy.items ≡ fractions.now) }
     ensures fractions { IfOk result (λ copy. (j : ℕ) → j < length fractions.now → IsFraction (fraction_at fractions.now j)) }
@@ -57,16 +57,17 @@ fn copied(alloc: Global, fractions: &[Fraction]) -> Result<Vec<Fraction>, AllocE
     Ok(copy)
 }
 
-/// The same fraction. The numerator is read for its facts alone: the fraction is in lowest terms, with numbers that fit.
+/// The same fraction, which is known to be in lowest terms.
 fn known(fraction: &Fraction) -> Fraction
     ensures value { result ≡ fraction.now }
     ensures fraction { IsFraction fraction.now }
 {
+    // This call tells the proof what the type guarantees.
     let _num = fraction.num();
     *fraction
 }
 
-/// The first variables.
+/// The nonbasic variables of the first tableau. They are the columns, which are numbered before the slacks.
 fn variables(alloc: Global, columns: usize) -> Result<Vec<usize>, AllocError>
     ensures size { IfOk result (λ others. length others.items ≡ columns) }
     ensures each { IfOk result (λ others. (j : ℕ) → j < columns → other_at others.items j ≡ j) }
@@ -78,7 +79,7 @@ fn variables(alloc: Global, columns: usize) -> Result<Vec<usize>, AllocError>
     Ok(others)
 }
 
-/// 1 at column 0, else 0.
+/// The costs of the first objective: 1 at column 0, and 0 elsewhere.
 fn first_unit(alloc: Global, columns: usize) -> Result<Vec<Fraction>, AllocError>
     requires { 0 < columns }
     ensures size { IfOk result (λ costs. length costs.items ≡ columns) }

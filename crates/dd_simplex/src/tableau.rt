@@ -1,4 +1,5 @@
-//! A dictionary as the run keeps it: its lines, its other variables and the objective.
+//! The tableau: a dictionary as the run keeps it. It has a line for each basic variable, a list of the nonbasic variables,
+//! and the objective.
 ghost use Rattle.std.specs.Prelude.{◌≡◌, ◌≢◌, ◌<◌, true, false, length, Option, Some, None, ℕ, MatchResult, IfOk, IfErr, slice_set};
 ghost use Rattle.std.specs.List.{All};
 ghost use lib.IntN.{pos};
@@ -7,7 +8,7 @@ ghost use Rattle.dd_fraction.specs.Exact.{plus, times};
 ghost use Rattle.dd_simplex.specs.Programs.{fraction_at, zero_of};
 ghost use Rattle.dd_simplex.specs.table.Lines.{HasFractions, Line as LineValue, Table, line_at, changed_table, does_table_fit, does_objective_line_fit, less};
 ghost use Rattle.dd_simplex.specs.table.Standing.{IsTable};
-ghost use Rattle.dd_simplex.specs.table.Steps.{DoesEnter, HasTurned, IsStuck};
+ghost use Rattle.dd_simplex.specs.table.Steps.{DoesEnter, HasIterated, IsStuck};
 ghost use Rattle.dd_simplex.specs.table.Choices.{IsChosen, does_enter, EntersBefore, does_limit, LeavesBefore, DoRatiosFit, HasMisfit, does_precede};
 
 use crate::fault::SimplexFault;
@@ -16,7 +17,8 @@ use dd_fraction::Fraction;
 use std::cmp::Ordering;
 use std::marker::Model;
 
-/// The lines of the basic variables and the objective `value + sum of cost times variable`, in terms of the others.
+/// A line for each basic variable, and the objective `value + sum of cost times variable`, in terms of the nonbasic variables
+/// `others`. A variable's place is its index in `others`. Its cost, and its cell in each line, have the same index.
 #[derive(Drop)]
 pub struct Tableau {
     pub lines: Vec<Line>,
@@ -34,19 +36,21 @@ impl Model for Tableau {
 }
 
 impl Tableau {
-    /// One turn by Bland's rule: true where a pivot was made, false where the tableau is at its end. Overflow where a
-    /// number is too large; then the tableau is half changed.
-    pub fn turn(&mut self) -> Result<bool, SimplexFault>
+    /// One iteration by Bland's rule: true if a pivot was made, false if no variable may enter.
+    ///
+    /// # Errors
+    /// `Overflow` if a number is too large. The tableau is then of no more use.
+    pub fn iterate(&mut self) -> Result<bool, SimplexFault>
         requires { IsTable self.old }
         ensures end { IfOk result (λ more. more ≡ false → DoesEnter self.old None × (self.new ≡ self.old)) }
-        ensures turned { IfOk result (λ more. more ≡ true → HasTurned self.old self.new) }
+        ensures iterated { IfOk result (λ more. more ≡ true → HasIterated self.old self.new) }
         ensures stuck { IfErr result (λ fault. (fault ≡ Overflow) × IsStuck self.old) }
     {
         let Some(e) = entering(self.costs.as_slice(), self.others.as_slice()) else {
             return Ok(false)
         };
         let Some(r) = leaving(self.lines.as_slice(), e)? else {
-            // Never in a run, since the first row limits column 0.
+            // This never happens in a run, since the first row limits column 0.
             return Err(SimplexFault::Overflow)
         };
         if !self.pivot(e, r) {
@@ -55,7 +59,7 @@ impl Tableau {
         Ok(true)
     }
 
-    /// Whether no variable enters.
+    /// Whether no variable may enter.
     pub fn is_at_end(&self) -> bool
         requires { IsTable self.now }
         ensures end { result ≡ true → DoesEnter self.now None }
@@ -64,8 +68,8 @@ impl Tableau {
         entering(self.costs.as_slice(), self.others.as_slice()).is_none()
     }
 
-    /// Makes the variable at the place `e` basic in the line `r`. False where a number is too large; then the tableau is
-    /// half changed.
+    /// Makes the variable at the place `e` basic in the line `r`. False if a number is too large; then the tableau is of no
+    /// more use.
     pub fn pivot(&mut self, e: usize, r: usize) -> bool
         requires fractions { All HasFractions self.old.lines }
         requires line { r < length self.old.lines }
@@ -91,7 +95,7 @@ impl Tableau {
     }
 }
 
-/// Puts the solved line into the objective. False where a number is too large.
+/// Substitutes the solved line `pivot` into the objective. False if a number is too large.
 fn pivot_objective(value: &mut Fraction, costs: &mut [Fraction], e: usize, pivot: &Line) -> bool
     requires place { e < length costs.old }
     requires size { length costs.old ≡ length pivot.now.cells }
@@ -111,7 +115,7 @@ fn pivot_objective(value: &mut Fraction, costs: &mut [Fraction], e: usize, pivot
     subtract(costs, &factor, pivot.cells.as_slice())
 }
 
-/// The place of the least variable whose cost is over 0.
+/// The variable that enters: the place of the least variable whose cost is greater than 0, or `None` if there is none.
 pub fn entering(costs: &[Fraction], others: &[usize]) -> Option<usize>
     requires { length costs.now ≡ length others.now }
     ensures { IsChosen (does_enter costs.now) (EntersBefore others.now) (length costs.now) result }
@@ -129,8 +133,11 @@ pub fn entering(costs: &[Fraction], others: &[usize]) -> Option<usize>
     chosen
 }
 
-/// Of the lines whose cell at `e` is over 0, the one with the least ratio of bound to cell, and of equal ratios the one
-/// with the least variable. Overflow where a number of a ratio is too large.
+/// The line whose variable leaves: of the lines whose cell at `e` is greater than 0, the one with the least ratio of bound to
+/// cell. Among equal ratios it is the one with the least basic variable. `None` if there is no such line.
+///
+/// # Errors
+/// `Overflow` if a number of a ratio is too large.
 pub fn leaving(lines: &[Line], e: usize) -> Result<Option<usize>, SimplexFault>
     requires sizes { All (λ (l : LineValue). e < length l.cells) lines.now }
     ensures line { MatchResult result
@@ -161,7 +168,7 @@ pub fn leaving(lines: &[Line], e: usize) -> Result<Option<usize>, SimplexFault>
     Ok(chosen)
 }
 
-/// Whether the first ratio is smaller, or the ratios are equal and its variable is the smaller one.
+/// Whether the first ratio is smaller, or the ratios are equal and the first variable is smaller.
 fn precedes(ratio: &Fraction, variable: usize, other: &Fraction, other_variable: usize) -> bool
     ensures { result ≡ does_precede ratio.now variable other.now other_variable }
 {

@@ -1,4 +1,4 @@
--- The learned steps are a derivation, and later steps may use a learned clause as a hint.
+-- Each learned step is right after those before it, and later steps may hint at its clause.
 use Rattle.std.proofs.Common.{◌≡◌, ℕ, suc, ◌+◌, Bool, true, ◌&&◌, List, [], ◌∷◌, ◌++◌, Option, Some, None, refl, ◌∙◌, subst, length, get_or, take, inl, inr, arith}
 use Rattle.std.proofs.lemmas.{Bool.and_parts, Bool.and_from, Bool.or_right, Bool.leb-true, List.length-append}
 use Rattle.std.proofs.lemmas.List.Elements.{All-cons, All-nil}
@@ -20,7 +20,7 @@ pub length-through : (before : Known) (steps : List Step) → length (known_thro
 length-through before [] = omega arith
 length-through before (x ∷ steps) = length-through (after_step before x) steps ∙ omega (arith, length-after before x.deletes, length-append (known_after before x.deletes) (Some x.clause ∷ []))
 
--- a step keeps the clauses that forced the trail's entries
+-- a trail stays one after a step, as the step keeps the clauses that forced the entries
 pub trail_after : (n : ℕ) (known : Known) (first : ℕ) (trail : List Entry) (s : Step) → IsTrail n known trail → MayDelete known first trail s.deletes → IsTrail n (after_step known s) trail
 trail_after n known first trail s ok m k d h =
     let e = ok k d h in
@@ -33,7 +33,7 @@ trail_after n known first trail s ok m k d h =
         let w = hint_clause known p r (Forced (get_or trail k d).literal) (λ x. cc) f in
         at_clause (after_step known s) p r w.0 (known_left (known_after known s.deletes) s.clause w.0 r (m.reasons_stay k r d h q ∙ w.1)) ∙ w.2
 
--- the finding for the newest clause
+-- the number after the last one finds what the newest clause says
 pub hint_new : (known : Known) (c : List Literal) (p : Literal → Bool) (r : ℕ) → r ≡ suc (length known) → hint_finding (known ++ Some c ∷ []) p r ≡ finding p c
 hint_new known c p r e = at_clause (known ++ Some c ∷ []) p r c (known_last known c r e)
 
@@ -55,14 +55,14 @@ right_from n known s r d =
     let q = and_parts (is_proper n s.clause) (is_conflict known s.clause s.hints) r in
     rw (q.0, q.1, d) refl
 
--- the learned steps and one more are a derivation
+-- with one more right step, all learned steps are still right
 pub derived_more : (n : ℕ) (before : Known) (steps : List Step) (s : Step) → is_derived n before steps ≡ true → is_right n (known_through before steps) s ≡ true → is_derived n before (steps ++ s ∷ []) ≡ true
 derived_more n before [] s h r = rw r refl
 derived_more n before (x ∷ steps) s h r =
     let q = and_parts (is_right n before x) (is_derived n (after_step before x) steps) h in
     and_from _ _ q.0 (derived_more n (after_step before x) steps s q.1 r)
 
--- a derivation whose last clause is empty refutes
+-- right steps of which the last has the empty clause refute the clauses
 pub refutes_last : (n : ℕ) (before : Known) (steps : List Step) (s : Step) → is_derived n before steps ≡ true → is_right n (known_through before steps) s ≡ true → s.clause ≡ [] → refutes_from n before (steps ++ s ∷ []) ≡ true
 refutes_last n before [] s h r e =
     let b : is_empty s.clause ≡ true = rw e refl in

@@ -59,7 +59,7 @@ forced_from p c l f = go (left_of p c) (in_left_of p c l f.member f.not_false) (
         let s : list_all (same_literal l) rest ≡ true = all_same l rest (λ x j. a x (or_right _ _ j)) in
         rw (e, s, f.not_true) refl
 
--- what is found for a number is found for its clause
+-- a number that finds something has a clause that says so
 pub hint_clause : (known : List (Option (List Literal))) (p : Literal → Bool) (r : ℕ) (f : Finding) → (f ≡ Open → ⊥) → hint_finding known p r ≡ f → (c : List Literal) × (clause_of known r ≡ Some c) × (finding p c ≡ f)
 hint_clause known p r f n h = go (clause_of known r) refl h
   where

@@ -17,7 +17,7 @@ is_empty-map : {X Y : Type 0} (f : X → Y) (xs : List X) → is_empty (map f xs
 is_empty-map f [] = refl
 is_empty-map f (x ∷ xs) = refl
 
--- hints under new numbers of the same clauses end in the same conflict
+-- hints with new numbers for the same clauses end in a conflict too
 conflict_renamed : (old new : Known) (rename : ℕ → ℕ) (falses : List Literal) (hints : List ℕ) → ((h : ℕ) (x : List Literal) → is_hint h hints ≡ true → clause_of old h ≡ Some x → clause_of new (rename h) ≡ Some x) → is_conflict old falses hints ≡ true → is_conflict new falses (map rename hints) ≡ true
 conflict_renamed old new rename falses [] a h = h
 conflict_renamed old new rename falses (n ∷ hints) a h = go (λ l e. conflict_renamed old new rename (negation l ∷ falses) hints rest e) (clause_of old n) refl h
@@ -38,7 +38,7 @@ conflict_renamed old new rename falses (n ∷ hints) a h = go (λ l e. conflict_
         let s : clause_of new (rename n) ≡ Some x = a n x (or_left _ _ (eq-eqb n n refl)) e in
         rw s (next more (finding (is_among falses) x) f)
 
--- a marked step has this number as a hint
+-- some marked step has this number as a hint
 abbrev pub hinted_by : ℕ → List Bool → List Step → Bool
 hinted_by number [] steps = false
 hinted_by number (m ∷ marked) [] = false

@@ -1,5 +1,5 @@
--- The walk along the trail. From the literals that may be false at a place, the hints so far lead to a conflict. At
--- the bottom these are the learned clause's literals, so the hints show that it follows. It holds whatever is kept or
+-- The walk down the trail. At each place, the hints so far lead to a conflict from the literals that may be false there. At the
+-- bottom these are the learned clause's literals, so the hints show that it follows. This holds whatever is kept or
 -- resolved.
 use Rattle.std.proofs.Common.{◌≡◌, ℕ, ◌+◌, ◌<◌, ◌≤◌, Bool, true, false, not, ◌&&◌, List, [], ◌∷◌, ◌++◌, Option, Some, None, refl, ap, sym, ◌∙◌, subst, length, get_or, take, eqb, inl, inr, ◌⊎◌, arith}
 use Rattle.std.proofs.lemmas.Bool.{and_parts, and_from, or_cases, or_left, or_right, not-true, false≢true, false_from_ne_true, cases_eq, le-leb, ne_eqb}
@@ -32,14 +32,14 @@ Leads known trail i marked learned hints =
 abbrev pub AreFrom : List Entry → ℕ → List Literal → Type 0
 AreFrom trail i learned = (x : Literal) → In learned x → (k : ℕ) × (i ≤ k) × (k < length trail) × ((d : Entry) → negation (get_or trail k d).literal ≡ x)
 
--- the variables of a numbered clause are marked
+-- the variables of the clause of this number are marked
 abbrev pub Covers : List (Option (List Literal)) → List Bool → ℕ → Type 0
 Covers known marked r = (c : List Literal) → clause_of known r ≡ Some c → (x : Literal) → In c x → marks marked x ≡ true
 
 pub covers_from : (known : List (Option (List Literal))) (marked : List Bool) (r : ℕ) → IsMarkedClause known marked r → Covers known marked r
 covers_from known marked r h c e = let m : AreMarked marked c = subst (λ (o : Option (List Literal)). MatchOption o ⊤ (AreMarked marked)) e h in m
 
--- the variables of the conflict's clause are marked
+-- at the top, where the variables of the conflict's clause are marked, its number alone leads to a conflict
 pub leads_conflict : (known : List (Option (List Literal))) (trail : List Entry) (marked : List Bool) (r : ℕ) → hint_finding known (is_among (falses trail)) r ≡ Falsified → Covers known marked r → Leads known trail (length trail) marked [] (r ∷ [])
 leads_conflict known trail marked r h m start s =
     let q = hint_clause known (is_among (falses trail)) r Falsified (λ e. cc) h in
@@ -53,7 +53,7 @@ leads_conflict known trail marked r h m start s =
 below_or_at : (k j : ℕ) → k < j + 1 → (k < j) ⊎ (k ≡ j)
 below_or_at k j h = elim (cases_eq k j) [ inl e ↦ inr e | inr n ↦ inl (omega arith) ]
 
--- the case of an entry that is not marked
+-- the walk goes past an entry that is not marked
 pub leads_past : (known : List (Option (List Literal))) (trail : List Entry) (j : ℕ) (d : Entry) (marked : List Bool) (learned : List Literal) (hints : List ℕ) → j < length trail → marks marked (get_or trail j d).literal ≡ false → Leads known trail (j + 1) marked learned hints → Leads known trail j marked learned hints
 leads_past known trail j d marked learned hints l u leads start s = leads start (record {
   within = λ x i. elim (s.within x i) [ inl a ↦ inl (rw (falses-more trail j d l) (in_left _ _ x a)) | inr a ↦ inr a ];
@@ -64,7 +64,7 @@ leads_past known trail j d marked learned hints l u leads start s = leads start 
   ];
 })
 
--- the case of an entry whose literal is kept
+-- the walk keeps an entry
 pub leads_kept : (known : List (Option (List Literal))) (trail : List Entry) (j : ℕ) (d : Entry) (marked : List Bool) (learned : List Literal) (hints : List ℕ) → j < length trail → Leads known trail (j + 1) marked learned hints → Leads known trail j marked (learned ++ negation (get_or trail j d).literal ∷ []) hints
 leads_kept known trail j d marked learned hints l leads start s =
     let here : In (falses (take (j + 1) trail)) (negation (get_or trail j d).literal) = rw (falses-more trail j d l) (in_right (falses (take j trail)) _ _ (in_here [] (negation (get_or trail j d).literal))) in
@@ -85,7 +85,7 @@ leads_kept known trail j d marked learned hints l leads start s =
     })
 
 module _ (n : ℕ) (known : List (Option (List Literal))) (trail : List Entry) (ok : IsTrail n known trail) where
-  -- the hints begin with no literal of an entry's variable
+  -- no literal of the entry's variable is among those with which the hints begin
   new_variable : (j : ℕ) (d : Entry) (marked : List Bool) (learned start : List Literal) (x : Literal) → j < length trail → AreFrom trail (j + 1) learned → Start trail j marked learned start → x.variable ≡ (get_or trail j d).literal.variable → is_among start x ≡ false
   new_variable j d marked learned start x l later s v = false_from_ne_true (is_among start x) (λ i. elim (s.within x i) [
     | inl a ↦ (let w = in_falses_take trail j x (omega arith) a in
@@ -94,7 +94,7 @@ module _ (n : ℕ) (known : List (Option (List Literal))) (trail : List Entry) (
         apart n known trail ok j w.0 d (omega arith) w.2 (sym (ap (λ (y : Literal). y.variable) (w.3 d) ∙ v)))
   ])
 
-  -- the case of an entry that is resolved with the clause that forced it
+  -- the walk resolves an entry with the clause that forced it
   pub leads_forced : (j : ℕ) (d : Entry) (marked marked' : List Bool) (learned : List Literal) (hints : List ℕ) (r : ℕ) → j < length trail → (get_or trail j d).reason ≡ Some r → AreFrom trail (j + 1) learned → Grows marked marked' → Covers known marked' r → Leads known trail (j + 1) marked learned hints → Leads known trail j marked' learned (r ∷ hints)
   leads_forced j d marked marked' learned hints r l reason later grows covers leads start s =
       let e = get_or trail j d in

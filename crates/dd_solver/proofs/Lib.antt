@@ -2,7 +2,7 @@ pub mod Forcing
 pub mod Trails
 pub mod Numbers
 pub mod Leads
-pub mod Turns
+pub mod Backjumps
 pub mod Walk
 pub mod Rises
 pub mod Derived

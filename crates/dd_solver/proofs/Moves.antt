@@ -13,7 +13,7 @@ use Rattle.dd_derivation.specs.Derivations.{same_literal, is_among, has_variable
 use Rattle.dd_derivation.specs.{checking.MarksOf.known_of, lemmas.Soundness.same_literal-eq, lemmas.Soundness.all_false}
 use Rattle.dd_derivation.specs.lemmas.{Falses.same_variable, Findings.In, Findings.forces_from, Numbers.length-before}
 use Rattle.dd_trail.specs.{declared.trail.Entry.Entry, Trails.falses, lemmas.Trails.in-has_variable}
-use Rattle.dd_solver.specs.declared.analysis.Turn.{Turn}
+use Rattle.dd_solver.specs.declared.analysis.Backjump.{Backjump}
 use Rattle.dd_solver.specs.searching.Reasons.{all_known, AreInRange, EntryOk}
 use Rattle.dd_solver.specs.searching.{Analysis.is_rightly_learned, Analysis.Asserts, Deleting.MayDelete}
 use Rattle.dd_solver.specs.searching.Search.{State, after_step, known_through, known, IsSearch, AreAlive, AreOpen, GoesOn}
@@ -66,7 +66,7 @@ module _ (n : ℕ) (cs : List (List Literal)) (steps : List Step) (trail : List 
   pub search_front : (p : ℕ) → IsSearch (record { variables = n; clauses = cs; steps = steps; entries = take p trail })
   search_front p = record { in_range = s.in_range; given = s.given; trail = trail_front n (known_through (all_known cs) steps) trail p s.trail; derived = s.derived }
 
-  -- the search after a learned step that deletes only what it may
+  -- the invariant holds after a learned step that deletes only what it may
   pub search_learned : (t : Step) → is_rightly_learned n (known_through (all_known cs) steps) t.clause t.hints ≡ true → MayDelete (known_through (all_known cs) steps) (length cs) trail t.deletes → IsSearch (record { variables = n; clauses = cs; steps = steps ++ t ∷ []; entries = trail })
   search_learned t r m =
       let before = known_through (all_known cs) steps in
@@ -81,7 +81,7 @@ module _ (n : ℕ) (cs : List (List Literal)) (steps : List Step) (trail : List 
       }
 
   -- the new step forces a literal, or the steps refute the clauses
-  pub goes_on : (t : Step) (turn : Option Turn) → is_rightly_learned n (known_through (all_known cs) steps) t.clause t.hints ≡ true → MayDelete (known_through (all_known cs) steps) (length cs) trail t.deletes → MatchOption turn (t.clause ≡ []) (Asserts trail t.clause) → GoesOn (record { variables = n; clauses = cs; steps = steps ++ t ∷ []; entries = trail }) turn
+  pub goes_on : (t : Step) (backjump : Option Backjump) → is_rightly_learned n (known_through (all_known cs) steps) t.clause t.hints ≡ true → MayDelete (known_through (all_known cs) steps) (length cs) trail t.deletes → MatchOption backjump (t.clause ≡ []) (Asserts trail t.clause) → GoesOn (record { variables = n; clauses = cs; steps = steps ++ t ∷ []; entries = trail }) backjump
   goes_on t None r m e = refutes_last n (all_known cs) steps t s.derived (right_from n (known_through (all_known cs) steps) t r m.deletable) e
   goes_on t (Some u) r m e =
       let before = known_through (all_known cs) steps in
@@ -92,7 +92,7 @@ module _ (n : ℕ) (cs : List (List Literal)) (steps : List Step) (trail : List 
         forces = rw (through_more (all_known cs) steps t) (hint_new (known_after before t.deletes) t.clause (is_among (falses (take u.place trail))) _ l ∙ e.forces);
       }
 
--- at first each clause is known
+-- the invariant holds at first
 pub search_first : (n : ℕ) (cs : List (List Literal)) → All (IsClauseInRange n) cs → IsSearch (record { variables = n; clauses = cs; steps = []; entries = [] })
 search_first n cs a = record {
   in_range = λ r c e. holds_of_clause (IsClauseInRange n) cs r c a e;
@@ -119,7 +119,7 @@ alive_more cs steps alive after s ok l a d =
       same = rw (before-more cs steps s) (a (before ++ s.clause ∷ []) ∙ ap (λ (ys : Known). known_after ys s.deletes) p ∙ after_push known (Some s.clause) s.deletes d' ∙ ap (λ (ys : Known). after_step ys s) ok.same ∙ sym (through_more (all_known cs) steps s));
     }
 
--- values that leave no clause falsified satisfy the clauses
+-- the values of a full trail satisfy the clauses if no clause is falsified
 pub values_satisfy : (s : State) (values : List Bool) → IsSearch s → AreOpen s → ((v : ℕ) → 1 ≤ v → v ≤ s.variables → has_variable v (falses s.entries) ≡ true) → ((v : ℕ) → 1 ≤ v → v ≤ s.variables → true_variables values v ≡ is_among (falses s.entries) (record { variable = v; positive = false })) → Satisfies (true_variables values) s.clauses
 values_satisfy s values ok open' full value k d h =
     let c = get_or s.clauses k d in

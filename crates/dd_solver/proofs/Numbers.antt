@@ -1,4 +1,4 @@
--- The clauses by number.
+-- Lemmas on clauses and their numbers.
 use Rattle.std.proofs.Common.{◌≡◌, ℕ, zero, suc, ◌<◌, Bool, true, cond, List, [], ◌∷◌, ◌++◌, map, Option, Some, None, is_some, refl, ap, sym, ◌∙◌, subst, length, inl, inr, ◌⊎◌, arith}
 use Rattle.std.proofs.lemmas.Bool.{and_parts, and_from, false≢true}
 use Rattle.std.proofs.lemmas.List.{map-append, append_assoc}
@@ -13,7 +13,7 @@ use Rattle.dd_solver.specs.searching.Reasons.{all_known}
 abbrev pub Known : Type 0
 Known = List (Option (List Literal))
 
--- a known clause, by its place
+-- ---- known clauses by index, from 0
 
 abbrev at : Known → ℕ → Option (List Literal)
 at known k = option_and_then (λ c. c) (slice_get known k)
@@ -45,7 +45,7 @@ less_at (o ∷ known) x zero (suc k) h = h
 less_at (o ∷ known) x (suc d) zero h = h
 less_at (o ∷ known) x (suc d) (suc k) h = less_at known x d k h
 
--- a known clause, by its number
+-- ---- known clauses by number, from 1
 
 pub known_push : (known : Known) (c x : List Literal) (h : ℕ) → clause_of (known ++ Some c ∷ []) h ≡ Some x → (clause_of known h ≡ Some x) ⊎ ((h ≡ suc (length known)) × (c ≡ x))
 known_push known c x zero e = absurd (cc)
@@ -92,7 +92,7 @@ past_none known h l = go (clause_of known h) refl
     go None e = e
     go (Some x) e = let w = known_within known x h e in absurd (omega arith)
 
--- the clauses of a list, none of them deleted
+-- ---- the clauses of a list, none of them deleted
 
 all_at : (cs : List (List Literal)) (k : ℕ) → at (all_known cs) k ≡ slice_get cs k
 all_at [] k = refl
@@ -106,14 +106,14 @@ pub length-all : (cs : List (List Literal)) → length (all_known cs) ≡ length
 length-all [] = refl
 length-all (c ∷ cs) = ap suc (length-all cs)
 
--- what holds for each clause holds for the clause with a number
+-- what holds for each clause of a list holds for the clause of each number
 pub holds_of_clause : (P : List Literal → Type 0) (cs : List (List Literal)) (n : ℕ) (c : List Literal) → All P cs → clause_of (all_known cs) n ≡ Some c → P c
 holds_of_clause P cs zero c a h = absurd (cc)
 holds_of_clause P cs (suc k) c a h =
     let g : slice_get cs k ≡ Some c = sym (all_at cs k) ∙ h in
     subst P (get_or_from_slice_get cs k c c g) (a k c (slice_get_within cs k c g))
 
--- the clauses that are alive
+-- ---- the clauses that are alive
 
 pub before-more : (cs : List (List Literal)) (steps : List Step) (s : Step) → clauses_before cs (steps ++ s ∷ []) ≡ clauses_before cs steps ++ s.clause ∷ []
 before-more cs steps s = ap (λ (ys : List (List Literal)). cs ++ ys) (map-append (λ x. x.clause) steps (s ∷ [])) ∙ sym (append_assoc cs (map (λ x. x.clause) steps) (s.clause ∷ []))
@@ -128,7 +128,7 @@ pub all_alive : (cs : List (List Literal)) → known_of cs (replicate (length cs
 all_alive [] = refl
 all_alive (c ∷ cs) = ap (λ (ys : Known). Some c ∷ ys) (all_alive cs)
 
--- deletion, with one more number or one more clause
+-- ---- deletion, with one more number or one more clause
 
 some_set : (known : Known) (o : Option (List Literal)) (k : ℕ) → is_some (at known k) ≡ true → slice_set (known ++ o ∷ []) k None ≡ slice_set known k None ++ o ∷ []
 some_set [] o k h = absurd (false≢true h)

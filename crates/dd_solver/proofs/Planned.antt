@@ -1,4 +1,4 @@
--- The marks and the new numbers are all that the refutation by the marked steps needs.
+-- The marks and the new numbers fit together as `Kept` needs it, so the marked steps refute the clauses.
 use Rattle.std.proofs.Common.{◌≡◌, ℕ, zero, suc, ◌+◌, ◌-◌, ◌<◌, Bool, true, false, cond, ◌||◌, List, [], ◌∷◌, refl, ap, sym, ◌∙◌, subst, length, get_or, drop, leb, inl, inr, ◌⊎◌, arith}
 use Rattle.std.proofs.lemmas.Bool.{or_left, or_right, and_from, false≢true, le-leb, lt-leb, cases_lt}
 use Rattle.std.proofs.lemmas.List.{get_or-drop, length-drop}
@@ -10,7 +10,7 @@ use Rattle.dd_trail.specs.lemmas.Trails.{get_any}
 use Rattle.dd_solver.proofs.Kept.{Agree, hinted_by, IsPlanned, Plan, refutes_kept, used_kept}
 use Rattle.dd_solver.proofs.Numbers.{known_within, length-all}
 
--- `IsPlanned`, stated by places
+-- the facts of `IsPlanned`, stated for each index of the lists
 record Facts (keep : ℕ → Bool) (rename : ℕ → ℕ) (next last : ℕ) (marked : List Bool) (steps : List Step) : Type 0 where
   same : (k : ℕ) → k < length marked → keep (next + k) ≡ get_or marked k false
   number : (k : ℕ) → k < length marked → rename (next + k) ≡ get_or (numbers_from last marked) k 0

@@ -1,4 +1,4 @@
--- The search ends: the trail's number is below 3 ^ n, and rises at each propagation, decision and return.
+-- The search ends: the trail's number is below 3 ^ n, and rises at each propagation, decision and backjump.
 use Rattle.std.proofs.Common.{◌≡◌, ℕ, zero, suc, ◌-◌, ◌*◌, ◌^◌, ◌<◌, Bool, true, false, List, [], ◌∷◌, ◌++◌, length, refl, sym, arith, take, drop, get_or, take-append-drop, drop-cons, ap, ◌∙◌}
 use Rattle.std.proofs.{lemmas.List.map-append, Math.Nat.pow-succ'}
 use Rattle.std.specs.Option.{is_none}
@@ -19,7 +19,7 @@ number_below zero (d ∷ ds) = omega arith
 number_below (suc n) (true ∷ ds) = rw (three n) (omega (arith, number_below n ds))
 number_below (suc n) (false ∷ ds) = rw (three n) (omega (arith, number_below n ds))
 
--- the number rises with one place more
+-- the number rises when an entry is added
 number_rises : (n : ℕ) (ds : List Bool) (d : Bool) → length ds < n → trail_number n ds < trail_number n (ds ++ d ∷ [])
 unfolding trail_number
 number_rises zero ds d h = absurd (omega arith)
@@ -27,7 +27,7 @@ number_rises (suc n) [] true h = omega (arith, positive n)
 number_rises (suc n) [] false h = omega (arith, positive n)
 number_rises (suc n) (x ∷ ds) d h = omega (arith, number_rises n ds d (omega arith))
 
--- the number rises if a decided place becomes a propagated one and the places after it are dropped
+-- the number rises when a decided entry becomes a forced one and the entries after it are dropped
 number_rises-return : (n : ℕ) (ds es : List Bool) → length ds < n → trail_number n (ds ++ true ∷ es) < trail_number n (ds ++ false ∷ [])
 unfolding trail_number
 number_rises-return zero ds es h = absurd (omega arith)
@@ -53,8 +53,8 @@ push_falls n trail e h =
     let s : length (decisions trail) < n = rw (length-decisions trail) h in
     falls n trail (trail ++ e ∷ []) (rw (decisions-append trail (e ∷ [])) (number_rises n (decisions trail) (is_none e.reason) s))
 
-pub return_falls : (n : ℕ) (trail : List Entry) (p : ℕ) (d e : Entry) → length (take p trail) < n → p < length trail → is_none (get_or trail p d).reason ≡ true → is_none e.reason ≡ false → room n (take p trail ++ e ∷ []) < room n trail
-return_falls n trail p d e l h decided forced =
+pub backjump_falls : (n : ℕ) (trail : List Entry) (p : ℕ) (d e : Entry) → length (take p trail) < n → p < length trail → is_none (get_or trail p d).reason ≡ true → is_none e.reason ≡ false → room n (take p trail ++ e ∷ []) < room n trail
+backjump_falls n trail p d e l h decided forced =
     let front = take p trail in
     let back = drop (suc p) trail in
     let whole : trail ≡ front ++ get_or trail p d ∷ back = sym (take-append-drop p trail) ∙ ap (λ (x : List Entry). front ++ x) (drop-cons trail p d h) in

@@ -1,4 +1,4 @@
--- A trail whose literals were decided or are forced. It stays one if an entry is added or the trail is cut.
+-- The trail is right: its literals were decided or are forced. It stays right when an entry is added or the trail is cut.
 use Rattle.std.proofs.Common.{◌≡◌, ℕ, ◌<◌, true, List, [], ◌∷◌, ◌++◌, Option, sym, ◌∙◌, subst, length, get_or, take, inl, inr, arith}
 use Rattle.std.proofs.lemmas.Bool.{cases_eq, false≢true}
 use Rattle.std.proofs.lemmas.List.{take-append-le, length-append, length-take, get_or-take, get_or_append_left}

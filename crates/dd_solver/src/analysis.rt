@@ -1,8 +1,8 @@
 //! The clause learned from a conflict: that of the first unique implication point (Marques-Silva and Sakallah 1999).
 //! The trail is walked down from the conflict. An entry whose variable is marked is resolved or kept. If it is
 //! resolved, the variables of the clause that forced it are marked too. If it is kept, its negation goes into the
-//! learned clause. Either way the numbers of the resolved clauses are hints that show that the learned clause
-//! follows. So no contract says what is best to keep.
+//! learned clause. Whatever is kept, the numbers of the conflict's clause and of the resolved clauses are hints that
+//! show that the learned clause follows. So no contract says what is best to keep.
 ghost use Rattle.std.specs.Prelude.{◌≡◌, ℕ, ◌<◌, ◌≤◌, true, [], length, IfOk, MatchOption, slice_index_or, ⊤};
 ghost use Rattle.dd_clause.specs.Clauses.{IsLiteralInRange, IsClauseInRange};
 ghost use Rattle.dd_derivation.specs.declared.propagation.Finding.TheVariants.{Falsified};
@@ -10,40 +10,44 @@ ghost use Rattle.dd_derivation.specs.Derivations.{hint_finding, is_among};
 ghost use Rattle.dd_trail.specs.declared.trail.Entry.{Entry};
 ghost use Rattle.dd_trail.specs.Trails.{falses};
 ghost use Rattle.dd_solver.specs.searching.Reasons.{IsTrail, AreInRange};
-ghost use Rattle.dd_solver.specs.searching.Analysis.{Grows, AreMarked, IsMarkedClause, is_rightly_learned, IsPlace, IsTurn, ChoiceSays, Asserts};
+ghost use Rattle.dd_solver.specs.searching.Analysis.{Grows, AreMarked, IsMarkedClause, is_rightly_learned, IsPlace, IsBackjump, ChoiceSays, Asserts};
 
 use dd_clause::Literal;
 use dd_trail::{Database, Entry, Order, Style, Trail};
 use std::alloc::{AllocError, Global};
 
-/// A place of the trail to return to, where a decision stands, and the literal that is forced there.
+/// Where the search goes back to: the place of a decision on the trail, and the literal that the learned clause forces once
+/// the entries from that place on are taken back.
 #[derive(Clone, Copy)]
-pub(crate) struct Turn {
+pub(crate) struct Backjump {
     pub place: usize,
     pub literal: Literal,
 }
 
-/// The literals of the learned clause, and its hints. An empty clause has no turn.
+/// The literals of the learned clause, its hints, and where the search goes back to. An empty clause has no backjump.
 #[derive(Drop)]
 pub(crate) struct Learned {
     pub literals: Vec<Literal>,
     pub hints: Vec<u64>,
-    pub turn: Option<Turn>,
+    pub backjump: Option<Backjump>,
 }
 
-/// What to do with an entry: resolve it with the clause with this number, or keep it. The first one kept makes the turn.
+/// What to do with a marked entry: resolve it with the clause of this number, which forced it, or keep it. The first entry kept
+/// determines the backjump.
 #[derive(Clone, Copy)]
 pub(crate) enum Choice {
     Resolve(u64),
-    Keep(Turn),
+    Keep(Backjump),
 }
 
+/// Whether the literal's variable is marked. The variable k has the mark at index k - 1.
 fn is_marked(marked: &[bool], literal: Literal) -> bool {
     let variable = literal.variable as usize;
     variable >= 1 && variable <= marked.len() && marked[variable - 1]
 }
 
-/// Marks the variables of the literals. Counts the newly marked ones that got their values since the last decision.
+/// Marks the variables of the literals. Returns how many of the newly marked ones are latest: they got their values by the last
+/// decision or since.
 fn mark_literals(trail: &Trail, marked: &mut [bool], literals: &[Literal]) -> usize
     requires { IsClauseInRange (length marked.old) literals.now }
     ensures grows { Grows marked.old marked.new }
@@ -71,7 +75,7 @@ fn mark_clause(database: &Database, trail: &Trail, marked: &mut [bool], number: 
     }
 }
 
-/// Whether all other literals of the clause are marked, so that resolving with it adds nothing.
+/// Whether all variables of the clause but that of `literal` are marked, so that resolving with it adds nothing.
 fn adds_nothing(database: &Database, marked: &[bool], number: u64, literal: Literal) -> bool {
     let Some(literals) = database.find_clause(number) else {
         return false;
@@ -84,7 +88,7 @@ fn adds_nothing(database: &Database, marked: &[bool], number: u64, literal: Lite
     true
 }
 
-/// The lowest decision at or below a place with nothing marked between.
+/// The place of the earliest decision, at or before `top`, such that no entry from it to before `top` is marked.
 fn find_place(entries: &[Entry], marked: &[bool], top: usize) -> Option<usize>
     requires top { top < length entries.now }
     requires in_range { (k : ℕ) (d : Entry) → k < length entries.now → IsLiteralInRange (length marked.now) (slice_index_or entries.now k d).literal }
@@ -106,76 +110,78 @@ fn find_place(entries: &[Entry], marked: &[bool], top: usize) -> Option<usize>
     place
 }
 
-/// The turn at a marked entry.
-fn turn_at(entries: &[Entry], marked: &[bool], place: usize) -> Option<Turn>
+/// The backjump that makes the literal of the entry at this place false. `None` if no decision, at this place or
+/// before it, comes after all earlier marked entries.
+fn backjump_at(entries: &[Entry], marked: &[bool], place: usize) -> Option<Backjump>
     requires place { place < length entries.now }
     requires in_range { (k : ℕ) (d : Entry) → k < length entries.now → IsLiteralInRange (length marked.now) (slice_index_or entries.now k d).literal }
-    ensures { MatchOption result ⊤ (IsTurn entries.now marked.now place) }
+    ensures { MatchOption result ⊤ (IsBackjump entries.now marked.now place) }
 {
     let literal = entries[place].literal.negation();
     match find_place(entries, marked, place) {
         None => None,
-        Some(place) => Some(Turn { place, literal }),
+        Some(place) => Some(Backjump { place, literal }),
     }
 }
 
-/// The turn at a decision.
-fn turn_at_decision(entries: &[Entry], marked: &[bool], place: usize) -> Turn
+/// The same for the place of a decision, where there always is a backjump.
+fn backjump_at_decision(entries: &[Entry], marked: &[bool], place: usize) -> Backjump
     requires place { place < length entries.now }
     requires decided { (d : Entry) → (slice_index_or entries.now place d).reason ≡ None }
     requires in_range { (k : ℕ) (d : Entry) → k < length entries.now → IsLiteralInRange (length marked.now) (slice_index_or entries.now k d).literal }
-    ensures { IsTurn entries.now marked.now place result }
+    ensures { IsBackjump entries.now marked.now place result }
 {
-    match turn_at(entries, marked, place) {
-        Some(turn) => turn,
-        None => Turn {
+    match backjump_at(entries, marked, place) {
+        Some(backjump) => backjump,
+        None => Backjump {
             place,
             literal: entries[place].literal.negation(),
         },
     }
 }
 
-/// What to do with the marked entry at a place, where `open` more are marked that have their values since the last
-/// decision. Until one is kept, an entry is resolved unless it is the only one left. After that, it is resolved if
-/// its clause adds nothing or if it comes before each decision.
+/// What to do with the marked entry at this place. `open` is the number of earlier marked entries that are latest. While
+/// none is kept, a forced entry is resolved if `open` is above 0, and else kept if there is a backjump. After that, it is
+/// resolved if its clause adds nothing or if it comes before each decision.
 fn choose(
     database: &Database,
     trail: &Trail,
     marked: &[bool],
-    turn: Option<Turn>,
+    backjump: Option<Backjump>,
     place: usize,
     open: usize,
 ) -> Choice
     requires place { place < length trail.now.entries }
     requires in_range { (k : ℕ) (d : Entry) → k < length trail.now.entries → IsLiteralInRange (length marked.now) (slice_index_or trail.now.entries k d).literal }
-    ensures { ChoiceSays trail.now.entries marked.now turn place result }
+    ensures { ChoiceSays trail.now.entries marked.now backjump place result }
 {
     let entries = trail.entries();
     let entry = entries[place];
-    match (entry.reason, turn) {
-        (None, None) => Choice::Keep(turn_at_decision(entries, marked, place)),
-        (None, Some(turn)) => Choice::Keep(turn),
-        (Some(reason), Some(turn)) => {
+    match (entry.reason, backjump) {
+        (None, None) => Choice::Keep(backjump_at_decision(entries, marked, place)),
+        (None, Some(backjump)) => Choice::Keep(backjump),
+        (Some(reason), Some(backjump)) => {
             if trail.is_fixed(entry.literal.variable)
                 || adds_nothing(database, marked, reason, entry.literal)
             {
                 return Choice::Resolve(reason);
             }
-            Choice::Keep(turn)
+            Choice::Keep(backjump)
         }
         (Some(reason), None) => {
             if open > 0 {
                 return Choice::Resolve(reason);
             }
-            match turn_at(entries, marked, place) {
+            match backjump_at(entries, marked, place) {
                 None => Choice::Resolve(reason),
-                Some(turn) => Choice::Keep(turn),
+                Some(backjump) => Choice::Keep(backjump),
             }
         }
     }
 }
 
-/// Walks down the trail from the clause with this number, whose literals are all false.
+/// Learns a clause by the walk down the trail. It begins by marking the variables of the clause of this number, whose literals
+/// are all false.
 fn walk_down(
     alloc: Global,
     database: &Database,
@@ -187,11 +193,11 @@ fn walk_down(
     requires trail { IsTrail (length marked.old) database.now trail.now.entries }
     requires conflict { hint_finding database.now (is_among (falses trail.now.entries)) conflict ≡ Falsified }
     ensures right { IfOk result (λ r. is_rightly_learned (length marked.old) database.now r.literals.items r.hints.items ≡ true) }
-    ensures turn { IfOk result (λ r. MatchOption r.turn (r.literals.items ≡ []) (Asserts trail.now.entries r.literals.items)) }
+    ensures backjump { IfOk result (λ r. MatchOption r.backjump (r.literals.items ≡ []) (Asserts trail.now.entries r.literals.items)) }
 {
     let mut literals: Vec<Literal> = Vec::new(alloc);
     let mut hints: Vec<u64> = Vec::new(alloc);
-    let mut turn: Option<Turn> = None;
+    let mut backjump: Option<Backjump> = None;
     hints.push(conflict)?;
     let mut open = mark_clause(database, trail, marked, conflict);
     let entries = trail.entries();
@@ -199,7 +205,7 @@ fn walk_down(
         let entry = entries[i];
         if marked[entry.literal.variable as usize - 1] {
             open = open.saturating_sub(1);
-            match choose(database, trail, marked, turn, i, open) {
+            match choose(database, trail, marked, backjump, i, open) {
                 Choice::Resolve(reason) => {
                     hints.push(reason)?;
                     let more = mark_clause(database, trail, marked, reason);
@@ -207,7 +213,7 @@ fn walk_down(
                 }
                 Choice::Keep(next) => {
                     literals.push(entry.literal.negation())?;
-                    turn = Some(next);
+                    backjump = Some(next);
                 }
             }
         }
@@ -216,11 +222,11 @@ fn walk_down(
     Ok(Learned {
         literals,
         hints,
-        turn,
+        backjump,
     })
 }
 
-/// Whether the literal's variable was marked. Unmarks it.
+/// Unmarks the literal's variable. Returns whether it was marked.
 fn take_mark(marked: &mut [bool], literal: Literal) -> bool {
     let variable = literal.variable as usize;
     if variable >= 1 && variable <= marked.len() && marked[variable - 1] {
@@ -230,7 +236,7 @@ fn take_mark(marked: &mut [bool], literal: Literal) -> bool {
     false
 }
 
-/// Unmarks a clause's variables. Those that got their values after a decision become more active.
+/// Unmarks a clause's variables. Those that were marked and are not fixed become more active.
 fn bump_marked(order: &mut Order, trail: &Trail, marked: &mut [bool], literals: &[Literal]) {
     for literal in literals {
         if take_mark(marked, *literal) && !trail.is_fixed(literal.variable) {
@@ -254,6 +260,7 @@ fn bump_resolved(
     }
 }
 
+/// Makes the variables of these literals more active.
 fn bump_kept(order: &mut Order, literals: &[Literal]) {
     for literal in literals {
         order.bump(literal.variable);
@@ -271,7 +278,7 @@ fn mark_reasons(database: &Database, trail: &Trail, marked: &mut [bool], literal
     }
 }
 
-/// Makes each marked variable of these clauses more active once, and unmarks it.
+/// Calls `bump_marked` for the clauses that forced the values of these literals' variables.
 fn bump_reasons(
     order: &mut Order,
     database: &Database,
@@ -288,7 +295,7 @@ fn bump_reasons(
     }
 }
 
-/// Makes the variables of the learned clause more active once again, and then each variable of the clauses that forced their values.
+/// Makes the variables of the learned clause more active once again, and then those of the clauses that forced their values.
 fn bump_again(
     order: &mut Order,
     database: &Database,
@@ -303,8 +310,8 @@ fn bump_again(
     bump_reasons(order, database, trail, marked, literals);
 }
 
-/// Learns a clause from the one with this number, whose literals are all false. The variables of the clauses that it
-/// follows from become more active. In a broad style of order, some become more active a second time.
+/// Learns a clause from the one of this number, whose literals are all false. The variables of the clauses in its hints
+/// become more active. In the broad style, some become more active a second time.
 pub(crate) fn learn(
     alloc: Global,
     database: &Database,
@@ -317,7 +324,7 @@ pub(crate) fn learn(
     requires trail { IsTrail (length marked.old) database.now trail.now.entries }
     requires conflict { hint_finding database.now (is_among (falses trail.now.entries)) conflict ≡ Falsified }
     ensures right { IfOk result (λ r. is_rightly_learned (length marked.old) database.now r.literals.items r.hints.items ≡ true) }
-    ensures turn { IfOk result (λ r. MatchOption r.turn (r.literals.items ≡ []) (Asserts trail.now.entries r.literals.items)) }
+    ensures backjump { IfOk result (λ r. MatchOption r.backjump (r.literals.items ≡ []) (Asserts trail.now.entries r.literals.items)) }
 {
     let learned = walk_down(alloc, database, trail, marked, conflict)?;
     bump_resolved(order, database, trail, marked, learned.hints.as_slice());

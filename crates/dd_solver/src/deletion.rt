@@ -1,7 +1,7 @@
-//! Which learned clauses are deleted, and when. A clause's levels are the decisions between which its literals got
-//! their values: the fewer, the more it is worth (Audemard and Simon 2009). From time to time the worse half is
-//! deleted, but no clause that forced a literal of the trail. The choice is checked exactly, so no contract rests on
-//! what is kept here.
+//! Which learned clauses are deleted, and when. A clause's levels are the decision levels at which its literals got their
+//! values. The fewer there are, the more the clause is worth (Audemard and Simon 2009). A review deletes the worse half of the
+//! learned clauses that it may delete. No clause that forced a literal of the trail is deleted. The choice is checked exactly, so
+//! no contract rests on the counts kept here.
 ghost use Rattle.std.specs.Prelude.{◌≡◌, ℕ, List, ◌<◌, false, length, IfOk, Some, slice_index_or};
 ghost use Rattle.dd_clause.specs.declared.clause.Literal.{Literal};
 ghost use Rattle.dd_solver.specs.searching.Deleting.{AreChosen, MayDelete};
@@ -13,19 +13,20 @@ use std::alloc::{AllocError, Global};
 /// The number of learned clauses at the first review.
 const FIRST_REVIEW: usize = 4000;
 
-/// The number of clauses from the first review to the second.
+/// The gap at the start. The gap is the number of clauses learned from one review to the next.
 const FIRST_GAP: usize = 2000;
 
-/// The growth of that number from review to review.
+/// How much each review adds to the gap, before the gap sets the next review.
 const GAP_GROWTH: usize = 300;
 
-/// Clauses of at most this many levels are kept.
+/// A clause of at most this many levels is never deleted.
 const KEPT_LEVELS: u32 = 2;
 
-/// Clauses of at most this many literals are kept.
+/// A clause of at most this many literals is never deleted.
 const KEPT_LENGTH: usize = 2;
 
-/// A learned clause that may be deleted. The least are kept: those of few levels, then the short ones, then the new ones.
+/// A learned clause that may be deleted. The lesser half of the candidates is kept. Less is a clause of fewer levels, among these a
+/// shorter one, and among these a newer one.
 #[derive(Clone, Copy, PartialEq, Eq, PartialOrd, Ord)]
 struct Candidate {
     levels: u32,
@@ -33,18 +34,22 @@ struct Candidate {
     age: usize,
 }
 
-/// The number of levels of each learned clause. For each level, the number of the count that saw it last, and the
-/// number of counts. The number of learned clauses at the next review, and the number between the last two.
+/// The worth of the learned clauses, and when the next review is due.
 #[derive(Drop)]
 pub(crate) struct Deletion {
+    /// How many levels each learned clause has.
     levels: Vec<u32>,
+    /// For each level, the number of the last count in which it occurred. So a count needs no clearing.
     counted: Vec<u64>,
+    /// How many counts were made so far.
     counts: u64,
+    /// The next review is due when this many clauses are learned.
     next: usize,
+    /// How many clauses are learned from one review to the next.
     gap: usize,
 }
 
-/// Marks each clause that forced an entry as not to be deleted.
+/// Sets `chosen` to false for each clause that forced an entry. `chosen[k]` belongs to the clause of number k.
 fn spare_reasons(entries: &[Entry], chosen: &mut [bool])
     ensures { AreChosen entries.now chosen.new }
 {
@@ -58,7 +63,7 @@ fn spare_reasons(entries: &[Entry], chosen: &mut [bool])
     }
 }
 
-/// The chosen numbers after those of the list's clauses, if they have a clause.
+/// The numbers of the chosen learned clauses that are alive. The list has `clauses` clauses.
 fn take_chosen(
     alloc: Global,
     database: &Database,
@@ -81,7 +86,7 @@ fn take_chosen(
 }
 
 impl Deletion {
-    /// Nothing is learned yet.
+    /// The state before anything is learned.
     pub(crate) fn new(alloc: Global, variables: usize) -> Result<Deletion, AllocError> {
         Ok(Deletion {
             levels: Vec::new(alloc),
@@ -92,7 +97,7 @@ impl Deletion {
         })
     }
 
-    /// The number of levels of the literals.
+    /// How many decision levels the literals have, not counting level 0.
     fn count_levels(&mut self, trail: &Trail, literals: &[Literal]) -> u32 {
         self.counts = self.counts.saturating_add(1);
         let mut count = 0u32;
@@ -106,7 +111,7 @@ impl Deletion {
         count
     }
 
-    /// The place of a learned clause's levels, by its number.
+    /// The index in `levels` of the clause of this number, if it is a learned one.
     fn place(&self, clauses: usize, number: u64) -> Option<usize> {
         let number = number as usize;
         if number > clauses && number - clauses <= self.levels.len() {
@@ -115,7 +120,7 @@ impl Deletion {
         None
     }
 
-    /// Stores the present number of levels of the clause with this number, if it is a learned one and has fewer than before.
+    /// Counts the levels of the clause of this number anew, if it is a learned one. The lower of the old and the new count is kept.
     fn lower(&mut self, database: &Database, trail: &Trail, clauses: usize, number: u64) {
         let Some(place) = self.place(clauses, number) else {
             return;
@@ -128,7 +133,7 @@ impl Deletion {
         }
     }
 
-    /// The learned clauses that may be deleted.
+    /// The chosen learned clauses that are alive, and have more levels and literals than those that are always kept.
     fn find_candidates(
         &self,
         alloc: Global,
@@ -154,7 +159,7 @@ impl Deletion {
         Ok(candidates)
     }
 
-    /// For each number, whether it is to be deleted: the worse half of those that may be.
+    /// For each clause number, whether the clause is to be deleted: the worse half of those that may be.
     fn choose(
         &self,
         alloc: Global,
@@ -178,11 +183,12 @@ impl Deletion {
                 chosen[number] = true;
             }
         }
+        // This changes nothing, as no candidate forced an entry. It is what the contract rests on.
         spare_reasons(entries, chosen.as_mut_slice());
         Ok(chosen)
     }
 
-    /// Whether some learned clauses are to be deleted now.
+    /// Whether a review is due. If it is, sets when the next one is.
     fn is_due(&mut self) -> bool {
         if self.levels.len() < self.next {
             return false;
@@ -192,9 +198,9 @@ impl Deletion {
         true
     }
 
-    /// Notes that a clause of these literals was learned by these hints, with `clauses` clauses in the list. Returns
-    /// the numbers of the clauses that are deleted with it.
-    pub(crate) fn review(
+    /// Notes that a clause of these literals was learned by these hints, with `clauses` clauses in the list. Returns the numbers
+    /// of the clauses to delete: none if no review is due.
+    pub(crate) fn note_learned(
         &mut self,
         alloc: Global,
         database: &Database,

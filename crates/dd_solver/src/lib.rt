@@ -1,5 +1,5 @@
 //! A search that learns clauses. It finds an assignment that satisfies a clause list, or steps that refute it.
-//! Trimming keeps only the steps that are used.
+//! Trimming keeps only the steps of a refutation that are used.
 #![tactic(auto, using(std::proofs::lemmas::Grind::common_steps))]
 
 mod analysis;

@@ -1,6 +1,7 @@
 //! The search (Marques-Silva and Sakallah 1999, Eén and Sörensson 2003): propagate; at a conflict learn a clause and
 //! go back to where it forces a literal; else decide a variable. Each learned clause is a step of a refutation. The
-//! search ends because the trail, read as a number in base 3, rises at each propagation, decision and return.
+//! search ends, because the trail, read as a number in base 3, rises with each propagation, decision and backjump.
+//! The contracts call `left` how far this number is from its bound.
 ghost use Rattle.std.specs.Prelude.{◌≡◌, ℕ, ◌+◌, ◌<◌, ◌≤◌, ◌^◌, ◌++◌, ◌∷◌, [], true, false, List, length, All, IfOk, OnOk, OnErr, MatchOption, IsTrue, ◌↔◌};
 ghost use Rattle.dd_clause.specs.declared.clause.Literal.{Literal};
 ghost use Rattle.dd_clause.specs.Clauses.{IsClauseInRange, Satisfies};
@@ -11,7 +12,7 @@ ghost use Rattle.dd_trail.specs.Trails.{IsFull};
 ghost use Rattle.dd_solver.specs.searching.Search.{State, AreOpen, IsFalsified, IsForced, GoesOn, left};
 ghost use Rattle.dd_solver.specs.Answers.{IsAnswer, IsFound, IsRefuted, IsSatisfiable};
 
-use crate::analysis::{Turn, learn};
+use crate::analysis::{Backjump, learn};
 use crate::deletion::Deletion;
 use dd_clause::{Assignment, Clause, Cnf};
 use dd_derivation::{Outcome, Step, delete_named};
@@ -20,17 +21,20 @@ use dd_values::Items;
 use std::alloc::{AllocError, Global};
 use std::marker::Model;
 
-/// The clauses, the steps learned so far, and whether each of their clauses is alive. The trail, the watched literals
-/// and the order of decisions. The worth of learned clauses, and room for the analysis.
+/// The state of the search.
 #[derive(Drop)]
 pub(crate) struct Search<'a> {
+    /// The clauses of the list.
     clauses: &'a [Clause],
+    /// The steps learned so far.
     steps: Vec<Step>,
+    /// Whether each clause, of the list and then of the steps, is alive.
     alive: Vec<bool>,
     trail: Trail,
     watches: Watches,
     order: Order,
     deletion: Deletion,
+    /// Room for the analysis of a conflict: a mark for each variable.
     marked: Vec<bool>,
 }
 
@@ -64,7 +68,7 @@ fn push_step(steps: &mut Vec<Step>, alive: &mut Vec<bool>, step: Step) -> Result
 }
 
 impl<'a> Search<'a> {
-    /// Before the first decision: nothing has a value, and nothing is learned.
+    /// The state before the first decision: no variable has a value, and nothing is learned.
     pub(crate) fn new(
         alloc: Global,
         clauses: &'a [Clause],
@@ -101,7 +105,7 @@ impl<'a> Search<'a> {
         ensures conflict { IfOk result (λ conflict. MatchOption conflict (IsFull self.new.variables self.new.entries → AreOpen self.new) (IsFalsified self.new)) }
         ensures left { OnOk result (left self.new ≤ left self.old) }
     {
-        'turns: loop {
+        'rounds: loop {
             let database = Database::new(
                 self.clauses,
                 self.steps.as_slice(),
@@ -121,7 +125,7 @@ impl<'a> Search<'a> {
         }
     }
 
-    /// Makes a literal true whose variable has no value. Returns false if each variable has one.
+    /// Decides a variable that has no value. Returns false if each variable has one.
     fn decide(&mut self) -> Result<bool, AllocError>
         ensures same { (self.new.variables ≡ self.old.variables) × (self.new.clauses ≡ self.old.clauses) × (self.new.steps ≡ self.old.steps) }
         ensures decided { result ≡ Ok true → left self.new < left self.old }
@@ -137,11 +141,12 @@ impl<'a> Search<'a> {
         Ok(true)
     }
 
-    /// Learns a clause from a falsified one, as a further step. Returns where to go back to, or nothing if the steps refute the clauses.
-    fn analyse(&mut self, alloc: Global, conflict: u64) -> Result<Option<Turn>, AllocError>
+    /// Learns a clause from a falsified one, as a further step. Returns where to go back to. `None` if the steps now refute the
+    /// clauses.
+    fn analyse(&mut self, alloc: Global, conflict: u64) -> Result<Option<Backjump>, AllocError>
         requires { IsFalsified self.old conflict }
         ensures same { (self.new.variables ≡ self.old.variables) × (self.new.clauses ≡ self.old.clauses) × (self.new.entries ≡ self.old.entries) }
-        ensures turn { IfOk result (GoesOn self.new) }
+        ensures backjump { IfOk result (GoesOn self.new) }
     {
         let database = Database::new(self.clauses, self.steps.as_slice(), self.alive.as_slice());
         let learned = learn(
@@ -152,7 +157,7 @@ impl<'a> Search<'a> {
             self.marked.as_mut_slice(),
             conflict,
         )?;
-        let numbers = self.deletion.review(
+        let numbers = self.deletion.note_learned(
             alloc,
             &database,
             &self.trail,
@@ -171,27 +176,27 @@ impl<'a> Search<'a> {
         };
         self.watches.note_deleted(step.deletes.as_slice());
         push_step(&mut self.steps, &mut self.alive, step)?;
-        Ok(learned.turn)
+        Ok(learned.backjump)
     }
 
-    /// Goes back to before a decision, and makes the literal true that the last step forces there.
-    fn backtrack(&mut self, turn: Turn) -> Result<(), AllocError>
-        requires { IsForced self.old turn }
+    /// Takes back all entries from a decision on, and makes the literal true that the last step's clause then forces.
+    fn backtrack(&mut self, backjump: Backjump) -> Result<(), AllocError>
+        requires { IsForced self.old backjump }
         ensures same { (self.new.variables ≡ self.old.variables) × (self.new.clauses ≡ self.old.clauses) × (self.new.steps ≡ self.old.steps) }
         ensures left { OnOk result (left self.new < left self.old) }
     {
         let number = self.clauses.len() as u64 + self.steps.len() as u64;
-        self.watches.cut(turn.place, self.alive.as_slice())?;
-        self.order.put_back_from(&self.trail, turn.place);
-        self.trail.undo(turn.place);
+        self.watches.cut(backjump.place, self.alive.as_slice())?;
+        self.order.put_back_from(&self.trail, backjump.place);
+        self.trail.undo(backjump.place);
         self.trail.assign(Entry {
-            literal: turn.literal,
+            literal: backjump.literal,
             reason: Some(number),
         })?;
         Ok(())
     }
 
-    /// The values of the variables, once each has one and no clause is falsified.
+    /// The values of the variables, where each has one and no clause is falsified. They satisfy the clauses.
     fn assignment(&self, alloc: Global) -> Result<Assignment, AllocError>
         requires open { AreOpen self.now }
         requires full { IsFull self.now.variables self.now.entries }
@@ -200,23 +205,25 @@ impl<'a> Search<'a> {
         self.trail.assignment(alloc)
     }
 
+    /// The steps learned.
     fn into_steps(self) -> Items<Step>
         ensures { result ≡ self.entry.steps }
     {
         Items::from_vec(self.steps)
     }
 
-    /// Searches until an assignment satisfies the clauses or the steps refute them. Returns no assignment in the second case.
+    /// Searches until an assignment satisfies the clauses or the steps refute them. Returns the assignment. `None` if they are
+    /// refuted.
     fn settle(&mut self, alloc: Global) -> Result<Option<Assignment>, AllocError>
         ensures same { (self.new.variables ≡ self.old.variables) × (self.new.clauses ≡ self.old.clauses) }
         ensures settled { IfOk result (λ found. MatchOption found (refutes self.new.variables self.new.clauses self.new.steps ≡ true)
             (λ values. (length values ≡ self.new.variables) × Satisfies (true_variables values) self.new.clauses)) }
     {
-        'turns: loop {
+        'rounds: loop {
             if let Some(conflict) = self.propagate()? {
                 match self.analyse(alloc, conflict)? {
                     None => return Ok(None),
-                    Some(turn) => self.backtrack(turn)?,
+                    Some(backjump) => self.backtrack(backjump)?,
                 }
             } else if !self.decide()? {
                 return Ok(Some(self.assignment(alloc)?));
@@ -224,6 +231,7 @@ impl<'a> Search<'a> {
         }
     }
 
+    /// Searches to the end, and returns the outcome.
     fn run(mut self, alloc: Global) -> Result<Outcome, AllocError>
         ensures { IfOk result (IsAnswer self.entry.variables self.entry.clauses) }
     {
@@ -243,7 +251,7 @@ pub fn solve(alloc: Global, cnf: &Cnf) -> Result<Outcome, AllocError>
     solve_with(alloc, cnf, Style::Broad)
 }
 
-/// Solves in a style of search. The style changes how long it takes, and which assignment or which steps it finds.
+/// Like `solve`, in a style of search. The style changes how long it takes, and which assignment or which steps it finds.
 pub fn solve_with(alloc: Global, cnf: &Cnf, style: Style) -> Result<Outcome, AllocError>
     ensures answer { IfOk result (IsAnswer cnf.now.variables cnf.now.clauses) }
     ensures found { IfOk result (λ outcome. IsFound outcome ↔ IsSatisfiable cnf.now.clauses) }

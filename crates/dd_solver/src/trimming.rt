@@ -1,6 +1,6 @@
-//! A search learns clauses that its refutation does not need in the end. Trimming walks from the last step to the
-//! first and marks the hints of each marked step (Goldberg and Novikov 2003). The marked steps are kept, under new
-//! numbers. They delete nothing, so each kept hint names the same clause as before.
+//! A search learns clauses that its refutation does not need in the end. Trimming marks the last step. It walks from there
+//! to the first step, and marks the steps that each marked step hints at (Goldberg and Novikov 2003). The marked steps are
+//! kept, under new numbers, with hints that name the same clauses as before. They delete nothing.
 ghost use Rattle.std.specs.Prelude.{◌≡◌, ℕ, suc, ◌+◌, ◌<◌, ◌≤◌, ◌^◌, ◌||◌, [], true, false, length, map, All, IfOk, MatchOption, slice_index_or};
 ghost use Rattle.dd_derivation.specs.Derivations.{refutes};
 ghost use Rattle.dd_solver.specs.Trimming.{is_hint, are_used};
@@ -11,7 +11,7 @@ use dd_derivation::Step;
 use dd_values::Items;
 use std::alloc::{AllocError, Global};
 
-/// The place among the steps of the clause with this number. The numbers of `clauses` clauses come before those of the steps.
+/// The index, from 0, of the step with this number. `None` if it is the number of one of the list's `clauses` clauses.
 fn find_place(number: u64, clauses: usize) -> Option<usize>
     ensures { MatchOption result (number ≤ clauses) (λ place. number ≡ clauses + place + 1) }
 {
@@ -22,7 +22,7 @@ fn find_place(number: u64, clauses: usize) -> Option<usize>
     None
 }
 
-/// Marks those of the first `before` steps that the hints name.
+/// Marks those of the first `before` steps that are hinted at.
 fn mark_hints(marked: &mut [bool], clauses: usize, before: usize, hints: &[u64])
     requires { before ≤ length marked.old }
     ensures earlier { (j : ℕ) → j < before → slice_index_or marked.new j false ≡ (slice_index_or marked.old j false || is_hint (clauses + suc j) hints.now) }
@@ -37,7 +37,7 @@ fn mark_hints(marked: &mut [bool], clauses: usize, before: usize, hints: &[u64])
     }
 }
 
-/// Marks the steps that a marked one needs.
+/// Marks each step that a marked step needs, directly or through others.
 fn mark_needed(marked: &mut [bool], clauses: usize, steps: &[Step])
     requires { IsMarking clauses (length steps.now) steps.now marked.old }
     ensures { IsMarking clauses 0 steps.now marked.new }
@@ -62,7 +62,7 @@ fn mark_used(alloc: Global, clauses: usize, steps: &[Step]) -> Result<Vec<bool>,
     Ok(marked)
 }
 
-/// The number of each marked step when only the marked ones are left.
+/// The new number of each marked step, when only the marked ones are left. An unmarked step gets the last number before it.
 fn find_numbers(alloc: Global, clauses: usize, marked: &[bool]) -> Result<Vec<u64>, AllocError>
     requires { clauses + length marked.now < 2 ^ 64 }
     ensures { IfOk result (λ numbers. numbers.items ≡ numbers_from clauses marked.now) }
@@ -78,7 +78,7 @@ fn find_numbers(alloc: Global, clauses: usize, marked: &[bool]) -> Result<Vec<u6
     Ok(numbers)
 }
 
-/// The new number of a clause.
+/// The new number of a step's clause. A clause of the list keeps its number.
 fn new_number(clauses: usize, numbers: &[u64], number: u64) -> u64
     ensures { result ≡ renamed clauses numbers.now number }
 {

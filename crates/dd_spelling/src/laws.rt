@@ -1,4 +1,4 @@
-//! Bytes determine what they spell.
+//! Laws of bytes that are read as scripts, as contracts of functions that do nothing.
 ghost use Rattle.std.specs.Prelude.{◌≡◌, ◌≤◌, ◌⊎◌, ℕ, List, length};
 ghost use Rattle.dd_values.specs.Bounds.{most_script};
 ghost use Rattle.dd_script.specs.{Parts.Parts, Scripts.Spells, Scripts.RefusedAs, Scripts.RefusalKind};
@@ -6,14 +6,14 @@ ghost use Rattle.dd_script.specs.{Parts.Parts, Scripts.Spells, Scripts.RefusedAs
 use dd_commands::{one_fault, one_tree, tree_or_fault};
 use dd_written::formula_is_read;
 
-/// Does nothing; its contract says that bytes spell at most one script.
+/// Does nothing. Its contract says that bytes spell at most one script.
 pub fn one_script()
     ensures { (bytes : List ℕ) (s t : Parts) → Spells bytes s → Spells bytes t → s ≡ t }
 {
     one_tree();
 }
 
-/// Does nothing; its contract says that bytes are refused in at most one way.
+/// Does nothing. Its contract says that bytes are refused in at most one way: for one command, and for one kind of fault.
 pub fn one_refusal()
     ensures { (bytes : List ℕ) (m n : ℕ) (k l : RefusalKind) → RefusedAs bytes m k → RefusedAs bytes n l → (m ≡ n) × (k ≡ l) }
 {
@@ -22,7 +22,8 @@ pub fn one_refusal()
     tree_or_fault();
 }
 
-/// Does nothing; its contract says that, of the bytes of an allowed length, exactly those that spell no script are refused.
+/// Does nothing. Its contract says that bytes which spell a script are never refused. All other bytes are refused, if they are no
+/// longer than a script may be.
 pub fn spelled_or_refused()
     ensures never_both { (bytes : List ℕ) (s : Parts) (n : ℕ) (k : RefusalKind) → Spells bytes s → RefusedAs bytes n k → ⊥ }
     ensures either { (bytes : List ℕ) → length bytes ≤ most_script → ((s : Parts) × Spells bytes s) ⊎ ((n : ℕ) × (k : RefusalKind) × RefusedAs bytes n k) }

@@ -1,4 +1,4 @@
-//! Laws of the bytes of scripts: they spell at most one script, or are refused in one way.
+//! Laws of bytes: they spell exactly one script or are refused in exactly one way, if they are no longer than a script may be.
 #![tactic(auto)]
 
 mod laws;

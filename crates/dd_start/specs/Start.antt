@@ -1,9 +1,9 @@
--- What holds before a script defines anything.
+-- The defaults, and the sets of symbols that nodes allow at first.
 use Rattle.std.specs.Prelude.{ℕ, List, [], ◌∷◌, length, false, codes}
 use Rattle.dd_topology.specs.{Builtin.square, Sets.SymbolSets, Sets.all_symbols}
 use Rattle.dd_known.specs.declared.known.Known.{Known}
 
--- the square grid with the node 0, and the symbols 0 and 1, whose weights are 0 and 1
+-- the defaults: the square topology with the node 0, and the symbols 0 and 1, which weigh 0 and 1
 abbrev pub known_start : Known
 known_start =
     record {
@@ -17,10 +17,10 @@ known_start =
       configurations = [];
     }
 
--- with these sets of symbols; the nodes in the list are restricted
+-- what is known, with these sets of symbols in place of its own, and with the nodes in the list as the restricted ones
 abbrev pub allowing : Known → SymbolSets → List ℕ → Known
 allowing k sets nodes = record k { setting = record (k.setting) { sets = sets }; restricted = nodes }
 
--- each node allows each symbol, and none is restricted
+-- what is known, except that each node allows each symbol, and none is restricted
 abbrev pub unrestricted : Known → Known
 unrestricted k = allowing k (all_symbols (length k.setting.nodes) (length k.setting.symbols)) []

@@ -1,4 +1,4 @@
-//! What holds before a script defines anything.
+//! The defaults, and the sets of symbols that nodes allow at first.
 ghost use Rattle.std.specs.Prelude.{◌≡◌, ◌≤◌, length, IfOk, OnOk};
 ghost use Rattle.std.specs.List.{range_with_len};
 ghost use Rattle.dd_known.specs.Sound.{IsSound};
@@ -10,16 +10,16 @@ use dd_topology::{Kind, Names, Sets, Topology};
 use dd_values::{Items, Limits};
 use std::alloc::{AllocError, Global};
 
-/// The default for the greatest radius.
+/// The greatest radius of a search, if the script sets none.
 const RADIUS_AT_START: u32 = 4;
 
-/// The default for the greatest period.
+/// The greatest period of a search, if the script sets none.
 const PERIOD_AT_START: u32 = 4;
 
-/// The default for the greatest number of pivots.
+/// The greatest number of pivots of a linear program, if the script sets none.
 const PIVOTS_AT_START: u32 = 10_000;
 
-/// The defaults: the square grid with the node 0, and the symbols 0 and 1, whose weights are 0 and 1.
+/// The defaults: the square topology with the node 0, and the symbols 0 and 1, which weigh 0 and 1.
 pub fn start(alloc: Global) -> Result<Known, AllocError>
     ensures known { IfOk result (λ known. known ≡ known_start) }
     ensures sound { OnOk result (IsSound known_start) }
@@ -28,7 +28,7 @@ pub fn start(alloc: Global) -> Result<Known, AllocError>
     let nodes = zero(alloc)?;
     let symbols = zero_and_one(alloc)?;
     let topology = Topology::builtin(alloc, Kind::Square)?;
-    // This read brings in what the type guarantees.
+    // This call tells the proof what the type guarantees.
     let _dimension = topology.dim();
     let weights = Items::from_slice(alloc, &[0, 1])?;
     Ok(Known {
@@ -52,14 +52,14 @@ pub fn start(alloc: Global) -> Result<Known, AllocError>
     })
 }
 
-/// The numbers below this one, in order.
+/// The numbers below `count`, from 0 on, in order.
 pub fn numbers_below(alloc: Global, count: u32) -> Result<Vec<u32>, AllocError>
     ensures { IfOk result (λ numbers. numbers.items ≡ range_with_len 0 count) }
 {
     (0..count).collect(alloc)
 }
 
-/// Lets each node allow each symbol again.
+/// Lets each node allow each symbol, as at first. No node is restricted after that.
 pub fn allow_all(alloc: Global, known: &mut Known) -> Result<(), AllocError>
     requires nodes { 1 ≤ length known.old.setting.nodes }
     requires symbols { 1 ≤ length known.old.setting.symbols }

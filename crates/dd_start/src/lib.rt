@@ -1,4 +1,5 @@
-//! What holds before a script defines anything, and again for the symbols that nodes allow when it names others.
+//! The defaults: what is known before a script defines anything. Also the sets of symbols that nodes allow. These are made anew
+//! when a script names its nodes or symbols.
 #![tactic(auto)]
 
 mod defaults;

@@ -1,2 +1,2 @@
--- strips, and which of them a rule may have
+-- strips, and which of them a question about a rule may name
 pub mod Strips

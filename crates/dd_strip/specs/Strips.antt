@@ -1,4 +1,4 @@
--- Strips: slices at x = 0, 1 and so on, with periods in the other axes.
+-- Strips. A strip has a slice at each x, and periods along y and z.
 use Rattle.std.specs.Prelude.{◌≡◌, ◌⊎◌, ℕ, ◌*◌, ◌<◌, ◌≤◌, List, length, slice_index}
 use Rattle.std.specs.List.{All}
 use Rattle.dd_values.specs.Bounds.{most_weight}
@@ -6,17 +6,19 @@ use Rattle.dd_formula.specs.LocalRule.{LocalRule}
 use Rattle.dd_counts.specs.Rules.{states, longer_states, most_states, most_longer_states}
 use Rattle.dd_strip.specs.declared.strip.Strip.{Strip}
 
+-- the strip with these periods and this number of nodes at a position
 abbrev pub strip_of : ℕ → ℕ → ℕ → Strip
 strip_of y z nodes = record { y = y; z = z; nodes = nodes }
 
--- the positions of a slice, and its cells
+-- the number of positions of a slice
 abbrev pub positions : Strip → ℕ
 positions s = s.y * s.z
 
+-- the number of cells of a slice
 abbrev pub cells : Strip → ℕ
 cells s = s.nodes * positions s
 
--- a strip of a rule: periods of 1 to 64, and 1 to 4 nodes
+-- the periods are from 1 to 64, and there are 1 to 4 nodes
 pub record IsSized (s : Strip) : Type 0 where
   pub y_some : 0 < s.y
   pub z_some : 0 < s.z
@@ -25,16 +27,16 @@ pub record IsSized (s : Strip) : Type 0 where
   pub z_most : s.z ≤ 64
   pub nodes_most : s.nodes ≤ 4
 
--- it has the rule's nodes, and is as wide as one position along each axis past the dimension
+-- the strip has the rule's number of nodes, and the period 1 along each axis past the rule's dimension
 pub record IsFor (r : LocalRule) (s : Strip) : Type 0 where
   pub sized : IsSized s
   pub nodes : s.nodes ≡ r.nodes
   pub y_unused : r.dimension < 2 → s.y ≡ 1
   pub z_unused : r.dimension < 3 → s.z ≡ 1
 
--- ---- what may be asked of a rule
+-- ---- which strips and weights a question about a rule may name
 
--- the strip's periods are 1 to 64, and 1 past the rule's dimension
+-- the list has the periods along y and z; they are from 1 to 64, and 1 along each axis past the rule's dimension
 pub record IsStrip (r : LocalRule) (periods : List ℕ) : Type 0 where
   pub y_some : 0 < slice_index periods 0
   pub z_some : 0 < slice_index periods 1
@@ -43,18 +45,19 @@ pub record IsStrip (r : LocalRule) (periods : List ℕ) : Type 0 where
   pub y_unused : r.dimension < 2 → slice_index periods 0 ≡ 1
   pub z_unused : r.dimension < 3 → slice_index periods 1 ≡ 1
 
--- one weight for each symbol, each at most 1000
+-- there is one weight for each symbol, and each is at most most_weight
 pub record HasWeights (r : LocalRule) (weights : List ℕ) : Type 0 where
   pub each : length weights ≡ r.symbols
   pub small : All (λ w. w ≤ most_weight) weights
 
+-- the rule's strip with these periods along y and z
 abbrev pub strip_for : LocalRule → List ℕ → Strip
 strip_for r periods = strip_of (slice_index periods 0) (slice_index periods 1) r.nodes
 
--- more than 4,096 states, or more than 131,072 windows
+-- the transfer graph has too many states or too many windows
 abbrev pub IsTooLarge : LocalRule → Strip → Type 0
 IsTooLarge r s = (most_states < states r (positions s)) ⊎ (most_longer_states < longer_states r (positions s))
 
--- at most 4,096 states and at most 131,072 windows
+-- the transfer graph has few enough states and few enough windows
 abbrev pub IsFew : LocalRule → Strip → Type 0
 IsFew r s = (states r (positions s) ≤ most_states) × (longer_states r (positions s) ≤ most_longer_states)

@@ -1,4 +1,4 @@
-//! Strips, without their transfer graphs.
+//! Strips, their slices, and which strips a question about a rule may name.
 #![tactic(auto)]
 
 mod strip;

@@ -1,13 +1,16 @@
-//! Strips: how many positions and cells a slice has.
+//! Strips, and the numbers of positions and of cells of a slice.
 ghost use Rattle.std.specs.Prelude.{◌≡◌, ◌≤◌};
 ghost use Rattle.dd_strip.specs.Strips.{IsSized, cells, positions};
 
-/// The periods of a strip in the axes after the first, and the nodes of a position. A slice has the cells of one `x` whose
-/// other coordinates are at least 0 and less than the periods.
+/// A strip: the cells whose `y` and `z` are at least 0 and less than the period of that axis. It has no end along x. A
+/// slice has the cells of one `x`. The calls need periods from 1 to 64, and 1 to 4 nodes.
 #[derive(Debug, Clone, Copy)]
 pub struct Strip {
+    /// The period along y.
     pub y: u32,
+    /// The period along z.
     pub z: u32,
+    /// The number of nodes at each position.
     pub nodes: u32,
 }
 

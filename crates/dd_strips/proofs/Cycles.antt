@@ -11,7 +11,7 @@ use Rattle.dd_pattern.specs.{declared.periods.Periods.Periods, Periods.residue, 
 use Rattle.dd_pattern.specs.{Tile.Tile, Tile.IsTile, Tile.tile, Tile.tile_index, Tile.tile_look, Weight.total_weight}
 use Rattle.dd_pattern.specs.lemmas.Residues.{residue_below, residue_small}
 use Rattle.dd_formula.specs.LocalRule.{LocalRule, IsRule, rule_allows}
-use Rattle.dd_counts.specs.Rules.{slices, window}
+use Rattle.dd_counts.specs.Rules.{slices, state_length}
 use Rattle.dd_strip.specs.{declared.strip.Strip.Strip, Strips.IsFor, Strips.cells, Strips.positions}
 use Rattle.dd_transfer.specs.{Windows.IsWindow, Windows.digits, Windows.stand, Transfers.slice_weight}
 use Rattle.dd_transfer.specs.Certificates.{IsClosedWalk, last_slice, walk_weight}
@@ -142,7 +142,7 @@ module _ (r : LocalRule) (s : Strip) (walk : List ℕ) (rule : IsRule r) (for : 
     one_further y n = omega (arith, ints)
 
     -- the n slices after y are the last n of the state at y + n
-    slices_there : (y : ℤ) (n : ℕ) → n ≤ window r → slices_from r s (tile_look (tile_of r s walk)) (y +ℤ pos 1) n ≡ state_at r s walk (y +ℤ pos n) % slices r (positions s) ^ n
+    slices_there : (y : ℤ) (n : ℕ) → n ≤ state_length r → slices_from r s (tile_look (tile_of r s walk)) (y +ℤ pos 1) n ≡ state_at r s walk (y +ℤ pos n) % slices r (positions s) ^ n
     slices_there y zero le = none_there (y +ℤ pos 1) ∙ sym (mod_of_none (state_at r s walk (y +ℤ pos 0)) (slices r (positions s)))
     slices_there y (suc n) le =
         let look = tile_look (tile_of r s walk) in
@@ -155,18 +155,18 @@ module _ (r : LocalRule) (s : Strip) (walk : List ℕ) (rule : IsRule r) (for : 
         let f : Follows r s u v = subst (λ (z : ℤ). Follows r s u (state_at r s walk z)) (one_further y n) (step_at (y +ℤ pos n)) in
         let some : 0 < m ^ n = positive m n f.slice in
         let there : v % m ^ suc n ≡ (u % m ^ n) * m + t =
-        ap (λ (k : ℕ). k % m ^ suc n) f.leads ∙ (mod_of_power (u * m + t) m (suc n) (window r) le ∙ (ap (λ (p : ℕ). (u * m + t) % p) (pow-suc m n) ∙ mod_longer u m (m ^ n) t some f.slice)) in
+        ap (λ (k : ℕ). k % m ^ suc n) f.leads ∙ (mod_of_power (u * m + t) m (suc n) (state_length r) le ∙ (ap (λ (p : ℕ). (u * m + t) % p) (pow-suc m n) ∙ mod_longer u m (m ^ n) t some f.slice)) in
         ap (slices_from r s look (y +ℤ pos 1)) (let e : suc n ≡ n + 1 = omega arith in e)
         ∙ (edges.longer (y +ℤ pos 1) n ∙ (ap (λ (k : ℕ). k * m + slices_from r s look ((y +ℤ pos 1) +ℤ pos n) 1) rest ∙ (ap (λ (k : ℕ). (u % m ^ n) * m + k) here ∙ sym there)))
       where
         positive : {t : ℕ} (m n : ℕ) → t < m → 0 < m ^ n
         positive m n lt = one-le-pow n m (omega arith)
 
-    -- so the window after y is that of the edge from the state at y + W
+    -- so the window from y + 1 on is that of an edge of the walk: the edge from the state at y + W, where W is `state_length`
     window_there : (y : ℤ) → IsWindow r s (window_from r s (tile_look (tile_of r s walk)) (y +ℤ pos 1))
     window_there y =
         let look = tile_look (tile_of r s walk) in
-        let w = window r in
+        let w = state_length r in
         let m = slices r (positions s) in
         let u = state_at r s walk (y +ℤ pos w) in
         let v = state_at r s walk (y +ℤ pos (suc w)) in
@@ -195,7 +195,7 @@ module _ (r : LocalRule) (s : Strip) (walk : List ℕ) (rule : IsRule r) (for : 
       allowed = λ c. if_some (λ d. rule_allows r c.node d ≡ true) (tile_look (tile_of r s walk) c)
           (λ some.
           let node : c.node < s.nodes = ltb-true _ _ (opened (nat_lt c.node s.nodes) (slice_get (tile_of r s walk).symbols (tile_index (tile_of r s walk) c)) some) in
-          let b = begins c.position.x (window r) in
+          let b = begins c.position.x (state_length r) in
           (kept_there c.position.x).allowed c (record { from = b.0; before = b.1 }) (omega (arith, node, for.nodes)));
       y_period = refl;
       z_period = refl;

@@ -3,7 +3,7 @@ use Rattle.std.proofs.Common.{◌≡◌, ℕ, suc, ◌+◌, ◌-◌, ◌*◌, �
 use Rattle.std.proofs.{Math.Nat.le_of_mul-le-mul_right, Math.Nat.mul-le-mul_left, lemmas.Int.ints, lemmas.Bool.cases_lt}
 use Rattle.dd_pattern.specs.{Reading.Look, Periods.periods_volume, Tile.Tile, Tile.tile_look}
 use Rattle.dd_formula.specs.LocalRule.{LocalRule, IsRule}
-use Rattle.dd_counts.specs.Rules.{window}
+use Rattle.dd_counts.specs.Rules.{state_length}
 use Rattle.dd_expansion.specs.Limits.{greatest}
 use Rattle.dd_strip.specs.{declared.strip.Strip.Strip, Strips.IsFor, Strips.positions, Strips.IsStrip, Strips.strip_for}
 use Rattle.dd_transfer.specs.Certificates.{AreStripPotentials, IsDensityCertificate, IsEmptyCertificate, potential_of, walk_weight}
@@ -14,7 +14,7 @@ use Rattle.dd_strips.proofs.{Walks.IsStep, Walks.walk_weighs, Walks.walk_is_heav
 use Rattle.dd_strips.proofs.Tiles.{IsOnStrip, tile_repeats, tile_has, symbols_round, period_weighs}
 use Rattle.dd_strips.proofs.Cycles.{tile_of, on_strip, lives_on_strip, cycle_weighs}
 
--- strips that fit
+-- the strip with such periods is one for the rule
 pub strip_fits : (r : LocalRule) (periods : List ℕ) → IsRule r → IsStrip r periods → IsFor r (strip_for r periods)
 strip_fits r periods rule is = record {
   sized = record { y_some = is.y_some; z_some = is.z_some; nodes_some = rule.nodes.0; y_most = is.y_most; z_most = is.z_most; nodes_most = rule.nodes.1 };
@@ -27,7 +27,7 @@ strip_fits r periods rule is = record {
 abbrev pub AreEdges : LocalRule → Strip → Type 0
 AreEdges r s = (look : Look) → RepeatsAcross s look → AreEdgesOf r s look
 
--- p / q is m / l over the positions of a slice, so a bound by m and l on the weight of n slices is one by p and q
+-- p / q is m / l divided by the number a of positions of a slice, so a bound by m / l on the weight of n slices is one by p / q
 at_least : (p q m l n a w : ℕ) → 0 < l → p * (l * a) ≡ m * q → m * n ≤ l * w → p * (a * n) ≤ q * w
 at_least p q m l n a w some same h =
     let one : (p * (a * n)) * l ≡ (p * (l * a)) * n = omega arith in
@@ -51,7 +51,7 @@ exactly p q m l n a w some same h =
     let down : q * w ≤ p * (a * n) = le_of_mul-le-mul_right back some in
     omega (arith, up, down)
 
--- a way round that ends as it began does not rise
+-- the potentials at both ends of a closed walk are equal, so they cancel
 no_rise : (a c : ℤ) (m l : ℕ) → c ≡ a → (c +ℤ pos m) ≤ℤ (a +ℤ pos l) → m ≤ l
 no_rise a c m l same h = omega (arith, ints, same, h)
 
@@ -61,24 +61,24 @@ volume_is s t y z =
     ∙ (ap (λ (n : ℕ). s.z * n * t.periods.x) y ∙ ap (λ (n : ℕ). n * t.periods.x) (let e : s.z * s.y ≡ s.y * s.z = omega arith in e))
 
 module _ (r : LocalRule) (s : Strip) (rule : IsRule r) (for : IsFor r s) (edges : AreEdges r s) where
-  -- an admissible filling is a walk
+  -- an admissible filling is a walk, so it is heavy
   pub fillings_heavy : (ws : List ℕ) (m l : ℕ) (ps : List ℤ) → AreStripPotentials r s ws m l ps → IsHeavy r s ws m l (spread_of ps)
   fillings_heavy ws m l ps potentials j x look strip =
       let e = edges look strip.filling.repeats in
       walk_is_heavy r s look e ws m l ps potentials x j (filling_steps r s look rule e x j strip)
 
-  pub fillings_short : (ranks : List ℕ) → IsEmptyCertificate r s ranks → IsShortStrip r s (greatest ranks + window r)
-  fillings_short ranks falls n x look strip = elim (cases_lt n (window r)) [
+  pub fillings_short : (ranks : List ℕ) → IsEmptyCertificate r s ranks → IsShortStrip r s (greatest ranks + state_length r)
+  fillings_short ranks falls n x look strip = elim (cases_lt n (state_length r)) [
     | inl less ↦ omega arith
     | inr more ↦
-        let j = n - window r in
-        let is : n ≡ j + window r = omega arith in
+        let j = n - state_length r in
+        let is : n ≡ j + state_length r = omega arith in
         let e = edges look strip.filling.repeats in
         let short : j ≤ greatest ranks = walk_is_short r s look e ranks falls x j (filling_steps r s look rule e x j (subst (λ (k : ℕ). IsAdmissibleStrip r s x k look) is strip)) in
         omega (arith, short, is)
   ]
 
-  -- so is a configuration that lives on the strip
+  -- a configuration that lives on the strip is a walk, too
   module _ (t : Tile) (on : LivesOnStrip r s t) where
     known_tile : IsOnStrip r s t
     known_tile = record {
@@ -95,21 +95,21 @@ module _ (r : LocalRule) (s : Strip) (rule : IsRule r) (for : IsFor r s) (edges 
 
     tile_step : (x : ℤ) → IsStep r (tile_look t) x
     tile_step x = record {
-      has = tile_has r s t for known_tile x (window r + 1);
+      has = tile_has r s t for known_tile x (state_length r + 1);
       kept = record { allowed = λ c inside node. on.allowed c; true_there = λ v a at flat node. on.lives v a flat node };
     }
 
-    -- and it is back in its state after its period
+    -- after its period the walk is back in its state, so it is closed
     tile_heavy : (ws : List ℕ) (m l : ℕ) (ps : List ℤ) → AreStripPotentials r s ws m l ps → m * t.periods.x ≤ l * tile_weight ws t
     tile_heavy ws m l ps potentials =
         let look = tile_look t in
         let n = t.periods.x in
         let walk = walk_weighs r s look tile_edges ws m l ps potentials (pos 0) n (λ i _. tile_step (pos 0 +ℤ pos i)) in
         let back : potential_of ps (state_from r s look (pos 0 +ℤ pos n)) ≡ potential_of ps (state_from r s look (pos 0)) =
-        ap (λ (ds : List ℕ). potential_of ps (number_with_digits r.symbols ds)) (symbols_round r s t for known_tile (pos 0) (window r)) in
-        let weighs : slices_weight s ws look (pos 0 +ℤ pos (window r)) n ≡ tile_weight ws t =
-        ap (λ (z : ℤ). slices_weight s ws look z n) (let e : (pos 0 +ℤ pos (window r)) ≡ pos (window r) = omega (arith, ints) in e) ∙ period_weighs r s t for known_tile ws tile_edges (window r) in
-        let heavy : m * n ≤ l * slices_weight s ws look (pos 0 +ℤ pos (window r)) n = no_rise _ _ (m * n) (l * slices_weight s ws look (pos 0 +ℤ pos (window r)) n) back walk in
+        ap (λ (ds : List ℕ). potential_of ps (number_with_digits r.symbols ds)) (symbols_round r s t for known_tile (pos 0) (state_length r)) in
+        let weighs : slices_weight s ws look (pos 0 +ℤ pos (state_length r)) n ≡ tile_weight ws t =
+        ap (λ (z : ℤ). slices_weight s ws look z n) (let e : (pos 0 +ℤ pos (state_length r)) ≡ pos (state_length r) = omega (arith, ints) in e) ∙ period_weighs r s t for known_tile ws tile_edges (state_length r) in
+        let heavy : m * n ≤ l * slices_weight s ws look (pos 0 +ℤ pos (state_length r)) n = no_rise _ _ (m * n) (l * slices_weight s ws look (pos 0 +ℤ pos (state_length r)) n) back walk in
         subst (λ (w : ℕ). m * n ≤ l * w) weighs heavy
 
     tile_nowhere : (ranks : List ℕ) → IsEmptyCertificate r s ranks → ⊥
@@ -120,10 +120,10 @@ module _ (r : LocalRule) (s : Strip) (rule : IsRule r) (for : IsFor r s) (edges 
   pub nowhere : (ranks : List ℕ) → IsEmptyCertificate r s ranks → LivesNowhere r s
   nowhere ranks falls t on = tile_nowhere t on ranks falls
 
-  pub strip_empty_law : (ranks : List ℕ) → IsEmptyCertificate r s ranks → StripEmpty r s (greatest ranks + window r)
+  pub strip_empty_law : (ranks : List ℕ) → IsEmptyCertificate r s ranks → StripEmpty r s (greatest ranks + state_length r)
   strip_empty_law ranks falls = record { short = fillings_short ranks falls; nowhere = nowhere ranks falls }
 
-  -- the closed walk is a configuration with its mean
+  -- the closed walk of the certificate gives a configuration of its mean
   module _ (numbers : AreDigits r.symbols) (ws : List ℕ) (p q : ℕ) (walk : List ℕ) (ps : List ℤ) (c : IsDensityCertificate r s ws p q walk ps) where
     cycle_edges : AreEdgesOf r s (tile_look (tile_of r s walk))
     cycle_edges = edges (tile_look (tile_of r s walk)) (tile_repeats r s (tile_of r s walk) for (on_strip r s walk rule for numbers c.closed))

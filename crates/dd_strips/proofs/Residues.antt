@@ -3,7 +3,7 @@ use Rattle.std.proofs.Common.{◌≡◌, ℕ, ◌+◌, ◌*◌, ◌%◌, ◌/◌
 use Rattle.std.proofs.{Math.Nat.mul-le-mul_left, Math.Nat.add-mul-mod_self_right, lemmas.Int.ints, lemmas.Nat.div-add-mod'}
 use Rattle.dd_pattern.specs.{Periods.residue, lemmas.Residues.residue_is}
 
--- x with enough multiples of n added
+-- x with so many multiples of n added that the sum is not below 0
 record Raised (x : ℤ) (n : ℕ) : Type 0 where
   natural : ℕ
   is : x +ℤ pos (unsigned_abs x * n) ≡ pos natural
@@ -13,7 +13,7 @@ raised x n h =
     let one : unsigned_abs x * 1 ≤ unsigned_abs x * n = mul-le-mul_left (unsigned_abs x) h in
     record { natural = unsigned_abs (x +ℤ pos (unsigned_abs x * n)); is = omega (arith, ints) }
 
--- the residue is the same n further
+-- x and x + n have the same residue
 pub residue_round : (x : ℤ) (n : ℕ) → 0 < n → residue (x +ℤ pos n) n ≡ residue x n
 residue_round x n h =
     let p = raised x n h in
@@ -22,7 +22,7 @@ residue_round x n h =
     let more : (x +ℤ pos n) +ℤ pos (a * n) ≡ pos (p.natural + 1 * n) = omega (arith, ints) in
     residue_is (x +ℤ pos n) n a (p.natural + 1 * n) h more ∙ (add-mul-mod_self_right p.natural 1 n ∙ sym (residue_is x n a p.natural h whole))
 
--- one further, the residue is one more, or 0 again
+-- the residue of x + 1 is one more than that of x, or 0 again
 pub residue_next : (x : ℤ) (n : ℕ) → 0 < n → residue (x +ℤ pos 1) n ≡ (residue x n + 1) % n
 residue_next x n h =
     let p = raised x n h in

@@ -7,12 +7,12 @@ use Rattle.std.proofs.lemmas.Nat.{mod-mul-add}
 use Rattle.std.specs.Prelude.{slice_index}
 use Rattle.dd_pattern.specs.{Periods.residue, lemmas.Residues.residue_below}
 use Rattle.dd_formula.specs.LocalRule.{LocalRule}
-use Rattle.dd_counts.specs.Rules.{slices, states, window}
+use Rattle.dd_counts.specs.Rules.{slices, states, state_length}
 use Rattle.dd_strip.specs.{declared.strip.Strip.Strip, Strips.positions}
 use Rattle.dd_transfer.specs.{Windows.IsWindow, Transfers.IsEdge, Certificates.IsWalk, Certificates.IsClosedWalk, Certificates.last_slice}
 use Rattle.dd_strips.proofs.{Residues.residue_next, Modular.mod_of_power}
 
--- some edge from u to v
+-- some edge leads from u to v
 pub record IsJoined (r : LocalRule) (s : Strip) (u v : ℕ) : Type 0 where
   pub slice : ℕ
   pub edge : IsEdge r s u slice v
@@ -34,7 +34,7 @@ module _ (r : LocalRule) (s : Strip) where
   last_state u v (w ∷ x ∷ ws) zero walk is = absurd (omega arith)
   last_state u v (w ∷ x ∷ ws) (suc k) walk is = last_state w v (x ∷ ws) k walk.1 (omega arith)
 
-  -- where the walk is at x
+  -- the state of the walk at x
   abbrev pub state_at : List ℕ → ℤ → ℕ
   state_at walk x = slice_index walk (residue x (length walk))
 
@@ -56,7 +56,7 @@ module _ (r : LocalRule) (s : Strip) where
             (subst (λ (u : ℕ). IsJoined r s u (slice_index walk 0)) (sym here) (first_edge closed.last closed.last walk closed.closed closed.some))
       ]
 
-  -- what an edge says, with the last slice of the state that it leads to
+  -- what is known of an edge from u to v, whose slice is the last slice of v
   pub record Follows (u v : ℕ) : Type 0 where
     pub state : u < states r (positions s)
     pub slice : last_slice r s v < slices r (positions s)
@@ -66,7 +66,7 @@ module _ (r : LocalRule) (s : Strip) where
   pub follows : (u v : ℕ) → IsJoined r s u v → Follows u v
   follows u v j =
       let m = slices r (positions s) in
-      let w = window r in
+      let w = state_length r in
       let t = j.slice in
       let e = j.edge in
       let one : m ^ 1 ≡ m = power_one m in

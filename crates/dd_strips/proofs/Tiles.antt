@@ -18,7 +18,7 @@ use Rattle.dd_strips.proofs.Sums.{total_below, total_below-same, total_below-row
 use Rattle.dd_strips.proofs.Walks.{weight_none, weight_longer}
 use Rattle.dd_values.specs.lemmas.Numbers.{plus_zero}
 
--- it has the strip's nodes and periods, and symbols of the alphabet
+-- the configuration has the strip's nodes and periods, and symbols of the alphabet
 pub record IsOnStrip (r : LocalRule) (s : Strip) (t : Tile) : Type 0 where
   pub tile : IsTile t
   pub nodes : t.nodes ≡ s.nodes
@@ -50,7 +50,7 @@ value_at [] k = refl
 value_at (x ∷ xs) zero = refl
 value_at (x ∷ xs) (suc k) = value_at xs k
 
--- where a cell's symbol stands, by its place along each axis
+-- the place of a cell's symbol in the list, from its place along each axis
 abbrev pub spot : Tile → ℕ → ℕ → ℕ → ℕ → ℕ
 spot t x y z a = ((z * t.periods.y + y) * t.periods.x + x) * t.nodes + a
 
@@ -87,7 +87,7 @@ module _ (r : LocalRule) (s : Strip) (t : Tile) (for : IsFor r s) (on : IsOnStri
       let below : c.node < t.nodes = omega (arith, node, on.nodes, for.nodes) in
       rw (lt-ltb _ _ below) (known_at (λ d. d < r.symbols) t.symbols (tile_index t c) on.known (index_below c below))
 
-  -- a period further it is the same
+  -- the look of the configuration is the same one period further along the first axis
   look_round : (x : ℤ) (y z : ℤ) (a : ℕ) → tile_look t (cell (place (x +ℤ pos t.periods.x) y z) a) ≡ tile_look t (cell (place x y z) a)
   look_round x y z a =
       let p = t.periods in

@@ -5,7 +5,7 @@ use Rattle.std.proofs.lemmas.{Int.ints, Nat.mod_below, List.Sums.sum_by-append}
 use Rattle.std.specs.{Prelude.◌<ℤ◌, Prelude.◌-ℤ◌, Prelude.slice_index, Prelude.unwrap_or, List.range_with_len}
 use Rattle.dd_pattern.specs.{Reading.Look, Weight.total_weight}
 use Rattle.dd_formula.specs.LocalRule.{LocalRule}
-use Rattle.dd_counts.specs.Rules.{states, window}
+use Rattle.dd_counts.specs.Rules.{states, state_length}
 use Rattle.dd_expansion.specs.{Limits.greatest, lemmas.Depths.at_most_greatest}
 use Rattle.dd_strip.specs.{declared.strip.Strip.Strip, Strips.cells, Strips.positions}
 use Rattle.dd_transfer.specs.Transfers.{IsEdge, slice_weight}
@@ -16,9 +16,9 @@ use Rattle.dd_strips.specs.{Strips.slices_weight, Claims.least_potential, Claims
 use Rattle.dd_strips.proofs.Extremes.{lowest_least, highest_greatest}
 use Rattle.dd_values.specs.lemmas.Numbers.{plus_zero}
 
--- the window from x on is there, and obeys the rule
+-- each cell of the window from x on has a symbol, and the rule keeps the window
 pub record IsStep (r : LocalRule) (look : Look) (x : ℤ) : Type 0 where
-  pub has : HasSlices r look x (window r + 1)
+  pub has : HasSlices r look x (state_length r + 1)
   pub kept : IsKeptFrom r look x
 
 -- n steps from x on
@@ -34,14 +34,14 @@ turned x i w = omega (arith, ints)
 last_in : (x c : ℤ) (w : ℕ) → (x +ℤ pos w) ≤ℤ c → c <ℤ ((x +ℤ pos w) +ℤ pos 1) → (x ≤ℤ c) × (c <ℤ (x +ℤ pos (w + 1)))
 last_in x c w p q = (omega (arith, ints), omega (arith, ints))
 
--- one edge more
+-- the rise along a walk with one more edge
 risen : (a b c : ℤ) (m i l w v : ℕ) → (b +ℤ pos (m * i)) ≤ℤ (a +ℤ pos (l * w)) → (c -ℤ b) ≤ℤ (pos (l * v) -ℤ pos m) → (c +ℤ pos (m * suc i)) ≤ℤ (a +ℤ pos (l * (w + v)))
 risen a b c m i l w v p q =
     let more : m * suc i ≡ m + m * i = omega arith in
     let both : l * (w + v) ≡ l * w + l * v = omega arith in
     rw (more, both) (omega (arith, ints, p, q))
 
--- a rise between bounds
+-- a rise between two potentials, which lie between `low` and `high`
 bounded : (a c low high : ℤ) (m l : ℕ) → (c +ℤ pos m) ≤ℤ (a +ℤ pos l) → low ≤ℤ c → a ≤ℤ high → m ≤ l + unsigned_abs (high -ℤ low)
 bounded a c low high m l p q s = omega (arith, ints)
 
@@ -51,12 +51,12 @@ nothing a m l w none =
     rw left (omega (arith, ints))
 
 module _ (r : LocalRule) (s : Strip) (look : Look) (edges : AreEdgesOf r s look) where
-  edge_at : (x : ℤ) → IsStep r look x → IsEdge r s (state_from r s look x) (slices_from r s look (x +ℤ pos (window r)) 1) (state_from r s look (x +ℤ pos 1))
+  edge_at : (x : ℤ) → IsStep r look x → IsEdge r s (state_from r s look x) (slices_from r s look (x +ℤ pos (state_length r)) 1) (state_from r s look (x +ℤ pos 1))
   edge_at x step = edges.edges x step.has step.kept
 
-  last_slice_there : (x : ℤ) → IsStep r look x → HasSlices r look (x +ℤ pos (window r)) 1
+  last_slice_there : (x : ℤ) → IsStep r look x → HasSlices r look (x +ℤ pos (state_length r)) 1
   last_slice_there x step c inside node =
-      let p = last_in x c.position.x (window r) inside.from inside.before in
+      let p = last_in x c.position.x (state_length r) inside.from inside.before in
       step.has c (record { from = p.0; before = p.1 }) node
 
   pub weight_none : (ws : List ℕ) (x : ℤ) → slices_weight s ws look x 0 ≡ 0
@@ -69,13 +69,13 @@ module _ (r : LocalRule) (s : Strip) (look : Look) (edges : AreEdgesOf r s look)
 
   module _ (ws : List ℕ) (m l : ℕ) (ps : List ℤ) (potentials : AreStripPotentials r s ws m l ps) where
     pub walk_weighs : (x : ℤ) (j : ℕ) → AreSteps r look x j →
-        (potential_of ps (state_from r s look (x +ℤ pos j)) +ℤ pos (m * j)) ≤ℤ (potential_of ps (state_from r s look x) +ℤ pos (l * slices_weight s ws look (x +ℤ pos (window r)) j))
+        (potential_of ps (state_from r s look (x +ℤ pos j)) +ℤ pos (m * j)) ≤ℤ (potential_of ps (state_from r s look x) +ℤ pos (l * slices_weight s ws look (x +ℤ pos (state_length r)) j))
     walk_weighs x zero steps =
-        subst (λ (y : ℤ). (potential_of ps (state_from r s look y) +ℤ pos (m * 0)) ≤ℤ (potential_of ps (state_from r s look x) +ℤ pos (l * slices_weight s ws look (x +ℤ pos (window r)) 0)))
-        (sym (plus_zero x)) (nothing (potential_of ps (state_from r s look x)) m l (slices_weight s ws look (x +ℤ pos (window r)) 0) (weight_none ws (x +ℤ pos (window r))))
+        subst (λ (y : ℤ). (potential_of ps (state_from r s look y) +ℤ pos (m * 0)) ≤ℤ (potential_of ps (state_from r s look x) +ℤ pos (l * slices_weight s ws look (x +ℤ pos (state_length r)) 0)))
+        (sym (plus_zero x)) (nothing (potential_of ps (state_from r s look x)) m l (slices_weight s ws look (x +ℤ pos (state_length r)) 0) (weight_none ws (x +ℤ pos (state_length r))))
     walk_weighs x (suc i) steps =
         let y = x +ℤ pos i in
-        let w = window r in
+        let w = state_length r in
         let step = steps i (omega arith) in
         let rest = walk_weighs x i (λ k lt. steps k (omega arith)) in
         let rise = potentials.rise (state_from r s look y) (slices_from r s look (y +ℤ pos w) 1) (state_from r s look (y +ℤ pos 1)) (edge_at y step) in
@@ -89,7 +89,7 @@ module _ (r : LocalRule) (s : Strip) (look : Look) (edges : AreEdgesOf r s look)
         subst (λ (v : ℕ). (potential_of ps (state_from r s look (x +ℤ pos (suc i))) +ℤ pos (m * suc i)) ≤ℤ (potential_of ps (state_from r s look x) +ℤ pos (l * v))) (sym (weight_longer ws (x +ℤ pos w) i)) all
 
     -- so a long walk is heavy, up to the spread of the potentials
-    pub walk_is_heavy : (x : ℤ) (j : ℕ) → AreSteps r look x j → m * j ≤ l * slices_weight s ws look (x +ℤ pos (window r)) j + spread_of ps
+    pub walk_is_heavy : (x : ℤ) (j : ℕ) → AreSteps r look x j → m * j ≤ l * slices_weight s ws look (x +ℤ pos (state_length r)) j + spread_of ps
     walk_is_heavy x zero steps = omega arith
     walk_is_heavy x (suc i) steps =
         let first = edge_at x (subst (IsStep r look) (plus_zero x) (steps 0 (omega arith))) in
@@ -98,20 +98,20 @@ module _ (r : LocalRule) (s : Strip) (look : Look) (edges : AreEdgesOf r s look)
         let v = state_from r s look (x +ℤ pos (suc i)) in
         let v_lt : v < states r (positions s) =
         subst (λ (z : ℤ). state_from r s look z < states r (positions s)) (one_more x i) (subst (λ (n : ℕ). n < states r (positions s)) (sym last.leads) (mod_below _ _ (some_state (state_from r s look x) _ first.state))) in
-        bounded (potential_of ps u) (potential_of ps v) (least_potential ps) (greatest_potential ps) (m * suc i) (l * slices_weight s ws look (x +ℤ pos (window r)) (suc i)) (walk_weighs x (suc i) steps)
+        bounded (potential_of ps u) (potential_of ps v) (least_potential ps) (greatest_potential ps) (m * suc i) (l * slices_weight s ws look (x +ℤ pos (state_length r)) (suc i)) (walk_weighs x (suc i) steps)
         (lowest_least ps v (omega (arith, v_lt, potentials.each))) (highest_greatest ps u (omega (arith, first.state, potentials.each)))
       where
         some_state : (u n : ℕ) → u < n → 0 < n
         some_state u n h = omega arith
 
-  -- ranks
+  -- ranks fall along each step
   module _ (ranks : List ℕ) (falls : IsEmptyCertificate r s ranks) where
     walk_falls : (x : ℤ) (j : ℕ) → AreSteps r look x j → slice_index ranks (state_from r s look (x +ℤ pos j)) + j ≤ slice_index ranks (state_from r s look x)
     walk_falls x zero steps = let same = ap (λ (z : ℤ). slice_index ranks (state_from r s look z)) (plus_zero x) in omega (arith, same)
     walk_falls x (suc i) steps =
         let y = x +ℤ pos i in
         let rest = walk_falls x i (λ k lt. steps k (omega arith)) in
-        let fall = falls.fall (state_from r s look y) (slices_from r s look (y +ℤ pos (window r)) 1) (state_from r s look (y +ℤ pos 1)) (edge_at y (steps i (omega arith))) in
+        let fall = falls.fall (state_from r s look y) (slices_from r s look (y +ℤ pos (state_length r)) 1) (state_from r s look (y +ℤ pos 1)) (edge_at y (steps i (omega arith))) in
         let same = ap (λ (z : ℤ). slice_index ranks (state_from r s look z)) (one_more x i) in
         omega (arith, rest, fall, same)
 

@@ -1,18 +1,19 @@
--- What a certificate says about the strips of every length.
+-- What a certificate says about the strip at every length.
 use Rattle.std.specs.Prelude.{ℕ, ◌+◌, ◌*◌, ◌≤◌, ℤ, pos, ◌+ℤ◌, ◌-ℤ◌, unsigned_abs, List, [], ◌∷◌}
 use Rattle.std.specs.{Int.int_min, Int.int_max, List.fold}
 use Rattle.dd_pattern.specs.Reading.{Look}
 use Rattle.dd_formula.specs.LocalRule.{LocalRule}
-use Rattle.dd_counts.specs.Rules.{window}
+use Rattle.dd_counts.specs.Rules.{state_length}
 use Rattle.dd_strip.specs.declared.strip.Strip.{Strip}
 use Rattle.dd_strips.specs.Strips.{IsAdmissibleStrip, slices_weight, IsLeastDensity, LivesNowhere}
 
--- l times the weight of the last j slices of an admissible filling is at least m times j, up to the spread
+-- take an admissible filling of the slices of a state and j more; l times the weight of these j slices is at least
+-- m * j - spread
 abbrev pub IsHeavy : LocalRule → Strip → List ℕ → ℕ → ℕ → ℕ → Type 0
 IsHeavy r s ws m l spread =
-    (j : ℕ) (x : ℤ) (look : Look) → IsAdmissibleStrip r s x (j + window r) look → m * j ≤ l * slices_weight s ws look (x +ℤ pos (window r)) j + spread
+    (j : ℕ) (x : ℤ) (look : Look) → IsAdmissibleStrip r s x (j + state_length r) look → m * j ≤ l * slices_weight s ws look (x +ℤ pos (state_length r)) j + spread
 
--- the least density of the strip is p / q, and no filling of any length is lighter, up to the spread
+-- the least density of the strip is p / q, and admissible fillings of every length are heavy
 pub record StripLeast (r : LocalRule) (s : Strip) (ws : List ℕ) (p q l m spread : ℕ) : Type 0 where
   pub density : IsLeastDensity r s ws p q
   pub heavy : IsHeavy r s ws m l spread
@@ -21,7 +22,7 @@ pub record StripLeast (r : LocalRule) (s : Strip) (ws : List ℕ) (p q l m sprea
 abbrev pub IsShortStrip : LocalRule → Strip → ℕ → Type 0
 IsShortStrip r s k = (n : ℕ) (x : ℤ) (look : Look) → IsAdmissibleStrip r s x n look → n ≤ k
 
--- and so no configuration lives on it
+-- no admissible filling has more than k slices, and no configuration lives on the strip
 pub record StripEmpty (r : LocalRule) (s : Strip) (k : ℕ) : Type 0 where
   pub short : IsShortStrip r s k
   pub nowhere : LivesNowhere r s
@@ -34,6 +35,6 @@ abbrev pub greatest_potential : List ℤ → ℤ
 greatest_potential [] = pos 0
 greatest_potential (p ∷ ps) = fold int_max p ps
 
--- the greatest potential less the least
+-- the spread of the potentials: the greatest less the least
 abbrev pub spread_of : List ℤ → ℕ
 spread_of ps = unsigned_abs (greatest_potential ps -ℤ least_potential ps)

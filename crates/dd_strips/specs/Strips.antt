@@ -1,4 +1,4 @@
--- Strips: fillings of some slices, and configurations that repeat with the strip's periods along the axes after the first.
+-- Fillings of the slices of a strip, and configurations that repeat with the strip's periods along the axes after the first.
 use Rattle.std.specs.Prelude.{◌≡◌, ℕ, ◌*◌, ◌<◌, ◌≤◌, ◌&&◌, Bool, ℤ, pos, ◌+ℤ◌, int_le, int_lt, nat_lt, is_some, List}
 use Rattle.dd_lattice.specs.declared.position.Cell.{Cell}
 use Rattle.dd_pattern.specs.{Reading.Look, Periods.periods_volume, Tile.Tile, Tile.IsTile, Weight.total_weight}
@@ -7,18 +7,18 @@ use Rattle.dd_boxes.specs.Fillings.{Admissible}
 use Rattle.dd_strip.specs.declared.strip.Strip.{Strip}
 use Rattle.dd_transfer.specs.Slices.{RepeatsAcross, symbols_from}
 
--- the cells of k slices from x on, with each node
+-- a cell of the k slices from x on
 abbrev pub is_slice_cell : LocalRule → ℤ → ℕ → Cell → Bool
 is_slice_cell r x k c = int_le x c.position.x && int_lt c.position.x (x +ℤ pos k) && nat_lt c.node r.nodes
 
--- a filling of k slices of the strip from x on: exactly their cells have symbols, and these are allowed; coordinates
--- along the axes after the first are read modulo the strip's periods
+-- A filling of k slices of the strip from x on: exactly their cells have symbols, and these are allowed. It repeats with the
+-- strip's periods along the axes after the first.
 pub record IsStripFilling (r : LocalRule) (s : Strip) (x : ℤ) (k : ℕ) (look : Look) : Type 0 where
   pub domain : (c : Cell) → is_some (look c) ≡ is_slice_cell r x k c
   pub repeats : RepeatsAcross s look
   pub allowed : AreAllowed r look
 
--- such a filling in which the rule is true at each place that fits
+-- an admissible filling: the rule is true at each cell that lies in it together with all cells that the rule reads there
 pub record IsAdmissibleStrip (r : LocalRule) (s : Strip) (x : ℤ) (k : ℕ) (look : Look) : Type 0 where
   pub filling : IsStripFilling r s x k look
   pub admissible : Admissible r look
@@ -38,14 +38,15 @@ pub record LivesOnStrip (r : LocalRule) (s : Strip) (t : Tile) : Type 0 where
   pub straight : t.periods.shear ≡ 0
   pub lives : Lives r t
 
+-- no configuration lives on the strip
 abbrev pub LivesNowhere : LocalRule → Strip → Type 0
 LivesNowhere r s = (t : Tile) → LivesOnStrip r s t → ⊥
 
--- the weight of its fundamental box
+-- the weight of a configuration's fundamental box
 abbrev pub tile_weight : List ℕ → Tile → ℕ
 tile_weight ws t = total_weight ws t.symbols
 
--- some configuration on the strip weighs p / q per position, and none weighs less
+-- some configuration on the strip has the density p / q, its weight per position, and none has a lower one
 pub record IsLeastDensity (r : LocalRule) (s : Strip) (ws : List ℕ) (p q : ℕ) : Type 0 where
   pub positive : 0 < q
   pub some : Tile

@@ -3,7 +3,7 @@ ghost use Rattle.std.specs.Prelude.{ℕ, ℤ, List, ◌+◌, ◌≡◌};
 ghost use Rattle.std.specs.Int.{IsGcd};
 ghost use Rattle.dd_expansion.specs.Limits.{greatest};
 ghost use Rattle.dd_formula.specs.LocalRule.{LocalRule, IsRule};
-ghost use Rattle.dd_counts.specs.Rules.{window};
+ghost use Rattle.dd_counts.specs.Rules.{state_length};
 ghost use Rattle.dd_strip.specs.Strips.{IsStrip, strip_for};
 ghost use Rattle.dd_transfer.specs.Certificates.{IsDensityCertificate, IsEmptyCertificate};
 ghost use Rattle.dd_strip.specs.declared.strip.Strip.{Strip};
@@ -12,9 +12,10 @@ ghost use Rattle.dd_strips.specs.Claims.{StripLeast, StripEmpty, spread_of};
 
 use dd_transfer::slices_are_walks;
 
-/// Does nothing; its contract says what a closed walk and potentials show: the walk's mean is the least density of all
-/// configurations on the strip, and up to the spread of the potentials no admissible filling of the strip, of whatever length,
-/// is lighter.
+/// Does nothing. Its contract says what a closed walk and potentials show:
+/// - The walk's mean, divided by the number of positions of a slice, is the least density of all configurations on the strip.
+/// - Take an admissible filling of the slices of a state and `j` more. These `j` slices weigh at least `j` times the walk's
+///   mean, less the spread of the potentials over the mean's denominator. The spread is the greatest less the least.
 pub fn strip_least()
     ensures { (r : LocalRule) (periods ws : List ℕ) (p q : ℕ) (walk : List ℕ) (ps : List ℤ) → IsRule r → IsStrip r periods →
         (c : IsDensityCertificate r (strip_for r periods) ws p q walk ps) → StripLeast r (strip_for r periods) ws p q c.l c.m (spread_of ps) }
@@ -22,16 +23,17 @@ pub fn strip_least()
     slices_are_walks();
 }
 
-/// Does nothing; its contract says what ranks show: no admissible filling of the strip has more slices than the
-/// greatest rank plus the number of slices of a state, and no configuration lives on it.
+/// Does nothing. Its contract says what ranks show. No configuration lives on the strip. No admissible filling of the strip
+/// has more slices than the greatest rank plus the number of slices of a state.
 pub fn strip_empty()
     ensures { (r : LocalRule) (periods ranks : List ℕ) → IsRule r → IsStrip r periods →
-        IsEmptyCertificate r (strip_for r periods) ranks → StripEmpty r (strip_for r periods) (greatest ranks + window r) }
+        IsEmptyCertificate r (strip_for r periods) ranks → StripEmpty r (strip_for r periods) (greatest ranks + state_length r) }
 {
     slices_are_walks();
 }
 
-/// Does nothing; its contract says that a strip has one least density: fractions in lowest terms that are its least density are the same.
+/// Does nothing. Its contract says that a strip has one least density: two fractions in lowest terms that are both its least
+/// density are the same.
 pub fn one_density()
     ensures { (r : LocalRule) (s : Strip) (ws : List ℕ) (p q a b : ℕ) → IsLeastDensity r s ws p q → IsLeastDensity r s ws a b →
         IsGcd p q 1 → IsGcd a b 1 → (p ≡ a) × (q ≡ b) }

@@ -5,23 +5,25 @@ use Rattle.dd_tokens.specs.{declared.token.TokenKind.TokenKind, declared.token.T
 use Rattle.dd_tokens.specs.Format.{tokens_after, first, with_piece, piece_size, with_front, IsPieceWithin}
 
 -- the bytes that belong to a piece are skipped
-pub over : (n place : ℕ) (bytes : List ℕ) → n ≤ length bytes → tokens_after n place bytes ≡ tokens_after 0 (place + n) (drop n bytes)
-over zero place bytes le = ap (λ p. tokens_after 0 p bytes) (omega arith)
-over (suc n) place [] le = absurd (omega arith)
-over (suc n) place (b ∷ bytes) le = over n (place + 1) bytes (omega arith) ∙ ap (λ p. tokens_after 0 p (drop n bytes)) (omega arith)
+pub over : (n position : ℕ) (bytes : List ℕ) → n ≤ length bytes → tokens_after n position bytes ≡ tokens_after 0 (position + n) (drop n bytes)
+over zero position bytes le = ap (λ p. tokens_after 0 p bytes) (omega arith)
+over (suc n) position [] le = absurd (omega arith)
+over (suc n) position (b ∷ bytes) le = over n (position + 1) bytes (omega arith) ∙ ap (λ p. tokens_after 0 p (drop n bytes)) (omega arith)
 
 -- the tokens at a position are the piece there and the tokens after it
-pub next : (piece : Piece) (place : ℕ) (bytes : List ℕ) → piece ≡ first bytes → 0 < piece_size piece → piece_size piece ≤ length bytes
-    → tokens_after 0 place bytes ≡ with_piece piece place (tokens_after 0 (place + piece_size piece) (drop (piece_size piece) bytes))
-next piece place [] is some within = absurd (omega (arith, some, within))
-next piece place (b ∷ bytes) is some within =
+pub next : (piece : Piece) (position : ℕ) (bytes : List ℕ) → piece ≡ first bytes → 0 < piece_size piece → piece_size piece ≤ length bytes
+    → tokens_after 0 position bytes ≡ with_piece piece position (tokens_after 0 (position + piece_size piece) (drop (piece_size piece) bytes))
+next piece position [] is some within = absurd (omega (arith, some, within))
+next piece position (b ∷ bytes) is some within =
     let n : piece_size piece ≡ suc (piece_size piece - 1) = omega (arith, some) in
-    rw (← is) (ap (with_piece piece place) (ap (λ (k : ℕ). tokens_after k place (b ∷ bytes)) (sym n) ∙ over (piece_size piece) place (b ∷ bytes) within))
+    rw (← is) (ap (with_piece piece position)
+    (ap (λ (k : ℕ). tokens_after k position (b ∷ bytes)) (sym n) ∙ over (piece_size piece) position (b ∷ bytes) within))
 
-pub cut_off : (kind : TokenKind) (n place : ℕ) (bytes rest : List ℕ) (list new : List Token) → Cut kind n ≡ first bytes → IsPieceWithin (Cut kind n) (length bytes) → rest ≡ drop n bytes
-    → new ≡ list ++ record { kind = kind; start = place; length = n } ∷ []
-    → with_front new (tokens_after 0 (place + n) rest) ≡ with_front list (tokens_after 0 place bytes)
-cut_off kind n place bytes rest list new is within left pushed =
-    let t : Token = record { kind = kind; start = place; length = n } in
-    rw (left, pushed) (ap (λ ts. record { list = ts; stop = (tokens_after 0 (place + n) (drop n bytes)).stop }) (append_assoc list (t ∷ []) (tokens_after 0 (place + n) (drop n bytes)).list)
-    ∙ ap (with_front list) (sym (next (Cut kind n) place bytes is within.0 within.1)))
+-- a token moves from the front of what is left to the end of the list
+pub cut_off : (kind : TokenKind) (n position : ℕ) (bytes rest : List ℕ) (list new : List Token) → Cut kind n ≡ first bytes → IsPieceWithin (Cut kind n) (length bytes) → rest ≡ drop n bytes
+    → new ≡ list ++ record { kind = kind; start = position; length = n } ∷ []
+    → with_front new (tokens_after 0 (position + n) rest) ≡ with_front list (tokens_after 0 position bytes)
+cut_off kind n position bytes rest list new is within left pushed =
+    let t : Token = record { kind = kind; start = position; length = n } in
+    rw (left, pushed) (ap (λ ts. record { list = ts; stop = (tokens_after 0 (position + n) (drop n bytes)).stop }) (append_assoc list (t ∷ []) (tokens_after 0 (position + n) (drop n bytes)).list)
+    ∙ ap (with_front list) (sym (next (Cut kind n) position bytes is within.0 within.1)))

@@ -1,4 +1,5 @@
--- The lexical format of a script: blanks, comments and tokens, longest first, up to the first position where none begins.
+-- The lexical format of a script: blanks, comments and tokens. Each token is as long as possible. The tokens stop at the first
+-- byte that isn't allowed.
 use Rattle.std.specs.Prelude.{ℕ, zero, suc, ◌+◌, ◌-◌, List, [], ◌∷◌, ◌++◌, ◌<◌, ◌≤◌, Bool, false, ◌&&◌, ◌||◌, not, ◌==◌, nat_le, if◌then◌else◌, drop, codes}
 use Rattle.std.specs.List.{prefix_len, list_any}
 use Rattle.dd_tokens.specs.declared.token.TokenKind.TheVariants.{Word, Number, Negative, Mark}
@@ -17,85 +18,90 @@ is_letter b = nat_le 97 b && nat_le b 122
 abbrev pub is_digit : ℕ → Bool
 is_digit b = nat_le 48 b && nat_le b 57
 
--- the tokens of one byte that are neither words nor numbers
-abbrev pub is_sign : ℕ → Bool
-is_sign b = list_any (λ s. s == b) (codes "AE%()[].=!&|~@:")
+-- the marks of one byte
+abbrev pub is_one_byte_mark : ℕ → Bool
+is_one_byte_mark b = list_any (λ s. s == b) (codes "AE%()[].=!&|~@:")
 
--- a byte that a comment may contain: no line feed, and at most 127
+-- a byte that a comment may hold: no line feed, and at most 127
 abbrev pub is_comment : ℕ → Bool
 is_comment b = not (b == 10) && nat_le b 127
 
--- the first byte passes the test
+-- there is a first byte, and it passes the test
 abbrev pub starts : (ℕ → Bool) → List ℕ → Bool
 starts p [] = false
 starts p (b ∷ bytes) = p b
 
--- a digit other than 0
+-- the first byte is a digit other than 0
 abbrev pub starts_positive : List ℕ → Bool
 starts_positive bytes = starts (λ c. nat_le 49 c && nat_le c 57) bytes
 
--- the tokens of two bytes: -> !=
-abbrev pub is_pair : ℕ → List ℕ → Bool
-is_pair b bytes = (b == 45 && starts (λ c. c == 62) bytes) || (b == 33 && starts (λ c. c == 61) bytes)
+-- the marks of two bytes, -> and !=
+abbrev pub is_two_byte_mark : ℕ → List ℕ → Bool
+is_two_byte_mark b bytes = (b == 45 && starts (λ c. c == 62) bytes) || (b == 33 && starts (λ c. c == 61) bytes)
 
--- <->
-abbrev pub is_both_ways : ℕ → List ℕ → Bool
-is_both_ways b bytes = b == 60 && starts (λ c. c == 45) bytes && starts (λ c. c == 62) (drop 1 bytes)
+-- the mark of three bytes, <->
+abbrev pub is_three_byte_mark : ℕ → List ℕ → Bool
+is_three_byte_mark b bytes = b == 60 && starts (λ c. c == 45) bytes && starts (λ c. c == 62) (drop 1 bytes)
 
--- A comment, after its first hyphen, extends to the line feed or to the end. A byte over 127 in it is a fault.
+-- The piece that is a comment, from the bytes after its first hyphen. It extends to the next line feed or to the end. A byte
+-- over 127 in it is a fault.
 abbrev pub comment : List ℕ → Piece
 comment bytes =
     if starts (λ b. nat_le 128 b) (drop (prefix_len is_comment bytes) bytes) then Fault (1 + prefix_len is_comment bytes)
     else Gap (1 + prefix_len is_comment bytes)
 
--- A number begins with a digit and has no leading zero.
+-- The piece that is a number, from its first digit b and the bytes after that. Only the number 0 begins with the digit 0.
 abbrev pub number : ℕ → List ℕ → Piece
 number b bytes = if b == 48 && starts is_digit bytes then Fault 0 else Cut Number (1 + prefix_len is_digit bytes)
 
--- what the bytes begin with: a blank or a comment, a token, or a fault some bytes on
+-- the piece that the byte b begins, if these bytes follow it
 abbrev pub front : ℕ → List ℕ → Piece
 front b bytes =
     if is_blank b then Gap 1
     else (if b == 45 && starts (λ c. c == 45) bytes then comment bytes
     else (if is_letter b then Cut Word (1 + prefix_len is_letter bytes)
     else (if is_digit b then number b bytes
-    else (if is_both_ways b bytes then Cut Mark 3
-    else (if is_pair b bytes then Cut Mark 2
-    else (if is_sign b then Cut Mark 1
+    else (if is_three_byte_mark b bytes then Cut Mark 3
+    else (if is_two_byte_mark b bytes then Cut Mark 2
+    else (if is_one_byte_mark b then Cut Mark 1
     else (if b == 45 && starts_positive bytes then Cut Negative (1 + prefix_len is_digit bytes)
     else Fault 0)))))))
 
+-- the piece at the front of the bytes
 abbrev pub first : List ℕ → Piece
 first [] = Fault 0
 first (b ∷ bytes) = front b bytes
 
--- how many bytes a piece has
+-- the number of bytes of a blank, a comment or a token
 abbrev pub piece_size : Piece → ℕ
 piece_size (Gap n) = n
 piece_size (Cut kind n) = n
 piece_size (Fault n) = 0
 
--- a piece has at least one byte and at most `room`; a fault is one of `room` bytes
+-- The piece lies within the first `room` bytes: a blank, a comment or a token has one byte at least, and a byte that isn't
+-- allowed is among them.
 abbrev pub IsPieceWithin : Piece → ℕ → Type 0
 IsPieceWithin (Gap n) room = (0 < n) × (n ≤ room)
 IsPieceWithin (Cut kind n) room = (0 < n) × (n ≤ room)
 IsPieceWithin (Fault n) room = n < room
 
--- these tokens, followed by the others
+-- the tokens in the list, followed by the others
 abbrev pub with_front : List Token → Tokens → Tokens
 with_front list others = record { list = list ++ others.list; stop = others.stop }
 
--- a piece at a position, followed by the tokens of the rest
+-- The tokens from a position on, given the piece there and the tokens after it. None follow a byte that isn't allowed.
 abbrev pub with_piece : Piece → ℕ → Tokens → Tokens
-with_piece (Gap n) place rest = rest
-with_piece (Cut kind n) place rest = with_front (record { kind = kind; start = place; length = n } ∷ []) rest
-with_piece (Fault n) place rest = record { list = []; stop = place + n }
+with_piece (Gap n) position rest = rest
+with_piece (Cut kind n) position rest = with_front (record { kind = kind; start = position; length = n } ∷ []) rest
+with_piece (Fault n) position rest = record { list = []; stop = position + n }
 
--- The tokens of the bytes from a position on, whose first `within` bytes belong to the piece before.
+-- The tokens of the bytes that follow the first `position` bytes. The first `within` of them belong to the piece before.
 abbrev pub tokens_after : ℕ → ℕ → List ℕ → Tokens
-tokens_after within place [] = record { list = []; stop = place }
-tokens_after (suc within) place (b ∷ bytes) = tokens_after within (place + 1) bytes
-tokens_after zero place (b ∷ bytes) = with_piece (first (b ∷ bytes)) place (tokens_after (piece_size (first (b ∷ bytes)) - 1) (place + 1) bytes)
+tokens_after within position [] = record { list = []; stop = position }
+tokens_after (suc within) position (b ∷ bytes) = tokens_after within (position + 1) bytes
+tokens_after zero position (b ∷ bytes) =
+    with_piece (first (b ∷ bytes)) position (tokens_after (piece_size (first (b ∷ bytes)) - 1) (position + 1) bytes)
 
+-- the tokens of a script
 abbrev pub tokens_of : List ℕ → Tokens
 tokens_of bytes = tokens_after 0 0 bytes

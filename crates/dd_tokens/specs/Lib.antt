@@ -1,2 +1,2 @@
--- blanks, comments and tokens, longest first, up to the first position where none begins
+-- blanks, comments and tokens, and the tokens of a script
 pub mod Format

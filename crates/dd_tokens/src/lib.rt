@@ -1,4 +1,4 @@
-//! Cuts the bytes of a script into tokens.
+//! Cuts the bytes of a script into tokens: words, numbers and marks.
 #![tactic(auto)]
 
 mod cutting;

@@ -1,19 +1,19 @@
-//! What some bytes begin with: a blank, a comment, a token, or a fault.
+//! The piece at the front of some bytes: a blank, a comment, a token, or bytes up to one that isn't allowed.
 ghost use Rattle.std.specs.Prelude.{◌≡◌, ◌≤◌, ◌<◌, ◌+◌, length};
 ghost use Rattle.std.specs.List.{prefix_len};
 ghost use Rattle.dd_values.specs.Bounds.{most_script};
-ghost use Rattle.dd_tokens.specs.Format.{is_letter, is_digit, is_comment, is_pair, starts_positive, comment, front, first, IsPieceWithin};
+ghost use Rattle.dd_tokens.specs.Format.{is_letter, is_digit, is_comment, is_two_byte_mark, starts_positive, comment, front, first, IsPieceWithin};
 
 use crate::token::TokenKind;
 
-/// What some bytes begin with.
+/// The piece at the front of some bytes.
 #[derive(Clone, Copy, Debug, PartialEq, Eq)]
 pub enum Piece {
-    /// A blank or a comment of this many bytes.
+    /// A blank (space, tab, line feed or carriage return) or a comment, of this many bytes.
     Gap(u32),
     /// A token of this many bytes.
     Cut(TokenKind, u32),
-    /// A byte that isn't allowed, after this many bytes.
+    /// A byte that isn't allowed, after this many others.
     Fault(u32),
 }
 
@@ -29,12 +29,14 @@ fn is_digit(byte: u8) -> bool
     byte >= b'0' && byte <= b'9'
 }
 
+/// A byte that a comment may hold after its two hyphens.
 fn is_comment(byte: u8) -> bool
     ensures { result ≡ is_comment byte }
 {
     byte != b'\n' && byte <= 127
 }
 
+/// The number of letters that the bytes begin with.
 fn letters(bytes: &[u8]) -> usize
     ensures value { result ≡ prefix_len is_letter bytes.now }
     ensures within { result ≤ length bytes.now }
@@ -42,6 +44,7 @@ fn letters(bytes: &[u8]) -> usize
     bytes.iter().take_while(|byte| is_letter(**byte)).count()
 }
 
+/// The number of digits that the bytes begin with.
 fn digits(bytes: &[u8]) -> usize
     ensures value { result ≡ prefix_len is_digit bytes.now }
     ensures within { result ≤ length bytes.now }
@@ -49,6 +52,7 @@ fn digits(bytes: &[u8]) -> usize
     bytes.iter().take_while(|byte| is_digit(**byte)).count()
 }
 
+/// The number of bytes before the end of a comment, or before a byte that isn't allowed in it.
 fn comment_bytes(bytes: &[u8]) -> usize
     ensures value { result ≡ prefix_len is_comment bytes.now }
     ensures within { result ≤ length bytes.now }
@@ -56,6 +60,7 @@ fn comment_bytes(bytes: &[u8]) -> usize
     bytes.iter().take_while(|byte| is_comment(**byte)).count()
 }
 
+/// The piece that is a comment. The bytes are those after its first hyphen.
 fn comment(bytes: &[u8]) -> Piece
     requires { length bytes.now ≤ most_script }
     ensures value { result ≡ comment bytes.now }
@@ -69,55 +74,58 @@ fn comment(bytes: &[u8]) -> Piece
     }
 }
 
+/// Whether the bytes begin with a digit other than 0.
 fn starts_positive(bytes: &[u8]) -> bool
     ensures { result ≡ starts_positive bytes.now }
 {
     matches!(bytes, [b'1'..=b'9', ..])
 }
 
-fn is_pair(first: u8, bytes: &[u8]) -> bool
-    ensures { result ≡ is_pair first bytes.now }
+/// Whether the byte begins a mark of two bytes, `->` or `!=`. The bytes `after` follow it.
+fn is_two_byte_mark(byte: u8, after: &[u8]) -> bool
+    ensures { result ≡ is_two_byte_mark byte after.now }
 {
-    (first == b'-' && matches!(bytes, [b'>', ..])) || (first == b'!' && matches!(bytes, [b'=', ..]))
+    (byte == b'-' && matches!(after, [b'>', ..])) || (byte == b'!' && matches!(after, [b'=', ..]))
 }
 
-fn front(first: u8, bytes: &[u8]) -> Piece
-    requires { length bytes.now ≤ most_script }
-    ensures value { result ≡ front first bytes.now }
-    ensures within { IsPieceWithin result (1 + length bytes.now) }
+/// The piece that a byte begins. The bytes `after` follow it.
+fn front(byte: u8, after: &[u8]) -> Piece
+    requires { length after.now ≤ most_script }
+    ensures value { result ≡ front byte after.now }
+    ensures within { IsPieceWithin result (1 + length after.now) }
 {
-    if matches!(first, b' ' | b'\t' | b'\n' | b'\r') {
+    if matches!(byte, b' ' | b'\t' | b'\n' | b'\r') {
         return Piece::Gap(1);
     }
-    if first == b'-' && matches!(bytes, [b'-', ..]) {
-        return comment(bytes);
+    if byte == b'-' && matches!(after, [b'-', ..]) {
+        return comment(after);
     }
-    if is_letter(first) {
-        return Piece::Cut(TokenKind::Word, 1 + letters(bytes) as u32);
+    if is_letter(byte) {
+        return Piece::Cut(TokenKind::Word, 1 + letters(after) as u32);
     }
-    if is_digit(first) {
-        let n = digits(bytes);
-        if first == b'0' && n > 0 {
+    if is_digit(byte) {
+        let n = digits(after);
+        if byte == b'0' && n > 0 {
             return Piece::Fault(0);
         }
         return Piece::Cut(TokenKind::Number, 1 + n as u32);
     }
-    if first == b'<' && matches!(bytes, [b'-', b'>', ..]) {
+    if byte == b'<' && matches!(after, [b'-', b'>', ..]) {
         return Piece::Cut(TokenKind::Mark, 3);
     }
-    if is_pair(first, bytes) {
+    if is_two_byte_mark(byte, after) {
         return Piece::Cut(TokenKind::Mark, 2);
     }
-    if b"AE%()[].=!&|~@:".contains(&first) {
+    if b"AE%()[].=!&|~@:".contains(&byte) {
         return Piece::Cut(TokenKind::Mark, 1);
     }
-    if first == b'-' && starts_positive(bytes) {
-        return Piece::Cut(TokenKind::Negative, 1 + digits(bytes) as u32);
+    if byte == b'-' && starts_positive(after) {
+        return Piece::Cut(TokenKind::Negative, 1 + digits(after) as u32);
     }
     Piece::Fault(0)
 }
 
-/// What the bytes begin with; there is at least one.
+/// The piece at the front of the bytes. There is at least one byte.
 pub fn first(bytes: &[u8]) -> Piece
     requires some { 0 < length bytes.now }
     requires few { length bytes.now ≤ most_script }

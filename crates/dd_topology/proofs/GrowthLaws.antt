@@ -1,4 +1,5 @@
--- Why the rounds of growth make a ball: only cells beside the frontier can be new.
+-- Why the rounds find the ball. All neighbours of an older cell were found in the round after it was new, so only the
+-- frontier can have neighbours that are new.
 use Rattle.std.proofs.Common.{◌≡◌, ◌+◌, ◌<◌, ◌≤◌, ◌↔◌, ℕ, zero, suc, List, [], ◌∷◌, ◌++◌, Bool, true, false, ◌&&◌, refl, ap, sym, ◌∙◌, subst, inl, inr, ◌⊎◌, arith, take, get_or, length, Contains, true≢false, add-one, zero-add, suc-add, ◌-◌, eq-eqb}
 use Rattle.std.proofs.lemmas.List.{take_more}
 use Rattle.std.proofs.lemmas.List.Elements.{All-contains, All-cons, All-nil, Contains-append_left, Contains-append_right, Contains-append_cases}
@@ -17,8 +18,7 @@ use Rattle.dd_topology.specs.{keeping.Growth.AddsCells, lemmas.ListLaws.in_flat_
 use Rattle.dd_topology.specs.lemmas.OrderLaws.{kept-insert_key, has-insert_key, from-insert_key, is-in_order}
 use Rattle.dd_topology.proofs.BallLaws.{from_neighbours, into_neighbours, in_ball, ball_holds}
 
--- the cells found are the ball of radius r. Each neighbour of one of them is found too, except for neighbours of the
--- frontier
+-- the cells found are those of the ball of radius r, and every neighbour of one outside the frontier is found too
 pub record IsGrown (es : List Edge) (c : Cell) (r : ℕ) (found frontier : List Cell) : Type 0 where
   pub members : (d : Cell) → Contains found d ↔ IsInBall es c r d
   pub in_range : All (λ d. IsInRange d.position) found
@@ -28,7 +28,7 @@ pub record IsGrown (es : List Edge) (c : Cell) (r : ℕ) (found frontier : List 
 only_one : (c d : Cell) → Contains (c ∷ []) d → d ≡ c
 only_one c d h = elim (Contains-cons_cases c [] d h) [ inl same ↦ sym same | inr none ↦ absurd (Contains-nil d none) ]
 
--- the centre alone
+-- before the first round: the centre alone
 pub grown_start : (es : List Edge) (c : Cell) → IsInRange c.position → IsGrown es c 0 (c ∷ []) (c ∷ [])
 grown_start es c near = record {
   members = λ d. (only_one c d, λ h. subst (Contains (c ∷ [])) (sym h) (Contains-first c []));
@@ -45,7 +45,7 @@ some_fails {X} p (x ∷ xs) h = by_head (p x) refl h (some_fails p xs)
     by_head true e is rest = let other = rest is in (other.0, Contains-append_right (x ∷ []) xs other.0 other.1, other.2)
     by_head false e is rest = (x, Contains-first x xs, e)
 
--- one round
+-- one round: the neighbours of the frontier are added, and the fresh cells are the next frontier
 pub grown_more : (es : List Edge) (c : Cell) (r : ℕ) (found frontier now fresh : List Cell) → IsGrown es c r found frontier → are_in_range (flat_map (neighbours es) frontier) ≡ true →
     AddsCells found (flat_map (neighbours es) frontier) now fresh → IsGrown es c (r + 1) now fresh
 grown_more es c r found frontier now fresh grown near adds = rw add-one (record {
@@ -94,7 +94,7 @@ centre : (es : List Edge) (c : Cell) (r : ℕ) → IsInBall es c r c
 centre es c zero = refl
 centre es c (suc r) = inl (centre es c r)
 
--- with nothing at its frontier the ball stays as it is
+-- with an empty frontier, no later round adds a cell
 stays : (es : List Edge) (c : Cell) (r : ℕ) (found : List Cell) → IsGrown es c r found [] → (k : ℕ) (d : Cell) → IsInBall es c k d → Contains found d
 stays es c r found grown zero d h = subst (Contains found) (sym h) ((grown.members c).1 (centre es c r))
 stays es c r found grown (suc k) d (inl near) = stays es c r found grown k d near
@@ -109,7 +109,7 @@ stopped es c k r found within grown = record {
   closed = grown.closed;
 }
 
--- a neighbour of the frontier that is out of range is a cell of the ball
+-- if a neighbour of the frontier is out of range, so is some cell of the ball
 pub left_range : (es : List Edge) (c : Cell) (k r : ℕ) (found frontier : List Cell) → k < r → IsGrown es c k found frontier → are_in_range (flat_map (neighbours es) frontier) ≡ false →
     CellsLeaveRange (IsInBall es c r)
 left_range es c k r found frontier within grown far =
@@ -129,7 +129,7 @@ finished es c r found frontier cells grown same ascending = record {
   members = λ d. subst (λ l. Contains l d ↔ IsInBall es c r d) (sym same) (grown.members d);
 }
 
--- a list that was made of the cells that are found, if it was made
+-- the list of the cells found, if memory sufficed for it, is that of the ball
 module _ {V E : Type 0} (result : Result V E) (items : V → List Cell) (es : List Edge) (c : Cell) (r : ℕ) (found frontier : List Cell) where
   pub cells_at_last : IsGrown es c r found frontier → IfOk result (λ v. items v ≡ found) → IfOk result (λ v. IsStrictlySortedBy cell_cmp (items v)) → IfOk result (λ v. IsCellListOf (IsInBall es c r) (items v))
   cells_at_last grown same ascending = if_ok_both result _ _ _ (λ v. finished es c r found frontier (items v) grown) same ascending
@@ -197,21 +197,21 @@ adds_known before cells now fresh i x below is adds there = rw (take_more cells 
           | inr last ↦ subst (Contains now) (sym (only_one x d last)) there
         ]
 
--- an end of an edge that leaves the range
+-- if the end or the start of an edge is out of range, so is some cell that the edge joins to c
 pub end_out_of_range : (c : Cell) (e : Edge) → are_in_range (edge_ends c e) ≡ false → are_in_range (beside c e) ≡ false
 end_out_of_range c e far = list_all-append (λ d. is_in_range d.position) (edge_ends c e) (edge_starts c e) ∙ and_left _ _ far
 
 pub start_out_of_range : (c : Cell) (e : Edge) → are_in_range (edge_starts c e) ≡ false → are_in_range (beside c e) ≡ false
 start_out_of_range c e far = list_all-append (λ d. is_in_range d.position) (edge_ends c e) (edge_starts c e) ∙ and_right _ _ far
 
--- a part that leaves the range
+-- if a part of a list has a cell out of range, so does the whole list
 pub part_out_of_range : {X : Type 0} (f : X → List Cell) (xs : List X) (i : ℕ) (x : X) → i < length xs → x ≡ get_or xs i x → are_in_range (f x) ≡ false → are_in_range (flat_map f xs) ≡ false
 part_out_of_range f xs i x below is far =
     let d = some_fails (λ c. is_in_range c.position) (f x) far in
     let there : Contains (flat_map f xs) d.0 = into_flat_map f xs x d.0 (i, below, sym is) d.1 in
     false_from_ne_true (are_in_range (flat_map f xs)) (λ near. true≢false (sym (passes (λ c. is_in_range c.position) (flat_map f xs) d.0 near there) ∙ d.2))
 
--- where an edge has the node of a cell, and a cell in range at its other end
+-- the node m of a cell is the node n of an edge, and the edge's other end is in range
 module _ (n m : ℕ) (other given : Cell) (same : n ≡ m) (near : Some given ≡ in_range other) where
   given_is : (given ≡ other) × (is_in_range other.position ≡ true)
   given_is = by_test (is_in_range other.position) near

@@ -1,4 +1,4 @@
--- At most one edge for each label and node, and what it makes of a move.
+-- A label has at most one edge from each node, and so a move by it leads to at most one cell.
 use Rattle.std.proofs.Common.{◌≡◌, ◌+◌, ◌<◌, ℕ, List, [], ◌∷◌, ◌++◌, Bool, true, false, ◌&&◌, map, length, get_or, take, Option, Some, None, Contains, refl, ap, sym, ◌∙◌, inl, inr, arith, true≢false, eq-eqb}
 use Rattle.std.proofs.lemmas.Bool.{eqb-true, and_parts, and_from, cases_order}
 use Rattle.std.proofs.lemmas.{Bool.Decides.nat_tests, List.take_more, List.get_or_default, List.map-append}
@@ -49,7 +49,7 @@ one_edge es single e f (i, below, is) (j, below', is') label from =
 follows : (es : List Edge) (c : Cell) (label : ℕ) (to : Cell) → (move : IsMove es c label to) → leaves c label move.0 ≡ true
 follows es c label to move = and_from _ _ (eq-eqb _ label move.2) (eq-eqb _ c.node (sym move.3.0))
 
--- what the move by a label from c comes to
+-- a move by a label from c leads to the end of the edge found; without one, or with its end out of range, to no cell in range
 pub move_exact : (es : List Edge) (c : Cell) (label : ℕ) → AreSingle es → (r : Option Edge) → find (leaves c label) es ≡ r →
     MatchOption (option_and_then in_range (option_map (end_of c) r)) ((to : Cell) → IsMove es c label to → ¬ IsInRange to.position) (IsMove es c label)
 move_exact es c label single None h = λ to move near. true≢false (sym (follows es c label to move) ∙ missed (leaves c label) es move.0 h move.1)

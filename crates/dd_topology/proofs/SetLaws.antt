@@ -23,7 +23,7 @@ module _ {X : Type 0} where
       let rest : suc n * m - m ≡ n * m = omega (arith, suc-mul n m) in
       rw (take-replicate m (suc n * m) x first, drop-replicate m (suc n * m) x, rest) (ap (λ rows. replicate m x ∷ rows) (rows-replicate n m x))
 
-  -- a row, and an item of it
+  -- the row a of a flat list, and the item t of that row
   pub get_or-in_rows : (n m a : ℕ) (xs : List X) (d : List X) → a < n → get_or (in_rows n m xs) a d ≡ take m (drop (a * m) xs)
   get_or-in_rows zero m a xs d h = absurd (omega arith)
   get_or-in_rows (suc n) m zero xs d h = rw zero-mul refl
@@ -44,7 +44,7 @@ module _ {X : Type 0} where
   take_past zero (x ∷ r) ys k h = absurd (cc)
   take_past (suc m) (x ∷ r) ys k h = rw suc-add (ap (λ l. x ∷ l) (take_past m r ys k (omega arith)))
 
-  -- one row written over
+  -- writing over the row a of a flat list sets that row
   pub rows-written : (n m a : ℕ) (xs row : List X) → a < n → length xs ≡ n * m → length row ≡ m →
       in_rows n m (take (a * m) xs ++ (row ++ drop m (drop (a * m) xs))) ≡ set (in_rows n m xs) a row
   rows-written zero m a xs row h long few = absurd (omega arith)
@@ -106,17 +106,17 @@ restricted_are_sets n s a symbols ok all some = record {
   rows = All-set (IsRow s.symbols) s.allowed a (symbol_row s.symbols symbols) (row_is_row s.symbols symbols all some) ok.rows;
 }
 
--- a list that is written over by one of the same length
+-- a list that is written over by one of the same length becomes that list
 pub written_over : {X : Type 0} (xs ys : List X) (n : ℕ) → length xs ≡ n → length ys ≡ n → take n (ys ++ drop (length ys) xs) ≡ ys
 written_over xs ys n long same = rw (same, drop_all n xs (omega arith)) (rw append-nil (take_all n ys (omega arith)))
 
--- the answers row by row
+-- a row with the right answer for each symbol is the row of the listed symbols
 pub listed_rows : (row : List Bool) (m : ℕ) (symbols : List ℕ) → length row ≡ m → ((t : ℕ) → t < length row → get_or row t false ≡ is_listed symbols t) → row ≡ symbol_row m symbols
 listed_rows row m symbols long each =
     same_lists row (symbol_row m symbols) (long ∙ sym (length-map-range_with_len (is_listed symbols) 0 m)) (λ t d h.
     get_or_default row t d false h ∙ (each t h ∙ sym (get_or-row_of m symbols t d (omega arith))))
 
--- a row of flat answers was written over in place
+-- one row of the flat list was written over in place
 module _ (n m a k len : ℕ) (xs now row : List Bool) (symbols : List ℕ) (below : a < n) (long : length xs ≡ n * m) (full : length xs ≡ len) (same : now ≡ xs) (size : k ≡ m)
     (is : row ≡ symbol_row (length (take k (drop (a * m) now))) symbols) where
   abbrev over : List Bool

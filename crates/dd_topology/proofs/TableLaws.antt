@@ -1,4 +1,4 @@
--- Tables without repeats.
+-- Lists without repeats.
 use Rattle.std.proofs.Common.{◌≡◌, ◌<◌, ℕ, List, [], ◌∷◌, Bool, true, false, ◌||◌, length, take, get_or, Contains, refl, ap, sym, ◌∙◌, arith, true≢false}
 use Rattle.std.proofs.lemmas.{Bool.false_from_ne_true, List.get_or-take, List.length-take, List.Kept.AllPairs-cons}
 use Rattle.std.proofs.lemmas.{Option.slice_get_within, Option.get_or_from_slice_get, Slice.Eq.bytes_eq-Decides}
@@ -17,7 +17,7 @@ neither_right true b h = absurd (true≢false h)
 neither_right false b h = h
 
 module _ {X : Type 0} (same : X → X → Bool) where
-  -- no two elements of a table without repeats are the same
+  -- no two elements of a list without repeats are the same
   pub pairs_apart : (xs : List X) → has_repeat same xs ≡ false → AllPairs (λ x y. same x y ≡ false) xs
   pairs_apart [] h = λ i j d before below. absurd (omega arith)
   pairs_apart (x ∷ xs) h =
@@ -32,7 +32,7 @@ module _ {X : Type 0} (same : X → X → Bool) where
       let before : k < i = omega (arith, within, length-take i xs) in
       ap (λ z. same z (get_or xs i y)) (sym (sym (get_or-take i xs k y before) ∙ is)) ∙ pairs k i y before below
 
--- edges without repeats are no reason for a refusal
+-- if no edge repeats another in label and first node, none is refused as `Twice`
 pub not_twice : (es : List Edge) (label : ℕ) → has_repeat starts_alike es ≡ false → IsFirstTwice es label → ⊥
 not_twice es label h twice =
     let f = some_passes (starts_alike twice.edge) (take twice.at es) twice.repeats in
@@ -41,7 +41,7 @@ not_twice es label h twice =
     let apart = not_among starts_alike es (pairs_apart starts_alike es h) twice.at f.0 below f.1 in
     true≢false (sym f.2 ∙ starts_alike-flip f.0 twice.edge (ap (λ e. starts_alike f.0 e) (sym here) ∙ apart))
 
--- a name of a table without repeats is not among those before it
+-- in a list without repeats no name is among those before it
 pub not_named : (names : List (List ℕ)) (i : ℕ) (name : List ℕ) → has_repeat bytes_eq names ≡ false → i < length names → get_or names i name ≡ name → Contains (take i names) name → ⊥
 not_named names i name h below is there =
     let apart = not_among bytes_eq names (pairs_apart bytes_eq names h) i name below there in

@@ -10,16 +10,16 @@ use Rattle.dd_topology.specs.{declared.edge.Edge.Edge, Topology.Leads, Topology.
 abbrev pub CellSet : Type 1
 CellSet = Cell → Type 0
 
--- an edge joins the two cells, in either direction
+-- b is adjacent to a: some edge joins them, in either direction
 abbrev pub IsAdjacent : List Edge → Cell → CellSet
 IsAdjacent es a b = (e : Edge) × Contains es e × (Leads e a b ⊎ Leads e b a)
 
--- the cells at a distance of at most r
+-- the ball of radius r round c: the cells that a path of at most r edges joins to c
 abbrev pub IsInBall : List Edge → Cell → ℕ → CellSet
 IsInBall es c zero d = d ≡ c
 IsInBall es c (suc r) d = IsInBall es c r d ⊎ ((b : Cell) × IsInBall es c r b × IsAdjacent es b d)
 
--- the list has exactly the cells of the set, each once, in cell order, and all are in range
+-- `cells` lists exactly the cells of the set, each once, in cell order, and all are in range
 pub record IsCellListOf (S : CellSet) (cells : List Cell) : Type 0 where
   pub ascending : IsStrictlySortedBy cell_cmp cells
   pub in_range : All (λ c. IsInRange c.position) cells
@@ -29,11 +29,11 @@ pub record IsCellListOf (S : CellSet) (cells : List Cell) : Type 0 where
 abbrev pub CellsLeaveRange : CellSet → Type 0
 CellsLeaveRange S = LeavesRangeAt (λ (c : Cell). c.position) S
 
--- why the list of a set is not made: `Range` only if the set leaves the range
+-- why the set was not listed: `Range` only if some cell of it is out of range
 abbrev pub IsCellFaultOf : CellSet → LatticeFault → Type 0
 IsCellFaultOf S = IsFaultAt (λ (c : Cell). c.position) S
 
--- adjacency as a test
+-- tests: `leads` decides `Leads`, and `is_adjacent` decides `IsAdjacent`
 abbrev pub same_place : Place → Place → Bool
 same_place p q = int_eq p.x q.x && int_eq p.y q.y && int_eq p.z q.z
 
@@ -43,19 +43,23 @@ leads e a b = e.from == a.node && e.to == b.node && same_place (moved a.position
 abbrev pub is_adjacent : List Edge → Cell → Cell → Bool
 is_adjacent es a b = list_any (λ e. leads e a b || leads e b a) es
 
--- balls as lists, with repeats: the cells to which an edge leads from c, or from which one leads to c
+-- the cell to which the edge leads from c, if c belongs to its first node
 abbrev pub edge_ends : Cell → Edge → List Cell
 edge_ends c e = cond (e.from == c.node) (end_of c e ∷ []) []
 
+-- the cell from which the edge leads to c, if c belongs to its second node
 abbrev pub edge_starts : Cell → Edge → List Cell
 edge_starts c e = cond (e.to == c.node) (start_of c e ∷ []) []
 
+-- the cells that the edge joins to c
 abbrev pub beside : Cell → Edge → List Cell
 beside c e = edge_ends c e ++ edge_starts c e
 
+-- the cells adjacent to c, with repeats
 abbrev pub neighbours : List Edge → Cell → List Cell
 neighbours es c = flat_map (beside c) es
 
+-- the ball as a list, with repeats
 abbrev pub ball : List Edge → Cell → ℕ → List Cell
 ball es c zero = c ∷ []
 ball es c (suc r) = ball es c r ++ flat_map (neighbours es) (ball es c r)

@@ -6,19 +6,20 @@ use Rattle.dd_topology.specs.declared.{edge.Edge.Edge, builtin.Kind.Kind}
 use Rattle.dd_topology.specs.declared.builtin.Kind.TheVariants.{Line, Square, King, Triangle, Hex, Cube}
 use Rattle.dd_topology.specs.Grid.{Grid, grid}
 
--- whether some element of a table is the same as a later one
+-- whether some element of the list is the same as a later one
 abbrev pub has_repeat : {X : Type 0} → (X → X → Bool) → List X → Bool
 has_repeat same [] = false
 has_repeat same (x ∷ xs) = list_any (same x) xs || has_repeat same xs
 
--- an edge between cells of one node
+-- an edge from node 0 to node 0
 abbrev pub link : ℕ → Place → Edge
 link label offset = record { label = label; from = 0; offset = offset; to = 0 }
 
--- edges between the two nodes of a position and its neighbours: from the first node to the second, and back
+-- an edge from node 0 to node 1
 abbrev pub forth : ℕ → Place → Edge
 forth label offset = record { label = label; from = 0; offset = offset; to = 1 }
 
+-- an edge from node 1 to node 0
 abbrev pub back : ℕ → Place → Edge
 back label offset = record { label = label; from = 1; offset = offset; to = 0 }
 
@@ -29,6 +30,7 @@ one = pos 1
 abbrev pub minus_one : ℤ
 minus_one = negsuc 0
 
+-- an offset in the plane
 abbrev pub flat : ℤ → ℤ → Place
 flat x y = place x y (pos 0)
 

@@ -6,6 +6,7 @@ use Rattle.dd_topology.specs.declared.{edge.Edge.Edge, fault.TopologyFault.Topol
 use Rattle.dd_topology.specs.declared.fault.TopologyFault.TheVariants.{Twice, Memory}
 use Rattle.dd_topology.specs.{Naming.AreDistinct, Topology.starts_alike, Topology.AreSingle}
 
+-- a topology, as contracts see it. An edge names its label and its nodes by their numbers
 pub record Grid : Type 0 where
   pub dimension : ℕ
   pub nodes : ℕ
@@ -15,21 +16,21 @@ pub record Grid : Type 0 where
 abbrev pub grid : ℕ → ℕ → List (List ℕ) → List Edge → Grid
 grid d nodes labels edges = record { dimension = d; nodes = nodes; labels = labels; edges = edges }
 
--- how far an edge leads at most along an axis, in d dimensions
+-- how far an edge may lead along the axis 0, 1 or 2 in dimension d: 4, but not at all from axis d on
 abbrev pub edge_reach : ℕ → ℕ → ℕ
 edge_reach d axis = cond (nat_lt axis d) 4 0
 
 abbrev pub is_offset : ℕ → Place → Bool
 is_offset d p = nat_le (unsigned_abs p.x) (edge_reach d 0) && nat_le (unsigned_abs p.y) (edge_reach d 1) && nat_le (unsigned_abs p.z) (edge_reach d 2)
 
--- an edge in d dimensions among so many nodes and labels
+-- the edge fits a topology of dimension d with these numbers of nodes and labels
 abbrev pub is_edge : ℕ → ℕ → ℕ → Edge → Bool
 is_edge d nodes labels e = nat_lt e.label labels && nat_lt e.from nodes && nat_lt e.to nodes && is_offset d e.offset
 
 abbrev pub are_edges : Grid → Bool
 are_edges g = list_all (is_edge g.dimension g.nodes (length g.labels)) g.edges
 
--- what every topology keeps
+-- what holds of every topology
 pub record IsGrid (g : Grid) : Type 0 where
   pub dimension : (1 ≤ g.dimension) × (g.dimension ≤ 3)
   pub nodes : 1 ≤ g.nodes
@@ -37,7 +38,7 @@ pub record IsGrid (g : Grid) : Type 0 where
   pub edges : are_edges g ≡ true
   pub single : AreSingle g.edges
 
--- this label is that of the first edge whose label and first node an earlier edge has
+-- the edge at the place `at` is the first that repeats an earlier one in its label and first node, and `label` is its label
 pub record IsFirstTwice (edges : List Edge) (label : ℕ) : Type 0 where
   pub at : ℕ
   pub edge : Edge
@@ -46,7 +47,7 @@ pub record IsFirstTwice (edges : List Edge) (label : ℕ) : Type 0 where
   pub repeats : list_any (starts_alike edge) (take at edges) ≡ true
   pub first : AreSingle (take at edges)
 
--- why no topology was made of the edges
+-- why no topology was made of the edges; `Memory` says nothing of them
 abbrev pub IsTopologyFault : List Edge → TopologyFault → Type 0
 IsTopologyFault edges (Twice label) = IsFirstTwice edges label
 IsTopologyFault edges Memory = Unit {0}

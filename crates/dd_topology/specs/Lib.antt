@@ -1,4 +1,4 @@
--- names, in the order in which they were first seen
+-- lists of distinct names
 pub mod Naming
 -- moves along edges, over all of Z^3
 pub mod Topology

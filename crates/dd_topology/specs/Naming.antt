@@ -1,4 +1,4 @@
--- Names as lists of bytes, and lists of them in the order in which they were first seen.
+-- Names as lists of bytes, and lists of names in the order in which they were added.
 use Rattle.std.specs.Prelude.{◌≡◌, ◌≢◌, ℕ, List, Option, String, Contains, AllPairs, position, bytes_eq, string_bytes}
 use Rattle.std.specs.declared.alloc.Global.{Global}
 use Rattle.dd_topology.specs.declared.names.NameFault.{NameFault}
@@ -12,7 +12,7 @@ AreDistinct names = AllPairs (λ a b. a ≢ b) names
 abbrev pub number_of : List (List ℕ) → List ℕ → Option ℕ
 number_of names name = position (bytes_eq name) names
 
--- a refusal holds the name. Either the name is there already, or memory ran out
+-- a refusal gives the name back. Either the name is there already, or memory ran out
 abbrev pub IsNameRefusal : List (List ℕ) → String Global → NameFault → Type 0
 IsNameRefusal names name (Twice back) = (back ≡ name) × Contains names (string_bytes name)
 IsNameRefusal names name (Memory back) = (back ≡ name) × ¬ Contains names (string_bytes name)

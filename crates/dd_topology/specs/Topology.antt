@@ -4,25 +4,27 @@ use Rattle.std.specs.{List.find, List.list_all, Option.option_map}
 use Rattle.dd_lattice.specs.{Place.Place, Place.place, Place.moved, Place.is_in_range, Cells.cell, declared.position.Cell.Cell}
 use Rattle.dd_topology.specs.declared.edge.Edge.{Edge}
 
--- the way back
+-- the offset of the way back
 abbrev pub reversed : Place → Place
 reversed p = place (pos 0 -ℤ p.x) (pos 0 -ℤ p.y) (pos 0 -ℤ p.z)
 
--- the end of an edge from a cell of its first node, and the start of an edge to a cell of its second
+-- the cell to which the edge leads from c, a cell of its first node
 abbrev pub end_of : Cell → Edge → Cell
 end_of c e = cell (moved c.position e.offset) e.to
 
+-- the cell from which the edge leads to c, a cell of its second node
 abbrev pub start_of : Cell → Edge → Cell
 start_of c e = cell (moved c.position (reversed e.offset)) e.from
 
+-- the edge has this label, and c belongs to its first node
 abbrev pub leaves : Cell → ℕ → Edge → Bool
 leaves c label e = e.label == label && e.from == c.node
 
--- the cell at the end of the one edge with this label from c's node; none where the move is missing
+-- the cell to which the first edge with this label leads from c; none where no such edge leaves c's node
 abbrev pub step : List Edge → Cell → ℕ → Option Cell
 step es c label = option_map (end_of c) (find (leaves c label) es)
 
--- a cell that code can hold
+-- the cell, if it is in range
 abbrev pub in_range : Cell → Option Cell
 in_range c = if is_in_range c.position then Some c else None
 
@@ -42,7 +44,7 @@ starts_alike e f = e.label == f.label && e.from == f.from
 abbrev pub AreSingle : List Edge → Type 0
 AreSingle es = AllPairs (λ e f. starts_alike e f ≡ false) es
 
--- the greatest absolute value of a coordinate
+-- how far a position lies from the origin: the greatest absolute value of its coordinates
 abbrev pub extent : Place → ℕ
 extent p = max (unsigned_abs p.x) (max (unsigned_abs p.y) (unsigned_abs p.z))
 

@@ -1,4 +1,5 @@
-//! Adjacent cells, and balls: a ball grows in rounds, each from the cells that were new in the round before.
+//! Adjacent cells, and balls. A ball is found by a breadth-first search: each round adds the neighbours of the frontier,
+//! which is the list of the cells that were new in the round before.
 ghost use Rattle.std.specs.Prelude.{◌≡◌, ◌↔◌, ◌++◌, [], true, false, IsTrue, IfOk, IfErr, OnOk};
 ghost use Rattle.std.specs.List.{flat_map};
 ghost use Rattle.std.specs.List.Sorted.{IsStrictlySortedBy};
@@ -24,10 +25,11 @@ impl Topology {
         some_edge_joins(self.edges(), a, b)
     }
 
-    /// The cells at a distance of at most `radius` from the centre, in cell order, each once.
+    /// The cells that a path of at most `radius` edges joins to the centre, in cell order, each once. A path may follow an
+    /// edge in either direction.
     ///
     /// # Errors
-    /// `Range` where a coordinate of one of them would pass 2^20; or `Memory`.
+    /// `Range` if a coordinate of one of these cells exceeds 2^20 in absolute value; or `Memory`.
     pub fn ball(&self, alloc: Global, centre: &Cell, radius: u32) -> Result<Vec<Cell>, LatticeFault>
         ensures cells { IfOk result (λ v. IsCellListOf (IsInBall self.now.edges centre.now radius) v.items) }
         ensures list { IfOk result (λ v. v.items ≡ in_order (ball self.now.edges centre.now radius)) }
@@ -37,7 +39,7 @@ impl Topology {
         self.ball_within(alloc, centre, radius, &mut found)
     }
 
-    /// The ball, whose cells the rounds gather in a set that is empty at first.
+    /// The ball. `found` is empty at first, and gathers the cells of the ball round by round.
     fn ball_within(
         &self,
         alloc: Global,
@@ -50,7 +52,7 @@ impl Topology {
         ensures list { IfOk result (λ v. v.items ≡ in_order (ball self.now.edges centre.now radius)) }
         ensures fault { IfErr result (IsCellFaultOf (IsInBall self.now.edges centre.now radius)) }
     {
-        // A cell's position is in range, so the rounds begin in range.
+        // This call tells the proof what the type guarantees: the centre is in range.
         let position = &centre.position;
         let _ = &position.x;
         found.insert(*centre)?;
@@ -75,7 +77,7 @@ fn some_edge_joins(edges: &[Edge], a: &Cell, b: &Cell) -> bool
         .any(|edge| leads(edge, a, b) || leads(edge, b, a))
 }
 
-/// Whether the sum of two positions is a third.
+/// Whether the position `p`, moved by `by`, is `sum`.
 fn is_sum(p: &Position, by: &Position, sum: &Position) -> bool
     ensures { result ≡ same_place (moved p.now by.now) sum.now }
 {
@@ -88,7 +90,7 @@ fn is_sum(p: &Position, by: &Position, sum: &Position) -> bool
     p.z + by.z == sum.z
 }
 
-/// Whether the edge leads from the one cell to the other.
+/// Whether the edge leads from the cell `from` to the cell `to`.
 fn leads(edge: &Edge, from: &Cell, to: &Cell) -> bool
     ensures { result ≡ leads edge.now from.now to.now }
 {
@@ -97,7 +99,7 @@ fn leads(edge: &Edge, from: &Cell, to: &Cell) -> bool
         && is_sum(&from.position, &edge.offset, &to.position)
 }
 
-/// Adds the cell to which the edge leads from a cell of its first node.
+/// Adds the cell to which the edge leads from `cell`, if `cell` belongs to the edge's first node.
 fn push_end(reached: &mut Vec<Cell>, edge: &Edge, cell: &Cell) -> Result<(), LatticeFault>
     ensures cells { OnOk result (reached.new.items ≡ reached.old.items ++ edge_ends cell.now edge.now) }
     ensures in_range { OnOk result (are_in_range (edge_ends cell.now edge.now) ≡ true) }
@@ -113,7 +115,7 @@ fn push_end(reached: &mut Vec<Cell>, edge: &Edge, cell: &Cell) -> Result<(), Lat
     Ok(())
 }
 
-/// Adds the cell from which the edge leads to a cell of its second node.
+/// Adds the cell from which the edge leads to `cell`, if `cell` belongs to the edge's second node.
 fn push_start(reached: &mut Vec<Cell>, edge: &Edge, cell: &Cell) -> Result<(), LatticeFault>
     ensures cells { OnOk result (reached.new.items ≡ reached.old.items ++ edge_starts cell.now edge.now) }
     ensures in_range { OnOk result (are_in_range (edge_starts cell.now edge.now) ≡ true) }
@@ -129,7 +131,7 @@ fn push_start(reached: &mut Vec<Cell>, edge: &Edge, cell: &Cell) -> Result<(), L
     Ok(())
 }
 
-/// Adds the cells adjacent to a cell.
+/// Adds the cells adjacent to `cell`. A cell is added once for each edge that joins it.
 fn push_neighbours(reached: &mut Vec<Cell>, edges: &[Edge], cell: &Cell) -> Result<(), LatticeFault>
     ensures cells { OnOk result (reached.new.items ≡ reached.old.items ++ neighbours edges.now cell.now) }
     ensures in_range { OnOk result (are_in_range (neighbours edges.now cell.now) ≡ true) }
@@ -155,7 +157,7 @@ fn neighbours_of(alloc: Global, edges: &[Edge], cells: &[Cell]) -> Result<Vec<Ce
     Ok(reached)
 }
 
-/// Adds the cells to those found, and returns the new ones.
+/// Adds the cells to those found, and returns the ones that were not found before.
 fn fresh_cells(
     alloc: Global,
     found: &mut BTreeSet<Cell>,
@@ -173,7 +175,7 @@ fn fresh_cells(
     Ok(fresh)
 }
 
-/// Adds the cells adjacent to the frontier to those found, and returns the new ones.
+/// Adds the cells adjacent to the frontier to those found, and returns the next frontier.
 fn next_frontier(
     alloc: Global,
     edges: &[Edge],

@@ -31,13 +31,14 @@ pub enum Kind {
 }
 
 impl Topology {
-    /// The built-in topology of a kind. Its labels are numbered in this order:
+    /// The built-in topology of a kind. Its labels are numbered from 0 in the order below, where the offset of each edge
+    /// follows its label:
     ///
     /// - line: `rt` (1), `lt` (-1)
     /// - square: `up` (0,1), `dn` (0,-1), `rt` (1,0), `lt` (-1,0)
     /// - king: those of square, `ne` (1,1), `nw` (-1,1), `se` (1,-1), `sw` (-1,-1)
     /// - triangle: those of square, `ne` (1,1), `sw` (-1,-1)
-    /// - hex: `a`, `b` and `c`, each from node 0 to node 1 at (0,0), (-1,0) and (0,-1), and back
+    /// - hex: `a` (0,0), `b` (-1,0), `c` (0,-1), each from node 0 to node 1, and back from node 1 by the negated offset
     /// - cube: `rt` (1,0,0), `lt` (-1,0,0), `up` (0,1,0), `dn` (0,-1,0), `fw` (0,0,1), `bk` (0,0,-1)
     pub fn builtin(alloc: Global, kind: Kind) -> Result<Topology, AllocError>
         ensures { IfOk result (λ topology. topology ≡ grid_of kind) }
@@ -57,7 +58,7 @@ fn line(alloc: Global) -> Result<Topology, AllocError>
     ensures { IfOk result (λ topology. topology ≡ line) }
 {
     let edges = [link(0, 1, 0, 0), link(1, -1, 0, 0)];
-    made(alloc, 1, 1, &["rt", "lt"], &edges)
+    topology_of(alloc, 1, 1, &["rt", "lt"], &edges)
 }
 
 fn square(alloc: Global) -> Result<Topology, AllocError>
@@ -69,7 +70,7 @@ fn square(alloc: Global) -> Result<Topology, AllocError>
         link(2, 1, 0, 0),
         link(3, -1, 0, 0),
     ];
-    made(alloc, 2, 1, &["up", "dn", "rt", "lt"], &edges)
+    topology_of(alloc, 2, 1, &["up", "dn", "rt", "lt"], &edges)
 }
 
 fn king(alloc: Global) -> Result<Topology, AllocError>
@@ -85,7 +86,7 @@ fn king(alloc: Global) -> Result<Topology, AllocError>
         link(6, 1, -1, 0),
         link(7, -1, -1, 0),
     ];
-    made(
+    topology_of(
         alloc,
         2,
         1,
@@ -105,7 +106,7 @@ fn triangle(alloc: Global) -> Result<Topology, AllocError>
         link(4, 1, 1, 0),
         link(5, -1, -1, 0),
     ];
-    made(alloc, 2, 1, &["up", "dn", "rt", "lt", "ne", "sw"], &edges)
+    topology_of(alloc, 2, 1, &["up", "dn", "rt", "lt", "ne", "sw"], &edges)
 }
 
 fn hex(alloc: Global) -> Result<Topology, AllocError>
@@ -119,7 +120,7 @@ fn hex(alloc: Global) -> Result<Topology, AllocError>
         forth(2, 0, -1, 0),
         back(2, 0, 1, 0),
     ];
-    made(alloc, 2, 2, &["a", "b", "c"], &edges)
+    topology_of(alloc, 2, 2, &["a", "b", "c"], &edges)
 }
 
 fn cube(alloc: Global) -> Result<Topology, AllocError>
@@ -133,10 +134,10 @@ fn cube(alloc: Global) -> Result<Topology, AllocError>
         link(4, 0, 0, 1),
         link(5, 0, 0, -1),
     ];
-    made(alloc, 3, 1, &["rt", "lt", "up", "dn", "fw", "bk"], &edges)
+    topology_of(alloc, 3, 1, &["rt", "lt", "up", "dn", "fw", "bk"], &edges)
 }
 
-/// An edge between cells of one node.
+/// An edge from node 0 to node 0.
 fn link(label: u32, x: i32, y: i32, z: i32) -> Edge
     requires { IsInRange (place x y z) }
     ensures { result ≡ link label (place x y z) }
@@ -175,8 +176,8 @@ fn back(label: u32, x: i32, y: i32, z: i32) -> Edge
     }
 }
 
-/// The topology of a table, in which no label occurs twice and no two edges have the same label and first node.
-fn made(
+/// The topology with these labels and edges. No label occurs twice, and no two edges have the same label and first node.
+fn topology_of(
     alloc: Global,
     dim: u32,
     nodes: u32,
@@ -200,6 +201,7 @@ fn made(
     }
 }
 
+/// The names that these texts spell, in the same order. No text occurs twice.
 fn names_of(alloc: Global, texts: &[&str]) -> Result<Names, AllocError>
     requires few { length texts.now < 2 ^ 32 - 1 }
     requires distinct { has_repeat bytes_eq (map (λ text. text.now) texts.now) ≡ false }

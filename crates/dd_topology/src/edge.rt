@@ -4,16 +4,19 @@ ghost use Rattle.dd_topology.specs.Topology.{reversed, end_of, start_of, in_rang
 
 use dd_lattice::{Cell, Position, shift};
 
-/// An edge leads with its label from each cell of the node `from` to the cell of the node `to` that lies `offset` away.
+/// An edge leads from each cell of its first node to a cell of its second node, which lies `offset` away.
 #[derive(Debug, Clone, Copy, PartialEq, Eq)]
 pub struct Edge {
+    /// The number of its label.
     pub label: u32,
+    /// Its first node.
     pub from: u32,
     pub offset: Position,
+    /// Its second node.
     pub to: u32,
 }
 
-/// The cell to which an edge leads from a cell, or `None` where a coordinate passes 2^20.
+/// The cell to which the edge leads from a cell of its first node, or `None` where that cell is out of range.
 pub(crate) fn end_of(cell: &Cell, edge: &Edge) -> Option<Cell>
     ensures { result ≡ in_range (end_of cell.now edge.now) }
 {
@@ -24,7 +27,7 @@ pub(crate) fn end_of(cell: &Cell, edge: &Edge) -> Option<Cell>
     })
 }
 
-/// The cell from which an edge leads to a cell, or `None` where a coordinate passes 2^20.
+/// The cell from which the edge leads to a cell of its second node, or `None` where that cell is out of range.
 pub(crate) fn start_of(cell: &Cell, edge: &Edge) -> Option<Cell>
     ensures { result ≡ in_range (start_of cell.now edge.now) }
 {
@@ -36,7 +39,7 @@ pub(crate) fn start_of(cell: &Cell, edge: &Edge) -> Option<Cell>
     })
 }
 
-/// The way back: the position with each coordinate negated.
+/// The offset of the way back: each coordinate is negated.
 pub fn reversed(offset: &Position) -> Position
     ensures { result ≡ reversed offset.now }
 {

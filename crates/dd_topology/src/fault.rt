@@ -4,7 +4,8 @@ use thiserror::Error;
 /// Why a topology is not made.
 #[derive(Clone, Copy, Debug, PartialEq, Eq, Error)]
 pub enum TopologyFault {
-    /// The label of the first edge whose label and first node an earlier edge has.
+    /// Two edges have the same label and the same first node. It holds the label of the first edge that repeats an earlier
+    /// one in both.
     #[error("the label {0} has two edges from one node")]
     Twice(u32),
     /// Memory ran out.

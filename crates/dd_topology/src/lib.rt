@@ -1,4 +1,4 @@
-//! Topologies: the named labels and the edges of a lattice, moves along them, adjacency and balls.
+//! Topologies: the labels and edges of a lattice, moves along the edges, adjacency, balls, and the alphabets of nodes.
 #![tactic(auto, using(std::proofs::lemmas::Grind::common_steps))]
 
 mod balls;

@@ -1,4 +1,4 @@
-//! A list of distinct names, with a number for each: the place at which it was first seen.
+//! A list of distinct names. The number of a name is its place in the list, from 0.
 ghost use Rattle.std.specs.Prelude.{◌≡◌, ◌-◌, ◌^◌, ◌<◌, [], ◌∷◌, ◌++◌, length, slice_get, option_copied, string_bytes, Contains, IfOk, IfErr, OnOk, OnErr, MatchOption};
 
 use indexmap::IndexSet;
@@ -6,7 +6,7 @@ use std::alloc::Global;
 use std::marker::Model;
 use thiserror::Error;
 
-/// Distinct names in the order in which they were first seen. They have the numbers 0, 1, 2 and so on.
+/// Distinct names in the order in which they were added. They are numbered 0, 1, 2 and so on.
 #[derive(Drop)]
 pub struct Names {
     known: IndexSet<String>,
@@ -22,7 +22,7 @@ impl Model for Names {
     ghost invariant = { λ names. length names.known.keys < 2 ^ 32 };
 }
 
-/// Why a name was not added. It holds the name.
+/// Why a name was not added. It gives the name back.
 #[derive(Debug, Drop, Error)]
 pub enum NameFault {
     /// The name was added before.
@@ -36,7 +36,7 @@ pub enum NameFault {
 impl Names {
     ghost use Rattle.dd_topology.specs.Naming.{AreDistinct, number_of, IsNameRefusal};
 
-    /// No names. It takes no memory.
+    /// An empty list. It allocates no memory.
     pub fn new(alloc: Global) -> Names
         ensures { result ≡ [] }
     {
@@ -48,7 +48,7 @@ impl Names {
     /// Adds a name, and gives its number.
     ///
     /// # Errors
-    /// `Twice` if the name was added before, else `Memory`. The fault holds the name, and the list is unchanged.
+    /// `Twice` if the name was added before, else `Memory`. The fault gives the name back, and the list is unchanged.
     pub fn add(&mut self, name: String) -> Result<u32, NameFault>
         requires { length self.old < 2 ^ 32 - 1 }
         ensures number { IfOk result (λ number. number ≡ length self.old) }
@@ -67,7 +67,7 @@ impl Names {
         Ok(number)
     }
 
-    /// The number of a name, or `None` where the name is not there.
+    /// The number of a name, or `None` where the list doesn't have it.
     pub fn find(&self, name: &str) -> Option<u32>
         ensures number { result ≡ number_of self.now name.now }
         ensures exact { MatchOption result (¬ Contains self.now name.now) (λ number. slice_get self.now number ≡ Some name.now) }

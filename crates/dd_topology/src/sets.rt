@@ -1,15 +1,17 @@
-//! Which symbols the nodes allow: one answer for each node and each symbol, the nodes in order.
+//! The alphabets of nodes: which symbols each node allows.
 ghost use Rattle.std.specs.Prelude.{◌≡◌, ◌≤◌, ◌<◌, length, All, IfOk};
 ghost use Rattle.dd_topology.specs.Sets.{all_symbols, restricted, allows, symbol_row, IsSets};
 
 use std::alloc::{AllocError, Global};
 use std::marker::Model;
 
-/// The symbols that each node allows, at least one.
+/// The sets of symbols that the nodes allow, one set for each node. No set is empty.
 #[derive(Debug, Drop)]
 pub struct Sets {
     nodes: u32,
+    /// How many symbols the alphabet has.
     symbols: u32,
+    /// Whether each node allows each symbol: a row of `symbols` answers for each node, one row after the other.
     allowed: Vec<bool>,
 }
 
@@ -55,7 +57,7 @@ impl Sets {
         })
     }
 
-    /// The node allows exactly these symbols from now on. It takes no memory.
+    /// Makes the node allow exactly these symbols.
     pub fn restrict(&mut self, node: u32, symbols: &[u32])
         requires node { node < length self.old.allowed }
         requires symbols { All (λ s. s < self.old.symbols) symbols.now }
@@ -67,7 +69,7 @@ impl Sets {
         allow_listed(&mut self.allowed[start..start + size], symbols);
     }
 
-    /// Whether the node allows the symbol. It takes no memory.
+    /// Whether the node allows the symbol.
     pub fn allows(&self, node: u32, symbol: u32) -> bool
         requires { node < length self.now.allowed }
         ensures { result ≡ allows self.now node symbol }
@@ -76,7 +78,7 @@ impl Sets {
         symbol < self.symbols && self.allowed[node as usize * size + symbol as usize]
     }
 
-    /// The size of the alphabet. It takes no memory.
+    /// The size of the alphabet.
     pub fn symbols(&self) -> u32
         ensures value { result ≡ self.now.symbols }
         ensures kept { IsSets (length self.now.allowed) self.now }

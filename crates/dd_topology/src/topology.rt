@@ -19,22 +19,25 @@ use indexmap::IndexSet;
 use std::alloc::Global;
 use std::marker::Model;
 
-/// A move by a label from the cells of a node.
+/// The move by a label from the cells of a node. At most one edge makes it.
 #[derive(Clone, Copy, PartialEq, Eq, Hash)]
 pub(crate) struct Move {
     label: u32,
     from: u32,
 }
 
-/// A topology: its dimension, the nodes of each position, the names of its labels, and its edges. No label has two edges
-/// from one node, and no edge leads further than 4 along an axis.
+/// A topology: a dimension, the nodes of each position, labels, and edges. No label has two edges from one node, and no
+/// edge leads further than 4 along an axis.
 #[derive(Drop)]
 pub struct Topology {
+    /// The dimension: 1, 2 or 3.
     dim: u32,
+    /// How many nodes each position has.
     nodes: u32,
+    /// The names of the labels.
     labels: Names,
     edges: Items<Edge>,
-    /// The moves of the edges, in the edges' order, so that the edge of a move is found at once.
+    /// The moves of the edges. Each move has the index that its edge has in `edges`.
     moves: IndexSet<Move>,
 }
 
@@ -72,11 +75,12 @@ fn moves_of(alloc: Global, edges: &[Edge]) -> Result<IndexSet<Move>, TopologyFau
 }
 
 impl Topology {
-    /// The topology with these labels and edges.
+    /// The topology of dimension `dim` with `nodes` nodes at each position, and with these labels and edges. Each edge
+    /// has a label and nodes that exist. It leads at most 4 along each of the first `dim` axes, and not at all along others.
     ///
     /// # Errors
     /// `Twice` if two edges have the same label and first node. It holds the label of the first edge that repeats an
-    /// earlier one in both. Or `Memory`.
+    /// earlier one in both. Or `Memory` if memory ran out.
     pub fn from_edges(
         alloc: Global,
         dim: u32,
@@ -92,7 +96,7 @@ impl Topology {
         ensures fault { IfErr result (IsTopologyFault edges.items) }
     {
         let moves = moves_of(alloc, edges.as_slice())?;
-        // The names of the labels are distinct.
+        // This call tells the proof what the type guarantees: the names of the labels are distinct.
         let _count = labels.count();
         Ok(Topology {
             dim,
@@ -103,7 +107,7 @@ impl Topology {
         })
     }
 
-    /// The dimension, 1, 2 or 3.
+    /// The dimension: 1, 2 or 3.
     pub fn dim(&self) -> u32
         ensures value { result ≡ self.now.dimension }
         ensures grid { IsGrid self.now }
@@ -127,8 +131,8 @@ impl Topology {
         self.labels.find(name)
     }
 
-    /// The edges, in the order in which they were given. Adjacency as a test and balls as lists agree with the relations,
-    /// past the range of positions too.
+    /// The edges, in the order in which they were given. The contract also says, for all cells of Z^3, that `is_adjacent`
+    /// tests `IsAdjacent`, and that the list `ball` has exactly the cells of `IsInBall`.
     pub fn edges(&self) -> &[Edge]
         ensures edges { result.now ≡ self.now.edges }
         ensures adjacent { (a : AnyCell) → (b : AnyCell) → (is_adjacent result.now a b ≡ true) ↔ IsAdjacent result.now a b }
@@ -139,8 +143,8 @@ impl Topology {
         self.edges.as_slice()
     }
 
-    /// The cell at the end of the edge with a label from a cell's node. `None` where there is no such edge, or where a
-    /// coordinate of its end passes 2^20.
+    /// The cell to which the edge with this label leads from the cell `from`. `None` where there is no such edge, or where
+    /// the absolute value of a coordinate of that cell exceeds 2^20.
     pub fn step(&self, from: &Cell, label: u32) -> Option<Cell>
         ensures value { result ≡ option_and_then in_range (step self.now.edges from.now label) }
         ensures exact { MatchOption result ((to : AnyCell) → IsMove self.now.edges from.now label to → ¬ IsInRange to.position) (IsMove self.now.edges from.now label) }
@@ -151,7 +155,7 @@ impl Topology {
         }
     }
 
-    /// The edge with a label from a cell's node.
+    /// The edge with this label from the cell's node, or `None` where there is none.
     fn edge_from(&self, cell: &Cell, label: u32) -> Option<&Edge>
         ensures edge { option_copied result ≡ find (leaves cell.now label) self.now.edges }
         ensures single { AreSingle self.now.edges }

@@ -1,4 +1,4 @@
--- Literals become false and are taken back again.
+-- The list of false literals, when a literal becomes false, and when it is taken back.
 use Rattle.std.proofs.Common.{◌≡◌, ◌≢◌, ℕ, ◌+◌, ◌*◌, ◌<◌, ◌≤◌, Bool, true, false, cond, not, ◌&&◌, ◌||◌, List, [], ◌∷◌, ◌++◌, refl, ap, sym, ◌∙◌, subst, length, get_or, set, take, inl, inr, arith, eqb, get_or-set_same, get_or-set_other}
 use Rattle.std.proofs.lemmas.Bool.{cases_eq, false≢true, false_from_ne_true, or_left}
 use Rattle.std.proofs.lemmas.List.{length-set, length-append, length-take, take-append-le, get_or-take, get_or_append_left, take_all, take_more}
@@ -15,7 +15,7 @@ use Rattle.dd_trail.proofs.Valued.{valued_of, length_within, full_exactly, false
 abbrev signed : ℕ → Bool → Literal
 signed v p = record { variable = v; positive = p }
 
--- literals of one place are one
+-- literals of one code are the same
 same_code : (x y : Literal) → code x ≡ code y → x ≡ y
 same_code x y e = go x.positive y.positive refl refl e
   where
@@ -25,7 +25,7 @@ same_code x y e = go x.positive y.positive refl refl e
     go false true a b e = absurd (omega arith)
     go false false a b e = literal-eq x y (omega arith) (a ∙ sym b)
 
--- a list of all literals has a place for each in range
+-- the list over all literals has a place for each literal in range
 pub code_within : (n : ℕ) (l : Literal) → IsLiteralInRange n l → code l < 2 * n + 2
 code_within n l r = go l.positive
   where
@@ -33,7 +33,7 @@ code_within n l r = go l.positive
     go true = let b = r.1 in omega arith
     go false = let b = r.1 in omega arith
 
--- a literal that is not the one that became false
+-- when a literal becomes false, no other literal changes
 other : (x m : Literal) (xs : List Literal) → code x ≢ code m → is_among (m ∷ xs) x ≡ is_among xs x
 other x m xs n = or_first (false_from_ne_true (same_literal x m) (λ s. n (ap code (same_literal-eq x m s))))
   where
@@ -76,13 +76,13 @@ denied_less n trail denied j d l v =
       ];
     }
 
--- there is room for an entry that is new
+-- if a variable has no value, there are fewer entries than variables
 pub room_more : (n : ℕ) (trail : List Entry) (denied : List Bool) (e : Entry) → IsDenied n trail denied → IsLiteralInRange n e.literal → has_variable e.literal.variable (falses trail) ≡ false → length trail < n
 room_more n trail denied e v r f =
     let w = valued_of n (trail ++ e ∷ []) (denied_more n trail denied e v r f).news in
     omega (arith, length_within (trail ++ e ∷ []) w.0 w.2, w.1, length-append trail (e ∷ []))
 
--- a variable is free exactly where both of its literals are not false
+-- a variable is free exactly if neither of its literals is false
 pub free_exactly : (n : ℕ) (trail : List Entry) (denied : List Bool) (v : ℕ) (a b : Bool) → IsDenied n trail denied → 1 ≤ v → v ≤ n → get_or denied (2 * v) false ≡ a → get_or denied (2 * v + 1) false ≡ b → IsTrue (not a && not b) ↔ IsFree n trail v
 free_exactly n trail denied v a b ok h k e g = (λ t. (h, k, fresh a b e g t), λ f. held a b e g f.2)
   where
@@ -108,7 +108,7 @@ free_exactly n trail denied v a b ok h k e g = (λ t. (h, k, fresh a b e g t), �
     held false true e g f = absurd (false≢true (sym (absent (falses trail) (signed v true) v refl f) ∙ sym high ∙ g))
     held false false e g f = refl
 
--- each variable has a value exactly where there are as many entries as variables
+-- each variable has a value exactly if there are as many entries as variables
 pub full : (n : ℕ) (trail : List Entry) (denied : List Bool) (m : ℕ) → IsDenied n trail denied → m ≡ length trail → IsTrue (eqb m n) ↔ IsFull n trail
 full n trail denied m ok e =
     let w = valued_of n trail ok.news in

@@ -1,4 +1,4 @@
--- How many numbers the clauses that are alive have.
+-- There are as many places for numbered clauses as clauses, deleted ones included.
 use Rattle.std.proofs.Common.{◌≡◌, suc, ◌≤◌, Bool, List, [], ◌∷◌, length, refl, ap, arith}
 use Rattle.dd_clause.specs.declared.clause.Literal.{Literal}
 use Rattle.dd_derivation.specs.checking.MarksOf.{known_of}

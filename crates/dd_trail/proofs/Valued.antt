@@ -15,7 +15,7 @@ abbrev pub value_denies : Bool → Option Bool → Bool
 value_denies positive None = false
 value_denies positive (Some value) = not (beq value positive)
 
--- the literal is false where the variable k has the value at k - 1
+-- the literal is false under the values; the variable k has the value at index k - 1
 abbrev pub is_denied : List (Option Bool) → Literal → Bool
 is_denied values l = value_denies l.positive (get_or values (l.variable - 1) None)
 
@@ -28,7 +28,7 @@ abbrev pub count_valued : List (Option Bool) → ℕ
 count_valued [] = 0
 count_valued (v ∷ values) = one_if_some v + count_valued values
 
--- the values are those that make the trail's literals true, whose variables are distinct
+-- exactly the trail's literals are true under the values, and their variables are distinct
 pub record IsValued (trail : List Entry) (values : List (Option Bool)) : Type 0 where
   pub news : (k : ℕ) (d : Entry) → k < length trail → IsNewTo (length values) (take k trail) (get_or trail k d)
   pub values_ok : (l : Literal) → IsLiteralInRange (length values) l → is_denied values l ≡ is_among (falses trail) l
@@ -41,7 +41,7 @@ or_first : (a b : Bool) → a ≡ false → (a || b) ≡ b
 or_first true b e = absurd (false≢true (sym e))
 or_first false b e = refl
 
--- a variable both of whose literals are not false has no value
+-- a variable has no value if neither of its literals is false
 unvalued : (p : Bool) (o : Option Bool) → value_denies p o ≡ false → value_denies (not p) o ≡ false → o ≡ None
 unvalued p None a b = refl
 unvalued true (Some true) a b = absurd (false≢true (sym b))
@@ -58,7 +58,7 @@ count-set [] i o h = absurd (omega arith)
 count-set (x ∷ values) zero o h = omega arith
 count-set (x ∷ values) (suc i) o h = omega (arith, count-set values i o (omega arith))
 
--- the literal of a variable with this value is false where the entry's negation is
+-- a literal of an entry's variable is false exactly if it is the negation of the entry's literal
 same_denied : (v p : Bool) → not (beq v p) ≡ beq p (not v)
 same_denied true true = refl
 same_denied true false = refl
@@ -111,7 +111,7 @@ at_most (Some x ∷ xs) = omega (arith, at_most xs)
 pub length_within : (trail : List Entry) (values : List (Option Bool)) → IsValued trail values → length trail ≤ length values
 length_within trail values v = omega (arith, v.count_ok, at_most values)
 
--- a further variable that has no value
+-- one more variable, without a value, changes nothing
 pub valued_wider : (values : List (Option Bool)) → IsValued [] values → IsValued [] (values ++ None ∷ [])
 valued_wider values v = record {
   news = λ k d h. absurd (omega arith);
@@ -133,7 +133,7 @@ valued_wider values v = record {
 pub valued_none : IsValued [] []
 valued_none = record { news = λ k d h. absurd (omega arith); values_ok = λ x r. refl; count_ok = refl }
 
--- a variable with a value is an entry's
+-- a variable with a value is that of an entry
 pub some_entry : (trail : List Entry) (values : List (Option Bool)) (v : ℕ) → IsValued trail values → 1 ≤ v → v ≤ length values → one_if_some (get_or values (v - 1) None) ≡ 1 → has_variable v (falses trail) ≡ true
 some_entry trail values v ok a b e = go (get_or values (v - 1) None) refl e
   where
@@ -156,7 +156,7 @@ valued_entry trail values v ok a b h =
     let s = denied_valued w.0.positive (get_or values (w.0.variable - 1) None) (ok.values_ok w.0 r ∙ w.1) in
     subst (λ (n : ℕ). one_if_some (get_or values (n - 1) None) ≡ 1) w.2 s
 
--- each variable has a value exactly where there are as many entries as variables
+-- each variable has a value exactly if there are as many entries as variables
 pub full_exactly : (trail : List Entry) (values : List (Option Bool)) (n m : ℕ) → IsValued trail values → n ≡ length trail
     → m ≡ length values → IsTrue (eqb n m) ↔ IsFull (length values) trail
 full_exactly trail values n m ok e f = (
@@ -184,7 +184,7 @@ full_exactly trail values n m ok e f = (
     every [] h = refl
     every (x ∷ xs) h = omega (arith, h 0 (omega arith), every xs (λ k l. h (suc k) (omega arith)))
 
--- the values of a trail
+-- the values that a trail gives the variables
 pub valued_of : (n : ℕ) (trail : List Entry) → ((k : ℕ) (d : Entry) → k < length trail → IsNewTo n (take k trail) (get_or trail k d)) → (values : List (Option Bool)) × (length values ≡ n) × IsValued trail values
 valued_of n trail news =
     let w = go (length trail) (omega arith) in

@@ -4,12 +4,12 @@ use Rattle.dd_clause.specs.{declared.clause.Literal.Literal, Clauses.negation}
 use Rattle.dd_derivation.specs.Derivations.{has_variable}
 use Rattle.dd_trail.specs.declared.trail.Entry.{Entry}
 
--- how many variables there are, and the entries
+-- a trail: the number of variables, and the entries, oldest first
 pub record EntryList : Type 0 where
   pub variables : ℕ
   pub entries : List Entry
 
--- the literals that are false
+-- the literals that are false: the negations of the entries' literals
 abbrev pub falses : List Entry → List Literal
 falses trail = map (λ e. negation e.literal) trail
 

@@ -8,7 +8,7 @@ use dd_clause::{Clause, Literal};
 use dd_derivation::{Known, Step};
 use std::marker::Model;
 
-/// The clauses of a list and then those of the steps, as far as they are alive, and how many numbers there are.
+/// The clauses that are known, by number, and how many numbers there are.
 #[derive(Drop)]
 pub struct Database<'a> {
     known: Known<'a>,
@@ -27,7 +27,7 @@ impl<'a> Model for Database<'a> {
 }
 
 impl<'a> Database<'a> {
-    /// The database of those clauses and steps that are alive.
+    /// The database of a list and of the steps after it. The clause of number k is alive if `alive[k - 1]` is true.
     pub fn new(clauses: &'a [Clause], steps: &'a [Step], alive: &'a [bool]) -> Database<'a>
         requires { length clauses.now + length steps.now ≤ length alive.now }
         ensures { result ≡ known_to clauses.now steps.now alive.now }

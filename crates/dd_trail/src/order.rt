@@ -1,7 +1,8 @@
 //! The order in which variables are decided: first those that took part in the latest conflicts (Moskewicz, Madigan,
-//! Zhao, Zhang and Malik 2001, Eén and Sörensson 2003), each with the value that it had last (Pipatsrisawat and Darwiche
-//! 2007). They stand in a binary heap. What is taken from it is tested exactly, so no contract rests on the order: a bad
-//! one only costs time.
+//! Zhao, Zhang and Malik 2001, Eén and Sörensson 2003). Each gets the value that it had last (Pipatsrisawat and Darwiche
+//! 2007). The variables stand in a binary heap. A variable that is taken from it is tested exactly, so no contract rests on the
+//! order: a bad one only costs time. No invariant says that the places kept here are within their lists. So the code tests
+//! them. The tests never fail.
 ghost use Rattle.std.specs.Prelude.{◌≡◌, ◌<◌, ◌^◌, MatchOption, ⊤};
 ghost use Rattle.dd_trail.specs.Trails.{IsFree, IsFull};
 
@@ -9,35 +10,35 @@ use crate::trail::Trail;
 use dd_clause::Literal;
 use std::alloc::{AllocError, Global};
 
-/// What a conflict adds to a variable's activity at first, and the least that one ever adds.
+/// The first increment, and the least that there can be. The increment is what a conflict adds to a variable's activity.
 const FIRST_INCREMENT: u64 = 1 << 10;
 
-/// If an activity is above this, all are made smaller.
+/// If an activity is above this, all activities are made smaller.
 const MOST_ACTIVE: u64 = 1 << 60;
 
-/// How many bits the activities then lose.
+/// How many of its low bits each activity then loses.
 const LOST_BITS: u32 = 32;
 
-/// In the broad style the increment grows after each conflict by one part in this many.
+/// In the broad style, the increment grows after each conflict. It is divided by this number, and the quotient is added.
 const BROAD_PART: u64 = 64;
 
-/// The same in the focused style.
+/// The same number for the focused style.
 const FOCUSED_PART: u64 = 20;
 
 /// How much the latest conflicts weigh in the order.
 #[derive(Clone, Copy, Debug)]
 pub enum Style {
-    /// A conflict counts for long: each adds 1/64 more than the one before. The variables of the learned clause are made
-    /// more active a second time, and then those of the clauses that forced its literals (Liang, Ganesh, Poupart and
+    /// A conflict counts for long: each adds only a little more than the one before. The variables of the learned clause become
+    /// more active a second time, and so do those of the clauses that forced their values (Liang, Ganesh, Poupart and
     /// Czarnecki 2016). This is better where a contradiction lies deep among many variables: boxes, pigeonholes.
     Broad,
-    /// The latest conflicts count most: each adds 1/20 more than the one before, and a variable becomes more active once
-    /// for all clauses of the conflict, as in MiniSat (Eén and Sörensson 2003). This is better on large tori, where each
-    /// cell is as good as any other: the search stays among the cells where it is.
+    /// The latest conflicts count most: each adds clearly more than the one before. In a conflict, a variable becomes more active
+    /// only once, however many of the resolved clauses contain it, as in MiniSat (Eén and Sörensson 2003). This is better on large
+    /// tori, where each cell is as good as any other: the search stays among the cells where it is.
     Focused,
 }
 
-/// How active a variable was, its place in the heap, and the value that it had last.
+/// How active a variable is, its place in the heap, and the value that it had last.
 #[derive(Clone, Copy)]
 struct Rank {
     activity: u64,
@@ -45,19 +46,22 @@ struct Rank {
     value: bool,
 }
 
-/// The variables. Those at the first places of the heap wait to be decided, and those that were taken stand behind them
-/// until they are put back. Each variable's rank is kept at its number. A conflict adds the increment to an activity.
+/// The variables in the order in which they are decided, the most active first.
 #[derive(Drop)]
 pub struct Order {
+    /// The first `waiting` entries are a binary heap of the variables that wait to be decided. Those taken from it stand behind it.
     heap: Vec<usize>,
+    /// The rank of each variable, by its number.
     ranks: Vec<Rank>,
+    /// How many variables wait.
     waiting: usize,
+    /// What a conflict adds to the activity of a variable.
     increment: u64,
     style: Style,
 }
 
 impl Order {
-    /// All variables wait, with the value false.
+    /// The order in which all variables wait, each with the value false and no activity.
     pub fn new(alloc: Global, variables: usize, style: Style) -> Result<Order, AllocError> {
         let idle = Rank {
             activity: 0,
@@ -110,6 +114,7 @@ impl Order {
         variable < self.ranks.len() && self.ranks[variable].value
     }
 
+    /// Puts a variable at a place of the heap.
     fn put(&mut self, variable: usize, place: usize)
         ensures { self.new.waiting ≡ self.old.waiting }
     {
@@ -119,7 +124,7 @@ impl Order {
         }
     }
 
-    /// Whether a variable is more active than another, or as active and of a lower number.
+    /// Whether a variable is more active than another. Of two that are equally active, the one of the lower number comes first.
     fn is_before(&self, variable: usize, other: usize) -> bool {
         let activity = self.activity(variable);
         let others = self.activity(other);
@@ -141,7 +146,7 @@ impl Order {
         self.put(variable, place);
     }
 
-    /// Of the two places below this one, that of the variable that comes first.
+    /// The place below this one in the heap. Of two such places, the one whose variable comes first. `None` if there is none.
     fn find_below(&self, place: usize) -> Option<usize>
         ensures { MatchOption result ⊤ (λ below. (place < below) × (below < self.now.waiting)) }
     {
@@ -171,7 +176,7 @@ impl Order {
         self.put(variable, place);
     }
 
-    /// Takes the first variable that waits.
+    /// Takes the first variable out of the heap. It stands behind the heap from then on.
     fn pop(&mut self) -> Option<usize> {
         if self.waiting == 0 {
             return None;
@@ -211,7 +216,7 @@ impl Order {
         }
     }
 
-    /// Puts a variable back that was taken, with the value that it had.
+    /// Puts a variable back into the heap, if it was taken, and notes the value that it had.
     fn put_back(&mut self, variable: usize, value: bool) {
         let waiting = self.waiting;
         let place = self.place(variable);
@@ -226,7 +231,7 @@ impl Order {
         }
     }
 
-    /// Puts the variables back that lose their values where the trail is cut at a place.
+    /// Puts back the variables of the entries from a place on, and notes their values. The trail is then cut at this place.
     pub fn put_back_from(&mut self, trail: &Trail, place: usize) {
         let entries = trail.entries();
         for i in place..entries.len() {
@@ -235,7 +240,7 @@ impl Order {
         }
     }
 
-    /// Makes all activities smaller. Some that differed become equal, and then the lesser variable comes first: so the
+    /// Makes all activities and the increment smaller. Some activities that differed become equal, which changes the order. So the
     /// heap is arranged again.
     fn rescale(&mut self) {
         for rank in self.ranks.iter_mut() {
@@ -245,7 +250,7 @@ impl Order {
         self.arrange();
     }
 
-    /// The variable took part in a conflict.
+    /// Makes a variable more active, as it took part in a conflict.
     pub fn bump(&mut self, variable: u32) {
         let variable = variable as usize;
         let activity = self.activity(variable).saturating_add(self.increment);
@@ -261,7 +266,8 @@ impl Order {
         }
     }
 
-    /// Counts the variables of a clause of the list.
+    /// Adds 1 to the activity of each literal's variable. After a call for each clause, the activities count the occurrences of the
+    /// variables. The heap is not arranged anew.
     pub fn count(&mut self, literals: &[Literal]) {
         for literal in literals {
             let variable = literal.variable as usize;
@@ -271,14 +277,14 @@ impl Order {
         }
     }
 
-    /// Puts the most active variables first.
+    /// Makes a heap of the variables that wait, the most active first.
     pub fn arrange(&mut self) {
         for place in (0..self.waiting / 2).rev() {
             self.sink(self.variable_at(place), place);
         }
     }
 
-    /// Later conflicts count for more than those before.
+    /// Raises the increment, so that later conflicts count for more. Compared with it, the activities so far decay.
     pub fn decay(&mut self) {
         let growth = match self.style {
             Style::Broad => self.increment / BROAD_PART,

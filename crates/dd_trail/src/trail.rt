@@ -1,5 +1,8 @@
-//! The literals that are true, in the order in which they became so, and which literals are false. What a trail says of a
-//! literal depends only on its entries. With one truth value for each literal, every look costs the same.
+//! The literals that are true, in the order in which they became so. One truth value for each literal says whether it is
+//! false, so asking takes constant time.
+//!
+//! The reason, the level and the place of a variable are meant for variables with a value. No contract rests on them, and no
+//! invariant says that their indices are within the lists. So the code tests these indices. The tests never fail.
 ghost use Rattle.std.specs.Prelude.{◌≡◌, ℕ, ◌+◌, ◌<◌, ◌≤◌, ◌^◌, ◌++◌, ◌∷◌, [], true, false, length, take, slice_set, ◌-◌, IfOk, OnOk, OnErr, MatchOption, IsTrue, ◌↔◌};
 ghost use Rattle.dd_clause.specs.Clauses.{IsLiteralInRange};
 ghost use Rattle.dd_values.specs.Variables.{true_variables};
@@ -12,7 +15,7 @@ use dd_derivation::FalseLiterals;
 use std::alloc::{AllocError, Global};
 use std::marker::Model;
 
-/// A literal that is true: it was decided, or the clause of a number forced it.
+/// A literal that is true, and why: it was decided, or a clause forced it.
 #[derive(Clone, Copy, Debug)]
 pub struct Entry {
     /// The literal.
@@ -21,20 +24,23 @@ pub struct Entry {
     pub reason: Option<u64>,
 }
 
-/// The place of a variable's entry, and the number of decisions up to there.
+/// The place of a variable's entry on the trail, and its decision level: the number of decisions on the trail up to it.
 #[derive(Clone, Copy)]
 struct Spot {
     place: usize,
     level: usize,
 }
 
-/// The entries, whether each literal is false, where each variable's entry stands, and where the decisions stand.
+/// The trail over the variables 1 to `variables`.
 #[derive(Drop)]
 pub struct Trail {
     variables: usize,
     entries: Vec<Entry>,
+    /// For each literal, by its code, whether it is false.
     denied: Vec<bool>,
+    /// For each variable, by its number, the spot of its entry. It is out of date if the variable has no value.
     spots: Vec<Spot>,
+    /// The places of the decisions on the trail, in ascending order.
     decision_places: Vec<usize>,
 }
 
@@ -49,12 +55,12 @@ impl Model for Trail {
     ghost invariant = { λ t. IsDenied t.variables t.entries.items t.denied.items };
 }
 
-/// The place of a literal in a list of all of them.
-pub fn place_of(literal: Literal) -> usize
+/// The code of a literal: its index in a list of all literals.
+pub fn code_of(literal: Literal) -> usize
     ensures { result ≡ code literal }
 {
-    let place = 2 * literal.variable as usize;
-    if literal.positive { place + 1 } else { place }
+    let even = 2 * literal.variable as usize;
+    if literal.positive { even + 1 } else { even }
 }
 
 fn set_spot(spots: &mut Vec<Spot>, variable: u32, spot: Spot) {
@@ -64,7 +70,7 @@ fn set_spot(spots: &mut Vec<Spot>, variable: u32, spot: Spot) {
     }
 }
 
-/// Notes where a decision stands.
+/// Adds the place of an entry to the places of decisions, if the entry was decided.
 fn note_decision(places: &mut Vec<usize>, entry: Entry, place: usize) -> Result<(), AllocError> {
     if entry.reason.is_none() {
         places.push(place)?;
@@ -72,7 +78,7 @@ fn note_decision(places: &mut Vec<usize>, entry: Entry, place: usize) -> Result<
     Ok(())
 }
 
-/// How many of the decisions stand below a place.
+/// How many of the decisions stand before a place.
 fn count_below(places: &[usize], place: usize) -> usize {
     for count in (0..places.len()).rev() {
         if places[count] < place {
@@ -83,7 +89,7 @@ fn count_below(places: &[usize], place: usize) -> usize {
 }
 
 impl Trail {
-    /// No entries over this many variables.
+    /// The trail without entries over this many variables.
     pub fn new(alloc: Global, variables: usize) -> Result<Trail, AllocError>
         requires { variables < 2 ^ 32 }
         ensures variables { IfOk result (λ trail. trail.variables ≡ variables) }
@@ -105,7 +111,7 @@ impl Trail {
         self.entries.as_slice()
     }
 
-    /// Makes a literal true whose variable has no value.
+    /// Makes a literal true. Its variable has no value before.
     pub fn assign(&mut self, entry: Entry) -> Result<(), AllocError>
         requires in_range { IsLiteralInRange self.old.variables entry.literal }
         requires fresh { has_variable entry.literal.variable (falses self.old.entries) ≡ false }
@@ -123,7 +129,7 @@ impl Trail {
             entry.literal.variable,
             Spot { place, level },
         );
-        self.denied[place_of(entry.literal.negation())] = true;
+        self.denied[code_of(entry.literal.negation())] = true;
         Ok(())
     }
 
@@ -135,7 +141,7 @@ impl Trail {
         while self.entries.len() > place {
             let last = self.entries.len() - 1;
             let entry = self.entries[last];
-            self.denied[place_of(entry.literal.negation())] = false;
+            self.denied[code_of(entry.literal.negation())] = false;
             self.entries.truncate(last);
         }
         self.decision_places
@@ -149,7 +155,7 @@ impl Trail {
         self.entries.len() == self.variables
     }
 
-    /// Whether there is a variable of this number, and it has no value.
+    /// Whether this is the number of a variable without a value.
     pub(crate) fn is_free(&self, variable: usize) -> bool
         ensures { IsTrue result ↔ IsFree self.now.variables self.now.entries variable }
     {
@@ -159,7 +165,7 @@ impl Trail {
         !self.denied[2 * variable] && !self.denied[2 * variable + 1]
     }
 
-    /// A variable that has no value.
+    /// The first variable that has no value. `None` if each has one.
     pub(crate) fn find_free(&self) -> Option<u32>
         requires { self.now.variables < 2 ^ 32 }
         ensures { MatchOption result (IsFull self.now.variables self.now.entries) (IsFree self.now.variables self.now.entries) }
@@ -179,12 +185,13 @@ impl Trail {
     {
         let mut values: Vec<bool> = Vec::new(alloc);
         for i in 0..self.variables {
+            // The variable i + 1 is true if its negative literal is false.
             values.push(self.denied[2 * i + 2])?;
         }
         Ok(Assignment::new(values))
     }
 
-    /// The number of the clause that forced the variable's value.
+    /// The number of the clause that forced the variable's value. `None` if the value was decided.
     pub fn reason(&self, variable: u32) -> Option<u64> {
         let place = self.place(variable);
         if place < self.entries.len() {
@@ -193,7 +200,7 @@ impl Trail {
         None
     }
 
-    /// The decision level of the variable's value: how many decisions stand on the trail up to it.
+    /// The decision level of the variable's value: the number of decisions on the trail up to it.
     pub fn level(&self, variable: u32) -> usize {
         let variable = variable as usize;
         if variable < self.spots.len() {
@@ -202,7 +209,7 @@ impl Trail {
         0
     }
 
-    /// Whether the variable has its value by clauses alone, with no decision before it.
+    /// Whether the variable's entry stands before the first decision, so that clauses alone force its value.
     pub fn is_fixed(&self, variable: u32) -> bool {
         match self.decision_places.first() {
             None => true,
@@ -210,7 +217,7 @@ impl Trail {
         }
     }
 
-    /// Whether the variable got its value since the last decision.
+    /// Whether the variable got its value by the last decision or since.
     pub fn is_latest(&self, variable: u32) -> bool {
         match self.decision_places.last() {
             None => true,
@@ -218,11 +225,12 @@ impl Trail {
         }
     }
 
-    /// For each literal, by its place in a list of all of them, whether it is false.
+    /// For each literal, by its code, whether it is false.
     pub(crate) fn denied(&self) -> &[bool] {
         self.denied.as_slice()
     }
 
+    /// The place of the variable's entry on the trail.
     fn place(&self, variable: u32) -> usize {
         let variable = variable as usize;
         if variable < self.spots.len() {
@@ -236,7 +244,7 @@ impl FalseLiterals for Trail {
     ghost is_false = { λ t. is_among (falses t.entries) };
 
     fn is_false(&self, literal: Literal) -> bool {
-        let place = place_of(literal);
-        place < self.denied.len() && self.denied[place]
+        let index = code_of(literal);
+        index < self.denied.len() && self.denied[index]
     }
 }

@@ -1,46 +1,49 @@
-//! Two watched literals (Moskewicz, Madigan, Zhao, Zhang and Malik 2001): a clause needs no look while the two literals
-//! that it watches are not false. So only the clauses that watch a literal are looked at when it becomes false, and
-//! nothing is undone when the search goes back. What a clause is found to say is tested exactly, so no contract rests on
-//! the watches: a missed one only costs time. No invariant says that the places kept here are within their lists; the
-//! tests for this below never fail.
+//! Two watched literals (Moskewicz, Madigan, Zhao, Zhang and Malik 2001). A clause needs no look while the two literals
+//! that it watches are not false. So when a literal becomes false, only the clauses that watch it are looked at, and
+//! nothing is undone when the search goes back. Each clause that is found this way is tested exactly, so no contract rests
+//! on the watches: a clause that they miss only costs time. No invariant says that the places kept here are within their
+//! lists. So the code tests them. The tests never fail.
+//!
+//! A watcher is a clause in the list of a literal that it watches. To pass a watcher is to look at its clause, which then stays
+//! in the list or moves to that of another literal.
 ghost use Rattle.std.specs.Prelude.{◌≡◌, ◌<◌, ◌^◌, length, IfOk, MatchOption, ⊤};
 ghost use Rattle.dd_trail.specs.Trails.{falses, IsFull};
 ghost use Rattle.dd_trail.specs.Propagation.{Says, AreOpenBetween};
 
 use crate::database::Database;
 use crate::propagation::{Scan, look_at, scan_between};
-use crate::trail::{Trail, place_of};
+use crate::trail::{Trail, code_of};
 use dd_clause::Literal;
 use std::alloc::{AllocError, Global};
 use std::mem;
 
-/// A literal in four bytes: its place in a list of all literals.
+/// A literal's code, in four bytes. It always fits, as there are at most 2^24 variables.
 #[derive(Clone, Copy, PartialEq, Eq)]
 struct Code {
-    place: u32,
+    index: u32,
 }
 
 impl Code {
     fn new(literal: Literal) -> Code {
         Code {
-            place: u32::try_from(place_of(literal)).unwrap_or(0),
+            index: u32::try_from(code_of(literal)).unwrap_or(0),
         }
     }
 
     fn negation(self) -> Code {
         Code {
-            place: self.place ^ 1,
+            index: self.index ^ 1,
         }
     }
 
-    fn place(self) -> usize {
-        self.place as usize
+    fn index(self) -> usize {
+        self.index as usize
     }
 
-    /// Whether the literal is one of those that the list denies.
+    /// Whether the literal is false. `denied` says so for each literal, by its code.
     fn is_false(self, denied: &[bool]) -> bool {
-        let place = self.place();
-        place < denied.len() && denied[place]
+        let index = self.index();
+        index < denied.len() && denied[index]
     }
 
     fn is_true(self, denied: &[bool]) -> bool {
@@ -48,14 +51,15 @@ impl Code {
     }
 }
 
-/// Stands behind the literals of each clause. It is the code of no literal, and never false.
-const END: Code = Code { place: 0 };
+/// The end mark that stands behind the literals of each clause. It is the code of no literal, and never false.
+const END: Code = Code { index: 0 };
 
-/// A clause that watches a literal, given by the place of its literals, and another of its literals. If that one is true,
-/// the clause needs no look.
+/// A clause that watches a literal.
 #[derive(Clone, Copy)]
 struct Watcher {
+    /// The place of its first literal in `Watches::literals`.
     clause: u32,
+    /// Another literal of the clause. While that one is true, the clause needs no look.
     other: Code,
 }
 
@@ -64,35 +68,38 @@ struct Watcher {
 pub struct Watches {
     /// For each literal the clauses that watch it.
     lists: Vec<Vec<Watcher>>,
-    /// Room for one of these lists while it is passed.
+    /// Holds one of these lists while its watchers are passed.
     passed: Vec<Watcher>,
-    /// The literals of all clauses, the watched ones of each first.
+    /// The literals of all clauses, those of each with the watched ones first and an end mark last.
     literals: Vec<Code>,
-    /// Beside each literal its clause's number.
+    /// For each place of `literals` the number of its clause.
     numbers: Vec<u32>,
     /// How many clauses there are.
     count: u32,
-    /// How far the trail is read.
+    /// How many entries of the trail are read.
     read: usize,
-    /// How far the list of its next literal is passed.
+    /// How many watchers are passed already in the list of the negation of the next entry's literal.
     at: usize,
-    /// How many clauses were looked at since they were added.
+    /// How many clauses, from the first on, were looked at once since they were added.
     scanned: u64,
     /// Whether there are watchers of deleted clauses.
     has_deleted: bool,
 }
 
-/// What is done with a clause whose watched literal became false: it stays, since the other watched literal is true; or
-/// it moves to watch a further literal beside the other; or all but the other are false.
+/// What a look at a clause finds after one of its watched literals became false.
 #[derive(Clone, Copy)]
 enum Look {
+    /// The clause goes on watching the literal that became false. The other literal that it watches, given here, is true.
     Stays(Code),
+    /// The clause watches the first of these literals instead. The second is the other one that it watches.
     Moves(Code, Code),
+    /// All literals of the clause are false, but maybe the other one that it watches, and that one is not true.
     AllFalse,
 }
 
+/// Adds a watcher to the list of a literal.
 fn watch(lists: &mut Vec<Vec<Watcher>>, literal: Code, watcher: Watcher) -> Result<(), AllocError> {
-    let list = literal.place();
+    let list = literal.index();
     if list < lists.len() {
         lists[list].push(watcher)?;
     }
@@ -111,7 +118,7 @@ fn find_not_false(denied: &[bool], literals: &[Code], from: usize) -> Option<usi
     None
 }
 
-/// Looks in the clause at a place for another literal to watch, in place of the one that became false.
+/// Looks in the clause for a literal to watch instead of the one that became false. `clause` is the place of its first literal.
 fn rewatch(denied: &[bool], literals: &mut [Code], clause: u32, became_false: Code) -> Look {
     let first = clause as usize;
     let second = first + 1;
@@ -138,8 +145,9 @@ fn rewatch(denied: &[bool], literals: &mut [Code], clause: u32, became_false: Co
     }
 }
 
-/// Passes the watchers of a literal that became false, from a place on. Those that watch a further literal now go to its
-/// list, and the last takes their place. Returns the place of a clause that may be falsified or force a literal.
+/// Passes the watchers of a literal that became false, from the one at `from` on. A clause that now watches another literal
+/// moves to that literal's list, and the last watcher of this list takes its place here. Stops at a clause that may be falsified
+/// or force a literal, and returns the place of its watcher.
 fn pass_from(
     denied: &[bool],
     literals: &mut [Code],
@@ -171,13 +179,14 @@ fn pass_from(
     Ok(None)
 }
 
+/// Whether the clause of this number is alive.
 fn is_alive(alive: &[bool], number: u32) -> bool {
     let number = number as usize;
     number >= 1 && number <= alive.len() && alive[number - 1]
 }
 
 impl Watches {
-    /// No clause watches a literal yet.
+    /// Watches of no clauses over this many variables.
     pub fn new(alloc: Global, variables: usize) -> Result<Watches, AllocError>
         requires { variables < 2 ^ 32 }
     {
@@ -198,7 +207,7 @@ impl Watches {
         })
     }
 
-    /// The next clause watches its first two literals.
+    /// Adds the next clause. It watches its first two literals.
     pub fn add(&mut self, literals: &[Literal]) -> Result<(), AllocError> {
         let start = self.literals.len();
         self.count = self.count.saturating_add(1);
@@ -212,7 +221,7 @@ impl Watches {
         self.watch_first(start, end)
     }
 
-    /// The clause from `start` to before `end`, with its end mark last, watches its first two literals.
+    /// Lets a clause watch its first two literals, if it has two. Its literals and end mark stand from `start` to before `end`.
     fn watch_first(&mut self, start: usize, end: usize) -> Result<(), AllocError> {
         let clause = u32::try_from(start).unwrap_or(0);
         if end <= self.literals.len() && start < end && end - start > 2 {
@@ -234,6 +243,7 @@ impl Watches {
         None
     }
 
+    /// Writes a literal and its clause's number at a place.
     fn put(&mut self, place: usize, literal: Code, number: u32) {
         if place < self.literals.len() && place < self.numbers.len() {
             self.literals[place] = literal;
@@ -241,7 +251,7 @@ impl Watches {
         }
     }
 
-    /// Drops the literals of the clauses that are not alive, and their watchers.
+    /// Drops the literals and the watchers of the clauses that are not alive. The others watch their first two literals anew.
     fn drop_deleted(&mut self, alive: &[bool]) -> Result<(), AllocError> {
         for list in self.lists.iter_mut() {
             list.clear();
@@ -268,14 +278,15 @@ impl Watches {
         Ok(())
     }
 
-    /// Notes that the clauses of these numbers, if any, are deleted. They are dropped at the next cut.
+    /// Notes that the clauses of these numbers, if any, are deleted. The next call of `cut` drops them.
     pub fn note_deleted(&mut self, numbers: &[u64]) {
         if !numbers.is_empty() {
             self.has_deleted = true;
         }
     }
 
-    /// The trail was cut to this length. `alive` says of each clause whether it is alive.
+    /// Notes that the trail is cut to this length, and drops deleted clauses. The clause of number k is alive if `alive[k - 1]`
+    /// is true.
     pub fn cut(&mut self, length: usize, alive: &[bool]) -> Result<(), AllocError> {
         if length <= self.read {
             self.read = length;
@@ -287,7 +298,7 @@ impl Watches {
         Ok(())
     }
 
-    /// The number of the clause at a place.
+    /// The number of the clause whose first literal is at this place.
     fn number(&self, clause: u32) -> u64 {
         let clause = clause as usize;
         if clause < self.numbers.len() {
@@ -296,16 +307,16 @@ impl Watches {
         0
     }
 
-    /// Takes a literal's list out to be passed, or puts it back.
+    /// Exchanges a literal's list with `passed`: takes the list out to be passed, or puts it back.
     fn exchange(&mut self, literal: Code) {
-        let list = literal.place();
+        let list = literal.index();
         if list < self.lists.len() {
             mem::swap(&mut self.lists[list], &mut self.passed);
         }
     }
 
-    /// Passes the watchers of a literal that became false, from where they were passed to. Returns the place of a clause
-    /// that may be falsified or force a literal.
+    /// Passes the watchers of a literal that became false, from the first that isn't passed yet. Stops at a clause that may be
+    /// falsified or force a literal, and returns the place of its first literal.
     fn pass(&mut self, trail: &Trail, became_false: Code) -> Result<Option<u32>, AllocError> {
         self.exchange(became_false);
         let found = pass_from(
@@ -327,13 +338,13 @@ impl Watches {
         Ok(clause)
     }
 
-    /// Reads the trail on until a clause is falsified or forces a literal. For each literal that became false all
-    /// watchers are passed.
+    /// Reads the trail on, until a clause is falsified or forces a literal. Each entry makes the negation of its literal false, so
+    /// the watchers of the negation are passed.
     fn read(&mut self, database: &Database, trail: &Trail) -> Result<Scan, AllocError>
         ensures { IfOk result (Says database.now (falses trail.now.entries) ⊤) }
     {
         let entries = trail.entries();
-        // So many turns are never made. A `loop` would need a proof that it ends, and nothing is known of the places.
+        // The loop ends long before its bound. A `loop` would need a proof that it ends, and nothing is proved of the places.
         for _ in 0..u64::MAX {
             let read = self.read;
             if read >= entries.len() {
@@ -354,8 +365,9 @@ impl Watches {
         Ok(Scan::Nothing)
     }
 
-    /// Looks for a clause that is falsified or forces a literal. A clause that was added is looked at once, as it may
-    /// have only one literal. If each variable has a value, all are looked at once more.
+    /// Looks for a clause that is falsified or forces a literal. Each new clause is looked at once, as it may have only one
+    /// literal, and then it watches none. If each variable has a value, all clauses are looked at once more: the contract rests
+    /// on this.
     pub fn find(&mut self, database: &Database, trail: &Trail) -> Result<Scan, AllocError>
         requires { trail.now.variables < 2 ^ 32 }
         ensures { IfOk result (Says database.now (falses trail.now.entries) (IsFull trail.now.variables trail.now.entries → AreOpenBetween database.now (falses trail.now.entries) 0 (length database.now))) }

@@ -16,7 +16,7 @@ use Rattle.dd_values.specs.lemmas.Numbers.{le_from}
 abbrev pub allowed_at : LocalRule → Shown → ℕ → Type 0
 allowed_at r w k = rule_allows r (k % r.nodes) (get_or w.symbols k 0) ≡ true
 
--- a cell's place names its node
+-- a cell's place gives its node
 node_of : (s : Strip) (c : Cell) → c.node < s.nodes → window_index s c % s.nodes ≡ c.node
 node_of s c h =
     let x = unsigned_abs c.position.x in
@@ -39,13 +39,13 @@ all_allowed r w full h c =
     (λ lt. subst (λ (a : ℕ). rule_allows r a (get_or w.symbols (window_index w.strip c) 0) ≡ true) same (h (window_index w.strip c) lt)))
     (λ _. tt)
 
--- where each node allows all symbols
+-- each symbol is allowed if each node allows all symbols
 pub allowed_by_all : (r : LocalRule) (w : Shown) → IsFullWindow r w → AllowsAll r → (k : ℕ) → k < length w.symbols → allowed_at r w k
 allowed_by_all r w full all k lt =
     let some : 0 < r.nodes = omega (arith, full.strip_for.sized.nodes_some, full.strip_for.nodes) in
     all (k % r.nodes) (mod_below k r.nodes some) (get_or w.symbols k 0) (full.known k 0 lt)
 
--- each place is that of a cell
+-- the cell at the place k of a window
 abbrev pub cell_of : Strip → ℕ → Cell
 cell_of s k = cell_at s (pos (k / cells s)) (k % cells s)
 

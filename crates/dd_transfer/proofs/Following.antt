@@ -1,4 +1,4 @@
--- The windows of a look are edges of the transfer graph exactly where the rule is kept in them.
+-- The windows of a look are edges of the transfer graph exactly if the rule keeps them.
 use Rattle.std.proofs.Common.{◌≡◌, ℕ, ◌+◌, ◌*◌, ◌%◌, ◌^◌, ◌<◌, true, List, [], ◌∷◌, ℤ, pos, ◌+ℤ◌, ◌≤ℤ◌, unsigned_abs, Option, refl, ap, sym, ◌∙◌, subst, arith}
 use Rattle.std.proofs.lemmas.{Bool.and_parts, Bool.and_from, Bool.ltb-true, Int.ints, Nat.mod-mul-add}
 use Rattle.std.proofs.Math.Nat.{pow-suc, pow-zero}
@@ -10,7 +10,7 @@ use Rattle.dd_pattern.specs.Reading.{Look}
 use Rattle.dd_expansion.specs.Placed.{is_flat}
 use Rattle.dd_formula.specs.LocalRule.{LocalRule, IsRule, is_of, is_true, reads_at, rule_allows}
 use Rattle.dd_formula.specs.Reach.{all_cells}
-use Rattle.dd_counts.specs.Rules.{least_x, greatest_x, slices, states, window}
+use Rattle.dd_counts.specs.Rules.{least_x, greatest_x, slices, states, state_length}
 use Rattle.dd_strip.specs.{declared.strip.Strip.Strip, Strips.IsFor, Strips.positions}
 use Rattle.dd_transfer.specs.Windows.{IsKept, IsWindow, window_look, numbered_window, stand}
 use Rattle.dd_transfer.specs.Transfers.{IsEdge}
@@ -21,7 +21,7 @@ use Rattle.dd_transfer.proofs.Slicing.{given, symbols_joined, slices_joined, sli
 use Rattle.dd_transfer.proofs.Moving.{along, part, IsInside, part_same, part_inside, moved_inside, truth_same}
 use Rattle.dd_values.specs.lemmas.{Numbers.plus_zero, Numbers.le_from, Results.if_some}
 
--- moved back by x, and forth again
+-- x is subtracted and added again
 back_and_there : (x c : ℤ) → ((c -ℤ x) +ℤ x) ≡ c
 back_and_there x c = omega (arith, ints)
 
@@ -31,7 +31,7 @@ back_inside x c n p q = (omega (arith, ints), omega (arith, ints))
 turned : (x y : ℤ) → (x +ℤ y) ≡ (y +ℤ x)
 turned x y = omega (arith, ints)
 
--- fewer slices, where more have symbols
+-- if n slices have symbols, so do fewer slices among them
 pub fewer : (r : LocalRule) (look : Look) (x y : ℤ) (m n : ℕ) → x ≤ℤ y → (y +ℤ pos m) ≤ℤ (x +ℤ pos n) → HasSlices r look x n → HasSlices r look y m
 fewer r look x y m n low high has c inside node = has c (record { from = lower x y c.position.x low inside.from; before = higher c.position.x (y +ℤ pos m) (x +ℤ pos n) inside.before high }) node
   where
@@ -44,22 +44,22 @@ fewer r look x y m n low high has c inside node = has c (record { from = lower x
 some_there : (r : LocalRule) (look : Look) (x : ℤ) (n : ℕ) (c : Cell) → HasSlices r look x n → IsInSlices x n c → c.node < r.nodes → is_some (look c) ≡ true
 some_there r look x n c has inside node = let g = given r look x n c has inside node in ap is_some g.is
 
--- the rule stands in the window, and so does what it reads there
-read_within : (r : LocalRule) (x y d : ℤ) → y ≡ x +ℤ stand r → (pos 0 ≤ℤ (d +ℤ stand r)) × (unsigned_abs (d +ℤ stand r) < window r + 1) →
-    (x ≤ℤ (d +ℤ y)) × ((d +ℤ y) <ℤ (x +ℤ pos (window r + 1)))
-read_within r x y d at spot = within x y d (stand r) (window r + 1) at spot.0 spot.1
+-- what the rule reads at the cells of the tested slice is in the window
+read_within : (r : LocalRule) (x y d : ℤ) → y ≡ x +ℤ stand r → (pos 0 ≤ℤ (d +ℤ stand r)) × (unsigned_abs (d +ℤ stand r) < state_length r + 1) →
+    (x ≤ℤ (d +ℤ y)) × ((d +ℤ y) <ℤ (x +ℤ pos (state_length r + 1)))
+read_within r x y d at spot = within x y d (stand r) (state_length r + 1) at spot.0 spot.1
   where
     within : (x y d e : ℤ) (n : ℕ) → y ≡ x +ℤ e → pos 0 ≤ℤ (d +ℤ e) → unsigned_abs (d +ℤ e) < n → (x ≤ℤ (d +ℤ y)) × ((d +ℤ y) <ℤ (x +ℤ pos n))
     within x y d e n at p q = (omega (arith, ints), omega (arith, ints))
 
-stands_within : (r : LocalRule) (x : ℤ) (v : Place) (a : ℕ) → v.x ≡ x +ℤ stand r → IsInSlices x (window r + 1) (cell v a)
+stands_within : (r : LocalRule) (x : ℤ) (v : Place) (a : ℕ) → v.x ≡ x +ℤ stand r → IsInSlices x (state_length r + 1) (cell v a)
 stands_within r x v a at =
     let lo = least_x (pos 0) (all_cells r) in
     let hi = greatest_x (pos 0) (all_cells r) in
     let zero_between : between lo hi (cell (place (pos 0) (pos 0) (pos 0)) 0) ≡ true =
     and_from _ _ (le_from lo (pos 0) (least_low (pos 0) (all_cells r))) (le_from (pos 0) hi (greatest_high (pos 0) (all_cells r))) in
     let spot = read_within r x v.x (pos 0) at (within_window r (pos 0) zero_between) in
-    record { from = first x v.x spot.0; before = second v.x (x +ℤ pos (window r + 1)) spot.1 }
+    record { from = first x v.x spot.0; before = second v.x (x +ℤ pos (state_length r + 1)) spot.1 }
   where
     first : (x y : ℤ) → x ≤ℤ (pos 0 +ℤ y) → x ≤ℤ y
     first x y h = omega (arith, ints)
@@ -67,7 +67,7 @@ stands_within r x v a at =
     second : (y z : ℤ) → (pos 0 +ℤ y) <ℤ z → y <ℤ z
     second y z h = omega (arith, ints)
 
-all_there : (r : LocalRule) (look : Look) (x : ℤ) (v : Place) → v.x ≡ x +ℤ stand r → HasSlices r look x (window r + 1) → (ds : List Cell) → list_all (is_of r) ds ≡ true →
+all_there : (r : LocalRule) (look : Look) (x : ℤ) (v : Place) → v.x ≡ x +ℤ stand r → HasSlices r look x (state_length r + 1) → (ds : List Cell) → list_all (is_of r) ds ≡ true →
     list_all (between (least_x (pos 0) (all_cells r)) (greatest_x (pos 0) (all_cells r))) ds ≡ true → list_all (λ d. is_some (look (shifted v d))) ds ≡ true
 all_there r look x v at has [] placed inside = refl
 all_there r look x v at has (d ∷ ds) placed inside =
@@ -75,15 +75,15 @@ all_there r look x v at has (d ∷ ds) placed inside =
     let insides = and_parts (between (least_x (pos 0) (all_cells r)) (greatest_x (pos 0) (all_cells r)) d) _ inside in
     let node : d.node < r.nodes = ltb-true _ _ (and_parts (is_flat r.dimension d.position) (nat_lt d.node r.nodes) places.0).1 in
     let spot = read_within r x v.x d.position.x at (within_window r d.position.x insides.0) in
-    and_from _ _ (some_there r look x (window r + 1) (shifted v d) has (record { from = spot.0; before = spot.1 }) node) (all_there r look x v at has ds places.1 insides.1)
+    and_from _ _ (some_there r look x (state_length r + 1) (shifted v d) has (record { from = spot.0; before = spot.1 }) node) (all_there r look x v at has ds places.1 insides.1)
 
 module _ (r : LocalRule) (s : Strip) (look : Look) (rule : IsRule r) (for : IsFor r s) (repeats : RepeatsAcross s look) where
-  module _ (x : ℤ) (has : HasSlices r look x (window r + 1)) where
+  module _ (x : ℤ) (has : HasSlices r look x (state_length r + 1)) where
     kept_of_part : IsKept r (part r s look x) → IsKeptFrom r look x
     kept_of_part kept = record {
       allowed = λ c inside node.
           (let d : Cell = cell (place (c.position.x -ℤ x) c.position.y c.position.z) c.node in
-          let b = back_inside x c.position.x (window r + 1) inside.from inside.before in
+          let b = back_inside x c.position.x (state_length r + 1) inside.from inside.before in
           let here : IsInside r s d = record { right = b.0; within = b.1; node = omega (arith, node, for.nodes) } in
           let there : shifted (along x) d ≡ c = ap (λ (v : Place). cell v c.node) (place_same _ _ _ _ _ _ (back_and_there x c.position.x) (plus_zero c.position.y) (plus_zero c.position.z)) in
           let same : part r s look x d ≡ look c = part_same r s look x for repeats has d here ∙ ap look there in
@@ -113,13 +113,13 @@ module _ (r : LocalRule) (s : Strip) (look : Look) (rule : IsRule r) (for : IsFo
 
     windows_are : IsWindow r s (window_from r s look x) ↔ IsKeptFrom r look x
     windows_are =
-        let same : numbered_window r s (window_from r s look x) ≡ part r s look x = ap (window_look s) (digits_from r s look for x (window r + 1) has) in
+        let same : numbered_window r s (window_from r s look x) ≡ part r s look x = ap (window_look s) (digits_from r s look for x (state_length r + 1) has) in
         (λ is. kept_of_part (subst (IsKept r) same is), λ kept. subst (IsKept r) (sym same) (kept_in_part kept))
 
     -- the window without its first slice is the next state
-    edge_is : IsKeptFrom r look x → IsEdge r s (state_from r s look x) (slices_from r s look (x +ℤ pos (window r)) 1) (state_from r s look (x +ℤ pos 1))
+    edge_is : IsKeptFrom r look x → IsEdge r s (state_from r s look x) (slices_from r s look (x +ℤ pos (state_length r)) 1) (state_from r s look (x +ℤ pos 1))
     edge_is kept =
-        let w = window r in
+        let w = state_length r in
         let m = slices r (positions s) in
         let u = state_from r s look x in
         let t = slices_from r s look (x +ℤ pos w) 1 in
@@ -154,12 +154,12 @@ module _ (r : LocalRule) (s : Strip) (look : Look) (rule : IsRule r) (for : IsFo
         once : (m : ℕ) → m ^ 1 ≡ m
         once m = pow-suc m 0 ∙ (ap (λ (p : ℕ). p * m) (pow-zero m) ∙ omega arith)
 
-  -- what is read at a place x further is read in the window
-  reads_there : (x : ℤ) (v : Place) (a : ℕ) → HasSlices r look x (window r + 1) → v.x ≡ x +ℤ stand r → a < r.nodes →
+  -- what the rule reads at a cell of the slice tested for the window from x on is in this window
+  reads_there : (x : ℤ) (v : Place) (a : ℕ) → HasSlices r look x (state_length r + 1) → v.x ≡ x +ℤ stand r → a < r.nodes →
       (is_some (look (cell v a)) && list_all (λ d. is_some (look (shifted v d))) (reads_at r a)) ≡ true
   reads_there x v a has at node =
       and_from (is_some (look (cell v a))) (list_all (λ d. is_some (look (shifted v d))) (reads_at r a))
-      (some_there r look x (window r + 1) (cell v a) has (stands_within r x v a at) node)
+      (some_there r look x (state_length r + 1) (cell v a) has (stands_within r x v a at) node)
       (all_there r look x v at has (reads_at r a) (rule.placed a node) (reads_between r a node))
 
   pub are_edges : AreEdgesOf r s look

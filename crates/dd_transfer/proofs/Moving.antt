@@ -12,7 +12,7 @@ use Rattle.dd_pattern.specs.{Reading.Look, Periods.residue}
 use Rattle.dd_expansion.specs.Placed.{is_flat}
 use Rattle.dd_formula.specs.{LocalRule.LocalRule, LocalRule.IsRule, LocalRule.is_of, LocalRule.is_true, LocalRule.reads_at, Reach.all_cells}
 use Rattle.dd_formula.specs.lemmas.RuleLaws.{truth_by_given}
-use Rattle.dd_counts.specs.Rules.{least_x, greatest_x, window}
+use Rattle.dd_counts.specs.Rules.{least_x, greatest_x, state_length}
 use Rattle.dd_strip.specs.{declared.strip.Strip.Strip, Strips.IsFor, Strips.cells}
 use Rattle.dd_transfer.specs.Windows.{cell_at, slice_index_of, window_index, window_look, stand}
 use Rattle.dd_transfer.specs.Slices.{RepeatsAcross, IsInSlices, HasSlices, across, cell_from, symbols_from}
@@ -20,18 +20,18 @@ use Rattle.dd_transfer.proofs.{Stands.between, Stands.reads_between, Stands.with
 use Rattle.dd_transfer.proofs.{Numbers.listed-at, Numbers.length-listed, Slicing.given, Slicing.symbol_from, Slicing.symbol_given}
 use Rattle.dd_values.specs.lemmas.Numbers.{plus_zero, le_from, le_to}
 
--- the position x along the first axis
+-- the position that is x along the first axis from the origin
 abbrev pub along : ℤ → Place
 along x = place x (pos 0) (pos 0)
 
 -- the look of the window from x on
 abbrev pub part : LocalRule → Strip → Look → ℤ → Look
-part r s look x = window_look s (symbols_from s look x (window r + 1))
+part r s look x = window_look s (symbols_from s look x (state_length r + 1))
 
--- the cell is one of a window
+-- the cell is in the window
 pub record IsInside (r : LocalRule) (s : Strip) (c : Cell) : Type 0 where
   pub right : pos 0 ≤ℤ c.position.x
-  pub within : unsigned_abs c.position.x < window r + 1
+  pub within : unsigned_abs c.position.x < state_length r + 1
   pub node : c.node < s.nodes
 
 same_sum : (x c : ℤ) → pos 0 ≤ℤ c → x +ℤ pos (unsigned_abs c) ≡ c +ℤ x
@@ -55,13 +55,13 @@ row_of a c b n h = elim (cases_lt a n) [
   | inr le ↦ let more : n * c ≤ a * c = mul-le-mul_right c le in absurd (omega arith)
 ]
 
-module _ (r : LocalRule) (s : Strip) (look : Look) (x : ℤ) (for : IsFor r s) (repeats : RepeatsAcross s look) (has : HasSlices r look x (window r + 1)) where
-  index_below : (c : Cell) → IsInside r s c → window_index s c < (window r + 1) * cells s
+module _ (r : LocalRule) (s : Strip) (look : Look) (x : ℤ) (for : IsFor r s) (repeats : RepeatsAcross s look) (has : HasSlices r look x (state_length r + 1)) where
+  index_below : (c : Cell) → IsInside r s c → window_index s c < (state_length r + 1) * cells s
   index_below c h =
-      let lt = mul-add-lt (unsigned_abs c.position.x) (cells s) (slice_index_of s c) (window r + 1) h.within (slice_below s c for.sized h.node) in
+      let lt = mul-add-lt (unsigned_abs c.position.x) (cells s) (slice_index_of s c) (state_length r + 1) h.within (slice_below s c for.sized h.node) in
       omega (arith, lt)
 
-  -- a cell's place in the window is that of the cell x further, moved into its slice
+  -- the cell c of the window is, in the look, the cell x further than c, modulo the strip's periods
   cell_there : (c : Cell) → IsInside r s c → cell_from s x (window_index s c) ≡ cell (across s (moved c.position (along x))) c.node
   cell_there c h =
       let n = unsigned_abs c.position.x in
@@ -81,34 +81,34 @@ module _ (r : LocalRule) (s : Strip) (look : Look) (x : ℤ) (for : IsFor r s) (
   part_same c h =
       let k = window_index s c in
       let lt = index_below c h in
-      let g = symbol_given r s look for x (window r + 1) k has lt in
-      let at : slice_get (symbols_from s look x (window r + 1)) k ≡ Some (symbol_from s look x k) = listed-at (symbol_from s look x) ((window r + 1) * cells s) k lt in
+      let g = symbol_given r s look for x (state_length r + 1) k has lt in
+      let at : slice_get (symbols_from s look x (state_length r + 1)) k ≡ Some (symbol_from s look x k) = listed-at (symbol_from s look x) ((state_length r + 1) * cells s) k lt in
       let value : Some (symbol_from s look x k) ≡ look (cell_from s x k) = ap (λ (o : Option ℕ). Some (unwrap_or o 0)) g.is ∙ sym g.is in
       rw (le_from (pos 0) c.position.x h.right, lt-ltb _ _ h.node) (at ∙ (value ∙ (ap look (cell_there c h) ∙ sym (repeats (shifted (along x) c)))))
 
-  -- and elsewhere there are none
+  -- elsewhere the window has no symbols
   pub part_inside : (c : Cell) → is_some (part r s look x c) ≡ true → IsInside r s c
   part_inside c h =
-      let o = opened (int_le (pos 0) c.position.x && nat_lt c.node s.nodes) (slice_get (symbols_from s look x (window r + 1)) (window_index s c)) h in
+      let o = opened (int_le (pos 0) c.position.x && nat_lt c.node s.nodes) (slice_get (symbols_from s look x (state_length r + 1)) (window_index s c)) h in
       let both = and_parts (int_le (pos 0) c.position.x) (nat_lt c.node s.nodes) o.0 in
-      let below = some_below (symbols_from s look x (window r + 1)) (window_index s c) o.1 in
-      let lt : unsigned_abs c.position.x * cells s + slice_index_of s c < (window r + 1) * cells s = omega (arith, below, length-listed (symbol_from s look x) ((window r + 1) * cells s)) in
-      record { right = le_to (pos 0) c.position.x both.0; within = row_of (unsigned_abs c.position.x) (cells s) (slice_index_of s c) (window r + 1) lt; node = ltb-true _ _ both.1 }
+      let below = some_below (symbols_from s look x (state_length r + 1)) (window_index s c) o.1 in
+      let lt : unsigned_abs c.position.x * cells s + slice_index_of s c < (state_length r + 1) * cells s = omega (arith, below, length-listed (symbol_from s look x) ((state_length r + 1) * cells s)) in
+      record { right = le_to (pos 0) c.position.x both.0; within = row_of (unsigned_abs c.position.x) (cells s) (slice_index_of s c) (state_length r + 1) lt; node = ltb-true _ _ both.1 }
 
-  pub moved_inside : (c : Cell) → IsInside r s c → IsInSlices x (window r + 1) (shifted (along x) c)
-  moved_inside c h = let m = moved_in x c.position.x (window r + 1) h.right h.within in record { from = m.0; before = m.1 }
+  pub moved_inside : (c : Cell) → IsInside r s c → IsInSlices x (state_length r + 1) (shifted (along x) c)
+  moved_inside c h = let m = moved_in x c.position.x (state_length r + 1) h.right h.within in record { from = m.0; before = m.1 }
 
   part_given : (c : Cell) → IsInside r s c → is_some (part r s look x c) ≡ true
   part_given c h =
-      let g = given r look x (window r + 1) (shifted (along x) c) has (moved_inside c h) (omega (arith, h.node, for.nodes)) in
+      let g = given r look x (state_length r + 1) (shifted (along x) c) has (moved_inside c h) (omega (arith, h.node, for.nodes)) in
       ap is_some (part_same c h ∙ g.is)
 
-  -- what is read where the rule stands is in the window
+  -- what the rule reads at the tested slice is in the window
   read_inside : (v : Place) → v.x ≡ stand r → (d : Cell) → d.node < r.nodes → between (least_x (pos 0) (all_cells r)) (greatest_x (pos 0) (all_cells r)) d ≡ true → IsInside r s (shifted v d)
   read_inside v at d node inside =
       let spot = within_window r d.position.x inside in record {
         right = subst (λ (z : ℤ). pos 0 ≤ℤ (d.position.x +ℤ z)) (sym at) spot.0;
-        within = subst (λ (z : ℤ). unsigned_abs (d.position.x +ℤ z) < window r + 1) (sym at) spot.1;
+        within = subst (λ (z : ℤ). unsigned_abs (d.position.x +ℤ z) < state_length r + 1) (sym at) spot.1;
         node = omega (arith, node, for.nodes);
       }
 
@@ -127,7 +127,7 @@ module _ (r : LocalRule) (s : Strip) (look : Look) (x : ℤ) (for : IsFor r s) (
   moved_twice : (v : Place) (d : Cell) → shifted (along x) (shifted v d) ≡ shifted (moved v (along x)) d
   moved_twice v d = ap (λ (p : Place). cell p d.node) (place_same _ _ _ _ _ _ (sum_moved d.position.x v.x x) (sum_moved d.position.y v.y (pos 0)) (sum_moved d.position.z v.z (pos 0)))
 
-  -- the rule says the same in the window, where it stands, and x further in the look
+  -- the rule has the same truth at a cell of the tested slice in the window, and at the cell x further in the look
   pub truth_same : IsRule r → (v : Place) (a : ℕ) → v.x ≡ stand r → a < r.nodes → is_true r (cell v a) (part r s look x) ≡ is_true r (cell (moved v (along x)) a) look
   truth_same rule v a at node =
       truth_by_given r a v (moved v (along x)) (part r s look x) look

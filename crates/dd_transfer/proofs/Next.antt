@@ -33,7 +33,8 @@ set_parts xs i v h =
 
 -- ---- what is left to carry
 
--- the first digits are those of a number. Those of the next number, followed by the other digits, are what is wanted
+-- what is left to do when a digit is carried: the first `at` digits are those of a number and have to become those of the
+-- next one. With the other digits, which are done, they then are the digits that are wanted
 pub record Carries (base at : ℕ) (xs wanted : List ℕ) : Type 0 where
   pub number : ℕ
   pub begun : take at xs ≡ digits base at number
@@ -49,7 +50,7 @@ carries_all base n xs is = record {
 last_digit : (base k : ℕ) (xs : List ℕ) (n : ℕ) → k < length xs → take (suc k) xs ≡ digits base (suc k) n → (take k xs ≡ digits base k (n / base)) × (get_or xs k 0 ≡ n % base)
 last_digit base k xs n lt begun = same_ends (take k xs) (digits base k (n / base)) (get_or xs k 0) (n % base) (sym (take-suc xs k 0 lt) ∙ begun)
 
--- the digit grows
+-- the digit rises by 1, and nothing is left to carry
 pub grown : (base k : ℕ) (xs wanted : List ℕ) → 0 < base → k < length xs → Carries base (suc k) xs wanted → get_or xs k 0 < base - 1 → set xs k (get_or xs k 0 + 1) ≡ wanted
 grown base k xs wanted some lt h low =
     let n = h.number in
@@ -65,7 +66,7 @@ grown base k xs wanted some lt h low =
     ∙ (ap (λ (m : ℕ). digits base k ((n + 1) / base) ++ m ∷ drop (suc k) xs) (sym d)
     ∙ (sym (append_assoc (digits base k ((n + 1) / base)) ((n + 1) % base ∷ []) (drop (suc k) xs)) ∙ h.carried)))))
 
--- the digit is as great as it can be, and begins again
+-- the digit is the greatest one: it becomes 0, and the carry goes on
 pub carried_on : (base k : ℕ) (xs wanted : List ℕ) → 0 < base → k < length xs → Carries base (suc k) xs wanted → base - 1 ≤ get_or xs k 0 → Carries base k (set xs k 0) wanted
 carried_on base k xs wanted some lt h high =
     let n = h.number in

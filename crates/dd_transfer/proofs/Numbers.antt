@@ -12,7 +12,7 @@ use Rattle.dd_transfer.proofs.Digits.{digits_length, digits_below}
 abbrev pub step : ℕ → ℕ → ℕ → ℕ
 step base n d = n * base + d
 
--- a number that is followed by digits
+-- the number whose digits are those of n followed by ds
 pub followed : (base n : ℕ) (ds : List ℕ) → fold (step base) n ds ≡ n * base ^ length ds + number_with_digits base ds
 followed base n [] =
     let one : n * base ^ 0 ≡ n * 1 = ap (λ (x : ℕ). n * x) (pow-zero base) in
@@ -29,7 +29,7 @@ followed base n (d ∷ ds) =
 pub joined : (base : ℕ) (ds es : List ℕ) → number_with_digits base (ds ++ es) ≡ number_with_digits base ds * base ^ length es + number_with_digits base es
 joined base ds es = fold-append (step base) 0 ds es ∙ followed base (number_with_digits base ds) es
 
--- the digits of a number with more digits behind it are its digits and then these
+-- the digits of the number n followed by ds: those of n, then ds
 after : (base m n : ℕ) (ds : List ℕ) → All (λ d. d < base) ds → digits base (m + length ds) (fold (step base) n ds) ≡ digits base m n ++ ds
 after base m n [] ok = ap (λ (k : ℕ). digits base k n) (let e : m + 0 ≡ m = omega arith in e) ∙ sym (append-nil (digits base m n))
   where

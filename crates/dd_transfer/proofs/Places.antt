@@ -33,7 +33,7 @@ parts_of s i sized h =
       node = mod_below i s.nodes sized.nodes_some;
     }
 
--- the cell at a cell's place is this cell, moved into the slice
+-- the cell at the place of a cell c is c, taken modulo the strip's periods
 pub cell_at_index : (s : Strip) (x : ℤ) (c : Cell) → IsSized s → c.node < s.nodes →
     cell_at s x (slice_index_of s c) ≡ cell (place x (pos (residue c.position.y s.y)) (pos (residue c.position.z s.z))) c.node
 cell_at_index s x c sized h =
@@ -42,14 +42,14 @@ cell_at_index s x c sized h =
     let y_in = residue_below c.position.y s.y sized.y_some in
     rw (mod-mul-add (rz * s.y + ry) s.nodes c.node h, div-mul-add (rz * s.y + ry) s.nodes c.node h, mod-mul-add rz s.y ry y_in, div-mul-add rz s.y ry y_in)
 
--- the place of the cell at a place
+-- the cell at the place i has the place i
 pub index_of_cell : (s : Strip) (x : ℤ) (i : ℕ) → IsSized s → i < cells s → slice_index_of s (cell_at s x i) ≡ i
 index_of_cell s x i sized h =
     let p = parts_of s i sized h in
     let k = i / s.nodes in
     rw (residue_small (k / s.y) s.z p.z, residue_small (k % s.y) s.y p.y, div-add-mod' k s.y, div-add-mod' i s.nodes)
 
--- a sum modulo n, of a number modulo n
+-- a sum modulo n stays the same if a summand is taken modulo n
 pub residue_moved : (d v : ℤ) (n : ℕ) → 0 < n → residue (d +ℤ v) n ≡ residue (d +ℤ pos (residue v n)) n
 residue_moved d v n some =
     let m = meets v n some in

@@ -1,4 +1,4 @@
--- The formulas at the places of a window say what the rule says there.
+-- The formulas are true exactly where the rule is true at the cells of the tested slice.
 use Rattle.std.proofs.Common.{◌≡◌, ℕ, zero, suc, ◌+◌, ◌<◌, Bool, true, false, List, [], ◌∷◌, ◌++◌, length, get_or, Option, Some, None, Result, Ok, Err, IfOk, pos, ◌+ℤ◌, refl, ap, sym, ◌∙◌, subst, arith, inl, inr}
 use Rattle.std.proofs.lemmas.Bool.{and_from, and_parts, cases_lt}
 use Rattle.std.proofs.lemmas.List.{get_or_append_left, get_or_push, length-append}
@@ -15,13 +15,13 @@ use Rattle.dd_transfer.specs.Windows.{Shown, IsFullWindow, IsTrueAlong, cell_at,
 use Rattle.dd_transfer.specs.placing.Formulas.{Standpoint, standpoint, window_numbers, numbers_near, SaysAt, ArePlaces}
 use Rattle.dd_transfer.proofs.Truths.{window_below, along_from_slice, slice_from_along}
 
--- ---- one place
+-- ---- one cell
 
 symbol_cond : (ss : List ℕ) (b : Bool) (o : Option ℕ) → symbol_with ss (cond b o None) ≡ cond b (symbol_with ss o) None
 symbol_cond ss true o = refl
 symbol_cond ss false o = refl
 
--- the numbers of a window's cells give its symbols
+-- the look by these numbers is the look of the window, moved
 near_reads : (s : Strip) (v : Place) (ss : List ℕ) (c : Cell) → read_by (numbers_near (standpoint s v)) ss c ≡ window_look s ss (shifted v c)
 near_reads s v ss c = symbol_cond ss (int_le (pos 0) (c.position.x +ℤ v.x) && nat_lt c.node s.nodes) (Some (window_index s (shifted v c)))
 
@@ -39,11 +39,11 @@ pub says_near_if : {E : Type 0} (r : LocalRule) (s : Strip) (c : Cell) (made : R
 says_near_if r s c (Ok e) x p truth at says = says_near r s c e x p truth at says
 says_near_if r s c (Err fault) x p truth at says = tt
 
--- the number of a cell that is counted from a place
+-- the number of a cell that is given relative to a position
 pub number_near : (p : Standpoint) (s : Strip) (v : Place) (c : Cell) (n : Option ℕ) → standpoint s v ≡ p → n ≡ window_numbers s (shifted v c) → n ≡ numbers_near p c
 number_near p s v c n at is = is ∙ ap (λ (r : Standpoint). numbers_near r c) at
 
--- ---- one place more
+-- ---- one more cell
 
 pub record ArePlacesBelow (r : LocalRule) (s : Strip) (n : ℕ) (es : List Numbered) : Type 0 where
   pub each : length es ≡ n
@@ -67,7 +67,7 @@ places_more r s n es e so_far here = record {
 pub all_places : (r : LocalRule) (s : Strip) (n : ℕ) (es : List Numbered) → n ≡ cells s → ArePlacesBelow r s n es → ArePlaces r s es
 all_places r s n es all so_far = record { each = so_far.each ∙ all; says = λ k d lt. so_far.says k d (omega (arith, all, lt)) }
 
--- ---- all places
+-- ---- all cells
 
 all_true : (f : Numbered → Bool) (es : List Numbered) → ((k : ℕ) (d : Numbered) → k < length es → f (get_or es k d) ≡ true) → list_all f es ≡ true
 all_true f [] h = refl
@@ -85,7 +85,7 @@ place_says r w es full places k d lt = places.says k d lt w.symbols (window_belo
 nothing : Numbered
 nothing = roll-Numbered (Numbered-F.Constant false)
 
--- the rule is true along the slice where all formulas are
+-- if all formulas are true, the rule is true at each cell of the tested slice
 pub along_from_formulas : (r : LocalRule) (w : Shown) (es : List Numbered) → IsFullWindow r w → ArePlaces r w.strip es → list_all (λ e. holds_in e w.symbols) es ≡ true →
     IsTrueAlong r (stand r) (shown_look w)
 along_from_formulas r w es full places h =

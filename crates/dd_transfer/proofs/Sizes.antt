@@ -1,4 +1,4 @@
--- The numbers of states, slices and windows, and what a graph keeps.
+-- The numbers of states, slices and windows, and why the graph of a rule has the properties of a transfer graph.
 use Rattle.std.proofs.Common.{◌≡◌, ℕ, zero, suc, ◌+◌, ◌*◌, ◌/◌, ◌%◌, ◌^◌, ◌<◌, ◌≤◌, Bool, true, false, List, [], ◌∷◌, length, get_or, Option, Some, None, refl, ap, sym, ◌∙◌, subst, arith, inl, inr}
 use Rattle.std.proofs.lemmas.Bool.{cases_lt, lt-ltb, ltb-true, and_parts}
 use Rattle.std.proofs.lemmas.{Nat.mul-add-lt, List.Sums.sum_by-cons}
@@ -7,7 +7,7 @@ use Rattle.std.specs.Prelude.{cond, nat_lt, ◌&&◌, slice_index, slice_index_o
 use Rattle.std.specs.List.{All}
 use Rattle.dd_pattern.specs.Weight.{total_weight}
 use Rattle.dd_formula.specs.LocalRule.{LocalRule, IsRule}
-use Rattle.dd_counts.specs.Rules.{slices, states, longer_states, window}
+use Rattle.dd_counts.specs.Rules.{slices, states, longer_states, state_length}
 use Rattle.dd_strip.specs.{declared.strip.Strip.Strip, Strips.IsSized, Strips.IsFor, Strips.cells, Strips.positions, Strips.HasWeights}
 use Rattle.dd_transfer.specs.Graphs.{transfer, target, next_of, window_of}
 use Rattle.dd_transfer.specs.Windows.{AreWindows, IsWindow, digits}
@@ -35,7 +35,7 @@ one_power : (w : ℕ) → 1 ^ w ≡ 1
 one_power zero = refl
 one_power (suc w) = pow-suc 1 w ∙ (ap (λ (n : ℕ). n * 1) (one_power w) ∙ refl)
 
--- so few cells as 131,072 windows allow
+-- 131,072 windows allow a slice of at most 8 cells, if there are two symbols
 few_cells : (b c w : ℕ) → 2 ≤ b → 1 ≤ w → (b ^ c) ^ (w + 1) ≤ 131072 → c ≤ 8
 few_cells b c w two h small = elim (cases_lt 8 c) [
   | inr le ↦ le
@@ -69,7 +69,7 @@ cells_few s sized = most s.nodes s.y s.z sized.nodes_most sized.y_most sized.z_m
         let two : a * (b * c) ≤ 4 * (b * c) = mul-le-mul_right (b * c) p in
         omega (arith, one, two)
 
--- no walk through each state once is heavy
+-- a walk that passes each state at most once weighs at most 2^25
 light_one : (b c w n x : ℕ) → 1 ≤ b → 1 ≤ w → c ≤ 16384 → n ≡ (b ^ c) ^ w → n ≤ 4096 → (b ^ c) ^ (w + 1) ≤ 131072 → x ≤ 1000 * c → n * x ≤ 2 ^ 25
 light_one b c w n x some h most is few small weight = elim (cases_lt 1 b) [
   | inl two ↦
@@ -121,7 +121,7 @@ edge_from r s n m windows weights n_is m_is are u t v e =
     rw (lt-ltb u n state, lt-ltb t m slice, opened) (ap (λ (x : ℕ). Some x) leads)
 
 pub some_states : (r : LocalRule) (s : Strip) (n : ℕ) → IsRule r → n ≡ states r (positions s) → 0 < n
-some_states r s n rule is = omega (arith, is, power_some (slices r (positions s)) (window r) (power_some r.symbols (r.nodes * positions s) rule.symbols.0))
+some_states r s n rule is = omega (arith, is, power_some (slices r (positions s)) (state_length r) (power_some r.symbols (r.nodes * positions s) rule.symbols.0))
 
 -- the parts make the graph of the rule
 pub graph_is : (r : LocalRule) (s : Strip) (ws : List ℕ) (n count : ℕ) (windows : List Bool) (weights : List ℕ) → IsRule r → IsFor r s → HasWeights r ws →
@@ -130,7 +130,7 @@ pub graph_is : (r : LocalRule) (s : Strip) (ws : List ℕ) (n count : ℕ) (wind
 graph_is r s ws n count windows weights rule for has n_is count_is few small are len weigh =
     let b = r.symbols in
     let b_some : 0 < b = rule.symbols.0 in
-    let w = window r in
+    let w = state_length r in
     let w_some : 1 ≤ w = omega arith in
     let c = cells s in
     let m = slices r (positions s) in

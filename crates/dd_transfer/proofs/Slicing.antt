@@ -13,11 +13,11 @@ use Rattle.dd_transfer.specs.Slices.{IsInSlices, HasSlices, cell_from, symbols_f
 use Rattle.dd_transfer.proofs.Alphabets.{some_cells}
 use Rattle.dd_transfer.proofs.Numbers.{joined, digits_of, number_below, listed, listed-same, listed-add, length-listed, listed-all}
 
--- the symbol at a place of the slices from x on
+-- the symbol at the place k of the slices from x on
 abbrev pub symbol_from : Strip → Look → ℤ → ℕ → ℕ
 symbol_from s look x k = unwrap_or (look (cell_from s x k)) 0
 
--- a symbol is given
+-- the look gives a symbol of the alphabet
 pub record Given (r : LocalRule) (o : Option ℕ) : Type 0 where
   pub symbol : ℕ
   pub is : o ≡ Some symbol
@@ -30,7 +30,7 @@ given_from r (Some d) h = record { symbol = d; is = refl; below = h }
 pub given : (r : LocalRule) (look : Look) (x : ℤ) (n : ℕ) (c : Cell) → HasSlices r look x n → IsInSlices x n c → c.node < r.nodes → Given r (look c)
 given r look x n c has inside node = given_from r (look c) (has c inside node)
 
--- a place of the slices is a cell of them
+-- the cell at a place of the slices lies in them
 pub place_in : (s : Strip) (x : ℤ) (n k : ℕ) → IsSized s → k < n * cells s → IsInSlices x n (cell_from s x k)
 place_in s x n k sized lt =
     let below : k / cells s < n = div_below k (cells s) n (some_cells s sized) lt in
@@ -62,7 +62,7 @@ module _ (r : LocalRule) (s : Strip) (look : Look) (for : IsFor r s) where
   pub length-symbols : (x : ℤ) (n : ℕ) → length (symbols_from s look x n) ≡ n * cells s
   length-symbols x n = length-listed (symbol_from s look x) (n * cells s)
 
-  -- so many places further is a slice further
+  -- m times the number of cells of a slice further in the list is m further along x
   further : (x : ℤ) (m k : ℕ) → cell_from s x (m * cells s + k) ≡ cell_from s (x +ℤ pos m) k
   further x m k =
       let c = cells s in
@@ -82,7 +82,7 @@ module _ (r : LocalRule) (s : Strip) (look : Look) (for : IsFor r s) where
       ∙ (listed-add f (m * c) (n * c)
       ∙ ap (λ (xs : List ℕ). listed f (m * c) ++ xs) (listed-same (λ k. f (m * c + k)) (symbol_from s look (x +ℤ pos m)) (n * c) (λ k _. ap (λ (d : Cell). unwrap_or (look d) 0) (further x m k))))
 
-  -- the fillings of a slice, and of n slices
+  -- the number of fillings of a slice, and of n slices
   pub slices_power : slices r (positions s) ≡ r.symbols ^ cells s
   slices_power = ap (λ (n : ℕ). r.symbols ^ (n * positions s)) (sym for.nodes)
 
@@ -116,7 +116,7 @@ module _ (r : LocalRule) (s : Strip) (look : Look) (for : IsFor r s) where
       let power : r.symbols ^ length (symbols_from s look x n) ≡ slices r (positions s) ^ n = ap (λ (k : ℕ). r.symbols ^ k) (length-symbols x n) ∙ sym (slices_powers n) in
       omega (arith, below, power)
 
-  -- the digits of the number are the symbols
+  -- the digits of the number of a row of slices are the symbols
   pub digits_from : (x : ℤ) (n : ℕ) → HasSlices r look x n → digits r.symbols (n * cells s) (slices_from r s look x n) ≡ symbols_from s look x n
   digits_from x n has =
       ap (λ (k : ℕ). digits r.symbols k (slices_from r s look x n)) (sym (length-symbols x n)) ∙ digits_of r.symbols (symbols_from s look x n) (symbols_below x n has)

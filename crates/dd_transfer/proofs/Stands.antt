@@ -8,7 +8,7 @@ use Rattle.dd_lattice.specs.{declared.position.Cell.Cell, lemmas.InOrderLaws.lis
 use Rattle.dd_topology.specs.Topology.{extent}
 use Rattle.dd_formula.specs.LocalRule.{LocalRule, IsRule, is_near, reads_at, cells_at}
 use Rattle.dd_formula.specs.Reach.{all_cells}
-use Rattle.dd_counts.specs.Rules.{least_x, greatest_x, slice_span, window}
+use Rattle.dd_counts.specs.Rules.{least_x, greatest_x, slice_span, state_length}
 use Rattle.dd_transfer.specs.Windows.{stand}
 use Rattle.dd_values.specs.lemmas.Numbers.{le_from, le_to, along, min_left, min_right, max_left, max_right}
 
@@ -34,7 +34,7 @@ all_between from from' lo hi (c ∷ cs) p q =
     let high : c.position.x ≤ℤ hi = along _ _ _ (along _ _ _ (max_right from' c.position.x) (greatest_high (int_max from' c.position.x) cs)) q in
     and_from _ _ (and_from _ _ (le_from _ _ low) (le_from _ _ high)) (all_between (int_min from c.position.x) (int_max from' c.position.x) lo hi cs p q)
 
--- what holds in all lists holds in each
+-- what holds of all lists joined holds of each
 part : (p : Cell → Bool) (f : ℕ → List Cell) (k n a : ℕ) → k ≤ a → a < k + n → list_all p (flat_map f (range_with_len k n)) ≡ true → list_all p (f a) ≡ true
 part p f k zero a le lt h = absurd (omega arith)
 part p f k (suc n) a le lt h =
@@ -76,9 +76,9 @@ reads_between r a lt =
     sym (list_all-in_order (between lo hi) (reads_at r a))
     ∙ part (between lo hi) (cells_at r) 0 r.nodes a (omega arith) (omega arith) (all_between (pos 0) (pos 0) lo hi (all_cells r) (omega (arith, ints)) (omega (arith, ints)))
 
--- seen from where the rule stands they lie in the window
+-- a cell between the two, seen from the tested slice, lies in the window
 pub within_window : (r : LocalRule) (x : ℤ) → between (least_x (pos 0) (all_cells r)) (greatest_x (pos 0) (all_cells r)) (record { position = record { x = x; y = pos 0; z = pos 0 }; node = 0 }) ≡ true →
-    (pos 0 ≤ℤ (x +ℤ stand r)) × (unsigned_abs (x +ℤ stand r) < window r + 1)
+    (pos 0 ≤ℤ (x +ℤ stand r)) × (unsigned_abs (x +ℤ stand r) < state_length r + 1)
 within_window r x h =
     let lo = least_x (pos 0) (all_cells r) in
     let hi = greatest_x (pos 0) (all_cells r) in

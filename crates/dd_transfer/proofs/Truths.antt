@@ -1,4 +1,4 @@
--- A rule in a window: it is true at all places of an x if it is true at the cells of the slice.
+-- A rule in a window: it is true at all cells with an x if it is true at the cells of the slice at this x.
 use Rattle.std.proofs.Common.{◌≡◌, ℕ, ◌+◌, ◌*◌, ◌<◌, true, ℤ, pos, ◌+ℤ◌, unsigned_abs, None, refl, ap, sym, ◌∙◌, subst, arith}
 use Rattle.std.proofs.lemmas.Bool.{cond_both}
 use Rattle.std.specs.Prelude.{nat_lt, int_le, slice_get, IfSome, cond, ◌&&◌}
@@ -16,7 +16,7 @@ window_below r w full c =
     cond_both (int_le (pos 0) c.position.x && nat_lt c.node w.strip.nodes) (slice_get w.symbols (window_index w.strip c)) None (λ o. IfSome o (λ s. s < r.symbols))
     (λ _. below_at r.symbols w.symbols full.known (window_index w.strip c)) (λ _. tt)
 
--- a position moved into the slice at its x
+-- a position modulo the strip's periods
 abbrev pub into : Strip → Place → Place
 into s v = place v.x (pos (residue v.y s.y)) (pos (residue v.z s.z))
 
@@ -34,7 +34,7 @@ truth_into r w sized v a =
     ∙ (ap (is_true r (origin_at a)) (same_look (λ c. shown_look w (shifted v c)) (λ c. shown_look w (shifted (into w.strip v) c)) (look_into w sized v))
     ∙ sym (truth_moved_back r (into w.strip v) a (shown_look w)))
 
--- what holds at each cell of the slice holds at every place at its x
+-- if the rule is true at each cell of the slice, it is true at every cell with its x
 pub along_from_slice : (r : LocalRule) (w : Shown) (x : ℤ) → IsFor r w.strip → ((k : ℕ) → k < cells w.strip → is_true r (cell_at w.strip x k) (shown_look w) ≡ true) → IsTrueAlong r x (shown_look w)
 along_from_slice r w x for h v a at flat below =
     let node : a < w.strip.nodes = omega (arith, below, for.nodes) in
@@ -44,7 +44,7 @@ along_from_slice r w x for h v a at flat below =
     truth_into r w for.sized v a
     ∙ (ap (λ c. is_true r c (shown_look w)) (sym (cell_at_index w.strip v.x (cell v a) for.sized node)) ∙ here)
 
--- and each cell of the slice is one of these places
+-- if the rule is true at every cell with this x, it is true at each cell of the slice
 pub slice_from_along : (r : LocalRule) (w : Shown) (x : ℤ) → IsFor r w.strip → IsTrueAlong r x (shown_look w) → (k : ℕ) → k < cells w.strip → is_true r (cell_at w.strip x k) (shown_look w) ≡ true
 slice_from_along r w x for h k lt =
     let p = parts_of w.strip k for.sized lt in

@@ -1,5 +1,5 @@
--- What certifies the least density of a strip: a closed walk of its transfer graph and potentials; or ranks, if no walk
--- is infinite.
+-- What certifies the least density of a strip: a closed walk of its transfer graph, and potentials. If the graph has no
+-- infinite walk, ranks certify this.
 use Rattle.std.specs.Prelude.{◌≡◌, ℕ, ◌+◌, ◌*◌, ◌%◌, ◌<◌, ℤ, pos, ◌-ℤ◌, ◌≤ℤ◌, List, [], ◌∷◌, length, slice_index, slice_index_or}
 use Rattle.std.specs.Int.{IsGcd}
 use Rattle.dd_formula.specs.LocalRule.{LocalRule}
@@ -7,42 +7,43 @@ use Rattle.dd_counts.specs.Rules.{slices, states}
 use Rattle.dd_strip.specs.{declared.strip.Strip.Strip, Strips.positions}
 use Rattle.dd_transfer.specs.Transfers.{IsEdge, slice_weight}
 
--- each state has an edge to the next: from u through the states to v
+-- a walk from u through these states, the last of which is v: each state has an edge to the next
 abbrev pub IsWalk : LocalRule → Strip → ℕ → List ℕ → ℕ → Type 0
 IsWalk r s u [] v = u ≡ v
 IsWalk r s u (w ∷ ws) v = ((t : ℕ) × IsEdge r s u t w) × IsWalk r s w ws v
 
--- a state's last slice, which is that of each edge to it
+-- a state's last slice; each edge to the state is by this slice
 abbrev pub last_slice : LocalRule → Strip → ℕ → ℕ
 last_slice r s w = w % slices r (positions s)
 
--- what the edges to these states weigh
+-- the weight of the edges to these states
 abbrev pub walk_weight : LocalRule → Strip → List ℕ → List ℕ → ℕ
 walk_weight r s weights [] = 0
 walk_weight r s weights (w ∷ ws) = slice_weight r s weights (last_slice r s w) + walk_weight r s weights ws
 
--- each state has an edge to the next, and the last one to the first
+-- there is a state, each has an edge to the next, and the last one has an edge to the first
 pub record IsClosedWalk (r : LocalRule) (s : Strip) (walk : List ℕ) : Type 0 where
   pub last : ℕ
   pub closed : IsWalk r s last walk last
   pub some : 0 < length walk
 
--- the fraction n / d is a / b in lowest terms
+-- n / d is the fraction a / b in lowest terms
 pub record IsInLowestTerms (n d a b : ℕ) : Type 0 where
   pub same : n * b ≡ a * d
   pub lowest : IsGcd n d 1
   pub positive : 0 < d
 
+-- the potential of a state
 abbrev pub potential_of : List ℤ → ℕ → ℤ
 potential_of ps u = slice_index_or ps u (pos 0)
 
--- a potential for each state; along each edge it rises by at most l times the edge's weight less m
+-- a potential for each state; along an edge of weight w it rises by at most l * w - m
 pub record AreStripPotentials (r : LocalRule) (s : Strip) (weights : List ℕ) (m l : ℕ) (ps : List ℤ) : Type 0 where
   pub each : length ps ≡ states r (positions s)
   pub rise : (u t v : ℕ) → IsEdge r s u t v → (potential_of ps v -ℤ potential_of ps u) ≤ℤ (pos (l * slice_weight r s weights t) -ℤ pos m)
 
--- a closed walk whose weight over its length is m / l in lowest terms, and potentials; over the positions of a slice this is the
--- density p / q, in lowest terms
+-- A closed walk whose weight over its length is m / l in lowest terms, and potentials for m / l. The density p / q, in lowest
+-- terms, is m / l over the number of positions of a slice.
 pub record IsDensityCertificate (r : LocalRule) (s : Strip) (weights : List ℕ) (p q : ℕ) (walk : List ℕ) (ps : List ℤ) : Type 0 where
   pub m : ℕ
   pub l : ℕ

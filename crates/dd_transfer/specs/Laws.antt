@@ -4,12 +4,12 @@ use Rattle.std.specs.List.{All, list_all}
 use Rattle.dd_lattice.specs.{Place.Place, Cells.cell, Cells.shifted}
 use Rattle.dd_pattern.specs.{Reading.Look, Weight.total_weight}
 use Rattle.dd_formula.specs.LocalRule.{LocalRule, reads_at}
-use Rattle.dd_counts.specs.Rules.{slices, window}
+use Rattle.dd_counts.specs.Rules.{slices, state_length}
 use Rattle.dd_strip.specs.{declared.strip.Strip.Strip, Strips.positions}
 use Rattle.dd_transfer.specs.{Windows.digits, Windows.stand, Windows.IsWindow, Transfers.IsEdge, Transfers.slice_weight}
 use Rattle.dd_transfer.specs.Slices.{HasSlices, IsKeptFrom, symbols_from, number_with_digits, slices_from, state_from, window_from}
 
--- numbers and their digits
+-- how numbers and their digits relate
 pub record AreDigits (base : ℕ) : Type 0 where
   pub each : (count n : ℕ) → length (digits base count n) ≡ count
   pub below : (count n : ℕ) → 0 < base → All (λ d. d < base) (digits base count n)
@@ -19,17 +19,16 @@ pub record AreDigits (base : ℕ) : Type 0 where
 
 -- how the slices of a look that repeats across the strip relate to the transfer graph
 pub record AreEdgesOf (r : LocalRule) (s : Strip) (look : Look) : Type 0 where
-  -- m + n slices from x on are the first m and then the other n; the number of n + 1 slices has the last slice as its
-  -- last digit
+  -- m + n slices from x on are the first m and then the other n. The last digit of the number of n + 1 slices is the last slice
   pub joined : (x : ℤ) (m n : ℕ) → symbols_from s look x (m + n) ≡ symbols_from s look x m ++ symbols_from s look (x +ℤ pos m) n
   pub longer : (x : ℤ) (n : ℕ) → slices_from r s look x (n + 1) ≡ slices_from r s look x n * slices r (positions s) + slices_from r s look (x +ℤ pos n) 1
-  -- a slice weighs what its symbols weigh
+  -- the weight of a slice is that of its symbols
   pub weight : (ws : List ℕ) (x : ℤ) → HasSlices r look x 1 → slice_weight r s ws (slices_from r s look x 1) ≡ total_weight ws (symbols_from s look x 1)
-  -- the window from x on has all that the rule reads where it stands
-  pub reads : (x : ℤ) (v : Place) (a : ℕ) → HasSlices r look x (window r + 1) → v.x ≡ x +ℤ stand r → a < r.nodes →
+  -- the window from x on has all that the rule reads at the cells of the tested slice
+  pub reads : (x : ℤ) (v : Place) (a : ℕ) → HasSlices r look x (state_length r + 1) → v.x ≡ x +ℤ stand r → a < r.nodes →
       (is_some (look (cell v a)) && list_all (λ d. is_some (look (shifted v d))) (reads_at r a)) ≡ true
-  -- it is one of the rule exactly where it is kept
-  pub windows : (x : ℤ) → HasSlices r look x (window r + 1) → IsWindow r s (window_from r s look x) ↔ IsKeptFrom r look x
-  -- and then its last slice leads from the state at x to the state at the next x
-  pub edges : (x : ℤ) → HasSlices r look x (window r + 1) → IsKeptFrom r look x →
-      IsEdge r s (state_from r s look x) (slices_from r s look (x +ℤ pos (window r)) 1) (state_from r s look (x +ℤ pos 1))
+  -- the rule keeps the window with this number exactly if it keeps the look there
+  pub windows : (x : ℤ) → HasSlices r look x (state_length r + 1) → IsWindow r s (window_from r s look x) ↔ IsKeptFrom r look x
+  -- then an edge by the window's last slice leads from the state at x to the state at x + 1
+  pub edges : (x : ℤ) → HasSlices r look x (state_length r + 1) → IsKeptFrom r look x →
+      IsEdge r s (state_from r s look x) (slices_from r s look (x +ℤ pos (state_length r)) 1) (state_from r s look (x +ℤ pos 1))

@@ -8,15 +8,15 @@ use Rattle.dd_transfer.specs.declared.fault.TransferFault.TheVariants.{Size, Mem
 use Rattle.dd_transfer.specs.{Graphs.Transfer, Graphs.IsTransfer, Graphs.next_of, Graphs.weight_at, Windows.digits, Windows.IsWindow}
 use Rattle.dd_strip.specs.{declared.strip.Strip.Strip, Strips.positions, Strips.cells, Strips.IsTooLarge, Strips.IsFew}
 
--- from the state u by the slice t to the state v: the window of u and t is one of the rule, and v is this window without
--- its first slice
+-- an edge leads from the state u by the slice t to the state v: the rule keeps the window of u followed by t, and v is this
+-- window without its first slice
 pub record IsEdge (r : LocalRule) (s : Strip) (u t v : ℕ) : Type 0 where
   pub state : u < states r (positions s)
   pub slice : t < slices r (positions s)
   pub leads : v ≡ (u * slices r (positions s) + t) % states r (positions s)
   pub is_window : IsWindow r s (u * slices r (positions s) + t)
 
--- the weight of a slice's symbols
+-- the weight of the slice t: the sum of the weights of its symbols
 abbrev pub slice_weight : LocalRule → Strip → List ℕ → ℕ → ℕ
 slice_weight r s weights t = total_weight weights (digits r.symbols (cells s) t)
 
@@ -29,7 +29,7 @@ pub record IsGraphOf (r : LocalRule) (s : Strip) (weights : List ℕ) (g : Trans
   pub few : IsFew r s
   pub kept : IsTransfer g
 
--- why there is no graph
+-- what a fault says: `Size`, that the strip is too large; `Memory`, that it is not
 abbrev pub IsTransferFault : LocalRule → Strip → TransferFault → Type 0
 IsTransferFault r s Size = IsTooLarge r s
 IsTransferFault r s Memory = IsFew r s

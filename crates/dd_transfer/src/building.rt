@@ -1,4 +1,4 @@
-//! The transfer graph of a rule over a strip.
+//! Builds the transfer graph of a rule over a strip.
 ghost use Rattle.std.specs.Prelude.{◌≡◌, ◌<◌, ◌≤◌, ℕ, IfOk, IfErr, length, slice_index};
 ghost use Rattle.dd_counts.specs.Rules.{slices, states, longer_states, most_states, most_longer_states};
 ghost use Rattle.dd_pattern.specs.Weight.{AreWeights, total_weight};
@@ -13,18 +13,18 @@ use crate::graphs::Graph;
 use crate::placing::formulas;
 use crate::standing::stand;
 use crate::windows::{Window, write_digits};
-use dd_counts::{MOST_LONGER_STATES, MOST_STATES, longer_states, states, window};
+use dd_counts::{MOST_LONGER_STATES, MOST_STATES, longer_states, state_length, states};
 use dd_formula::Rule;
 use dd_pattern::weight_of;
 use dd_strip::Strip;
 use std::alloc::{AllocError, Global};
 
-/// The transfer graph of a rule over a strip with these periods in the second and the third axis, with these weights of
-/// the symbols.
+/// The transfer graph of a rule over the strip with the periods `strip` along y and z. The symbol `s` has the weight
+/// `weights[s]`.
 ///
 /// # Errors
-/// `Size` where there are more than 4,096 states or more than 131,072 windows, which are states with one slice more; else
-/// `Memory`.
+/// `Size` if there are more than 4,096 states or more than 131,072 windows. A window is a state with one slice more. Else
+/// `Memory`, if memory runs out.
 pub fn graph(
     alloc: Global,
     rule: &Rule,
@@ -52,7 +52,7 @@ pub fn graph(
     Ok(graph_of(alloc, rule, strip, weights, states, count)?)
 }
 
-/// The transfer graph with so many states and windows.
+/// The transfer graph. `most` is the number of its states, and `count` the number of its windows.
 fn graph_of(
     alloc: Global,
     rule: &Rule,
@@ -103,14 +103,14 @@ fn first_window(alloc: Global, rule: &Rule, strip: Strip) -> Result<Window, Allo
     requires { IsFor rule.now strip }
     ensures { IfOk result (λ w. w ≡ shown strip (digits rule.now.symbols (window_cells rule.now strip) 0)) }
 {
-    let cells = (window(rule) + 1) * strip.cells() as u64;
+    let cells = (state_length(rule) + 1) * strip.cells() as u64;
     let blank = zeros(alloc, cells as usize)?;
     let mut window = Window::new(strip, blank);
     window.write(rule.symbols(), 0);
     Ok(window)
 }
 
-/// What each slice weighs.
+/// The weight of each slice, by its number.
 fn slice_weights(
     alloc: Global,
     rule: &Rule,
@@ -131,7 +131,7 @@ fn slice_weights(
     Ok(sums)
 }
 
-/// What a slice weighs. The symbols of its cells are written into the list.
+/// The weight of a slice. Its symbols are written into `symbols`.
 fn slice_weight(symbols: &mut [u32], rule: &Rule, strip: Strip, weights: &[u32], slice: u32) -> u64
     requires strip { IsFor rule.now strip }
     requires weights { HasWeights rule.now weights.now }
@@ -142,6 +142,7 @@ fn slice_weight(symbols: &mut [u32], rule: &Rule, strip: Strip, weights: &[u32],
     weight_of(symbols, weights)
 }
 
+/// A list of `count` zeros.
 fn zeros(alloc: Global, count: usize) -> Result<Vec<u32>, AllocError>
     ensures { IfOk result (λ v. length v.items ≡ count) }
 {

@@ -1,4 +1,4 @@
-//! Which cells a slice has, and where they stand in a window.
+//! The cells of a slice, and their places among the symbols of a window.
 ghost use Rattle.std.specs.Prelude.{◌≡◌, ◌<◌, ◌≤◌, ◌+◌, ◌*◌, ℤ, pos, ◌≤ℤ◌};
 ghost use Rattle.dd_lattice.specs.Place.{place};
 ghost use Rattle.dd_lattice.specs.Cells.{cell};
@@ -10,7 +10,7 @@ ghost use Rattle.dd_transfer.specs.placing.Formulas.{window_numbers};
 use dd_lattice::{Cell, Position};
 use dd_strip::Strip;
 
-/// A cell's place in its slice.
+/// The place of a cell in its slice, in cell order from 0.
 fn slice_place(strip: &Strip, y: i32, z: i32, node: u32) -> u32
     requires sized { IsSized strip.now }
     requires node { node < strip.now.nodes }
@@ -23,7 +23,7 @@ fn slice_place(strip: &Strip, y: i32, z: i32, node: u32) -> u32
     entry(row, strip.nodes, node)
 }
 
-/// A cell's place in a window.
+/// The place of a cell among the symbols of a window.
 fn window_place(strip: &Strip, x: i32, y: i32, z: i32, node: u32) -> u64
     requires sized { IsSized strip.now }
     requires node { node < strip.now.nodes }
@@ -35,8 +35,8 @@ fn window_place(strip: &Strip, x: i32, y: i32, z: i32, node: u32) -> u64
     before + slice_place(strip, y, z, node) as u64
 }
 
-/// The place of a cell, given by its coordinates and its node, among the symbols of a window. None if the cell is to the
-/// left of the window, or there is no such node.
+/// The place of a cell, given by its coordinates and its node, among the symbols of a window. `None` if the cell is to
+/// the left of the window, or there is no such node.
 pub(crate) fn number(strip: &Strip, x: i32, y: i32, z: i32, node: u32) -> Option<usize>
     requires { IsSized strip.now }
     ensures { result ≡ window_numbers strip.now (cell (place x y z) node) }
@@ -47,7 +47,7 @@ pub(crate) fn number(strip: &Strip, x: i32, y: i32, z: i32, node: u32) -> Option
     Some(window_place(strip, x, y, z, node) as usize)
 }
 
-/// The cell of the slice at this `x` that has this place in cell order.
+/// The cell that has this place in the slice at this `x`.
 pub(crate) fn cell_at(strip: &Strip, x: i32, number: u32) -> Cell
     requires sized { IsSized strip.now }
     requires some { pos 0 ≤ℤ x }
@@ -63,6 +63,7 @@ pub(crate) fn cell_at(strip: &Strip, x: i32, number: u32) -> Cell
     }
 }
 
+/// The position with these coordinates.
 fn position_of(x: i32, y: u32, z: u32) -> Position
     requires x_some { pos 0 ≤ℤ x }
     requires x_small { x ≤ℤ pos 16 }
@@ -77,7 +78,7 @@ fn position_of(x: i32, y: u32, z: u32) -> Position
     }
 }
 
-/// A coordinate modulo a period.
+/// A coordinate modulo the period `n`.
 fn residue(x: i32, n: u32) -> u32
     requires some { 0 < n }
     requires small { n ≤ 64 }
@@ -87,7 +88,7 @@ fn residue(x: i32, n: u32) -> u32
     x.rem_euclid(n as i32) as u32
 }
 
-/// The number of an entry in a table of rows.
+/// The index of an entry of a table in the list of its entries, row by row. Rows and columns are counted from 0.
 fn entry(row: u32, width: u32, column: u32) -> u32
     requires { row * width + column ≤ 16384 }
     ensures { result ≡ row * width + column }

@@ -1,4 +1,4 @@
-//! Whether a window is an edge.
+//! Whether the rule keeps a window. The windows that it keeps are the edges of the transfer graph.
 ghost use Rattle.std.specs.Prelude.{◌≡◌, ◌<◌, ◌↔◌, IsTrue};
 ghost use Rattle.dd_formula.specs.Allowed.{AreAllowed};
 ghost use Rattle.dd_transfer.specs.Windows.{IsFullWindow, IsKept, shown_look};
@@ -33,7 +33,7 @@ pub(crate) fn allows_all(rule: &Rule) -> bool
     true
 }
 
-/// Whether each symbol of the window is one that its node allows. This is so if the rule allows all.
+/// Whether each symbol of the window is one that its node allows. No symbol is looked at if each node allows all symbols.
 fn are_allowed(rule: &Rule, allows_all: bool, window: &Window) -> bool
     requires window { IsFullWindow rule.now window.now }
     requires all { IsTrue allows_all → AllowsAll rule.now }
@@ -52,8 +52,8 @@ fn are_allowed(rule: &Rule, allows_all: bool, window: &Window) -> bool
     true
 }
 
-/// Whether each symbol of the window is allowed, and the rule is true where it stands. The formulas are those of the rule
-/// at its places.
+/// Whether each symbol of the window is allowed, and the rule is true at each cell of the tested slice. There is one
+/// formula for each of these cells.
 pub(crate) fn is_kept(rule: &Rule, formulas: &[Numbered], allows_all: bool, window: &Window) -> bool
     requires window { IsFullWindow rule.now window.now }
     requires all { IsTrue allows_all → AllowsAll rule.now }

@@ -1,11 +1,12 @@
-//! Transfer graphs: which windows are edges, and what each slice weighs.
+//! Transfer graphs: which windows are edges, and the weight of each slice. A window is a state with one slice more.
 ghost use Rattle.std.specs.Prelude.{◌≡◌, ◌<◌, ◌*◌, length};
 ghost use Rattle.dd_transfer.specs.Graphs.{transfer, IsTransfer, next_of, target, weight_at, window_of};
 
 use std::marker::Model;
 
-/// A state is a row of slices, numbered with the first slice as the most significant digit. An edge by a slice leads from
-/// a state to the state without the first slice and with this slice at the end.
+/// The transfer graph of a strip. A slice is the symbols of all cells at one x, and a state is a row of slices. Both are
+/// numbered. The digits of a slice's number are its symbols, and those of a state's number are its slices. The first digit
+/// is the most significant. The edge by a slice drops the first slice of a state and appends this slice.
 #[derive(Debug, Drop)]
 pub struct Graph {
     states: u32,
@@ -25,6 +26,7 @@ impl Model for Graph {
 }
 
 impl Graph {
+    /// The graph with these parts. There is one entry of `windows` for each window and one of `weights` for each slice.
     pub(crate) fn new(states: u32, slices: u32, windows: Vec<bool>, weights: Vec<u64>) -> Graph
         requires { IsTransfer (transfer states slices windows.items weights.items) }
         ensures { result ≡ transfer states slices windows.items weights.items }
@@ -37,7 +39,7 @@ impl Graph {
         }
     }
 
-    /// The number of states, 1 to 4,096. The readers take no memory.
+    /// The number of states, 1 to 4,096.
     pub fn states(&self) -> u32
         ensures value { result ≡ self.now.states }
         ensures kept { IsTransfer self.now }
@@ -45,7 +47,7 @@ impl Graph {
         self.states
     }
 
-    /// The number of slices. With the states it makes at most 131,072 windows.
+    /// The number of different slices, at least 1. Times the number of states, it is at most 131,072.
     pub fn slices(&self) -> u32
         ensures value { result ≡ self.now.slices }
         ensures kept { IsTransfer self.now }
@@ -53,7 +55,7 @@ impl Graph {
         self.slices
     }
 
-    /// Where the edge of a window leads, where the window is one.
+    /// The state to which a window leads, or `None` if the window is not an edge.
     fn target(&self, window: u32) -> Option<u32>
         requires { window < self.now.states * self.now.slices }
         ensures { result ≡ target self.now window }
@@ -65,7 +67,7 @@ impl Graph {
         }
     }
 
-    /// The state to which the edge from a state by a slice leads; `None` exactly where there is no such edge.
+    /// The state to which the edge from `state` by `slice` leads. `None` exactly if there is no such edge.
     pub fn next(&self, state: u32, slice: u32) -> Option<u32>
         ensures value { result ≡ next_of self.now state slice }
         ensures kept { IsTransfer self.now }
@@ -76,7 +78,7 @@ impl Graph {
         self.target(state * self.slices + slice)
     }
 
-    /// What a slice weighs.
+    /// The weight of a slice.
     pub fn slice_weight(&self, slice: u32) -> u64
         requires { slice < self.now.slices }
         ensures value { result ≡ weight_at self.now slice }

@@ -1,4 +1,5 @@
-//! Transfer graphs of strips: states of some slices, and an edge for each slice that may follow one.
+//! Transfer graphs of strips: the transfer matrices of Lind and Marcus (1995), as graphs. A slice is the symbols of all cells
+//! at one x. A state is a row of slices, and has an edge for each slice that may follow.
 #![tactic(auto)]
 
 mod building;

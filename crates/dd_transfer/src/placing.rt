@@ -1,4 +1,4 @@
-//! The rule at the places of a window where it stands, as formulas over the window's symbols.
+//! The rule at each cell of the tested slice, as formulas over the symbols of a window.
 ghost use Rattle.std.specs.Prelude.{◌≡◌, ◌<◌, IfOk, pos, ◌≤ℤ◌};
 ghost use Rattle.dd_strip.specs.Strips.{IsSized, IsFor};
 ghost use Rattle.dd_transfer.specs.Windows.{stand};
@@ -15,7 +15,8 @@ use dd_values::Items;
 use std::alloc::{AllocError, Global};
 use std::marker::Model;
 
-/// The numbers of a window's cells, where cells are counted from a place.
+/// A numbering of cells that are given relative to the position `at`. A cell's number is its place among the symbols of a
+/// window.
 #[derive(Debug, Drop)]
 struct Near {
     strip: Strip,
@@ -34,6 +35,7 @@ impl Model for Near {
 }
 
 impl Near {
+    /// The numbering relative to the position `at`.
     fn new(strip: Strip, at: Position) -> Near
         requires { IsSized strip }
         ensures { result ≡ standpoint strip at }
@@ -42,7 +44,7 @@ impl Near {
     }
 }
 
-/// The number of the cell at the sum of two positions, which may pass the range of positions.
+/// The number of a cell of the node `node` at the sum of two positions. The sum may lie outside the range of positions.
 fn number_at(strip: Strip, position: &Position, by: &Position, node: u32) -> Option<usize>
     requires { IsSized strip }
     ensures { result ≡ window_numbers strip (cell (moved position.now by.now) node) }
@@ -63,7 +65,7 @@ impl Numbers for Near {
     }
 }
 
-/// The rule at a cell, over the symbols of a window.
+/// The rule at a cell, as a formula over the symbols of a window.
 fn formula_at(alloc: Global, rule: &Rule, strip: Strip, at: &Cell) -> Result<Numbered, AllocError>
     requires strip { IsSized strip }
     requires node { at.now.node < rule.now.nodes }
@@ -73,7 +75,7 @@ fn formula_at(alloc: Global, rule: &Rule, strip: Strip, at: &Cell) -> Result<Num
     Numbered::new(alloc, rule.expansion(at.node), &near)
 }
 
-/// The rule at each of its places in a window. All of them are at this `x`.
+/// The rule at each cell of the tested slice, in cell order. `x` is the x of this slice.
 pub(crate) fn formulas(
     alloc: Global,
     rule: &Rule,

@@ -1,4 +1,4 @@
-//! Where a rule stands in a window.
+//! The tested slice of a window. The rule must be true at each of its cells.
 ghost use Rattle.std.specs.Prelude.{◌≡◌, pos, ◌≤ℤ◌};
 ghost use Rattle.dd_counts.specs.Rules.{least_x};
 ghost use Rattle.dd_formula.specs.LocalRule.{IsRule};
@@ -8,7 +8,7 @@ ghost use Rattle.dd_transfer.specs.Windows.{stand};
 use dd_counts::least_x;
 use dd_formula::Rule;
 
-/// The least x of a cell that the rule reads, 0 among them.
+/// The least of 0 and the x of each cell that the rule reads.
 fn least_read(rule: &Rule) -> i32
     ensures value { result ≡ least_x (pos 0) (all_cells rule.now) }
     ensures kept { IsRule rule.now }
@@ -20,7 +20,8 @@ fn least_read(rule: &Rule) -> i32
     least
 }
 
-/// The x of the places whose reads begin in the first slice of a window.
+/// The x of the tested slice. It is the least x from 0 on such that the rule, at cells with this x, reads no cell to the left
+/// of the window.
 pub(crate) fn stand(rule: &Rule) -> i32
     ensures value { result ≡ stand rule.now }
     ensures some { pos 0 ≤ℤ result }

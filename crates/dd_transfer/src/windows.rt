@@ -1,4 +1,4 @@
-//! Windows: the symbols of some slices of a strip, which are read modulo the strip's periods.
+//! Windows: the symbols of a row of slices of a strip. The coordinates y and z are read modulo the strip's periods.
 ghost use Rattle.std.specs.Prelude.{◌≡◌, ℕ, ◌<◌, ◌+◌, length};
 ghost use Rattle.dd_strip.specs.Strips.{IsSized};
 ghost use Rattle.dd_transfer.specs.Windows.{shown, digits};
@@ -6,7 +6,8 @@ ghost use Rattle.dd_transfer.specs.Windows.{shown, digits};
 use dd_strip::Strip;
 use std::marker::Model;
 
-/// The symbols of the cells of slices at x = 0, 1 and so on: slice by slice, and in a slice in cell order.
+/// A window: the symbols of the slices at x = 0, 1 and so on. They are listed slice by slice, and within a slice in cell
+/// order.
 #[derive(Debug, Drop)]
 pub(crate) struct Window {
     strip: Strip,
@@ -24,7 +25,7 @@ impl Model for Window {
     ghost invariant = { λ w. IsSized w.strip };
 }
 
-/// Writes the digits of a number in a base, the last one at the end.
+/// Writes the digits of a number in a base, the most significant first.
 pub(crate) fn write_digits(symbols: &mut [u32], base: u32, number: u32)
     requires { 0 < base }
     ensures { symbols.new ≡ digits base (length symbols.old) number }
@@ -38,8 +39,8 @@ pub(crate) fn write_digits(symbols: &mut [u32], base: u32, number: u32)
     }
 }
 
-/// Replaces the digits of a number by those of the next one. The last digit that can grow does, and those behind it,
-/// which are at their greatest, begin again.
+/// Replaces the digits of a number by those of the next number. The last digit that isn't the greatest rises by 1, and the
+/// digits after it become 0.
 pub(crate) fn advance_digits(symbols: &mut [u32], base: u32)
     requires { 0 < base }
     ensures { (n : ℕ) → symbols.old ≡ digits base (length symbols.old) n → symbols.new ≡ digits base (length symbols.old) (n + 1) }
@@ -58,6 +59,7 @@ pub(crate) fn advance_digits(symbols: &mut [u32], base: u32)
 }
 
 impl Window {
+    /// The window of a strip with these symbols.
     pub(crate) fn new(strip: Strip, symbols: Vec<u32>) -> Window
         requires { IsSized strip }
         ensures { result ≡ shown strip symbols.items }
@@ -65,7 +67,7 @@ impl Window {
         Window { strip, symbols }
     }
 
-    /// The symbols of its cells.
+    /// The symbols, slice by slice.
     pub(crate) fn symbols(&self) -> &[u32]
         ensures value { result.now ≡ self.now.symbols }
         ensures kept { IsSized self.now.strip }
@@ -81,7 +83,7 @@ impl Window {
         write_digits(self.symbols.as_mut_slice(), base, number);
     }
 
-    /// Replaces the digits of a number by those of the next one.
+    /// Replaces the symbols, which are the digits of a number, by the digits of the next number.
     pub(crate) fn advance(&mut self, base: u32)
         requires { 0 < base }
         ensures { (n : ℕ) → self.old.symbols ≡ digits base (length self.old.symbols) n →

@@ -1,4 +1,4 @@
-// Values of automata: at a cell of a filling, and of whole configurations.
+// Values of automata at the origin of a filling, and the image of a configuration.
 ghost use Rattle.dd_boxes.specs.Goals.{IsGoalFor};
 ghost use Rattle.dd_boxes.specs.Views.{goal_of};
 
@@ -22,7 +22,7 @@ fn image(alloc: Global, script: &Script) -> Result<Periodic, Fail> {
     Ok(apply(alloc, automaton, configuration)?)
 }
 
-/// The filling of a line with these symbols, from the position `first` on.
+/// The filling that gives these symbols to the cells of a line, from the position `first` on.
 fn line(alloc: Global, first: i32, symbols: &[u32]) -> Result<Filling, Fail> {
     let mut cells = Vec::new(alloc);
     let mut copies = Vec::new(alloc);
@@ -60,7 +60,9 @@ fn first_of(
 /// The value at the origin of the first automaton in the script's first box question.
 fn first_value(alloc: Global, script: &Script, filling: &Filling) -> Result<Option<u32>, Fail> {
     for query in script.queries() {
-        if let Question::Box { premise, goal } = script.question(query).question() {
+        let pairs = script.pairs(alloc, query)?;
+        let question = script.question(query, pairs.as_slice());
+        if let Question::Box { premise, goal } = question.question() {
             return first_of(alloc, premise, &goal, filling);
         }
     }

@@ -17,7 +17,7 @@ use dd_script::{Question, Script};
 use std::alloc::{AllocError, Global};
 use std::test::Fail;
 
-/// The assignment with this number.
+/// The assignment of the variables whose values are the binary digits of a number.
 fn assignment(alloc: Global, variables: u32, number: u32) -> Result<Assignment, AllocError> {
     let mut values = Vec::new(alloc);
     for digit in &digits(alloc, variables as usize, 2, number)? {
@@ -26,7 +26,7 @@ fn assignment(alloc: Global, variables: u32, number: u32) -> Result<Assignment, 
     Ok(Assignment::new(values))
 }
 
-/// The symbol of a cell, if exactly one of its inputs is true.
+/// The symbol of a cell, if exactly one of its two inputs is true.
 fn symbol(is_zero: bool, is_one: bool) -> Option<usize>
     ensures { IfSome result (λ s. s ≤ 1) }
 {
@@ -55,7 +55,7 @@ fn filling_number(values: &[bool], cells: usize) -> Option<usize> {
     Some(number)
 }
 
-/// How many satisfying assignments each filling has; fillings are given by number.
+/// For each filling of the cells, by number: how many assignments satisfy the clauses and give the cells this filling.
 fn satisfying(alloc: Global, cnf: &Cnf, cells: usize) -> Result<[u32; 8], Fail> {
     if cnf.variables() > 16 {
         return Err("few variables".into());
@@ -134,6 +134,7 @@ fn differ(
     Ok(false)
 }
 
+/// Whether the filling has the goal at the origin.
 fn has_goal(alloc: Global, premise: &Rule, goal: &Goal, filling: &Filling) -> Result<bool, Fail>
     requires goal { IsGoalFor premise.now (goal_of premise.now goal.now) }
     requires below { All (λ s. s < premise.now.symbols) filling.now.symbols }
@@ -212,13 +213,16 @@ fn compared_query(
     radius: u32,
 ) -> Result<([u32; 8], [u32; 8]), Fail> {
     for query in script.queries() {
-        if let Question::Box { premise, goal } = script.question(query).question() {
+        let pairs = script.pairs(alloc, query)?;
+        let question = script.question(query, pairs.as_slice());
+        if let Question::Box { premise, goal } = question.question() {
             return compared(alloc, premise, &goal, radius);
         }
     }
     Err("a box question".into())
 }
 
+/// The same for the script whose text has these parts.
 fn compared_script(
     alloc: Global,
     script: &[&str],
@@ -228,6 +232,7 @@ fn compared_script(
     compared_query(alloc, &script, radius)
 }
 
+/// The sum of the numbers.
 fn total(counts: &[u32; 8]) -> u32 {
     let mut total = 0u32;
     for count in counts {
@@ -236,12 +241,16 @@ fn total(counts: &[u32; 8]) -> u32 {
     total
 }
 
+// Two nodes. The only move of each leads to the other.
 const TWO: &str = "%dim 1 %nodes a b %topology (x a [0] b) (y b [0] a)";
 
+// An automaton that keeps each symbol, and one that gives 0 to each cell.
 const ID: &str = "%auto f when o=1 give 1 else 0 %auto g else 0 %same f g x";
 
+// An automaton that keeps each symbol, and one that gives each cell the other symbol.
 const OPPOSITE: &str = "%auto f when o=1 give 1 else 0 %auto g when o=1 give 0 else 1 %same f g x";
 
+// An automaton that gives each cell the other symbol, applied twice, and one that gives 0 to each cell.
 const TWICE: &str = "%auto f when o=1 give 0 else 1 %compose h f f %auto g else 0 %same h g x";
 
 /// A topology, a premise, a query with the rules and automata that it names, a radius, and the number of admissible fillings

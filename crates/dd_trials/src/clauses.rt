@@ -23,18 +23,19 @@ fn numbers(alloc: Global, clause: &Clause) -> Result<Vec<i64>, AllocError> {
     Ok(numbers)
 }
 
-/// The clauses of the question whether any configuration obeys the script's rule, on the box of one position.
+/// The clauses of the question whether any configuration obeys the script's first rule, on the box of one position.
 fn emptiness_of(alloc: Global, script: &Script) -> Result<Cnf, Fail> {
     let rule = script.rules().first().ok_or("a rule")?;
     clauses_of(alloc, rule, &Goal::Always, 0)
 }
 
+/// The same for a script's text.
 fn emptiness(alloc: Global, script: &str) -> Result<Cnf, Fail> {
     let script = script_of(alloc, &[script])?;
     emptiness_of(alloc, &script)
 }
 
-/// No cell has both symbols.
+/// The rule asks each cell for both symbols, so no configuration obeys it.
 const BOTH: &str = "%dim 1 %rule x o=0 & o=1";
 
 #[test]
@@ -51,7 +52,7 @@ fn no_cell_has_two_symbols(rt: HostRuntime) -> Result<(), Fail> {
     Ok(())
 }
 
-/// The number of clauses of a question about the script's rule, up to a radius and a period.
+/// The number of clauses of a question about the script's first rule, up to a radius and a period. The goal has `goal` clauses.
 fn size_of(script: &Script, goal: u32, radius: u32, period: u32) -> Result<u32, Fail> {
     if radius > 8 {
         return Err("a radius".into());
@@ -60,22 +61,25 @@ fn size_of(script: &Script, goal: u32, radius: u32, period: u32) -> Result<u32, 
     Ok(question_clauses(rule, goal, radius, period, MOST_CLAUSES))
 }
 
+/// The same for a script's text.
 fn size(alloc: Global, script: &str, goal: u32, radius: u32, period: u32) -> Result<u32, Fail> {
     let script = script_of(alloc, &[script])?;
     size_of(&script, goal, radius, period)
 }
 
 /// A script with a rule, the number of clauses of the goal, a radius, a period, and the number of clauses on the largest box or
-/// torus. Along each axis this has `2 * radius + 1` or `period` positions, whichever is more. Each cell has one clause that it
-/// has a symbol, one for each two symbols that it hasn't both, one for each symbol that its node doesn't allow, and one that the
-/// rule is true. Then come the gates of the rule: a gate over `k` parts has `k + 1` clauses, an equivalence has 4. Cells at the
-/// edge have all these clauses too.
+/// torus. Along each axis this has `2 * radius + 1` or `period` positions, whichever is more. Each cell, also at the edge, has:
+/// - one clause that it has a symbol;
+/// - for each two symbols, one that it doesn't have both;
+/// - for each symbol that its node doesn't allow, one that it doesn't have it;
+/// - one that the rule is true;
+/// - the clauses of the rule's gates: `k + 1` for a gate over `k` parts, and 4 for an equivalence.
 const SIZES: [(&str, u32, u32, u32, u32); 18] = [
     // A cell has 1 + 1 + 1 clauses, and a gate over two parts.
     (BOTH, 0, 0, 1, 6),
     (BOTH, 0, 1, 1, 18),
     (BOTH, 0, 1, 4, 24),
-    // Only a symbol is asked for, so there is no gate; a negation needs none either.
+    // The rule asks for one symbol, so there is no gate. A negation needs no gate either.
     ("%dim 1 %rule x o=1", 0, 8, 8, 51),
     ("%dim 1 %rule x !(o.rt=1)", 0, 0, 8, 24),
     // An implication is a gate over two parts, one of them a gate over two: 3 + 3 + 3 on each of 9, 16 and 25 positions.
@@ -93,7 +97,7 @@ const SIZES: [(&str, u32, u32, u32, u32); 18] = [
         8,
         102,
     ),
-    // The second node has no such move; a constant is a gate over nothing: 2 * 3 + 1.
+    // The second node has no such move, so the rule is a constant there. A constant is a gate over nothing: 2 * 3 + 1.
     (
         "%dim 1 %nodes a b %topology (x a [0] b) (y b [0] a) %rule x o.x=1",
         0,
@@ -106,7 +110,9 @@ const SIZES: [(&str, u32, u32, u32, u32); 18] = [
     ("%rule x Ep[o1] p=1", 1, 8, 8, 2602),
     ("%dim 3 %rule x Ep[o1] p=1", 0, 1, 4, 704),
     ("%dim 3 %rule x Ep[o1] p=1", 0, 8, 8, 54_043),
-    // At the limit, and one over it: a ball of 63 cells, each with two gates over two and one over these; and 64, and 3.
+    // The ball has 63 cells. A gate over these makes 64 + 3 clauses on each of 17 * 17 * 17 positions. With the goal's clauses
+    // the question is at the limit. In the second rule each cell of the ball has two gates over two, and one over these. That
+    // passes the limit, and the count is cut off.
     ("%dim 3 %rule x Ap[o3] p=1", 1_670_829, 8, 8, 2_000_000),
     ("%dim 3 %rule x Ap[o3] p=o", 0, 8, 8, 2_000_001),
 ];

@@ -1,4 +1,4 @@
-// A rule on the hexagonal lattice, at both nodes of the origin, for fillings of what it reads there.
+// The truth of a rule on the hexagonal lattice, at both nodes of the origin.
 use crate::fillings::{at_origin, truth};
 use crate::scripts::script_of;
 use dd_formula::Rule;
@@ -11,6 +11,7 @@ use std::test::Fail;
 /// The x, the y and the node of a cell.
 type Place = (i32, i32, u32);
 
+/// Whether the cell is at this place.
 fn is_at(cell: &Cell, place: &Place) -> bool {
     cell.position.x == place.0 && cell.position.y == place.1 && cell.node == place.2
 }
@@ -24,7 +25,7 @@ fn cells_of(alloc: Global, rule: &Rule) -> Result<Vec<Cell>, AllocError> {
     in_order(alloc, &cells)
 }
 
-/// The filling of these cells, with 1 at some of them and 0 at the others.
+/// The filling of the cells that the rule reads, with 1 at some of them and 0 at the others.
 fn filling_with(alloc: Global, rule: &Rule, ones: &[Place]) -> Result<Filling, Fail> {
     let read = cells_of(alloc, rule)?;
     let cells = in_order(alloc, &read)?;
@@ -50,8 +51,9 @@ fn truth_at(rule: &Rule, filling: &Filling, node: u32) -> Result<Option<bool>, F
 // No two neighbours are both 1.
 const HARD: &str = "%topology hex %rule hard Ap[o1] (p~o -> !(p=1 & o=1))";
 
-// The cells with 1, and whether the rule is true at the first node and at the second. The first node has the second nodes at
-// (0,0), (-1,0) and (0,-1) as neighbours, the second has the first nodes at (0,0), (1,0) and (0,1).
+// The cells with 1, and whether the rule is true at the first node and at the second node of the origin. The neighbours of the
+// first node are the second nodes at (0,0), (-1,0) and (0,-1). Those of the second node are the first nodes at (0,0), (1,0)
+// and (0,1).
 const TRUTHS: &[(&[Place], bool, bool)] = &[
     (&[], true, true),
     (&[(0, 0, 0)], true, true),
@@ -63,6 +65,7 @@ const TRUTHS: &[(&[Place], bool, bool)] = &[
     (&[(-1, 0, 1), (0, -1, 1), (1, 0, 0), (0, 1, 0)], true, true),
 ];
 
+/// Asserts the truths of the rule at both nodes.
 fn assert_truths(rt: &impl Abort, alloc: Global, rule: &Rule) -> Result<(), Fail> {
     for (ones, first, second) in TRUTHS {
         let filling = filling_with(alloc, rule, ones)?;

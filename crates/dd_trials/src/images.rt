@@ -60,7 +60,9 @@ fn assert_image(
     second: &[u32],
 ) -> Result<(), Fail> {
     for query in script.queries() {
-        if let Question::Box { goal, .. } = script.question(query).question() {
+        let pairs = script.pairs(alloc, query)?;
+        let question = script.question(query, pairs.as_slice());
+        if let Question::Box { goal, .. } = question.question() {
             return assert_images(rt, alloc, script, &goal, first, second);
         }
     }
@@ -76,7 +78,9 @@ fn assert_rounds(
     rounds: (&[u32], &[u32]),
 ) -> Result<(), Fail> {
     for query in script.queries() {
-        if let Question::Conjugacy { conjugacy } = script.question(query).question() {
+        let pairs = script.pairs(alloc, query)?;
+        let question = script.question(query, pairs.as_slice());
+        if let Question::Conjugacy { conjugacy } = question.question() {
             let Conjugacy {
                 round,
                 round_back,
@@ -94,8 +98,10 @@ const LINE: &str = "%dim 1 %rule x o@o %conf c [6] 0 1 1 0 0 0 ";
 // The second node has the symbol 0 only.
 const HEX: &str = "%topology hex %only 1 0 %rule x o@o %conf c [2 1] 1 0 0 0 ";
 
+// Each cell takes the symbol of its right neighbour.
 const LEFT: &str = "%auto f when o.rt=1 give 1 else 0 ";
 
+// Each cell takes the symbol of its left neighbour.
 const RIGHT: &str = "%auto f when o.lt=1 give 1 else 0 ";
 
 const ONES: &str = "%auto f else 1 ";
@@ -105,12 +111,13 @@ const ZEROS: &str = "%auto f else 0 ";
 // At (0,0) the two nodes take each other's symbol.
 const ACROSS: &str = "%auto f when o.a=1 give 1 else 0 ";
 
+// No two neighbours are both 1.
 const APART: &str = "%rule y o=1 -> o.rt=0";
 
 const FULL: &str = "%rule y o@o";
 
-/// A setting with a configuration, an automaton, a rule, and the cells that are marked 1: there the configuration's image breaks
-/// the rule or has a symbol that isn't allowed.
+/// A setting with a configuration, an automaton, a rule, and a mark for each cell. The mark is 1 where the configuration's image
+/// breaks the rule or has a symbol that isn't allowed.
 const IMAGES: &[(&str, &str, &str, &[u32])] = &[
     // The images are 1 1 0 0 0 0, 0 0 1 1 0 0 and 1 1 1 1 1 1.
     (LINE, LEFT, APART, &[1, 0, 0, 0, 0, 0]),
@@ -137,9 +144,10 @@ fn images_that_break_rules(rt: HostRuntime) -> Result<(), Fail> {
     Ok(())
 }
 
-// 64 negations, of depth 64, and 63.
+// A rule of depth 64, with 64 negations.
 const DEEP: &str = "%rule y !!!!!!!!!!!!!!!!!!!!!!!!!!!!!!!!!!!!!!!!!!!!!!!!!!!!!!!!!!!!!!!!o=1";
 
+// A rule of depth 63.
 const LESS_DEEP: &str =
     "%rule y !!!!!!!!!!!!!!!!!!!!!!!!!!!!!!!!!!!!!!!!!!!!!!!!!!!!!!!!!!!!!!!o=1";
 
@@ -153,7 +161,7 @@ const DEPTHS: &[(&str, &str, bool)] = &[
     ("%dim 1 %only 0 0 1 ", DEEP, false),
 ];
 
-/// Whether the parts make a script, or a text that exceeds the limit on depth.
+/// Whether the text with these parts passes the limit on depth. Else it must be a script.
 fn is_deep(alloc: Global, parts: &[&str]) -> Result<bool, Fail> {
     match parsed(alloc, parts)? {
         Ok(_) => Ok(false),
@@ -181,8 +189,8 @@ const THREE: &str = "%dim 1 %alphabet 0 1 2 %rule x o@o %conf c [3] 0 1 2 ";
 // The neighbours of each second node along a and b are the first nodes at its position and one further.
 const HEXAGONS: &str = "%topology hex %rule x o@o %conf c [3 1] 1 0 0 0 0 0 ";
 
-/// A setting with a configuration, a map and a map back, the configuration, its image under the map and then the map back, and
-/// its image under the map back and then the map.
+/// A setting with a configuration, a map, and a map back. Then the symbols of the configuration, of its image under the map and
+/// then the map back, and of its image under the map back and then the map.
 const ROUNDS: &[(&str, &str, &str, &[u32], &[u32], &[u32])] = &[
     (
         LINE,

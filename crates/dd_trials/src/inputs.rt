@@ -1,4 +1,4 @@
-// Inputs by cell and symbol.
+// Inputs of a circuit, found by cell and symbol.
 use dd_circuit::Signal;
 use dd_compile::Inputs;
 use dd_lattice::{Cell, Position};
@@ -11,6 +11,7 @@ pub(crate) fn cell_at(x: i32) -> Option<Cell> {
     Some(Cell { position, node: 0 })
 }
 
+/// The signal that is true if the variable is.
 fn plus(variable: u32) -> Signal {
     Signal {
         variable,
@@ -18,7 +19,7 @@ fn plus(variable: u32) -> Signal {
     }
 }
 
-/// The cells 1 and 2, the first with two signals, the second with three.
+/// Inputs for two cells of the line: the cell at 1 has two signals, and the cell at 2 has three.
 fn two_cells(alloc: Global) -> Result<Inputs, AllocError> {
     let mut inputs = Inputs::new(alloc);
     let position = Position { x: 1, y: 0, z: 0 };

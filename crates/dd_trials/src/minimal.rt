@@ -6,13 +6,14 @@ use std::alloc::Global;
 use std::process::Abort;
 use std::test::Fail;
 
-/// A symbol for each cell that is read; none for a cell that is left out.
+/// A symbol for each cell that is read, or none for a cell that is left out.
 type Pattern = &'static [Option<u32>];
 
 const HARD: &str = "%rule x o=1 -> (o.rt=0 & o.up=0)";
 
-// The first node has the second nodes at (0,-1), (-1,0) and (0,0) as neighbours, the second has the first nodes at (0,0), (1,0)
-// and (0,1). In cell order, a node's own cell is the third that is read at the first node, and the second at the second node.
+// The neighbours of the first node are the second nodes at (0,-1), (-1,0) and (0,0). Those of the second node are the first
+// nodes at (0,0), (1,0) and (0,1). In cell order, the own cell of the first node is the third that is read there. That of the
+// second node is the second.
 const HEXAGONS: &str = "%topology hex %rule x Ap[o1] (p~o -> !(p=1 & o=1))";
 
 const SECOND_IS_1: &str = "%topology hex %only 1 1 %rule x Ap[o1] (p~o -> !(p=1 & o=1))";
@@ -41,7 +42,7 @@ const MINIMAL: &[(&str, u32, &[Pattern])] = &[
         0,
         &[&[Some(0), Some(1)], &[Some(1), Some(0)]],
     ),
-    // Of 0 0 1 the first cell is left out, since 1 0 1 breaks the rule too. Of 0 1 1 it is kept.
+    // Of 0 0 1 the first cell is left out, since 1 0 1 breaks the rule too. Of 0 1 1 the first cell is kept.
     (
         "%dim 1 %rule x o=o.rt & o.rt=o.rt.rt",
         0,

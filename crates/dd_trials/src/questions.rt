@@ -1,4 +1,4 @@
-// Box questions over small rules, on small boxes.
+// The clauses of box questions over small rules, on small boxes.
 ghost use Rattle.std.specs.Prelude.{◌≡◌, ◌≤◌, ◌+◌, IsTrue, IfOk};
 ghost use Rattle.dd_formula.specs.Counts.{cut};
 ghost use Rattle.dd_boxes.specs.Boxes.{Reaches};
@@ -15,6 +15,7 @@ use dd_problem::{Goal, box_clauses, least_radius};
 use std::alloc::{AllocError, Global};
 use std::test::Fail;
 
+/// The number of clauses of the goal, cut off at 1000.
 fn goal_clauses(alloc: Global, premise: &Rule, goal: &Goal) -> Result<u32, AllocError>
     requires { IsGoalFor premise.now (goal_of premise.now goal.now) }
     ensures { IfOk result (λ n. n ≡ cut 1000 (goal_clauses (goal_of premise.now goal.now))) }
@@ -28,7 +29,7 @@ fn goal_clauses(alloc: Global, premise: &Rule, goal: &Goal) -> Result<u32, Alloc
     }
 }
 
-/// Does nothing; its contract is the law of the box of this radius.
+/// Does nothing. Its contract is the law of the box of this radius.
 fn one_radius(premise: &Rule, goal: &Goal, _radius: u32)
     ensures { OneBox premise.now (goal_of premise.now goal.now) _radius }
 {
@@ -41,12 +42,12 @@ fn reaches(alloc: Global, premise: &Rule, goal: &Goal, radius: u32) -> Result<bo
     ensures { IfOk result (λ found. IsTrue found → Reaches (goal_of premise.now goal.now) radius) }
 {
     one_radius(premise, goal, radius);
-    // This read brings in what the type guarantees.
+    // This call tells the proof what the type guarantees.
     let _symbols = premise.symbols();
     Ok(least_radius(alloc, goal)? <= radius)
 }
 
-/// The clauses of a question on the box of radius 0; on the line also on that of radius 1.
+/// The clauses of a question on the box of radius 0 or, on the line, 1.
 #[tactic(auto, using(crate::proofs::Counting::few_in_a_box, crate::proofs::Counting::few_at_the_origin))]
 pub(crate) fn clauses_of(
     alloc: Global,

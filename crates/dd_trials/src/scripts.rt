@@ -1,4 +1,4 @@
-// Scripts of the tests.
+// Scripts made of parts of text.
 use dd_script::{Script, ScriptFault, parse};
 use std::alloc::{AllocError, Global};
 use std::test::Fail;
@@ -12,7 +12,7 @@ fn joined(alloc: Global, parts: &[&str]) -> Result<Vec<u8>, AllocError> {
     Ok(bytes)
 }
 
-/// The script whose text has these parts, or why it is none.
+/// The script whose text has these parts, or the reason why it is refused.
 pub(crate) fn parsed(alloc: Global, parts: &[&str]) -> Result<Result<Script, ScriptFault>, Fail> {
     let bytes = joined(alloc, parts)?;
     if bytes.len() > 1_048_576 {

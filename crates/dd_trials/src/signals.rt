@@ -1,4 +1,4 @@
-// The signal of a rule has the truth value of its formula, for every filling of what it reads.
+// The signal of a rule has the value of the rule's truth, for every filling of what the rule reads.
 ghost use Rattle.std.specs.Prelude.{◌<◌, ◌≤◌};
 ghost use Rattle.std.specs.List.Sorted.{IsStrictlySortedBy};
 ghost use Rattle.dd_lattice.specs.Order.{cell_cmp};
@@ -15,7 +15,7 @@ use std::alloc::{AllocError, Global};
 use std::process::Abort;
 use std::test::Fail;
 
-/// `count` signals, whose variables begin with `first`.
+/// The signals of `count` variables from `first` on.
 fn signals_from(alloc: Global, first: u32, count: u32) -> Result<Vec<Signal>, AllocError> {
     let mut signals = Vec::new(alloc);
     for place in 0..count {
@@ -28,7 +28,7 @@ fn signals_from(alloc: Global, first: u32, count: u32) -> Result<Vec<Signal>, Al
     Ok(signals)
 }
 
-/// One variable for each symbol of each cell.
+/// Inputs with one variable for each symbol of each cell.
 fn inputs_of(alloc: Global, cells: &[Cell], symbols: u32) -> Result<Inputs, AllocError>
     requires ascending { IsStrictlySortedBy cell_cmp cells.now }
 {
@@ -91,7 +91,7 @@ fn compiled(
     Ok((circuit, signal))
 }
 
-/// The values of the inputs if the cells have these symbols.
+/// The values of the inputs if the cells have the symbols of `filled`.
 fn input_values(alloc: Global, filled: &[u32], symbols: u32) -> Result<Vec<bool>, AllocError> {
     let mut values = Vec::new(alloc);
     for here in filled {
@@ -102,6 +102,7 @@ fn input_values(alloc: Global, filled: &[u32], symbols: u32) -> Result<Vec<bool>
     Ok(values)
 }
 
+/// The value of a signal if the inputs have these values.
 fn value_of(
     alloc: Global,
     circuit: &Circuit,
@@ -111,7 +112,7 @@ fn value_of(
     if inputs.len() != circuit.inputs() as usize {
         return Err("a value for each input".into());
     }
-    let values = circuit.value(alloc, inputs)?;
+    let values = circuit.values(alloc, inputs)?;
     let place = signal.variable.checked_sub(1).ok_or("a variable")?;
     let value = values.get(place as usize).copied();
     Ok(value.ok_or("a variable of the circuit")? == signal.positive)
@@ -158,7 +159,7 @@ fn times_of_first(rt: &impl Abort, alloc: Global, script: &Script) -> Result<Vec
     times_by_node(rt, alloc, rule)
 }
 
-/// For how many fillings the rule with this formula is true, after the beginning of a script.
+/// For how many fillings the rule with this formula is true, node by node. The formula ends a script with this beginning.
 fn times_in(
     rt: &impl Abort,
     alloc: Global,
@@ -257,7 +258,7 @@ fn assert_one_gate(
     if circuit.inputs() != 2 {
         return Err("two inputs".into());
     }
-    let values = circuit.value(alloc, &[true, false])?;
+    let values = circuit.values(alloc, &[true, false])?;
     assert_eq!(rt; values.as_slice(), [true, false, false].as_slice());
     Ok(())
 }

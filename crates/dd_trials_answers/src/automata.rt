@@ -60,6 +60,7 @@ const DIFFERENCES: [(&str, &str); 4] = [
     ),
 ];
 
+// A script whose automata differ.
 const DIFFERENT: &str =
     "%auto id when o=1 give 1 else 0 %auto nul else 0 %rule full o@o %same id nul full";
 
@@ -85,7 +86,8 @@ const NAMES: [&str; 16] = [
     "a", "b", "c", "d", "e", "f", "g", "h", "i", "j", "k", "l", "m", "n", "o", "p",
 ];
 
-// The elementary automaton with this number, after Wolfram: bit k is the value of a cell that, with its neighbours, spells k.
+// Adds the elementary automaton with this number (Wolfram 1983): bit k of the number is the value of a cell that, with its
+// neighbours, spells k in binary.
 fn push_elementary(
     alloc: Global,
     text: &mut String,
@@ -104,7 +106,7 @@ fn push_elementary(
     text.push_str(format!(in alloc; " else {value}\n")?.as_str())
 }
 
-// The queries whether sixteen of these automata, from the number `first` on, commute with the shift.
+// A script with sixteen of these automata, from the number `first` on, and for each the query whether it commutes with the shift.
 fn commuting(alloc: Global, first: u32) -> Result<String, AllocError> {
     let mut text = String::from_str(
         alloc,
@@ -119,7 +121,7 @@ fn commuting(alloc: Global, first: u32) -> Result<String, AllocError> {
     Ok(text)
 }
 
-// The answers that all of them do, with the radius of the compositions.
+// The answers if all of them commute, with the least radius of the compositions.
 fn sixteen_yes(alloc: Global) -> Result<String, AllocError> {
     let mut lines = String::new(alloc);
     for number in 1..17u32 {

@@ -96,9 +96,10 @@ const WHOLE_BOUNDS: [(&str, &str); 3] = [
     ),
 ];
 
+// A script with a density and a bound.
 const COVERS: &str = "%dim 1 %rule cover o=1 | o.rt=1 %density cover [] %discharge cover 0 0 [1]";
 
-// Lines of answers to it, and whether a check accepts them.
+// Lines of answers to this script, and whether a check accepts them.
 const CHECKED: [(&str, bool); 14] = [
     (
         "query 1 DENSITY 1/2\ncycle 2 0 1\npotentials 0 1\nquery 2 BOUND 1/2\ndenominator 2\namounts 0 1\nduals 0 1 1\n",

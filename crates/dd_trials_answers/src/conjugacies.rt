@@ -19,8 +19,8 @@ const MAPS: [(&str, &str); 5] = [
         "%topology hex %rule full o@o %auto ex when o.a=1 give 1 else 0 %conjugate ex ex full full",
         "query 1 CONJUGATE 0 0 0 0\n",
     ),
-    // All configurations of the rule have the period 3, which exceeds the limit. So it isn't found that the identity doesn't map
-    // it into the other rule. That the identity doesn't map the other rule into it is found.
+    // All configurations of `cyc` have the period 3, which exceeds the limit. So none is found that the identity doesn't map into
+    // `no`. One of `no` is found that the identity doesn't map into `cyc`.
     (
         "%dim 1 %alphabet 0 1 2 %limits 4 2 10 %rule cyc (o=0 -> o.rt=1) & (o=1 -> o.rt=2) & (o=2 -> o.rt=0) %rule no o!=1 %auto id when o=1 give 1 when o=2 give 2 else 0 %conjugate id id cyc no %conjugate id id no cyc",
         "query 1 BROKEN 2 1\nquery 2 BROKEN 1 1\n",
@@ -61,6 +61,7 @@ const BROKEN: [(&str, &str); 6] = [
     ),
 ];
 
+// A script whose automata lose information.
 const LOSING: &str =
     "%dim 1 %limits 2 3 10 %rule row o=1 -> o.rt=0 %auto nul else 0 %conjugate nul nul row row";
 
@@ -85,10 +86,12 @@ const CHECKED: [(&str, bool); 10] = [
     ("query 1 YES 0\nrefutation 1\nstep 0 1 0 0\n", false),
 ];
 
+// A script whose automata are inverse maps.
 const ONES: &str =
     "%dim 1 %rule ones o=1 %auto id when o=1 give 1 else 0 %conjugate id id ones ones";
 
-// The same for a script whose automata are inverse maps. The first two questions have the same clauses, and so do the last two.
+// The lines of an answer to this script, and whether a check accepts them. The first two questions have the same clauses, and
+// so do the last two.
 const INVERSE: [(&str, bool); 4] = [
     (
         "query 1 CONJUGATE 0 0 0 0\nrefutation 1\nstep 0 3 5 10 14 19 27 20 21 25 32 33 0 0\nrefutation 1\nstep 0 3 5 10 14 19 27 20 21 25 32 33 0 0\nrefutation 1\nstep 0 3 21 26 32 5 10 14 17 28 36 37 0 0\nrefutation 1\nstep 0 3 21 26 32 5 10 14 17 28 36 37 0 0\n",
@@ -99,11 +102,12 @@ const INVERSE: [(&str, bool); 4] = [
         "query 1 CONJUGATE 0 0 0 0\nrefutation 1\nstep 0 3 5 10 14 19 27 20 21 25 32 33 0 0\nrefutation 1\nstep 0 3 21 26 32 5 10 14 17 28 36 37 0 0\nrefutation 1\nstep 0 3 5 10 14 19 27 20 21 25 32 33 0 0\nrefutation 1\nstep 0 3 21 26 32 5 10 14 17 28 36 37 0 0\n",
         false,
     ),
-    // The radius of the fourth question is another, and its steps are missing.
+    // The radius of the fourth question is another.
     (
         "query 1 CONJUGATE 0 0 0 1\nrefutation 1\nstep 0 3 5 10 14 19 27 20 21 25 32 33 0 0\nrefutation 1\nstep 0 3 5 10 14 19 27 20 21 25 32 33 0 0\nrefutation 1\nstep 0 3 21 26 32 5 10 14 17 28 36 37 0 0\nrefutation 1\nstep 0 3 21 26 32 5 10 14 17 28 36 37 0 0\n",
         false,
     ),
+    // The hints of the fourth question's step are too few.
     (
         "query 1 CONJUGATE 0 0 0 0\nrefutation 1\nstep 0 3 5 10 14 19 27 20 21 25 32 33 0 0\nrefutation 1\nstep 0 3 5 10 14 19 27 20 21 25 32 33 0 0\nrefutation 1\nstep 0 3 21 26 32 5 10 14 17 28 36 37 0 0\nrefutation 1\nstep 0 37 0 0\n",
         false,

@@ -79,6 +79,7 @@ const DENSITIES: [(&str, &str); 15] = [
 // One of any two neighbours is 1, so the state 0 leads only to 1, and 1 to both.
 const COVER: &str = "%dim 1 %rule cover o=1 | o.rt=1 %density cover []";
 
+// Lines of answers to this script, and whether a check accepts them; likewise below.
 const CHECKED_CYCLES: [(&str, bool); 9] = [
     ("query 1 DENSITY 1/2\ncycle 2 0 1\npotentials 0 1\n", true),
     // Constant potentials, and one too few.

@@ -38,6 +38,7 @@ const ROWS: &[(usize, u32, bool)] = &[
     (2, 3, false),
 ];
 
+// Positions of the line.
 const PLACES: &[i32] = &[-1_000_000, 0, 1];
 
 fn script_of(alloc: Global, bytes: &[u8]) -> Result<Script, Fail> {
@@ -73,7 +74,7 @@ fn excludes_at<C: Configuration>(
     Ok(excludes(alloc, script, query, answer, configuration, &place)?)
 }
 
-// Asserts that it does so at each of the positions, or at none.
+// Asserts that this answer to this query excludes the goal at each of the positions, or at none.
 fn assert_places<C: Configuration>(
     rt: &impl Abort,
     alloc: Global,
@@ -92,7 +93,7 @@ fn assert_places<C: Configuration>(
     Ok(())
 }
 
-// Asserts the rows for a configuration.
+// Asserts all rows for one configuration.
 fn assert_rows<C: Configuration>(
     rt: &impl Abort,
     alloc: Global,
@@ -111,6 +112,7 @@ fn assert_rows<C: Configuration>(
     Ok(())
 }
 
+// Asserts all rows for the two configurations that are functions.
 fn assert_functions(
     rt: &impl Abort,
     alloc: Global,
@@ -124,6 +126,7 @@ fn assert_functions(
     assert_rows(rt, alloc, script, answers, &Checkerboard)
 }
 
+// Asserts all rows for the configuration of the script.
 fn assert_periodic(
     rt: &impl Abort,
     alloc: Global,
@@ -136,7 +139,7 @@ fn assert_periodic(
     assert_rows(rt, alloc, script, answers, thirds)
 }
 
-// Asserts the rows for each of the configurations.
+// Asserts all rows for each of the configurations.
 fn assert_script(rt: &impl Abort, alloc: Global, script: &Script) -> Result<(), Fail> {
     let answers = answers_to(alloc, script)?;
     assert_functions(rt, alloc, script, &answers)?;

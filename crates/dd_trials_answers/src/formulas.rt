@@ -1,4 +1,5 @@
-// What formulas mean: configurations in which they are true, or in which they are first false at a cell found by hand.
+// What formulas mean: configurations in which they are true, or the first cells, found by hand, at which they are false. Then
+// the limits on their expansions.
 use dd_trials_runs::run_on;
 use std::alloc::{AllocError, Global};
 use std::test::Fail;
@@ -95,14 +96,14 @@ pub(crate) const CONNECTIVES_AND_QUANTIFIERS: [(&str, &str); 2] = [
     ),
 ];
 
-// A node 15 moves from p. If p is two moves away, it is further than a rule may read.
+// The cell 15 moves from p. If p is two moves from o, this is one further than a rule may read.
 const FAR: &str = "p.rt.rt.rt.rt.rt.rt.rt.rt.rt.rt.rt.rt.rt.rt.rt";
 
-// Three balls, each around the nodes of the one before.
+// Three quantifiers, each over the balls round the cells of the one before.
 const LARGE: &str = "Ap[o3] Aq[p3] Ar[q3]";
 
-// Rules and automata, with the words FAR and LARGE for these texts, and the limit that they exceed, if any.
-const EXPANSIONS: [(&str, &str); 10] = [
+// Scripts, with the words FAR and LARGE for these texts, and the last line of the output. It says which limit they exceed, if any.
+const EXPANSIONS: [(&str, &str); 11] = [
     ("%rule a Ap[o1] FAR=0", "end"),
     ("%rule a Ap[o2] FAR=0", "refused 1 size reach"),
     ("%rule a LARGE r=0", "end"),
@@ -110,11 +111,16 @@ const EXPANSIONS: [(&str, &str); 10] = [
         "%topology king %rule a LARGE r=0",
         "refused 2 size instances",
     ),
-    // Repetitions come first, then instances, then reach; an automaton has the instances of all its cases.
+    // A variable that is bound twice is refused before both limits, and the limit on instances is met before the one on reach.
     (
         "%topology king %rule a Ap[o2] LARGE FAR=0",
         "refused 2 twice p",
     ),
+    (
+        "%topology king %rule a LARGE (r=0 & FAR=0)",
+        "refused 2 size instances",
+    ),
+    // An automaton has the instances of all its cases.
     (
         "%auto f when Ap[o2] FAR=0 give 0 when LARGE r=0 give 0 else 1",
         "refused 1 size reach",
@@ -144,7 +150,7 @@ fn written_out(alloc: Global, script: &str) -> Result<String, AllocError> {
 }
 
 #[test]
-fn expansions_pass_limits(rt: HostRuntime) -> Result<(), Fail> {
+fn scripts_that_exceed_limits_are_refused(rt: HostRuntime) -> Result<(), Fail> {
     let alloc = rt.alloc();
     for (script, last) in EXPANSIONS {
         let script = written_out(alloc, script)?;

@@ -33,6 +33,7 @@ const NOTHING: [(&str, &str); 1] = [(
     "query 1 LEAST 0\nconf 0 0\n",
 )];
 
+// A script with one query, whose clauses are short.
 const ONES: &str = "%dim 1 %rule ones o=1 %least ones [1]";
 
 // Lines of answers to this script, and whether a check accepts them. The clauses are (1 2) and (-1 -2) for the cell, (2) for the

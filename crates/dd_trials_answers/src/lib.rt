@@ -1,5 +1,5 @@
-//! Trials of the answers of runs to each kind of query, of what a check makes of these and other answers, and of what accepted
-//! answers exclude from configurations that are functions. They use the crates from outside.
+//! Tests of the answers that runs give to each kind of query, of the answers that a check accepts or rejects, and of what
+//! accepted answers exclude from configurations that are functions. They use the crates from outside.
 #![tactic(auto)]
 
 #[cfg(test)]

@@ -13,7 +13,7 @@ fn check_of(alloc: Global, bytes: &[u8]) -> Result<Status, AllocError> {
     Ok(check_diddy(alloc, &mut source, &mut sink))
 }
 
-// The status of a run or a check with these lines of answers, if all are right.
+// The status of a run or a check with these lines of answers, if all answers are right.
 fn status_with(answers: &str) -> Status {
     if answers.contains("UNKNOWN") {
         Status::SomeUnknown
@@ -28,8 +28,8 @@ fn output_of(alloc: Global, script: &str, answers: &str) -> Result<String, Alloc
     format!(in alloc; "diddy 1\nscript {length}\n{script}\n{answers}end\n")
 }
 
-// The whole output of a run of a script with these engines. Asserts that the run, and a check of its output, end with the status
-// for these lines of answers.
+// Runs the script with these engines, and returns the whole output. Asserts that the run, and a check of its output, end with
+// the status for these lines of answers.
 fn checked_output(
     rt: &impl Abort,
     alloc: Global,

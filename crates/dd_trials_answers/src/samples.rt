@@ -6,6 +6,7 @@ use dd_session::{Status, run_diddy, sample_script};
 use dd_trials_runs::words_of;
 use std::test::Fail;
 
+// The sample script number 1.
 const SMALLEST: &str = "%limits 3 3 1000\n\
     %rule hard o=1 -> (o.rt=0 & o.up=0)\n\
     %rule row o=1 -> o.rt=0\n\

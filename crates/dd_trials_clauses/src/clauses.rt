@@ -1,3 +1,4 @@
+// Clause lists, and which assignments satisfy them. A list is given by signed numbers, with 0 at the end of each clause.
 use dd_clause::{Assignment, Clause, Cnf, Literal, satisfies};
 use std::alloc::{AllocError, Global};
 use std::test::Fail;
@@ -9,7 +10,7 @@ fn literal(number: i32) -> Literal {
     }
 }
 
-/// The clauses that the numbers give, with 0 at the end of each. A clause out of range is left out.
+/// The clauses that the numbers give. A clause out of range is left out.
 fn cnf_of(alloc: Global, variables: u8, numbers: &[i32]) -> Result<Cnf, AllocError> {
     let mut cnf = Cnf::new(alloc, u32::from(variables));
     let mut literals = Vec::new(alloc);

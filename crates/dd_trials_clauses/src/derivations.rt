@@ -1,3 +1,5 @@
+// Checks of refutations and of single steps. Clauses are given by signed numbers, with 0 at the end of each. A step is given by the
+// literals of its clause, 0, its hints, 0, its deletes and 0.
 use dd_clause::{Clause, Cnf, Literal};
 use dd_derivation::{Marks, Step, check_refutation, check_step};
 use dd_values::Items;
@@ -16,7 +18,7 @@ fn clause_of(alloc: Global, numbers: &[i32]) -> Result<Clause, AllocError> {
     Clause::from_literals(alloc, literals.as_slice())
 }
 
-/// The clauses over three variables that the numbers give, with 0 at the end of each. A clause out of range is left out.
+/// The clauses over three variables that the numbers give. A clause out of range is left out.
 fn cnf_of(alloc: Global, numbers: &[i32]) -> Result<Cnf, AllocError> {
     let mut cnf = Cnf::new(alloc, 3);
     for clause in numbers.split(|number| *number == 0) {
@@ -28,7 +30,7 @@ fn cnf_of(alloc: Global, numbers: &[i32]) -> Result<Cnf, AllocError> {
     Ok(cnf)
 }
 
-/// The steps that the numbers give, with 0 at the end of the literals, of the hints and of the deletes.
+/// The steps that the numbers give.
 fn steps_of(alloc: Global, numbers: &[i32]) -> Result<Vec<Step>, AllocError> {
     let mut steps = Vec::new(alloc);
     let mut literals = Vec::new(alloc);
@@ -62,7 +64,7 @@ fn steps_of(alloc: Global, numbers: &[i32]) -> Result<Vec<Step>, AllocError> {
 // The variable 3 is the conjunction of 1 and 2, one of which must be true and one false, and 3 is true.
 const GATE_IS_TRUE: &[i32] = &[1, 2, 0, -1, -2, 0, -3, 1, 0, -3, 2, 0, 3, -1, -2, 0, 3, 0];
 
-/// The result of the check, and its result with the same marks after the last step was checked on its own.
+/// The result of the check, and once more with the same marks, after the last step was checked by itself.
 fn check_twice(alloc: Global, clauses: &[i32], steps: &[i32]) -> Result<[bool; 2], AllocError> {
     let cnf = cnf_of(alloc, clauses)?;
     let steps = steps_of(alloc, steps)?;
@@ -160,7 +162,8 @@ fn a_literal_that_stands_twice_in_a_clause_counts_once(rt: HostRuntime) -> Resul
     Ok(())
 }
 
-/// The clauses of 9, and of -9 and 1, each with the first of the list as its hint, then 1 from both. No variable is 9.
+/// Steps with the clauses (9) and (-9 1), each with the list's first clause as its hint, then one with the clause (1) that hints at
+/// both. The list has no variable 9.
 const OUT_OF_RANGE: &[i32] = &[9, 0, 1, 0, 0, -9, 1, 0, 1, 0, 0, 1, 0, 7, 8, 0, 0];
 
 /// Steps, the index of the one that is checked after those before it, and whether it is right.

@@ -28,7 +28,7 @@ fn steps(
     Ok(steps)
 }
 
-/// A refutation of one step, without literals.
+/// A refutation of one step, whose clause is empty.
 fn yes(alloc: Global) -> Result<Answer, AllocError> {
     Ok(Answer::Yes {
         radius: 0,
@@ -71,6 +71,7 @@ fn list(alloc: Global) -> Result<Answer, AllocError> {
     Ok(Answer::List { patterns })
 }
 
+/// A cycle of two states, with a potential for each.
 fn density(alloc: Global) -> Result<Answer, AllocError> {
     Ok(Answer::Density {
         numerator: 1,
@@ -80,6 +81,7 @@ fn density(alloc: Global) -> Result<Answer, AllocError> {
     })
 }
 
+/// Amounts and duals over a common denominator.
 fn bound(alloc: Global) -> Result<Answer, AllocError> {
     Ok(Answer::Bound {
         numerator: 1,
@@ -120,6 +122,7 @@ fn conjugate(alloc: Global) -> Result<Answer, AllocError> {
     })
 }
 
+/// The number of a question that does not hold, and a configuration that shows it.
 fn broken(alloc: Global, part: u64, periods: &[u64], shear: u64) -> Result<Answer, AllocError> {
     Ok(Answer::Broken {
         part,
@@ -147,7 +150,7 @@ fn least_of_all(alloc: Global) -> Result<Answer, AllocError> {
     })
 }
 
-/// The answers that are written; several of a kind differ in what their fields give.
+/// The answers that are written. The fields of a kind tell its samples apart.
 pub(crate) enum Sample {
     Yes,
     YesBoth,
@@ -167,6 +170,7 @@ pub(crate) enum Sample {
     Nothing,
 }
 
+/// The answer of a sample.
 pub(crate) fn answer_of(alloc: Global, sample: &Sample) -> Result<Answer, AllocError> {
     match sample {
         Sample::Yes => yes(alloc),

@@ -37,23 +37,23 @@ fn cnf_of(alloc: Global, variables: u8, numbers: &[i32]) -> Result<Cnf, AllocErr
     Ok(cnf)
 }
 
-/// The pigeonhole clauses: each thing is in one of the holes, there is one more thing than holes, and no two things share a
-/// hole. The variable `first + holes * t + h` says that the thing t is in the hole h.
-fn push_crowded(numbers: &mut Vec<i32>, first: i32, holes: i32) -> Result<(), AllocError> {
-    let place = |thing: i32, hole: i32| {
+/// Adds the pigeonhole clauses: each pigeon is in one of the holes, no two pigeons share a hole, and there is one more pigeon
+/// than holes. The variable `first + holes * p + h` says that the pigeon p is in the hole h.
+fn push_pigeonholes(numbers: &mut Vec<i32>, first: i32, holes: i32) -> Result<(), AllocError> {
+    let variable = |pigeon: i32, hole: i32| {
         first
-            .saturating_add(holes.saturating_mul(thing))
+            .saturating_add(holes.saturating_mul(pigeon))
             .saturating_add(hole)
     };
-    for thing in 0..holes.saturating_add(1) {
+    for pigeon in 0..holes.saturating_add(1) {
         for hole in 0..holes {
-            numbers.push(place(thing, hole))?;
+            numbers.push(variable(pigeon, hole))?;
         }
         numbers.push(0)?;
-        for other in 0..thing {
+        for other in 0..pigeon {
             for hole in 0..holes {
-                numbers.push(0i32.saturating_sub(place(thing, hole)))?;
-                numbers.push(0i32.saturating_sub(place(other, hole)))?;
+                numbers.push(0i32.saturating_sub(variable(pigeon, hole)))?;
+                numbers.push(0i32.saturating_sub(variable(other, hole)))?;
                 numbers.push(0)?;
             }
         }
@@ -79,15 +79,15 @@ fn answer(alloc: Global, cnf: &Cnf) -> Result<&'static str, AllocError> {
     Ok("wrong")
 }
 
-/// Seven things in six holes.
+/// The pigeonhole clauses of seven pigeons and six holes.
 fn seven_in_six(alloc: Global) -> Result<Vec<i32>, AllocError> {
     let mut numbers = Vec::new(alloc);
-    push_crowded(&mut numbers, 1, 6)?;
+    push_pigeonholes(&mut numbers, 1, 6)?;
     Ok(numbers)
 }
 
-/// Four things in three holes. Before them come 40 variables with clauses of their own, which most of their values satisfy. A
-/// search that learns nothing refutes the pigeonhole clauses once for each of these values.
+/// The pigeonhole clauses of four pigeons and three holes. Before them come 40 variables with clauses of their own, which very
+/// many assignments satisfy. A search that learns nothing refutes the pigeonhole clauses once for each of these.
 fn four_in_three(alloc: Global) -> Result<Vec<i32>, AllocError> {
     let mut numbers = Vec::new(alloc);
     for pair in 0..20u8 {
@@ -95,7 +95,7 @@ fn four_in_three(alloc: Global) -> Result<Vec<i32>, AllocError> {
         numbers.push(i32::from(2 * pair + 2))?;
         numbers.push(0)?;
     }
-    push_crowded(&mut numbers, 41, 3)?;
+    push_pigeonholes(&mut numbers, 41, 3)?;
     Ok(numbers)
 }
 

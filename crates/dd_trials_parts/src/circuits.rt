@@ -1,3 +1,4 @@
+//! The values of small circuits.
 ghost use Rattle.std.specs.Prelude.{◌≡◌, ◌≤◌, ◌+◌, IfOk};
 ghost use Rattle.dd_circuit.specs.Circuits.{signal_of, opposite, size};
 
@@ -5,6 +6,7 @@ use dd_circuit::{Circuit, Signal};
 use std::alloc::{AllocError, Global};
 use std::test::Fail;
 
+/// The variable, as a signal.
 fn plus(variable: u32) -> Signal
     ensures { result ≡ signal_of variable }
 {
@@ -14,6 +16,7 @@ fn plus(variable: u32) -> Signal
     }
 }
 
+/// The opposite of the variable, as a signal.
 fn minus(variable: u32) -> Signal
     ensures { result ≡ opposite (signal_of variable) }
 {
@@ -27,7 +30,7 @@ fn a_conjunction_of_two_inputs(rt: HostRuntime) -> Result<(), Fail> {
     let gate = circuit.and(&[plus(1), plus(2)])?;
     let sizes = (circuit.inputs(), circuit.variables(), circuit.gates().len());
     assert_eq!(rt; (gate, sizes), (plus(3), (2, 3, 1)));
-    let values = circuit.value(alloc, &[true, false])?;
+    let values = circuit.values(alloc, &[true, false])?;
     assert_eq!(rt; values.as_slice(), [true, false, false].as_slice());
     Ok(())
 }
@@ -68,7 +71,7 @@ const VALUES_OF_GATES: &[([bool; 3], [bool; 8])] = &[
     ),
 ];
 
-/// Conjunctions of none, one and all of the three inputs.
+/// Adds conjunctions of none, one and all of the three inputs.
 fn push_conjunctions(circuit: &mut Circuit) -> Result<(), AllocError>
     requires inputs { 3 ≤ size circuit.old }
     requires few { size circuit.old ≤ 100 }
@@ -81,7 +84,7 @@ fn push_conjunctions(circuit: &mut Circuit) -> Result<(), AllocError>
     Ok(())
 }
 
-/// Disjunctions of none, one and all of the three inputs.
+/// Adds disjunctions of none, one and all of the three inputs.
 fn push_disjunctions(circuit: &mut Circuit) -> Result<(), AllocError>
     requires inputs { 3 ≤ size circuit.old }
     requires few { size circuit.old ≤ 100 }
@@ -111,7 +114,7 @@ fn gates_of_no_one_and_three_members(rt: HostRuntime) -> Result<(), Fail> {
     let alloc = rt.alloc();
     let circuit = eight_gates(alloc)?;
     for (inputs, gates) in VALUES_OF_GATES {
-        let values = circuit.value(alloc, inputs.as_slice())?;
+        let values = circuit.values(alloc, inputs.as_slice())?;
         assert_eq!(rt; values.len(), 11);
         assert_eq!(rt; &values[3..], gates.as_slice(), "at {inputs:?}");
     }

@@ -1,3 +1,4 @@
+//! The clauses of small circuits.
 ghost use Rattle.std.specs.Prelude.{◌≡◌, ◌≤◌, ◌+◌, IfOk};
 ghost use Rattle.dd_circuit.specs.Circuits.{signal_of, opposite, size};
 
@@ -8,6 +9,7 @@ use std::alloc::{AllocError, Global};
 use std::process::Abort;
 use std::test::Fail;
 
+/// The variable, as a signal.
 fn plus(variable: u32) -> Signal
     ensures { result ≡ signal_of variable }
 {
@@ -17,13 +19,14 @@ fn plus(variable: u32) -> Signal
     }
 }
 
+/// The opposite of the variable, as a signal.
 fn minus(variable: u32) -> Signal
     ensures { result ≡ opposite (signal_of variable) }
 {
     plus(variable).opposite()
 }
 
-/// The clauses as signed numbers, as in a DIMACS file.
+/// The clauses as signed numbers of variables, as in a DIMACS file.
 fn numbered(alloc: Global, cnf: &Cnf) -> Result<Vec<Vec<i64>>, AllocError> {
     let mut clauses = Vec::new(alloc);
     for clause in cnf.clauses() {
@@ -63,12 +66,12 @@ fn a_conjunction_of_two_inputs(rt: HostRuntime) -> Result<(), Fail> {
     let cnf = encode(alloc, &circuit)?;
     assert_eq!(rt; cnf.variables(), 3);
     assert_clauses(&rt, alloc, &cnf, &[&[-3, 1], &[-3, 2], &[3, -1, -2]])?;
-    let values = circuit.value(alloc, &[true, false])?;
+    let values = circuit.values(alloc, &[true, false])?;
     assert!(rt; satisfies(&cnf, &Assignment::new(values)));
     Ok(())
 }
 
-/// Conjunctions of none, one and all of the three inputs.
+/// Adds conjunctions of none, one and all of the three inputs.
 fn push_conjunctions(circuit: &mut Circuit) -> Result<(), AllocError>
     requires inputs { 3 ≤ size circuit.old }
     requires few { size circuit.old ≤ 100 }
@@ -81,7 +84,7 @@ fn push_conjunctions(circuit: &mut Circuit) -> Result<(), AllocError>
     Ok(())
 }
 
-/// Disjunctions of none, one and all of the three inputs.
+/// Adds disjunctions of none, one and all of the three inputs.
 fn push_disjunctions(circuit: &mut Circuit) -> Result<(), AllocError>
     requires inputs { 3 ≤ size circuit.old }
     requires few { size circuit.old ≤ 100 }

@@ -1,13 +1,18 @@
+//! Exact fractions up to the edge of 128 bits.
 use dd_fraction::Fraction;
 use std::cmp::Ordering;
 use std::process::Abort;
 
+/// 2^62
 const P62: i128 = 4611686018427387904;
 
+/// 2^63
 const P63: i128 = 9223372036854775808;
 
+/// 2^64
 const P64: i128 = 18446744073709551616;
 
+/// 2^126
 const P126: i128 = 85070591730234615865843651857942052864;
 
 const MAX: i128 = i128::MAX;
@@ -23,7 +28,8 @@ enum Call {
     Div,
 }
 
-// `Over` makes a fraction of the operands' numerators; the other calls have their usual meaning.
+/// The numerator and the denominator of the result. `Over` divides the numerators of the operands. The other calls are those of
+/// their names.
 fn answer(call: Call, left: &Fraction, right: &Fraction) -> Option<(i128, i128)> {
     let result = match call {
         Call::Over => Fraction::new(left.num(), right.num()),
@@ -44,7 +50,7 @@ fn answer(call: Call, left: &Fraction, right: &Fraction) -> Option<(i128, i128)>
 /// A numerator and a denominator.
 type Pair = (i128, i128);
 
-/// The operand as a fraction, which it must be.
+/// The fraction with this numerator and denominator. There must be one.
 fn operand(rt: &impl Abort, pair: Pair) -> Fraction {
     Fraction::new(pair.0, pair.1).expect(rt, "an operand is a fraction")
 }
@@ -60,7 +66,7 @@ const CALLS: &[(Call, Pair, Pair, Option<Pair>)] = &[
     (Call::Mul, (P63, 1), (P63, 1), Some((P126, 1))),
     (Call::Mul, (P64, 1), (P63, 1), None),
     (Call::Mul, (-P64, 1), (P63, 1), None),
-    // 2^126 / 3 · 3 / 2 is 2^125, and the product of the numerators is 3 · 2^126.
+    // 2^126 / 3 times 3 / 2 is 2^125, but the product of the numerators is 3 times 2^126.
     (Call::Mul, (P126, 3), (3, 2), None),
     (Call::Div, (1, 2), (-1, 3), Some((-3, 2))),
     (Call::Div, (1, P63), (P63, 1), Some((1, P126))),
@@ -70,9 +76,9 @@ const CALLS: &[(Call, Pair, Pair, Option<Pair>)] = &[
     (Call::Add, (1, 6), (1, 3), Some((1, 2))),
     (Call::Add, (P126, 1), (P126 - 1, 1), Some((MAX, 1))),
     (Call::Add, (P126, 1), (P126, 1), None),
-    // Twice 1 / 2^64 is 1 / 2^63, and the product of the denominators is 2^128.
+    // Twice 1 / 2^64 is 1 / 2^63, but the product of the denominators is 2^128.
     (Call::Add, (1, P64), (1, P64), None),
-    // 2^126 - 2^126 / 3 fits, and the cross product 3 · 2^126 does not.
+    // 2^126 - 2^126 / 3 fits, but the cross product 3 times 2^126 does not.
     (Call::Add, (P126, 1), (-P126, 3), None),
     (Call::Sub, (1, 2), (1, 3), Some((1, 6))),
     (Call::Sub, (1, 2), (1, 2), Some((0, 1))),
@@ -109,7 +115,7 @@ const DIFFERENCES: &[(Pair, Pair, Pair, Option<Pair>)] = &[
         (32766, 65531),
         Some((-70356933443584, 281436323512305)),
     ),
-    // One more than 16 bits hold.
+    // One more than fits in 16 bits.
     ((32768, 1), (1, 1), (1, 1), Some((32767, 1))),
     ((1, 65536), (1, 65536), (1, 1), Some((0, 1))),
     ((-P126, 1), (P63, 1), (P63, 2), Some((-P126 - P126 / 2, 1))),

@@ -1,4 +1,4 @@
-//! Trials of numbers, lattices, circuits and the texts of scripts, one module each: tables of cases beside the proofs.
+//! Tests of single crates: tables of cases whose results were worked out by hand or by a reference. A module for each crate.
 #![tactic(auto)]
 
 #[cfg(test)]

@@ -1,10 +1,12 @@
+//! Sources and sinks of bytes, with a limit on their length and with faults.
 use dd_outside::{
     MemorySink, MemorySource, QuietSink, QuietSource, ReadAllFault, Sink, WriteFault, read_all,
     write_whole,
 };
 use std::test::Fail;
 
-// The limit, the most bytes of a read, the read that fails, and the result for the bytes `abcd`.
+// A row has the limit, the most bytes of a read, the number of the read that fails, or 0 if none does, and the result for the bytes
+// `abcd`.
 #[test]
 fn reads_to_the_end_within_a_limit(rt: HostRuntime) -> Result<(), Fail> {
     let alloc = rt.alloc();
@@ -30,7 +32,8 @@ fn reads_to_the_end_within_a_limit(rt: HostRuntime) -> Result<(), Fail> {
     Ok(())
 }
 
-// The capacity, the most bytes of a write, the write that fails, and how many bytes are held.
+// A row has the capacity, the most bytes of a write, the number of the write that fails, or 0 if none does, and how many bytes of
+// `abcd` are held.
 #[test]
 fn writes_up_to_a_fault(rt: HostRuntime) -> Result<(), Fail> {
     let alloc = rt.alloc();
@@ -51,7 +54,7 @@ fn writes_up_to_a_fault(rt: HostRuntime) -> Result<(), Fail> {
     Ok(())
 }
 
-// The quiet source gives all its bytes, and the quiet sink takes each piece completely.
+// The quiet source gives all its bytes, and the quiet sink takes all bytes of each write.
 #[test]
 fn the_quiet_ones_never_fail(rt: HostRuntime) -> Result<(), Fail> {
     let alloc = rt.alloc();

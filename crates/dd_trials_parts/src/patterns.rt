@@ -1,3 +1,4 @@
+//! Symbols of periodic configurations and of fillings.
 ghost use Rattle.std.specs.Prelude.{◌≡◌, IfSome};
 
 use dd_lattice::{Cell, Position, in_order};
@@ -5,6 +6,7 @@ use dd_pattern::{Configuration, Filling, Periodic, Periods, Reads};
 use std::alloc::Global;
 use std::test::Fail;
 
+/// The cell of node 0 at these coordinates, if they are in range.
 fn cell_at(x: i32, y: i32, z: i32) -> Option<Cell>
     ensures { IfSome result (λ c. c.node ≡ 0) }
 {
@@ -15,13 +17,13 @@ fn cell_at(x: i32, y: i32, z: i32) -> Option<Cell>
 /// The symbols of two rows of three.
 const SIX: &[u32] = &[0, 1, 2, 3, 4, 5];
 
-/// The dimension, the periods, the shear and the symbols of a configuration, a position, and the symbol there.
+/// The dimension, the periods, the shear and the symbols of a configuration; a position; and the symbol there.
 const SYMBOLS: &[(u32, [u32; 3], u32, &[u32], (i32, i32, i32), u32)] = &[
     (2, [3, 2, 1], 0, SIX, (0, 0, 0), 0),
     (2, [3, 2, 1], 0, SIX, (2, 1, 0), 5),
     (2, [3, 2, 1], 0, SIX, (-4, -3, 0), 5),
     (2, [3, 2, 1], 0, SIX, (1_048_576, -1, 0), 4),
-    // one row; the row above it starts two to the right
+    // one row; the row above it is the same, moved two to the right
     (2, [3, 1, 1], 2, &[7, 8, 9], (0, 1, 0), 8),
     (2, [3, 1, 1], 2, &[7, 8, 9], (1, -1, 0), 7),
     (2, [3, 1, 1], 2, &[7, 8, 9], (0, 3, 0), 7),
@@ -40,7 +42,7 @@ fn symbols_of_periodic_configurations(rt: HostRuntime) -> Result<(), Fail> {
     for (dim, periods, shear, symbols, (x, y, z), symbol) in SYMBOLS {
         let symbols = Vec::from_slice(rt.alloc(), symbols)?;
         let periodic = Periodic::new(*dim, *periods, *shear, 1, symbols)?;
-        let cell = cell_at(*x, *y, *z).ok_or("in range")?;
+        let cell = cell_at(*x, *y, *z).ok_or("the cell is in range")?;
         let written = (periodic.periods(), periodic.shear());
         let found = (periodic.symbol(&cell), periodic.symbol_at(&cell));
         let wanted = ((*periods, *shear), (Some(*symbol), *symbol));
@@ -49,7 +51,7 @@ fn symbols_of_periodic_configurations(rt: HostRuntime) -> Result<(), Fail> {
     Ok(())
 }
 
-/// A dimension, periods, a shear, a number of nodes and symbols that give no configuration.
+/// Dimensions, periods, shears, numbers of nodes and symbols that give no configuration.
 const NO_CONFIGURATIONS: &[(u32, [u32; 3], u32, u32, &[u32])] = &[
     (0, [1, 1, 1], 0, 1, &[7]),
     (4, [1, 1, 1], 0, 1, &[7]),
@@ -68,13 +70,13 @@ fn no_periodic_configurations(rt: HostRuntime) -> Result<(), Fail> {
         let list = Vec::from_slice(rt.alloc(), symbols)?;
         let back = Periodic::new(*dim, *periods, *shear, *nodes, list)
             .err()
-            .ok_or("refused")?;
+            .ok_or("no configuration")?;
         assert_eq!(rt; (*dim, back.as_slice()), (*dim, *symbols));
     }
     Ok(())
 }
 
-/// A dimension, the largest period, and all periods and shears in order.
+/// A dimension, the greatest period, and all periods with their shears, in order.
 const PERIODS: &[(u32, u32, &[(u32, u32, u32, u32)])] = &[
     (1, 2, &[(1, 1, 1, 0), (2, 1, 1, 0)]),
     (
@@ -149,7 +151,7 @@ const FILLED: &[(i32, i32, Option<u32>)] = &[
 fn fillings(rt: HostRuntime) -> Result<(), Fail> {
     let filling = three_filled(rt.alloc())?;
     for (x, y, symbol) in FILLED {
-        let cell = cell_at(*x, *y, 0).ok_or("in range")?;
+        let cell = cell_at(*x, *y, 0).ok_or("the cell is in range")?;
         let found = filling.symbol(&cell);
         assert_eq!(rt; (*x, *y, found), (*x, *y, *symbol));
     }

@@ -1,10 +1,10 @@
-// Small linear programs. The results come from a reference with exact fractions, and from trying all vertices.
+//! Small linear programs. Their results come from a reference with exact fractions, and from trying all vertices.
 use dd_fraction::Fraction;
 use dd_simplex::{Program, SimplexFault, Solved, maximise};
 use std::alloc::{AllocError, Global};
 use std::test::Fail;
 
-/// An integer, or two integers with a '/' between them.
+/// The fraction with this text: an integer, or two integers with a '/' between them.
 fn fraction(text: &str) -> Result<Fraction, Fail> {
     let (num, den) = match text.split_once('/') {
         Some(parts) => parts,
@@ -19,6 +19,7 @@ fn fraction(text: &str) -> Result<Fraction, Fail> {
     }
 }
 
+/// Fractions with blanks between them.
 fn fractions(alloc: Global, text: &str) -> Result<Vec<Fraction>, Fail> {
     let mut numbers = Vec::new(alloc);
     for word in text.split_whitespace() {
@@ -27,6 +28,7 @@ fn fractions(alloc: Global, text: &str) -> Result<Vec<Fraction>, Fail> {
     Ok(numbers)
 }
 
+/// The program with these rows, which `;` separates. Each has its coefficients and then its bound.
 fn program_of(alloc: Global, columns: u32, cap: i64, rows: &str) -> Result<Program, Fail> {
     if columns == 0 || cap < 0 {
         return Err("no column, or a cap below 0".into());
@@ -45,6 +47,7 @@ fn program_of(alloc: Global, columns: u32, cap: i64, rows: &str) -> Result<Progr
     Ok(program)
 }
 
+/// The texts of fractions, each after a space.
 fn listed(alloc: Global, fractions: &[Fraction]) -> Result<String, AllocError> {
     let mut text = String::new(alloc);
     for fraction in fractions {
@@ -58,6 +61,7 @@ fn listed(alloc: Global, fractions: &[Fraction]) -> Result<String, AllocError> {
     Ok(text)
 }
 
+/// The text of an answer: a solution, or the name of a fault.
 fn described(alloc: Global, answer: &Result<Solved, SimplexFault>) -> Result<String, AllocError> {
     match answer {
         Ok(solved) => {
@@ -70,7 +74,8 @@ fn described(alloc: Global, answer: &Result<Solved, SimplexFault>) -> Result<Str
     }
 }
 
-// The number of columns, the cap, rows of coefficients with a bound, the limit on pivots, and the result.
+/// A name, the number of columns, the cap on column 0, the rows, the limit on pivots, and the answer. `first past 2^127` names the
+/// first number that doesn't fit.
 const CASES: &[(&str, u32, i64, &str, u32, &str)] = &[
     (
         "one column under its cap",
@@ -370,8 +375,8 @@ const CASES: &[(&str, u32, i64, &str, u32, &str)] = &[
         6,
         "Overflow",
     ),
-    // The objective is column 0, so its numbers are those of the line of column 0, which comes before it. In the next six cases
-    // no other line has a number that is too large.
+    // The objective is column 0. So its line of the dictionary has the numbers of the line of column 0, which comes first. In the
+    // next six cases no other line has a number that is too large.
     (
         "first past 2^127: the product in the value, 9 * 2^124",
         2,

@@ -1,10 +1,10 @@
-// Texts with the command of the first fault, or with none if all are well formed.
+//! Which texts of scripts are well formed, and at which command the others have their first fault.
 use dd_commands::{SyntaxFault, read};
 use std::alloc::Global;
 use std::process::Abort;
 use std::test::Fail;
 
-/// The fault of the first command that is not well formed, or none.
+/// The fault of the first command that is not well formed, if there is one.
 fn first_fault(alloc: Global, bytes: &[u8]) -> Option<SyntaxFault> {
     if bytes.len() > 1_048_576 {
         return Some(SyntaxFault::Memory);
@@ -38,7 +38,8 @@ fn well_formed_texts_have_no_fault(rt: HostRuntime) {
     }
 }
 
-/// Asserts that the first fault of each text is at this command; 0 stands for what comes before the first.
+/// Asserts that the first fault of each text is at the command with this number, from 1. 0 stands for what comes before the first
+/// command.
 fn assert_first_faults(rt: &impl Abort, alloc: Global, faults: &[(&[u8], u32)]) {
     for (text, command) in faults {
         let expected = Some(SyntaxFault::At { command: *command });
@@ -46,7 +47,7 @@ fn assert_first_faults(rt: &impl Abort, alloc: Global, faults: &[(&[u8], u32)]) 
     }
 }
 
-/// Bytes and words that may not stand before the first command, in a command, or after it.
+/// Bytes and words that may not stand before the first command, in a command or after one.
 const FAULTS_OF_TEXT: [(&[u8], u32); 9] = [
     (b"x", 0),
     (b"%", 1),
@@ -115,7 +116,7 @@ fn the_first_fault_is_found(rt: HostRuntime) {
     assert_first_faults(&rt, alloc, &FAULTS_OF_FORMULAS);
 }
 
-/// The pieces one after the other, each repeated this many times.
+/// The pieces one after the other. Each is written this many times.
 fn written(alloc: Global, pieces: &[(&[u8], u32)]) -> Result<Vec<u8>, Fail> {
     let mut text = Vec::new(alloc);
     for (piece, times) in pieces {

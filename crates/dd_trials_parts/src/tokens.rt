@@ -1,3 +1,4 @@
+//! The tokens of short texts.
 use dd_tokens::tokens;
 use std::test::Fail;
 

@@ -1,4 +1,4 @@
-//! Balls computed by hand on the built-in topologies, topologies made from edges, and sets of symbols.
+//! Balls of the built-in topologies, drawn by hand; topologies made from edges; and which symbols a node allows.
 ghost use Rattle.std.specs.Prelude.{◌≡◌, pos};
 ghost use Rattle.dd_lattice.specs.Place.{place};
 ghost use Rattle.dd_topology.specs.Builtin.{link};
@@ -10,7 +10,7 @@ use std::test::Fail;
 
 const ORIGIN: Position = Position { x: 0, y: 0, z: 0 };
 
-/// The coordinates of each cell, and its node.
+/// The cells' texts, each after a space: the coordinates, and then the node after a `/`.
 fn text_of(alloc: Global, cells: &[Cell]) -> Result<String, AllocError> {
     let mut text = String::new(alloc);
     for cell in cells {
@@ -21,13 +21,14 @@ fn text_of(alloc: Global, cells: &[Cell]) -> Result<String, AllocError> {
     Ok(text)
 }
 
+/// The ball around a cell of this node at the origin.
 fn ball_of(alloc: Global, kind: Kind, node: u32, radius: u32) -> Result<Vec<Cell>, Fail> {
     let topology = Topology::builtin(alloc, kind)?;
     let position = ORIGIN;
     Ok(topology.ball(alloc, &Cell { position, node }, radius)?)
 }
 
-/// A kind, the node in the middle, a radius, and the cells of the ball.
+/// A kind, the node of the centre, a radius, and the cells of the ball.
 const DRAWN: &[(Kind, u32, u32, &str)] = &[
     (
         Kind::Line,
@@ -90,6 +91,7 @@ fn balls_have_the_numbers_of_cells_of_their_lattices(rt: HostRuntime) -> Result<
     Ok(())
 }
 
+/// The edge with this label from each cell to the one four positions to its right.
 fn along(label: u32) -> Edge
     ensures { result ≡ link label (place (pos 4) (pos 0) (pos 0)) }
 {
@@ -136,7 +138,7 @@ fn a_move_is_missing_where_no_edge_leaves(rt: HostRuntime) -> Result<(), Fail> {
         (Some(b), None)
     );
     assert_eq!(rt; (topology.label("x"), topology.label("y")), (Some(0), None));
-    // The ball stops growing long before this radius.
+    // The ball is complete long before this radius.
     let ball = topology.ball(alloc, &b, 4_000_000_000)?;
     assert_eq!(rt; ball.as_slice(), [a, b].as_slice());
     Ok(())

@@ -1,3 +1,4 @@
+//! Lists and boxes hold what was put in.
 use dd_values::{Boxed, Items};
 use std::test::Fail;
 

@@ -11,11 +11,11 @@ use std::test::Fail;
 pub(crate) const OUTPUT: &str =
     "diddy 1\nscript 34\n%dim 1\n%rule x o=0 & o=1\n%empty x\n\nquery 1 YES 0\nrefutation 1\nstep 0 6 3 4 2 0 0\nend\n";
 
-// The answer.
+// The answer of that output.
 const ANSWER: &str = "query 1 YES 0\nrefutation 1\nstep 0 6 3 4 2 0 0\n";
 
-// Each row of these tables has a part of the output that occurs once, its replacement, the status of the check, and what the
-// check writes.
+// Each row of these tables alters the output. It has a part that occurs once, its replacement, the status of the check, and
+// what the check writes.
 
 // Lines that no output has. Each is refused where the longest prefix of an output ends.
 const LINES: [(&str, &str, Status, &str); 16] = [

@@ -1,4 +1,4 @@
-//! Engines for runs, most of them bad.
+//! Rosters of engines for runs. Most of the engines are bad.
 ghost use Rattle.std.specs.Prelude.{false};
 
 use crate::runs::words_of;
@@ -24,16 +24,18 @@ pub enum Habit {
     NoMemoryAtFirst,
     /// Nothing at the first call, later a refutation without steps.
     ChangesItsMind,
-    /// In turn: nothing, a right answer, a refutation without steps.
+    /// Over and over: nothing, a right answer, a refutation without steps.
     ByTurns,
     /// A refutation without steps for a list of exactly this size, otherwise nothing.
     OfSize { variables: u32, clauses: usize },
 }
 
+/// An engine with a habit.
 #[derive(Drop)]
 struct Fake {
     habit: Habit,
-    turn: u32,
+    /// How many times it was asked.
+    calls: u32,
     tally: Tally,
 }
 
@@ -41,7 +43,7 @@ impl Fake {
     fn new(habit: Habit) -> Self {
         Fake {
             habit,
-            turn: 0,
+            calls: 0,
             tally: Tally::new(),
         }
     }
@@ -53,7 +55,7 @@ fn all_false(alloc: Global, cnf: &Cnf) -> Result<Proposal, AllocError> {
     Ok(Proposal::Found(Assignment::new(values)))
 }
 
-/// The right answer.
+/// A right answer, found by the solver.
 fn solved(alloc: Global, cnf: &Cnf) -> Result<Proposal, AllocError> {
     match solve(alloc, cnf)? {
         Outcome::Found(assignment) => Ok(Proposal::Found(assignment)),
@@ -61,21 +63,27 @@ fn solved(alloc: Global, cnf: &Cnf) -> Result<Proposal, AllocError> {
     }
 }
 
+/// A refutation without steps.
 fn no_steps(alloc: Global) -> Proposal {
     Proposal::Refutation(Items::new(alloc))
 }
 
-/// What an engine with this habit proposes at this turn, from 0.
-fn proposal_of(habit: Habit, turn: u32, alloc: Global, cnf: &Cnf) -> Result<Proposal, AllocError> {
+/// What an engine with this habit proposes after so many earlier calls.
+fn proposal_of(
+    habit: Habit,
+    earlier: u32,
+    alloc: Global,
+    cnf: &Cnf,
+) -> Result<Proposal, AllocError> {
     match habit {
         Habit::Silent => Ok(Proposal::Nothing),
         Habit::NoSteps => Ok(no_steps(alloc)),
         Habit::AllFalse => all_false(alloc, cnf),
-        Habit::NoMemoryAtFirst if turn == 0 => Err(AllocError),
+        Habit::NoMemoryAtFirst if earlier == 0 => Err(AllocError),
         Habit::NoMemoryAtFirst => Ok(Proposal::Nothing),
-        Habit::ChangesItsMind if turn == 0 => Ok(Proposal::Nothing),
+        Habit::ChangesItsMind if earlier == 0 => Ok(Proposal::Nothing),
         Habit::ChangesItsMind => Ok(no_steps(alloc)),
-        Habit::ByTurns => match turn % 3 {
+        Habit::ByTurns => match earlier % 3 {
             0 => Ok(Proposal::Nothing),
             1 => solved(alloc, cnf),
             _ => Ok(no_steps(alloc)),
@@ -99,9 +107,9 @@ impl Engine for Fake {
 
     fn propose(&mut self, alloc: Global, cnf: &Cnf) -> Result<Proposal, AllocError> {
         self.tally.ask();
-        let turn = self.turn;
-        self.turn = turn.saturating_add(1);
-        let proposal = proposal_of(self.habit, turn, alloc, cnf)?;
+        let earlier = self.calls;
+        self.calls = earlier.saturating_add(1);
+        let proposal = proposal_of(self.habit, earlier, alloc, cnf)?;
         if !matches!(proposal, Proposal::Nothing) {
             self.tally.give();
         }
@@ -114,8 +122,9 @@ impl Engine for Fake {
 pub enum Member {
     /// An engine with this habit.
     Fake(Habit),
+    /// The engine that only propagates units.
     Propagator,
-    /// An engine that makes this many flips.
+    /// The engine that searches by local moves, with this many flips.
     Walker(u32),
 }
 

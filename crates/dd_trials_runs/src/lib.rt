@@ -1,5 +1,5 @@
-//! Trials of sessions, for what no contract says: how texts and outputs are refused, that each fault is answered where it
-//! occurs, and that bad engines change no line. The trials of answers run sessions with these calls too.
+//! Trials of sessions, for what no contract says: how texts and outputs are refused, how each fault of a source or a sink ends
+//! a session, and that bad engines change no line. The trials of answers use these calls too.
 #![tactic(auto)]
 
 #[cfg(test)]

@@ -1,11 +1,11 @@
-// Texts that are refused, and the rest of their lines.
+// Texts that are refused, and how. A run writes one line: `refused`, then the number of the command, then the reason.
 use crate::runs::run_on;
 use dd_session::Status;
 use std::alloc::{AllocError, Global};
 use std::process::Abort;
 use std::test::Fail;
 
-// Asserts that each text is refused, with the given rest of the line.
+// Asserts that each text is refused, and that the given text follows `refused` in the line.
 fn assert_refused(rt: &impl Abort, alloc: Global, rows: &[(&[u8], &str)]) -> Result<(), Fail> {
     for (text, rest) in rows {
         let (status, output) = run_on(alloc, text)?;
@@ -141,9 +141,10 @@ fn long_configuration(alloc: Global, symbols: usize) -> Result<Vec<u8>, AllocErr
     Ok(text)
 }
 
-// Products of periods are compared as written, even if a period exceeds the limit on numbers.
+// The number of symbols is compared with the product of the periods as they are written, even if a period exceeds the limit on
+// numbers.
 #[test]
-fn a_long_period_is_no_shorter_one(rt: HostRuntime) -> Result<(), Fail> {
+fn a_long_period_is_taken_as_written(rt: HostRuntime) -> Result<(), Fail> {
     let alloc = rt.alloc();
     let text = long_configuration(alloc, 1_000_001)?;
     let (_, output) = run_on(alloc, &text)?;
@@ -168,7 +169,7 @@ fn thousand_rules(alloc: Global) -> Result<String, AllocError> {
 }
 
 #[test]
-fn a_thousand_commands_are_no_more_than_a_script_has(rt: HostRuntime) -> Result<(), Fail> {
+fn a_script_has_at_most_a_thousand_commands(rt: HostRuntime) -> Result<(), Fail> {
     let alloc = rt.alloc();
     let mut text = thousand_rules(alloc)?;
     let (status, _) = run_on(alloc, text.as_bytes())?;

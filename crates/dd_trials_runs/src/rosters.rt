@@ -1,4 +1,5 @@
-// Runs with rosters of engines, most of them bad: the lines are the same, and engines that are found wrong are dropped.
+// Runs with rosters of engines, most of them bad. The lines are the same over every roster, and engines that are found wrong
+// are dropped.
 use crate::engines::{Habit, Member, OF_PROGRAM, session_over};
 use crate::runs::{first_lines, run_over};
 use dd_outside::MemorySink;
@@ -85,7 +86,7 @@ fn the_lines_are_the_same_over_every_pair(rt: HostRuntime) -> Result<(), Fail> {
 
 // If an engine runs out of memory, the run ends and the engine stays. Only the lines before the first answer are written.
 #[test]
-fn an_engine_wants_memory(rt: HostRuntime) -> Result<(), Fail> {
+fn an_engine_runs_out_of_memory(rt: HostRuntime) -> Result<(), Fail> {
     let alloc = rt.alloc();
     for script in [YES, NO] {
         let ran = run_over(alloc, script.as_bytes(), &[NO_MEMORY])?;
@@ -115,10 +116,10 @@ fn engines_are_asked_for_the_boxes_themselves(rt: HostRuntime) -> Result<(), Fai
     Ok(())
 }
 
-// The script, the engine, how many bytes the sink takes, and which of its calls fails. The engine would be dropped at its first
-// or second call; the sink fails before that call is made.
+// Each row has a script, an engine, how many bytes the sink holds, and the number of its call that fails, or 0. The engine
+// would be dropped at its first or its second call, but the sink fails before this call is made.
 #[test]
-fn no_engine_is_asked_before_the_text_before_is_written(rt: HostRuntime) -> Result<(), Fail> {
+fn no_engine_is_asked_before_the_earlier_lines_are_written(rt: HostRuntime) -> Result<(), Fail> {
     let alloc = rt.alloc();
     let twice = format!(in alloc; "{YES} %contains row hard")?;
     let length = twice.len();
@@ -138,7 +139,7 @@ fn no_engine_is_asked_before_the_text_before_is_written(rt: HostRuntime) -> Resu
 
 // For other words, and for inputs that are refused, no engine is asked.
 #[test]
-fn nobody_is_asked_without_a_run(rt: HostRuntime) -> Result<(), Fail> {
+fn no_engine_is_asked_without_a_run(rt: HostRuntime) -> Result<(), Fail> {
     let alloc = rt.alloc();
     let rows = [
         ("run", "%contains row hard", Status::Refused),

@@ -21,6 +21,7 @@ pub fn words_of(alloc: Global, text: &str) -> Result<Vec<String>, AllocError> {
 /// How a run ended.
 #[derive(Drop)]
 pub struct Ran {
+    /// The status with which it ended.
     pub status: Status,
     /// What it wrote.
     pub output: Vec<u8>,
@@ -46,7 +47,7 @@ pub fn run_on(alloc: Global, bytes: &[u8]) -> Result<(Status, Vec<u8>), AllocErr
     Ok((ran.status, ran.output))
 }
 
-/// The first lines of the answers of an output.
+/// The first line of each answer in an output.
 pub fn first_lines(alloc: Global, output: Vec<u8>) -> Result<String, Fail> {
     let mut lines = String::new(alloc);
     for line in String::from_utf8(output)?.lines() {

@@ -100,7 +100,7 @@ const SESSIONS: [(Session, u64, &[usize]); 7] = [
     ),
 ];
 
-// The calls that fail, and how much a sink holds.
+// Which calls of the source and the sink fail, and how much the sink holds.
 #[derive(Clone, Copy, Debug)]
 struct Outside {
     // The number of the read that fails, from 1; 0 if none does.
@@ -167,7 +167,7 @@ fn assert_reads(rt: &impl Abort, alloc: Global, session: Session, reads: u64) ->
     assert_front(rt, alloc, session, outside, (status, capacity))
 }
 
-// If any write fails, the sink holds what was written before it.
+// If any write fails, the sink holds what was written before. `fronts` has the number of these bytes for each write.
 fn assert_writes(
     rt: &impl Abort,
     alloc: Global,

@@ -1,11 +1,11 @@
--- Limits that more than one crate keeps.
+-- Limits that more than one crate uses.
 use Rattle.std.specs.Prelude.{ℕ, ◌^◌}
 
--- the greatest number of variables of a list of clauses, and of signals of a circuit
+-- the greatest number of variables of a clause list, and the greatest number of signals of a circuit
 abbrev pub most_variables : ℕ
 most_variables = 2 ^ 24
 
--- the greatest absolute value of a number in an output, outside its refutations
+-- the greatest absolute value of a number in an output; numbers in refutations may be greater
 abbrev pub most_number : ℕ
 most_number = 2 ^ 40
 
@@ -21,11 +21,11 @@ most_commands = 1000
 abbrev pub most_weight : ℕ
 most_weight = 1000
 
--- the greatest radius of a ball, and the greatest radius and margin of a discharge
+-- the greatest radius of a ball in a formula, and the greatest radius and margin of a discharge
 abbrev pub widest_radius : ℕ
 widest_radius = 3
 
--- the greatest radius of a box, period of a torus and number of pivots that a script may have tried
+-- the highest limits that a script may set on the radius of a box, on each period of a torus and on the number of pivots
 abbrev pub greatest_radius : ℕ
 greatest_radius = 8
 

@@ -1,12 +1,12 @@
--- limits that more than one crate keeps
+-- limits that more than one crate uses
 pub mod Bounds
--- the ranges of the limits within which questions are answered
+-- the ranges of the limits on the work for one answer
 pub mod Ranges
 -- truth values of numbered variables
 pub mod Variables
--- counts of faults
+-- counts of the faults of a source or a sink
 pub mod Counts
--- what lists and boxes keep
+-- how a recursive type may contain lists and boxes
 pub mod formers
 -- lemmas on truth values, numbers and lists, for all crates
 pub mod lemmas

@@ -1,7 +1,8 @@
--- The ranges of the limits within which questions are answered.
+-- The ranges of the limits on the work for one answer.
 use Rattle.std.specs.Prelude.{◌≤◌}
 use Rattle.dd_values.specs.{declared.limits.Limits.Limits, Bounds.greatest_radius, Bounds.greatest_period, Bounds.most_pivots}
 
+-- A script may set these limits.
 pub record AreLimits (l : Limits) : Type 0 where
   pub radius : l.radius ≤ greatest_radius
   pub period : (1 ≤ l.period) × (l.period ≤ greatest_period)

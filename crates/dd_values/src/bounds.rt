@@ -1,9 +1,9 @@
-//! Limits that more than one crate keeps.
+//! Limits that more than one crate uses.
 
-/// The greatest number of variables of a list of clauses, and of signals of a circuit.
+/// The greatest number of variables of a clause list, and the greatest number of signals of a circuit.
 pub const MOST_VARIABLES: u64 = 1 << 24;
 
-/// The greatest absolute value of a number in an output, outside its refutations.
+/// The greatest absolute value of a number in an output. Numbers in refutations may be greater.
 pub const MOST_NUMBER: u64 = 1 << 40;
 
 /// The greatest length of a script, in bytes.
@@ -15,14 +15,14 @@ pub const MOST_COMMANDS: u32 = 1000;
 /// The greatest weight of a symbol.
 pub const MOST_WEIGHT: u32 = 1000;
 
-/// The greatest radius of a ball, and the greatest radius and margin of a discharge.
+/// The greatest radius of a ball in a formula, and the greatest radius and margin of a discharge.
 pub const WIDEST_RADIUS: u32 = 3;
 
-/// The greatest radius of a box that a script may have tried.
+/// The highest limit that a script may set on the radius of a box.
 pub const GREATEST_RADIUS: u32 = 8;
 
-/// The greatest period of a torus that a script may have tried.
+/// The highest limit that a script may set on each period of a torus.
 pub const GREATEST_PERIOD: u32 = 8;
 
-/// The greatest number of pivots that a script may have tried.
+/// The highest limit that a script may set on the number of pivots.
 pub const MOST_PIVOTS: u32 = 100_000;

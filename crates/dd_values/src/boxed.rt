@@ -1,10 +1,10 @@
-//! A box for public fields: a `Box` that contracts see as its value, never as an address.
+//! A `Box` for public fields: contracts see its value, and not its address.
 ghost use Rattle.std.specs.Prelude.{◌≡◌, IfOk};
 
 use std::alloc::{AllocError, Global};
 use std::marker::Model;
 
-/// A value on the heap. Two boxes with the same value are the same value to a contract.
+/// A value on the heap. Contracts don't tell apart two boxes with the same value.
 #[derive(Debug, Drop)]
 pub struct Boxed<T> {
     inner: Box<T>,
@@ -26,7 +26,7 @@ impl<T> Boxed<T> {
         &self.inner
     }
 
-    /// Moves the value off the heap. It takes no memory.
+    /// Moves the value off the heap. It allocates nothing.
     pub fn into_inner(self) -> T
         ensures { result ≡ self }
     {
@@ -34,14 +34,14 @@ impl<T> Boxed<T> {
         Box::into_inner(inner)
     }
 
-    /// Wraps a `Box`. It takes no memory.
+    /// Wraps a `Box`. It allocates nothing.
     pub fn from_box(inner: Box<T>) -> Boxed<T>
         ensures { result ≡ inner.value }
     {
         Boxed { inner }
     }
 
-    /// Gives the `Box` back. It takes no memory.
+    /// Gives the `Box` back. It allocates nothing.
     pub fn into_box(self) -> Box<T>
         ensures { result.value ≡ self }
     {
@@ -51,7 +51,7 @@ impl<T> Boxed<T> {
 }
 
 impl<T: Drop> Boxed<T> {
-    /// Puts a value on the heap.
+    /// Puts a value on the heap. `AllocError` if memory runs out.
     pub fn new(alloc: Global, value: T) -> Result<Boxed<T>, AllocError>
         ensures { IfOk result (λ boxed. boxed ≡ value) }
     {

@@ -1,4 +1,4 @@
-//! The plain data of all crates: a list and a box that contracts see as what they hold, and limits that several crates keep.
+//! Data that all crates use: a list and a heap box, which contracts see as their contents, and limits that several crates share.
 #![tactic(auto)]
 
 mod bounds;

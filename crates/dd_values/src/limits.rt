@@ -1,22 +1,23 @@
-//! How far questions are followed.
+//! The limits on the work for one answer.
 ghost use Rattle.std.specs.Prelude.{◌↔◌, IsTrue};
 ghost use Rattle.dd_values.specs.Ranges.{AreLimits};
 
 use crate::bounds::{GREATEST_PERIOD, GREATEST_RADIUS, MOST_PIVOTS};
 
-/// The limits within which questions are answered.
+/// The limits on the work for one answer. Beyond them the answer is UNKNOWN.
 #[derive(Clone, Copy, Debug, PartialEq, Eq)]
 pub struct Limits {
-    /// The greatest radius of a box.
+    /// The greatest radius of a box round the origin. The least box that holds all cells that the goal reads is tried
+    /// even if its radius is greater.
     pub radius: u32,
-    /// The greatest period of a torus.
+    /// The greatest period of a torus along each axis.
     pub period: u32,
-    /// The greatest number of pivots.
+    /// The greatest number of simplex pivots for the linear program of a discharging bound.
     pub pivots: u32,
 }
 
 impl Limits {
-    /// Whether the limits are in range: a script may have so much tried.
+    /// Whether a script may set these limits.
     pub fn are_in_range(&self) -> bool
         ensures { IsTrue result ↔ AreLimits self.now }
     {

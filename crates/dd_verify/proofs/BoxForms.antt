@@ -48,7 +48,7 @@ module _ (l : Limits) (x : LocalRule) (g : GoalOf) (limits : AreLimits l) (rule 
   pub yes_fits : (n : ℕ) (steps : List Step) → KeepsRule g → IsGoalFor x g → IsYes l x g n steps → IsWritableRefutation steps → IsWritable (answer.Yes n steps)
   yes_fits n steps kept ok told fit = (radius_writable l x g n steps limits rule kept ok told, fit)
 
--- this holds for either side
+-- an output can hold a NO to a single box question
 pub no_fits : {l : Limits} {x : LocalRule} {g : GoalOf} {along : List ℕ} {shear : ℕ} {symbols : List ℕ} → AreLimits l → IsRule x → IsNo l x g along shear symbols →
     IsWritable (answer.No side.Whole along shear symbols)
 no_fits {l = l} {x = x} {g = g} {along = along} {shear = shear} {symbols = symbols} limits rule told = no_writable l x g along shear symbols limits rule told side.Whole

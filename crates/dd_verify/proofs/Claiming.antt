@@ -6,7 +6,7 @@ use Rattle.dd_values.specs.declared.limits.Limits.{Limits}
 use Rattle.dd_boxes.specs.{Goals.GoalOf, Goals.breaks, Goals.IsGoalFor, Boxes.Suffices, Boxes.HoldsNowhere}
 use Rattle.dd_boxes.specs.lemmas.FromBox.{from_least, holds_nowhere}
 use Rattle.dd_pattern.specs.Tile.{Tile}
-use Rattle.dd_problem.specs.{Problems.box_problem, pushing.Told.IsToldGoal, lemmas.BoxShows.box_shows, lemmas.BoxShows.shown_decides}
+use Rattle.dd_problem.specs.{Problems.box_problem, pushing.GoalFacts.HasGoalFacts, lemmas.BoxShows.box_shows, lemmas.BoxShows.shown_decides}
 use Rattle.dd_certificate.specs.declared.answer.Answer.{Answer}
 use Rattle.dd_evidence.specs.Answers.{IsMemberCertificate, member_inside, member_outside}
 use Rattle.dd_verify.specs.Evidence.{IsBoxCertificate, box_yes, box_no, box_unknown, IsEqualCertificate, equal_yes, left_no, right_no, equal_unknown, IsYes}
@@ -14,7 +14,7 @@ use Rattle.dd_verify.specs.Holding.{MemberClaim, says_inside, says_outside, BoxC
 
 -- If the steps refute the clauses of a box, no admissible filling of the box has the goal at the origin. So the goal holds
 -- nowhere.
-pub yes_claims : (l : Limits) (x : LocalRule) (g : GoalOf) (n : ℕ) (steps : List Step) → IsRule x → IsGoalFor x g → IsToldGoal x g → IsYes l x g n steps →
+pub yes_claims : (l : Limits) (x : LocalRule) (g : GoalOf) (n : ℕ) (steps : List Step) → IsRule x → IsGoalFor x g → HasGoalFacts x g → IsYes l x g n steps →
     HoldsNowhere x g n
 yes_claims l x g n steps rule ok gates told =
     let p = box_problem x g n in
@@ -27,7 +27,7 @@ pub member_claims : (x : LocalRule) (t : Tile) (a : Answer) → IsMemberCertific
 member_claims x t a (member_inside h) = says_inside h
 member_claims x t a (member_outside h) = says_outside (h.0, h.2, h.1.here)
 
-pub box_claims : (l : Limits) (x : LocalRule) (g : GoalOf) (a : Answer) → IsRule x → IsGoalFor x g → IsToldGoal x g → IsBoxCertificate l x g a → BoxClaim x g a
+pub box_claims : (l : Limits) (x : LocalRule) (g : GoalOf) (a : Answer) → IsRule x → IsGoalFor x g → HasGoalFacts x g → IsBoxCertificate l x g a → BoxClaim x g a
 box_claims l x g a rule ok gates (box_yes {n = n} {steps = steps} h) = says_nowhere (yes_claims l x g n steps rule ok gates h)
 box_claims l x g a rule ok gates (box_no h) = says_witness h.witness
 box_claims l x g a rule ok gates box_unknown = says_nothing

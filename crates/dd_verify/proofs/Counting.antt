@@ -1,4 +1,4 @@
--- The clauses are few for every radius up to the largest that may be asked for.
+-- A box question takes few enough clauses for every radius up to the largest that may be asked for.
 use Rattle.std.proofs.Common.{ℕ, ◌<◌, ◌≤◌, List, arith}
 use Rattle.std.specs.Prelude.{max}
 use Rattle.dd_lattice.specs.Boxes.{centred, volume}

@@ -1,4 +1,4 @@
--- From what the calls say of the parts to certificates of the whole.
+-- Tests that are false, and the statements that they decide.
 use Rattle.std.proofs.{Common.◌≡◌, Common.true, Common.false, lemmas.Bool.false≢true}
 use Rattle.std.specs.Prelude.{◌↔◌}
 

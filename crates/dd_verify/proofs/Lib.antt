@@ -1,6 +1,7 @@
 pub mod Periodics
 pub mod Differing
 pub mod Claiming
+pub mod Facts
 pub mod Writable
 pub mod Deciding
 pub mod Counting

@@ -6,7 +6,7 @@ use Rattle.dd_derivation.specs.declared.step.Step.{Step}
 use Rattle.dd_formula.specs.LocalRule.{LocalRule}
 use Rattle.dd_values.specs.{declared.limits.Limits.Limits, Ranges.AreLimits}
 use Rattle.dd_boxes.specs.Goals.{GoalOf}
-use Rattle.dd_problem.specs.pushing.Told.{IsToldGoal}
+use Rattle.dd_problem.specs.pushing.GoalFacts.{HasGoalFacts}
 use Rattle.dd_certificate.specs.declared.answer.{Reason.Reason, Answer.Answer}
 use Rattle.dd_certificate.specs.Bounds.{IsWritable, IsWritableNumber, IsWritableRefutation}
 use Rattle.dd_question.specs.{Boxes.IsSoundBox, Conjugacies.ConjugacyOf, Conjugacies.parts, Conjugacies.IsPart, Conjugacies.EachPart}
@@ -50,7 +50,7 @@ module _ (l : Limits) (c : ConjugacyOf) (limits : AreLimits l) (sound : EachPart
   pub broken_fits : IsNo l x g along shear symbols → IsWritable (answer.Broken k along shear symbols)
   broken_fits no_of = ((is.0, part_within c k x g is), no_writable l x g along shear symbols limits (of_part (IsSoundBox l) c k x g sound is).0 no_of side.Whole)
 
-  -- the question with the index k is o
+  -- the answer is a NO to the question with the index k
   pub no_taken : BrokenAt l c k along shear symbols → IsNo l x g along shear symbols
   no_taken told =
       let same : (told.0, told.1) ≡ (x, g) = cc (told.2.1, is.1) in
@@ -146,7 +146,7 @@ no_conjugacy l c a yes_form no_form open_form conjugacy_unknown = open_form _ re
 
 -- ---- what they claim
 
-pub conjugacy_claims : (l : Limits) (c : ConjugacyOf) (a : Answer) → EachPart (IsSoundBox l) c → EachPart IsToldGoal c → IsConjugacyCertificate l c a → ConjugacyClaim c a
+pub conjugacy_claims : (l : Limits) (c : ConjugacyOf) (a : Answer) → EachPart (IsSoundBox l) c → EachPart HasGoalFacts c → IsConjugacyCertificate l c a → ConjugacyClaim c a
 conjugacy_claims l c a sound gates (conjugate {n1 = n1} {n2 = n2} {n3 = n3} {n4 = n4} {s1 = s1} {s2 = s2} {s3 = s3} {s4 = s4} one two three last) =
     says_conjugate
     (yes_claims l c.from c.image n1 s1 sound.image.0 sound.image.1.goal gates.image one)

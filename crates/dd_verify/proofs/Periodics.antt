@@ -1,4 +1,4 @@
--- What the symbols of a fundamental box say of the rule at the origin.
+-- What the symbols of a fundamental box say of the truth of the rule at the origin.
 use Rattle.std.proofs.Common.{◌≡◌, ℕ, ◌<◌, Bool, ap, sym, subst, ◌∙◌, Some, None}
 use Rattle.std.specs.Prelude.{Option, cond}
 use Rattle.dd_lattice.specs.Cells.{cell}

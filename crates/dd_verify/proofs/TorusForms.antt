@@ -1,5 +1,5 @@
--- Answers to the question how little a fundamental box can weigh: their configurations, the size of their clauses, that an
--- output can hold them, and what they claim.
+-- Answers about the least weight on a torus: their configurations, the size of their clauses, that an output can hold them, and
+-- what they claim.
 use Rattle.std.proofs.Common.{◌≡◌, ◌≢◌, ℕ, suc, ◌*◌, ◌<◌, ◌≤◌, Bool, true, List, [], ◌∷◌, length, inl, inr, refl, ap, sym, subst, ◌∙◌, arith}
 use Rattle.std.proofs.lemmas.Nat.{mul-le}
 use Rattle.std.specs.{Prelude.◌↔◌, List.All}

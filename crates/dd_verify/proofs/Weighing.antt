@@ -5,7 +5,7 @@ use Rattle.std.specs.Prelude.{◌↔◌, Result, IfOk}
 use Rattle.dd_lattice.specs.Place.{Place}
 use Rattle.dd_expansion.specs.Limits.{greatest}
 use Rattle.dd_formula.specs.LocalRule.{LocalRule, IsRule}
-use Rattle.dd_counts.specs.Rules.{window}
+use Rattle.dd_counts.specs.Rules.{state_length}
 use Rattle.dd_strip.specs.Strips.{IsStrip, strip_for}
 use Rattle.dd_transfer.specs.Certificates.{IsDensityCertificate, IsEmptyCertificate}
 use Rattle.dd_strips.specs.Claims.{StripLeast, StripEmpty, spread_of}
@@ -55,7 +55,7 @@ AreLeast = (r : LocalRule) (periods ws : List ℕ) (p q : ℕ) (walk : List ℕ)
 
 abbrev AreEmpty : Type 0
 AreEmpty = (r : LocalRule) (periods ranks : List ℕ) → IsRule r → IsStrip r periods → IsEmptyCertificate r (strip_for r periods) ranks →
-    StripEmpty r (strip_for r periods) (greatest ranks + window r)
+    StripEmpty r (strip_for r periods) (greatest ranks + state_length r)
 
 module _ (least : AreLeast) (empty : AreEmpty) (x : LocalRule) (strip ws : List ℕ) (rule : IsRule x) (narrow : IsStrip x strip) where
   pub strip_claims : (a : Answer) → IsStripCertificate x strip ws a → StripClaim x strip ws a

@@ -8,7 +8,7 @@ use Rattle.dd_formula.specs.{LocalRule.LocalRule, LocalRule.IsRule, Living.Fits}
 use Rattle.dd_values.specs.{declared.limits.Limits.Limits, Ranges.AreLimits}
 use Rattle.dd_boxes.specs.{Goals.GoalOf, Goals.IsGoalFor, Goals.KeepsRule, lemmas.ReachLaws.least_near}
 use Rattle.dd_certificate.specs.declared.answer.{Side.Side, Answer.Answer}
-use Rattle.dd_certificate.specs.Bounds.{IsWritable, IsWritableNumber, HasShear}
+use Rattle.dd_certificate.specs.Bounds.{IsWritable, IsWritableNumber, IsShearFor}
 use Rattle.dd_evidence.specs.{Cells.IsOutside, Tiles.given_periods}
 use Rattle.dd_evidence.specs.Answers.{IsMemberCertificate, member_inside, member_outside}
 use Rattle.dd_verify.specs.Evidence.{IsYes, IsNo}
@@ -41,7 +41,7 @@ module _ (l : Limits) (x : LocalRule) (g : GoalOf) (along : List ℕ) (shear : �
   period_writable (suc (suc zero)) h = let le = told.periods.z_most in let most = limits.period.1 in omega (arith, le, most)
   period_writable (suc (suc (suc i))) h = let many = told.as_many in let most = rule.dimension.1 in absurd (omega (arith, many, most, h))
 
-  has_shear : HasShear along shear
+  has_shear : IsShearFor along shear
   has_shear = elim (cases_lt x.dimension 2) [
     | inl low ↦ inl (told.periods.periods.shear_unused low)
     | inr high ↦ inr (let many = told.as_many in omega (arith, many, high))

@@ -5,7 +5,7 @@ use Rattle.dd_pattern.specs.Reading.{Look}
 use Rattle.dd_expansion.specs.{Limits.greatest, Placed.is_flat}
 use Rattle.dd_formula.specs.{LocalRule.LocalRule, Living.Obeys}
 use Rattle.dd_boxes.specs.Fillings.{IsConfiguration}
-use Rattle.dd_counts.specs.Rules.{window}
+use Rattle.dd_counts.specs.Rules.{state_length}
 use Rattle.dd_strip.specs.Strips.{strip_for}
 use Rattle.dd_transfer.specs.Certificates.{IsInLowestTerms, walk_weight, IsDensityCertificate, IsEmptyCertificate}
 use Rattle.dd_strips.specs.Claims.{StripLeast, StripEmpty, spread_of}
@@ -16,17 +16,15 @@ use Rattle.dd_certificate.specs.declared.answer.{Reason.Reason, Answer.Answer}
 use Rattle.dd_certificate.specs.declared.answer.Reason.TheVariants as reason
 use Rattle.dd_certificate.specs.declared.answer.Answer.TheVariants as answer
 
--- ---- least densities: a closed walk through the strip's transfer graph, with potentials that show that no walk is lighter; or
--- ranks that show that there is no closed walk
-
--- a certificate of the least density, or of there being no configuration
+-- Least densities. A certificate is a closed walk through the strip's transfer graph, with potentials that show that no closed walk
+-- has a smaller mean. Or it is ranks that show that there is no closed walk, and so no configuration.
 pub data IsStripCertificate (x : LocalRule) (strip ws : List ℕ) : Answer → Type 0 where
   strip_least : {p q : ℕ} {cycle : List ℕ} {potentials : List ℤ} → IsDensityCertificate x (strip_for x strip) ws p q cycle potentials →
       IsStripCertificate x strip ws (answer.Density p q cycle potentials)
   strip_empty : {ranks : List ℕ} → IsEmptyCertificate x (strip_for x strip) ranks → IsStripCertificate x strip ws (answer.Empty ranks)
 
--- p / q is the least density of all configurations on the strip. Each strip of finite length weighs at least its number of
--- slices times m / l, the cycle's mean, less the spread of the potentials.
+-- p / q is the least density of all configurations on the strip. In an admissible filling of finite length, the slices after the
+-- first state weigh at least their number times m / l, the cycle's mean, less the spread of the potentials.
 pub record IsLeastOnStrip (x : LocalRule) (strip ws : List ℕ) (p q : ℕ) (cycle : List ℕ) (potentials : List ℤ) : Type 0 where
   pub m : ℕ
   pub l : ℕ
@@ -36,11 +34,10 @@ pub record IsLeastOnStrip (x : LocalRule) (strip ws : List ℕ) (p q : ℕ) (cyc
 -- what an answer about the least density claims
 pub data StripClaim (x : LocalRule) (strip ws : List ℕ) : Answer → Type 0 where
   claims_least : {p q : ℕ} {cycle : List ℕ} {potentials : List ℤ} → IsLeastOnStrip x strip ws p q cycle potentials → StripClaim x strip ws (answer.Density p q cycle potentials)
-  claims_empty : {ranks : List ℕ} → StripEmpty x (strip_for x strip) (greatest ranks + window x) → StripClaim x strip ws (answer.Empty ranks)
+  claims_empty : {ranks : List ℕ} → StripEmpty x (strip_for x strip) (greatest ranks + state_length x) → StripClaim x strip ws (answer.Empty ranks)
 
--- ---- discharging: amounts that hold the bound, with duals that show that no amounts hold more
-
--- a certificate of the bound, or a reason why none is given
+-- Discharging. A certificate is amounts with which each position holds at least the bound, with duals that show that no amounts
+-- do better. Or it is a reason why no bound is given.
 pub data IsDischargeCertificate (x : LocalRule) (radius margin : ℕ) (vs : List Place) (ws : List ℕ) : Answer → Type 0 where
   best : {p q n : ℕ} {amounts duals : List ℕ} → IsBoundCertificate x ws radius margin vs (bound_claimed p q n amounts duals) →
       IsDischargeCertificate x radius margin vs ws (answer.Bound p q n amounts duals)
@@ -48,9 +45,9 @@ pub data IsDischargeCertificate (x : LocalRule) (radius margin : ℕ) (vs : List
   overflow : IsDischargeCertificate x radius margin vs ws (answer.Unknown reason.Overflow)
   no_pivots : IsDischargeCertificate x radius margin vs ws (answer.Unknown reason.Pivots)
 
--- What a bound p / q says. No amounts that meet the program's rows hold more. Move Side(n) to any position of Z^d: each
--- admissible filling of the positions within reach weighs on it at least p / q for each of its n^d positions, less what these
--- may receive from outside. So does each configuration that obeys the rule.
+-- What a bound p / q says. No amounts that meet the program's rows hold more. Move Side(n) to any position of Z^d, and take an
+-- admissible filling of the positions within reach of it. On the moved box it weighs at least n^d times p / q, less what the
+-- box may receive from outside. So does each configuration that obeys the rule.
 pub record IsBestBound (x : LocalRule) (ws : List ℕ) (radius margin : ℕ) (vs : List Place) (b : Bound) : Type 0 where
   pub best : BestOf x ws radius margin vs b.numerator b.denominator
   pub sides : HoldsOnSides x ws radius margin vs b

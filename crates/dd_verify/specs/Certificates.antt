@@ -9,7 +9,7 @@ use Rattle.dd_verify.specs.Holding.{MemberClaim, BoxClaim, EqualClaim, Conjugacy
 use Rattle.dd_verify.specs.Tori.{IsTorusCertificate, TorusClaim}
 use Rattle.dd_verify.specs.Bounds.{IsStripCertificate, StripClaim, IsDischargeCertificate, DischargeClaim}
 
--- the answer is a certificate of what is asked, within these limits
+-- the answer is a certificate for the question, within these limits
 abbrev pub IsCertificateOf : Limits → Asked → Answer → Type 0
 IsCertificateOf l (asked.membership x t) a = IsMemberCertificate x t a
 IsCertificateOf l (asked.box x g) a = IsBoxCertificate l x g a

@@ -1,4 +1,4 @@
--- Which answers are certificates of a box question, or of a question made up of several.
+-- Which answers are certificates for a box question, or for a question that is several box questions.
 use Rattle.std.specs.Prelude.{ℕ, ◌≡◌, ◌≤◌, max, List, [], ◌∷◌, length}
 use Rattle.dd_pattern.specs.Periods.{AreWithin}
 use Rattle.dd_formula.specs.LocalRule.{LocalRule}
@@ -14,7 +14,7 @@ use Rattle.dd_certificate.specs.declared.answer.Reason.TheVariants as reason
 use Rattle.dd_certificate.specs.declared.answer.Answer.TheVariants as answer
 
 -- n is at least the goal's least radius, and at most the greater of that and the limit. The steps refute the clauses that ask
--- for an admissible filling of B(n) with the goal at the origin.
+-- for an admissible filling of the box B(n) with the goal at the origin.
 pub record IsYes (l : Limits) (x : LocalRule) (g : GoalOf) (n : ℕ) (steps : List Step) : Type 0 where
   pub least : ℕ
   pub is_least : IsLeastRadius g least
@@ -29,22 +29,21 @@ pub record IsNo (l : Limits) (x : LocalRule) (g : GoalOf) (along : List ℕ) (sh
   pub periods : AreWithin x.dimension l.period (given_periods along shear)
   pub witness : IsWitness x g (given_tile x along shear symbols)
 
--- YES with its steps, NO with its configuration, or UNKNOWN if the limits were met
+-- YES with a radius and steps, NO with a configuration, or UNKNOWN with the limits as the reason
 pub data IsBoxCertificate (l : Limits) (x : LocalRule) (g : GoalOf) : Answer → Type 0 where
   box_yes : {n : ℕ} {steps : List Step} → IsYes l x g n steps → IsBoxCertificate l x g (answer.Yes n steps)
   box_no : {along : List ℕ} {shear : ℕ} {symbols : List ℕ} → IsNo l x g along shear symbols → IsBoxCertificate l x g (answer.No side.Whole along shear symbols)
   box_unknown : IsBoxCertificate l x g (answer.Unknown reason.Limits)
 
--- ---- equality: the left question asks for a configuration of x that breaks y, the right one for one of y that breaks x
-
+-- For equality, the left box question is whether no configuration of x breaks y, and the right one whether none of y breaks x. YES
+-- is a YES to both, and NO is a NO on the side that it names.
 pub data IsEqualCertificate (l : Limits) (x y : LocalRule) : Answer → Type 0 where
   equal_yes : {n m : ℕ} {steps others : List Step} → IsYes l x (breaks y) n steps → IsYes l y (breaks x) m others → IsEqualCertificate l x y (answer.YesBoth n m steps others)
   left_no : {along : List ℕ} {shear : ℕ} {symbols : List ℕ} → IsNo l x (breaks y) along shear symbols → IsEqualCertificate l x y (answer.No side.Left along shear symbols)
   right_no : {along : List ℕ} {shear : ℕ} {symbols : List ℕ} → IsNo l y (breaks x) along shear symbols → IsEqualCertificate l x y (answer.No side.Right along shear symbols)
   equal_unknown : IsEqualCertificate l x y (answer.Unknown reason.Limits)
 
--- ---- conjugacies: YES to each of the four questions, with its steps; or NO to one of them
-
+-- for a conjugacy: YES to each of the four box questions, NO to the one that the answer names, or UNKNOWN
 pub data IsConjugacyCertificate (l : Limits) (c : ConjugacyOf) : Answer → Type 0 where
   conjugate : {n1 n2 n3 n4 : ℕ} {s1 s2 s3 s4 : List Step} → IsYes l c.from c.image n1 s1 → IsYes l c.to c.image_back n2 s2 → IsYes l c.from c.round n3 s3 →
       IsYes l c.to c.round_back n4 s4 → IsConjugacyCertificate l c (answer.Conjugate (n1 ∷ n2 ∷ n3 ∷ n4 ∷ []) (s1 ∷ s2 ∷ s3 ∷ s4 ∷ []))

@@ -1,4 +1,4 @@
--- Which answers to the question how little a fundamental box can weigh are certificates, and what they claim.
+-- Which answers about the least weight on a torus are certificates, and what they claim. `along` lists the periods.
 use Rattle.std.specs.Prelude.{ℕ, ◌≡◌, ◌<◌, List}
 use Rattle.dd_pattern.specs.{Periods.periods_of, Tile.Tile, Tile.tile, Weight.total_weight}
 use Rattle.dd_formula.specs.LocalRule.{LocalRule}
@@ -12,16 +12,17 @@ use Rattle.dd_certificate.specs.declared.answer.Answer.TheVariants as answer
 abbrev pub torus_tile : LocalRule → List ℕ → List ℕ → Tile
 torus_tile x along symbols = tile x.dimension (periods_of along 0) x.nodes symbols
 
--- it lives in the rule's subshift, and its fundamental box weighs w
+-- this configuration lives in the rule's subshift, and its fundamental box weighs w
 pub record HasWeight (x : LocalRule) (along ws : List ℕ) (w : ℕ) (symbols : List ℕ) : Type 0 where
   pub lives : IsWitness x always (torus_tile x along symbols)
   pub weighs : total_weight ws symbols ≡ w
 
--- the steps refute the clauses that ask for a living configuration of less weight; with the weight 0 there is nothing to refute
+-- The steps refute the clauses that ask for a configuration in the rule's subshift that weighs less than w. For w = 0 there is
+-- nothing to refute.
 abbrev pub IsBoundedBy : LocalRule → List ℕ → List ℕ → ℕ → List Step → Type 0
 IsBoundedBy x along ws w steps = 0 < w → IsRefuting (weight_problem x (periods_of along 0) ws w) steps
 
--- a configuration of the least weight, with steps that refute all smaller weights; or steps that refute that one lives
+-- a configuration in the rule's subshift, with steps that refute that any weighs less; or steps that refute that there is one
 pub data IsTorusCertificate (x : LocalRule) (along ws : List ℕ) : Answer → Type 0 where
   torus_least : {w : ℕ} {symbols : List ℕ} {steps : List Step} → HasWeight x along ws w symbols → IsBoundedBy x along ws w steps →
       IsTorusCertificate x along ws (answer.Least w symbols steps)

@@ -1,4 +1,4 @@
-//! Answers to questions.
+//! The check of an answer to any question.
 ghost use Rattle.std.specs.Prelude.{◌↔◌, IsTrue, IfOk};
 ghost use Rattle.dd_certificate.specs.Bounds.{IsWritable};
 ghost use Rattle.dd_verify.specs.Certificates.{IsCertificateOf};
@@ -15,7 +15,10 @@ use dd_certificate::Answer;
 use dd_question::{CheckedQuestion, Question};
 use std::alloc::{AllocError, Global};
 
-/// Whether an answer is a certificate of what is asked within the question's limits, and an output can hold it.
+/// Whether the answer is a certificate for the question within its limits, and an output can hold the answer.
+///
+/// # Errors
+/// `AllocError` if memory ran out.
 pub fn check_question(
     alloc: Global,
     question: &CheckedQuestion,

@@ -1,4 +1,5 @@
-//! Answers to box questions.
+//! The check of answers to box questions and to equality questions. An equality question asks whether two rules allow the same
+//! configurations; it is two box questions.
 ghost use Rattle.std.specs.Prelude.{◌≡◌, ◌↔◌, IsTrue, IfOk};
 ghost use Rattle.dd_boxes.specs.Goals.{breaks};
 ghost use Rattle.dd_boxes.specs.Views.{goal_of};
@@ -17,19 +18,21 @@ use dd_formula::Rule;
 use dd_values::Limits;
 use std::alloc::{AllocError, Global};
 
+/// Whether the reason is that the limits were reached.
 pub(crate) fn is_limits(reason: Reason) -> bool
     ensures { IsTrue result ↔ (reason ≡ Reason.Limits) }
 {
     matches!(reason, Reason::Limits)
 }
 
+/// Whether the side is that of an answer to a single box question.
 fn is_whole(side: Side) -> bool
     ensures { IsTrue result ↔ (side ≡ Side.Whole) }
 {
     matches!(side, Side::Whole)
 }
 
-/// Whether an answer is a certificate of a box question, and an output can hold it.
+/// Whether the answer is a certificate for the box question, and an output can hold it.
 #[tactic(auto, using(crate::specs::Evidence::box_unknown))]
 pub(crate) fn check_box(
     alloc: Global,
@@ -42,7 +45,7 @@ pub(crate) fn check_box(
     requires askable { IsAskable limits.now premise.now (goal_of premise.now goal.now) }
     ensures { IfOk result (λ accepted. IsTrue accepted ↔ (IsWritable answer.now × IsBoxCertificate limits.now premise.now (goal_of premise.now goal.now) answer.now)) }
 {
-    // This read brings in what the type guarantees.
+    // This call tells the proof what the type guarantees.
     let _symbols = premise.symbols();
     match answer {
         Answer::Yes { radius, steps } => {
@@ -72,7 +75,7 @@ pub(crate) fn check_box(
     }
 }
 
-/// Whether the configuration shows the goal of the question on this side.
+/// Whether the configuration is a NO on this side: on the left it obeys `left` and breaks `right`, and on the right the reverse.
 fn check_side(
     alloc: Global,
     left: &Rule,
@@ -89,7 +92,7 @@ fn check_side(
     ensures { IfOk result (λ accepted. IsTrue accepted ↔
         (IsWritable (answer.No side periods.now shear symbols.now) × IsEqualCertificate limits.now left.now right.now (answer.No side periods.now shear symbols.now))) }
 {
-    // Read for what their types keep.
+    // These calls tell the proof what the types guarantee.
     let _left = left.symbols();
     let _right = right.symbols();
     match side {
@@ -105,7 +108,7 @@ fn check_side(
     }
 }
 
-/// Whether both radii are within the limits, and the steps refute the clauses of their boxes.
+/// Whether the radii and the steps are a YES to both box questions.
 #[tactic(auto, using(crate::specs::Evidence::equal_yes, crate::proofs::BoxForms::both_fit, crate::proofs::BoxForms::both_of))]
 fn check_both(
     alloc: Global,
@@ -123,7 +126,7 @@ fn check_both(
     ensures { IfOk result (λ accepted. IsTrue accepted ↔ (IsWritable (answer.YesBoth left_radius right_radius left_steps.now right_steps.now)
         × IsEqualCertificate limits.now left.now right.now (answer.YesBoth left_radius right_radius left_steps.now right_steps.now))) }
 {
-    // Read for what their types keep.
+    // These calls tell the proof what the types guarantee.
     let _left = left.symbols();
     let _right = right.symbols();
     let goal = Goal::Breaks(right);
@@ -134,7 +137,7 @@ fn check_both(
     check_yes(alloc, right, &goal, limits, right_radius, right_steps)
 }
 
-/// Whether an answer is a certificate of whether two rules allow the same configurations, and an output can hold it.
+/// Whether the answer is a certificate for the equality question about two rules, and an output can hold it.
 #[tactic(auto, using(crate::specs::Evidence::equal_unknown))]
 pub(crate) fn check_equal(
     alloc: Global,
@@ -148,7 +151,7 @@ pub(crate) fn check_equal(
     requires right { IsAskable limits.now right.now (breaks left.now) }
     ensures { IfOk result (λ accepted. IsTrue accepted ↔ (IsWritable answer.now × IsEqualCertificate limits.now left.now right.now answer.now)) }
 {
-    // Read for what their types keep.
+    // These calls tell the proof what the types guarantee.
     let _left = left.symbols();
     let _right = right.symbols();
     match answer {

@@ -1,4 +1,4 @@
-//! What periodic configurations show.
+//! Tests of periodic configurations: whether one lives in a subshift, and whether a goal holds at its origin.
 ghost use Rattle.std.specs.Prelude.{◌≡◌, ◌<◌, ◌↔◌, not, IsTrue, IfOk};
 ghost use Rattle.dd_lattice.specs.Cells.{cell};
 ghost use Rattle.dd_pattern.specs.Tile.{tile_look};
@@ -15,23 +15,10 @@ use dd_boxes::Goal;
 use dd_formula::{Membership, Rule};
 use dd_lattice::{Cell, Position};
 use dd_pattern::Periodic;
+use dd_question::has_allowed;
 use std::alloc::{AllocError, Global};
 
-/// Whether each symbol of the fundamental box is allowed at its node.
-fn has_allowed(rule: &Rule, periodic: &Periodic) -> bool
-    requires { Fits rule.now periodic.now }
-    ensures { IsTrue result ↔ HasAllowed rule.now periodic.now }
-{
-    let symbols = periodic.symbols();
-    for number in 0..symbols.len() {
-        let cell = periodic.cell_at(number);
-        if !rule.allows(cell.node, symbols[number]) {
-            return false;
-        }
-    }
-    true
-}
-
+/// Whether the configuration lives in the rule's subshift.
 pub(crate) fn lives(rule: &Rule, periodic: &Periodic) -> bool
     requires { Fits rule.now periodic.now }
     ensures { IsTrue result ↔ Lives rule.now periodic.now }
@@ -39,14 +26,14 @@ pub(crate) fn lives(rule: &Rule, periodic: &Periodic) -> bool
     match rule.member(periodic) {
         Membership::Inside => true,
         Membership::Outside(_) => {
-            // This read brings in what the type guarantees.
+            // This call tells the proof what the type guarantees.
             let _symbols = periodic.symbols();
             false
         }
     }
 }
 
-/// Whether the configuration has only allowed symbols and lives in the rule's subshift.
+/// Whether the configuration's symbols are allowed, and it lives in the rule's subshift.
 fn inhabits(rule: &Rule, periodic: &Periodic) -> bool
     requires { Fits rule.now periodic.now }
     ensures { IsTrue result ↔ (HasAllowed rule.now periodic.now × Lives rule.now periodic.now) }
@@ -63,7 +50,7 @@ fn is_broken_at(rule: &Rule, node: u32, periodic: &Periodic) -> bool
     requires fits { Fits rule.now periodic.now }
     ensures { result ≡ not (is_true rule.now (cell origin node) (tile_look periodic.now)) }
 {
-    // This read brings in what the type guarantees.
+    // This call tells the proof what the type guarantees.
     let _symbols = periodic.symbols();
     let position = Position { x: 0, y: 0, z: 0 };
     match rule.truth(&Cell { position, node }, periodic) {
@@ -85,14 +72,14 @@ fn is_broken(rule: &Rule, periodic: &Periodic) -> bool
     false
 }
 
-/// Whether the configuration shows that a rule doesn't follow from the premise: its symbols are allowed, it lives in the
-/// premise's subshift, and some node of the origin breaks `goal`. It takes no memory.
+/// Whether the configuration is a witness that `goal` doesn't follow from the premise: its symbols are allowed, it lives in the
+/// premise's subshift, and `goal` is false at some node of the origin. It takes no memory.
 pub fn check_periodic(premise: &Rule, goal: &Rule, periodic: &Periodic) -> bool
     requires fits { Fits premise.now periodic.now }
     requires alike { AreAlike premise.now goal.now }
     ensures { IsTrue result ↔ IsWitness premise.now (breaks goal.now) periodic.now }
 {
-    // This read brings in what the type guarantees.
+    // This call tells the proof what the type guarantees.
     let _symbols = periodic.symbols();
     if !inhabits(premise, periodic) {
         return false;
@@ -100,7 +87,8 @@ pub fn check_periodic(premise: &Rule, goal: &Rule, periodic: &Periodic) -> bool
     is_broken(goal, periodic)
 }
 
-/// Whether the configuration shows any kind of goal. The values of automata take memory.
+/// Whether the configuration is a witness of the goal: its symbols are allowed, it lives in the premise's subshift, and it has
+/// the goal at the origin.
 pub(crate) fn shows(
     alloc: Global,
     premise: &Rule,
@@ -111,7 +99,7 @@ pub(crate) fn shows(
     requires goal { IsGoalFor premise.now (goal_of premise.now goal.now) }
     ensures { IfOk result (λ shown. IsTrue shown ↔ IsWitness premise.now (goal_of premise.now goal.now) periodic.now) }
 {
-    // This read brings in what the type guarantees.
+    // This call tells the proof what the type guarantees.
     let _symbols = periodic.symbols();
     match goal {
         Goal::Breaks(rule) => Ok(check_periodic(premise, rule, periodic)),

@@ -1,4 +1,5 @@
-//! Answers to whether two maps are inverse to each other, which is four box questions.
+//! The check of answers to conjugacy questions. Such a question asks whether two maps are inverse to each other; it is four box
+//! questions.
 ghost use Rattle.std.specs.Prelude.{[], ◌<◌, ◌↔◌, length, slice_index_or, IsTrue, IfOk};
 ghost use Rattle.dd_boxes.specs.Views.{goal_of};
 ghost use Rattle.dd_certificate.specs.declared.answer.Answer.TheVariants as answer;
@@ -22,7 +23,7 @@ use std::alloc::{AllocError, Global};
 /// How many box questions make up a conjugacy.
 const PARTS: usize = 4;
 
-/// Whether the radius and the steps with this index are a YES to the question.
+/// Whether the radius and the steps at the index `number`, counted from 0, are a YES to the box question.
 fn check_at(
     alloc: Global,
     premise: &Rule,
@@ -43,7 +44,7 @@ fn check_at(
     check_yes(alloc, premise, goal, limits, radii[number], refutation)
 }
 
-/// Whether each of the four questions is answered YES.
+/// Whether the radii and the steps are a YES to each of the four box questions.
 fn check_each(
     alloc: Global,
     c: &Conjugacy,
@@ -71,7 +72,7 @@ fn check_each(
     check_at(alloc, c.to, &c.round_back, limits, radii, steps, 3)
 }
 
-/// Whether the configuration is a NO to the question with this index.
+/// Whether the configuration is a NO to the box question with this number, 1 to 4.
 fn check_part(
     alloc: Global,
     c: &Conjugacy,
@@ -92,7 +93,7 @@ fn check_part(
     }
 }
 
-/// Whether an answer is a certificate of whether two maps are inverse to each other, and an output can hold it.
+/// Whether the answer is a certificate for the conjugacy question, and an output can hold it.
 #[tactic(auto, using(crate::specs::Evidence::conjugacy_unknown))]
 pub(crate) fn check_conjugacy(
     alloc: Global,

@@ -1,4 +1,4 @@
-//! Answers to questions about the least density of a strip.
+//! The check of the least density of a strip.
 ghost use Rattle.std.specs.Prelude.{◌↔◌, IsTrue, IfOk};
 ghost use Rattle.dd_strip.specs.Strips.{strip_for};
 ghost use Rattle.dd_transfer.specs.Certificates.{IsDensityCertificate, IsEmptyCertificate};
@@ -80,7 +80,7 @@ fn is_empty(
     check_empty(alloc, rule, strip, ranks)
 }
 
-/// Whether an answer is a certificate of the least density of a strip, and an output can hold it.
+/// Whether the answer is a certificate for the least density of a strip, and an output can hold it.
 #[tactic(auto, using(crate::specs::Bounds::strip_least, crate::specs::Bounds::strip_empty, crate::proofs::Weighing::least_of))]
 pub(crate) fn check_strip(
     alloc: Global,

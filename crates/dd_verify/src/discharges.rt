@@ -1,4 +1,4 @@
-//! Answers to questions about discharging.
+//! The check of the best bound of a discharge.
 ghost use Rattle.std.specs.Prelude.{◌≡◌, ◌↔◌, ◌⊎◌, IsTrue, IfOk};
 ghost use Rattle.dd_certificate.specs.declared.answer.Answer.TheVariants as answer;
 ghost use Rattle.dd_certificate.specs.Bounds.{IsWritable};
@@ -52,13 +52,14 @@ fn is_bound(
     check_bound(alloc, rule, weights, radius, margin, vectors, claimed)
 }
 
+/// Whether the reason is one for which a discharge is answered UNKNOWN.
 fn is_of_discharge(reason: Reason) -> bool
     ensures { IsTrue result ↔ ((reason ≡ Reason.Large) ⊎ ((reason ≡ Reason.Overflow) ⊎ (reason ≡ Reason.Pivots))) }
 {
     matches!(reason, Reason::Large | Reason::Overflow | Reason::Pivots)
 }
 
-/// Whether an answer is a certificate of what discharging gives, and an output can hold it.
+/// Whether the answer is a certificate for the best bound of a discharge, and an output can hold it.
 #[tactic(auto, using(crate::specs::Bounds::best, crate::specs::Bounds::overflow, crate::specs::Bounds::too_large, crate::specs::Bounds::no_pivots, crate::proofs::Weighing::bound_of))]
 pub(crate) fn check_discharge(
     alloc: Global,

@@ -1,10 +1,13 @@
-//! What certificates claim, as the contracts of calls that change nothing.
+//! What certificates claim, as the contracts of calls that do nothing.
 ghost use Rattle.dd_boxes.specs.Goals.{IsGoalFor, KeepsRule};
 ghost use Rattle.dd_boxes.specs.Views.{goal_of};
 ghost use Rattle.dd_certificate.specs.declared.answer.Answer.{Answer as AnyAnswer};
 ghost use Rattle.dd_formula.specs.LocalRule.{LocalRule};
-ghost use Rattle.dd_problem.specs.pushing.Told.{IsToldGoal};
+ghost use Rattle.dd_problem.specs.pushing.GoalFacts.{HasGoalFacts};
+ghost use Rattle.dd_question.specs.Questions.{Asked, IsSoundAsked};
+ghost use Rattle.dd_values.specs.declared.limits.Limits.{Limits as AnyLimits};
 ghost use Rattle.dd_verify.specs.Certificates.{IsCertificateOf, ClaimOf};
+ghost use Rattle.dd_verify.specs.GoalFacts.{HaveGoalFacts};
 
 use dd_boxes::Goal;
 use dd_compile::says_its_value;
@@ -16,10 +19,10 @@ use dd_question::{CheckedQuestion, Question};
 use dd_sides::bound_holds;
 use dd_strips::{strip_empty, strip_least};
 
-/// Only looks at the goal's automata. Its contract says that each cell that an automaton reads is a cell of Z^d with one of the
-/// nodes, and that the gates of its value compute the value.
-fn tell_goal(goal: &Goal)
-    ensures { (x : LocalRule) → IsGoalFor x (goal_of x goal.now) → KeepsRule (goal_of x goal.now) → IsToldGoal x (goal_of x goal.now) }
+/// Does nothing. Its contract says that the goal's automata read cells of the lattice, and that the gates for their values
+/// compute these values.
+fn goal_facts(goal: &Goal)
+    ensures { (x : LocalRule) → IsGoalFor x (goal_of x goal.now) → KeepsRule (goal_of x goal.now) → HasGoalFacts x (goal_of x goal.now) }
 {
     match goal {
         Goal::Breaks(_) => {}
@@ -33,15 +36,15 @@ fn tell_goal(goal: &Goal)
     }
 }
 
-/// Only looks at what is asked; its contract says that what a certificate of the question claims is true. For a bound this
-/// includes boxes of every side, at any position: they weigh at least what the bound says, less what may come in from outside.
+/// Does nothing. Its contract says that what a certificate for the question claims is true. The claim of a bound is about boxes of
+/// every side, at any position: they weigh at least what the bound says, less what may come in from outside.
 pub fn claims_hold(question: &CheckedQuestion)
     ensures { (answer : AnyAnswer) → IsCertificateOf question.now.limits question.now.question answer → ClaimOf question.now.question answer }
 {
-    // Laws of what is asked.
+    // The laws on which the claims about each kind of question rest.
     match question.question() {
         Question::Membership { .. } => {}
-        Question::Box { goal, .. } => tell_goal(&goal),
+        Question::Box { goal, .. } => goal_facts(&goal),
         Question::Equality { .. } => {}
         Question::Listing { .. } => listed_break(),
         Question::Smallest { .. } => {
@@ -51,10 +54,10 @@ pub fn claims_hold(question: &CheckedQuestion)
             all_new();
         }
         Question::Conjugacy { conjugacy } => {
-            tell_goal(&conjugacy.image);
-            tell_goal(&conjugacy.image_back);
-            tell_goal(&conjugacy.round);
-            tell_goal(&conjugacy.round_back);
+            goal_facts(&conjugacy.image);
+            goal_facts(&conjugacy.image_back);
+            goal_facts(&conjugacy.round);
+            goal_facts(&conjugacy.round_back);
         }
         Question::Density { .. } => {
             strip_least();
@@ -67,3 +70,9 @@ pub fn claims_hold(question: &CheckedQuestion)
         }
     }
 }
+
+/// Does nothing. For box questions and conjugacies, its contract says the same as that of `claims_hold`. It takes no goals of the
+/// code, only the facts about them.
+pub fn claims_hold_for_goals()
+    ensures { (l : AnyLimits) (k : Asked) (answer : AnyAnswer) → IsSoundAsked l k → HaveGoalFacts k → IsCertificateOf l k answer → ClaimOf k answer }
+{}

@@ -1,4 +1,5 @@
-//! The check of answers: which are certificates, and what they claim. It trusts no search and makes none.
+//! The check of answers to questions: which answers are certificates, and what a certificate claims. The check makes no search, and
+//! trusts none.
 #![tactic(auto)]
 
 mod answering;
@@ -18,4 +19,4 @@ mod witnesses;
 
 pub use answering::check_question;
 pub use configurations::check_periodic;
-pub use laws::claims_hold;
+pub use laws::{claims_hold, claims_hold_for_goals};

@@ -1,4 +1,4 @@
-//! Answers to questions about forbidden patterns.
+//! The check of a list of forbidden patterns.
 ghost use Rattle.std.specs.Prelude.{◌≡◌, ◌↔◌, IsTrue, IfOk};
 ghost use Rattle.dd_certificate.specs.Bounds.{IsWritable};
 ghost use Rattle.dd_question.specs.Lists.{HasFewPatterns};
@@ -10,12 +10,14 @@ use dd_evidence::{forbidden_patterns, lists_fit, one_list};
 use dd_formula::Rule;
 use std::alloc::{AllocError, Global};
 
+/// Whether the two patterns are the same.
 fn is_same(left: &Listed, right: &Listed) -> bool
     ensures { IsTrue result ↔ (left.now ≡ right.now) }
 {
     left.node == right.node && left.symbols.as_slice() == right.symbols.as_slice()
 }
 
+/// Whether the two lists of patterns are the same.
 fn are_same(left: &[Listed], right: &[Listed]) -> bool
     ensures { IsTrue result ↔ (left.now ≡ right.now) }
 {
@@ -30,24 +32,26 @@ fn are_same(left: &[Listed], right: &[Listed]) -> bool
     true
 }
 
-/// Whether these are the patterns that the rule forbids, in the right order.
+/// Whether these are the patterns that the rule forbids, in their order.
 fn is_list(alloc: Global, rule: &Rule, patterns: &[Listed]) -> Result<bool, AllocError>
     requires { HasFewPatterns rule.now }
     ensures { IfOk result (λ same. IsTrue same ↔ IsForbiddenList rule.now patterns.now) }
 {
+    // Law: there is only one list of the patterns that a rule forbids.
     one_list();
     let list = forbidden_patterns(alloc, rule)?;
     Ok(are_same(list.as_slice(), patterns))
 }
 
-/// Whether an answer is the list of the patterns that a rule forbids, and an output can hold it.
+/// Whether the answer is the list of the patterns that the rule forbids, and an output can hold it.
 #[tactic(auto, using(dd_evidence::specs::Answers::all_forbidden))]
 pub(crate) fn check_list(alloc: Global, rule: &Rule, answer: &Answer) -> Result<bool, AllocError>
     requires { HasFewPatterns rule.now }
     ensures { IfOk result (λ accepted. IsTrue accepted ↔ (IsWritable answer.now × IsListCertificate rule.now answer.now)) }
 {
+    // Law: an output can hold this list.
     lists_fit();
-    // This read brings in what the type guarantees.
+    // This call tells the proof what the type guarantees.
     let _nodes = rule.nodes();
     match answer {
         Answer::List { patterns } => is_list(alloc, rule, patterns.as_slice()),

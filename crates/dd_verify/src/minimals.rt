@@ -1,4 +1,4 @@
-//! Answers to questions about minimal forbidden patterns.
+//! The check of a list of minimal forbidden patterns.
 ghost use Rattle.std.specs.Prelude.{◌≡◌, ◌↔◌, IsTrue, IfOk};
 ghost use Rattle.dd_certificate.specs.Bounds.{IsWritable};
 ghost use Rattle.dd_question.specs.Lists.{HasFewPatterns};
@@ -10,12 +10,14 @@ use dd_evidence::{minimal_patterns, one_starred, starred_fit};
 use dd_formula::Rule;
 use std::alloc::{AllocError, Global};
 
+/// Whether the two patterns are the same.
 fn is_same(left: &Starred, right: &Starred) -> bool
     ensures { IsTrue result ↔ (left.now ≡ right.now) }
 {
     left.node == right.node && left.symbols.as_slice() == right.symbols.as_slice()
 }
 
+/// Whether the two lists of patterns are the same.
 fn are_same(left: &[Starred], right: &[Starred]) -> bool
     ensures { IsTrue result ↔ (left.now ≡ right.now) }
 {
@@ -30,24 +32,26 @@ fn are_same(left: &[Starred], right: &[Starred]) -> bool
     true
 }
 
-/// Whether these are the minimal patterns of the rule, in the right order.
+/// Whether these are the minimal patterns of the rule, in their order.
 fn is_minimal(alloc: Global, rule: &Rule, patterns: &[Starred]) -> Result<bool, AllocError>
     requires { HasFewPatterns rule.now }
     ensures { IfOk result (λ same. IsTrue same ↔ IsStarredList rule.now patterns.now) }
 {
+    // Law: there is only one list of the minimal patterns of a rule.
     one_starred();
     let list = minimal_patterns(alloc, rule)?;
     Ok(are_same(list.as_slice(), patterns))
 }
 
-/// Whether an answer is the list of the minimal patterns that a rule forbids, and an output can hold it.
+/// Whether the answer is the list of the minimal patterns of the rule, and an output can hold it.
 #[tactic(auto, using(dd_evidence::specs::Answers::all_minimal))]
 pub(crate) fn check_minimal(alloc: Global, rule: &Rule, answer: &Answer) -> Result<bool, AllocError>
     requires { HasFewPatterns rule.now }
     ensures { IfOk result (λ accepted. IsTrue accepted ↔ (IsWritable answer.now × IsMinimalCertificate rule.now answer.now)) }
 {
+    // Law: an output can hold this list.
     starred_fit();
-    // This read brings in what the type guarantees.
+    // This call tells the proof what the type guarantees.
     let _nodes = rule.nodes();
     match answer {
         Answer::Minimal { patterns } => is_minimal(alloc, rule, patterns.as_slice()),

@@ -1,23 +1,25 @@
-//! Whether an output can hold the numbers of an answer.
+//! Tests whether an output can hold the numbers of an answer: those of at most `MOST_NUMBER`.
 ghost use Rattle.std.specs.Prelude.{◌≡◌, ◌≤◌, ◌↔◌, nat_le, unsigned_abs, length, All, IsTrue};
 ghost use Rattle.std.specs.List.{list_all};
 ghost use Rattle.dd_certificate.specs.Bounds.{most_number, IsWritableNumber, IsWritableSigned, IsWritableDenominator, IsWritableList};
 
 use dd_values::MOST_NUMBER;
 
+/// Whether an output can hold the number.
 pub(crate) fn is_number(number: u64) -> bool
     ensures { IsTrue result ↔ IsWritableNumber number }
 {
     number <= MOST_NUMBER
 }
 
-/// Whether it is a number that an output can hold, and not 0.
+/// Whether an output can hold the number as a denominator: it is not 0.
 pub(crate) fn is_denominator(number: u64) -> bool
     ensures { IsTrue result ↔ IsWritableDenominator number }
 {
     1 <= number && number <= MOST_NUMBER
 }
 
+/// Whether an output can hold both numbers as denominators.
 pub(crate) fn are_denominators(one: u64, other: u64) -> bool
     ensures { IsTrue result ↔ (IsWritableDenominator one × IsWritableDenominator other) }
 {
@@ -27,30 +29,35 @@ pub(crate) fn are_denominators(one: u64, other: u64) -> bool
     is_denominator(other)
 }
 
+/// Whether the number is at most `MOST_NUMBER`.
 fn is_small(number: &u64) -> bool
     ensures { result ≡ nat_le number.now most_number }
 {
     *number <= MOST_NUMBER
 }
 
+/// Whether each number is at most `MOST_NUMBER`.
 fn are_small(numbers: &[u64]) -> bool
     ensures { result ≡ list_all (λ n. nat_le n most_number) numbers.now }
 {
     numbers.iter().all(|number| is_small(number))
 }
 
+/// Whether the number is at most `MOST_NUMBER` in absolute value.
 fn is_small_signed(number: &i64) -> bool
     ensures { result ≡ nat_le (unsigned_abs number.now) most_number }
 {
     number.unsigned_abs() <= MOST_NUMBER
 }
 
+/// Whether each number is at most `MOST_NUMBER` in absolute value.
 fn are_small_signed(numbers: &[i64]) -> bool
     ensures { result ≡ list_all (λ z. nat_le (unsigned_abs z) most_number) numbers.now }
 {
     numbers.iter().all(|number| is_small_signed(number))
 }
 
+/// Whether an output can hold each of the numbers.
 pub(crate) fn are_numbers(numbers: &[u64]) -> bool
     ensures { IsTrue result ↔ All IsWritableNumber numbers.now }
 {

@@ -1,4 +1,5 @@
-//! Answers to questions about membership. Nothing here takes memory.
+//! The check of answers about membership. An answer names a cell by its place: the coordinates of its position, and then its node.
+//! Nothing here takes memory.
 ghost use Rattle.std.specs.Prelude.{◌≡◌, ◌≤◌, ◌↔◌, [], ◌∷◌, pos, IsTrue};
 ghost use Rattle.dd_formula.specs.Living.{Fits};
 ghost use Rattle.dd_certificate.specs.Bounds.{IsWritable};
@@ -12,6 +13,7 @@ use dd_formula::{Membership, Rule};
 use dd_lattice::Cell;
 use dd_pattern::Periodic;
 
+/// The coordinates of the cell's position.
 fn coordinates(cell: &Cell) -> [i64; 3]
     ensures { result ≡ cell.now.position.x ∷ cell.now.position.y ∷ cell.now.position.z ∷ [] }
 {
@@ -23,13 +25,14 @@ fn coordinates(cell: &Cell) -> [i64; 3]
     ]
 }
 
+/// Whether the number is this node.
 fn is_node(number: &i64, node: u32) -> bool
     ensures { IsTrue result ↔ (number.now ≡ pos node) }
 {
     *number == i64::from(node)
 }
 
-/// Whether these are the coordinates of the cell along the axes of Z^d, followed by its node.
+/// Whether this is the place of the cell in Z^d, where `dim` is d.
 fn is_place(dim: u32, cell: &Cell, place: &[i64]) -> bool
     requires { dim ≤ 3 }
     ensures { IsTrue result ↔ (place.now ≡ written_cell dim cell.now) }
@@ -45,12 +48,12 @@ fn is_place(dim: u32, cell: &Cell, place: &[i64]) -> bool
     place[..count] == coordinates[..count]
 }
 
-/// Whether this is the place of the first cell at which the rule is false.
+/// Whether this is the place of the first cell of the fundamental box, in cell order, at which the rule is false.
 fn is_outside(rule: &Rule, periodic: &Periodic, place: &[i64]) -> bool
     requires { Fits rule.now periodic.now }
     ensures { IsTrue result ↔ IsOutside rule.now periodic.now place.now }
 {
-    // Read for what their types keep.
+    // These calls tell the proof what the types guarantee.
     let _nodes = rule.nodes();
     let _symbols = periodic.symbols();
     match rule.member(periodic) {
@@ -59,7 +62,8 @@ fn is_outside(rule: &Rule, periodic: &Periodic, place: &[i64]) -> bool
     }
 }
 
-/// Whether an answer is a certificate of whether a configuration lives in a rule's subshift.
+/// Whether the answer is right. It says that the configuration lives in the rule's subshift, or gives the place of the first cell
+/// at which the rule is false.
 #[tactic(auto, using(dd_evidence::specs::Answers::member_outside))]
 fn is_member_certificate(rule: &Rule, periodic: &Periodic, answer: &Answer) -> bool
     requires { Fits rule.now periodic.now }
@@ -72,13 +76,14 @@ fn is_member_certificate(rule: &Rule, periodic: &Periodic, answer: &Answer) -> b
     }
 }
 
-/// Whether an answer is such a certificate and an output can hold it, as it can hold each of them.
+/// Whether the answer is right, and an output can hold it. An output can hold each right answer.
 pub(crate) fn check_member(rule: &Rule, periodic: &Periodic, answer: &Answer) -> bool
     requires { Fits rule.now periodic.now }
     ensures { IsTrue result ↔ (IsWritable answer.now × IsMemberCertificate rule.now periodic.now answer.now) }
 {
+    // Law: an output can hold the place of the first cell at which a rule is false.
     places_fit();
-    // Read for what their types keep.
+    // These calls tell the proof what the types guarantee.
     let _nodes = rule.nodes();
     let _symbols = periodic.symbols();
     is_member_certificate(rule, periodic, answer)

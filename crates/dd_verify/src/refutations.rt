@@ -1,4 +1,4 @@
-//! YES to a box question: a radius, and steps that refute the clauses of its box.
+//! The check of a YES to a box question: a radius, and steps that refute the clauses of the box of this radius.
 ghost use Rattle.std.specs.Prelude.{◌≤◌, ◌↔◌, IsTrue, IfOk};
 ghost use Rattle.dd_lattice.specs.Boxes.{centred, volume};
 ghost use Rattle.dd_boxes.specs.Goals.{IsGoalFor};
@@ -33,16 +33,18 @@ fn refutes(
     ensures exact { IfOk result (λ refuted. IsTrue refuted ↔ IsRefuting (box_problem premise.now (goal_of premise.now goal.now) radius) steps.now) }
     ensures writable { IfOk result (λ refuted. IsTrue refuted → IsWritableRefutation steps.now) }
 {
+    // Law: an output can hold a refutation of so few clauses.
     refutations_fit();
     let cnf = box_clauses(alloc, premise, goal, radius)?;
-    // Read for their bounds alone.
+    // These calls tell the proof what the types guarantee.
     let _variable = cnf.variables();
     let _number = last_number(&cnf, steps);
     let mut marks = Marks::new(alloc, &cnf, steps)?;
     Ok(check_refutation(&cnf, steps, &mut marks))
 }
 
-/// Whether the radius is within the limits, and the steps refute the clauses of its box.
+/// Whether the radius is within the limits, and the steps refute the clauses of the box of this radius. The radius must be at
+/// least the goal's least radius, and at most the greater of this and the limit.
 pub(crate) fn check_yes(
     alloc: Global,
     premise: &Rule,
@@ -55,7 +57,7 @@ pub(crate) fn check_yes(
     ensures exact { IfOk result (λ accepted. IsTrue accepted ↔ IsYes limits.now premise.now (goal_of premise.now goal.now) radius steps.now) }
     ensures writable { IfOk result (λ accepted. IsTrue accepted → IsWritableRefutation steps.now) }
 {
-    // This read brings in what the type guarantees.
+    // This call tells the proof what the type guarantees.
     let _symbols = premise.symbols();
     let least = least_radius(alloc, goal)?;
     let most = limits.radius.max(least);

@@ -1,4 +1,4 @@
-//! Answers to the question how little a fundamental box can weigh: a configuration, and steps that refute every smaller weight.
+//! The check of a least weight on a torus: a configuration has this weight, and steps refute that any weighs less.
 ghost use Rattle.std.specs.Prelude.{◌≡◌, ◌≤◌, ◌<◌, ◌↔◌, length, IsTrue, IfOk, MatchOption};
 ghost use Rattle.dd_pattern.specs.Periods.{periods_of};
 ghost use Rattle.dd_pattern.specs.Tile.{IsTile};
@@ -26,7 +26,7 @@ use dd_formula::Rule;
 use dd_pattern::Periodic;
 use std::alloc::{AllocError, Global};
 
-/// The configuration with these symbols, if there is one with the rule's dimension, nodes and alphabet.
+/// The configuration with these periods, no shear and these symbols; `None` where the numbers give none that fits the rule.
 fn on_torus(
     alloc: Global,
     rule: &Rule,
@@ -82,8 +82,8 @@ fn has_weight(
     }
 }
 
-/// Whether the steps refute the clauses that ask for a configuration that lives and weighs less than `below`, which is at least
-/// 1.
+/// Whether the steps refute the clauses that ask for a configuration that lives in the rule's subshift. If `below` is at least
+/// 1, the clauses also ask that it weighs less than `below`.
 fn refutes_below(
     alloc: Global,
     rule: &Rule,
@@ -98,16 +98,18 @@ fn refutes_below(
     ensures exact { IfOk result (λ refuted. IsTrue refuted ↔ IsRefuting (weight_problem rule.now (periods_of periods 0) weights.now below) steps.now) }
     ensures writable { IfOk result (λ refuted. IsTrue refuted → IsWritableRefutation steps.now) }
 {
+    // Law: an output can hold a refutation of so few clauses.
     refutations_fit();
     let cnf = weight_clauses(alloc, rule, periods, weights, below)?;
-    // Read for their bounds alone.
+    // These calls tell the proof what the types guarantee.
     let _variable = cnf.variables();
     let _number = last_number(&cnf, steps);
     let mut marks = Marks::new(alloc, &cnf, steps)?;
     Ok(check_refutation(&cnf, steps, &mut marks))
 }
 
-/// Whether the steps refute that a living configuration weighs less than `weight`. If that is 0, there must be no steps.
+/// Whether the steps refute that a configuration in the rule's subshift weighs less than `weight`. If `weight` is 0, there must
+/// be no steps.
 fn bounds(
     alloc: Global,
     rule: &Rule,
@@ -127,7 +129,7 @@ fn bounds(
     refutes_below(alloc, rule, periods, weights, weight, steps)
 }
 
-/// Whether the configuration and the steps show that this is the least weight, and an output can hold them.
+/// Whether the symbols and the steps show that this is the least weight, and an output can hold them.
 fn is_least(
     alloc: Global,
     rule: &Rule,
@@ -141,7 +143,7 @@ fn is_least(
     ensures { IfOk result (λ accepted. IsTrue accepted ↔ (IsWritable (answer.Least weight symbols.now steps.now)
         × IsTorusCertificate rule.now periods weights.now (answer.Least weight symbols.now steps.now))) }
 {
-    // This read brings in what the type guarantees.
+    // This call tells the proof what the type guarantees.
     let _nodes = rule.nodes();
     if !has_weight(alloc, rule, periods, weights, weight, symbols)? {
         return Ok(false);
@@ -149,7 +151,7 @@ fn is_least(
     bounds(alloc, rule, periods, weights, weight, steps)
 }
 
-/// Whether an answer is a certificate of how little a fundamental box can weigh, and an output can hold it.
+/// Whether the answer is a certificate for the least weight, and an output can hold it.
 pub(crate) fn check_torus(
     alloc: Global,
     rule: &Rule,

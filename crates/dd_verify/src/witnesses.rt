@@ -1,4 +1,4 @@
-//! NO to a box question: a configuration that lives in the premise's subshift and has the goal at the origin.
+//! The check of a NO to a box question: a configuration that lives in the premise's subshift and has the goal at the origin.
 ghost use Rattle.std.specs.Prelude.{◌≡◌, ◌≤◌, ◌<◌, ◌↔◌, length, slice_index_or, All, IsTrue, IfOk, MatchOption};
 ghost use Rattle.dd_pattern.specs.Periods.{AreWithin};
 ghost use Rattle.dd_boxes.specs.Goals.{IsGoalFor};
@@ -15,7 +15,7 @@ use dd_pattern::Periodic;
 use dd_values::Limits;
 use std::alloc::{AllocError, Global};
 
-/// The period along an axis; 1 if none is given.
+/// The period along an axis; 1 where none is given.
 fn along(periods: &[u64], axis: usize) -> u64
     ensures { result ≡ slice_index_or periods.now axis 1 }
 {
@@ -26,7 +26,7 @@ fn along(periods: &[u64], axis: usize) -> u64
     }
 }
 
-/// Whether there is a period from 1 to `most` for each axis, and the shear is less than the first, and 0 in one dimension.
+/// Whether there is a period from 1 to `most` for each axis, and the shear is less than the first period, and 0 in one dimension.
 fn are_periods(dim: u32, most: u32, periods: &[u64], shear: u64) -> bool
     requires dim { (1 ≤ dim) × (dim ≤ 3) }
     requires most { 1 ≤ most }
@@ -47,7 +47,7 @@ fn are_periods(dim: u32, most: u32, periods: &[u64], shear: u64) -> bool
         && (1 < dim || shear == 0)
 }
 
-/// The symbols, if each is below the alphabet's size.
+/// The symbols as 32-bit numbers; `None` where one is not below the size of the alphabet.
 pub(crate) fn narrowed(
     alloc: Global,
     symbols: &[u64],
@@ -66,8 +66,8 @@ pub(crate) fn narrowed(
     Ok(Some(list))
 }
 
-/// The configuration with these periods, this shear and these symbols. There is one if it has the premise's dimension, nodes and
-/// alphabet, and periods of at most `most`.
+/// The configuration with these periods, this shear and these symbols; `None` where the numbers give none that fits the premise,
+/// or a period is greater than `most`.
 fn given(
     alloc: Global,
     premise: &Rule,
@@ -80,7 +80,7 @@ fn given(
     ensures { IfOk result (λ found. MatchOption found (IsGiven premise.now most periods.now shear symbols.now → ⊥)
         (λ periodic. (periodic ≡ given_tile premise.now periods.now shear symbols.now) × IsGiven premise.now most periods.now shear symbols.now)) }
 {
-    // This read brings in what the type guarantees.
+    // This call tells the proof what the type guarantees.
     let nodes = premise.nodes();
     if !are_periods(premise.dim(), most, periods, shear) {
         return Ok(None);
@@ -99,7 +99,7 @@ fn given(
     }
 }
 
-/// Whether the periods are within the limits, and the configuration shows the goal.
+/// Whether the periods are within the limits, and the configuration lives in the premise's subshift and has the goal at the origin.
 pub(crate) fn check_no(
     alloc: Global,
     premise: &Rule,

@@ -6,7 +6,7 @@ use Rattle.std.proofs.lemmas.{Bool.Decides.nat_tests, List.length-append}
 use Rattle.dd_written.specs.Tree.{Word, Mark, Lexeme, Name, Comparand, Relation, Atom, Ball, Quantifier, Join, Formula, roll-Formula, Formula-F, map-Formula, ind-Formula}
 use Rattle.dd_written.specs.Formulas.{text, text_step, stands, stands_step, tree_depth, tree_depth_step, chain_depth, separated_by, move_text, relation_text, atom_text, ball_text, capital, sign, join_rank, IsWrittenFormula}
 use Rattle.dd_written.specs.reading.Readers.{Reader}
-use Rattle.dd_written.specs.reading.Atoms.{moves_at, relation_at, leaf_at, balls_at, quantifier_end, quantifier_at}
+use Rattle.dd_written.specs.reading.Atoms.{moves_at, relation_at, atom_at, balls_at, quantifier_end, quantifier_at}
 use Rattle.dd_written.specs.reading.Formulas.{begins, more_at, chain_at, join_at, level_at, quantified_at, nested_at, unary_at, formula_at, ends}
 use Rattle.dd_written.proofs.{Layers.text_of, Layers.stands_of, Layers.depth_of, Sound.more_text, Sound.rank_join}
 use Rattle.dd_written.specs.lemmas.Rounds.{none_more}
@@ -48,7 +48,7 @@ relation_again (Relation.Same t) rest e = (refl, rw (moves_again t.moves 0 rest 
 relation_again (Relation.AtNode (Name.Word w)) rest e = (refl, refl)
 relation_again r rest e = (refl, refl)
 
-atom_again : (a : Atom) (rest : List Lexeme) → ends 0 rest ≡ true → leaf_at (atom_text a ++ rest) ≡ Some (roll-Formula (Formula-F.Atom a), rest)
+atom_again : (a : Atom) (rest : List Lexeme) → ends 0 rest ≡ true → atom_at (atom_text a ++ rest) ≡ Some (roll-Formula (Formula-F.Atom a), rest)
 atom_again a rest e =
     let r = relation_again a.relation rest e in
     rw (append_assoc (flat_map move_text a.term.moves) (relation_text a.relation) rest, moves_again a.term.moves 0 (relation_text a.relation ++ rest) r.0, r.1) refl
@@ -63,7 +63,7 @@ quantifier_again variable b balls rest = ap (λ (x : List Ball × List Lexeme). 
 
 -- ---- chains
 
--- the reader of the parts reads f, whatever follows that can't belong to it
+-- the reader of the parts reads f from its text, if what follows can't belong to it
 abbrev ReadBy : Reader Formula → ℕ → Formula → Type 0
 ReadBy part place f = (rest : List Lexeme) → ends place rest ≡ true → part (text f ++ rest) ≡ Some (f, rest)
 
@@ -89,9 +89,9 @@ chain_again j part place f g gs rest each lt none e =
     let others = more_again j part place (g ∷ gs) (length behind) rest each.1 (length_more j (g ∷ gs) rest) lt none e in
     rw (append_assoc (text f) (more_text j (g ∷ gs)) rest, each.0 behind (ends_more j place (g ∷ gs) rest lt e), others, (sign_there j place ((text g ++ more_text j gs) ++ rest) lt).1) refl
 
--- ---- precedence
+-- ---- places
 
--- what is read at one precedence is read at each looser one
+-- what is read at one place is read at each looser one
 looser : (unary : Reader Formula) (tokens : List Lexeme) (f : Formula) (rest : List Lexeme) (low place : ℕ) → low ≤ place → place ≤ 4 → ends place rest ≡ true → level_at unary low tokens ≡ Some (f, rest) → level_at unary place tokens ≡ Some (f, rest)
 looser unary tokens f rest low zero under le e r =
     let same : low ≡ 0 = omega (arith, under) in
@@ -105,7 +105,7 @@ looser unary tokens f rest low (suc place) under le e r = elim (cases_eq low (su
 
 -- ---- formulas
 
--- a formula is read at each precedence at which it may stand
+-- a formula is read from its text, at each place where it may stand
 abbrev IsReadAgain : Formula → Type 0
 IsReadAgain f = (budget place : ℕ) (rest : List Lexeme) → place ≤ 4 → stands f place ≡ true → tree_depth f ≤ budget → ends place rest ≡ true → level_at (unary_at budget) place (text f ++ rest) ≡ Some (f, rest)
 
@@ -176,6 +176,6 @@ read_again : (f : Formula) → IsReadAgain f
 read_again = ind-Formula IsReadAgain (λ x y is budget place rest le fit deep e.
     rw (text_of x) (subst IsLayerRead is (step_again y) budget place rest le (rw (stands_of x place) at fit) (omega (arith, deep, depth_of x)) e))
 
--- what follows a formula can't belong to it
+-- a formula is read from its text, if what follows can't belong to it
 pub formula_again : (f : Formula) (rest : List Lexeme) → IsWrittenFormula f → ends 4 rest ≡ true → formula_at (text f ++ rest) ≡ Some (f, rest)
 formula_again f rest is e = rw (read_again f 64 4 rest (omega arith) is.grouped is.shallow e, le-leb (tree_depth f) 64 is.shallow) refl

@@ -3,9 +3,9 @@ use Rattle.std.proofs.Common.{◌≡◌, ℕ, zero, suc, ◌-◌, ◌≤◌, ◌
 use Rattle.std.specs.List.{flat_map, list_all}
 use Rattle.std.proofs.lemmas.{Bool.cases_Bool, List.length-map, Option.MatchOption-at_some}
 use Rattle.dd_written.specs.Tree.{Word, Mark, Lexeme, Ball, Quantifier, Join, Formula, roll-Formula, Formula-F}
-use Rattle.dd_written.specs.Formulas.{text, stands, move_text, term_text, atom_side_text, relation_text, ball_text, capital, sign, join_rank, tree_depth, IsWrittenFormula}
+use Rattle.dd_written.specs.Formulas.{text, stands, move_text, term_text, comparand_text, relation_text, ball_text, capital, sign, join_rank, tree_depth, IsWrittenFormula}
 use Rattle.dd_written.specs.reading.Readers.{Reader, with_front}
-use Rattle.dd_written.specs.reading.Atoms.{moves_at, term_at, side_at, relation_at, leaf_at, balls_at, quantifier_end, quantifier_at}
+use Rattle.dd_written.specs.reading.Atoms.{moves_at, term_at, comparand_at, relation_at, atom_at, balls_at, quantifier_end, quantifier_at}
 use Rattle.dd_written.specs.reading.Formulas.{begins, more_at, chain_at, join_at, level_at, quantified_at, group_end, nested_at, unary_at, formula_at}
 use Rattle.dd_written.proofs.Layers.{text_of, stands_of}
 use Rattle.dd_written.specs.lemmas.Options.{followed}
@@ -26,31 +26,31 @@ term_sound : (tokens : List Lexeme) → IfSome (term_at tokens) (Spells term_tex
 term_sound (Lexeme.Word first ∷ tokens) = ap (λ (ts : List Lexeme). Lexeme.Word first ∷ ts) (moves_sound tokens)
 term_sound tokens = tt
 
-side_sound : (tokens : List Lexeme) → IfSome (side_at tokens) (Spells atom_side_text tokens)
-side_sound (Lexeme.Number n ∷ tokens) = refl
-side_sound tokens = term_sound tokens
+comparand_sound : (tokens : List Lexeme) → IfSome (comparand_at tokens) (Spells comparand_text tokens)
+comparand_sound (Lexeme.Number n ∷ tokens) = refl
+comparand_sound tokens = term_sound tokens
 
 relation_sound : (tokens : List Lexeme) → IfSome (relation_at tokens) (Spells relation_text tokens)
-relation_sound (Lexeme.Mark Mark.Equal ∷ tokens) = followed (side_at tokens) _ _ _ (side_sound tokens) (λ s e. rw e refl)
-relation_sound (Lexeme.Mark Mark.NotEqual ∷ tokens) = followed (side_at tokens) _ _ _ (side_sound tokens) (λ s e. rw e refl)
+relation_sound (Lexeme.Mark Mark.Equal ∷ tokens) = followed (comparand_at tokens) _ _ _ (comparand_sound tokens) (λ s e. rw e refl)
+relation_sound (Lexeme.Mark Mark.NotEqual ∷ tokens) = followed (comparand_at tokens) _ _ _ (comparand_sound tokens) (λ s e. rw e refl)
 relation_sound (Lexeme.Mark Mark.Tilde ∷ tokens) = followed (term_at tokens) _ _ _ (term_sound tokens) (λ t e. rw e refl)
 relation_sound (Lexeme.Mark Mark.At ∷ tokens) = followed (term_at tokens) _ _ _ (term_sound tokens) (λ t e. rw e refl)
 relation_sound (Lexeme.Mark Mark.Colon ∷ Lexeme.Word w ∷ tokens) = refl
 relation_sound (Lexeme.Mark Mark.Colon ∷ Lexeme.Number n ∷ tokens) = refl
 relation_sound tokens = tt
 
--- the tokens are a formula that may stand at this precedence and at each looser one, followed by the rest
+-- the tokens are a formula that may stand at this place and at each looser one, followed by the rest
 abbrev Takes : List Lexeme → ℕ → Formula × List Lexeme → Type 0
 Takes tokens place x = (tokens ≡ text x.0 ++ x.1) × ((p : ℕ) → place ≤ p → stands x.0 p ≡ true)
 
 abbrev IsSound : Reader Formula → ℕ → Type 0
 IsSound reader place = (tokens : List Lexeme) → IfSome (reader tokens) (Takes tokens place)
 
-leaf_sound : IsSound leaf_at 0
-leaf_sound tokens =
+atom_sound : IsSound atom_at 0
+atom_sound tokens =
     followed (term_at tokens) _ _ _ (term_sound tokens) (λ t e. followed (relation_at t.1) _ _ _ (relation_sound t.1) (λ r e'. (simp (text_of, append_assoc, e, e'), λ p le. simp stands_of)))
 
--- there is at least one ball
+-- the tokens are a variable and its balls, of which there is at least one, followed by the rest
 abbrev Quantifies : List Lexeme → (Word × List Ball) × List Lexeme → Type 0
 Quantifies tokens x = (tokens ≡ Lexeme.Word x.0.0 ∷ Lexeme.Mark Mark.OpenList ∷ (flat_map ball_text x.0.1 ++ Lexeme.Mark Mark.CloseList ∷ x.1)) × (nat_le 1 (length x.0.1) ≡ true)
 
@@ -77,7 +77,7 @@ begins_sound Join.Implies (Lexeme.Mark Mark.Arrow ∷ tokens) e = refl
 begins_sound Join.Iff (Lexeme.Mark Mark.BothWays ∷ tokens) e = refl
 begins_sound j tokens e = absurd cc
 
--- more such parts; at least one if the sign comes next
+-- The tokens are more such parts, followed by the rest. There is at least one part if the sign comes next.
 abbrev TakesMore : Join → ℕ → ℕ → List Lexeme → List Formula × List Lexeme → Type 0
 TakesMore j place n tokens x = (tokens ≡ more_text j x.0 ++ x.1) × (list_all (λ (h : ℕ → Bool). h place) (map stands x.0) ≡ true) × (begins j tokens ≡ true → 0 < n → 0 < length x.0)
 
@@ -109,7 +109,7 @@ module _ (j : Join) (part : Reader Formula) (place : ℕ) (ranked : join_rank j 
     | inr e ↦ rw e (t.0, λ p le. t.1 p (omega (arith, le)))
   ])
 
--- the precedences of the four signs
+-- the ranks of the four signs
 pub rank_join : (place : ℕ) → place < 4 → join_rank (join_at (suc place)) ≡ suc place
 rank_join zero lt = refl
 rank_join (suc zero) lt = refl
@@ -135,10 +135,10 @@ module _ (unary : Reader Formula) (sound : IsSound unary 0) where
   nested_sound (Lexeme.Mark Mark.All ∷ tokens) = quantified_sound Quantifier.All tokens
   nested_sound (Lexeme.Mark Mark.Exists ∷ tokens) = quantified_sound Quantifier.Exists tokens
   nested_sound (Lexeme.Mark Mark.Open ∷ tokens) = followed (level_at unary 4 tokens) _ _ _ (level_sound 4 (omega arith) tokens) (λ f t. group_end_sound f.0 tokens f.1 t)
-  nested_sound tokens = leaf_sound tokens
+  nested_sound tokens = atom_sound tokens
 
 unary_sound : (budget : ℕ) → IsSound (unary_at budget) 0
-unary_sound zero = leaf_sound
+unary_sound zero = atom_sound
 unary_sound (suc budget) = nested_sound (unary_at budget) (unary_sound budget)
 
 pub formula_sound : (tokens : List Lexeme) (x : Formula × List Lexeme) → formula_at tokens ≡ Some x → (tokens ≡ text x.0 ++ x.1) × IsWrittenFormula x.0

@@ -1,4 +1,4 @@
--- Formulas: the text of each, where each may stand without parentheses, and how deep each is.
+-- Formulas: the text of each, where it may stand without parentheses, and its depth. A text is a list of lexemes.
 use Rattle.std.specs.Prelude.{◌≡◌, ℕ, ◌+◌, ◌-◌, ◌≤◌, List, [], ◌∷◌, ◌++◌, length, Bool, true, ◌&&◌, nat_le, max, min}
 use Rattle.std.specs.List.{flat_map, list_all}
 use Rattle.dd_written.specs.Tree.{Word, Mark, Lexeme, Name, Term, Comparand, Relation, Atom, Ball, Quantifier, Join, Formula, Formula-F, fold-Formula}
@@ -13,13 +13,13 @@ move_text label = Lexeme.Mark Mark.Dot ∷ Lexeme.Word label ∷ []
 abbrev pub term_text : Term → List Lexeme
 term_text t = Lexeme.Word t.first ∷ flat_map move_text t.moves
 
-abbrev pub atom_side_text : Comparand → List Lexeme
-atom_side_text (Comparand.Term t) = term_text t
-atom_side_text (Comparand.Number n) = Lexeme.Number n ∷ []
+abbrev pub comparand_text : Comparand → List Lexeme
+comparand_text (Comparand.Term t) = term_text t
+comparand_text (Comparand.Number n) = Lexeme.Number n ∷ []
 
 abbrev pub relation_text : Relation → List Lexeme
-relation_text (Relation.Equal s) = Lexeme.Mark Mark.Equal ∷ atom_side_text s
-relation_text (Relation.NotEqual s) = Lexeme.Mark Mark.NotEqual ∷ atom_side_text s
+relation_text (Relation.Equal s) = Lexeme.Mark Mark.Equal ∷ comparand_text s
+relation_text (Relation.NotEqual s) = Lexeme.Mark Mark.NotEqual ∷ comparand_text s
 relation_text (Relation.Adjacent t) = Lexeme.Mark Mark.Tilde ∷ term_text t
 relation_text (Relation.Same t) = Lexeme.Mark Mark.At ∷ term_text t
 relation_text (Relation.AtNode n) = Lexeme.Mark Mark.Colon ∷ name_lexeme n ∷ []
@@ -40,7 +40,7 @@ sign Join.Or = Mark.Or
 sign Join.Implies = Mark.Arrow
 sign Join.Iff = Mark.BothWays
 
--- texts, with a mark between neighbours
+-- texts one after the other, with a mark between neighbours
 abbrev pub separated_by : Mark → List (List Lexeme) → List Lexeme
 separated_by m [] = []
 separated_by m (t ∷ ts) = t ++ flat_map (λ u. Lexeme.Mark m ∷ u) ts
@@ -52,19 +52,20 @@ text_step (Formula-F.Quantified q variable balls f) = Lexeme.Mark (capital q) �
 text_step (Formula-F.Group f) = Lexeme.Mark Mark.Open ∷ f ++ Lexeme.Mark Mark.Close ∷ []
 text_step (Formula-F.Chain j fs) = separated_by (sign j) fs
 
--- the tokens of a formula
+-- the text of a formula
 abbrev pub text : Formula → List Lexeme
 text = fold-Formula (List Lexeme) text_step
 
--- The precedence of a place, from the tightest: 0 after `!` or a quantifier and as a part of `&`, 1 as a part of `|`, 2 of `->`,
--- 3 of `<->`, and 4 in parentheses or alone.
+-- The places where a formula may stand are numbered from the tightest: 0 after `!` or a quantifier and as a part of `&`, 1 as a
+-- part of `|`, 2 as a part of `->`, 3 as a part of `<->`, and 4 in parentheses or alone. The rank of a sign is the tightest
+-- place at which its chain may stand.
 abbrev pub join_rank : Join → ℕ
 join_rank Join.And = 1
 join_rank Join.Or = 2
 join_rank Join.Implies = 3
 join_rank Join.Iff = 4
 
--- whether a formula may stand at such a place without parentheses
+-- whether a formula may stand at a place without parentheses
 abbrev pub stands_step : Formula-F (ℕ → Bool) → ℕ → Bool
 stands_step (Formula-F.Atom a) place = true
 stands_step (Formula-F.Not f) place = f 0
@@ -75,14 +76,15 @@ stands_step (Formula-F.Chain j fs) place = nat_le (join_rank j) place && nat_le 
 abbrev pub stands : Formula → ℕ → Bool
 stands = fold-Formula (ℕ → Bool) stands_step
 
--- How many of the signs of n parts stand above part i: `a -> b -> c` is `a -> (b -> c)`; `a <-> b <-> c` is `(a <-> b) <-> c`.
+-- How many of the signs between n parts stand above part i in the tree. All `&` count as one, and so do all `|`. The others group:
+-- `a -> b -> c` is `a -> (b -> c)`; `a <-> b <-> c` is `(a <-> b) <-> c`.
 abbrev pub signs_over : Join → ℕ → ℕ → ℕ
 signs_over Join.And n i = 1
 signs_over Join.Or n i = 1
 signs_over Join.Implies n i = min (i + 1) (n - 1)
 signs_over Join.Iff n i = min (n - i) (n - 1)
 
--- the depth that the parts from i on give to a chain of n parts
+-- the depth that the parts from part i on give to a chain of n parts
 abbrev pub chain_depth : Join → ℕ → ℕ → List ℕ → ℕ
 chain_depth j n i [] = 0
 chain_depth j n i (d ∷ ds) = max (signs_over j n i + d) (chain_depth j n (i + 1) ds)
@@ -94,14 +96,15 @@ tree_depth_step (Formula-F.Quantified q variable balls d) = 1 + d
 tree_depth_step (Formula-F.Group d) = 1 + d
 tree_depth_step (Formula-F.Chain j ds) = chain_depth j (length ds) 0 ds
 
+-- the depth of a formula
 abbrev pub tree_depth : Formula → ℕ
 tree_depth = fold-Formula ℕ tree_depth_step
 
--- a depth, cut off just over the limit
+-- a depth, cut off at 65
 abbrev pub cut_depth : ℕ → ℕ
 cut_depth n = min n 65
 
--- A formula that can stand alone, with its parts grouped correctly, and a depth within the limit.
+-- The formula may stand alone without parentheses, and its depth is at most 64.
 pub record IsWrittenFormula (f : Formula) : Type 0 where
   pub grouped : stands f 4 ≡ true
   pub shallow : tree_depth f ≤ 64

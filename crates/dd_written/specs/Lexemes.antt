@@ -1,20 +1,21 @@
--- The tokens of a script, as the grammar sees them.
+-- Lexemes: the tokens of a script, as the grammar sees them.
 use Rattle.std.specs.Prelude.{ℕ, List, [], ◌∷◌, ◌++◌, length, map, take, drop, ◌==◌, ◌&&◌, Option, Some, None, if◌then◌else◌, codes, bytes_eq}
 use Rattle.std.specs.{List.find, List.zip, List.list_all, Option.option_map, Char.is_ascii}
 use Rattle.dd_tokens.specs.{declared.token.Token.Token, declared.token.TokenKind.TokenKind, Format.tokens_of}
 use Rattle.dd_written.specs.Tree.{Mark, Lexeme}
 
--- the marks of one byte, each after its byte
-abbrev pub signs : List (ℕ × Mark)
-signs =
+-- the marks of one byte, each with its byte
+abbrev pub one_byte_marks : List (ℕ × Mark)
+one_byte_marks =
     zip (codes "AE%()[].=!&|~@:") (Mark.All ∷ Mark.Exists ∷ Mark.Percent ∷ Mark.Open ∷ Mark.Close ∷ Mark.OpenList ∷ Mark.CloseList
     ∷ Mark.Dot ∷ Mark.Equal ∷ Mark.Not ∷ Mark.And ∷ Mark.Or ∷ Mark.Tilde ∷ Mark.At ∷ Mark.Colon ∷ [])
 
-abbrev pub sign_of : ℕ → Option Mark
-sign_of b = option_map (λ s. s.1) (find (λ s. b == s.0) signs)
+abbrev pub one_byte_mark : ℕ → Option Mark
+one_byte_mark b = option_map (λ s. s.1) (find (λ s. b == s.0) one_byte_marks)
 
+-- the mark with this text
 abbrev pub mark_at : List ℕ → Option Mark
-mark_at (b ∷ []) = sign_of b
+mark_at (b ∷ []) = one_byte_mark b
 mark_at written =
     if bytes_eq written (codes "!=") then Some Mark.NotEqual
     else (if bytes_eq written (codes "->") then Some Mark.Arrow
@@ -25,6 +26,7 @@ abbrev pub marked : Option Mark → Lexeme
 marked (Some m) = Lexeme.Mark m
 marked None = Lexeme.Stray
 
+-- the lexeme of a token of these bytes
 abbrev pub lexeme_of : List ℕ → Token → Lexeme
 lexeme_of bytes t = elim t.kind as (λ kind. Lexeme) [
   | TokenKind.Word ↦ Lexeme.Word (record { start = t.start; length = t.length })
@@ -33,9 +35,10 @@ lexeme_of bytes t = elim t.kind as (λ kind. Lexeme) [
   | TokenKind.Mark ↦ marked (mark_at (take t.length (drop t.start bytes)))
 ]
 
--- a stray token at the end, unless all bytes are ASCII and belong to tokens or blanks
+-- no lexeme if all bytes are allowed, and otherwise `Stray`
 abbrev pub stray : List ℕ → List Lexeme
 stray bytes = if (tokens_of bytes).stop == length bytes && list_all is_ascii bytes then [] else Lexeme.Stray ∷ []
 
+-- the lexemes of a script
 abbrev pub lexemes_of : List ℕ → List Lexeme
 lexemes_of bytes = map (lexeme_of bytes) (tokens_of bytes).list ++ stray bytes

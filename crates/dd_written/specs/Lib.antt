@@ -1,12 +1,12 @@
--- the types of syntax trees
+-- the types from lexemes to syntax trees
 pub mod Tree
--- the tokens of a script, as the grammar sees them
+-- lexemes: the tokens of a script, as the grammar sees them
 pub mod Lexemes
 -- the texts of words and numbers, and the values of numbers
 pub mod Values
--- formulas and their texts
+-- formulas, their texts and their depths
 pub mod Formulas
--- the readers, as functions
+-- what each reader reads, as a function
 pub mod reading
 -- lemmas on these definitions, for other crates
 pub mod lemmas

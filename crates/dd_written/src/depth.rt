@@ -1,4 +1,4 @@
-//! How deep a formula is, counted up to just over the limit.
+//! The depth of a formula, cut off at 65, just over the limit.
 ghost use Rattle.std.specs.Prelude.{◌≡◌, ◌<◌, ◌+◌, length, map};
 ghost use Rattle.dd_written.specs.Formulas.{tree_depth, signs_over, chain_depth, cut_depth};
 
@@ -7,26 +7,28 @@ use crate::tree::{Formula, Join};
 /// The greatest depth of a formula.
 pub(crate) const MOST_DEEP: u32 = 64;
 
+/// A depth with `more` levels added, cut off at 65.
 fn deeper(depth: u32, more: u32) -> u32
     ensures { result ≡ cut_depth (more + depth) }
 {
     more.saturating_add(depth).min(MOST_DEEP + 1)
 }
 
-/// How many signs of a chain of `count` parts stand above the part at `place` in the syntax tree.
-fn signs_over(join: Join, count: usize, place: usize) -> u32
-    requires { place < count }
-    ensures { result ≡ cut_depth (signs_over join count place) }
+/// How many signs of a chain of `count` parts stand above the part at `index` in the tree, cut off at 65. All the signs `&` of
+/// a chain count as one, and so do all `|`.
+fn signs_over(join: Join, count: usize, index: usize) -> u32
+    requires { index < count }
+    ensures { result ≡ cut_depth (signs_over join count index) }
 {
     let signs = match join {
         Join::And | Join::Or => 1,
-        Join::Implies => (place + 1).min(count - 1),
-        Join::Iff => (count - place).min(count - 1),
+        Join::Implies => (index + 1).min(count - 1),
+        Join::Iff => (count - index).min(count - 1),
     };
-    signs.min(65) as u32
+    signs.min(MOST_DEEP as usize + 1) as u32
 }
 
-/// The depth; 65 for all depths over 64.
+/// The depth of a formula, cut off at 65.
 #[cycle(measure)]
 pub(crate) fn capped_depth(formula: &Formula) -> u32
     ensures { result ≡ cut_depth (tree_depth formula.now) }
@@ -39,14 +41,15 @@ pub(crate) fn capped_depth(formula: &Formula) -> u32
     }
 }
 
+/// The depth of a chain of these parts, cut off at 65.
 #[cycle(measure)]
 fn deepest(join: Join, parts: &[Formula]) -> u32
     ensures { result ≡ cut_depth (chain_depth join (length parts.now) 0 (map tree_depth parts.now)) }
 {
     let mut deepest = 0;
-    for place in 0..parts.len() {
-        let depth = capped_depth(&parts[place]);
-        let part = deeper(depth, signs_over(join, parts.len(), place));
+    for index in 0..parts.len() {
+        let depth = capped_depth(&parts[index]);
+        let part = deeper(depth, signs_over(join, parts.len(), index));
         deepest = part.max(deepest);
     }
     deepest

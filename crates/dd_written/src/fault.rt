@@ -1,4 +1,4 @@
-//! Why nothing was read.
+//! Results of readers, and why they read nothing.
 ghost use Rattle.std.specs.Prelude.{◌≡◌};
 ghost use Rattle.dd_written.specs.declared.fault.ReadFault.TheVariants.{Memory};
 
@@ -6,10 +6,10 @@ use crate::lexeme::Lexeme;
 use std::alloc::AllocError;
 use thiserror::Error;
 
-/// What was read from the front of some tokens, and the tokens after it.
+/// The item that was read from the front of some tokens, and the tokens after it.
 pub(crate) type Read<'a, T> = Result<(T, &'a [Lexeme]), ReadFault>;
 
-/// Why nothing was read of the tokens.
+/// Why nothing was read from the tokens.
 #[derive(Debug, Drop, Error)]
 pub enum ReadFault {
     /// The tokens don't begin with what was to be read.

@@ -1,7 +1,8 @@
-//! Formulas, read from left to right.
+//! Reads formulas from left to right, by recursive descent. Each reader takes an item from the front of the tokens, and returns
+//! it with the tokens after it.
 ghost use Rattle.std.specs.Prelude.{◌≡◌, Some};
 ghost use Rattle.dd_written.specs.reading.Readers.{Gives};
-ghost use Rattle.dd_written.specs.reading.Atoms.{name_at, moves_at, term_at, side_at, relation_at, leaf_at, balls_at, quantifier_at};
+ghost use Rattle.dd_written.specs.reading.Atoms.{name_at, moves_at, term_at, comparand_at, relation_at, atom_at, balls_at, quantifier_at};
 ghost use Rattle.dd_written.specs.reading.Formulas.{begins, part_at, chain_at, quantified_at, nested_at, unary_at, formula_at};
 
 use crate::depth::{MOST_DEEP, capped_depth};
@@ -11,7 +12,10 @@ use crate::tree::{Atom, Ball, Comparand, Formula, Join, Name, Quantifier, Relati
 use dd_values::{Boxed, Items};
 use std::alloc::Global;
 
-/// The name at the front, and the tokens after it.
+/// The name at the front of the tokens, and the tokens after it.
+///
+/// # Errors
+/// The tokens don't begin with a name.
 pub fn read_name(tokens: &[Lexeme]) -> Read<'_, Name>
     ensures { Gives (λ x. (x.0, x.1.now)) result (name_at tokens.now) }
 {
@@ -22,6 +26,7 @@ pub fn read_name(tokens: &[Lexeme]) -> Read<'_, Name>
     }
 }
 
+/// The moves `.label`. There may be none.
 fn moves(alloc: Global, tokens: &[Lexeme]) -> Read<'_, Items<Word>>
     ensures { Gives (λ x. (x.0, x.1.now)) result (Some (moves_at tokens.now)) }
 {
@@ -34,6 +39,7 @@ fn moves(alloc: Global, tokens: &[Lexeme]) -> Read<'_, Items<Word>>
     Ok((moves, rest))
 }
 
+/// A word and the moves after it.
 fn term(alloc: Global, tokens: &[Lexeme]) -> Read<'_, Term>
     ensures { Gives (λ x. (x.0, x.1.now)) result (term_at tokens.now) }
 {
@@ -45,8 +51,9 @@ fn term(alloc: Global, tokens: &[Lexeme]) -> Read<'_, Term>
     Ok((Term { first, moves }, rest))
 }
 
-fn side(alloc: Global, tokens: &[Lexeme]) -> Read<'_, Comparand>
-    ensures { Gives (λ x. (x.0, x.1.now)) result (side_at tokens.now) }
+/// The right side of `=` or `!=`.
+fn comparand(alloc: Global, tokens: &[Lexeme]) -> Read<'_, Comparand>
+    ensures { Gives (λ x. (x.0, x.1.now)) result (comparand_at tokens.now) }
 {
     match tokens {
         [Lexeme::Number(number), rest @ ..] => Ok((Comparand::Number(*number), rest)),
@@ -60,10 +67,10 @@ fn relation(alloc: Global, tokens: &[Lexeme]) -> Read<'_, Relation>
 {
     match tokens {
         [Lexeme::Mark(Mark::Equal), rest @ ..] => {
-            side(alloc, rest).map(|(side, rest)| (Relation::Equal(side), rest))
+            comparand(alloc, rest).map(|(comparand, rest)| (Relation::Equal(comparand), rest))
         }
         [Lexeme::Mark(Mark::NotEqual), rest @ ..] => {
-            side(alloc, rest).map(|(side, rest)| (Relation::NotEqual(side), rest))
+            comparand(alloc, rest).map(|(comparand, rest)| (Relation::NotEqual(comparand), rest))
         }
         [Lexeme::Mark(Mark::Tilde), rest @ ..] => {
             term(alloc, rest).map(|(right, rest)| (Relation::Adjacent(right), rest))
@@ -78,15 +85,16 @@ fn relation(alloc: Global, tokens: &[Lexeme]) -> Read<'_, Relation>
     }
 }
 
-/// An atom: a formula without parts.
-fn leaf(alloc: Global, tokens: &[Lexeme]) -> Read<'_, Formula>
-    ensures { Gives (λ x. (x.0, x.1.now)) result (leaf_at tokens.now) }
+/// An atom, as a formula.
+fn atom(alloc: Global, tokens: &[Lexeme]) -> Read<'_, Formula>
+    ensures { Gives (λ x. (x.0, x.1.now)) result (atom_at tokens.now) }
 {
     let (term, rest) = term(alloc, tokens)?;
     let (relation, rest) = relation(alloc, rest)?;
     Ok((Formula::Atom(Atom { term, relation }), rest))
 }
 
+/// The balls of a quantifier. There may be none; `quantifier` asks for one or more.
 fn balls(alloc: Global, tokens: &[Lexeme]) -> Read<'_, Items<Ball>>
     ensures { Gives (λ x. (x.0, x.1.now)) result (Some (balls_at tokens.now)) }
 {
@@ -100,7 +108,7 @@ fn balls(alloc: Global, tokens: &[Lexeme]) -> Read<'_, Items<Ball>>
     Ok((balls, rest))
 }
 
-/// The variable and the balls of a quantifier, read after its capital.
+/// The variable and the balls of a quantifier, read after its `A` or `E`. There is at least one ball.
 fn quantifier(alloc: Global, tokens: &[Lexeme]) -> Read<'_, (Word, Items<Ball>)>
     ensures { Gives (λ x. (x.0, x.1.now)) result (quantifier_at tokens.now) }
 {
@@ -121,6 +129,7 @@ fn quantifier(alloc: Global, tokens: &[Lexeme]) -> Read<'_, (Word, Items<Ball>)>
     }
 }
 
+/// Whether this sign comes next.
 fn begins(join: Join, tokens: &[Lexeme]) -> bool
     ensures { result ≡ begins join tokens.now }
 {
@@ -132,17 +141,19 @@ fn begins(join: Join, tokens: &[Lexeme]) -> bool
     }
 }
 
-/// A formula that binds tightest. `budget` bounds how deep `!`, quantifiers and parentheses are nested.
+/// A formula that isn't a chain: an atom, or one that begins with `!`, `A`, `E` or `(`. These four may be nested in each other
+/// at most `budget` deep.
 #[cycle(read)]
 fn unary(alloc: Global, budget: u32, tokens: &[Lexeme]) -> Read<'_, Formula>
     ensures { Gives (λ x. (x.0, x.1.now)) result (unary_at budget tokens.now) }
 {
     if budget == 0 {
-        return leaf(alloc, tokens);
+        return atom(alloc, tokens);
     }
     nested(alloc, budget - 1, tokens)
 }
 
+/// The same as `unary`, with one level more than `budget`.
 #[cycle(read)]
 fn nested(alloc: Global, budget: u32, tokens: &[Lexeme]) -> Read<'_, Formula>
     ensures { Gives (λ x. (x.0, x.1.now)) result (nested_at (unary_at budget) tokens.now) }
@@ -163,10 +174,11 @@ fn nested(alloc: Global, budget: u32, tokens: &[Lexeme]) -> Read<'_, Formula>
             };
             Ok((Formula::Group(Boxed::new(alloc, inner)?), rest))
         }
-        _ => leaf(alloc, tokens),
+        _ => atom(alloc, tokens),
     }
 }
 
+/// A formula that begins with a quantifier, read after its `A` or `E`.
 #[cycle(read)]
 fn quantified(alloc: Global, budget: u32, kind: Quantifier, tokens: &[Lexeme]) -> Read<'_, Formula>
     ensures { Gives (λ x. (x.0, x.1.now)) result (quantified_at (unary_at budget) kind tokens.now) }
@@ -182,7 +194,7 @@ fn quantified(alloc: Global, budget: u32, kind: Quantifier, tokens: &[Lexeme]) -
     Ok((formula, rest))
 }
 
-/// A part of a chain. The looser the sign binds, the looser the chains that its parts may contain.
+/// A part of a chain with this sign. It may itself be a chain with a sign that binds tighter.
 #[cycle(read)]
 fn part(alloc: Global, budget: u32, join: Join, tokens: &[Lexeme]) -> Read<'_, Formula>
     ensures { Gives (λ x. (x.0, x.1.now)) result (part_at join (unary_at budget) tokens.now) }
@@ -195,7 +207,7 @@ fn part(alloc: Global, budget: u32, join: Join, tokens: &[Lexeme]) -> Read<'_, F
     }
 }
 
-/// One part, or a chain of two or more with the sign between them, as long as possible.
+/// One part, or a chain of two or more with the sign between them. The chain is as long as possible.
 #[cycle(read)]
 fn chain(alloc: Global, budget: u32, join: Join, tokens: &[Lexeme]) -> Read<'_, Formula>
     ensures { Gives (λ x. (x.0, x.1.now)) result (chain_at join (part_at join (unary_at budget)) tokens.now) }
@@ -217,10 +229,10 @@ fn chain(alloc: Global, budget: u32, join: Join, tokens: &[Lexeme]) -> Read<'_, 
     Ok((Formula::Chain { join, parts }, rest))
 }
 
-/// The longest formula at the front, of a depth of at most 64, and the tokens after it.
+/// The longest formula at the front of the tokens, and the tokens after it.
 ///
 /// # Errors
-/// The tokens begin with no formula of such a depth, or memory ran out.
+/// The tokens don't begin with a formula, the longest one is deeper than 64, or memory ran out.
 pub fn read_formula(alloc: Global, tokens: &[Lexeme]) -> Read<'_, Formula>
     ensures { Gives (λ x. (x.0, x.1.now)) result (formula_at tokens.now) }
 {

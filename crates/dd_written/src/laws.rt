@@ -1,8 +1,8 @@
 //! What the reader of formulas guarantees.
 ghost use Rattle.dd_written.specs.reading.Laws.{FormulasAreRead};
 
-/// Does nothing; its contract says that a formula that was read is written so, and that a written formula is read wherever what
-/// follows can't belong to it.
+/// Does nothing. Its contract says two things. Tokens that were read as a formula are its text. The text of a formula is read as
+/// that formula, unless the tokens after it continue it.
 pub fn formula_is_read()
     ensures { FormulasAreRead }
 {}

@@ -1,24 +1,24 @@
-//! The tokens of a script, as the grammar sees them.
+//! Lexemes: the tokens of a script, as the grammar sees them. Positions are numbers of bytes from the start of the script.
 
-/// A word, by the position of its bytes.
+/// A word, given by the position of its bytes.
 #[derive(Clone, Copy, Debug, PartialEq, Eq)]
 pub struct Word {
-    /// The position of its first byte, from 0.
+    /// The position of its first byte.
     pub start: u32,
     /// How many bytes it has.
     pub length: u32,
 }
 
-/// A number, by the position of its bytes.
+/// A number, given by the position of its bytes.
 #[derive(Clone, Copy, Debug, PartialEq, Eq)]
 pub struct Number {
-    /// The position of its first byte, from 0; a negative number begins with its `-`.
+    /// The position of its first byte, which is `-` if the number is negative.
     pub start: u32,
-    /// How many bytes it has, including the `-`.
+    /// How many bytes it has, with the `-`.
     pub length: u32,
 }
 
-/// The capitals and signs of a script.
+/// The marks of a script.
 #[derive(Clone, Copy, Debug, PartialEq, Eq)]
 pub enum Mark {
     /// `A`
@@ -64,12 +64,12 @@ pub enum Mark {
 pub enum Lexeme {
     /// Letters from `a` to `z`.
     Word(Word),
-    /// Digits without a leading zero.
+    /// Digits. Only the number 0 begins with the digit 0.
     Number(Number),
-    /// A `-` directly before a number that is not 0.
+    /// A `-` and directly after it a number other than 0.
     Negative(Number),
-    /// A capital or a sign.
+    /// A mark.
     Mark(Mark),
-    /// A byte that belongs to no token and no blank. No command may contain it.
+    /// Bytes that aren't allowed. It comes last, and no command contains it.
     Stray,
 }

@@ -1,8 +1,8 @@
-//! From the bytes of a script to tokens for the grammar.
+//! From the bytes of a script to lexemes, the tokens that the grammar reads.
 ghost use Rattle.std.specs.Prelude.{◌≡◌, ◌≤◌, ◌+◌, length, map, IfOk};
 ghost use Rattle.std.specs.{Char.is_ascii, List.list_all};
 ghost use Rattle.dd_values.specs.Bounds.{most_script};
-ghost use Rattle.dd_written.specs.Lexemes.{sign_of, mark_at, lexeme_of, lexemes_of};
+ghost use Rattle.dd_written.specs.Lexemes.{one_byte_mark, mark_at, lexeme_of, lexemes_of};
 
 use crate::lexeme::{Lexeme, Mark, Number, Word};
 use crate::words::part;
@@ -11,8 +11,8 @@ use dd_values::Items;
 use std::alloc::{AllocError, Global};
 
 /// The mark that consists of this byte.
-fn sign(byte: u8) -> Option<Mark>
-    ensures { result ≡ sign_of byte }
+fn one_byte_mark(byte: u8) -> Option<Mark>
+    ensures { result ≡ one_byte_mark byte }
 {
     match byte {
         b'A' => Some(Mark::All),
@@ -34,11 +34,12 @@ fn sign(byte: u8) -> Option<Mark>
     }
 }
 
+/// The mark with this text.
 fn mark(written: &[u8]) -> Option<Mark>
     ensures { result ≡ mark_at written.now }
 {
     match written {
-        [byte] => sign(*byte),
+        [byte] => one_byte_mark(*byte),
         b"!=" => Some(Mark::NotEqual),
         b"->" => Some(Mark::Arrow),
         b"<->" => Some(Mark::BothWays),
@@ -46,6 +47,7 @@ fn mark(written: &[u8]) -> Option<Mark>
     }
 }
 
+/// The lexeme of a token of these bytes. A mark with an unknown text would be `Stray`, but `tokens` cuts no such mark.
 fn lexeme(bytes: &[u8], token: Token) -> Lexeme
     ensures { result ≡ lexeme_of bytes.now token }
 {
@@ -58,6 +60,7 @@ fn lexeme(bytes: &[u8], token: Token) -> Lexeme
     }
 }
 
+/// The lexeme of each token.
 fn lexemes_in(alloc: Global, bytes: &[u8], list: &[Token]) -> Result<Items<Lexeme>, AllocError>
     ensures { IfOk result (λ lexemes. lexemes ≡ map (lexeme_of bytes.now) list.now) }
 {
@@ -74,7 +77,8 @@ fn is_ascii(bytes: &[u8]) -> bool
     bytes.iter().all(|byte| byte.is_ascii())
 }
 
-/// The tokens of at most 1,048,576 bytes. A stray token follows unless all bytes are ASCII and belong to tokens or blanks.
+/// The lexemes of some bytes, up to the first byte that isn't allowed. If there is one, `Stray` follows. There are at most
+/// 1,048,576 bytes. Fails only if memory runs out.
 pub fn lexemes(alloc: Global, bytes: &[u8]) -> Result<Items<Lexeme>, AllocError>
     requires { length bytes.now ≤ most_script }
     ensures value { IfOk result (λ lexemes. lexemes ≡ lexemes_of bytes.now) }

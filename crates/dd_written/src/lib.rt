@@ -1,4 +1,4 @@
-//! The grammar of formulas: from bytes to tokens, and from tokens to syntax trees of formulas.
+//! The grammar of formulas: from bytes to lexemes, and from lexemes to syntax trees.
 #![tactic(auto)]
 
 mod depth;

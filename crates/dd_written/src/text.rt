@@ -1,4 +1,4 @@
-//! The text of a script, which contains its names and numbers.
+//! The text of a script, in which names and numbers are looked up.
 ghost use Rattle.std.specs.Prelude.{◌≡◌, take, drop, min, IfOk};
 ghost use Rattle.std.specs.Str.{IsAscii};
 ghost use Rattle.dd_written.specs.Values.{name_text, decimal, written_value};
@@ -27,7 +27,7 @@ impl Model for Text {
     ghost invariant = { λ text. IsAscii text.bytes };
 }
 
-/// The value of the digits, at most 4,294,967,295.
+/// The value of the digits, or 4,294,967,295 if it is greater.
 #[tactic(auto, using(crate::proofs::Digits::decimal_more))]
 fn decimal(digits: &[u8]) -> u32
     ensures { result ≡ min (decimal 0 digits.now) 4294967295 }
@@ -42,7 +42,7 @@ fn decimal(digits: &[u8]) -> u32
 }
 
 impl Text {
-    /// The text of these bytes.
+    /// The text of these bytes. Fails only if memory runs out.
     pub fn new(alloc: Global, bytes: &[u8]) -> Result<Text, AllocError>
         requires { IsAscii bytes.now }
         ensures { IfOk result (λ text. text ≡ bytes.now) }
@@ -57,6 +57,7 @@ impl Text {
     {
         match str::from_utf8(part(self.bytes.as_slice(), start, length)) {
             Ok(text) => text,
+            // ASCII is UTF-8
             Err(_) => unreachable!(),
         }
     }
@@ -72,7 +73,7 @@ pub fn name_text(text: &Text, name: Name) -> &str
     }
 }
 
-/// The absolute value of a number, at most 4,294,967,295.
+/// The absolute value of a number, or 4,294,967,295 if it is greater.
 pub fn number_value(text: &Text, number: Number) -> u32
     ensures { result ≡ min (written_value text.now number) 4294967295 }
 {

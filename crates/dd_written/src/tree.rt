@@ -5,40 +5,41 @@ use dd_values::{Boxed, Items};
 /// A name: a word or a number.
 #[derive(Clone, Copy, Debug, PartialEq, Eq)]
 pub enum Name {
-    /// As `hard`.
+    /// For instance `hard`.
     Word(Word),
-    /// As `0`.
+    /// For instance `0`.
     Number(Number),
 }
 
-/// A variable followed by moves, given by their labels: `o.rt.up`.
+/// A word followed by moves, which are given by their labels: `o.rt.up`. It stands for the cell that the moves lead to.
 #[derive(Debug, Drop)]
 pub struct Term {
+    /// A variable. In a `Comparand` it may be a symbol.
     pub first: Word,
     pub moves: Items<Word>,
 }
 
-/// The right side of `=` and `!=`. A single word is a term without moves, though it may name a symbol.
+/// The right side of `=` or `!=`: what the symbol of a term is compared with.
 #[derive(Debug, Drop)]
 pub enum Comparand {
-    /// A variable with its moves, or the word for a symbol.
+    /// A variable with its moves, or a word that names a symbol.
     Term(Term),
     /// A number, which names a symbol.
     Number(Number),
 }
 
-/// What an atom says of its term.
+/// What an atom says of the cell of its term.
 #[derive(Debug, Drop)]
 pub enum Relation {
-    /// `= side`
+    /// `= comparand`: its symbol is that of the comparand.
     Equal(Comparand),
-    /// `!= side`
+    /// `!= comparand`: its symbol is another one.
     NotEqual(Comparand),
-    /// `~ right`
+    /// `~ term`: it is adjacent to the cell of the term.
     Adjacent(Term),
-    /// `@ right`
+    /// `@ term`: it is the same cell as that of the term.
     Same(Term),
-    /// `: node`
+    /// `: name`: its node has this name.
     AtNode(Name),
 }
 
@@ -56,7 +57,7 @@ pub struct Ball {
     pub radius: Number,
 }
 
-/// Whether a quantifier ranges over all cells or asks for one.
+/// The quantifiers.
 #[derive(Clone, Copy, Debug, PartialEq, Eq)]
 pub enum Quantifier {
     /// `A`: the body is true at all cells of the balls.
@@ -65,7 +66,7 @@ pub enum Quantifier {
     Exists,
 }
 
-/// The sign between the parts of a chain, from the one that binds tightest.
+/// The sign between the parts of a chain. These are in order: the first binds tightest, the last loosest.
 #[derive(Clone, Copy, Debug, PartialEq, Eq)]
 pub enum Join {
     /// `&`
@@ -78,10 +79,10 @@ pub enum Join {
     Iff,
 }
 
-/// The syntax tree of a formula, with its parentheses.
+/// The syntax tree of a formula. It keeps the parentheses.
 #[derive(Debug, Drop)]
 pub enum Formula {
-    /// A formula without parts.
+    /// An atom.
     Atom(Atom),
     /// `!body`
     Not(Boxed<Formula>),

@@ -1,4 +1,4 @@
-//! The text of words.
+//! Parts of a text, and the bytes of words.
 ghost use Rattle.std.specs.Prelude.{◌≡◌, bytes_eq, take, drop};
 ghost use Rattle.dd_written.specs.Values.{word_text};
 
@@ -21,7 +21,7 @@ pub fn word_bytes(bytes: &[u8], word: Word) -> &[u8]
     part(bytes, word.start, word.length)
 }
 
-/// Whether the text is the wanted one.
+/// Whether the two texts are the same.
 pub fn same_bytes(text: &[u8], wanted: &[u8]) -> bool
     ensures { result ≡ bytes_eq text.now wanted.now }
 {

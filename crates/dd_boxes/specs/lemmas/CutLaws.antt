@@ -53,7 +53,7 @@ wider_cells d nodes n m c le h =
 pub wider_box : (x : LocalRule) (n m : ℕ) (c : Cell) → n ≤ m → is_box_cell x n c ≡ true → is_box_cell x m c ≡ true
 wider_box x n m c le h = wider_cells x.dimension x.nodes n m c le h
 
--- the part of a filling in B(n) moved by v, counted from v
+-- the cut: the part of a filling in the box of radius n round v, by cells relative to v
 abbrev pub cut : LocalRule → ℕ → Look → Place → Look
 cut x n look v c = cond (is_box_cell x n c) (look (shifted v c)) None
 
@@ -72,7 +72,7 @@ pub cut_is_filling : (x : LocalRule) (n : ℕ) (look : Look) (v : Place) → Are
 cut_is_filling x n look v ok covers =
     record { domain = λ c. cond_domain (is_box_cell x n c) (look (shifted v c)) (covers c); allowed = cut_allowed x n look v ok }
 
--- counted from u in the cut, that is from u + v in the filling
+-- a cell relative to u in the cut is that cell relative to u + v in the filling
 pub cut_near : (x : LocalRule) (n : ℕ) (look : Look) (u v : Place) (c : Cell) → is_some (from_place (cut x n look v) u c) ≡ true →
     from_place (cut x n look v) u c ≡ from_place look (moved u v) c
 cut_near x n look u v c h = cut_agrees x n look v (shifted u c) h ∙ ap look (shifted_twice u v c)

@@ -1,4 +1,5 @@
--- What no admissible filling of one box has at the origin, no admissible filling has anywhere.
+-- A goal that no admissible filling of one box has at the origin holds nowhere: from a filling with the goal at v, cut out
+-- the box round v.
 use Rattle.std.proofs.Common.{◌≡◌, ℕ, ◌<◌, ◌≤◌, Bool, true, false, List, length, refl, ap, sym, ◌∙◌}
 use Rattle.std.proofs.lemmas.{Bool.and_parts, Bool.lt-ltb, Bool.ltb-true, Option.slice_get-get_or}
 use Rattle.std.specs.{Prelude.◌&&◌, Prelude.◌||◌, Prelude.is_some, Prelude.nat_lt, Prelude.slice_get, List.list_all}

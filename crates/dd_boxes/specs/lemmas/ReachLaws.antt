@@ -70,7 +70,7 @@ reach_is_least r ok = record {
       reach_within r k (λ a node. list_all_weaker (is_box_cell r k) (is_within k) (within_from_cell r.dimension r.nodes k) (reads_at r a) (reaches a node));
 }
 
--- there is one least radius
+-- there is at most one least radius
 pub one_least : (g : GoalOf) (m n : ℕ) → IsLeastRadius g m → IsLeastRadius g n → m ≡ n
 one_least g m n a b = let up : m ≤ n = a.least n b.reaches in let down : n ≤ m = b.least m a.reaches in omega (arith, up, down)
 

@@ -1,4 +1,4 @@
--- What a rule says and an automaton gives at a place, by the symbols of the cells that they read there.
+-- The truth of a rule and the value of an automaton at a cell depend only on the symbols of the cells that they read there.
 use Rattle.std.proofs.Common.{◌≡◌, ℕ, Bool, true, List, [], ◌∷◌, refl, ap, sym, ◌∙◌, arith, ℤ, pos, ◌+ℤ◌}
 use Rattle.std.proofs.lemmas.{Int.ints, Bool.and_parts, Bool.and_from}
 use Rattle.std.specs.{Prelude.is_some, List.list_all}
@@ -10,7 +10,7 @@ use Rattle.dd_formula.specs.{LocalRule.LocalRule, LocalRule.is_true, LocalRule.r
 use Rattle.dd_formula.specs.{declared.automaton.Automaton.Automaton, lemmas.ValueLaws.value_by_reads, lemmas.ValueLaws.equal_to_some}
 use Rattle.dd_values.specs.lemmas.Numbers.{zero_plus}
 
--- the symbols, by cells that are counted from v
+-- the symbols, by cells relative to v
 abbrev pub from_place : Look → Place → Look
 from_place look v c = look (shifted v c)
 
@@ -28,8 +28,8 @@ shifted_twice u v c =
 abbrev pub reads_given : LocalRule → Look → Place → ℕ → Bool
 reads_given r look v a = list_all (λ c. is_some (look (shifted v c))) (reads_at r a)
 
--- Two looks, one counted from u and one from v, agree where the first has symbols. If the first has all that is read,
--- the rule says the same of both.
+-- Two looks, one relative to u and one to v, agree where the first has symbols. If the first has a symbol at each cell that
+-- is read, the rule says the same of both.
 pub keeps_at : (r : LocalRule) (less more : Look) (u v : Place) (a : ℕ) →
     ((c : Cell) → is_some (from_place less u c) ≡ true → from_place less u c ≡ from_place more v c) →
     reads_given r less u a ≡ true → is_true r (cell u a) less ≡ is_true r (cell v a) more

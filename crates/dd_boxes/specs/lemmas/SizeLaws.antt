@@ -1,4 +1,4 @@
--- A question within limits is small if the largest one is: smaller boxes and fewer positions take no more clauses.
+-- A question is small if the largest one within its limits is: smaller boxes and fewer positions have no more clauses.
 use Rattle.std.proofs.Common.{◌≡◌, ℕ, zero, suc, ◌+◌, ◌*◌, ◌^◌, ◌≤◌, ap, ◌∙◌, arith, pos}
 use Rattle.std.proofs.{Math.Nat.pow-zero, Math.Nat.pow-suc, lemmas.Int.ints, lemmas.Nat.mul-le}
 use Rattle.std.specs.Prelude.{◌-ℤ◌}
@@ -6,7 +6,7 @@ use Rattle.dd_lattice.specs.Boxes.{span, centred, volume}
 use Rattle.dd_formula.specs.{LocalRule.LocalRule, Counts.place_clauses, Counts.largest_region, Counts.largest_clauses}
 use Rattle.dd_boxes.specs.{Goals.GoalOf, Counts.goal_clauses, Counts.question_clauses, Counts.most_clauses}
 
--- more positions take more clauses
+-- more positions have no fewer clauses
 sum_up : (n m each rest : ℕ) → n ≤ m → n * each + rest ≤ m * each + rest
 sum_up n m each rest le = let most : n * each ≤ m * each = mul-le n each m each le (omega arith) in omega (arith, most)
 

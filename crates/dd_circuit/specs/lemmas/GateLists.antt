@@ -1,4 +1,4 @@
--- Lists of gates: one more gate, the gate at a place, and more variables.
+-- Lists of gates: adding a gate, the gate at an index, and gates over more variables.
 use Rattle.std.proofs.Common.{◌≡◌, ℕ, zero, suc, ◌+◌, ◌<◌, ◌≤◌, List, [], ◌∷◌, ◌++◌, length, drop, arith, get_or}
 use Rattle.std.proofs.lemmas.List.Elements.{All-weaker, All-nil, All-cons}
 use Rattle.dd_circuit.specs.declared.gates.{Signal.Signal, Gate.Gate}
@@ -14,19 +14,19 @@ AreGates-append n (g ∷ gs) hs first rest =
 pub AreGates-snoc : (n : ℕ) (gs : List Gate) (g : Gate) → AreGates n gs → IsGate (n + length gs) g → AreGates n (gs ++ g ∷ [])
 AreGates-snoc n gs g first last = AreGates-append n gs (g ∷ []) first (last, tt)
 
--- the gates from k on
+-- the gates from index k on are over the variables 1..n + k and those of the gates before them
 pub AreGates-drop : (n : ℕ) (gs : List Gate) (k : ℕ) → AreGates n gs → k ≤ length gs → AreGates (n + k) (drop k gs)
 AreGates-drop n gs zero ok few = let e : n + 0 ≡ n = omega arith in rw e ok
 AreGates-drop n [] (suc k) ok few = absurd (omega arith)
 AreGates-drop n (g ∷ gs) (suc k) ok few = let e : n + suc k ≡ suc n + k = omega arith in rw e (AreGates-drop (suc n) gs k ok.1 (omega arith))
 
--- the gate at i is over the variables before it
+-- the gate at index i is over the variables before it
 pub gate_at : (n : ℕ) (gs : List Gate) (i : ℕ) (d : Gate) → AreGates n gs → i < length gs → IsGate (n + i) (get_or gs i d)
 gate_at n [] i d ok within = absurd (omega arith)
 gate_at n (g ∷ gs) zero d ok within = let e : n + 0 ≡ n = omega arith in rw e ok.0
 gate_at n (g ∷ gs) (suc i) d ok within = let e : n + suc i ≡ suc n + i = omega arith in rw e (gate_at (suc n) gs i d ok.1 (omega arith))
 
--- a signal of some variables is one of more variables
+-- a signal over 1..n is over 1..m too, if n ≤ m
 pub IsSignal-more : (n m : ℕ) → n ≤ m → (s : Signal) → IsSignal n s → IsSignal m s
 IsSignal-more n m more s ok = (ok.0, omega (arith, more, ok.1))
 

@@ -7,7 +7,7 @@ use Rattle.dd_clause.specs.lemmas.LiteralLaws.{is_true_under-negation}
 use Rattle.dd_circuit.specs.declared.gates.{Signal.Signal, Gate.Gate}
 use Rattle.dd_circuit.specs.declared.gates.Gate.TheVariants.{And, Or, Iff}
 use Rattle.dd_circuit.specs.Circuits.{signal_value, gate_value, agrees}
-use Rattle.dd_cnf.specs.Encoding.{literal, literal_of, signed, joint_clauses, iff_clauses, gate_clauses, gates_clauses}
+use Rattle.dd_cnf.specs.Encoding.{literal, literal_of, signed, and_or_clauses, iff_clauses, gate_clauses, gates_clauses}
 use Rattle.dd_cnf.specs.Models.{is_satisfied}
 
 is_true_under-signed_not : (set : ℕ → Bool) (sign : Bool) (s : Signal) → is_true_under set (signed (not sign) s) ≡ not (is_true_under set (signed sign s))
@@ -27,11 +27,11 @@ not_and : (a b : Bool) → (not a || not b) ≡ not (a && b)
 not_and true b = refl
 not_and false b = refl
 
-joint_cases : (gate all : Bool) → ((not gate || all) && ((gate || not all) && true)) ≡ beq gate all
-joint_cases true true = refl
-joint_cases true false = refl
-joint_cases false true = refl
-joint_cases false false = refl
+and_or_cases : (gate all : Bool) → ((not gate || all) && ((gate || not all) && true)) ≡ beq gate all
+and_or_cases true true = refl
+and_or_cases true false = refl
+and_or_cases false true = refl
+and_or_cases false false = refl
 
 iff_cases : (g a b : Bool) →
     ((not g || (not a || (b || false))) && ((not g || (a || (not b || false))) && ((g || (a || (b || false))) && ((g || (not a || (not b || false))) && true))))
@@ -51,7 +51,7 @@ beq-not true false = refl
 beq-not false true = refl
 beq-not false false = refl
 
--- if the gate's literal is true, so is each member
+-- The clauses of two literals: if the gate's literal is true, so are all signed members.
 pairs_law : (set : ℕ → Bool) (gate : Literal) (sign : Bool) (members : List Signal) →
     is_satisfied set (map (λ l. negation gate ∷ signed sign l ∷ []) members) ≡ (not (is_true_under set gate) || list_all (λ l. is_true_under set (signed sign l)) members)
 pairs_law set gate sign [] = go (is_true_under set gate) where
@@ -62,24 +62,24 @@ pairs_law set gate sign (l ∷ ls) =
     rw (is_true_under-negation set gate, pairs_law set gate sign ls)
     (pair_clause (is_true_under set gate) (is_true_under set (signed sign l)) (list_all (λ m. is_true_under set (signed sign m)) ls))
 
--- and if each member is true, so is the gate's literal
+-- The other literals of the last clause: some is true exactly if not all signed members are.
 last_law : (set : ℕ → Bool) (sign : Bool) (members : List Signal) →
     list_any (is_true_under set) (map (signed (not sign)) members) ≡ not (list_all (λ l. is_true_under set (signed sign l)) members)
 last_law set sign [] = refl
 last_law set sign (l ∷ ls) =
     rw (is_true_under-signed_not set sign l, last_law set sign ls) (not_and (is_true_under set (signed sign l)) (list_all (λ m. is_true_under set (signed sign m)) ls))
 
-joint_law : (set : ℕ → Bool) (gate : Literal) (members : List Signal) →
-    is_satisfied set (joint_clauses gate members) ≡ beq (is_true_under set gate) (list_all (λ l. is_true_under set (signed gate.positive l)) members)
-joint_law set gate members =
+and_or_law : (set : ℕ → Bool) (gate : Literal) (members : List Signal) →
+    is_satisfied set (and_or_clauses gate members) ≡ beq (is_true_under set gate) (list_all (λ l. is_true_under set (signed gate.positive l)) members)
+and_or_law set gate members =
     list_all-append (is_clause_true set) (map (λ l. negation gate ∷ signed gate.positive l ∷ []) members) ((gate ∷ map (signed (not gate.positive)) members) ∷ [])
     ∙ rw (pairs_law set gate gate.positive members, last_law set gate.positive members)
-    (joint_cases (is_true_under set gate) (list_all (λ l. is_true_under set (signed gate.positive l)) members))
+    (and_or_cases (is_true_under set gate) (list_all (λ l. is_true_under set (signed gate.positive l)) members))
 
 iff_law : (set : ℕ → Bool) (g a b : Literal) → is_satisfied set (iff_clauses g a b) ≡ beq (is_true_under set g) (beq (is_true_under set a) (is_true_under set b))
 iff_law set g a b = rw (is_true_under-negation set g, is_true_under-negation set a, is_true_under-negation set b) (iff_cases (is_true_under set g) (is_true_under set a) (is_true_under set b))
 
--- not all are false exactly if some is true
+-- all members are false exactly if none is true
 all_opposing : (set : ℕ → Bool) (members : List Signal) → list_all (λ l. is_true_under set (signed false l)) members ≡ not (list_any (signal_value set) members)
 all_opposing set [] = refl
 all_opposing set (l ∷ ls) =
@@ -88,14 +88,14 @@ all_opposing set (l ∷ ls) =
       go true b = refl
       go false b = refl
 
--- the clauses of one gate
+-- the clauses of a gate are satisfied exactly if its variable has the gate's value
 pub gate_law : (set : ℕ → Bool) (g : ℕ) (gate : Gate) → is_satisfied set (gate_clauses g gate) ≡ beq (set g) (gate_value set gate)
-gate_law set g (And members) = joint_law set (literal g true) members
+gate_law set g (And members) = and_or_law set (literal g true) members
 gate_law set g (Or members) =
-    joint_law set (literal g false) members ∙ rw (all_opposing set members) (beq-not (set g) (list_any (signal_value set) members))
+    and_or_law set (literal g false) members ∙ rw (all_opposing set members) (beq-not (set g) (list_any (signal_value set) members))
 gate_law set g (Iff a b) = iff_law set (literal g true) (literal_of a) (literal_of b)
 
--- the clauses of all gates
+-- the clauses of several gates are satisfied exactly if each gate's variable has the gate's value
 pub gates_law : (set : ℕ → Bool) (n : ℕ) (gs : List Gate) → is_satisfied set (gates_clauses n gs) ≡ agrees set n gs
 gates_law set n [] = refl
 gates_law set n (g ∷ gs) =

@@ -33,7 +33,7 @@ pub same_list : (cnf : ClauseList) (variables : ℕ) (clauses : List (List Liter
     cnf ≡ record { variables = variables; clauses = clauses }
 same_list cnf variables clauses wide all = rw (← wide, ← all) refl
 
--- what the loop over all gates leaves
+-- the clauses that `encode` adds to an empty list have the values of the circuit as their models
 pub has_models : (circuit : Network) (before : List (List Literal)) (cnf : ClauseList) → AreGates circuit.inputs circuit.gates → before ≡ [] →
     cnf.variables ≡ size circuit → cnf.clauses ≡ before ++ gates_clauses (circuit.inputs + 0) (drop 0 circuit.gates) → HasValuesAsModels circuit cnf
 has_models circuit before cnf ok none wide all =

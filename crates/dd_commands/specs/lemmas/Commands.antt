@@ -1,10 +1,10 @@
--- What is read as a command is its text, and the text of a command is read.
+-- The tokens that are read as a command are its text, and the text of a command is read as that command.
 use Rattle.std.proofs.Common.{◌≡◌, ℕ, ◌<◌, List, [], ◌∷◌, ◌++◌, map, length, Some, None, refl, sym, ap, subst, ◌∙◌, arith, codes, flat_map, append-nil, length-append}
 use Rattle.dd_commands.specs.Tree.{Word, Lexeme, Name, Head, Case, Command}
 use Rattle.dd_written.specs.{Formulas.text, Formulas.name_lexeme, lemmas.Many.few_items}
 use Rattle.dd_written.specs.reading.Laws.{FormulasAreRead}
 use Rattle.dd_commands.specs.{Heads.head_text, Heads.head_of, Heads.kind_text}
-use Rattle.dd_commands.specs.Commands.{vector_text, second_vector_text, edge_text, IsBehind, IsCase, AreCases, IsBody, IsCommand}
+use Rattle.dd_commands.specs.Commands.{vector_text, second_vector_text, edge_text, BeginsWith, IsCase, AreCases, IsBody, IsCommand}
 use Rattle.dd_commands.specs.reading.{Forms.Form, Forms.made, Forms.both, Forms.◌▸◌, Forms.each_at, Vectors.word_at, Vectors.name, Vectors.plain}
 use Rattle.dd_commands.specs.reading.Commands.{keyword, heads, kinds, wanted, formula, case_parts, case_at, automaton_at, body, command_of}
 use Rattle.dd_commands.specs.lemmas.Forms.{bind_some, Reads, read_last, alone_is, made_is, both_is, then_reads, most_written, most_read}
@@ -18,7 +18,7 @@ module _ (law : FormulasAreRead) where
   -- ---- cases
 
   module _ (bytes : List ℕ) where
-    -- the wanted word, followed by a name
+    -- a wanted word, followed by a name
     end_reads : (spelt : List ℕ) → Reads (wanted bytes spelt ▸ name)
     end_reads spelt = then_reads (wanted_reads bytes spelt) (λ y rest is. tt) name_reads
 
@@ -50,7 +50,7 @@ module _ (law : FormulasAreRead) where
 
     -- ---- bodies
 
-    -- a command with this head, whose body is these tokens
+    -- a command with this head, and the tokens of its body
     abbrev Spelled : Head → List Lexeme → Command → Type 0
     Spelled h tokens c = (head_of c ≡ h) × IsBody bytes c tokens
 
@@ -112,7 +112,7 @@ module _ (law : FormulasAreRead) where
         let d = alone_is b.0.0 b.0.1 c b.2 in
         let first = keyword_written head_text heads bytes tokens a.0.0 a.0.1 a.1 in
         let s = body_sound a.0.0 a.0.1 c (b.1 ∙ ap (λ (x : Command). Some (x, b.0.1)) d.0 ∙ ap (λ (ts : List Lexeme). Some (c, ts)) d.1) in
-        (a.0.1, subst (λ (h : Head). IsBehind bytes (head_text h) tokens a.0.1) (sym s.0) first, s.1)
+        (a.0.1, subst (λ (h : Head). BeginsWith bytes (head_text h) tokens a.0.1) (sym s.0) first, s.1)
 
     pub command_again : (tokens : List Lexeme) (c : Command) → IsCommand bytes c tokens → command_of bytes tokens ≡ Some c
     command_again tokens c is = rw (is.1.2, is.1.1, head_first (head_of c), body_again c is.0 is.2) refl

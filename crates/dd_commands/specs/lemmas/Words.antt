@@ -1,10 +1,10 @@
--- Words, and lists of names, numbers, edges and vectors, are read as they are written.
+-- Keywords, and lists of names, numbers, edges and vectors, are read as they are written.
 use Rattle.std.proofs.Common.{◌≡◌, ℕ, ◌≤◌, List, [], ◌∷◌, ◌++◌, map, length, Some, None, refl, sym, ap, subst, ◌∙◌, arith, bytes_eq, inl, inr, flat_map, append-nil, append_assoc}
 use Rattle.std.specs.Option.{option_or, option_map}
 use Rattle.std.proofs.lemmas.{Grind.common_steps, List.Concat.flat_map_single, Option.some_pair_parts, Slice.Eq.bytes_eq-Decides}
 use Rattle.dd_commands.specs.Tree.{Kind, Lexeme, Name, Lists, QueryKind, Head, Vector}
 use Rattle.dd_written.specs.{Values.word_text, Formulas.name_lexeme, reading.Atoms.name_at}
-use Rattle.dd_commands.specs.{Table.row, Table.kind_word, Table.query_kinds, Heads.head_text, Heads.kind_text, Commands.vector_text, Commands.edge_text, Commands.IsBehind, Commands.IsOnePlain, Commands.AreLists}
+use Rattle.dd_commands.specs.{Table.row, Table.kind_word, Table.query_kinds, Heads.head_text, Heads.kind_text, Commands.vector_text, Commands.edge_text, Commands.BeginsWith, Commands.IsOnePlain, Commands.AreLists}
 use Rattle.dd_commands.specs.reading.Forms.{Reader, single, ◌▸◌, some, exactly}
 use Rattle.dd_commands.specs.reading.Vectors.{word_at, number_at, vector, plain, edge}
 use Rattle.dd_commands.specs.reading.Commands.{one_of, keyword, heads, other_heads, kinds, wanted, names, one_plain, lists_at, listed}
@@ -22,17 +22,17 @@ module _ {X : Type 0} (text_of : X → List ℕ) where
         | inr other ↦ found written ys x other.1
       ]
 
-  pub keyword_written : (xs : List X) (bytes : List ℕ) (tokens : List Lexeme) (x : X) (rest : List Lexeme) → keyword text_of xs bytes tokens ≡ Some (x, rest) → IsBehind bytes (text_of x) tokens rest
+  pub keyword_written : (xs : List X) (bytes : List ℕ) (tokens : List Lexeme) (x : X) (rest : List Lexeme) → keyword text_of xs bytes tokens ≡ Some (x, rest) → BeginsWith bytes (text_of x) tokens rest
   keyword_written xs bytes tokens x rest e =
       let a = bind_some _ _ _ e in
       let b = bind_some _ _ _ a.2 in
-      subst (λ (y : X × List Lexeme). IsBehind bytes (text_of y.0) tokens y.1) (some_is _ _ b.2) (a.0.0, found (word_text bytes a.0.0) xs b.0 b.1, word_written tokens a.0.0 a.0.1 a.1)
+      subst (λ (y : X × List Lexeme). BeginsWith bytes (text_of y.0) tokens y.1) (some_is _ _ b.2) (a.0.0, found (word_text bytes a.0.0) xs b.0 b.1, word_written tokens a.0.0 a.0.1 a.1)
 
 pub wanted_reads : (bytes spelt : List ℕ) → Reads (wanted bytes spelt)
 wanted_reads bytes spelt =
     such_reads (λ w. word_text bytes w ≡ spelt) (λ w. bytes_eq (word_text bytes w) spelt) (λ w. (bytes_eq-Decides (word_text bytes w) spelt).0) (λ w. (bytes_eq-Decides (word_text bytes w) spelt).1) word_reads
 
--- a first word belongs to a query or to another command
+-- the first word is sought first among the commands that aren't queries, then among the queries
 either_of : (written : List ℕ) (hs : List Head) (ks : List QueryKind) → one_of head_text (hs ++ map Head.Query ks) written ≡ option_or (one_of head_text hs written) (option_map Head.Query (one_of kind_word ks written))
 either_of written [] [] = refl
 either_of written [] (k ∷ ks) = grind (arith, common_steps, either_of written [] ks)
@@ -41,11 +41,12 @@ either_of written (h ∷ hs) ks = grind (arith, common_steps, either_of written 
 pub either_head : (written : List ℕ) → one_of head_text heads written ≡ option_or (one_of head_text other_heads written) (option_map Head.Query (one_of kind_word query_kinds written))
 either_head written = either_of written other_heads query_kinds
 
--- no command begins with the word of another
+-- no head has the first word of another
 pub head_first : (h : Head) → one_of head_text heads (head_text h) ≡ Some h
 head_first (Head.Query QueryKind.Member) = refl
 head_first h = refl
 
+-- no built-in topology has the name of another
 pub kind_first : (k : Kind) → one_of kind_text kinds (kind_text k) ≡ Some k
 kind_first Kind.Line = refl
 kind_first k = refl

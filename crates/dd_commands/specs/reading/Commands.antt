@@ -10,10 +10,11 @@ use Rattle.dd_commands.specs.reading.Vectors.{word_at, word, number_at, number, 
 
 -- ---- words and their texts
 
--- the item of the list with this text
+-- the first item of the list that has this text
 abbrev pub one_of : {X : Type 0} → (X → List ℕ) → List X → List ℕ → Option X
 one_of text_of xs written = find (λ x. bytes_eq written (text_of x)) xs
 
+-- reads a word, and gives the item of the list that has its text
 abbrev pub keyword : {X : Type 0} → (X → List ℕ) → List X → List ℕ → Reader X
 keyword text_of xs bytes tokens = word_at tokens >>= λ w. one_of text_of xs (word_text bytes w.0) >>= λ x. Some (x, w.1)
 
@@ -29,7 +30,7 @@ heads = other_heads ++ map Head.Query query_kinds
 abbrev pub kinds : List Kind
 kinds = Kind.Line ∷ Kind.Square ∷ Kind.King ∷ Kind.Triangle ∷ Kind.Hex ∷ Kind.Cube ∷ []
 
--- the wanted word
+-- a word that is spelt so
 abbrev pub wanted : List ℕ → List ℕ → Form Word
 wanted bytes spelt = such (λ w. word_text bytes w ≡ spelt) (λ w. bytes_eq (word_text bytes w) spelt) word
 
@@ -47,6 +48,7 @@ case_at bytes = made (λ x. record { condition = x.1.0; symbol = x.1.1.1 }) (cas
 abbrev pub automaton_at : List ℕ → Reader (Word × (List Case × (Word × Name)))
 automaton_at bytes = both word_at (both (each_at (case_at bytes)) (wanted bytes (codes "else") ▸ name).item)
 
+-- one name or more
 abbrev pub names : Form (List Name)
 names = some (map name_lexeme) name_at
 
@@ -61,10 +63,11 @@ lists_at Lists.Strip tokens = one_plain tokens
 lists_at Lists.Torus tokens = one_plain tokens
 lists_at Lists.Vectors tokens = some_at vector.item tokens
 
+-- the form of these vectors
 abbrev pub listed : Lists → Form (List Vector)
 listed l = record { onto = λ vs rest. flat_map vector_text vs ++ rest; is = AreLists l; ends = λ rest. vector.item rest ≡ None; item = lists_at l }
 
--- ---- what follows the first word
+-- ---- the body: what follows the first word
 
 abbrev pub body : List ℕ → Head → Reader Command
 body bytes Head.Dimension tokens = made (λ n. Command.Dimension n) number_at tokens
@@ -83,6 +86,7 @@ body bytes (Head.Query k) tokens =
     made (λ x. Command.Query (record { kind = k; words = x.0; numbers = x.1.0; vectors = x.1.1 }))
     (exactly (length (row k).names) (map Lexeme.Word) word_at ▸ exactly (row k).numbers (map Lexeme.Number) number_at ▸ listed (row k).lists).item tokens
 
+-- the command that consists of all these tokens, which follow its `%`
 abbrev pub command_of : List ℕ → List Lexeme → Option Command
 command_of bytes tokens = do
   h ← keyword head_text heads bytes tokens

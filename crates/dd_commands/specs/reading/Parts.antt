@@ -5,15 +5,17 @@ use Rattle.dd_commands.specs.{Tree.Lexeme, Tree.Written, Tree.SyntaxFault, readi
 use Rattle.dd_written.specs.reading.Readers.{◌>>=◌}
 use Rattle.dd_commands.specs.{Heads.head_of, Heads.stage, Scripts.is_percent, Scripts.is_whole, Scripts.AreWritten, Scripts.IsBadCommand}
 
+-- whether a token belongs to a part: it is not the `%` that begins the next
 abbrev pub is_inside : Lexeme → Bool
 is_inside t = not (is_percent t)
 
--- the command that a part is, if it may stand at this stage
+-- the command that a part is, if its stage is not below `from`
 abbrev pub written_of : List ℕ → ℕ → List Lexeme → Option Written
 written_of bytes from part =
     command_of bytes part >>= λ c. if list_all is_whole part && nat_le from (stage (head_of c)) then Some (record { tokens = part; command = c }) else None
 
-abbrev pub Told : List ℕ → List Lexeme → Result (List Written) SyntaxFault → Type 0
-Told bytes tokens (Ok ws) = AreWritten bytes tokens ws
-Told bytes tokens (Err (SyntaxFault.At n)) = IsBadCommand bytes tokens n
-Told bytes tokens (Err SyntaxFault.Memory) = Unit {0}
+-- What the result of reading all parts says of the tokens. Where memory ran out it says nothing.
+abbrev pub IsPartsReading : List ℕ → List Lexeme → Result (List Written) SyntaxFault → Type 0
+IsPartsReading bytes tokens (Ok ws) = AreWritten bytes tokens ws
+IsPartsReading bytes tokens (Err (SyntaxFault.At n)) = IsBadCommand bytes tokens n
+IsPartsReading bytes tokens (Err SyntaxFault.Memory) = Unit {0}

@@ -36,7 +36,7 @@ abbrev pub mark_at : Mark → Reader (Unit {0})
 mark_at wanted (Lexeme.Mark m ∷ tokens) = if same_mark m wanted then Some (tt, tokens) else None
 mark_at wanted tokens = None
 
--- the wanted mark
+-- one mark, the wanted one
 abbrev pub sign : Mark → Form (Unit {0})
 sign wanted = single (λ x. Lexeme.Mark wanted) (mark_at wanted)
 
@@ -55,7 +55,7 @@ abbrev pub or_none : Option (Vector × List Lexeme) → Reader (Option Vector)
 or_none (Some v) tokens = Some (Some v.0, v.1)
 or_none None tokens = Some (None, tokens)
 
--- a second vector, if one comes next
+-- the shear of a configuration, if a vector without negative numbers comes next
 abbrev pub shear : Form (Option Vector)
 shear = record {
   onto = λ s rest. second_vector_text s ++ rest;

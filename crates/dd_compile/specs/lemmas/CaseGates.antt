@@ -90,7 +90,7 @@ pub with_first : (n : ℕ) (l : Signal) (xs : List Signal) → IsSignal n l → 
 with_first n l xs here rest zero d h = here
 with_first n l xs here rest (suc k) d h = rest k d (omega arith)
 
--- those that stand for a symbol, of the choices from the number i on
+-- of the choices from the number i on, those that give the symbol
 pub giving_step : (s : ℕ) (xs : List ℕ) (fs members more : List Signal) (i : ℕ) (x : ℕ) (f : Signal) (b : Bool) → giving s xs fs ≡ members ++ giving s (drop i xs) (drop i fs) → i < length xs → i < length fs →
     x ≡ get_or xs i x → f ≡ get_or fs i f → (x == s) ≡ b → more ≡ (if b then members ++ f ∷ [] else members) → giving s xs fs ≡ more ++ giving s (drop (i + 1) xs) (drop (i + 1) fs)
 giving_step s xs fs members more i x f b so_far below below' is is' test grown =

@@ -1,4 +1,4 @@
--- The rules of cases, one after the other, and the value that they decide.
+-- The gates of the cases' rules, one after the other, and the value that they decide.
 use Rattle.std.proofs.Common.{◌≡◌, ◌<◌, ◌≤◌, ℕ, zero, suc, ◌+◌, Bool, true, List, [], ◌∷◌, ◌++◌, Option, Some, None, Ok, Err, Result, map, length, take, drop, get_or, slice_get, refl, ap, sym, ◌∙◌, subst, arith, length-append, append_assoc}
 use Rattle.std.proofs.lemmas.Bool.{and_parts, and_from, leb-true, le-leb}
 use Rattle.std.proofs.lemmas.List.{map-append, take_all, drop_all, length-map}
@@ -69,7 +69,7 @@ pub case_node : (n : ℕ) (w : Wiring) (c : Cases) (at : Cell) (h : AreCasesWire
 case_node n w c at h i case below is =
     let nodes = rule_nodes h.setting case.0 (case_has h.setting c.cases c.otherwise i case h.fit below is) in omega (arith, nodes, h.below)
 
--- the gates of the rules so far
+-- the state after the gates of the first i rules
 pub record Ruling (w : Wiring) (c : Cases) (at : Cell) (i : ℕ) (start now : Network) (signals : List Signal) : Type 0 where
   pub extends : Extends start now
   pub signals_left : (rules_made w at c.cases (size start)).signals ≡ signals ++ (rules_made w at (drop i c.cases) (size now)).signals
@@ -145,7 +145,7 @@ module _ (w : Wiring) (c : Cases) (at : Cell) (i : ℕ) (start now : Network) (s
             ∙ (sym (map-append (λ (y : LocalRule × ℕ). is_true y.0 at look) (take i c.cases) (case ∷ [])) ∙ ap (map (λ (y : LocalRule × ℕ). is_true y.0 at look)) (sym (taken_is c.cases i case below is))))));
       }
 
--- all rules
+-- the state after the gates of all rules
 pub record Ruled (w : Wiring) (c : Cases) (at : Cell) (start now : Network) (signals : List Signal) : Type 0 where
   pub gates : now.gates ≡ start.gates ++ (rules_made w at c.cases (size start)).gates
   pub signals_are : signals ≡ (rules_made w at c.cases (size start)).signals
@@ -293,7 +293,7 @@ rules_wired n k w c at h wired = record {
   wired = ap (λ m. are_wired_there n m w (cases_reads c.cases at.node) at) h.all ∙ wired;
 }
 
--- what the last step answers
+-- what the last step gives
 pub record Answer (k : ℕ) (c : Cases) (w : Wiring) (at : Cell) (start new : Network) {T E : Type 0} (items : T → List Signal) (r : Result T E) : Type 0 where
   pub gates : IfOk r (λ _. new.gates ≡ start.gates ++ (given_made k c w at (size start)).gates)
   pub signals : IfOk r (λ v. items v ≡ (given_made k c w at (size start)).signals)

@@ -1,4 +1,4 @@
--- The state while the gates of formulas are made, and the gate that ends them.
+-- The state while the gates of expansions are added, and the gate that joins them.
 use Rattle.std.proofs.Common.{◌≡◌, ℕ, ◌+◌, ◌<◌, ◌≤◌, true, List, [], ◌∷◌, ◌++◌, map, length, drop, get_or, refl, ap, sym, subst, ◌∙◌, arith, length-append, append-nil, append_assoc, drop-cons, add-one, Ok, Err, Result}
 use Rattle.std.proofs.lemmas.{Bool.and_parts, List.drop_all, List.Elements.All-push, List.Elements.All-weaker}
 use Rattle.std.specs.{List.All, Result.IfOk, Result.OnErr, declared.alloc.AllocError.AllocError}
@@ -23,11 +23,11 @@ Extends-trans a b c first rest = record {
   gates = rest.gates ∙ (ap (λ gs. gs ++ rest.added) first.gates ∙ append_assoc a.gates first.added rest.added);
 }
 
--- one more gate
+-- a circuit with one more gate extends what the circuit before it extends
 pub one_more : (old mid new : Network) (g : Gate) → Extends old mid → new.inputs ≡ mid.inputs → new.gates ≡ mid.gates ++ g ∷ [] → Extends old new
 one_more old mid new g so_far inputs gates = Extends-trans old mid new so_far (record { inputs = inputs; added = g ∷ []; gates = gates })
 
--- one more gate, or none if memory runs out
+-- the same with one more gate, or none if memory runs out
 pub at_most_one_more : (old mid new : Network) (g : Gate) (r : Result Signal AllocError) → Extends old mid → new.inputs ≡ mid.inputs → IfOk r (λ s. new.gates ≡ mid.gates ++ g ∷ []) →
     OnErr r (new ≡ mid) → Extends old new
 at_most_one_more old mid new g (Ok s) so_far inputs gates same = one_more old mid new g so_far inputs gates
@@ -73,7 +73,7 @@ progress_step w parts i start now new signals more part s p within here extends 
       in_range = rw pushed (All-push (IsSignal (size new)) signals s (All-weaker (IsSignal (size now)) (IsSignal (size new)) (λ x h. (h.0, (let g = h.1 in omega (arith, g, count)))) signals p.in_range) ok);
     }
 
--- when all parts are made
+-- the state after all parts
 pub progress_end : (w : Wires) (parts : List Expanded) (i : ℕ) (start now : Network) (signals : List Signal) → Progress w parts i start now signals → length parts ≤ i →
     (size now ≡ size start + all_counts parts)
     × ((now.gates ≡ start.gates ++ (all_made (map (made (certain w)) parts) (size start)).gates) × (signals ≡ (all_made (map (made (certain w)) parts) (size start)).signals))
@@ -87,7 +87,7 @@ progress_end w parts i start now signals p past =
       ),
     )
 
--- a gate after the gates of its parts is what the definition makes
+-- the gates of the parts and the gate that joins them are those of the definition
 abbrev Ends : Network → Network → Made → Result Signal AllocError → Type 0
 Ends old new m r = IfOk r (λ s. new.gates ≡ old.gates ++ m.gates) × IfOk r (λ s. s ≡ m.signal)
 

@@ -27,7 +27,7 @@ gated_given k c = ap (gated k) (sym (v.rolls-Given c)) ∙ fold-roll-Automaton G
 gated_composed : (k : ℕ) (f g : Automaton) → gated k (v.Composed f g) ≡ gated_step k (Automaton-F.Composed (gated k f) (gated k g))
 gated_composed k f g = ap (gated k) (sym (v.rolls-Composed f g)) ∙ fold-roll-Automaton Gated (gated_step k) (Automaton-F.Composed f g)
 
--- the fold counts the same
+-- the fold that makes the gates has the same counts as `counted`
 gated_counts : (k : ℕ) (f : Automaton) → (gated k f).counts ≡ counted f
 gated_counts k =
     by_forms (λ f. (gated k f).counts ≡ counted f) (λ c. ap (λ (x : Gated). x.counts) (gated_given k c) ∙ sym (counted_given c))
@@ -45,7 +45,7 @@ made_composed k f g w at n =
     ap (λ (x : Gated). x.made w at n) (gated_composed k f g)
     ∙ ap (λ (x : Counted). composed_made (in_order (x.reads at.node)) (value_made k f) (value_made k g) w at n) (gated_counts k f)
 
--- There are no more gates than clauses.
+-- There are no more gates than `value_clauses` counts clauses.
 abbrev AreFew : ℕ → Automaton → Type 0
 AreFew k f = (w : Wiring) (at : Cell) (n : ℕ) → length (value_made k f w at n).gates ≤ value_clauses k f at.node
 

@@ -1,4 +1,4 @@
--- Gates over variables of their own, placed over the signals of a circuit.
+-- The gates of a template, placed over the signals of a circuit.
 use Rattle.std.specs.Prelude.{ℕ, ◌+◌, ◌-◌, ◌&&◌, is_some, if◌then◌else◌, Bool, List, [], map, length, Option, Some, None, slice_get}
 use Rattle.std.specs.List.{flat_map}
 use Rattle.dd_lattice.specs.{Place.Place, Place.moved, Place.is_in_range, Cells.shifted, declared.position.Cell.Cell}
@@ -7,15 +7,16 @@ use Rattle.dd_circuit.specs.declared.gates.Gate.TheVariants.{And, Or, Iff}
 use Rattle.dd_circuit.specs.Circuits.{opposite}
 use Rattle.dd_compile.specs.Wiring.{Wiring, signals_of}
 
+-- the signals of a cell; none for a cell without any
 abbrev pub all_of : Option (List Signal) → List Signal
 all_of None = []
 all_of (Some ss) = ss
 
--- a cell that is counted from a place is in the range of positions, and has signals
+-- the cell, relative to v, is in range, and has signals
 abbrev pub is_there : Wiring → Place → Cell → Bool
 is_there w v d = is_in_range (moved d.position v) && is_some (signals_of w (shifted v d))
 
--- the signals of cells that are counted from a place, one cell after the other
+-- the signals of the cells, relative to v, one cell after the other
 abbrev pub signals_there : Wiring → Place → List Cell → List Signal
 signals_there w v cs = flat_map (λ d. all_of (signals_of w (shifted v d))) cs
 
@@ -23,14 +24,17 @@ signals_there w v cs = flat_map (λ d. all_of (signals_of w (shifted v d))) cs
 abbrev pub signed : Bool → Signal → Signal
 signed positive s = if positive then s else opposite s
 
+-- the input or its opposite, or a signal of the variable if there is no input
 abbrev pub placed_by : Option Signal → ℕ → Bool → Signal
 placed_by None variable positive = record { variable = variable; positive = positive }
 placed_by (Some input) variable positive = signed positive input
 
--- what stands for a signal: one of these for each of the first variables, and the variables after n for the later ones
+-- The signal that takes the place of a template's signal. One of `inputs` takes the place of each of the template's first
+-- variables, which are its inputs. The variables after n take the places of the later ones.
 abbrev pub placed : List Signal → ℕ → Signal → Signal
 placed inputs n s = placed_by (slice_get inputs (s.variable - 1)) (n + (s.variable - length inputs)) s.positive
 
+-- the gate that takes the place of a template's gate
 abbrev pub placed_gate : List Signal → ℕ → Gate → Gate
 placed_gate inputs n (And members) = And (map (placed inputs n) members)
 placed_gate inputs n (Or members) = Or (map (placed inputs n) members)

@@ -1,4 +1,4 @@
--- Makings that are joined: what their gates say.
+-- What the gates of joined makings say.
 use Rattle.std.proofs.Common.{◌≡◌, ℕ, zero, suc, ◌+◌, ◌<◌, arith, Bool, true, List, [], ◌∷◌, ◌++◌, map, length, refl, sym, ◌∙◌}
 use Rattle.std.proofs.lemmas.{Bool.and_parts, List.map-append}
 use Rattle.std.specs.{Prelude.◌||◌, List.list_any, List.range_with_len}

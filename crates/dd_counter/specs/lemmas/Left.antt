@@ -1,4 +1,4 @@
--- The state of the loops that make the counter.
+-- The loops that make the counter.
 use Rattle.std.proofs.Common.{◌≡◌, ℕ, suc, ◌+◌, ◌<◌, ◌≤◌, List, [], ◌∷◌, ◌++◌, map, length, ap, sym, subst, ◌∙◌, arith, length-append, append_assoc}
 use Rattle.std.proofs.lemmas.{Bool.le-ltb, List.append-nil, List.Elements.All-push, List.Elements.All-weaker}
 use Rattle.std.specs.{Prelude.◌-◌, Prelude.false, Prelude.Some, Prelude.None, Prelude.slice_get, List.All, List.range_with_len}
@@ -19,7 +19,7 @@ grown-append cnf gs hs =
 pub grown-nil : (cnf : ClauseList) → grown cnf [] ≡ cnf
 grown-nil cnf = same_list (grown cnf []) cnf.variables cnf.clauses (omega arith) (append-nil cnf.clauses)
 
--- what is already there and what the rest of the range makes are the whole
+-- what is already there and what the numbers from w on make are the whole
 pub record Left (make : ℕ → Making) (w end : ℕ) (start now : ClauseList) (signals : List Signal) : Type 0 where
   pub clauses : grown now (joined (map make (range_to w end)) now.variables).gates ≡ grown start (joined (map make (range_with_len 0 end)) start.variables).gates
   pub made : signals ++ (joined (map make (range_to w end)) now.variables).signals ≡ (joined (map make (range_with_len 0 end)) start.variables).signals
@@ -60,7 +60,7 @@ left_ends make w end start now signals left past =
       sym (append-nil signals) ∙ (ap (λ r. signals ++ (joined (map make r) now.variables).signals) (sym none) ∙ left.made),
     )
 
--- what is made next is a part of all
+-- what is made next is a part of the whole, so there is room for it
 pub left_few : (make : ℕ → Making) (w end : ℕ) (start now : ClauseList) (signals : List Signal) (most : ℕ) → Left make w end start now signals → w < end →
     (grown start (joined (map make (range_with_len 0 end)) start.variables).gates).variables ≤ most → (grown now (make w now.variables).gates).variables ≤ most
 left_few make w end start now signals most left within few =
@@ -71,7 +71,7 @@ left_few make w end start now signals most left within few =
     let e = length-append first.gates rest.gates in
     omega (arith, all, e, few)
 
--- the same for rows
+-- the same for the loop over rows
 pub record RowsLeft (ws : List ℕ) (below k end : ℕ) (start now : ClauseList) (before : List Signal) : Type 0 where
   pub clauses : grown now (rows ws below (end - k) k before now.variables).gates ≡ grown start (rows ws below end 0 [] start.variables).gates
   pub made : (rows ws below (end - k) k before now.variables).signals ≡ (rows ws below end 0 [] start.variables).signals
@@ -105,7 +105,7 @@ rows_few ws below k end start now before most left within few =
     let e = length-append first.gates rest.gates in
     omega (arith, all, e, few)
 
--- the cases of a member
+-- what the member is if the symbol alone doesn't weigh enough, without and with a row before
 pub member_none : (from : Signal) (w t : ℕ) (before : List Signal) (n : ℕ) → w ≤ t → slice_get before (t - w) ≡ None → member from w t before n ≡ making [] []
 member_none from w t before n h is = ap (λ b. member_by from b (slice_get before (t - w)) n) (le-ltb t w h) ∙ ap (λ o. member_by from false o n) is
 

@@ -10,7 +10,7 @@ use Rattle.dd_boxes.specs.{Goals.always, Witnesses.IsWitness, TorusPeriods.AreTo
 use Rattle.dd_counter.specs.{Weights.weight_count, Least.greatest, Least.IsLiving, lemmas.Counted.weight_most, lemmas.Counted.count_less}
 use Rattle.dd_problem.specs.lemmas.SymbolLaws.{size_is}
 
--- there is a cell
+-- a torus has at least one cell
 pub cells_some : (x : LocalRule) (p : Periods) → IsRule x → AreTorusPeriods x.dimension x.nodes p → 0 < periods_volume p * x.nodes
 cells_some x p rule ok =
     let zy : 1 * 1 ≤ p.z * p.y = mul-le 1 1 p.z p.y ok.periods.z_some ok.periods.y_some in

@@ -56,7 +56,7 @@ weight_to ws ss k = total_weight ws (take k ss)
 abbrev passes : (ℕ → Bool) → List ℕ → List Signal → ℕ → ℕ → Bool
 passes set ws before t s = nat_lt t (slice_index ws s) || said set before (t - slice_index ws s)
 
--- among the tests of all symbols that of the cell's symbol counts
+-- of the tests of all symbols, only that of the cell's symbol counts
 read_any : (set : ℕ → Bool) (ws ss : List ℕ) (k : ℕ) (f : ℕ → Bool) → Weighs set ws ss → k < length ss →
     (c a : ℕ) → a + c ≡ length ws →
     list_any (λ s. set (input (length ws) k s) && f s) (range_with_len a c) ≡ list_any (λ s. (get_or ss k 0 == s) && f s) (range_with_len a c)
@@ -99,7 +99,7 @@ rows_say set ws ss below (suc c) k before n ok end says h =
     let both = agrees_parts set n first.gates rest.gates h in
     rows_say set ws ss below c (k + 1) first.signals (n + length first.gates) ok (omega arith) (row_says set ws ss below k before n ok (omega arith) says both.0) both.1
 
--- the gates over no row before
+-- the rows from the first cell on, which has no row before it
 pub all_say : (set : ℕ → Bool) (ws ss : List ℕ) (below n : ℕ) → Weighs set ws ss → agrees set n (rows ws below (length ss) 0 [] n).gates ≡ true →
     SaysWeight set below (rows ws below (length ss) 0 [] n).signals (total_weight ws ss)
 all_say set ws ss below n ok h = rows_say set ws ss below (length ss) 0 [] n ok (omega arith) (λ t small. sym (le-ltb t 0 (omega arith))) h

@@ -53,7 +53,7 @@ silent_at set (suc b) ws signals t none say light =
     let below = suc b in
     sym (said_at set signals (below - 1)) ∙ (say (below - 1) (omega arith) ∙ le-ltb (below - 1) (total_weight ws t.symbols) (light_at below ws t light (omega arith)))
 
--- what the clauses rest on: those of the torus, over the inputs of c cells, which use only their own variables
+-- what is needed of the torus's clauses: they say what they should, use only their own variables, and have inputs for c cells
 pub record Stand (base : ClauseList) (x : LocalRule) (periods : Periods) (ws : List ℕ) (c : ℕ) : Type 0 where
   pub shows : ShowsTorus base.clauses x always periods
   pub own : (set other : ℕ → Bool) → Alike base.variables other set → Satisfies set base.clauses → Satisfies other base.clauses

@@ -1,4 +1,4 @@
--- If the bound is at least 1, the unit clause is there.
+-- If the bound is at least 1, the last clause is there.
 use Rattle.std.proofs.Common.{◌≡◌, ℕ, zero, suc, ◌+◌, ◌<◌, List, [], ◌∷◌, map, length, get_or, refl, ap, arith, length-append}
 use Rattle.std.proofs.lemmas.Option.{slice_get-get_or}
 use Rattle.std.specs.{Prelude.◌-◌, List.range_with_len}

@@ -1,8 +1,10 @@
--- What shows the least density, or that there is none, over a transfer graph.
+-- The certificates over a transfer graph: a closed walk and potentials for a least density, or ranks if no walk is infinite.
 use Rattle.std.specs.Prelude.{◌≡◌, ℕ, ◌*◌, ◌<◌, ℤ, pos, ◌-ℤ◌, ◌≤ℤ◌, List, length, slice_index, Some}
 use Rattle.dd_transfer.specs.{Graphs.Transfer, Graphs.next_of, Graphs.weight_at, Certificates.IsInLowestTerms, Certificates.potential_of}
 use Rattle.dd_meancycle.specs.Means.{IsCycle, ArePotentials, AreRanks, weight_of}
 
+-- The walk is closed, and its mean is m / l in lowest terms. The density p / q, in lowest terms, is m / l divided by the
+-- number of positions of a slice, which is `volume`. The potentials are right for m / l.
 pub record IsShown (g : Transfer) (volume p q : ℕ) (walk : List ℕ) (ps : List ℤ) : Type 0 where
   pub m : ℕ
   pub l : ℕ
@@ -12,13 +14,15 @@ pub record IsShown (g : Transfer) (volume p q : ℕ) (walk : List ℕ) (ps : Lis
   pub each : length ps ≡ g.states
   pub potentials : ArePotentials g m l ps
 
+-- the ranks are right: there is one for each state, and it falls along each edge
 pub record AreFallen (g : Transfer) (ranks : List ℕ) : Type 0 where
   pub each : length ranks ≡ g.states
   pub fall : AreRanks g ranks
 
--- along the edge from u by t, if there is one
+-- along the edge from u by t, if there is one, the potential rises by at most l * w - m, where w is the edge's weight
 abbrev pub IsRiseAlong : Transfer → ℕ → ℕ → List ℤ → ℕ → ℕ → Type 0
 IsRiseAlong g m l ps u t = (v : ℕ) → next_of g u t ≡ Some v → (potential_of ps v -ℤ potential_of ps u) ≤ℤ (pos (l * weight_at g t) -ℤ pos m)
 
+-- along the edge from u by t, if there is one, the rank falls
 abbrev pub IsFallAlong : Transfer → List ℕ → ℕ → ℕ → Type 0
 IsFallAlong g ranks u t = (v : ℕ) → next_of g u t ≡ Some v → slice_index ranks v < slice_index ranks u

@@ -60,7 +60,7 @@ marked_same marks step l x r v =
     let i : x.variable - 1 ≡ l.variable - 1 = omega arith in
     rw (i, get_or-set_same marks (l.variable - 1) (record { step = step; positive = l.positive }) (record { step = 0; positive = false }) lt, eq-eqb step step refl) refl
 
--- marking a literal makes it false, and changes nothing else among the literals in range
+-- marking a literal makes it false, and changes no other literal in range
 set_more : (marks : List VariableMark) (step : ℕ) (falses : List Literal) (l x : Literal) → is_marked marks step x ≡ is_among falses x → IsLiteralInRange (length marks) x → IsLiteralInRange (length marks) l → is_among falses l ≡ false → is_among falses (negation l) ≡ false → is_marked (set marks (l.variable - 1) (record { step = step; positive = l.positive })) step x ≡ is_among (l ∷ falses) x
 set_more marks step falses l x m i r f g =
     elim (cases_eq x.variable l.variable) [
@@ -75,7 +75,7 @@ length-marked marks step l = elim (cases_Bool (is_literal_in_range (length marks
   | inr f ↦ rw f refl
 ]
 
--- two literals of which one has a mark are not the same
+-- a literal in range and a literal out of range are not the same
 apart : (n : ℕ) (x l : Literal) → is_literal_in_range n x ≡ true → is_literal_in_range n l ≡ false → same_literal x l ≡ false
 apart n x l t f = false_from_ne_true _ (λ h. false≢true (sym f ∙ ap (is_literal_in_range n) (sym (same_literal-eq x l h)) ∙ t))
 
@@ -88,14 +88,14 @@ marked_more marks step falses l x m i f g = elim (cases_Bool (is_literal_in_rang
   | inr n ↦ rw (n, apart (length marks) x l i n) m
 ]
 
--- one more literal is false
+-- with one more literal false, the marks and the hinted clauses still tell which literals are false
 FalsesAre-more : (marks : List VariableMark) (step : ℕ) (seen more falses : List Literal) (l : Literal) → FalsesAre marks step seen falses → is_among falses l ≡ false → is_among falses (negation l) ≡ false → ((x : Literal) → is_literal_in_range (length marks) x ≡ false → is_false_unmarked more x ≡ is_among (l ∷ falses) x) → FalsesAre (with_mark marks step l) step more (l ∷ falses)
 FalsesAre-more marks step seen more falses l a f g out x = elim (cases_Bool (is_literal_in_range (length marks) x)) [
   | inl t ↦ rw (length-marked marks step l, t) (marked_more marks step falses l x (rw t at (a x)) t f g)
   | inr n ↦ rw (length-marked marks step l, n) (out x n)
 ]
 
--- the first literal of a variable
+-- more literals at the end do not change the first literal of a variable
 first_literal_of-some : (v : ℕ) (xs ys : List Literal) (m : Literal) → first_literal_of v xs ≡ Some m → first_literal_of v (xs ++ ys) ≡ Some m
 first_literal_of-some v [] ys m h = absurd (cc)
 first_literal_of-some v (x ∷ xs) ys m h = elim (cases_Bool (eqb x.variable v)) [
@@ -140,8 +140,8 @@ first_literal_of-more v xs i d lt h n = ap (first_literal_of v) (take_more xs i 
 abbrev pub UnmarkedAre : List Literal → List Literal → ℕ → Type 0
 UnmarkedAre seen falses v = (y : Literal) → y.variable ≡ v → is_false_unmarked seen y ≡ is_among falses y
 
--- A variable without a mark has the value of the first hinted clause that names it: there all other literals are false,
--- so its own is the one that the clause forces.
+-- A variable without a mark gets its value from the first hinted clause that contains it. All other literals of that clause
+-- are false, so the clause forces its literal of the variable.
 unmarked_more : (seen falses c : List Literal) (l x : Literal) → UnmarkedAre seen falses x.variable → Forces (is_among falses) c l → is_false_unmarked (seen ++ c) x ≡ is_among (negation l ∷ falses) x
 unmarked_more seen falses c l x a f = go (first_literal_of x.variable seen) refl
   where
@@ -185,7 +185,7 @@ FalsesAre-forced known marks step seen falses h l a e = at (clause_of known h) e
 pub FalsesAre-start : (marks : List VariableMark) (step : ℕ) (falses : List Literal) (l : Literal) → FalsesAre marks step [] falses → is_literal_in_range (length marks) l ≡ true → is_among falses l ≡ false → is_among falses (negation l) ≡ false → FalsesAre (with_mark marks step l) step [] (l ∷ falses)
 FalsesAre-start marks step falses l a r f g = FalsesAre-more marks step [] [] falses l a f g (λ x n. (let q : false ≡ is_among falses x = rw n at (a x) in rw (apart' (length marks) x l n r, ← q) refl))
 
--- the marks of this step or an earlier one
+-- marking in this step leaves each mark of this step or an earlier one
 pub AreUpTo-marked : (marks : List VariableMark) (step : ℕ) (l : Literal) → AreUpTo step marks → AreUpTo step (with_mark marks step l)
 AreUpTo-marked marks step l a = elim (cases_Bool (is_literal_in_range (length marks) l)) [
   | inl t ↦ rw t (All-set (λ m. m.step ≤ step) marks (l.variable - 1) (record { step = step; positive = l.positive }) (omega arith) a)
@@ -199,7 +199,7 @@ literals_of-append known (h ∷ hs) gs = ap (λ (ys : List Literal). unwrap_or (
 pub literals_of-more : (known : List (Option (List Literal))) (hints : List ℕ) (i : ℕ) → i < length hints → literals_of known (take (i + 1) hints) ≡ literals_of known (take i hints) ++ unwrap_or (clause_of known (get_or hints i 0)) []
 literals_of-more known hints i h = ap (literals_of known) (take_more hints i 0 h) ∙ literals_of-append known (take i hints) (get_or hints i 0 ∷ []) ∙ ap (λ (ys : List Literal). literals_of known (take i hints) ++ ys) (append-nil (unwrap_or (clause_of known (get_or hints i 0)) []))
 
--- the first literal of a variable in the clauses of the hints
+-- if no earlier hint has the variable, its first literal in this hint's clause is the first in all hinted clauses
 pub hinted_here : (known : List (Option (List Literal))) (hints : List ℕ) (i v : ℕ) (clause : List Literal) (m : Literal) → i < length hints → first_literal_of v (literals_of known (take i hints)) ≡ None → clause_of known (get_or hints i 0) ≡ Some clause → first_literal_of v clause ≡ Some m → first_literal_of v (literals_of known hints) ≡ Some m
 hinted_here known hints i v clause m lt h c e =
     let s : hints ≡ take i hints ++ get_or hints i 0 ∷ drop (suc i) hints = sym (take-append-drop i hints) ∙ ap (λ (hs : List ℕ). take i hints ++ hs) (drop-cons hints i 0 lt) in
@@ -220,15 +220,15 @@ is_last-drop (x ∷ hints) (suc j) h = is_last-drop hints j (omega arith) ∙ sy
     same : (a b : ℕ) → eqb (suc a) (suc b) ≡ eqb a b
     same a b = elim (cases_eq a b) [ inl e ↦ rw (eq-eqb a b e) (eq-eqb (suc a) (suc b) (omega arith)) | inr n ↦ rw (ne_eqb a b n) (ne_eqb (suc a) (suc b) (λ e. n (omega arith))) ]
 
--- one hint
+-- whether the hints from index i on end in a conflict, by the hint at i
 is_conflict-at : (known : List (Option (List Literal))) (falses : List Literal) (hints : List ℕ) (i d : ℕ) → i < length hints → is_conflict known falses (drop i hints) ≡ follow (hint_finding known (is_among falses) (get_or hints i d)) (eqb (i + 1) (length hints)) (λ l. is_conflict known (negation l ∷ falses) (drop (i + 1) hints))
 is_conflict-at known falses hints i d h = rw (drop-cons hints i d h, add-one i, is_last-drop hints (suc i) (omega arith)) refl
 
--- what the marks show of a hint is what the false literals say
+-- a hint finds the same by the marks as by the list of false literals
 pub hint_seen : (known : List (Option (List Literal))) (marks : List VariableMark) (step : ℕ) (seen falses : List Literal) (h : ℕ) (f : Finding) → FalsesAre marks step seen falses → f ≡ hint_finding known (is_false marks step seen) h → hint_finding known (is_among falses) h ≡ f
 hint_seen known marks step seen falses h f a e = sym (e ∙ hint_finding-congr known (is_false marks step seen) (is_among falses) h a)
 
--- the check so far, and one hint more
+-- the check of all hints, by what the hint at index i finds
 pub conflict_now : (known : List (Option (List Literal))) (start falses : List Literal) (hints : List ℕ) (i : ℕ) (f : Finding) → i < length hints → hint_finding known (is_among falses) (get_or hints i 0) ≡ f → is_conflict known start hints ≡ is_conflict known falses (drop i hints) → is_conflict known start hints ≡ follow f (eqb (i + 1) (length hints)) (λ l. is_conflict known (negation l ∷ falses) (drop (i + 1) hints))
 conflict_now known start falses hints i f lt h e = e ∙ is_conflict-at known falses hints i 0 lt ∙ ap (λ (x : Finding). follow x (eqb (i + 1) (length hints)) (λ l. is_conflict known (negation l ∷ falses) (drop (i + 1) hints))) h
 

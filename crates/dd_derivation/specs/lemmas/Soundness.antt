@@ -1,4 +1,4 @@
--- A derivation whose last clause is empty leaves no set of true variables that satisfies the clauses.
+-- A refutation, whose last clause is empty, leaves no set of true variables that satisfies the clauses.
 use Rattle.std.proofs.Common.{◌≡◌, ℕ, zero, suc, Bool, true, false, cond, not, ◌&&◌, ◌||◌, List, [], ◌∷◌, ◌++◌, Option, Some, None, refl, ap, sym, ◌∙◌, subst, inl, inr, ◌⊎◌, get_or, map}
 use Rattle.std.specs.List.{list_any, list_all, filter, All, slice_get, slice_set}
 use Rattle.std.specs.Option.{option_map_or, option_and_then}
@@ -35,7 +35,7 @@ same_literal-eq a b h =
 pub same_literal-refl : (l : Literal) → same_literal l l ≡ true
 same_literal-refl l = and_from _ _ (eq-eqb l.variable l.variable refl) (beq_same l.positive)
 
--- a test that is only true of literals that are false under the set
+-- each literal that passes the test is false under the set
 abbrev pub MarksFalse : (ℕ → Bool) → (Literal → Bool) → Type 0
 MarksFalse set is_false = (l : Literal) → is_false l ≡ true → is_true_under set l ≡ false
 
@@ -72,7 +72,7 @@ not_falsified : (b : Bool) (l : Literal) → cond b (Forced l) Open ≡ Falsifie
 not_falsified true l h = cc
 not_falsified false l h = cc
 
--- what a true clause says is right
+-- a true clause is not falsified, and a literal that it forces is true
 finding_of_true : (set : ℕ → Bool) (is_false : Literal → Bool) (left : List Literal) → list_any (is_true_under set) left ≡ true → (finding_of is_false left ≡ Falsified → ⊥) × ((m : Literal) → finding_of is_false left ≡ Forced m → is_true_under set m ≡ true)
 finding_of_true set is_false [] h = absurd (false≢true h)
 finding_of_true set is_false (l ∷ rest) h = (
@@ -110,7 +110,7 @@ followed Falsified is_last next h = inl refl
 followed (Forced l) is_last next h = inr (l, refl, h)
 followed Open is_last next h = absurd (cc)
 
--- what a hint says is right
+-- the same for the clause of a hint
 hint_true_at : (set : ℕ → Bool) (is_false : Literal → Bool) → MarksFalse set is_false → (o : Option (List Literal)) → ((c : List Literal) → o ≡ Some c → is_clause_true set c ≡ true) → (option_map_or (finding is_false) o Open ≡ Falsified → ⊥) × ((l : Literal) → option_map_or (finding is_false) o Open ≡ Forced l → is_true_under set l ≡ true)
 hint_true_at set is_false m None t = (λ e. cc, λ l e. absurd (cc))
 hint_true_at set is_false m (Some c) t = finding_of_true set is_false _ (kept_true set is_false c m (t c refl))
@@ -146,7 +146,7 @@ empty_false : (set : ℕ → Bool) (clause : List Literal) → is_empty clause �
 empty_false set [] h t = false≢true t
 empty_false set (l ∷ clause) h t = false≢true h
 
--- a right step's clause is true if the clauses that it follows from are
+-- a right step's clause is true if the known clauses are true
 step_true : (set : ℕ → Bool) (n : ℕ) (known : List (Option (List Literal))) (step : Step) → KnownTrue set known → is_right n known step ≡ true → is_clause_true set step.clause ≡ true
 step_true set n known step s h =
     let c = (and_parts (is_conflict known step.clause step.hints) _ (and_parts (is_proper n step.clause) _ h).1).0 in
@@ -155,7 +155,7 @@ step_true set n known step s h =
       | inr f ↦ absurd (conflict_false set known step.clause step.hints s (all_false set step.clause f) c)
     ]
 
--- deletions leave the others as they are
+-- after deletions, the clauses that are left are still true
 after_true : (set : ℕ → Bool) (known : List (Option (List Literal))) (ds : List ℕ) → KnownTrue set known → KnownTrue set (known_after known ds)
 after_true set known [] s = s
 after_true set known (zero ∷ ds) s = after_true set known ds s
@@ -171,6 +171,6 @@ refutes_false set n known (step ∷ steps) s h =
       | inr r ↦ refutes_false set n (known_after known step.deletes ++ Some step.clause ∷ []) steps (All-push (TrueIfKnown set) _ (Some step.clause) (after_true set known step.deletes s) (λ c e. let q : step.clause ≡ c = some_eq _ _ e in subst (λ (x : List Literal). is_clause_true set x ≡ true) q t)) r
     ]
 
--- a derivation is sound: if it is right, nothing satisfies the clauses
+-- a refutation is sound: if its steps are right, nothing satisfies the clauses
 pub refutes_sound : (n : ℕ) (clauses : List (List Literal)) (steps : List Step) → refutes n clauses steps ≡ true → (set : ℕ → Bool) → Satisfies set clauses → ⊥
 refutes_sound n clauses steps h set s = refutes_false set n (map (λ c. Some c) clauses) steps (All-map (TrueIfKnown set) (λ c. Some c) clauses (λ k d l c e. let q : get_or clauses k d ≡ c = some_eq _ _ e in subst (λ (x : List Literal). is_clause_true set x ≡ true) q (s k d l))) h

@@ -4,7 +4,7 @@ use Rattle.std.specs.List.{All}
 use Rattle.dd_rows.specs.declared.rows.Row.{Row}
 use Rattle.dd_discharge.specs.Amounts.{row_in}
 
--- each has a coefficient from -1 to 1 for each column; the first says that no position holds more than a cap
+-- each row has a coefficient from -1 to 1 for each column; the first row says that column 0 is at most a cap
 pub record AreRowsOf (columns : ℕ) (rows : List Row) : Type 0 where
   pub wide : 0 < columns
   pub narrow : columns ≤ 256

@@ -8,7 +8,7 @@ use Rattle.dd_derivation.specs.Derivations.{is_literal_in_range, is_among, is_co
 use Rattle.dd_engines.specs.declared.{analysis.Entry.Entry, propagation.Progress.Progress}
 use Rattle.dd_engines.specs.declared.propagation.Progress.TheVariants.{Conflict, More, Settled}
 
--- there is a value, and it is not the sign
+-- there is a value, and it is not this sign
 abbrev pub is_other : Bool → Option Bool → Bool
 is_other positive None = false
 is_other positive (Some value) = not (beq value positive)
@@ -26,7 +26,7 @@ unknown_count (Some value) = 0
 abbrev pub unknowns : List (Option Bool) → ℕ
 unknowns values = sum_by unknown_count values
 
--- the clauses by number, all of them alive
+-- the clauses by number, none of them deleted
 abbrev pub alive : List (List Literal) → List (Option (List Literal))
 alive clauses = map (λ c. Some c) clauses
 
@@ -34,7 +34,7 @@ alive clauses = map (λ c. Some c) clauses
 abbrev pub falses : List Entry → List Literal
 falses entries = map (λ e. negation e.literal) entries
 
--- by the older entries, only the entry's literal is left in its clause
+-- the entry's clause forces its literal once the older entries are true
 pub record IsForced (clauses : List (List Literal)) (older : List Entry) (e : Entry) : Type 0 where
   pub within : e.number < length clauses
   pub forced : finding (is_among (falses older)) (slice_index_or clauses e.number []) ≡ Forced e.literal
@@ -43,14 +43,14 @@ pub record IsForced (clauses : List (List Literal)) (older : List Entry) (e : En
 abbrev pub IsTrail : List (List Literal) → List Entry → Type 0
 IsTrail clauses entries = (k : ℕ) (d : Entry) → k < length entries → IsForced clauses (take k entries) (slice_index_or entries k d)
 
--- by the entries, no literal is left in the clause with this number
+-- by the entries, all literals of the clause with this number are false
 pub record IsFalsified (clauses : List (List Literal)) (entries : List Entry) (number : ℕ) : Type 0 where
   pub within : number < length clauses
   pub falsified : finding (is_among (falses entries)) (slice_index_or clauses number []) ≡ Falsified
 
--- the entries follow, and they make true exactly the literals that the values make true
+-- each entry follows from the older ones, and the entries make the same literals false as the values
 pub record Follows (clauses : List (List Literal)) (entries : List Entry) (values : List (Option Bool)) : Type 0 where
-  pub told : (l : Literal) → is_false_by values l ≡ is_among (falses entries) l
+  pub agree : (l : Literal) → is_false_by values l ≡ is_among (falses entries) l
   pub trail : IsTrail clauses entries
 
 -- the hints end in a conflict
@@ -61,11 +61,11 @@ Ends clauses hints = is_conflict (alive clauses) [] hints ≡ true
 abbrev pub Conflicts : List (List Literal) → List Entry → ℕ → Type 0
 Conflicts clauses entries number = IsTrail clauses entries × IsFalsified clauses entries number
 
--- by the values, the clause is not falsified and makes nothing true
+-- by the values, the clause is not falsified and forces no literal
 abbrev pub IsSettled : List (Option Bool) → List Literal → Type 0
 IsSettled values clause = finding (is_false_by values) clause ≡ Open
 
--- one more value follows
+-- at least one more value follows
 pub record FollowsMore (clauses : List (List Literal)) (values : List (Option Bool)) (new_entries : List Entry) (new_values : List (Option Bool)) : Type 0 where
   pub follows : Follows clauses new_entries new_values
   pub fewer : unknowns new_values < unknowns values
@@ -78,10 +78,10 @@ Looked clauses number entries values new_entries new_values Open =
     (new_entries ≡ entries) × (new_values ≡ values) × (number < length clauses → IsSettled values (slice_index_or clauses number []))
 
 -- what a look at a clause, and at others after it, leaves
-abbrev pub Went : List (List Literal) → ℕ → List Entry → List (Option Bool) → List Entry → List (Option Bool) → Progress → Type 0
-Went clauses number entries values new_entries new_values (Conflict conflict) = Conflicts clauses new_entries conflict
-Went clauses number entries values new_entries new_values More = FollowsMore clauses values new_entries new_values
-Went clauses number entries values new_entries new_values Settled =
+abbrev pub Followed : List (List Literal) → ℕ → List Entry → List (Option Bool) → List Entry → List (Option Bool) → Progress → Type 0
+Followed clauses number entries values new_entries new_values (Conflict conflict) = Conflicts clauses new_entries conflict
+Followed clauses number entries values new_entries new_values More = FollowsMore clauses values new_entries new_values
+Followed clauses number entries values new_entries new_values Settled =
     (new_entries ≡ entries) × (new_values ≡ values) × (number < length clauses → IsSettled values (slice_index_or clauses number []))
 
 -- what a pass over all clauses leaves

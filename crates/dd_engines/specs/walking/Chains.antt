@@ -1,8 +1,8 @@
--- Where literals stand: chains of links in one list.
+-- Occurrence lists of literals: chains of links in one list.
 use Rattle.std.specs.Prelude.{◌≡◌, ℕ, zero, suc, ◌*◌, ◌≤◌, ◌<◌, List, [], ◌∷◌, Some, slice_get, slice_index_or, length, All}
 use Rattle.std.specs.Option.{option_map_or}
 use Rattle.dd_clause.specs.declared.clause.Literal.{Literal}
-use Rattle.dd_engines.specs.{declared.chains.Link.Link, declared.chains.Chains.Chains, walking.Truths.place_of, walking.Truths.standing}
+use Rattle.dd_engines.specs.{declared.chains.Link.Link, declared.chains.Chains.Chains, walking.Truths.place_of, walking.Truths.occurrences}
 
 -- The numbers along a chain, over at most this many links. A chain is named by the number, from 1, of its first link;
 -- 0 names the empty chain.
@@ -11,6 +11,7 @@ along zero links at = []
 along (suc most) links zero = []
 along (suc most) links (suc at) = option_map_or (λ link. link.number ∷ along most links link.next) (slice_get links at) []
 
+-- the numbers along a whole chain
 abbrev pub chain_of : List Link → ℕ → List ℕ
 chain_of links at = along at links at
 
@@ -18,11 +19,12 @@ chain_of links at = along at links at
 abbrev pub AreLinked : List Link → Type 0
 AreLinked links = (k : ℕ) (link : Link) → slice_get links k ≡ Some link → link.next ≤ k
 
--- the links lead back, and each chain begins at one of them
+-- the links lead back, and each chain is empty or begins at one of them
 pub record IsLinked (chains : Chains) : Type 0 where
   pub back : AreLinked chains.links.items
   pub firsts : All (λ at. at ≤ length chains.links.items) chains.firsts.items
 
+-- the literal's variable is in range, so that the literal has a place for a chain
 abbrev pub HasChain : Chains → Literal → Type 0
 HasChain chains l = (1 ≤ l.variable) × (place_of l < length chains.firsts.items)
 
@@ -32,7 +34,7 @@ numbers_of chains l = chain_of chains.links.items (slice_index_or chains.firsts.
 
 -- each literal's chain lists the clauses that have it, numbered from first on
 abbrev pub AreChained : Chains → ℕ → List (List Literal) → Type 0
-AreChained chains first clauses = (l : Literal) → HasChain chains l → numbers_of chains l ≡ standing l first clauses
+AreChained chains first clauses = (l : Literal) → HasChain chains l → numbers_of chains l ≡ occurrences l first clauses
 
 -- the chains of this many variables list the clauses
 pub record IsListingOf (chains : Chains) (variables : ℕ) (clauses : List (List Literal)) : Type 0 where

@@ -1,4 +1,4 @@
--- How a walk is found to go round.
+-- When a walk is found to be in a cycle.
 use Rattle.std.specs.Prelude.{◌≡◌, ℕ, ◌+◌, ◌-◌, ◌%◌, ◌<◌, ◌≤◌, ◌⊎◌, if◌then◌else◌, Bool, List, [], ◌∷◌, Option, Some, length, IsSomeAnd}
 use Rattle.std.specs.Bool.{beq}
 use Rattle.dd_clause.specs.{declared.clause.Literal.Literal, Clauses.ClauseList}
@@ -10,13 +10,13 @@ differences [] ys = 0
 differences (x ∷ xs) [] = 0
 differences (x ∷ xs) (y ∷ ys) = (if beq x y then 0 else 1) + differences xs ys
 
--- the number is a multiple of the length of each clause that a flip takes, of the flips from one number on and before another
-abbrev pub IsTurn : ClauseList → ℕ → ℕ → ℕ → Type 0
-IsTurn cnf from to turn = (0 < turn) × ((i : ℕ) (values : List Bool) (clause : List Literal) → from ≤ i → i < to → values_after cnf i ≡ Some values → first_unsatisfied values cnf.clauses ≡ Some clause → 0 < length clause → turn % length clause ≡ 0)
+-- the number is a positive common multiple of the lengths of the clauses that flips take, from flip `from` to the one before `to`
+abbrev pub IsPeriod : ClauseList → ℕ → ℕ → ℕ → Type 0
+IsPeriod cnf from to period = (0 < period) × ((i : ℕ) (values : List Bool) (clause : List Literal) → from ≤ i → i < to → values_after cnf i ≡ Some values → first_unsatisfied values cnf.clauses ≡ Some clause → 0 < length clause → period % length clause ≡ 0)
 
--- The number is a multiple of a length, and of an earlier turn, unless the flips begin at this one.
-abbrev pub IsTurnWith : ℕ → ℕ → Option ℕ → ℕ → ℕ → Type 0
-IsTurnWith from k turn length next = (0 < next) × (0 < length → next % length ≡ 0) × ((from ≡ k) ⊎ IsSomeAnd turn (λ t. next % t ≡ 0))
+-- the next period is a multiple of this length, and of the earlier period unless flip number k is the first since the landmark
+abbrev pub IsPeriodWith : ℕ → ℕ → Option ℕ → ℕ → ℕ → Type 0
+IsPeriodWith from k period length next = (0 < next) × (0 < length → next % length ≡ 0) × ((from ≡ k) ⊎ IsSomeAnd period (λ t. next % t ≡ 0))
 
 -- the landmark knows in how many places the values differ from its own
 pub record IsCounted (landmark : Landmark) (values : List Bool) : Type 0 where
@@ -27,8 +27,8 @@ pub record IsCounted (landmark : Landmark) (values : List Bool) : Type 0 where
 abbrev pub IsSameOrNew : Landmark → Landmark → List Bool → ℕ → Type 0
 IsSameOrNew old new values k = ((new.values.items ≡ old.values.items) × (new.flips ≡ old.flips)) ⊎ ((new.values.items ≡ values) × (new.flips ≡ k))
 
--- no value differs from the landmark's, and the flips since are a multiple of a turn
-pub record IsBack (landmark : Landmark) (turn : Option ℕ) (k : ℕ) : Type 0 where
+-- no value differs from the landmark's, and the number of flips since is a multiple of the period
+pub record IsBack (landmark : Landmark) (period : Option ℕ) (k : ℕ) : Type 0 where
   pub same : landmark.differing ≡ 0
   pub later : landmark.flips < k
-  pub turned : IsSomeAnd turn (λ t. (k - landmark.flips) % t ≡ 0)
+  pub is_multiple : IsSomeAnd period (λ t. (k - landmark.flips) % t ≡ 0)

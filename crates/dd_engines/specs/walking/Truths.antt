@@ -13,19 +13,20 @@ true_count values clause = count_by (is_true_under (true_variables values)) clau
 abbrev pub times_in : Literal → List Literal → ℕ
 times_in l clause = count_by (same_literal l) clause
 
--- the numbers, from first on, of the clauses that have the literal, once for each time
-abbrev pub standing : Literal → ℕ → List (List Literal) → List ℕ
-standing l first [] = []
-standing l first (c ∷ cs) = replicate (times_in l c) first ++ standing l (first + 1) cs
+-- the numbers, from `first` on, of the clauses that have the literal, each as often as it has the literal
+abbrev pub occurrences : Literal → ℕ → List (List Literal) → List ℕ
+occurrences l first [] = []
+occurrences l first (c ∷ cs) = replicate (times_in l c) first ++ occurrences l (first + 1) cs
 
--- the place of a literal's chain: each variable has two
+-- the place of a literal among all literals, two for each variable
 abbrev pub place_of : Literal → ℕ
 place_of l = 2 * (l.variable - 1) + (if l.positive then 1 else 0)
 
--- a count of 64 bits, one more or one less
+-- a count of 64 bits with one more; it stops at its greatest number
 abbrev pub more : ℕ → ℕ
 more count = min (count + 1) (2 ^ 64 - 1)
 
+-- a count with one less; it stops at 0
 abbrev pub less : ℕ → ℕ
 less count = count - 1
 
@@ -34,12 +35,12 @@ abbrev pub changed : (ℕ → ℕ) → List ℕ → List ℕ → List ℕ
 changed f [] counts = counts
 changed f (k ∷ ks) counts = changed f ks (slice_set counts k (f (slice_index_or counts k 0)))
 
--- the place has a count of 0
+-- the place has a count of 0: none of the literals of its clause is true
 abbrev pub is_none_at : List ℕ → ℕ → Bool
 is_none_at counts k = option_map_or (λ count. count == 0) (slice_get counts k) false
 
--- The places stand in blocks of 32. There is a mark for each block; a place with a count of 0 has a mark at its block, which
--- is not before the start.
+-- The places stand in blocks of 32, and each block may have a mark. The block of each place with a count of 0 has a mark, and
+-- is not before the block `start`.
 pub record IsListed (counts : List ℕ) (marks : List Bool) (start : ℕ) : Type 0 where
   pub long : length marks ≡ length counts / 32 + 1
   pub after : (k : ℕ) → is_none_at counts k ≡ true → start ≤ k / 32

@@ -1,9 +1,9 @@
--- Formulas with a claim that is known of each, as the parts of a formula.
+-- The parts of a formula, each with a claim that is known of it.
 use Rattle.dd_expansion.specs.declared.formulas.Formula.{Formula, TheFolds.map-Formula, TheOpen.Formula-F}
 
 abbrev pub Known : (Formula → Type 0) → Type 0
 Known P = (f : Formula) × P f
 
--- without the claims
+-- the same parts without their claims
 abbrev pub layer : (P : Formula → Type 0) → Formula-F (Known P) → Formula-F Formula
 layer P y = map-Formula (Known P) Formula (λ e. e.0) y

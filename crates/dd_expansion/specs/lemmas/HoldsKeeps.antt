@@ -9,7 +9,7 @@ use Rattle.dd_expansion.specs.declared.expanded.Expanded.TheFolds.{fold-roll-Exp
 use Rattle.dd_expansion.specs.{declared.expanded.Expanded.TheOpen.Expanded-F, Truth.is_symbol}
 use Rattle.dd_expansion.specs.Leaves.{LeafTest, holds, holds_step, leaves_pass, leaves_pass_step, given}
 
--- at the leaves that pass a test, each look gives the leaf's symbol or neither does
+-- at each leaf that passes the test, both looks give the leaf's symbol or neither does
 abbrev pub AgreeAt : LeafTest → Look → Look → Type 0
 AgreeAt p look other = (c : Cell) (s : ℕ) → p c s ≡ true → is_symbol s (look c) ≡ is_symbol s (other c)
 

@@ -48,7 +48,7 @@ leaves_weaken = ind-Expanded Weakens (λ x y is p q w.
 abbrev both_tests : LeafTest → LeafTest → LeafTest
 both_tests p q c s = p c s && q c s
 
--- two tests at once
+-- passing two tests at once is passing each
 abbrev Joins : Expanded → Type 0
 Joins e = (p q : LeafTest) → leaves_pass (λ c s. p c s && q c s) e ≡ (leaves_pass p e && leaves_pass q e)
 

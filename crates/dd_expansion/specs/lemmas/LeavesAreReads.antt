@@ -24,7 +24,7 @@ use Rattle.dd_expansion.specs.lemmas.ListTests.{list_all-alike, list_all-flat_ma
 use Rattle.dd_expansion.specs.lemmas.LeafLaws.{leaves_are_cells}
 use Rattle.dd_values.specs.lemmas.Booleans.{and_true, and_same}
 
--- a test of each leaf, of each form of expansion
+-- when the leaves of each form of expansion pass a test
 module _ (test : LeafTest) where
   pub leaves_of_constant : (b : Bool) → leaves_pass test (constant b) ≡ true
   leaves_of_constant b = fold-roll-Expanded Bool (leaves_pass_step test) (Expanded-F.Constant b)
@@ -171,7 +171,7 @@ same_cells es n some f env =
     same_by_tests (leaf_cells (expansion es n f env)) (reads es f env)
     (λ test. sym (leaves_are_cells (expansion es n f env) test) ∙ leaves_are_reads es n some f env test)
 
--- the symbols of the leaves
+-- a test of leaves: the symbol is below n
 abbrev by_symbol : ℕ → LeafTest
 by_symbol n c s = nat_lt s n
 

@@ -92,8 +92,7 @@ pub truth_depends : (es : List Edge) (f : Formula) → Depends es f
 truth_depends es = ind-Formula (Depends es) (λ x y is env p look other agree.
     rw (fold-roll-Formula Truth (truth_step es) x, fold-roll-Formula Reading (reads_step es) x, ← is) (step_depends es env p look other agree y))
 
--- if the cells read have the same symbols, counted from u in one configuration and from v in the other, the truth is the
--- same
+-- if the cells read have the same symbols, relative to u in one configuration and to v in the other, the truth is the same
 pub truth_keeps : (es : List Edge) (f : Formula) (env : List Cell) (less more : Look) (u v : Place) →
     ((c : Cell) → is_some (less (shifted u c)) ≡ true → less (shifted u c) ≡ more (shifted v c)) →
     list_all (λ c. is_some (less (shifted u c))) (reads es f env) ≡ true → truth es f (map (shifted u) env) less ≡ truth es f (map (shifted v) env) more

@@ -6,7 +6,7 @@ use Rattle.dd_faults.specs.Tree.{Word, Ball, Quantifier, Join, Formula, roll-For
 use Rattle.dd_written.specs.declared.tree.Formula.TheVariants as v
 use Rattle.dd_faults.specs.Formulas.{quantifier_faults, faults_step, formula_faults}
 
--- the faults of a formula are those of its kind, made from those of its parts
+-- one step gives the faults of a formula from those of its parts
 pub faults_of : (x : Context) (y : Formula-F Formula) (whole : Formula) (scope : List Word) → whole ≡ roll-Formula y → formula_faults x whole scope ≡ faults_step x (map-Formula Formula (List Word → List Fault) (formula_faults x) y) scope
 faults_of x y whole scope is = ap (λ f. formula_faults x f scope) is ∙ ap (λ (h : List Word → List Fault). h scope) (fold-roll-Formula (List Word → List Fault) (faults_step x) y)
 

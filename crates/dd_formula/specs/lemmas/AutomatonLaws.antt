@@ -1,4 +1,4 @@
--- The counts of an automaton, by those of its parts.
+-- What is counted of an automaton, by what is counted of its parts, and what follows from its limits.
 use Rattle.std.proofs.Common.{◌≡◌, ◌<◌, ◌≤◌, ℕ, zero, suc, ◌+◌, Bool, true, false, List, [], ◌∷◌, ◌++◌, Option, Some, None, MatchOption, length, get_or, map, max, refl, ap, sym, ◌∙◌, inl, inr, subst, arith}
 use Rattle.std.proofs.Math.Nat.{eq-or-lt_of_le}
 use Rattle.std.proofs.lemmas.Bool.{and_parts, and_from, leb-true, lt-ltb, ltb-true, eqb-true}
@@ -16,7 +16,7 @@ use Rattle.dd_formula.specs.declared.automaton.{Automaton.TheOpen.Automaton-F, C
 use Rattle.dd_values.specs.lemmas.Booleans.{or_none}
 use Rattle.dd_formula.specs.declared.automaton.Automaton.TheVariants as v
 
--- each definition at the two forms of an automaton
+-- each definition, for an automaton by cases and for a composition
 pub counted_given : (c : Cases) → counted (v.Given c) ≡ counted_step (Automaton-F.Given c)
 counted_given c = ap counted (sym (v.rolls-Given c)) ∙ fold-roll-Automaton Counted counted_step (Automaton-F.Given c)
 
@@ -35,7 +35,7 @@ checks n = fold-Automaton Checked (limits_step n)
 checks_composed : (n : ℕ) (f g : Automaton) → checks n (v.Composed f g) ≡ limits_step n (Automaton-F.Composed (checks n f) (checks n g))
 checks_composed n f g = ap (checks n) (sym (v.rolls-Composed f g)) ∙ fold-roll-Automaton Checked (limits_step n) (Automaton-F.Composed f g)
 
--- the checks count what is counted
+-- beside the limits, `checks` has the same counts as `counted`
 abbrev CountsThose : ℕ → Automaton → Type 0
 CountsThose n f = (checks n f).counts ≡ counted f
 
@@ -62,7 +62,7 @@ within_composed n f g =
     ∙ (ap (λ (c : Counted). parts && keeps_limits n (counted_step (Automaton-F.Composed (counted f) c))) (counts_those n g)
     ∙ ap (λ (c : Counted). parts && keeps_limits n c) (sym (counted_composed f g))))
 
--- the parts of a well-formed composition
+-- the parts of a well-formed composition are well formed
 pub outer_part : (s : CommonNumbers) (f g : Automaton) → IsAutomaton s (v.Composed f g) → IsAutomaton s f
 outer_part s f g h = record {
   some = h.some;
@@ -77,7 +77,7 @@ inner_part s f g h = record {
   within = (and_parts _ _ (and_parts _ _ (sym (within_composed s.nodes f g) ∙ h.within)).0).1;
 }
 
--- a well-formed automaton is within the limits
+-- a well-formed automaton keeps the limits
 abbrev IsLimited : ℕ → Automaton → Type 0
 IsLimited n f = are_within n f ≡ true → keeps_limits n (counted f) ≡ true
 
@@ -102,7 +102,7 @@ within_is n = ind-Automaton (IsLimited n) (λ x y is h.
     ap (keeps_limits n) (fold-roll-Automaton Counted counted_step x)
     ∙ subst (Follows n) is (step_limited n y) (ap (λ (c : Checked). c.within) (sym (fold-roll-Automaton Checked (limits_step n) x)) ∙ h))
 
--- a test of the numbers from k on
+-- where all numbers of a range pass a test, each one does
 pub range_at : (p : ℕ → Bool) (k n a : ℕ) → list_all p (range_with_len k n) ≡ true → k ≤ a → a < k + n → p a ≡ true
 range_at p k zero a h low high = absurd (omega arith)
 range_at p k (suc n) a h low high =
@@ -128,7 +128,7 @@ module _ (s : CommonNumbers) (f : Automaton) (h : IsAutomaton s f) where
   pub shallow : (counted f).depth ≤ 64
   shallow = leb-true _ _ parts_within.2
 
--- lists of cells that say the same, in cell order
+-- lists with the same members give the same list, when they are joined and put in cell order
 module _ (X : Type 0) (g h : X → List Cell) (same : (x : X) (p : Cell → Bool) → list_all p (g x) ≡ list_all p (h x)) where
   pub in_order_alike : (xs : List X) → in_order (flat_map g xs) ≡ in_order (flat_map h xs)
   in_order_alike xs =
@@ -184,13 +184,13 @@ depth_composed f g = ap (λ h. h.depth) (counted_composed f g)
 
 pub ruleset layers = (reads_given, reads_composed, instances_given, instances_composed, depth_given, depth_composed)
 
--- the elements of a list that passes
+-- where all elements of a list pass a test, each one does
 pub passes_at : {X : Type 0} (p : X → Bool) (xs : List X) (i : ℕ) (x : X) → list_all p xs ≡ true → i < length xs → x ≡ get_or xs i x → p x ≡ true
 passes_at p [] i x h below is = absurd (omega arith)
 passes_at p (y ∷ ys) zero x h below is = ap p is ∙ (and_parts (p y) (list_all p ys) h).0
 passes_at p (y ∷ ys) (suc i) x h below is = passes_at p ys i x (and_parts (p y) (list_all p ys) h).1 (omega arith) is
 
--- a rule with the numbers of a setting reads cells of it
+-- a rule of a setting reads cells of it
 pub rule_reads : (s : CommonNumbers) (r : LocalRule) (a : ℕ) → IsRule r → rule_has s r ≡ true → a < s.nodes → list_all (is_cell_of s) (cells_at r a) ≡ true
 rule_reads s r a rule has below =
     let two = and_parts (r.dimension == s.dimension && r.nodes == s.nodes) (r.symbols == s.symbols) has in
@@ -201,19 +201,19 @@ rule_reads s r a rule has below =
     ∙ (list_all-alike (is_cell_of s) (is_of r) (λ c. ap (λ d. is_cell_in d s.nodes c) (sym dimension) ∙ ap (λ n. is_cell_in r.dimension n c) (sym nodes)) (reads_at r a)
     ∙ rule.placed a (omega arith))
 
--- the rule of a case has the numbers
+-- the rule of a case is one of the setting
 pub case_has : (s : CommonNumbers) (cases : List (LocalRule × ℕ)) (otherwise i : ℕ) (case : LocalRule × ℕ) → cases_fit s cases otherwise ≡ true → i < length cases → case ≡ get_or cases i case → rule_has s case.0 ≡ true
 case_has s cases otherwise i case fit below is =
     let all = and_parts (list_all (λ c. rule_has s c.0 && nat_lt c.1 s.symbols) cases) (nat_lt otherwise s.symbols) fit in
     (and_parts (rule_has s case.0) (nat_lt case.1 s.symbols) (passes_at (λ c. rule_has s c.0 && nat_lt c.1 s.symbols) cases i case all.0 below is)).0
 
--- a rule that has the numbers of a setting has its nodes
+-- a rule of a setting has the setting's number of nodes
 pub rule_nodes : (s : CommonNumbers) (r : LocalRule) → rule_has s r ≡ true → r.nodes ≡ s.nodes
 rule_nodes s r has =
     let two = and_parts (r.dimension == s.dimension && r.nodes == s.nodes) (r.symbols == s.symbols) has in
     eqb-true r.nodes s.nodes (and_parts (r.dimension == s.dimension) (r.nodes == s.nodes) two.0).1
 
--- cells of a setting moved by one of its positions
+-- cells of a setting, moved by one of its positions, are cells of it
 pub moved_placed : (s : CommonNumbers) (c : Cell) (ds : List Cell) → is_cell_of s c ≡ true → list_all (is_cell_of s) ds ≡ true → list_all (is_cell_of s) (map (shifted c.position) ds) ≡ true
 moved_placed s c ds here h =
     let flat = (and_parts (is_flat s.dimension c.position) (nat_lt c.node s.nodes) here).0 in
@@ -221,15 +221,15 @@ moved_placed s c ds here h =
     ∙ list_all-weaker (is_cell_of s) (λ d. is_cell_of s (shifted c.position d))
     (λ d there. let both = and_parts (is_flat s.dimension d.position) (nat_lt d.node s.nodes) there in and_from _ _ (flat_moved s.dimension d.position c.position both.0 flat) both.1) ds h
 
--- one list after another passes
+-- two lists that pass a test, joined, pass it
 pub passes_both : {X : Type 0} (p : X → Bool) (xs ys : List X) → list_all p xs ≡ true → list_all p ys ≡ true → list_all p (xs ++ ys) ≡ true
 passes_both p xs ys h h' = list_all-append p xs ys ∙ and_from (list_all p xs) (list_all p ys) h h'
 
--- one of the cells of a setting
+-- each cell of a setting has one of its nodes
 pub node_at : (s : CommonNumbers) (cs : List Cell) (i : ℕ) (c : Cell) → list_all (is_cell_of s) cs ≡ true → i < length cs → c ≡ get_or cs i c → c.node < s.nodes
 node_at s cs i c h below is = ltb-true c.node s.nodes (and_parts (is_flat s.dimension c.position) (nat_lt c.node s.nodes) (passes_at (is_cell_of s) cs i c h below is)).1
 
--- the number of nodes of the rules
+-- whether there are rules, and their number of nodes
 has_rules_given : (c : Cases) → has_rules (v.Given c) ≡ nat_lt 0 (length c.cases)
 has_rules_given c = ap has_rules (sym (v.rolls-Given c)) ∙ fold-roll-Automaton Bool has_rules_step (Automaton-F.Given c)
 
@@ -247,7 +247,7 @@ pub nodes_inner : (f g : Automaton) (r : Option ℕ) → has_rules f ≡ false �
 nodes_inner f g None none h = has_rules_composed f g ∙ (ap (λ b. b || has_rules g) none ∙ h)
 nodes_inner f g (Some n) none h = λ s fit. h s (and_parts (automaton_fits s f) (automaton_fits s g) (sym (fits_composed s f g) ∙ fit)).1
 
--- without rules nothing is read, and all nodes have the same count
+-- without rules nothing is read, and all nodes have equally many instances
 abbrev pub IsUniform : Automaton → Type 0
 IsUniform f = has_rules f ≡ false → ((a : ℕ) → (counted f).reads a ≡ []) × ((a : ℕ) → (counted f).instances a ≡ (counted f).instances 0)
 

@@ -10,7 +10,7 @@ use Rattle.dd_formula.specs.{ByCases.numbers_over, ByCases.IsCasesRefusal, decla
 use Rattle.dd_formula.specs.declared.fault.RuleFault.TheVariants.{Reach, Instances, Depth, Memory}
 use Rattle.dd_formula.specs.lemmas.CompositionLaws.{range_fails}
 
--- an automaton with at least a rule's instances and reads is refused if the rule is
+-- an automaton that has a rule's instances and reads, or more, is refused where the rule is
 module _ (r : LocalRule) (f : Counted) (large : (a : ℕ) → instances (expansion_at r a) ≤ f.instances a) (far : (a : ℕ) → list_all is_near (reads_at r a) ≡ false → list_all is_near (f.reads a) ≡ false) where
   pub refused : (e : RuleFault) → (IsSmall r → is_few r.nodes f ≡ true) → IsRuleRefusal r e → IsCasesRefusal r.nodes f e
   refused Instances few h = range_fails (λ a. nat_le (f.instances a) most_instances) r.nodes h.node h.exists (lt-leb _ _ (omega (arith, h.many, large h.node)))
@@ -18,7 +18,7 @@ module _ (r : LocalRule) (f : Counted) (large : (a : ℕ) → instances (expansi
   refused Depth few h = h
   refused Memory few h = tt
 
--- the limits of automata by cases are limits of compositions
+-- what refuses an automaton by cases refuses a composition with the same counts
 pub passes_one : (n : ℕ) (f : Counted) (e : RuleFault) → IsCasesRefusal n f e → IsCompositionFault n f e
 passes_one n f Instances h = h
 passes_one n f Reach h = h
@@ -33,6 +33,6 @@ pub record IsCase (cases : List (LocalRule × ℕ)) (i : ℕ) (case : LocalRule 
 pub case_of : (cases items : List (LocalRule × ℕ)) (i : ℕ) (case : LocalRule × ℕ) → items ≡ cases → case ≡ get_or items i case → i < length items → IsCase cases i case
 case_of cases items i case same is below = record { is = is ∙ ap (λ xs. get_or xs i case) same; below = subst (λ xs. i < length xs) same below }
 
--- a rule over a topology and its symbols has their numbers
+-- a rule over a topology and an alphabet is one of their setting
 pub has_numbers : (g : Grid) (s : SymbolSets) (f : Formula) → rule_has (numbers_over g s) (local_rule g s f) ≡ true
 has_numbers g s f = and_from _ _ (and_from _ _ (eq-eqb g.dimension g.dimension refl) (eq-eqb g.nodes g.nodes refl)) (eq-eqb s.symbols s.symbols refl)

@@ -1,4 +1,4 @@
--- Compositions within the limits, and the nodes that are looked at.
+-- Compositions within the limits, and how many nodes need a test.
 use Rattle.std.proofs.Common.{◌≡◌, ◌<◌, ◌≤◌, ℕ, zero, suc, ◌+◌, Bool, true, false, refl, ap, sym, ◌∙◌, add-one, arith}
 use Rattle.std.proofs.lemmas.Bool.{and_from}
 use Rattle.std.specs.{Prelude.◌&&◌, Prelude.◌||◌, Prelude.nat_le, List.list_all, List.range_with_len}
@@ -22,7 +22,7 @@ passes_more p n h here =
     let same : 0 + n ≡ n = omega arith in
     ap (λ m. list_all p (range_with_len 0 m)) (add-one n) ∙ (range_more p 0 n ∙ and_from _ _ h (ap p same ∙ here))
 
--- one of the numbers fails
+-- a range fails a test if one of its numbers does
 pub range_fails : (p : ℕ → Bool) (n i : ℕ) → i < n → p i ≡ false → list_all p (range_with_len 0 n) ≡ false
 range_fails p n i below here = by (list_all p (range_with_len 0 n)) refl
   where
@@ -30,7 +30,7 @@ range_fails p n i below here = by (list_all p (range_with_len 0 n)) refl
     by true e = absurd (let passes = range_at p 0 n i e (omega arith) (omega arith) in cc)
     by false e = e
 
--- a test with the same answer for all numbers
+-- a test that answers the same for all numbers: a range passes it exactly if 0 does
 range_constant : (p : ℕ → Bool) → ((a : ℕ) → p a ≡ p 0) → (k n : ℕ) → list_all p (range_with_len k (suc n)) ≡ p 0
 range_constant p same k zero = and_true (p k) ∙ same k
 range_constant p same k (suc n) = ap (λ b. p k && b) (range_constant p same (k + 1) n) ∙ (ap (λ b. b && p 0) (same k) ∙ and_same (p 0))
@@ -39,11 +39,11 @@ range_one : (p : ℕ → Bool) → ((a : ℕ) → p a ≡ p 0) → (n : ℕ) →
 range_one p same zero h = absurd (omega arith)
 range_one p same (suc n) h = range_constant p same 0 n ∙ sym (range_constant p same 0 0)
 
--- the number of nodes itself
+-- it is enough to test all nodes of the setting
 pub stands_all : (s : CommonNumbers) (f : Counted) (n : ℕ) → s.nodes ≡ n → StandFor s f n
 stands_all s f n is = record { below = omega arith; few = ap (λ k. is_few k f) is; short = ap (λ k. is_short k f) is }
 
--- one node, where there is no rule
+-- it is enough to test one node where there is no rule
 pub stands_one : (s : CommonNumbers) (f g : Automaton) → has_rules f ≡ false → has_rules g ≡ false → 1 ≤ s.nodes → StandFor s (composition f g) 1
 stands_one s f g none none' some =
     let same = uniform (v.Composed f g) (has_rules_composed f g ∙ (ap (λ b. b || has_rules g) none ∙ none')) in record {

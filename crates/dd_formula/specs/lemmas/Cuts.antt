@@ -8,7 +8,7 @@ use Rattle.dd_expansion.specs.{Leaves.total, lemmas.Layers.total-map}
 use Rattle.dd_formula.specs.Counts.{cut}
 
 module _ {X : Type 0} where
-  -- one element more
+  -- joined lists and sums, with one element more
   pub flat_more : {A : Type 0} (f : X → List A) (xs : List X) (i : ℕ) (x : X) → i < length xs → x ≡ get_or xs i x → flat_map f (take (i + 1) xs) ≡ flat_map f (take i xs) ++ f x
   flat_more f xs i x below is =
       ap (flat_map f) (take_more xs i x below)
@@ -31,7 +31,7 @@ cut_passed l m n le past = omega arith
 pub next_cut : (l old term new sum part whole : ℕ) → old ≡ cut l sum → term ≡ cut l part → new ≡ cut l (old + term) → whole ≡ sum + part → new ≡ cut l whole
 next_cut l old term new sum part whole a b c d = omega arith
 
--- ---- a product or a power of counts that were cut off is the cut off product or power
+-- ---- a product or a power of counts that are cut off, itself cut off, is the product or the power of the counts, cut off
 
 times_small : (l x y : ℕ) → x ≤ l → cut l (cut l x * y) ≡ cut l (x * y)
 times_small l x y le =

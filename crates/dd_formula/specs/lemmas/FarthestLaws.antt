@@ -1,4 +1,4 @@
--- How far the farthest of cells lies, list by list.
+-- How far the farthest cell of a list lies, when the list grows.
 use Rattle.std.proofs.Common.{◌≡◌, ◌<◌, ◌≤◌, ◌+◌, ℕ, zero, suc, max, true, false, refl, List, [], ◌∷◌, ◌++◌, length, take, get_or, ap, sym, ◌∙◌, arith, rules}
 use Rattle.std.proofs.lemmas.{Bool.and_parts, Bool.leb-true, List.take_more, List.append-nil}
 use Rattle.std.proofs.lemmas.List.Concat.{flat_map-append, flat_map-cons}
@@ -38,7 +38,7 @@ node_more at n old e new cells is far greater so_far =
     let here : e ≡ farthest (at n) = far ∙ ap farthest is in
     greater ∙ (greater_is old e ∙ omega (arith, both, here, so_far))
 
--- cells that are near are not far
+-- cells within the limit of reach lie at most 16 away
 pub near_farthest : (cs : List Cell) → list_all is_near cs ≡ true → farthest cs ≤ 16
 near_farthest [] h = omega arith
 near_farthest (c ∷ cs) h =

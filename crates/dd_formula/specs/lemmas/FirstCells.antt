@@ -1,4 +1,4 @@
--- Cells of a fundamental box: they are cells of Z^d, and the first one at which a rule is false is one.
+-- Cells of a fundamental box: they lie in Z^d, and there is at most one first cell at which a rule is false.
 use Rattle.std.proofs.Common.{◌≡◌, ℕ, ◌<◌, ◌||◌, Bool, true, false, ℤ, pos, refl, ap, sym, subst, ◌∙◌, arith}
 use Rattle.std.proofs.lemmas.Bool.{ltb-false, false≢true}
 use Rattle.std.proofs.lemmas.Cmp.{nat_cmp_total, int_cmp_total, on_total, then_total}
@@ -36,7 +36,7 @@ not_both x t tile fits c first lives =
     let node : c.node < x.nodes = subst (λ n. c.node < n) fits.nodes first.within.node in
     false≢true (sym first.here ∙ lives c.position c.node flat node)
 
--- ---- the first cell at which a rule is false is one
+-- ---- there is at most one first cell at which a rule is false
 
 cells_total : IsTotalOrder cell_cmp
 cells_total =

@@ -20,28 +20,28 @@ max_within a b k = grind (arith, nat_tests)
 none_far : (k : ℕ) → nat_le 0 k ≡ true
 none_far k = grind (arith, nat_tests)
 
--- the farthest of cells lies within k exactly where all do
+-- the farthest cell of a list lies within k exactly if all of them do
 all_within : (k : ℕ) (cs : List Cell) → nat_le (farthest cs) k ≡ list_all (is_within k) cs
 all_within k [] = none_far k
 all_within k (c ∷ cs) = max_within (extent c.position) (farthest cs) k ∙ ap (λ b. is_within k c && b) (all_within k cs)
 
--- a test of the items of all lists
+-- a test of joined lists is a test of each list
 list_all-flat_map : {X Y : Type 0} (p : Y → Bool) (f : X → List Y) (xs : List X) → list_all p (flat_map f xs) ≡ list_all (λ x. list_all p (f x)) xs
 list_all-flat_map p f [] = refl
 list_all-flat_map p f (x ∷ xs) =
     ap (list_all p) (flat_map-cons f x xs)
     ∙ (list_all-append p (f x) (flat_map f xs) ∙ ap (λ b. list_all p (f x) && b) (list_all-flat_map p f xs))
 
--- a test of the numbers from m on
+-- a range passes a test if each of its numbers does
 pub all_numbers : (p : ℕ → Bool) (m n : ℕ) → ((k : ℕ) → k < m + n → p k ≡ true) → list_all p (range_with_len m n) ≡ true
 all_numbers p m zero h = refl
 all_numbers p m (suc n) h = and_from _ _ (h m (omega arith)) (all_numbers p (m + 1) n (λ k below. h k (omega arith)))
 
--- the rule reads nothing farther away than k, node by node
+-- the reach of a rule is at most k exactly if at each node it reads nothing farther away
 nodes_within : (r : LocalRule) (k : ℕ) → nat_le (reach r) k ≡ list_all (λ a. list_all (is_within k) (cells_at r a)) (range_with_len 0 r.nodes)
 nodes_within r k = all_within k (all_cells r) ∙ list_all-flat_map (is_within k) (cells_at r) (range_with_len 0 r.nodes)
 
--- the rule reads nothing farther away than k exactly where its reach is at most k
+-- a rule whose reach is at most k reads nothing farther away, and the other way round
 pub reads_within : (r : LocalRule) (k a : ℕ) → reach r ≤ k → a < r.nodes → list_all (is_within k) (reads_at r a) ≡ true
 reads_within r k a far node =
     let all = sym (nodes_within r k) ∙ le-leb (reach r) k far in

@@ -67,6 +67,6 @@ pub tile_below : (r : LocalRule) (t : Tile) → Fits r t → HasSymbolsBelow r.s
 tile_below r t fits c =
     cond_both (nat_lt c.node t.nodes) (slice_get t.symbols (tile_index t c)) None (λ o. IfSome o (λ s. s < r.symbols)) (λ _. below_at r.symbols t.symbols fits.symbols (tile_index t c)) (λ _. tt)
 
--- and so does a filling with such symbols
+-- a filling with symbols below n gives only symbols below n
 pub filling_below : (n : ℕ) (f : Filled) → All (λ s. s < n) f.symbols → HasSymbolsBelow n (filling_look f)
 filling_below n f h c = below_at n f.symbols h (position_or_len (λ d. is_eq (cell_cmp d c)) f.cells)

@@ -9,7 +9,7 @@ use Rattle.dd_expansion.specs.lemmas.{LeavesAreReads.leaves_are_reads, TruthKeep
 use Rattle.dd_expansion.specs.lemmas.TruthAt.{at_origin, says_at}
 use Rattle.dd_formula.specs.LocalRule.{LocalRule, expansion_at, reads_at, cells_at, is_true}
 
--- the expansion at a node says of the symbols counted from a cell what the rule says at the cell
+-- the expansion at a node, with the cells of its leaves relative to a cell, is true exactly if the rule is true at that cell
 pub at_cell : (r : LocalRule) (c : Cell) (look : Look) → HasSymbolsBelow r.symbols look → holds (expansion_at r c.node) (λ d. look (shifted c.position d)) ≡ is_true r c look
 at_cell r c look below = says_at r.edges r.symbols r.formula look c.position c.node below
 
@@ -40,10 +40,10 @@ truth_by_given r a u v less more same given =
     ∙ (truth_depends r.edges r.formula (origin_at a ∷ []) (λ d. is_some (less (shifted u d))) (λ d. less (shifted u d)) (λ d. more (shifted v d)) same given
     ∙ sym (truth_moved_back r v a more))
 
--- a test of the leaves' cells is a test of the cells that are read
+-- a test of the cells of an expansion's leaves is a test of the cells that are read
 pub leaves_pass_reads : (r : LocalRule) → 1 ≤ r.symbols → (a : ℕ) (test : Cell → Bool) → leaves_pass (λ c s. test c) (expansion_at r a) ≡ list_all test (reads_at r a)
 leaves_pass_reads r some a test = leaves_are_reads r.edges r.symbols some r.formula (origin_at a ∷ []) test
 
--- and so it is in the list of the cells that are read
+-- a test of the cells that are read is a test of these cells in cell order
 pub cells_pass_reads : (r : LocalRule) (a : ℕ) (test : Cell → Bool) → list_all test (cells_at r a) ≡ list_all test (reads_at r a)
 cells_pass_reads r a test = list_all-in_order test (reads_at r a)

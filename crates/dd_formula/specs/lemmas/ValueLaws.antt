@@ -19,7 +19,7 @@ use Rattle.dd_formula.specs.lemmas.AutomatonLaws.{counted_given, counted_compose
 use Rattle.dd_values.specs.lemmas.Numbers.{plus_zero}
 use Rattle.dd_formula.specs.declared.automaton.Automaton.TheVariants as v
 
--- the definition at the two forms of an automaton
+-- the definition, for an automaton by cases and for a composition
 pub value_given : (c : Cases) (look : Look) (at : Cell) → value (v.Given c) look at ≡ first_case c.cases c.otherwise look at
 value_given c look at =
     ap (λ (g : Valuation). g look at) (ap value (sym (v.rolls-Given c)) ∙ fold-roll-Automaton Valuation value_step (Automaton-F.Given c))
@@ -28,7 +28,7 @@ pub value_composed : (f g : Automaton) (look : Look) (at : Cell) → value (v.Co
 value_composed f g look at =
     ap (λ (h : Valuation). h look at) (ap value (sym (v.rolls-Composed f g)) ∙ fold-roll-Automaton Valuation value_step (Automaton-F.Composed f g))
 
--- cells that are moved twice
+-- cells that are moved twice are moved by the sum
 plus_assoc : (x y z : ℤ) → ((x +ℤ y) +ℤ z) ≡ (x +ℤ (y +ℤ z))
 plus_assoc x y z = omega (arith, ints)
 
@@ -76,7 +76,7 @@ by_cases (case ∷ cases) otherwise a u w one other h =
     ap (λ b. cond b case.1 (first_case cases otherwise one (cell u a))) (truth_by_reads case.0 a u w one other both.0)
     ∙ ap (λ n. cond (is_true case.0 (cell w a) other) case.1 n) (by_cases cases otherwise a u w one other both.1)
 
--- at a cell that the first automaton reads
+-- the same at a cell that the first automaton reads
 at_read : (g : Automaton) → Depends g → (u w : Place) (one other : Look) (c : Cell) → list_all (alike u w one other) (map (shifted c.position) ((counted g).reads c.node)) ≡ true →
     are_equal (Some (value g one (shifted u c))) (Some (value g other (shifted w c))) ≡ true
 at_read g depends u w one other c h =
@@ -159,7 +159,7 @@ read_by_both f g a look =
     ∙ (list_all-alike (λ c. are_given look origin (there c)) (λ c. is_read g c look) (read_there g look) reads
     ∙ sym (list_all-in_order (λ c. is_read g c look) reads)))
 
--- one case after the other
+-- the first true case, from the i-th on: the i-th itself, or one from the next on
 pub case_step : (cases : List (LocalRule × ℕ)) (otherwise : ℕ) (look : Look) (at : Cell) (i : ℕ) (case : LocalRule × ℕ) (b : Bool) → i < length cases → case ≡ get_or cases i case →
     is_true case.0 at look ≡ b → first_case (drop i cases) otherwise look at ≡ cond b case.1 (first_case (drop (i + 1) cases) otherwise look at)
 case_step cases otherwise look at i case b below is here =
@@ -180,7 +180,7 @@ rule_symbols s r has = eqb-true r.symbols s.symbols (and_parts (r.dimension == s
 pub told : (r : LocalRule) (at : Cell) (look : Look) (answer : Option Bool) → is_given r at look ≡ true → answer ≡ cond (is_given r at look) (Some (is_true r at look)) None → answer ≡ Some (is_true r at look)
 told r at look answer given said = said ∙ ap (λ b. cond b (Some (is_true r at look)) None) given
 
--- automata that keep to their nodes
+-- an automaton reads cells with its nodes
 pub placed_given : (c : Cases) → CasesArePlaced c → IsPlaced (v.Given c)
 placed_given c h s formed a below =
     ap (λ (k : Counted). list_all (is_cell_of s) (k.reads a)) (counted_given c) ∙ h s (sym (fits_given s c) ∙ formed.fits) a below
@@ -196,7 +196,7 @@ placed_composed f g outer inner s formed a below =
     ∙ list_all-weaker (is_cell_of s) (λ c. list_all (is_cell_of s) (there c))
     (λ c here. let node = ltb-true c.node s.nodes (and_parts (is_flat s.dimension c.position) (nat_lt c.node s.nodes) here).1 in moved_placed s c ((counted g).reads c.node) here (inner s second c.node node)) reads first)
 
--- and the automaton gives the same
+-- options that are equal, and have a value, pass the test for equality
 pub equal_to_some : (a b : Option ℕ) → a ≡ b → is_some a ≡ true → are_equal a b ≡ true
 equal_to_some None b e h = absurd (cc)
 equal_to_some (Some x) b e h = subst (λ o. are_equal (Some x) o ≡ true) e (equal_values x x refl)

@@ -1,4 +1,4 @@
--- What the recursion over compositions keeps: all that is read near the origin has symbols of the alphabet.
+-- What each step of the evaluation of a composition needs: each cell that it reads has a symbol of the alphabet.
 use Rattle.std.specs.{Prelude.ℕ, Prelude.◌<◌, Prelude.◌≡◌, Prelude.true, Prelude.List, List.list_all}
 use Rattle.dd_lattice.specs.{Place.Place, declared.position.Cell.Cell}
 use Rattle.dd_pattern.specs.{Reading.Look, Reading.HasSymbolsBelow, Filling.Filled, Filling.filling_look}
@@ -7,12 +7,12 @@ use Rattle.dd_formula.specs.{Automata.CommonNumbers, Automata.IsAutomaton, Autom
 use Rattle.dd_formula.specs.declared.automaton.Automaton.{Automaton}
 use Rattle.dd_formula.specs.declared.automaton.Automaton.TheVariants as v
 
--- an automaton at a node of the origin
+-- the automaton can be evaluated at a node of the origin
 pub record IsReadable (f : Automaton) (a : ℕ) (look : Look) : Type 0 where
   pub has : HasLook f (origin_at a) look
   pub given : is_read f (origin_at a) look ≡ true
 
--- of the composition of two automata
+-- the composition of two automata can be evaluated at a node of the origin
 pub record AreReadable (f g : Automaton) (a : ℕ) (look : Look) : Type 0 where
   pub setting : CommonNumbers
   pub outer : IsAutomaton setting f
@@ -21,7 +21,7 @@ pub record AreReadable (f g : Automaton) (a : ℕ) (look : Look) : Type 0 where
   pub symbols : HasSymbolsBelow setting.symbols look
   pub given : is_read (v.Composed f g) (origin_at a) look ≡ true
 
--- and of an automaton at several cells
+-- the automaton can be evaluated at these cells
 pub record IsReadableAt (f : Automaton) (cs : List Cell) (look : Look) : Type 0 where
   pub setting : CommonNumbers
   pub formed : IsAutomaton setting f
@@ -29,7 +29,7 @@ pub record IsReadableAt (f : Automaton) (cs : List Cell) (look : Look) : Type 0 
   pub symbols : HasSymbolsBelow setting.symbols look
   pub given : list_all (λ c. is_read f c look) cs ≡ true
 
--- the filling gives the cells the symbols that are seen from v
+-- the filling gives these cells the symbols that are seen from v, and no symbols that the look doesn't give
 pub record IsSeen (look : Look) (v : Place) (cs : List Cell) (f : Filled) : Type 0 where
   pub seen : list_all (λ d. are_equal (filling_look f d) (seen look v d)) cs ≡ true
   pub below : (n : ℕ) → HasSymbolsBelow n look → HasSymbolsBelow n (filling_look f)

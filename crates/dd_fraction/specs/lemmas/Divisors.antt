@@ -1,4 +1,4 @@
--- The greatest common divisor, and numbers without a common divisor.
+-- The greatest common divisor, and coprime numbers.
 use Rattle.std.proofs.Common.{◌≡◌, ℕ, zero, suc, ◌+◌, ◌*◌, ◌/◌, ◌%◌, ◌<◌, ◌≤◌, refl, sym, ap, subst, ◌∙◌, arith}
 use Rattle.std.proofs.lemmas.Nat.{mod_below, mod-mul-add, div-add-mod'}
 use Rattle.std.proofs.lemmas.Nat.Gcd.{IsGcd-from_zero, IsGcd-from_mod, same_from_IsGcd, dvd-zero, dvd_antisymm, le_of_dvd}
@@ -57,10 +57,10 @@ pub greatest_common-is : (a b : ℕ) → IsGcd a b (greatest_common a b)
 unfolding greatest_common
 greatest_common-is a b = is_common (suc b) a b (omega arith)
 
--- numbers without a common divisor, k times
+-- k times two coprime numbers have the greatest common divisor k
 pub IsGcd-scaled : (a b k : ℕ) → 0 < k → IsGcd a b 1 → IsGcd (a * k) (b * k) k
-IsGcd-scaled a b k z alone =
-    let one : greatest_common a b ≡ 1 = same_from_IsGcd a b (greatest_common a b) 1 (greatest_common-is a b) alone in
+IsGcd-scaled a b k z coprime =
+    let one : greatest_common a b ≡ 1 = same_from_IsGcd a b (greatest_common a b) 1 (greatest_common-is a b) coprime in
     let size : greatest_common a b * k ≡ k = ap (λ (g : ℕ). g * k) one ∙ omega arith in
     subst (IsGcd (a * k) (b * k)) size (greatest_common-scaled a b k z)
 
@@ -90,9 +90,9 @@ pub quotient_above : (a b : ℕ) → 0 < b → 0 < b / greatest_common a b
 quotient_above a b p =
     front_of (b / greatest_common a b) (greatest_common a b) b (div-mul_cancel _ (greatest_common-is a b).1) p
 
--- the quotients have no common divisor
-pub greatest_common_alone : (a b : ℕ) → 0 < b → greatest_common (a / greatest_common a b) (b / greatest_common a b) ≡ 1
-greatest_common_alone a b p =
+-- two numbers over their greatest common divisor are coprime
+pub quotients_coprime : (a b : ℕ) → 0 < b → greatest_common (a / greatest_common a b) (b / greatest_common a b) ≡ 1
+quotients_coprime a b p =
     let g = greatest_common a b in
     let above : 0 < g = greatest_common_above a b p in
     let x : a / g * g ≡ a = div-mul_cancel g (greatest_common-is a b).0 in

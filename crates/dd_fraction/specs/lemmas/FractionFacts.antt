@@ -1,4 +1,4 @@
--- What a call gives is a fraction: in lowest terms, and within the bounds.
+-- What a call returns is a fraction in lowest terms, and bounded.
 use Rattle.std.proofs.Common.{◌≡◌, ◌≢◌, ℕ, zero, suc, ◌*◌, ◌^◌, ◌<◌, refl, sym, ap, subst, ◌∙◌, arith, Some, Bool, true, false, ◌&&◌}
 use lib.IntN.{ℤ, pos, negsuc, neg_ℤ, ◌+ℤ◌, ◌*ℤ◌}
 use Rattle.std.specs.Int.RustNames.{unsigned_abs}
@@ -54,7 +54,7 @@ IsFraction-minus a p =
       above = p.above;
       below = p.below;
       bounded = omega (arith, e, bounded);
-      alone = ap (λ (x : ℕ). greatest_common x a.den) e ∙ p.alone;
+      coprime = ap (λ (x : ℕ). greatest_common x a.den) e ∙ p.coprime;
     }
 
 pub IsFraction-inverse : (a : Exact) → IsFraction a → a.num ≢ pos 0 → IsFraction (inverse a)

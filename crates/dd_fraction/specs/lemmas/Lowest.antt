@@ -9,14 +9,14 @@ use Rattle.std.specs.Int.{IsGcd, RustNames.unsigned_abs, RustNames.int_div}
 use borrow.Author.Differences.{same_in}
 use Rattle.dd_fraction.specs.{Divisor.greatest_common, Exact.Exact, Exact.den_of, Exact.lowest, Exact.low, Exact.IsLowest, Exact.whole_of}
 use Rattle.dd_fraction.specs.Checked.{IsFraction}
-use Rattle.dd_fraction.specs.lemmas.Divisors.{greatest_common-scaled, greatest_common-is, greatest_common_alone, quotient_above}
+use Rattle.dd_fraction.specs.lemmas.Divisors.{greatest_common-scaled, greatest_common-is, quotients_coprime, quotient_above}
 use Rattle.dd_fraction.specs.lemmas.Ring.{times_times, product_above, cancel}
 
 pub neg_times : (q g : ℕ) → neg_ℤ (pos q) *ℤ pos g ≡ neg_ℤ (pos (q * g))
 neg_times zero g = same_in _ _ (omega (arith, ints))
 neg_times (suc q) g = refl
 
--- a whole number that a number divides, over that number
+-- a whole number divided by one of its divisors, and multiplied by it again
 pub whole_over : (n : ℤ) (g : ℕ) → g ∣ unsigned_abs n → int_div n (pos g) *ℤ pos g ≡ n
 whole_over (pos n) g h = ap pos (div-mul_cancel g h)
 whole_over (negsuc n) g h =
@@ -26,7 +26,7 @@ pub size_over : (n : ℤ) (g : ℕ) → unsigned_abs (int_div n (pos g)) ≡ uns
 size_over (pos n) g = refl
 size_over (negsuc n) g = omega (arith, ints)
 
--- what `lowest` leaves of two numbers, and what it takes out of both
+-- a is what is left of n / d after both numbers are divided by g
 pub record Parts (n : ℤ) (d : ℕ) (a : Exact) (g : ℕ) : Type 0 where
   pub above : 0 < g
   pub num : a.num *ℤ pos g ≡ n
@@ -124,9 +124,9 @@ lowest_at n d p = let e : max 1 d ≡ d = omega arith in rw e refl
 IsLowest-at : (n : ℤ) (d : ℕ) → 0 < d → IsLowest (lowest n d)
 IsLowest-at n d p =
     let g = greatest_common (unsigned_abs n) d in
-    let alone : greatest_common (unsigned_abs (int_div n (pos g))) (d / g) ≡ 1 =
-    ap (λ (x : ℕ). greatest_common x (d / g)) (size_over n g) ∙ greatest_common_alone (unsigned_abs n) d p in
-    subst IsLowest (sym (lowest_at n d p)) (record { positive = quotient_above (unsigned_abs n) d p; alone = alone })
+    let coprime : greatest_common (unsigned_abs (int_div n (pos g))) (d / g) ≡ 1 =
+    ap (λ (x : ℕ). greatest_common x (d / g)) (size_over n g) ∙ quotients_coprime (unsigned_abs n) d p in
+    subst IsLowest (sym (lowest_at n d p)) (record { positive = quotient_above (unsigned_abs n) d p; coprime = coprime })
 
 pub IsLowest-lowest : (n : ℤ) (d : ℕ) → IsLowest (lowest n d)
 IsLowest-lowest n zero = subst IsLowest (lowest_same n n 1 0 refl) (IsLowest-at n 1 (omega arith))
@@ -141,11 +141,11 @@ pub low_lowest : (a : Exact) → IsLowest a → low a ≡ a
 low_lowest a p =
     lowest_at a.num a.den p.positive
     ∙ exact_same _ _
-    (ap (λ (g : ℕ). int_div a.num (pos g)) p.alone ∙ over_one a.num)
-    (ap (λ (g : ℕ). a.den / g) p.alone ∙ div-one a.den)
+    (ap (λ (g : ℕ). int_div a.num (pos g)) p.coprime ∙ over_one a.num)
+    (ap (λ (g : ℕ). a.den / g) p.coprime ∙ div-one a.den)
 
 pub IsLowest-from_fraction : (a : Exact) → IsFraction a → IsLowest a
-IsLowest-from_fraction a p = record { positive = p.above; alone = p.alone }
+IsLowest-from_fraction a p = record { positive = p.above; coprime = p.coprime }
 
 pub low_fraction : (a : Exact) → IsFraction a → low a ≡ a
 low_fraction a p = low_lowest a (IsLowest-from_fraction a p)

@@ -1,4 +1,4 @@
--- What the calls give: results are in lowest terms and within the bounds, and a refusal comes where a number doesn't fit.
+-- What the calls return: results are in lowest terms and bounded, and `None` comes where a number doesn't fit.
 use Rattle.std.proofs.Common.{◌≡◌, ℕ, zero, suc, ◌*◌, ◌/◌, ◌%◌, ◌^◌, ◌<◌, ◌≤◌, refl, sym, ap, subst, ◌∙◌, arith, max, Some, None, Bool, true, false, cond}
 use Rattle.std.proofs.lemmas.{Bool.ltb-true, Int.ints, Nat.mod_below}
 use Rattle.std.proofs.{lemmas.Nat.Gcd.same_from_IsGcd, lemmas.Nat.Gcd.IsGcd-swap, Math.Nat.div-le_self}
@@ -7,10 +7,10 @@ use Rattle.std.specs.Int.{IsGcd, w64, RustNames.unsigned_abs, RustNames.int_div}
 use mir.Val.{SFits}
 use Rattle.dd_fraction.specs.{Divisor.greatest_common, Exact.Exact, Exact.lowest, Exact.times, Exact.plus}
 use Rattle.dd_fraction.specs.Checked.{IsFraction, is_bounded, bounded, bounded_size, checked_product, checked_sum}
-use Rattle.dd_fraction.specs.lemmas.Divisors.{greatest_common-is, greatest_common-step, greatest_common-zero, greatest_common_alone, quotient_above}
+use Rattle.dd_fraction.specs.lemmas.Divisors.{greatest_common-is, greatest_common-step, greatest_common-zero, quotients_coprime, quotient_above}
 use Rattle.dd_fraction.specs.lemmas.Lowest.{size_over, lowest_at, low_lowest}
 
--- ---- lowest terms within the bounds
+-- ---- bounded numbers have bounded lowest terms
 pub lowest_fraction : (n : ℤ) (d : ℕ) → 0 < d → d < 2 ^ 127 → unsigned_abs n < 2 ^ 127
     → let g = greatest_common (unsigned_abs n) d in IsFraction (record { num = int_div n (pos g); den = d / g })
 lowest_fraction n d p q r =
@@ -22,7 +22,7 @@ lowest_fraction n d p q r =
       above = quotient_above (unsigned_abs n) d p;
       below = omega arith;
       bounded = omega arith;
-      alone = ap (λ (x : ℕ). greatest_common x (d / g)) e ∙ greatest_common_alone (unsigned_abs n) d p;
+      coprime = ap (λ (x : ℕ). greatest_common x (d / g)) e ∙ quotients_coprime (unsigned_abs n) d p;
     }
 
 pub lowest_made : (n r : ℤ) (d g : ℕ) → g ≡ greatest_common (unsigned_abs n) d → r ≡ int_div n (pos g)
@@ -33,11 +33,11 @@ pub lowest_result : (n r : ℤ) (d g : ℕ) → g ≡ greatest_common (unsigned_
     → 0 < d → lowest n d ≡ record { num = r; den = d / g }
 lowest_result n r d g e f p = rw (f, e) (lowest_at n d p)
 
-pub lowest_alone : (n : ℤ) (d : ℕ) → 0 < d → greatest_common (unsigned_abs n) d ≡ 1 → lowest n d ≡ record { num = n; den = d }
-lowest_alone n d p e = low_lowest (record { num = n; den = d }) (record { positive = p; alone = e })
+pub lowest_coprime : (n : ℤ) (d : ℕ) → 0 < d → greatest_common (unsigned_abs n) d ≡ 1 → lowest n d ≡ record { num = n; den = d }
+lowest_coprime n d p e = low_lowest (record { num = n; den = d }) (record { positive = p; coprime = e })
 
-alone_turned : (a b : ℕ) → greatest_common a b ≡ 1 → greatest_common b a ≡ 1
-alone_turned a b e =
+coprime_swap : (a b : ℕ) → greatest_common a b ≡ 1 → greatest_common b a ≡ 1
+coprime_swap a b e =
     let one : IsGcd a b 1 = subst (λ (g : ℕ). IsGcd a b g) e (greatest_common-is a b) in
     same_from_IsGcd b a _ _ (greatest_common-is b a) (IsGcd-swap a b 1 one)
 
@@ -50,7 +50,7 @@ inverted a x y p q e f =
       above = q;
       below = omega arith;
       bounded = omega arith;
-      alone = (λ i. greatest_common (f i) (e i)) ∙ alone_turned (unsigned_abs a.num) a.den p.alone;
+      coprime = (λ i. greatest_common (f i) (e i)) ∙ coprime_swap (unsigned_abs a.num) a.den p.coprime;
     }
 
 pub size_above : (n : ℤ) → ¬ (n ≡ pos 0) → 0 < unsigned_abs n
@@ -65,15 +65,15 @@ greatest_common-one a =
 
 pub IsFraction-whole : (n : ℤ) → unsigned_abs n < 2 ^ 127 → IsFraction (record { num = n; den = 1 })
 IsFraction-whole n p =
-    record { above = omega arith; below = omega arith; bounded = p; alone = greatest_common-one (unsigned_abs n) }
+    record { above = omega arith; below = omega arith; bounded = p; coprime = greatest_common-one (unsigned_abs n) }
 
 pub lowest_whole : (n : ℤ) → lowest n 1 ≡ record { num = n; den = 1 }
-lowest_whole n = lowest_alone n 1 (omega arith) (greatest_common-one (unsigned_abs n))
+lowest_whole n = lowest_coprime n 1 (omega arith) (greatest_common-one (unsigned_abs n))
 
 pub whole_fraction : (n : ℤ) → SFits w64 n → IsFraction (record { num = n; den = 1 })
 whole_fraction n f = IsFraction-whole n (omega (arith, ints, f))
 
--- ---- what a result says of the test
+-- ---- a result tells whether the test was passed
 pub kept : {A : Type 0} (t : Bool) (x z : A) → Some x ≡ cond t (Some z) None → (t ≡ true) × (x ≡ z)
 kept true x z e = (refl, cc)
 kept false x z e = absurd cc

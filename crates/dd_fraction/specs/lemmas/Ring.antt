@@ -9,7 +9,7 @@ use borrow.Author.Differences.{up, down, same_in, sum_is_lem, neg_is, product_is
 pub diff : ℕ → ℕ → ℤ
 diff u v = pos u -ℤ pos v
 
--- what the laws below need of it
+-- what the laws below need of `diff`
 pub diff_parts : (u v : ℕ) → up (diff u v) + v ≡ down (diff u v) + u
 unfolding diff
 diff_parts u v = omega (arith, ints)
@@ -39,7 +39,7 @@ diff_product u v s t =
     let sides = cross (up a) (down a) (up b) (down b) u v s t (diff_parts u v) (diff_parts s t) in
     same_in _ _ (omega (arith, diff_parts, product_is a b, sides))
 
--- for `simp`: a whole expression as one difference
+-- for `simp`: an expression of whole numbers as one difference
 pub pos_is : (n : ℕ) → pos n ≡ diff n 0
 pos_is n = same_in _ _ (omega (arith, diff_parts))
 

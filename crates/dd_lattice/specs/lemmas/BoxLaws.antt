@@ -66,6 +66,7 @@ high_from_axis : (active : Bool) (n : ℕ) (c : ℤ) → OnAxis active (IsUpTo n
 high_from_axis true n c h = h.high
 high_from_axis false n c h = omega (arith, ints)
 
+-- the bounds of B(n) hold exactly the positions of B(n)
 pub centred_members : (d n : ℕ) (p : Place) → IsWithin (centred d n) p ↔ IsCentred d n p
 centred_members d n p = (
   λ h. record {

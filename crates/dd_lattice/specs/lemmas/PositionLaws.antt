@@ -1,4 +1,4 @@
--- The list of a box's positions by their numbers ascends, and has exactly the box's positions.
+-- The positions of a box, listed by their numbers, ascend, and are exactly those within the box.
 use Rattle.std.proofs.Common.{◌≡◌, ℕ, zero, suc, ◌+◌, ◌*◌, ◌<◌, ◌≤◌, [], ◌∷◌, ◌++◌, ℤ, ◌≤ℤ◌, arith, ap, sym, subst, inl, inr}
 use Rattle.std.proofs.lemmas.{Int.ints, Nat.mul-add-lt, Nat.same_from_place, Bool.cases_order, Bool.cases_lt}
 use Rattle.std.proofs.lemmas.List.Elements.{Contains-append_left, Contains-push, Contains-push_cases}
@@ -14,7 +14,7 @@ use Rattle.dd_values.specs.lemmas.Numbers.{cmp_less, cmp_equal}
 abbrev IsBefore : Place → Place → Type 0
 IsBefore p q = place_cmp p q ≡ Less
 
--- a later row of a table begins past all of an earlier one
+-- every number in a later row of a table is greater than each in an earlier row
 table_order : (a b c d w : ℕ) → a < c → b < w → a * w + b < c * w + d
 table_order a b c d w p q = omega (arith, mul-add-lt a w b c p q)
 
@@ -68,7 +68,7 @@ number_of b (suc n) p c = elim (Contains-push_cases (first_positions b n) (place
   | inr is ↦ (n, omega arith, sym is)
 ]
 
--- the position of each number below n is one of them
+-- the position of each number below n is among the first n
 contains_number : (b : Bounds) (n i : ℕ) → i < n → Contains (first_positions b n) (place_in b i)
 contains_number b zero i h = absurd (omega arith)
 contains_number b (suc n) i h = elim (cases_lt i n) [

@@ -1,8 +1,9 @@
--- A region stretched along an axis: moved along it by each number of steps between two bounds.
+-- A region stretched along an axis: the union of its copies that are moved along it by each number of steps between two bounds.
 use Rattle.std.specs.{Prelude.◌≡◌, Prelude.ℤ, Prelude.pos, Prelude.◌≤ℤ◌, Prelude.◌<ℤ◌, Prelude.◌⊎◌, Prelude.List, List.Contains}
 use Rattle.dd_lattice.specs.{Place.Place, Place.place, Place.moved, Regions.PlaceSet, Regions.IsMoved, declared.growing.Axis.Axis}
 use Rattle.dd_lattice.specs.declared.growing.Axis.TheVariants.{X, Y, Z}
 
+-- the position that is c steps from the origin along an axis
 abbrev pub along : Axis → ℤ → Place
 along X c = place c (pos 0) (pos 0)
 along Y c = place (pos 0) c (pos 0)

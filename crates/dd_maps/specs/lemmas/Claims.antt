@@ -1,4 +1,5 @@
--- What is known of a rule and of a look from how they were made, and of an image from what it doesn't do.
+-- What follows for a rule that was made of a formula, for a look-up with small symbols, and for automata that break or change
+-- nothing.
 use Rattle.std.proofs.Common.{◌≡◌, ◌<◌, ℕ, Bool, true, false, Option, Some, None, refl, ap, sym, ◌∙◌, subst, eq-eqb, inl, inr}
 use Rattle.std.proofs.lemmas.Bool.{cases_Bool, eqb-true}
 use Rattle.std.specs.Prelude.{◌==◌, ◌⊎◌, is_some, IfSome}
@@ -14,7 +15,7 @@ use Rattle.dd_maps.specs.Images.{image, KeepsAt, GivesBackAt, HasSymbolAt, AtEac
 pub rule_over : (g : Grid) (s : SymbolSets) (f : Formula) (y : LocalRule) → IsFormula g s.symbols f → y ≡ local_rule g s f → IsRuleOver g s y
 rule_over g s f y formula made = subst (IsRuleOver g s) (sym made) (record { same = refl; formula = formula })
 
--- a look of symbols below k
+-- where a look-up has only symbols below k, a cell with a symbol has one of the first k
 pub symbol_at : (k : ℕ) (look : Look) (c : Cell) → HasSymbolsBelow k look → is_some (look c) ≡ true → HasSymbolAt k look c
 symbol_at k look c below some = by (look c) some (below c)
   where
@@ -22,7 +23,7 @@ symbol_at k look c below some = by (look c) some (below c)
     by None given low = absurd (cc)
     by (Some t) given low = (t, low, refl)
 
--- an image that doesn't break the rule
+-- an image that doesn't break the rule keeps it at each node
 both_hold : (a b : Bool) → ((a ≡ false) ⊎ (b ≡ false) → ⊥) → (a ≡ true) × (b ≡ true)
 both_hold true true h = (refl, refl)
 both_hold true false h = absurd (h (inr refl))
@@ -31,7 +32,7 @@ both_hold false b h = absurd (h (inl refl))
 pub image_keeps : (f : Automaton) (y : LocalRule) (look : Look) (v : Place) → (ImageBreaks f y look v → ⊥) → AtEachNode y.nodes (KeepsAt f y look) v
 image_keeps f y look v unbroken a below = both_hold _ _ (λ broken. unbroken (a, below, broken))
 
--- an automaton after another one that changes nothing
+-- a composition that changes no symbol gives each symbol back
 same_symbol : (x : ℕ) (o : Option ℕ) (t : ℕ) → o ≡ Some t → ((Some x ≡ o → ⊥) → ⊥) → Some x ≡ o
 same_symbol x o t is h = elim (cases_Bool (x == t)) [
   | inl same ↦ ap Some (eqb-true x t same) ∙ sym is

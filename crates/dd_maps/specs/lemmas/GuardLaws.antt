@@ -14,7 +14,7 @@ use Rattle.dd_maps.specs.lemmas.KeptTests.{all_kept, any_kept, all_but_one, some
 use Rattle.dd_values.specs.lemmas.Booleans.{and_true}
 use Rattle.dd_expansion.specs.declared.formulas.Formula.TheVariants as v
 
--- the truth of its parts
+-- the truth of a formula from the truth of its parts
 
 truth_and : (es : List Edge) (fs : List Formula) (env : List Cell) (look : Look) → truth es (v.And fs) env look ≡ list_all (λ f. truth es f env look) fs
 truth_and es fs env look =

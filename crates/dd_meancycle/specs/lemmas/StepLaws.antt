@@ -1,11 +1,11 @@
--- What a step of a transfer graph is, and what one step more adds to a path.
+-- The edges of a transfer graph, and paths with one state more.
 use Rattle.std.proofs.Common.{◌≡◌, ℕ, zero, suc, ◌+◌, ◌*◌, ◌/◌, ◌%◌, ◌<◌, ◌≤◌, ◌^◌, Bool, true, false, cond, List, [], ◌∷◌, ◌++◌, length, get_or, Some, None, arith, refl, sym, ap, ◌∙◌}
 use Rattle.std.proofs.{lemmas.Bool.Decides.nat_tests, lemmas.Nat.mod-mul-add, lemmas.Nat.mod_below, Math.Nat.mul-le-mul_right}
 use Rattle.std.specs.Prelude.{◌&&◌, nat_lt, slice_index_or}
 use Rattle.dd_transfer.specs.Graphs.{Transfer, IsTransfer, target, next_of, window_of, weight_at}
 use Rattle.dd_meancycle.specs.Means.{IsPath, weight_of}
 
--- what an edge of the graph is
+-- what is known of an edge from the state u by the slice t to the state v
 pub record Step (g : Transfer) (u t v : ℕ) : Type 0 where
   pub state : u < g.states
   pub slice : t < g.slices
@@ -63,7 +63,7 @@ path_end g (s ∷ []) u v d zero e path = sym path.1
 path_end g (s ∷ t ∷ ss) u v d zero e path = absurd (omega arith)
 path_end g (s ∷ ss) u v d (suc k) e path = path_end g ss s v d k (omega arith) path.1
 
--- one state more
+-- a path and one state more
 pub path_push : (g : Transfer) (ss : List ℕ) (u v s : ℕ) → IsPath g u ss v → next_of g v (s % g.slices) ≡ Some s → IsPath g u (ss ++ s ∷ []) s
 path_push g [] u v s walk h = (ap (λ (x : ℕ). next_of g x (s % g.slices)) walk ∙ h, refl)
 path_push g (x ∷ ss) u v s walk h = (walk.0, path_push g ss x v s walk.1 h)

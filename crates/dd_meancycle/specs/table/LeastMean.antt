@@ -1,4 +1,4 @@
--- A cycle of least mean, or ranks.
+-- A cycle of least mean with potentials, or ranks, over a list of edges between n states.
 use Rattle.std.specs.Prelude.{◌≡◌, ℕ, ◌+◌, ◌*◌, ◌<◌, ◌≤◌, List, length}
 use Rattle.std.specs.{List.Contains, List.All, Int.IsGcd}
 use Rattle.dd_values.specs.Bounds.{most_number}
@@ -6,7 +6,7 @@ use Rattle.dd_meancycle.specs.declared.{edges.Edge.Edge, table.EdgeMean.EdgeMean
 use Rattle.dd_meancycle.specs.declared.table.EdgeMean.TheVariants.{Least, NoCycle}
 use Rattle.dd_meancycle.specs.table.Walks.{IsWalk, AreAmong, edges_weight, AreEdgePotentials, AreEdgeRanks, natural_potential}
 
--- m / l is the cycle's mean in lowest terms, and no cycle has a smaller one
+-- the cycle's mean is m / l in lowest terms, and the potentials show that no cycle has a smaller mean
 pub record IsLeastMean (edges : List Edge) (n m l : ℕ) (cycle : List Edge) (ps : List ℕ) : Type 0 where
   pub among : AreAmong edges cycle
   pub at_state : ℕ
@@ -26,7 +26,7 @@ abbrev pub IsMean : List Edge → ℕ → EdgeMean → Type 0
 IsMean edges n (Least m l cycle potentials) = IsLeastMean edges n m l cycle.items potentials.items
 IsMean edges n (NoCycle ranks) = (length ranks.items ≡ n) × AreEdgeRanks edges ranks.items
 
--- each potential fits a signed number
+-- each potential is small enough for an output
 abbrev pub IsSmallMean : EdgeMean → Type 0
 IsSmallMean (Least m l cycle potentials) = All (λ p. p ≤ most_number) potentials.items
 IsSmallMean (NoCycle ranks) = Unit {0}

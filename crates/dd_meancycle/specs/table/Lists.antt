@@ -6,27 +6,28 @@ use Rattle.dd_meancycle.specs.declared.{edges.Edge.Edge, table.EdgeMean.EdgeMean
 use Rattle.dd_meancycle.specs.declared.least.Mean.TheVariants.{Least, NoCycle}
 use Rattle.dd_meancycle.specs.declared.table.EdgeMean.TheVariants as edge_mean
 
--- the edge of the window of a number, where it is one
+-- the window of this number as an edge, if it is one
 abbrev pub edge_at : Transfer → ℕ → Option Edge
 edge_at g number = option_map (λ v. record { from = number / g.slices; to = v; weight = weight_at g (number % g.slices) }) (next_of g (number / g.slices) (number % g.slices))
 
--- the list has exactly the graph's edges, as far as the number n
+-- the list has exactly the graph's edges whose windows have numbers below n
 pub record AreEdgesTo (g : Transfer) (n : ℕ) (edges : List Edge) : Type 0 where
   pub each : (e : Edge) → Contains edges e → (number : ℕ) × (number < n) × (edge_at g number ≡ Some e)
   pub all : (number : ℕ) (e : Edge) → number < n → edge_at g number ≡ Some e → Contains edges e
 
+-- the list has exactly the graph's edges
 abbrev pub AreEdges : Transfer → List Edge → Type 0
 AreEdges g edges = AreEdgesTo g (g.states * g.slices) edges
 
--- along each of the edges the potential rises by at most l times its weight less m
-abbrev pub IsRisen : ℕ → ℕ → List ℤ → List Edge → Type 0
-IsRisen m l ps edges = All (λ e. (potential_of ps e.to -ℤ potential_of ps e.from) ≤ℤ (pos (l * e.weight) -ℤ pos m)) edges
+-- along an edge of weight w in the list the potential rises by at most l * w - m
+abbrev pub ArePotentialsAlong : ℕ → ℕ → List ℤ → List Edge → Type 0
+ArePotentialsAlong m l ps edges = All (λ e. (potential_of ps e.to -ℤ potential_of ps e.from) ≤ℤ (pos (l * e.weight) -ℤ pos m)) edges
 
--- along each of the edges the rank falls
-abbrev pub IsFallen : List ℕ → List Edge → Type 0
-IsFallen ranks edges = All (λ e. slice_index ranks e.to < slice_index ranks e.from) edges
+-- along each edge of the list the rank falls
+abbrev pub AreRanksAlong : List ℕ → List Edge → Type 0
+AreRanksAlong ranks edges = All (λ e. slice_index ranks e.to < slice_index ranks e.from) edges
 
--- the same answer, with the cycle given by the states to which its edges lead
+-- the two means are the same, but the second gives the cycle by the states to which its edges lead
 abbrev pub IsInStates : EdgeMean → Mean → Type 0
 IsInStates (edge_mean.Least m l cycle ps) (Least a b states qs) = (a ≡ m) × (b ≡ l) × (states ≡ map (λ e. e.to) cycle.items) × (qs ≡ map pos ps.items)
 IsInStates (edge_mean.Least m l cycle ps) (NoCycle qs) = ⊥

@@ -1,17 +1,19 @@
--- What the table of least weights says of means.
+-- What is read off the table of least weights. A longest walk has `last` edges, the greatest length in the table. A rise of a
+-- state goes from its entry in a level k below the last one to its entry in the last one. Its mean is the difference of the
+-- two, divided by last - k.
 use Rattle.std.specs.Prelude.{◌≡◌, ℕ, suc, ◌∷◌, ◌+◌, ◌-◌, ◌*◌, ◌<◌, ◌≤◌, List, [], length, Option, Some, None, slice_index_or, ◌⊎◌, Bool, true, false, ◌^◌, is_some, ◌&&◌, ◌==◌}
 use Rattle.std.specs.{List.Contains, Int.IsGcd}
 use Rattle.dd_meancycle.specs.declared.{edges.Edge.Edge, rises.Ratio.Ratio, rises.Steep.Steep}
 use Rattle.dd_meancycle.specs.table.Levels.{at, level_weight_at, least}
 use Rattle.dd_meancycle.specs.table.Walks.{IsWalk, AreAmong, edges_weight}
 
--- the state has a place in each level up to the last, and a walk of no edges
-pub record Reads (levels : List (List (Option ℕ))) (last v : ℕ) : Type 0 where
+-- the state has an entry in each level up to the last, and the weight 0 in the first
+pub record IsTabulated (levels : List (List (Option ℕ))) (last v : ℕ) : Type 0 where
   pub levels_to : last < length levels
   pub within : (k : ℕ) → k ≤ last → v < length (slice_index_or levels k [])
   pub start : level_weight_at levels 0 v ≡ Some 0
 
--- no rise to the longest walk has a greater mean, and one has this mean
+-- weight / run is the greatest mean of a rise of the state v
 pub record IsSteepest (levels : List (List (Option ℕ))) (last v weight run : ℕ) : Type 0 where
   pub end : ℕ
   pub ends : level_weight_at levels last v ≡ Some end
@@ -23,6 +25,7 @@ pub record IsSteepest (levels : List (List (Option ℕ))) (last v weight run : �
   pub rise : at_weight + weight ≡ end
   pub run_is : run + at_length ≡ last
 
+-- p is the least of l * b + m * (last - k) over the levels k below the last, where b is the entry of v in the level k
 pub record IsPotential (levels : List (List (Option ℕ))) (last v m l p : ℕ) : Type 0 where
   pub least : (k before : ℕ) → k < last → level_weight_at levels k v ≡ Some before → p ≤ l * before + m * (last - k)
   pub at_length : ℕ
@@ -31,28 +34,33 @@ pub record IsPotential (levels : List (List (Option ℕ))) (last v m l p : ℕ) 
   pub from : level_weight_at levels at_length v ≡ Some at_weight
   pub is : p ≡ l * at_weight + m * (last - at_length)
 
+-- r is the greater of two means: `best`, and that of the rise from the entry b, if there is one, to `end` over `run` edges
 abbrev pub IsSteeper : Ratio → ℕ → Option ℕ → ℕ → Ratio → Type 0
 IsSteeper best end None run r = r ≡ best
 IsSteeper best end (Some b) run r = (end * r.length ≤ b * r.length + r.weight * run) × ((r ≡ best) ⊎ ((b + r.weight ≡ end) × (r.length ≡ run) × (best.weight * run < r.weight * best.length)))
 
+-- r is the smaller of `best` and l * b + m * run, where the entry b, if there is one, is `run` levels below the last
 abbrev pub IsLesser : ℕ → Option ℕ → ℕ → ℕ → ℕ → ℕ → Type 0
 IsLesser best None m l run r = r ≡ best
 IsLesser best (Some b) m l run r = (r ≤ best) × (r ≤ l * b + m * run) × ((r ≡ best) ⊎ (r ≡ l * b + m * run))
 
+-- whether there is a walk, and it weighs `end` together with an edge of the weight `weight`
 abbrev pub arrives : Option ℕ → ℕ → ℕ → Bool
 arrives None weight end = false
 arrives (Some a) weight end = (a + weight) == end
 
+-- whether a lightest walk of the row `before`, followed by the edge e, leads to the state and has the weight `weight`
 abbrev pub is_back : List (Option ℕ) → ℕ → ℕ → Edge → Bool
 is_back before state weight e = (e.to == state) && arrives (at before e.from) e.weight weight
 
+-- r is the one of `best` and the state `state`, whose mean is h, that has the smaller mean
 abbrev pub IsGentler : Option Steep → ℕ → Option Ratio → Option Steep → Type 0
 IsGentler best state None r = r ≡ best
 IsGentler None state (Some h) r = r ≡ Some (record { state = state; mean = h })
 IsGentler (Some o) state (Some h) r = ((r ≡ Some o) × (o.mean.weight * h.length ≤ h.weight * o.mean.length)) ⊎ ((r ≡ Some (record { state = state; mean = h })) × (h.weight * o.mean.length < o.mean.weight * h.length))
 
--- the longest walk to v goes round the cycle
-pub record IsTurn (edges : List Edge) (n v end : ℕ) (cycle : List Edge) : Type 0 where
+-- a longest walk to v, of the weight `end`, is a walk to a state on the cycle, then the cycle, then the rest
+pub record IsCycleOnWalk (edges : List Edge) (n v end : ℕ) (cycle : List Edge) : Type 0 where
   pub at_state : ℕ
   pub before : ℕ
   pub weight : ℕ
@@ -66,15 +74,17 @@ pub record IsTurn (edges : List Edge) (n v end : ℕ) (cycle : List Edge) : Type
   pub lengths : (before + length cycle) + length rest ≡ n
   pub weights : (weight + edges_weight cycle) + edges_weight rest ≡ end
 
+-- how many entries are not None
 abbrev pub marked : List (Option ℕ) → ℕ
 marked [] = 0
 marked (None ∷ os) = marked os
 marked (Some r ∷ os) = suc (marked os)
 
+-- some rise of v to the weight `end` has a mean of at least m / l
 abbrev pub HasRiseIn : List (List (Option ℕ)) → ℕ → ℕ → ℕ → ℕ → ℕ → Type 0
 HasRiseIn levels last m l v end = (k : ℕ) × (before : ℕ) × (k < last) × (level_weight_at levels k v ≡ Some before) × (before * l + m * (last - k) ≤ end * l)
 
--- among the states below i with a longest walk, s has the least steepest rise
+-- s is a state below i with its greatest mean of a rise, and this is the least among the states below i with a longest walk
 pub record IsGentlest (levels : List (List (Option ℕ))) (last i : ℕ) (s : Steep) : Type 0 where
   pub below : s.state < i
   pub steepest : IsSteepest levels last s.state s.mean.weight s.mean.length
@@ -82,10 +92,12 @@ pub record IsGentlest (levels : List (List (Option ℕ))) (last i : ℕ) (s : St
   pub small_weight : s.mean.weight < 2 ^ 32
   pub small_length : s.mean.length < 2 ^ 31
 
+-- the choice among the states below i: none if none has a longest walk
 abbrev pub LeastSoFar : List (List (Option ℕ)) → ℕ → ℕ → Option Steep → Type 0
 LeastSoFar levels last i None = (v : ℕ) → v < i → level_weight_at levels last v ≡ None
 LeastSoFar levels last i (Some s) = IsGentlest levels last i s
 
+-- r is the mean in lowest terms
 pub record IsReduced (mean r : Ratio) : Type 0 where
   pub same : mean.weight * r.length ≡ r.weight * mean.length
   pub lowest : IsGcd r.weight r.length 1
@@ -93,10 +105,12 @@ pub record IsReduced (mean r : Ratio) : Type 0 where
   pub short : r.length ≤ mean.length
   pub light : r.weight ≤ mean.weight
 
+-- h is the height of v: the greatest number of edges below `last` that a walk to v has
 pub record IsHeight (levels : List (List (Option ℕ))) (last v h : ℕ) : Type 0 where
   pub below : h < last
   pub here : is_some (level_weight_at levels h v) ≡ true
   pub greatest : (k : ℕ) → k < last → is_some (level_weight_at levels k v) ≡ true → k ≤ h
 
+-- r is the rank of v: `last` less the height of v
 abbrev pub IsRank : List (List (Option ℕ)) → ℕ → ℕ → ℕ → Type 0
 IsRank levels last v r = (h : ℕ) × IsHeight levels last v h × (r + h ≡ last)

@@ -1,4 +1,4 @@
--- Walks, cycles, and what potentials say of them.
+-- Walks as lists of edges, and potentials and ranks over a list of edges.
 use Rattle.std.specs.Prelude.{◌≡◌, ℕ, ◌+◌, ◌*◌, ◌<◌, ◌≤◌, List, [], ◌∷◌, length, slice_index_or}
 use Rattle.std.specs.List.{Contains, All}
 use Rattle.dd_meancycle.specs.declared.edges.Edge.{Edge}
@@ -8,6 +8,7 @@ abbrev pub IsWalk : ℕ → List Edge → ℕ → Type 0
 IsWalk u [] v = u ≡ v
 IsWalk u (e ∷ es) v = (e.from ≡ u) × IsWalk e.to es v
 
+-- each edge of the second list is in the first
 abbrev pub AreAmong : List Edge → List Edge → Type 0
 AreAmong edges [] = Unit {0}
 AreAmong edges (e ∷ es) = Contains edges e × AreAmong edges es
@@ -23,5 +24,6 @@ natural_potential ps v = slice_index_or ps v 0
 abbrev pub AreEdgePotentials : List Edge → ℕ → ℕ → List ℕ → Type 0
 AreEdgePotentials edges m l ps = (e : Edge) → Contains edges e → natural_potential ps e.to + m ≤ natural_potential ps e.from + l * e.weight
 
+-- along each edge the rank falls
 abbrev pub AreEdgeRanks : List Edge → List ℕ → Type 0
 AreEdgeRanks edges ranks = (e : Edge) → Contains edges e → natural_potential ranks e.to < natural_potential ranks e.from

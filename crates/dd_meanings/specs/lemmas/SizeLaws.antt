@@ -1,4 +1,4 @@
--- Sizes of what is defined.
+-- A well-formed automaton exceeds no limit.
 use Rattle.std.proofs.{Common.arith, Common.[], Common.◌≡◌, lemmas.Grind.common_steps}
 use Rattle.dd_meanings.specs.Definitions.{count_faults}
 use Rattle.dd_formula.specs.{declared.automaton.Automaton.Automaton, Automata.IsAutomaton, Automata.counted, Automata.CommonNumbers}

@@ -1,39 +1,40 @@
--- The number of a filling in the lexicographic order of all lists of its length, and the numbers of the fillings that
--- agree with a pattern.
+-- Fillings as words, which are numbered from 0 in lexicographic order, and the numbers of the words that agree with a
+-- pattern.
 use Rattle.std.specs.Prelude.{ℕ, zero, suc, ◌≡◌, ◌<◌, ◌+◌, ◌-◌, ◌*◌, ◌/◌, ◌%◌, ◌^◌, Option, Some, None, IfSome, List, [], ◌∷◌, length, map}
 use Rattle.std.specs.List.{All}
 
--- n of the first m symbols
+-- a word is a list of n of the first m symbols
 pub record IsWord (m n : ℕ) (ss : List ℕ) : Type 0 where
   pub as_many : length ss ≡ n
   pub below : All (λ s. s < m) ss
 
--- its number among all of them
+-- the number of a word among all words of its length
 abbrev pub number : ℕ → List ℕ → ℕ
 number m [] = 0
 number m (s ∷ ss) = s * m ^ length ss + number m ss
 
--- how much the number rises with the symbol of each of n cells
+-- the stride of each of n cells: how much the number of a word rises if the cell's symbol rises by 1
 abbrev pub strides_of : ℕ → ℕ → List ℕ
 strides_of m zero = []
 strides_of m (suc n) = m ^ n ∷ strides_of m n
 
--- the symbols of the word with a number
+-- the symbols of the word with the number `at`, by the strides of the cells
 abbrev pub digits : ℕ → List ℕ → ℕ → List ℕ
 digits m ds at = map (λ d. at / d % m) ds
 
--- the strides of the cells that a pattern leaves out, and the number of the word that agrees with it and has 0 in these cells
+-- the strides of the cells that a pattern leaves out
 abbrev pub open_strides : ℕ → List (Option ℕ) → List ℕ
 open_strides m [] = []
 open_strides m (None ∷ ps) = m ^ length ps ∷ open_strides m ps
 open_strides m (Some s ∷ ps) = open_strides m ps
 
+-- the number of the word that agrees with a pattern and has 0 in the cells that it leaves out
 abbrev pub least_number : ℕ → List (Option ℕ) → ℕ
 least_number m [] = 0
 least_number m (None ∷ ps) = least_number m ps
 least_number m (Some s ∷ ps) = s * m ^ length ps + least_number m ps
 
--- how much the numbers rise at most along some strides
+-- the greatest rise of the number along these strides
 abbrev pub reach : ℕ → List ℕ → ℕ
 reach m [] = 0
 reach m (d ∷ ds) = (m - 1) * d + reach m ds

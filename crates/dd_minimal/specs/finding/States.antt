@@ -1,4 +1,4 @@
--- The state of the loop over the cells of a filling, and of the loop over the fillings.
+-- The states of two loops: the loop over the cells of a filling, and the loop over the fillings.
 use Rattle.std.specs.Prelude.{ℕ, ◌≡◌, ◌++◌, ◌^◌, Bool, true, false, Option, List, [], length, drop, slice_index_or}
 use Rattle.std.specs.List.{All, filter}
 use Rattle.dd_formula.specs.LocalRule.{LocalRule, cells_at}
@@ -7,7 +7,8 @@ use Rattle.dd_minimal.specs.Minimal.{words, thinned, listed}
 use Rattle.dd_minimal.specs.finding.Numbers.{IsWord, number, open_strides, least_number, KeepsBelow}
 use Rattle.dd_minimal.specs.finding.{Outcomes.outcome, Outcomes.outcomes, Outcomes.does_break, Walks.is_enough}
 
--- the first cells are done and the rest is whole: the strides and the number of the pattern so far
+-- The first k cells are thinned to p, and the rest is whole. For that pattern, ds are the strides of the cells left out, and
+-- `from` is its least number.
 pub record IsThinnedTo (m : ℕ) (table : List Outcome) (ss : List ℕ) (k : ℕ) (p : List (Option ℕ)) (ds : List ℕ) (from : ℕ) : Type 0 where
   pub as_many : length p ≡ k
   pub below : KeepsBelow m p
@@ -16,7 +17,7 @@ pub record IsThinnedTo (m : ℕ) (table : List Outcome) (ss : List ℕ) (k : ℕ
   pub least : from ≡ least_number m (p ++ whole (drop k ss))
   pub enough : is_enough m table (p ++ whole (drop k ss)) ≡ true
 
--- all cells are done
+-- the same after all cells
 pub record IsThinned (m : ℕ) (table : List Outcome) (ss : List ℕ) (p : List (Option ℕ)) (ds : List ℕ) (from : ℕ) : Type 0 where
   pub pattern : p ≡ thinned (is_enough m table) ss
   pub as_many : length p ≡ length ss
@@ -24,7 +25,7 @@ pub record IsThinned (m : ℕ) (table : List Outcome) (ss : List ℕ) (p : List 
   pub strides : ds ≡ open_strides m p
   pub least : from ≡ least_number m p
 
--- the fillings that break the rule, from a number on
+-- the fillings that break the rule, from the number k on
 abbrev pub breaking_from : LocalRule → ℕ → ℕ → List (List ℕ)
 breaking_from r a k = filter (λ ss. does_break (outcome r a ss)) (drop k (words r.symbols (length (cells_at r a))))
 
@@ -32,7 +33,7 @@ breaking_from r a k = filter (λ ss. does_break (outcome r a ss)) (drop k (words
 abbrev pub AreMarks : ℕ → ℕ → List Bool → List (List (Option ℕ)) → Type 0
 AreMarks m n marks ps = (ss : List ℕ) → IsWord m n ss → slice_index_or marks (number m ss) false ≡ is_covered ps ss
 
--- the fillings of the first numbers are done: the patterns found, followed by those of the rest, are the whole list
+-- the first k fillings are done: the patterns found, followed by those of the other fillings, are the whole list
 pub record IsListedTo (r : LocalRule) (a : ℕ) (k : ℕ) (found : List (List (Option ℕ))) (ms : List Bool) : Type 0 where
   pub whole : found ++ listed (thinned (is_enough r.symbols (outcomes r a))) found (breaking_from r a k) ≡
       listed (thinned (is_enough r.symbols (outcomes r a))) [] (breaking_from r a 0)

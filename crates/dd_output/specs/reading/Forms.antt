@@ -1,4 +1,5 @@
--- Forms of text. Each has a reader and a least text, which completes an output in which nothing of the form was read.
+-- Forms: the parts of the grammar. A form has a reader, and a least text, which completes a text in which nothing of the form was
+-- read.
 use Rattle.std.specs.Prelude.{ℕ, ◌+◌, List, [], ◌∷◌, ◌++◌, cond, ◌==◌}
 use Rattle.dd_output.specs.reading.Stops.{Read, before, word_at, number_at, then_at, after_at, map_at, many_at, copies, Entry, item, last, choice_at}
 
@@ -6,7 +7,7 @@ pub record Form (A : Type 0) : Type 0 where
   pub read : List ℕ → Read A
   pub least : List ℕ
 
--- nothing has to follow
+-- no text has to follow
 abbrev pub nothing : ℕ → List ℕ
 nothing _ = []
 
@@ -17,15 +18,15 @@ word w = record { read = word_at w; least = w }
 abbrev pub number : ℕ → ℕ → ℕ → Form ℕ
 number low bound end = record { read = map_at (λ n. n.0) (number_at low bound end end nothing); least = (48 + low) ∷ end ∷ [] }
 
--- one after the other
+-- one form after the other
 abbrev pub both : {A B : Type 0} → Form A → Form B → Form (A × B)
 both f g = record { read = then_at (λ bytes. before g.least (f.read bytes)) (λ _. g.read); least = f.least ++ g.least }
 
--- a word, and what follows it
+-- a word, and then a form
 abbrev pub after : {A : Type 0} → List ℕ → Form A → Form A
 after w f = record { read = after_at w f.least f.read; least = w ++ f.least }
 
--- another value for the same text
+-- the same text with another value
 abbrev pub mapped : {A B : Type 0} → (A → B) → Form A → Form B
 mapped h f = record { read = map_at h f.read; least = f.least }
 
@@ -36,14 +37,14 @@ either c f g = record { read = choice_at c f.read g.read; least = g.least }
 abbrev pub counted_of : {A : Type 0} → (ℕ × ℕ) × List A → List A
 counted_of x = x.1
 
--- a count, a line feed, and that many of them
+-- a count, a line feed, and that many texts of a form
 abbrev pub counted : {A : Type 0} → ℕ → ℕ → Form A → Form (List A)
 counted low bound f = record {
   read = map_at counted_of (then_at (number_at low bound 10 10 (λ n. copies n f.least)) (λ n. many_at f.read f.least n.0));
   least = (48 + low) ∷ 10 ∷ copies low f.least;
 }
 
--- a given number of them
+-- n texts of a form
 abbrev pub times : {A : Type 0} → ℕ → Form A → Form (List A)
 times n f = record { read = many_at f.read f.least n; least = copies n f.least }
 
@@ -56,7 +57,7 @@ item_of x = item x
 abbrev pub fork_of : {A B : Type 0} → (ℕ × ℕ) × Entry A B → ℕ × Entry A B
 fork_of x = (x.0.0, x.1)
 
--- a number, and then the first after a line feed, or the second after a space
+-- a number, and then the first form after a line feed, or the second one after a space
 abbrev pub forked : {A B : Type 0} → ℕ → Form B → Form A → Form (ℕ × Entry A B)
 forked bound f g = record {
   read = map_at fork_of (then_at (number_at 0 bound 10 32 (λ _. f.least))
@@ -64,7 +65,7 @@ forked bound f g = record {
   least = 48 ∷ 10 ∷ f.least;
 }
 
--- rows of a table, each with the byte that its text begins with; the last one serves all other texts
+-- The rows of a table, each with the byte that its texts begin with. The last row reads what begins with any other byte.
 abbrev pub table : {A : Type 0} → ℕ × Form A → List (ℕ × Form A) → Form A
 table row [] = row.1
 table row (next ∷ rows) = either row.0 row.1 (table next rows)

@@ -1,4 +1,5 @@
--- The lines of an output, as a table: a row for each kind of answer.
+-- The grammar of answers, as a table with a row for each kind of answer. Bytes are given as numbers, in decimal. Here a name that
+-- ends with `_of` is no reader: it makes a value from the values of its parts.
 use Rattle.std.specs.Prelude.{ℕ, ℤ, List, [], ◌∷◌, Option, Some, None, codes}
 use Rattle.dd_clause.specs.declared.clause.Literal.{Literal}
 use Rattle.dd_derivation.specs.declared.step.Step.{Step}
@@ -8,7 +9,7 @@ use Rattle.dd_output.specs.reading.Stops.{number_at, then_at, map_at, Entry, ite
 use Rattle.dd_output.specs.reading.Forms.{Form, word, number, both, after, mapped, either, counted, times, forked, table}
 use Rattle.dd_output.specs.reading.Periods.{periods}
 use Rattle.dd_output.specs.reading.Lists.{literals, numbers_until, numbers, integers, zeros}
-use Rattle.dd_output.specs.reading.Stars.{kept}
+use Rattle.dd_output.specs.reading.Stars.{symbols_and_stars}
 use Rattle.dd_certificate.specs.declared.answer.Side.TheVariants as side
 use Rattle.dd_certificate.specs.declared.answer.Reason.TheVariants as reason
 use Rattle.dd_certificate.specs.declared.answer.Answer.TheVariants as answer
@@ -39,6 +40,7 @@ yes_of (left, item x) = answer.YesBoth left x.0 x.1.0 x.1.1
 abbrev pub sided : Side → Form (Side × (List ℕ × ℕ))
 sided s = mapped (λ x. (s, x)) periods
 
+-- `left` begins with the byte 108, and `right` with 114
 unfoldable pub side_and_periods : Form (Side × (List ℕ × ℕ))
 side_and_periods = either 108 (after (codes "left ") (sided side.Left)) (either 114 (after (codes "right ") (sided side.Right)) (sided side.Whole))
 
@@ -48,6 +50,7 @@ no_of x = answer.No x.0.0 x.0.1.0 x.0.1.1 x.1
 abbrev pub reason_form : List ℕ → Reason → Form Reason
 reason_form w r = mapped (λ _. r) (word w)
 
+-- `overflow` begins with the byte 111, `pivots` with 112, and `large` has 97 after its `l`
 unfoldable pub reason_word : Form Reason
 reason_word = either 111 (reason_form (codes "overflow\n") reason.Overflow) (either 112 (reason_form (codes "pivots\n") reason.Pivots)
     (after (codes "l") (either 97 (reason_form (codes "arge\n") reason.Large) (reason_form (codes "imits\n") reason.Limits))))
@@ -71,7 +74,7 @@ fraction = both (number 0 most_number 47) (number 1 most_number 10)
 abbrev pub cycle_of : (ℕ × ℕ) × List ℕ → List ℕ
 cycle_of x = x.1
 
--- the number of states, and then the states
+-- the length of the cycle, and then its states
 unfoldable pub cycle : Form (List ℕ)
 cycle = record {
   read = map_at cycle_of (then_at (number_at 1 most_number 32 32 zeros) (λ n. (numbers n.0 (Some n.0)).read));
@@ -87,7 +90,7 @@ empty_of ranks = answer.Empty ranks
 abbrev pub none_of : Unit {0} → List ℕ
 none_of _ = []
 
--- any number of numbers
+-- the amounts at the end of their line; there may be none
 unfoldable pub amounts : Form (List ℕ)
 amounts = either 10 (mapped none_of (word (codes "\n"))) (after (codes " ") (numbers 1 None))
 
@@ -107,14 +110,14 @@ right_and_refutations = both (number 0 most_number 10) (both refutation refutati
 unfoldable pub yes_row : Form Answer
 yes_row = mapped yes_of (after (codes "YES ") (forked most_number refutation right_and_refutations))
 
--- after NO
+-- `NO`, after these two letters
 unfoldable pub no_row : Form Answer
 no_row = mapped no_of (after (codes " ") (both side_and_periods (after (codes "conf ") (numbers 1 None))))
 
 unfoldable pub unknown_row : Form Answer
 unknown_row = mapped unknown_of (after (codes "UNKNOWN ") reason_word)
 
--- after L
+-- `LIST`, after its `L`
 unfoldable pub list_row : Form Answer
 list_row = mapped list_of (after (codes "IST ") (counted 0 most_number pattern))
 
@@ -130,7 +133,7 @@ empty_row = mapped empty_of (after (codes "EMPTY\nranks ") (numbers 1 None))
 unfoldable pub amounts_and_duals : Form (List ℕ × List ℕ)
 amounts_and_duals = after (codes "amounts") (both amounts (after (codes "duals ") (numbers 1 None)))
 
--- after B
+-- `BOUND`, after its `B`
 unfoldable pub bound_row : Form Answer
 bound_row = mapped bound_of (after (codes "OUND ") (both fraction (after (codes "denominator ") (both (number 1 most_number 10) amounts_and_duals))))
 
@@ -139,7 +142,7 @@ starred_of (node, last u) = record { node = node; symbols = [] }
 starred_of (node, item symbols) = record { node = node; symbols = symbols }
 
 unfoldable pub starred : Form Starred
-starred = mapped starred_of (after (codes "pattern ") (forked most_number (word []) kept))
+starred = mapped starred_of (after (codes "pattern ") (forked most_number (word []) symbols_and_stars))
 
 abbrev pub minimal_of : List Starred → Answer
 minimal_of patterns = answer.Minimal patterns
@@ -156,7 +159,7 @@ conjugate_row = mapped conjugate_of (after (codes "CONJUGATE ") (both (numbers 4
 abbrev pub broken_of : ℕ × ((List ℕ × ℕ) × List ℕ) → Answer
 broken_of x = answer.Broken x.0 x.1.0.0 x.1.0.1 x.1.1
 
--- after B
+-- `BROKEN`, after its `B`
 unfoldable pub broken_row : Form Answer
 broken_row = mapped broken_of (after (codes "ROKEN ") (both (number 1 4 32) (both periods (after (codes "conf ") (numbers 1 None)))))
 
@@ -172,29 +175,32 @@ some_weight = both (number 1 most_number 10) (both (after (codes "conf ") (numbe
 abbrev pub least_of : ℕ × (List ℕ × List Step) → Answer
 least_of x = answer.Least x.0 x.1.0 x.1.1
 
--- after L
+-- `LEAST`, after its `L`
 unfoldable pub least_row : Form Answer
 least_row = mapped least_of (after (codes "EAST ") (either 48 zero_weight some_weight))
 
 abbrev pub nothing_of : List Step → Answer
 nothing_of steps = answer.Nothing steps
 
--- after NO
+-- `NONE`, after its `NO`
 unfoldable pub nothing_row : Form Answer
 nothing_row = mapped nothing_of (after (codes "NE\n") refutation)
 
 -- ---- kinds whose texts begin alike
 
+-- 78 is the second N of `NONE`
 unfoldable pub no_or_nothing : Form Answer
 no_or_nothing = after (codes "NO") (either 78 nothing_row no_row)
 
+-- 69 is the E of `LEAST`
 unfoldable pub list_or_least : Form Answer
 list_or_least = after (codes "L") (either 69 least_row list_row)
 
+-- 82 is the R of `BROKEN`
 unfoldable pub bound_or_broken : Form Answer
 bound_or_broken = after (codes "B") (either 82 broken_row bound_row)
 
--- the rows, by the first bytes O, Y, N, U, L, D, E, B, M, C and I
+-- the rows by their first bytes: O, Y, N, U, L, D, E, B, M, C and I
 unfoldable pub answer_form : Form Answer
 answer_form = table (79, outside_row) ((89, yes_row) ∷ (78, no_or_nothing) ∷ (85, unknown_row) ∷ (76, list_or_least) ∷ (68, density_row) ∷ (69, empty_row)
     ∷ (66, bound_or_broken) ∷ (77, minimal_row) ∷ (67, conjugate_row) ∷ (73, inside_row) ∷ [])

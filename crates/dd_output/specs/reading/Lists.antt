@@ -1,4 +1,5 @@
--- Lists in a text: those that a 0 ends, and the numbers that a line ends with.
+-- Readers of lists: those that a 0 ends, and the numbers that a line ends with. A name that ends with `_of` is no reader: it makes a
+-- value from the values of its parts. 48 is the digit 0, 49 the digit 1, 45 the minus sign, 32 a space, and 10 a line feed.
 use Rattle.std.specs.Prelude.{ℕ, ℤ, pos, negsuc, zero, suc, ◌-◌, ◌≤◌, List, [], ◌∷◌, ◌++◌, Bool, true, false, cond, ◌==◌, nat_lt, nat_le, Option, Some, None}
 use Rattle.dd_values.specs.Bounds.{most_variables}
 use Rattle.dd_clause.specs.declared.clause.Literal.{Literal}
@@ -20,14 +21,16 @@ entry_of n = item n.0
 abbrev pub ended : {A : Type 0} → Unit {0} → Entry A (Unit {0})
 ended u = last u
 
--- a variable; at least the end of the list follows
+-- a variable; the text that completes it ends the list
 abbrev pub variable_at : List ℕ → Read (ℕ × ℕ)
 variable_at bytes = before (48 ∷ 32 ∷ []) (number_at 1 most_variables 32 32 nothing bytes)
 
+-- a literal, or the end of the list: a 0 and a space
 abbrev pub literal_entry : List ℕ → Read (Entry Literal (Unit {0}))
 literal_entry = choice_at 48 (map_at ended (word_at (48 ∷ 32 ∷ [])))
     (choice_at 45 (map_at negative_of (after_at (45 ∷ []) (49 ∷ 32 ∷ 48 ∷ 32 ∷ []) variable_at)) (map_at positive_of variable_at))
 
+-- the number of a clause, or the end of the list: a 0 and the byte `end`
 abbrev pub number_entry : ℕ → List ℕ → Read (Entry ℕ (Unit {0}))
 number_entry end = choice_at 48 (map_at ended (word_at (48 ∷ end ∷ [])))
     (map_at entry_of (λ bytes. before (48 ∷ end ∷ []) (number_at 1 most_count 32 32 nothing bytes)))
@@ -43,22 +46,25 @@ numbers_until end = record { read = map_at items_of (entries_at (λ _. number_en
 
 -- ---- numbers that a line ends with: at least `least`, and at most `most` if there is such a bound
 
+-- the number with index k is the last one allowed
 abbrev pub is_last : Option ℕ → ℕ → Bool
 is_last None k = false
 is_last (Some most) k = nat_le most (suc k)
 
+-- n is at most the bound, if there is one
 abbrev pub AtMost : Option ℕ → ℕ → Type 0
 AtMost None n = Unit {0}
 AtMost (Some most) n = n ≤ most
 
--- what can end the number at the place k, from 0: the first of the two completes a line
+-- The bytes that can end the number with index k, from 0. `end_at` is that of the shortest line allowed, `other_at` that of the
+-- longest.
 abbrev pub end_at : ℕ → ℕ → ℕ
 end_at least k = cond (nat_lt (suc k) least) 32 10
 
 abbrev pub other_at : Option ℕ → ℕ → ℕ
 other_at most k = cond (is_last most k) 10 32
 
--- this many zeros, and the line feed after the last
+-- this many zeros at the end of a line
 abbrev pub zeros : ℕ → List ℕ
 zeros zero = []
 zeros (suc zero) = 48 ∷ 10 ∷ []
@@ -76,7 +82,7 @@ line_entry least most k = map_at line_entry_of (number_at 0 most_number (end_at 
 unfoldable pub numbers : ℕ → Option ℕ → Form (List ℕ)
 numbers least most = record { read = map_at line_of (entries_at (line_entry least most) 0); least = zeros least }
 
--- ---- the same with signs
+-- ---- the same for numbers that may have a minus sign
 
 abbrev pub minus_of : ℕ × ℕ → ℤ × ℕ
 minus_of n = (negsuc (n.0 - 1), n.1)
@@ -84,6 +90,7 @@ minus_of n = (negsuc (n.0 - 1), n.1)
 abbrev pub plus_of : ℕ × ℕ → ℤ × ℕ
 plus_of n = (pos n.0, n.1)
 
+-- a number up to `bound` that may have a minus sign, and the byte that ends it; `rest` is the least text that has to follow
 unfoldable pub signed_at : ℕ → ℕ → ℕ → List ℕ → List ℕ → Read (ℤ × ℕ)
 signed_at bound end other rest = choice_at 45
     (map_at minus_of (after_at (45 ∷ []) (49 ∷ end ∷ rest) (number_at 1 bound end other (λ _. rest))))

@@ -1,4 +1,4 @@
--- What the values of the reader stand for.
+-- Which entries of the grammar the values that the code returns stand for.
 use Rattle.std.specs.Prelude.{ℕ, ℤ, Option, Some, None, Bool, cond}
 use Rattle.dd_clause.specs.declared.clause.Literal.{Literal}
 use Rattle.dd_certificate.specs.declared.answer.Answer.{Answer}
@@ -6,7 +6,7 @@ use Rattle.dd_output.specs.{declared.sides.PeriodEntry.PeriodEntry, reading.Stop
 use Rattle.dd_output.specs.reading.Periods.{PeriodsEnd, ends, shears}
 use Rattle.dd_output.specs.declared.sides.PeriodEntry.TheVariants as entry
 
--- an item of a list, or its end
+-- an item of a list, or `None` at its end
 abbrev pub seen : {A : Type 0} → Option A → Entry A (Unit {0})
 seen None = last tt
 seen (Some x) = item x
@@ -20,15 +20,15 @@ number_seen = seen
 abbrev pub answer_seen : Option Answer → Entry Answer (Unit {0})
 answer_seen = seen
 
--- a number, and whether it is the line's last
+-- a number, and whether it is the last one of its line
 abbrev pub line_seen : ℕ → Bool → Entry ℕ ℕ
 line_seen n is_last = cond is_last (last n) (item n)
 
 abbrev pub signed_seen : ℤ → Bool → Entry ℤ ℤ
 signed_seen n is_last = cond is_last (last n) (item n)
 
-abbrev pub kept_seen : Option ℕ → Bool → Entry (Option ℕ) (Option ℕ)
-kept_seen s is_last = cond is_last (last s) (item s)
+abbrev pub symbol_or_star_seen : Option ℕ → Bool → Entry (Option ℕ) (Option ℕ)
+symbol_or_star_seen s is_last = cond is_last (last s) (item s)
 
 abbrev pub period_seen : PeriodEntry → Entry ℕ PeriodsEnd
 period_seen (entry.Period n) = item n

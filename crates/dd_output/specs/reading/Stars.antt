@@ -1,11 +1,11 @@
--- Symbols that a line ends with, with a star in the place of each that is left out.
+-- Readers of the symbols and stars that a line ends with. A star stands for a cell that is left out.
 use Rattle.std.specs.Prelude.{ℕ, suc, ◌-◌, List, [], ◌∷◌, cond, ◌==◌, ◌||◌, Option, Some, None, Ok, Err}
 use Rattle.dd_certificate.specs.Bounds.{most_number}
 use Rattle.dd_output.specs.reading.Stops.{Read, stop, number_at, after_at, map_at, Entry, entries_at, choice_at}
 use Rattle.dd_output.specs.reading.Forms.{Form}
 use Rattle.dd_output.specs.reading.Lists.{end_at, other_at, zeros, line_entry_of, line_of}
 
--- one of two bytes; the first and this rest complete the line
+-- one of two bytes; the first one, and `rest` after it, complete a line without it
 abbrev pub end_byte_at : ℕ → ℕ → List ℕ → List ℕ → Read ℕ
 end_byte_at end other rest [] = Err (stop [] (end ∷ rest))
 end_byte_at end other rest (b ∷ bytes) = cond (b == end || b == other) (Ok (b, bytes)) (Err (stop (b ∷ bytes) (end ∷ rest)))
@@ -16,14 +16,15 @@ star_of e = (None, e)
 abbrev pub symbol_of : ℕ × ℕ → Option ℕ × ℕ
 symbol_of n = (Some n.0, n.1)
 
-unfoldable pub kept_at : ℕ → ℕ → List ℕ → List ℕ → Read (Option ℕ × ℕ)
-kept_at end other rest = choice_at 42
+-- 42 is the star
+unfoldable pub symbol_or_star_at : ℕ → ℕ → List ℕ → List ℕ → Read (Option ℕ × ℕ)
+symbol_or_star_at end other rest = choice_at 42
     (map_at star_of (after_at (42 ∷ []) (end ∷ rest) (end_byte_at end other rest)))
     (map_at symbol_of (number_at 0 most_number end other (λ _. rest)))
 
-unfoldable pub kept_entry : ℕ → List ℕ → Read (Entry (Option ℕ) (Option ℕ))
-kept_entry k = map_at line_entry_of (kept_at (end_at 1 k) (other_at None k) (zeros (1 - suc k)))
+unfoldable pub symbol_or_star_entry : ℕ → List ℕ → Read (Entry (Option ℕ) (Option ℕ))
+symbol_or_star_entry k = map_at line_entry_of (symbol_or_star_at (end_at 1 k) (other_at None k) (zeros (1 - suc k)))
 
--- at least one
-unfoldable pub kept : Form (List (Option ℕ))
-kept = record { read = map_at line_of (entries_at kept_entry 0); least = zeros 1 }
+-- the symbols and stars that a line ends with, at least one
+unfoldable pub symbols_and_stars : Form (List (Option ℕ))
+symbols_and_stars = record { read = map_at line_of (entries_at symbol_or_star_entry 0); least = zeros 1 }

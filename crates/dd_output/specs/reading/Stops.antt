@@ -1,9 +1,9 @@
--- Readers. A reader takes bytes to a value and the bytes after it, or to the place where reading stops.
+-- Readers. A reader takes bytes to the value that they begin with and the bytes after it, or to where reading stops.
 use Rattle.std.specs.Prelude.{◌≡◌, ℕ, zero, suc, ◌+◌, ◌*◌, ◌-◌, List, [], ◌∷◌, ◌++◌, length, take, drop, Result, Ok, Err, Bool, false, cond, ◌&&◌, ◌||◌, nat_lt, nat_le, ◌==◌, replicate}
 use Rattle.dd_output.specs.declared.fault.ReadFault.{ReadFault}
 use Rattle.dd_output.specs.declared.fault.ReadFault.TheVariants as faults
 
--- what was not read, and a text that completes what was read
+-- where reading stops: the bytes that are left, and a text that completes what was read
 pub record Stop : Type 0 where
   pub left : List ℕ
   pub missing : List ℕ
@@ -11,46 +11,52 @@ pub record Stop : Type 0 where
 abbrev pub stop : List ℕ → List ℕ → Stop
 stop left missing = record { left = left; missing = missing }
 
+-- what a reader gives: a value and the bytes after it, or where it stops
 abbrev pub Read : Type 0 → Type 0
 Read A = Result (A × List ℕ) Stop
 
+-- what f gives for the value; a stop stays as it is
 infixl 10 ◌>>=◌
 abbrev pub ◌>>=◌ : {A B : Type 0} → Result A Stop → (A → Result B Stop) → Result B Stop
 (Ok x) >>= f = f x
 (Err s) >>= f = Err s
 
--- at least this text follows
+-- a reader after which this text has to come: if it stops, the text is missing too
 abbrev pub before : {A : Type 0} → List ℕ → Result A Stop → Result A Stop
 before text (Ok x) = Ok x
 before text (Err s) = Err (stop s.left (s.missing ++ text))
 
--- What a function returns is what reading gives, unless memory runs out.
+-- reading stops with this many bytes left
 abbrev pub StoppedAt : {A : Type 0} → ℕ → Result A Stop → Type 0
 StoppedAt count (Ok x) = ⊥
 StoppedAt count (Err s) = length s.left ≡ count
 
+-- memory ran out, or reading stops with as many bytes left as the fault says
 abbrev pub Fails : {A : Type 0} → ReadFault → Result A Stop → Type 0
 Fails faults.Memory read = Unit {0}
 Fails (faults.Stopped count) read = StoppedAt count read
 
+-- What a function returns, seen through `view`, is what reading gives, unless memory runs out.
 abbrev pub Gives : {X A : Type 0} → (X → A) → Result X ReadFault → Result A Stop → Type 0
 Gives view (Ok x) read = read ≡ Ok (view x)
 Gives view (Err e) read = Fails e read
 
--- these bytes
+-- the word w
 abbrev pub word_at : List ℕ → List ℕ → Read (Unit {0})
 word_at [] bytes = Ok (tt, bytes)
 word_at (w ∷ word) [] = Err (stop [] (w ∷ word))
 word_at (w ∷ word) (b ∷ bytes) = cond (b == w) (word_at word bytes) (Err (stop (b ∷ bytes) (w ∷ word)))
 
--- a number, and the byte after it
+-- 0 to 9
 abbrev pub is_digit : ℕ → Bool
 is_digit b = nat_le 48 b && nat_le b 57
 
+-- the byte can be one more digit of the number n: no digit follows a leading 0, and the bound holds
 abbrev pub goes_on : ℕ → ℕ → ℕ → Bool
 goes_on bound n b = is_digit b && (nat_lt 0 n && nat_le (n * 10 + (b - 48)) bound)
 
--- n is read so far; `after` is the least text that follows a number
+-- The number whose digits so far have the value n, and the byte that ends it: one of `end` and `other`. `after` gives the least text
+-- that has to follow a number and its end.
 abbrev pub digits_at : ℕ → ℕ → ℕ → (ℕ → List ℕ) → ℕ → List ℕ → Read (ℕ × ℕ)
 digits_at bound end other after n [] = Err (stop [] (end ∷ after n))
 digits_at bound end other after n (b ∷ bytes) =
@@ -58,10 +64,11 @@ digits_at bound end other after n (b ∷ bytes) =
     (cond (goes_on bound n b) (digits_at bound end other after (n * 10 + (b - 48)) bytes)
     (Err (stop (b ∷ bytes) (end ∷ after n))))
 
+-- the byte can be the first digit of a number
 abbrev pub starts : ℕ → ℕ → ℕ → Bool
 starts low bound b = is_digit b && (nat_le low (b - 48) && nat_le (b - 48) bound)
 
--- from low, which is 0 or 1, to bound
+-- a number from `low`, which is 0 or 1, to `bound`, and the byte that ends it: one of `end` and `other`
 abbrev pub number_at : ℕ → ℕ → ℕ → ℕ → (ℕ → List ℕ) → List ℕ → Read (ℕ × ℕ)
 number_at low bound end other after [] = Err (stop [] ((48 + low) ∷ end ∷ after low))
 number_at low bound end other after (b ∷ bytes) =
@@ -74,23 +81,24 @@ bytes_at count bytes =
     cond (nat_le count (length bytes)) (Ok (take count bytes, drop count bytes))
     (Err (stop [] (replicate (count - length bytes) 0)))
 
--- one after the other
+-- one value after the other
 abbrev pub then_at : {A B : Type 0} → (List ℕ → Read A) → (A → List ℕ → Read B) → List ℕ → Read (A × B)
 then_at first second bytes = first bytes >>= λ a. second a.0 a.1 >>= λ b. Ok ((a.0, b.0), b.1)
 
--- a word and what follows it; `least` is its least text
+-- a word and a value; `least` is the least text of a value
 abbrev pub after_at : {A : Type 0} → List ℕ → List ℕ → (List ℕ → Read A) → List ℕ → Read A
 after_at word least read bytes = before least (word_at word bytes) >>= λ x. read x.1
 
--- another value for the same text
+-- the same text with another value
 abbrev pub map_at : {A B : Type 0} → (A → B) → (List ℕ → Read A) → List ℕ → Read B
 map_at f read bytes = read bytes >>= λ x. Ok (f x.0, x.1)
 
--- a given number of them; `least` is the text of one
+-- n copies of a text
 abbrev pub copies : ℕ → List ℕ → List ℕ
 copies zero text = []
 copies (suc n) text = text ++ copies n text
 
+-- n values, one after the other; `least` is the least text of one
 abbrev pub many_at : {A : Type 0} → (List ℕ → Read A) → List ℕ → ℕ → List ℕ → Read (List A)
 many_at one least zero bytes = Ok ([], bytes)
 many_at one least (suc n) bytes = map_at (λ p. p.0 ∷ p.1) (then_at (λ b. before (copies n least) (one b)) (λ _. many_at one least n)) bytes
@@ -100,22 +108,25 @@ pub data Entry (A B : Type 0) : Type 0 where
   item : A → Entry A B
   last : B → Entry A B
 
--- items, as long as the entry at a place is one, and the entry that ends them
+-- an entry, and more entries if it is an item
 abbrev pub next_at : {A B : Type 0} → (List ℕ → Read (List A × B)) → Entry A B × List ℕ → Read (List A × B)
 next_at more (item x, rest) = more rest >>= λ o. Ok ((x ∷ o.0.0, o.0.1), o.1)
 next_at more (last y, rest) = Ok (([], y), rest)
 
+-- The entries from index k on, up to the one that ends them. `fuel` is the greatest number of entries.
 abbrev pub until_at : {A B : Type 0} → (ℕ → List ℕ → Read (Entry A B)) → ℕ → ℕ → List ℕ → Read (List A × B)
 until_at entry k zero bytes = Err (stop bytes [])
 until_at entry k (suc fuel) bytes = entry k bytes >>= next_at (until_at entry (suc k) fuel)
 
+-- the same without `fuel`: there are no more entries than bytes
 abbrev pub entries_at : {A B : Type 0} → (ℕ → List ℕ → Read (Entry A B)) → ℕ → List ℕ → Read (List A × B)
 entries_at entry k bytes = until_at entry k (suc (length bytes)) bytes
 
--- by the first byte
+-- the first byte is this one
 abbrev pub begins : ℕ → List ℕ → Bool
 begins c [] = false
 begins c (b ∷ bytes) = b == c
 
+-- the first reader if the bytes begin with c, and else the second
 abbrev pub choice_at : {A : Type 0} → ℕ → (List ℕ → Read A) → (List ℕ → Read A) → List ℕ → Read A
 choice_at c first second bytes = cond (begins c bytes) (first bytes) (second bytes)

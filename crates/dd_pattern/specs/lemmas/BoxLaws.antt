@@ -11,7 +11,7 @@ use Rattle.dd_pattern.specs.{declared.periods.Periods.Periods, Periods.periods_v
 use Rattle.dd_pattern.specs.Tile.{Tile, IsTile, IsInBox, tile_index, cell_in}
 use Rattle.dd_pattern.specs.lemmas.Residues.{residue_below, residue_small, quotient_small}
 
--- the origin
+-- the origin is its own base
 base_of-origin : (p : Periods) → 0 < p.x → 0 < p.y → 0 < p.z → base_of p (place (pos 0) (pos 0) (pos 0)) ≡ place (pos 0) (pos 0) (pos 0)
 base_of-origin p x y z =
     let turns : quotient (pos 0) p.y ≡ pos 0 = quotient_small 0 p.y y in
@@ -23,7 +23,7 @@ base_of-origin p x y z =
 pub origin_in_box : (t : Tile) (a : ℕ) → IsTile t → a < t.nodes → IsInBox t (cell (place (pos 0) (pos 0) (pos 0)) a)
 origin_in_box t a tile node = record { base = base_of-origin t.periods tile.periods.x_some tile.periods.y_some tile.periods.z_some; node = node }
 
--- cells by their numbers
+-- the number of a cell leads back to the cell at its base
 pub cell_at_index : (t : Tile) → IsTile t → (v : Place) (a : ℕ) → a < t.nodes → cell_in t (tile_index t (cell v a)) ≡ cell (base_of t.periods v) a
 cell_at_index t ok v a h =
     let x_in = residue_below (unsheared t.periods v) t.periods.x ok.periods.x_some in
@@ -59,7 +59,7 @@ parts_of t ok i h =
       node = mod_below i t.nodes ok.nodes_some;
     }
 
--- in the fundamental box nothing is subtracted
+-- in the fundamental box no second period vector is subtracted
 own_x : (t : Tile) (i : ℕ) → Parts t i → unsheared t.periods (cell_in t i).position ≡ pos (i / t.nodes % t.periods.x)
 own_x t i p = ap (λ k. pos (i / t.nodes % t.periods.x) -ℤ k *ℤ pos t.periods.shear) (quotient_small _ _ p.y) ∙ omega (arith, ints)
 
@@ -82,7 +82,7 @@ index_of_cell t ok i h =
       div-add-mod' i t.nodes,
     )
 
--- what an order of two numbers tells of two others
+-- if o is Less or Equal, a and b compare so
 record Tells (o : Ordering) (a b : ℕ) : Type 0 where
   less : o ≡ Less → a < b
   equal : o ≡ Equal → a ≡ b

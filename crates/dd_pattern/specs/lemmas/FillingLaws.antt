@@ -1,4 +1,4 @@
--- A filling is read by the places of its cells.
+-- A filling is read by the indices of its cells.
 use Rattle.std.proofs.Common.{◌≡◌, ◌<◌, ℕ, zero, suc, Bool, true, false, List, [], ◌∷◌, length, get_or, slice_get, Some, None, Ok, Err, Result, ap, sym, subst, refl, ◌∙◌, arith, rules}
 use Rattle.std.proofs.lemmas.{Option.slice_get_past, Option.slice_get-get_or, List.get_or_default}
 use Rattle.std.specs.{Result.MatchResult, List.Contains, List.position_or_len}
@@ -28,7 +28,7 @@ place_later x c cs h = rw h (omega arith)
 itself : (x c : Cell) → x ≡ c → is_cell c x ≡ true
 itself x c e = ap is_eq (ap (λ z. cell_cmp z c) e ∙ tied_itself cell_total c)
 
--- the place of a cell in an ascending list
+-- in an ascending list the cell at index i is found at i
 pub place_found : (cs : List Cell) → IsStrictlySortedBy cell_cmp cs → (i : ℕ) (c : Cell) → i < length cs → get_or cs i c ≡ c → place_of cs c ≡ i
 place_found [] up i c h e = absurd (omega arith)
 place_found (x ∷ cs) up zero c h e = place_here x c cs (itself x c e)
@@ -42,7 +42,7 @@ other x c Less h apart = refl
 other x c Equal h apart = absurd (apart (cells_equal x c h))
 other x c Greater h apart = refl
 
--- the place of a cell that a list doesn't hold is past its end
+-- a cell that isn't in the list has the length of the list as its place
 place_missing : (cs : List Cell) (c : Cell) → (Contains cs c → ⊥) → place_of cs c ≡ length cs
 place_missing [] c absent = refl
 place_missing (x ∷ cs) c absent =

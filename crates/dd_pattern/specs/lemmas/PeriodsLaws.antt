@@ -1,4 +1,4 @@
--- Periods that are the same.
+-- When periods are equal.
 use Rattle.dd_pattern.specs.{declared.periods.Periods.Periods, Periods.periods_cmp, Periods.periods_volume}
 use Rattle.std.proofs.{Common.ℕ, Common.◌≡◌, lemmas.Map.Lookups.exact_unsigned}
 use Rattle.dd_values.specs.lemmas.Booleans.{both_equal}

@@ -8,7 +8,7 @@ use Rattle.dd_pattern.specs.Periods.{residue, quotient}
 pub le-self_mul : (a n : ℕ) → 0 < n → a ≤ a * n
 le-self_mul a n h = let one : a * 1 ≤ a * n = mul-le-mul_left a h in omega arith
 
--- z with enough multiples of n added
+-- adding n to z often enough gives a natural number m
 raised : (z : ℤ) (n : ℕ) → 0 < n → (m : ℕ) × (z +ℤ pos (unsigned_abs z * n) ≡ pos m)
 raised z n h =
     let big : unsigned_abs z ≤ unsigned_abs z * n = le-self_mul (unsigned_abs z) n h in
@@ -23,7 +23,7 @@ residue_below x n h = let p = raised x n h in rw (residue_is x n (unsigned_abs x
 pub residue_small : (k n : ℕ) → k < n → residue (pos k) n ≡ k
 residue_small k n h = mod-eq_of_lt h
 
--- how often n is added to x, and how often to its residue, until both meet
+-- x and its residue become equal if n is added to each a number of times
 pub record Met (x : ℤ) (n : ℕ) : Type 0 where
   pub times : ℕ
   pub times' : ℕ
@@ -33,7 +33,7 @@ pub record Met (x : ℤ) (n : ℕ) : Type 0 where
 split_table : (j b n k : ℕ) → k ≡ j + b + 1 → k * n ≡ j * n + b * n + n
 split_table j b n k e = rw e (omega arith)
 
--- x plus k times n is the natural m
+-- the quotient of x by n, if x plus k times n is the natural number m
 quotient_is : (x : ℤ) (n k m : ℕ) → 0 < n → x +ℤ pos (k * n) ≡ pos m → quotient x n +ℤ pos k ≡ pos (m / n)
 quotient_is (pos a) n k m h e =
     let sum : m ≡ a + k * n = omega (arith, ints) in
@@ -58,7 +58,7 @@ meets x n h =
       divided = quotient_is x n (unsigned_abs x) p.0 h p.1;
     }
 
--- n added k times leaves the residue, and adds k to the quotient
+-- adding n to x k times keeps the residue
 pub residue_added : (x : ℤ) (n k : ℕ) → 0 < n → residue (x +ℤ pos (k * n)) n ≡ residue x n
 residue_added x n k h =
     let p = raised x n h in
@@ -67,6 +67,7 @@ residue_added x n k h =
     let more : (x +ℤ pos (k * n)) +ℤ pos (a * n) ≡ pos (p.0 + k * n) = omega (arith, ints) in
     residue_is (x +ℤ pos (k * n)) n a (p.0 + k * n) h more ∙ (add-mul-mod_self_right p.0 k n ∙ sym (residue_is x n a p.0 h whole))
 
+-- adding n to x k times adds k to the quotient
 pub quotient_added : (x : ℤ) (n k : ℕ) → 0 < n → quotient (x +ℤ pos (k * n)) n ≡ quotient x n +ℤ pos k
 quotient_added x n k h =
     let p = raised x n h in
@@ -81,7 +82,7 @@ quotient_added x n k h =
 pub quotient_small : (k n : ℕ) → k < n → quotient (pos k) n ≡ pos 0
 quotient_small k n h = ap pos (div-eq_of_lt h)
 
--- a sum of whole numbers, times q
+-- an equation of sums, multiplied by q
 pub scaled : (x : ℤ) (a b q : ℕ) → x +ℤ pos a ≡ pos b → x *ℤ pos q +ℤ pos (a * q) ≡ pos (b * q)
 scaled (pos k) a b q e =
     let sum : b ≡ k + a = omega (arith, ints) in

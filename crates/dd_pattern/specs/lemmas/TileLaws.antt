@@ -51,7 +51,7 @@ moved_congruent p c v w h = record {
       place_same _ _ _ _ _ _ (omega (arith, ints, on_x)) (omega (arith, ints, on_y)) (omega (arith, ints, on_z));
 }
 
--- a move from c by a position, or by its base, leads to the same base
+-- c moved by a position and c moved by its base have the same base
 pub base_moved : (d : ℕ) (p : Periods) → ArePeriodsIn d p → (c v : Place) → base_of p (moved c v) ≡ base_of p (moved c (base_of p v))
 base_moved d p ok c v = base_congruent d p ok (moved c v) (moved c (base_of p v)) (moved_congruent p c v (base_of p v) (congruent_base d p ok v))
 
@@ -86,7 +86,7 @@ no_turns (negsuc k) n low high some = absurd (omega (arith, ints))
 pub span_is : (n : ℕ) → 0 < n → span (pos 0) (pos (n - 1)) ≡ n
 span_is n h = omega (arith, ints)
 
--- in the fundamental box nothing is subtracted
+-- in the fundamental box no second period vector is subtracted
 unsheared_in_box : (d : ℕ) (p : Periods) → ArePeriodsIn d p → (v : Place) → IsWithin (fundamental p) v → unsheared p v ≡ v.x
 unsheared_in_box d p ok v h = rw (no_turns v.y p.y h.0.on_y h.1.on_y ok.y_some) (omega (arith, ints))
 

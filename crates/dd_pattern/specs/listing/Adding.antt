@@ -1,34 +1,37 @@
--- Lists of periods as loops add to them.
+-- What nested loops over x, y, z and the shear add to a set of periods.
 use Rattle.std.specs.{Prelude.ℕ, Prelude.◌<◌, Prelude.◌≤◌, Prelude.◌≡◌, Prelude.◌↔◌, Prelude.◌⊎◌, Prelude.List, Prelude.cond, List.Contains}
 use Rattle.dd_lattice.specs.Boxes.{is_active}
 use Rattle.dd_pattern.specs.declared.periods.Periods.{Periods}
 
--- the second list has what the first has, and the periods that P names
+-- the second list has the periods of the first, and those that satisfy P
 abbrev pub IsAdded : List Periods → List Periods → (Periods → Type 0) → Type 0
 IsAdded old new P = (q : Periods) → Contains new q ↔ (Contains old q ⊎ P q)
 
--- n along an active axis, 1 along another
+-- the greatest period along an axis: n if the axis is active, else 1
 abbrev pub most_along : ℕ → ℕ → ℕ → ℕ
 most_along d axis n = cond (is_active d axis) n 1
 
--- these three periods, and a shear less than n
+-- q has these x, y and z, and a shear less than n
 pub record HasShear (n x y z : ℕ) (q : Periods) : Type 0 where
   pub at_x : q.x ≡ x
   pub at_y : q.y ≡ y
   pub at_z : q.z ≡ z
   pub shear : q.shear < n
 
--- F holds of the period f, which is from 1 to n
+-- the period f of q is from 1 to n, and q satisfies F for this period
 pub record IsPeriodUpTo (F : ℕ → Periods → Type 0) (f : Periods → ℕ) (n : ℕ) (q : Periods) : Type 0 where
   pub rest : F (f q) q
   pub some : 1 ≤ f q
   pub most : f q ≤ n
 
+-- q has these x and y, and a z from 1 to n
 abbrev pub HasRow : ℕ → ℕ → ℕ → ℕ → Periods → Type 0
 HasRow d n x y = IsPeriodUpTo (HasShear (most_along d 1 x) x y) (λ q. q.z) n
 
+-- q has this x, and y and z from 1 to n, as far as their axes are active
 abbrev pub HasPlane : ℕ → ℕ → ℕ → Periods → Type 0
 HasPlane d n x = IsPeriodUpTo (HasRow d (most_along d 2 n) x) (λ q. q.y) (most_along d 1 n)
 
+-- q has an x from 1 to k, and y and z from 1 to n, as far as their axes are active
 abbrev pub HasBox : ℕ → ℕ → ℕ → Periods → Type 0
 HasBox d n k = IsPeriodUpTo (HasPlane d n) (λ q. q.x) k

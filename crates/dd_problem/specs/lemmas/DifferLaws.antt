@@ -14,7 +14,7 @@ use Rattle.dd_compile.specs.lemmas.{MadeSays.last_gate, MadeSays.opposite_value,
 use Rattle.dd_problem.specs.Differing.{apart, differ_made}
 use Rattle.dd_values.specs.lemmas.Booleans.{same_from_beq}
 
--- first and not second, one after the other
+-- at each place, whether the first list is true and the second isn't
 abbrev each_apart : List Bool → List Bool → List Bool
 each_apart [] bs = []
 each_apart (a ∷ us) [] = []
@@ -41,7 +41,7 @@ any_as_map : (set : ℕ → Bool) (ss : List Signal) → list_any (signal_value 
 any_as_map set [] = refl
 any_as_map set (s ∷ ss) = ap (λ b. signal_value set s || b) (any_as_map set ss)
 
--- the signals of a value by symbol, from j on
+-- for each of k symbols from j on, whether it is the value
 abbrev is_value : ℕ → ℕ → ℕ → List Bool
 is_value v j k = map (λ t. v == t) (range_with_len j k)
 

@@ -16,7 +16,7 @@ pub some_same : {A : Type 0} (a b : A) → Some a ≡ Some b → a ≡ b
 some_same a b h = cc
 
 module _ {X : Type 0} where
-  -- from its members and back
+  -- a filtered list passes a test exactly if each member of the whole list that passes the filter passes the test
   filter_step : (p : X → Bool) (d : X) (b : Bool) (rest : List X) → (b ≡ true → p d ≡ true) → list_all p rest ≡ true → list_all p (cond b (d ∷ rest) rest) ≡ true
   filter_step p d true rest here there = rw (here refl, there) refl
   filter_step p d false rest here there = there
@@ -47,7 +47,7 @@ only_false : (b : Bool) → (not b || false) ≡ true → b ≡ false
 only_false true h = sym h
 only_false false h = refl
 
--- of the variables that pass a test none is true
+-- the clauses that say that none of the variables that pass a test is true
 module _ (set : ℕ → Bool) (v : ℕ → ℕ) (q : ℕ → Bool) (m : ℕ) where
   pub none_at : is_satisfied set (map (λ s. literal (v s) false ∷ []) (filter q (range_with_len 0 m))) ≡ true → (s : ℕ) → s < m → q s ≡ true → set (v s) ≡ false
   none_at h s below passes =

@@ -25,7 +25,7 @@ use Rattle.dd_values.specs.lemmas.Booleans.{and_true, or_false, if_not}
 abbrev pub InputsTell : (ℕ → Bool) → Layout → ℕ → Look → Type 0
 InputsTell set l m look = (c : Cell) (s : ℕ) → l.has c ≡ true → s < m → set (input m (l.index c) s) ≡ is_symbol s (look c)
 
--- the numbers of a layout's cells are those of its places
+-- the number of each cell of the layout is less than the number of its places
 abbrev pub IsNumbered : Layout → Type 0
 IsNumbered l = (c : Cell) → l.has c ≡ true → l.index c < length l.places
 
@@ -42,7 +42,7 @@ tells_near set l m look v tell c s h =
     let both = and_parts (l.has (shifted v c)) (nat_lt s m) h in
     tell (shifted v c) s both.0 (ltb-true s m both.1)
 
--- one place
+-- the gates of a rule at a cell say whether the rule is true there
 pub place_says : (set : ℕ → Bool) (l : Layout) (m : ℕ) (look : Look) (r : LocalRule) (d : Cell) (n : ℕ) → HasSymbolsBelow r.symbols look → InputsTell set l m look →
     reads_inputs l m r d ≡ true → agrees set n (place_maker l m r d n).gates ≡ true → signal_value set (place_maker l m r d n).signal ≡ is_true r d look
 place_says set l m look r d n below tell wired ok =
@@ -50,7 +50,7 @@ place_says set l m look r d n below tell wired ok =
     (tells_near set l m look d.position tell) wired ok
     ∙ says_at r.edges r.symbols r.formula look d.position d.node below
 
--- several nodes of one position
+-- the same at several nodes of a position
 all_say : (set : ℕ → Bool) (l : Layout) (m : ℕ) (look : Look) (r : LocalRule) (v : Place) (nodes : List ℕ) (n : ℕ) → HasSymbolsBelow r.symbols look → InputsTell set l m look →
     list_all (λ a. reads_inputs l m r (cell v a)) nodes ≡ true → agrees set n (all_made (map (λ a. place_maker l m r (cell v a)) nodes) n).gates ≡ true →
     map (signal_value set) (all_made (map (λ a. place_maker l m r (cell v a)) nodes) n).signals ≡ map (λ a. is_true r (cell v a) look) nodes
@@ -95,7 +95,7 @@ HasItsSymbols always look = Unit {0}
 abbrev pub differ_at : Layout → CommonNumbers → Automaton → Automaton → ℕ → Maker
 differ_at l s f g a = differ_made s.symbols f g l.inputs (cell origin a)
 
--- the parts as those of places and of the goal
+-- the parts by what they are about: a place, or `None` for the goal
 abbrev pub jobs : Layout → LocalRule → List (Option Cell)
 jobs l x = map (λ d. Some d) (filter (fits_in l x) l.places) ++ None ∷ []
 
@@ -165,7 +165,7 @@ job_says set l x g look below within values goal_below tell None wired n le ok =
 abbrev pub premise_holds : Layout → LocalRule → Look → Bool
 premise_holds l x look = list_all (λ d. is_true x d look) (filter (fits_in l x) l.places)
 
--- all clauses but those of the inputs
+-- all parts together say that the premise holds where it fits, and the goal at the origin
 pub parts_say : (set : ℕ → Bool) (l : Layout) (x : LocalRule) (g : GoalOf) (look : Look) → HasSymbolsBelow x.symbols look → IsNumbered l → GoalWired l x.symbols g → HasItsSymbols g look → InputsTell set l x.symbols look →
     list_all (job_reads l x g) (jobs l x) ≡ true → agrees set (input_count l x) (part_gates (input_count l x) (problem_parts l x g)) ≡ true →
     tests set (input_count l x) (problem_parts l x g) ≡ (premise_holds l x look && goal_holds g look)

@@ -46,7 +46,7 @@ cell_at set x (c ∷ cells) a (suc k) d ok is =
     let later : a + 1 + k ≡ a + suc k = omega arith in
     subst (λ j. is_satisfied set (symbol_clauses x j d.node) ≡ true) later (cell_at set x cells (a + 1) k d both.1 is)
 
--- each of its parts
+-- the parts of the clauses of one cell
 module _ (set : ℕ → Bool) (x : LocalRule) (cells : List Cell) (ok : is_satisfied set (cell_clauses x cells) ≡ true) (k : ℕ) (d : Cell) (is : slice_get cells k ≡ Some d) where
   abbrev hot : List (List Literal)
   hot = one_hot (inputs_of x.symbols k)
@@ -115,7 +115,7 @@ inputs_read set x cells ok k s h below =
     let there = cell_there cells k within in
     hot_input set m k s (parts set x cells ok k there.0 there.1).0 below ∙ ap (is_symbol s) (sym (slice_of_range (read_symbol set m) n k within))
 
--- the numbers of a layout's cells are those of its places
+-- at the number of each cell of the layout stands a place, and this has the cell's node
 pub record IsLayout (l : Layout) : Type 0 where
   pub within : (c : Cell) → l.has c ≡ true → l.index c < length l.places
   pub node : (c : Cell) → l.has c ≡ true → (d : Cell) × (slice_get l.places (l.index c) ≡ Some d) × (d.node ≡ c.node)
@@ -138,7 +138,7 @@ cond_below false o n h = tt
 pub look_below : (l : Layout) (m : ℕ) (symbols : List ℕ) → All (λ s. s < m) symbols → HasSymbolsBelow m (layout_look l symbols)
 look_below l m symbols all c = cond_below (l.has c) (slice_get symbols (l.index c)) m (symbol_below m symbols (l.index c) _ all refl)
 
--- allowed symbols give allowed symbols
+-- if the symbols in the list are allowed, the layout's look has allowed symbols
 pub slice_of_read : (symbols : List ℕ) (k s : ℕ) → slice_get symbols k ≡ Some s → get_or symbols k 0 ≡ s
 slice_of_read symbols k s is = get_or_from_slice_get symbols k s 0 is
 
@@ -154,7 +154,7 @@ allowed_at l x symbols ok are c true has (Some s) is =
 pub look_allowed : (l : Layout) (x : LocalRule) (symbols : List ℕ) → IsLayout l → AreSymbols x l.places symbols → AreAllowed x (layout_look l symbols)
 look_allowed l x symbols ok are c = allowed_at l x symbols ok are c (l.has c) refl (slice_get symbols (l.index c)) refl
 
--- symbols for which an assignment of the clauses stands
+-- what symbols are for which a satisfying assignment stands: allowed, with the premise and the goal true
 pub record Stands (l : Layout) (x : LocalRule) (g : GoalOf) (symbols : List ℕ) : Type 0 where
   pub symbols_fit : AreSymbols x l.places symbols
   pub premise : premise_holds l x (layout_look l symbols) ≡ true

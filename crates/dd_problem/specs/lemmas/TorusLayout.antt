@@ -28,7 +28,7 @@ pub torus_is_tile : (x : LocalRule) (periods : Periods) (symbols : List ℕ) →
 torus_is_tile x periods symbols rule ok full =
     record { some_dimension = rule.dimension.0; most_dimension = rule.dimension.1; periods = ok.periods; nodes_some = rule.nodes.0; full = full }
 
--- one that lists few symbols
+-- the configuration of as many symbols as the torus has cells is periodic
 pub torus_is_periodic : (x : LocalRule) (periods : Periods) (symbols : List ℕ) → IsRule x → AreTorusPeriods x.dimension x.nodes periods → length symbols ≡ torus_size x periods →
     IsPeriodic (torus_of x periods symbols)
 torus_is_periodic x periods symbols rule ok full = record {
@@ -97,19 +97,19 @@ module _ (x : LocalRule) (periods : Periods) (rule : IsRule x) (ok : AreTorusPer
       let below : k < torus_size x periods = omega (arith, length-torus_cells) in
       (omega (arith, length-zeros x periods), some_same d (cell_in (torus x periods) k) (sym is ∙ (ap (λ cs. slice_get cs k) listed ∙ slice_of_range (cell_in (torus x periods)) (torus_size x periods) k below)))
 
-  -- a place is a cell of the fundamental box
+  -- each cell of the torus is a cell of the fundamental box
   pub torus_cell_at : (k : ℕ) (d : Cell) → slice_get (torus_cells x periods) k ≡ Some d → IsInBox (torus_of x periods (zeros x periods)) d
   torus_cell_at k d is =
       let here = place_is_cell k d is in
       subst (IsInBox (torus_of x periods (zeros x periods))) (sym here.1) (in_box (torus_of x periods (zeros x periods)) blank k here.0)
 
-  -- with its number
+  -- the cell that stands at a number has this number
   pub torus_index_at : (k : ℕ) (d : Cell) → slice_get (torus_cells x periods) k ≡ Some d → tile_index (torus x periods) d ≡ k
   torus_index_at k d is =
       let here = place_is_cell k d is in
       ap (tile_index (torus x periods)) here.1 ∙ index_of_cell (torus_of x periods (zeros x periods)) blank k here.0
 
-  -- and so one of Z^d
+  -- each cell of the torus lies in Z^d
   flat_axis : (active : Bool) (p : ℤ) (n : ℕ) → (active ≡ false → n ≡ 1) → 0 < n → pos (residue p n) ≡ p → (active || int_eq p (pos 0)) ≡ true
   flat_axis true p n unused some base = refl
   flat_axis false p n unused some base =

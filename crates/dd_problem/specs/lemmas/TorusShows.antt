@@ -14,7 +14,7 @@ use Rattle.dd_circuit.specs.lemmas.ValueLaws.{Alike}
 use Rattle.dd_cnf.specs.lemmas.ModelLaws.{Satisfies-is_satisfied, is_satisfied-Satisfies}
 use Rattle.dd_boxes.specs.{Goals.GoalOf, Goals.breaks, Goals.differ, Goals.always, Witnesses.HasPeriods, Witnesses.IsWitness}
 use Rattle.dd_boxes.specs.{lemmas.RuleLaws.keeps_at, lemmas.RuleLaws.list_all_weaker, TorusPeriods.AreTorusPeriods}
-use Rattle.dd_problem.specs.{pushing.Told.IsToldGoal, Layouts.torus, Layouts.torus_cells, Layouts.fits_in, pushing.Near.torus_layout}
+use Rattle.dd_problem.specs.{pushing.GoalFacts.HasGoalFacts, Layouts.torus, Layouts.torus_cells, Layouts.fits_in, pushing.Near.torus_layout}
 use Rattle.dd_problem.specs.{Problems.problem_clauses, Problems.torus_problem, Shows.ShowsTorus, lemmas.ValueWires.GoalWired}
 use Rattle.dd_problem.specs.lemmas.Parted.{premise_holds}
 use Rattle.dd_problem.specs.lemmas.Reading.{Stands, IsWired, look_allowed, read_symbols, problem_read}
@@ -30,12 +30,12 @@ node_of r c h = (and_parts (is_flat r.dimension c.position) (nat_lt c.node r.nod
 pub reads_nodes : (r : LocalRule) (a : ℕ) → IsRule r → a < r.nodes → list_all (λ c. nat_lt c.node r.nodes) (reads_at r a) ≡ true
 reads_nodes r a ok node = list_all_weaker (is_of r) (λ c. nat_lt c.node r.nodes) (node_of r) (reads_at r a) (ok.placed a node)
 
-pub goal_reads_torus : (x : LocalRule) (g : GoalOf) (periods : Periods) → IsToldGoal x g → HasReads (torus_layout x g periods) g
+pub goal_reads_torus : (x : LocalRule) (g : GoalOf) (periods : Periods) → HasGoalFacts x g → HasReads (torus_layout x g periods) g
 goal_reads_torus x (breaks y) periods ok = λ a node. ap (λ n. list_all (λ c. nat_lt c.node n) (reads_at y a)) (sym ok.1.nodes) ∙ reads_nodes y a ok.0 node
 goal_reads_torus x (differ s f g) periods ok = tt
 goal_reads_torus x always periods ok = tt
 
-module _ (x : LocalRule) (g : GoalOf) (periods : Periods) (rule : IsRule x) (goal : IsToldGoal x g) (ok : AreTorusPeriods x.dimension x.nodes periods) (values : GoalWired (torus_layout x g periods) x.symbols g) where
+module _ (x : LocalRule) (g : GoalOf) (periods : Periods) (rule : IsRule x) (goal : HasGoalFacts x g) (ok : AreTorusPeriods x.dimension x.nodes periods) (values : GoalWired (torus_layout x g periods) x.symbols g) where
   torus_is_wired : IsWired (torus_layout x g periods) x g
   torus_is_wired =
       wired_layout (torus_layout x g periods) x g rule goal (torus_is_layout x periods rule ok g) (λ k d is. (torus_cell_at x periods rule ok k d is).node)

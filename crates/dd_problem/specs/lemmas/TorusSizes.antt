@@ -11,7 +11,7 @@ product_small a b c n ha hb hc hn =
     let third : a * b * c * n ≤ 2048 = mul-le (a * b * c) n 512 4 second hn in
     omega arith
 
--- periods of at most 8 are some of them
+-- periods of at most 8 are periods that a torus may have
 pub small_periods : (x : LocalRule) (p : Periods) → IsRule x → ArePeriods x.dimension p → AreTorusPeriods x.dimension x.nodes p
 small_periods x p rule ok = record { periods = ok.periods; few = product_small p.z p.y p.x x.nodes ok.z_most ok.y_most ok.x_most rule.nodes.1 }
 

@@ -1,4 +1,4 @@
--- When all that is read has inputs.
+-- When the layouts of boxes and tori have inputs for all that is read.
 use Rattle.std.proofs.Common.{◌≡◌, ℕ, zero, suc, ◌+◌, ◌<◌, ◌≤◌, Bool, true, false, List, [], ◌∷◌, map, refl, ap, sym, subst, ◌∙◌, arith, Some, None, inl, inr, eq-eqb}
 use Rattle.std.proofs.Math.Nat.{eq-or-lt_of_le}
 use Rattle.std.proofs.lemmas.Bool.{and_parts, and_from, or_cases, both_ways, eqb-true}
@@ -11,13 +11,13 @@ use Rattle.dd_expansion.specs.{Terms.origin_at, Leaves.leaves_pass, lemmas.LeafL
 use Rattle.dd_formula.specs.LocalRule.{LocalRule, IsRule, is_true, reads_at, expansion_at}
 use Rattle.dd_formula.specs.{Automata.value, lemmas.ReachLaws.all_numbers}
 use Rattle.dd_boxes.specs.{Goals.GoalOf, Goals.breaks, Goals.differ, Goals.always, Goals.HasGoal, Boxes.origin}
-use Rattle.dd_problem.specs.{pushing.Told.IsToldGoal, Layouts.Layout, Layouts.fits_in, lemmas.Filtered.filter_all}
+use Rattle.dd_problem.specs.{pushing.GoalFacts.HasGoalFacts, Layouts.Layout, Layouts.fits_in, lemmas.Filtered.filter_all}
 use Rattle.dd_problem.specs.lemmas.ValueWires.{GoalWired}
 use Rattle.dd_problem.specs.lemmas.Parted.{reads_inputs, goal_holds, goal_reads, HasItsSymbols, job_reads}
 use Rattle.dd_problem.specs.lemmas.Reading.{IsLayout, IsWired}
 use Rattle.dd_values.specs.lemmas.Booleans.{not_true}
 
--- tests of a range
+-- a test that all numbers of a range pass, and back
 pub range_at : (p : ℕ → Bool) (n a k : ℕ) → list_all p (range_with_len a n) ≡ true → a ≤ k → k < a + n → p k ≡ true
 range_at p zero a k h low high = absurd (omega arith)
 range_at p (suc n) a k h low high =
@@ -93,19 +93,19 @@ HasReads l (breaks y) = (a : ℕ) → a < y.nodes → list_all (λ c. l.has (shi
 HasReads l (differ s f g) = Unit {0}
 HasReads l always = Unit {0}
 
-goal_is_read : (l : Layout) (x : LocalRule) (g : GoalOf) → IsToldGoal x g → HasReads l g → goal_reads l x.symbols g ≡ true
+goal_is_read : (l : Layout) (x : LocalRule) (g : GoalOf) → HasGoalFacts x g → HasReads l g → goal_reads l x.symbols g ≡ true
 goal_is_read l x (breaks y) ok there =
     all_numbers (λ a. reads_inputs l x.symbols y (cell origin a)) 0 y.nodes
     (λ a below. (let node : a < y.nodes = omega arith in place_reads l x.symbols y (cell origin a) ok.0 (sym ok.1.symbols) node (there a node)))
 goal_is_read l x (differ s f g) ok there = refl
 goal_is_read l x always ok there = refl
 
-goal_alphabet : (x : LocalRule) (g : GoalOf) (look : Look) → IsToldGoal x g → HasSymbolsBelow x.symbols look → HasItsSymbols g look
+goal_alphabet : (x : LocalRule) (g : GoalOf) (look : Look) → HasGoalFacts x g → HasSymbolsBelow x.symbols look → HasItsSymbols g look
 goal_alphabet x (breaks y) look ok below = subst (λ m. HasSymbolsBelow m look) (sym ok.1.symbols) below
 goal_alphabet x (differ s f g) look ok below = subst (λ m. HasSymbolsBelow m look) (sym ok.over.symbols) below
 goal_alphabet x always look ok below = tt
 
-pub wired_layout : (l : Layout) (x : LocalRule) (g : GoalOf) → IsRule x → IsToldGoal x g → IsLayout l → ((k : ℕ) (d : Cell) → slice_get l.places k ≡ Some d → d.node < x.nodes) →
+pub wired_layout : (l : Layout) (x : LocalRule) (g : GoalOf) → IsRule x → HasGoalFacts x g → IsLayout l → ((k : ℕ) (d : Cell) → slice_get l.places k ≡ Some d → d.node < x.nodes) →
     HasReads l g → GoalWired l x.symbols g → IsWired l x g
 wired_layout l x g rule ok layout nodes there values = record {
   layout = layout;

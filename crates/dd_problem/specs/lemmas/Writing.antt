@@ -1,4 +1,4 @@
--- The assignment of symbols, and the clauses that it satisfies.
+-- The assignment that stands for given symbols of the cells, and the clauses that it satisfies.
 use Rattle.std.proofs.Common.{◌≡◌, ℕ, zero, suc, ◌+◌, ◌*◌, ◌<◌, ◌≤◌, Bool, true, false, List, [], ◌∷◌, map, length, get_or, refl, ap, sym, subst, ◌∙◌, arith, Some, None}
 use Rattle.std.proofs.lemmas.Bool.{and_parts, and_from, eqb-true, ltb-true}
 use Rattle.std.proofs.lemmas.{List.Folds.list_all-append, Nat.mod-mul-add, Nat.div-mul-add, Nat.mul-add-lt}
@@ -27,7 +27,7 @@ use Rattle.dd_problem.specs.lemmas.ValueWires.{AreValuesWired, GoalWired, differ
 use Rattle.dd_problem.specs.lemmas.Parted.{has_input, differ_at, reads_inputs, goal_reads, jobs, job_part, job_reads, parts_by_jobs, parts_say}
 use Rattle.dd_problem.specs.lemmas.Reading.{IsLayout, IsWired, Stands, told_by_inputs, look_below}
 
--- whether the variable of a cell and a symbol is true
+-- whether the variable v is that of a cell and its symbol, of m symbols
 abbrev pub guess : List ℕ → ℕ → ℕ → Bool
 guess symbols m v = is_symbol ((v - 1) % m) (slice_get symbols ((v - 1) / m))
 
@@ -150,7 +150,7 @@ satisfied_by l x g wired symbols stands set read agree =
     ∙ and_from _ _ (cells_written set x l.places symbols stands.symbols_fit read)
     (parts_law set n ps ∙ and_from _ _ agree (said ∙ and_from _ _ stands.premise stands.goal))
 
--- the assignment of symbols satisfies the clauses, and they are read from it
+-- the assignment that stands for the symbols satisfies the clauses, and the symbols are read from it
 pub problem_written : (l : Layout) (x : LocalRule) (g : GoalOf) → IsWired l x g → (symbols : List ℕ) → Stands l x g symbols →
     (is_satisfied (assignment l x g symbols) (problem_clauses l x g) ≡ true) × AreRead (assignment l x g symbols) x.symbols symbols
 problem_written l x g wired symbols stands =

@@ -1,4 +1,4 @@
--- The cells that are read from a fundamental box, and its layout.
+-- The cells that are read on a torus, and the layout of the torus.
 use Rattle.std.specs.Prelude.{ℕ, nat_lt, ◌*◌, List, map, ◌++◌, slice_index}
 use Rattle.std.specs.List.{flat_map, range_with_len}
 use Rattle.dd_lattice.specs.{Cells.shifted, InOrder.in_order, declared.position.Cell.Cell}
@@ -8,19 +8,19 @@ use Rattle.dd_formula.specs.LocalRule.{LocalRule, cells_at}
 use Rattle.dd_boxes.specs.{Cells.box_cells, Goals.GoalOf, Boxes.goal_reach}
 use Rattle.dd_problem.specs.{Layouts.Layout, Layouts.torus, Layouts.torus_cells, pushing.Numbered.numbered_wiring}
 
--- what a rule reads at a cell
+-- the cells that a rule reads at a cell
 abbrev pub read_cells : LocalRule → Cell → List Cell
 read_cells x d = map (shifted d.position) (cells_at x d.node)
 
--- what the premise reads at the cells, and the least box that holds what the goal reads at the origin, each cell once
+-- what the premise reads at these cells, and the box of the goal's least radius; in cell order, each cell once
 abbrev pub near_cells : LocalRule → GoalOf → List Cell → List Cell
 near_cells x g cells = in_order (box_cells x (goal_reach g) ++ flat_map (read_cells x) cells)
 
--- the number at a cell of a periodic configuration
+-- the number that a periodic configuration has at a cell, in place of a symbol
 abbrev pub number_at : Tile → Cell → ℕ
 number_at t c = slice_index t.symbols (tile_index t c)
 
--- each cell with the inputs of the number there
+-- each cell with the inputs of the number that it has there
 abbrev pub numbered_by : ℕ → Tile → List Cell → Wiring
 numbered_by m t cells = numbered_wiring m cells (map (number_at t) cells)
 
@@ -28,11 +28,11 @@ numbered_by m t cells = numbered_wiring m cells (map (number_at t) cells)
 abbrev pub numbered_tile : LocalRule → Periods → Tile
 numbered_tile x periods = tile x.dimension periods x.nodes (range_with_len 0 (periods_volume periods * x.nodes))
 
--- what the premise and the goal read, each cell with the inputs of the one at its position modulo the periods
+-- the cells that the premise and the goal read, each with the inputs of the cell that it equals modulo the periods
 abbrev pub torus_inputs : LocalRule → GoalOf → Periods → Wiring
 torus_inputs x g periods = numbered_by x.symbols (numbered_tile x periods) (near_cells x g (torus_cells x periods))
 
--- every cell has the number of the one at its position modulo the periods
+-- the layout of the torus: every cell has the number of the cell that it equals modulo the periods
 abbrev pub torus_layout : LocalRule → GoalOf → Periods → Layout
 torus_layout x g periods = record {
   has = λ c. nat_lt c.node x.nodes;

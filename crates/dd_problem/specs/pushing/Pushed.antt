@@ -1,4 +1,4 @@
--- The clauses of a problem over the signals of any inputs.
+-- The clauses of a box question over any inputs, as the code makes them.
 use Rattle.std.specs.Prelude.{ℕ, ◌+◌, ◌*◌, ◌≡◌, ◌&&◌, Bool, true, List, [], ◌∷◌, ◌++◌, map, length, Some}
 use Rattle.std.specs.List.{list_all, filter, range_with_len}
 use Rattle.dd_lattice.specs.{Place.Place, Cells.cell, declared.position.Cell.Cell}
@@ -16,18 +16,19 @@ use Rattle.dd_problem.specs.Clauses.{cell_clauses, Part, part_gates, part_clause
 abbrev pub AreInputs : ℕ → Wiring → Type 0
 AreInputs n w = (c : Cell) (s : ℕ) (signal : Signal) → wire_of w c s ≡ Some signal → IsSignal n signal
 
--- each cell that has signals has one for each of m symbols
+-- each cell that has signals has m of them, one for each symbol
 abbrev pub HasAllSymbols : ℕ → Wiring → Type 0
 HasAllSymbols m w = (c : Cell) (signals : List Signal) → signals_of w c ≡ Some signals → length signals ≡ m
 
--- what the rule asks at the place has its signal
+-- each leaf of the rule at the cell has its signal, and this is of the first n variables
 abbrev pub is_wired_at : Wiring → ℕ → LocalRule → Cell → Bool
 is_wired_at w n x d = are_wired n (wires_near w d.position) (expansion_at x d.node)
 
+-- the rule is true at the cell
 abbrev pub wired_part : Wiring → LocalRule → Cell → Part
 wired_part w x d = record { makers = compiled w d.position (expansion_at x d.node) ∷ []; tail = units }
 
--- the premise at each of the cells where it is wired
+-- the premise at each of the cells where each leaf has its signal
 abbrev pub wired_parts : Wiring → ℕ → LocalRule → List Cell → List Part
 wired_parts w n x cells = map (wired_part w x) (filter (is_wired_at w n x) cells)
 
@@ -39,22 +40,24 @@ broken_part w y v = record { makers = map (λ a. compiled w v (expansion_at y a)
 abbrev pub differ_part : Wiring → CommonNumbers → Automaton → Automaton → Part
 differ_part w s f g = record { makers = map (λ a. differ_made s.symbols f g w (cell origin a)) (range_with_len 0 s.nodes); tail = some_true }
 
+-- the goal holds at the origin
 abbrev pub wired_goal : Wiring → GoalOf → Part
 wired_goal w (breaks y) = broken_part w y origin
 wired_goal w (differ s f g) = differ_part w s f g
 wired_goal w always = record { makers = []; tail = λ _. [] }
 
--- what both automata read at a node of the origin has its signals
+-- each cell that either automaton reads at a node of the origin has its signals
 abbrev pub are_both_wired : Wiring → ℕ → CommonNumbers → Automaton → Automaton → ℕ → Bool
 are_both_wired w n s f g a =
     are_wired_there n s.symbols w ((counted f).reads a) (cell origin a) && are_wired_there n s.symbols w ((counted g).reads a) (cell origin a)
 
--- what the goal asks at the origin has its signal
+-- all that the goal reads at the origin has its signals
 abbrev pub is_goal_wired : Wiring → ℕ → GoalOf → Bool
 is_goal_wired w n (breaks y) = list_all (λ a. is_wired_at w n y (cell origin a)) (range_with_len 0 y.nodes)
 is_goal_wired w n (differ s f g) = list_all (are_both_wired w n s f g) (range_with_len 0 s.nodes)
 is_goal_wired w n always = true
 
+-- the whole clause list: the symbols of the cells, the premise, and the goal
 abbrev pub wired_problem : Wiring → LocalRule → GoalOf → List Cell → ClauseList
 wired_problem w x g cells =
     let n = length cells * x.symbols in

@@ -12,7 +12,7 @@ use Rattle.dd_formula.specs.{LocalRule.LocalRule, LocalRule.rule_allows, Allowed
 abbrev pub IsAllowedAt : LocalRule → Tile → ℕ → Type 0
 IsAllowedAt r t k = rule_allows r (cell_in t k).node (get_or t.symbols k 0) ≡ true
 
--- what the test of a cell tells about its number
+-- what the test of a cell answers about its number
 pub allowed_is : (r : LocalRule) (t : Tile) (k : ℕ) (c : Cell) (symbol : ℕ) (b : Bool) → c ≡ cell_in t k → symbol ≡ get_or t.symbols k 0 →
     b ≡ rule_allows r c.node symbol → rule_allows r (cell_in t k).node (get_or t.symbols k 0) ≡ b
 allowed_is r t k c symbol b is_cell is_symbol told =

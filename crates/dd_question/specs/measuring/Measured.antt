@@ -1,11 +1,11 @@
--- Goals as they are measured: each count cut off past its limit.
+-- The measure of a goal.
 use Rattle.std.specs.Prelude.{◌≡◌, ◌≤◌}
 use Rattle.dd_formula.specs.{LocalRule.most_reach, Counts.cut}
 use Rattle.dd_boxes.specs.{Goals.GoalOf, Counts.goal_clauses, Counts.most_clauses, Boxes.goal_reach}
-use Rattle.dd_question.specs.declared.aims.Aim.{Aim}
+use Rattle.dd_question.specs.declared.measures.Measure.{Measure}
 
--- how far a goal reads, and how many clauses it has
-pub record IsMeasureOf (m : Aim) (g : GoalOf) : Type 0 where
+-- how far the goal reads, and how many clauses it takes, cut off past the limit
+pub record IsMeasureOf (m : Measure) (g : GoalOf) : Type 0 where
   pub radius : m.radius ≡ goal_reach g
   pub near : m.radius ≤ most_reach
   pub clauses : m.clauses ≡ cut most_clauses (goal_clauses g)

@@ -1,4 +1,4 @@
--- The questions of a conjugacy, answered one after the other until one is answered NO.
+-- The four questions of a conjugacy, answered in turn until one is answered NO.
 use Rattle.std.specs.Prelude.{ℕ, suc, if◌then◌else◌, ◌≡◌, ◌≤◌, ◌<◌, true, false, All, List, [], ◌∷◌, ◌++◌}
 use Rattle.dd_derivation.specs.declared.step.Step.{Step}
 use Rattle.dd_values.specs.declared.limits.Limits.{Limits}
@@ -17,7 +17,7 @@ pub data AreYes (l : Limits) (c : ConjugacyOf) : ℕ → List ℕ → List (List
   one_more : {k n : ℕ} {s : List Step} {ns : List ℕ} {ss : List (List Step)} → AreYes l c k ns ss → ComesTo l c k (decision.Yes n s) →
       AreYes l c (suc k) (ns ++ n ∷ []) (ss ++ s ∷ [])
 
--- no question below this number is answered NO: all are answered YES, or one is left open
+-- no question below this number is answered NO: all are answered YES, or some question is left open
 pub record AreFound (l : Limits) (c : ConjugacyOf) (number : ℕ) (f : Findings) : Type 0 where
   pub none : (k : ℕ) → 1 ≤ k → k < number → IsNoAt l c k → ⊥
   pub yes : f.is_open ≡ false → AreYes l c number f.radii f.steps
@@ -25,7 +25,7 @@ pub record AreFound (l : Limits) (c : ConjugacyOf) (number : ℕ) (f : Findings)
   pub radii : All IsWritableNumber f.radii
   pub steps : All IsWritableRefutation f.steps
 
--- the first of the four questions that is answered NO, with this configuration
+-- `f` is the first of the four questions that is answered NO, with a configuration that shows it
 pub record IsFailed (l : Limits) (c : ConjugacyOf) (f : Failed) : Type 0 where
   pub first : IsLeast (IsNoAt l c) 1 4 f.number
   pub no : ComesTo l c f.number (decision.No f.periodic)

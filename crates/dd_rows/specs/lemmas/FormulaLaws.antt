@@ -28,7 +28,7 @@ none_past cs ss d near size out =
     let past : rank cs d ≡ length cs = number_past_range cs near d out in
     sym (ap (slice_get ss) past ∙ slice_get_past ss (length cs) (omega (arith, size)))
 
--- by the places of the cells their symbols are read
+-- the symbol at the number of a cell is the cell's symbol
 read_when : (cs : List Cell) (ss : List ℕ) (d : Cell) (b : Bool) → AreInRange cs → length ss ≡ length cs → is_in_range d.position ≡ b →
     symbol_with ss (cond b (Some (rank cs d)) None) ≡ look_of cs ss d
 read_when cs ss d true near size is = refl

@@ -16,7 +16,7 @@ use Rattle.dd_rows.specs.lemmas.Lists.{filter_agree, flat_map_same, flat_map_fla
 use Rattle.dd_rows.specs.lemmas.{Ready.admissible_parts, FormulaLaws.settled_truth}
 use Rattle.dd_values.specs.lemmas.Lists.{flat_map_agree, map_flat_map, all_cons, all_map, all_flat_map}
 
--- one symbol more at the end
+-- ss with one more symbol at its end, for each symbol that the node a allows
 abbrev longer : LocalRule → ℕ → List ℕ → List (List ℕ)
 longer x a ss = map (λ s. ss ++ s ∷ []) (allowed_symbols x a)
 
@@ -75,7 +75,7 @@ fillings_more x all up near j c below is =
     (λ ss w. filter_if p r (q ss) (λ s. ss ++ s ∷ []) (λ s. admissible_parts x all up near j ss s below w.size) (allowed_symbols x c.node))
     (words x first) (subst (λ n. AreWords x n (words x first)) size (words_are x first))))
 
--- tests that agree on the longer lists give the same ones
+-- tests that agree on the longer lists keep the same ones of them
 same_longer : (x : LocalRule) (j a : ℕ) (p q : List ℕ → Bool) → ((ss : List ℕ) → IsWord x (j + 1) ss → p ss ≡ q ss) → (ss : List ℕ) → IsWord x j ss → extended x p a ss ≡ extended x q a ss
 same_longer x j a p q same ss w =
     filter_agree (IsWord x (j + 1)) p q same (longer x a ss)

@@ -29,7 +29,7 @@ filter_agree P p q same (x ∷ xs) all =
     ap (λ b. cond b (x ∷ filter p xs) (filter p xs)) (same x (all_first P x xs all))
     ∙ ap (λ ys. cond (q x) (x ∷ ys) ys) (filter_agree P p q same xs (all_rest P x xs all))
 
--- and on those that pass another test
+-- tests that agree on the items that pass a third test
 agree_where : {X : Type 0} (p q : X → Bool) (x : X) (rest : List X) (b : Bool) → (b ≡ true → p x ≡ q x) → list_all p rest ≡ list_all q rest →
     list_all p (cond b (x ∷ rest) rest) ≡ list_all q (cond b (x ∷ rest) rest)
 agree_where p q x rest true here more = ap (λ b. b && list_all p rest) (here refl) ∙ ap (λ b. q x && b) more
@@ -57,7 +57,7 @@ cons_if a true false x xs ys is more = ap (λ d. cond d (x ∷ xs) xs) is ∙ mo
 cons_if a false true x xs ys is more = ap (λ d. cond d (x ∷ xs) xs) is ∙ more
 cons_if a false false x xs ys is more = ap (λ d. cond d (x ∷ xs) xs) is ∙ more
 
--- a test that is one test of all and one of each
+-- a test that consists of one condition that is the same for all items, and one on each item
 pub filter_if : {X Y : Type 0} (p q : Y → Bool) (b : Bool) (h : X → Y) → ((x : X) → p (h x) ≡ (b && q (h x))) → (xs : List X) →
     filter p (map h xs) ≡ cond b (filter q (map h xs)) []
 filter_if p q true h same [] = refl

@@ -134,7 +134,7 @@ given_where x all near j ss d most size fits =
     (reads_at x d.node)
     (and_parts (is_some (look d)) (list_all (λ e. is_some (look (shifted d.position e))) (reads_at x d.node)) fits).1
 
--- what is kept with one symbol more
+-- what stays true with one symbol more
 
 at_once : (e f f' g t t' : Bool) → e ≡ true → f ≡ false → f' ≡ true → g ≡ true → (not f' || t') ≡ ((not e || (not g || t')) && (not f || t))
 at_once e f f' g t t' he hf hf' hg = rw (he, hf, hf', hg) (and_true t')

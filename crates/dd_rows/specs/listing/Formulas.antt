@@ -1,4 +1,4 @@
--- The rule at places of a list of cells, as formulas over the cells' symbols.
+-- The rule at some places, as formulas over the symbols of a list of cells. A cell's number is its index in the list.
 use Rattle.std.specs.{Prelude.ℕ, Prelude.◌<◌, Prelude.◌≡◌, Prelude.Bool, Prelude.List, Prelude.length, Prelude.All, List.list_all}
 use Rattle.dd_lattice.specs.{Place.Place, declared.position.Cell.Cell}
 use Rattle.dd_expansion.specs.Leaves.{seen}
@@ -6,19 +6,19 @@ use Rattle.dd_numbered.specs.{declared.numbered.Numbered.Numbered, Numbered.hold
 use Rattle.dd_formula.specs.LocalRule.{LocalRule, is_true}
 use Rattle.dd_rows.specs.Fillings.{look_of}
 
--- the place in the list of a cell that is counted from v; none past the range of positions
+-- the number of a cell that is named relative to v; there is none past the range of positions
 abbrev pub ranks_near : List Cell → Place → Numbering
 ranks_near cs v = seen (by_rank cs) v
 
--- all formulas are true of the symbols
+-- whether all formulas are true of the symbols
 abbrev pub are_all_true : List Numbered → List ℕ → Bool
 are_all_true es ss = list_all (λ e. holds_in e ss) es
 
--- on symbols for all the cells, the formula says what the rule says at the cell
+-- for any symbols of the cells, the formula is true exactly if the rule is true at the cell c
 abbrev pub SaysTrue : LocalRule → List Cell → Cell → Numbered → Type 0
 SaysTrue x cs c e = (ss : List ℕ) → length ss ≡ length cs → All (λ s. s < x.symbols) ss → holds_in e ss ≡ is_true x c (look_of cs ss)
 
--- together they say whether it is true at all of the places
+-- for any symbols of the cells, all formulas are true exactly if the rule is true at all of the places
 abbrev pub SayTrue : LocalRule → List Cell → List Cell → List Numbered → Type 0
 SayTrue x cs places es =
     (ss : List ℕ) → length ss ≡ length cs → All (λ s. s < x.symbols) ss → are_all_true es ss ≡ list_all (λ c. is_true x c (look_of cs ss)) places

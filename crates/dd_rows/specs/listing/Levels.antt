@@ -1,4 +1,4 @@
--- The fillings of the first cells, one cell after another.
+-- The levels of the search: the fillings of the first cells, with one cell more in each level.
 use Rattle.std.specs.Prelude.{ℕ, ◌<◌, ◌≡◌, Bool, not, cond, ◌||◌, List, [], ◌∷◌, ◌++◌, map, filter, length, All}
 use Rattle.std.specs.{Bool.nat_eq, List.range_with_len, List.list_all}
 use Rattle.dd_lattice.specs.{Cells.shifted, Place.IsInRange, declared.position.Cell.Cell}
@@ -8,42 +8,45 @@ use Rattle.dd_formula.specs.LocalRule.{LocalRule, is_true, is_given, cells_at, r
 pub use Rattle.dd_numbered.specs.Numbering.{rank}
 use Rattle.dd_rows.specs.Fillings.{look_of}
 
--- cells of the rule's nodes
+-- each cell has one of the rule's nodes
 abbrev pub AreOf : LocalRule → List Cell → Type 0
 AreOf x cs = All (λ c. c.node < x.nodes) cs
 
+-- the position of each cell is in range
 abbrev pub AreInRange : List Cell → Type 0
 AreInRange cs = All (λ c. IsInRange c.position) cs
 
--- the greatest number of a place and of the cells that the rule reads there
+-- the greatest number among those of the cell c and of the cells that the rule reads there
 abbrev pub last_number : LocalRule → List Cell → Cell → ℕ
 last_number x cs c = greatest (rank cs c ∷ map (λ d. rank cs (shifted c.position d)) (cells_at x c.node))
 
--- the places that fit once the cell with the number k has a symbol, and not before
+-- the cells at which the rule can first be tested once the cell with the number k has a symbol
 abbrev pub settled : LocalRule → List Cell → ℕ → List Cell
 settled x cs k = filter (λ c. nat_eq (last_number x cs c) k) cs
 
--- the cells with this number, if each has the number at its place
+-- the cells to which the list of numbers gives the number k
 abbrev pub chosen : List ℕ → List Cell → ℕ → List Cell
 chosen [] cs k = []
 chosen (n ∷ ns) [] k = []
 chosen (n ∷ ns) (c ∷ cs) k = cond (nat_eq n k) (c ∷ chosen ns cs k) (chosen ns cs k)
 
--- the rule is true at the place, if it is given there
+-- whether the rule is true at the cell, if it is given there
 abbrev pub is_true_if_given : LocalRule → Look → Cell → Bool
 is_true_if_given x look c = not (is_given x c look) || is_true x c look
 
+-- whether the rule is true, with the symbols ss of the cells cs, at each of the places where it is given
 abbrev pub are_true : LocalRule → List Cell → List Cell → List ℕ → Bool
 are_true x cs places ss = list_all (is_true_if_given x (look_of cs ss)) places
 
--- the list with one more symbol below n that the node allows, if it then passes the test
+-- ss with one more symbol at its end, for each symbol below n that the node a allows and with which the list passes the test
 abbrev pub extended_below : LocalRule → (List ℕ → Bool) → ℕ → List ℕ → ℕ → List (List ℕ)
 extended_below x test a ss n = filter test (map (λ s. ss ++ s ∷ []) (filter (rule_allows x a) (range_with_len 0 n)))
 
+-- the same for each symbol of the alphabet
 abbrev pub extended : LocalRule → (List ℕ → Bool) → ℕ → List ℕ → List (List ℕ)
 extended x test a ss = extended_below x test a ss x.symbols
 
--- lists of symbols of the alphabet, one for each of the cells
+-- a list of n symbols of the alphabet
 pub record IsWord (x : LocalRule) (n : ℕ) (ss : List ℕ) : Type 0 where
   pub size : length ss ≡ n
   pub below : All (λ s. s < x.symbols) ss

@@ -2,14 +2,15 @@
 use Rattle.std.specs.{Prelude.ℕ, Prelude.◌<◌, Prelude.◌≤◌, Prelude.◌≡◌, Prelude.◌⊎◌, Prelude.List, Prelude.length, List.flat_map}
 use Rattle.dd_rows.specs.{declared.rows.Row.Row, declared.rows.Rows.Rows, declared.views.Views.Views, Patterns.in_lexicographic_order}
 use Rattle.dd_rows.specs.Programs.{first_seen, column_count, most_columns, most_rows}
-use Rattle.dd_rows.specs.listing.{Views.patterns_seen, Sparse.asked_rows}
+use Rattle.dd_rows.specs.listing.{Views.patterns_seen, Sparse.required_rows}
 
+-- the patterns that the fillings show
 abbrev pub patterns_shown : Views → List (List ℕ) → List (List ℕ)
 patterns_shown v fillings = in_lexicographic_order (flat_map (patterns_seen v) fillings)
 
--- the rows that the fillings require, after the one that no position holds more than a heaviest one
+-- the rows that the fillings require, after the first row
 abbrev pub rows_shown : Views → List ℕ → ℕ → List (List ℕ) → List Row
-rows_shown v ws most fillings = first_seen (asked_rows (patterns_shown v fillings) v ws most fillings)
+rows_shown v ws most fillings = first_seen (required_rows (patterns_shown v fillings) v ws most fillings)
 
 -- the program, within its limits
 pub record IsProgramShown (v : Views) (ws : List ℕ) (most : ℕ) (fillings : List (List ℕ)) (p : Rows) : Type 0 where

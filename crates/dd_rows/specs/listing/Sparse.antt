@@ -1,4 +1,4 @@
--- Rows by what goes out and comes in along each vector: along each, at most two of a row's coefficients are not 0.
+-- Rows in a sparse form: along each vector, at most two of a row's coefficients are not 0.
 use Rattle.std.specs.Prelude.{ℕ, ◌*◌, ◌≤◌, ◌≡◌, cond, pos, ◌-ℤ◌, ℤ, List, ◌∷◌, map, length, replicate, Option, Some, None}
 use Rattle.std.specs.{Bool.nat_eq, List.All, List.flat_map, List.range_with_len}
 use Rattle.dd_pattern.specs.Weight.{total_weight}
@@ -6,27 +6,29 @@ use Rattle.dd_rows.specs.declared.{rows.Row.Row, sparse.Exchange.Exchange, spars
 use Rattle.dd_rows.specs.{declared.views.Views.Views, Patterns.pattern_number, Programs.one_at, Programs.coefficients, Programs.add_row}
 use Rattle.dd_rows.specs.listing.Views.{symbols_at}
 
--- by the numbers of two patterns; none if they are the same, since the amounts cancel
+-- the exchange of two patterns, by their numbers; none if they are equal, since the amounts cancel
 abbrev pub exchange_of : ℕ → ℕ → Option Exchange
 exchange_of gives receives = cond (nat_eq gives receives) None (Some (record { gives = gives; receives = receives }))
 
--- the coefficient of the pattern with the number k
+-- the coefficient of the pattern with the number k, along the vector of the exchange
 abbrev pub entry : Option Exchange → ℕ → ℤ
 entry None k = pos 0
 entry (Some e) k = one_at k e.gives -ℤ one_at k e.receives
 
+-- the coefficients of all patterns along the vector of the exchange
 abbrev pub entries : ℕ → Option Exchange → List ℤ
 entries patterns e = map (entry e) (range_with_len 0 patterns)
 
--- the row that it stands for
+-- the row that a sparse row stands for
 abbrev pub dense : ℕ → SparseRow → Row
 dense patterns r = record { coefficients = pos 1 ∷ flat_map (entries patterns) r.exchanges.items; bound = r.bound }
 
--- two numbers of patterns, which differ
+-- The numbers of two different patterns, or none. A pattern that isn't in the list has the length of the list as its number.
 abbrev pub IsExchange : ℕ → Option Exchange → Type 0
 IsExchange patterns None = Unit {0}
 IsExchange patterns (Some e) = (e.gives ≤ patterns) × (e.receives ≤ patterns) × (e.gives ≡ e.receives → ⊥)
 
+-- the row has an exchange, or none, for each vector
 pub record IsSparse (vectors patterns : ℕ) (r : SparseRow) : Type 0 where
   pub as_many : length r.exchanges.items ≡ vectors
   pub each : All (IsExchange patterns) r.exchanges.items
@@ -34,22 +36,23 @@ pub record IsSparse (vectors patterns : ℕ) (r : SparseRow) : Type 0 where
 abbrev pub AreSparse : ℕ → ℕ → List SparseRow → Type 0
 AreSparse vectors patterns rs = All (IsSparse vectors patterns) rs
 
--- the rows with one more
+-- the new rows stand for the old ones and one more, which is added unless it is among them
 pub record IsWithRow (vectors patterns : ℕ) (old : List SparseRow) (r : SparseRow) (new : List SparseRow) : Type 0 where
   pub rows : map (dense patterns) new ≡ add_row (map (dense patterns) old) (dense patterns r)
   pub sparse : AreSparse vectors patterns new
 
--- what a filling exchanges along each vector
+-- what the origin exchanges along each vector in the filling ss
 abbrev pub exchanges_of : List (List ℕ) → Views → List ℕ → List (Option Exchange)
 exchanges_of ps v ss = map (λ numbers. exchange_of (pattern_number ps (symbols_at ss v.origin)) (pattern_number ps (symbols_at ss numbers))) v.givers
 
--- the row that a filling requires
-abbrev pub asked_row : List (List ℕ) → Views → List ℕ → List ℕ → Row
-asked_row ps v ws ss = record { coefficients = coefficients ps (symbols_at ss v.origin) (map (symbols_at ss) v.givers); bound = total_weight ws (symbols_at ss v.centre) }
+-- the row that the filling ss requires
+abbrev pub required_row : List (List ℕ) → Views → List ℕ → List ℕ → Row
+required_row ps v ws ss = record { coefficients = coefficients ps (symbols_at ss v.origin) (map (symbols_at ss) v.givers); bound = total_weight ws (symbols_at ss v.centre) }
 
--- the first row
+-- the first row: column 0 is at most `most`
 abbrev pub capped : ℕ → ℕ → ℕ → Row
 capped vectors patterns most = record { coefficients = pos 1 ∷ replicate (vectors * patterns) (pos 0); bound = most }
 
-abbrev pub asked_rows : List (List ℕ) → Views → List ℕ → ℕ → List (List ℕ) → List Row
-asked_rows ps v ws most fillings = capped (length v.givers) (length ps) most ∷ map (asked_row ps v ws) fillings
+-- the first row, and those that the fillings require
+abbrev pub required_rows : List (List ℕ) → Views → List ℕ → ℕ → List (List ℕ) → List Row
+required_rows ps v ws most fillings = capped (length v.givers) (length ps) most ∷ map (required_row ps v ws) fillings

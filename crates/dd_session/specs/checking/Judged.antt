@@ -1,4 +1,4 @@
--- What the check of answers writes, one after the other.
+-- What the check of answers writes, answer by answer.
 use Rattle.std.specs.Prelude.{◌≡◌, ℕ, ◌+◌, max, List, [], ◌++◌, length, Bool, true, false}
 use Rattle.std.specs.{declared.option.Option.Option, Io.KnownBytes.Appends}
 use Rattle.dd_outside.specs.Bytes.{GainsFront}
@@ -7,7 +7,7 @@ use Rattle.dd_script.specs.Parts.{Parts}
 use Rattle.dd_session.specs.{declared.status.Status.Status, declared.status.Status.TheVariants.Rejected, Sides.status_of}
 use Rattle.dd_session.specs.Checks.{accepted_line, rejected_line, accepted_lines, checked_line, IsAcceptedAt, AcceptedTo, AllAccepted, FirstRejected}
 
--- Whether the answer with a number is accepted.
+-- This is whether the answer with this number is accepted.
 abbrev pub IsJudged : Parts → List Answer → ℕ → Bool → Type 0
 IsJudged s answers number true = IsAcceptedAt s answers number
 IsJudged s answers number false = ¬ IsAcceptedAt s answers number
@@ -16,7 +16,7 @@ abbrev pub verdict_line : ℕ → Bool → List ℕ
 verdict_line number true = accepted_line number
 verdict_line number false = rejected_line number
 
--- The line for the query with a number was written.
+-- The line for the query with this number was written.
 pub record Judged (old new : Option (List ℕ)) (s : Parts) (answers : List Answer) (number : ℕ) (accepted : Bool) : Type 0 where
   pub judged : IsJudged s answers number accepted
   pub appends : Appends old new (verdict_line number accepted)
@@ -36,21 +36,22 @@ pub record RejectedHere (old new : Option (List ℕ)) (s : Parts) (answers : Lis
   pub rejected : FirstRejected s answers done
   pub appends : Appends old new (accepted_lines done ++ rejected_line (done + 1))
 
--- The lines of all queries were written, each accepted.
+-- The lines of all queries were written, and each is accepted.
 pub record AcceptedEach (old new : Option (List ℕ)) (s : Parts) (answers : List Answer) : Type 0 where
   pub accepted : AcceptedTo s answers (most_of s answers)
   pub appends : Appends old new (accepted_lines (most_of s answers))
 
--- The lines of all queries, and the last line, were written.
+-- All answers are accepted, and the lines of all queries and the last line were written.
 pub record AcceptedAll (old new : Option (List ℕ)) (s : Parts) (answers : List Answer) : Type 0 where
   pub all : AllAccepted s answers
   pub appends : Appends old new (accepted_lines (length answers) ++ checked_line (length answers))
 
--- By whether all are accepted; else there is a first one that is rejected.
+-- What was written before the last line, by whether all are accepted; if not, there is a first one that is rejected.
 abbrev pub EachJudged : Option (List ℕ) → Option (List ℕ) → Parts → List Answer → Bool → Type 0
 EachJudged old new s answers true = AcceptedEach old new s answers
 EachJudged old new s answers false = RejectedHere old new s answers
 
+-- what was written, by whether all are accepted
 abbrev pub AllJudged : Option (List ℕ) → Option (List ℕ) → Parts → List Answer → Bool → Type 0
 AllJudged old new s answers true = AcceptedAll old new s answers
 AllJudged old new s answers false = RejectedHere old new s answers

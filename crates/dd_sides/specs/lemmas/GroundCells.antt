@@ -124,7 +124,7 @@ pub centred_flat : (d n : ℕ) (p : Place) → IsCentred d n p → is_flat d p �
 centred_flat d n p h =
     and_from (nat_lt 1 d || int_eq p.y (pos 0)) (nat_lt 2 d || int_eq p.z (pos 0)) (flat_axis (is_active d 1) n p.y h.on_y) (flat_axis (is_active d 2) n p.z h.on_z)
 
--- ---- the boxes that they include
+-- ---- the boxes that the cells include
 
 at_none : (active : Bool) (n : ℕ) (c : ℤ) → c ≡ pos 0 → OnAxis active (IsUpTo n) c
 at_none true n c e = record { low = omega (arith, ints, e); high = omega (arith, ints, e) }

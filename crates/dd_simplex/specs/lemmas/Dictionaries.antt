@@ -1,4 +1,4 @@
--- Dictionaries that are the same.
+-- A run that ends, ends with one dictionary.
 use Rattle.dd_simplex.specs.{Dictionaries.Dictionary, Runs.Ends}
 use Rattle.std.proofs.Common.{◌≡◌}
 

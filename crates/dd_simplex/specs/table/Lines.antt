@@ -1,16 +1,18 @@
--- What the code keeps of a dictionary: its lines, and one pivot of them, place by place.
+-- A table is a dictionary as the code keeps it: the nonbasic variables are listed, and a variable's place is its index. This
+-- module defines one pivot of a table. Each test `.. fit` says whether the numbers of the step defined just above it fit.
 use Rattle.std.specs.Prelude.{◌≡◌, true, ℕ, ◌+◌, List, [], ◌∷◌, ◌++◌, map, take, drop, Bool, true, ◌&&◌, slice_index_or, slice_set}
 use Rattle.std.specs.List.{list_all, All}
 use Rattle.dd_fraction.specs.Exact.{Exact, plus, times, minus, inverse}
 use Rattle.dd_fraction.specs.Checked.{IsFraction, does_product_fit, does_sum_fit}
 use Rattle.dd_simplex.specs.Programs.{fraction_at, zero_of, one_of}
 
--- `basic = bound - Σ cell · other`
+-- basic = bound - Σ cell · other, over the nonbasic variables
 pub record Line : Type 0 where
   pub basic : ℕ
   pub bound : Exact
   pub cells : List Exact
 
+-- the lines of the basic variables, and the objective value + Σ cost · other
 pub record Table : Type 0 where
   pub lines : List Line
   pub others : List ℕ
@@ -23,7 +25,7 @@ line_at lines i = slice_index_or lines i (record { basic = 0; bound = zero_of; c
 abbrev pub other_at : List ℕ → ℕ → ℕ
 other_at others j = slice_index_or others j 0
 
--- `a - q · b` in each place
+-- a - q · b at each place
 abbrev pub less : Exact → List Exact → List Exact → List Exact
 less q [] bs = []
 less q (a ∷ us) [] = []
@@ -34,7 +36,7 @@ do_all_less_fit q [] bs = true
 do_all_less_fit q (a ∷ us) [] = true
 do_all_less_fit q (a ∷ us) (b ∷ bs) = (does_product_fit q b && does_sum_fit a (minus (times q b))) && do_all_less_fit q us bs
 
--- the leaving line, solved for the entering variable
+-- the line l solved for the variable `entering`, which is at the place e
 abbrev pub solved_line : ℕ → ℕ → Line → Line
 solved_line entering e l =
     let k = inverse (fraction_at l.cells e) in
@@ -45,7 +47,7 @@ does_solved_fit e l =
     let k = inverse (fraction_at l.cells e) in
     does_product_fit l.bound k && list_all (λ a. does_product_fit a k) (slice_set l.cells e one_of)
 
--- another line, after the leaving one
+-- the line l after the solved line `pivot` is substituted into it
 abbrev pub changed_line : ℕ → Line → Line → Line
 changed_line e pivot l =
     let q = fraction_at l.cells e in
@@ -61,7 +63,7 @@ does_changed_fit e pivot l =
     (does_product_fit q pivot.bound && does_sum_fit l.bound (minus (times q pivot.bound)))
     && do_all_less_fit q (slice_set l.cells e zero_of) pivot.cells
 
--- all lines: the one at r leaves, and the variable at the place e enters
+-- the lines after a pivot: line r is solved for the variable at the place e
 abbrev pub changed_lines : ℕ → ℕ → ℕ → List Line → List Line
 changed_lines e r entering lines =
     let pivot = solved_line entering e (line_at lines r) in
@@ -73,13 +75,14 @@ do_lines_fit e r entering lines =
     does_solved_fit e (line_at lines r)
     && (list_all (does_changed_fit e pivot) (take r lines) && list_all (does_changed_fit e pivot) (drop (r + 1) lines))
 
--- whether the numbers of the objective fit
+-- whether the numbers of the new objective fit
 abbrev pub does_objective_line_fit : ℕ → Line → Exact → List Exact → Bool
 does_objective_line_fit e pivot value costs =
     let c = fraction_at costs e in
     (does_product_fit c pivot.bound && does_sum_fit value (times c pivot.bound))
     && do_all_less_fit c (slice_set costs e zero_of) pivot.cells
 
+-- the table after a pivot: line r is solved for the variable at the place e
 abbrev pub changed_table : ℕ → ℕ → Table → Table
 changed_table e r t =
     let leaving = line_at t.lines r in
@@ -102,7 +105,7 @@ pub record HasFractions (l : Line) : Type 0 where
   pub bound : IsFraction l.bound
   pub cells : All IsFraction l.cells
 
--- subtracting q · b from a changes nothing, and no number of it is too large
+-- subtracting q · b from a changes nothing, and each number of this step fits
 pub record IsIdle (a q b : Exact) : Type 0 where
   pub fit : (does_product_fit q b && does_sum_fit a (minus (times q b))) ≡ true
   pub value : plus a (minus (times q b)) ≡ a

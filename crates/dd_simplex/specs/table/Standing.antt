@@ -1,9 +1,9 @@
--- A table stands for a dictionary.
+-- When a table stands for a dictionary.
 use Rattle.std.specs.Prelude.{◌≡◌, ℕ, ◌<◌, length, true, false}
 use Rattle.dd_fraction.specs.Checked.{IsFraction}
 use Rattle.dd_simplex.specs.{Programs.fraction_at, Dictionaries.Dictionary, table.Lines.Table, table.Lines.line_at, table.Lines.other_at}
 
--- each line, and the list of costs, has one fraction for each other variable
+-- each line, and the list of costs, has one fraction for each nonbasic variable
 pub record IsTable (t : Table) : Type 0 where
   pub costs : length t.costs ≡ length t.others
   pub cells : (i : ℕ) → i < length t.lines → length (line_at t.lines i).cells ≡ length t.others
@@ -12,11 +12,12 @@ pub record IsTable (t : Table) : Type 0 where
   pub prices : (j : ℕ) → j < length t.others → IsFraction (fraction_at t.costs j)
   pub value : IsFraction t.value
 
--- of the first n variables each basic one has its line, and each other one its column
+-- Of the first n variables, each basic one has its line, and each nonbasic one its place. `column` gives this place; it has
+-- nothing to do with the program's columns.
 pub record StandsFor (n : ℕ) (t : Table) (d : Dictionary) : Type 0 where
   pub line : ℕ → ℕ
   pub column : ℕ → ℕ
-  -- from variables to places
+  -- from variables to lines and columns
   pub line_in : (v : ℕ) → v < n → d.is_basic v ≡ true → line v < length t.lines
   pub line_is : (v : ℕ) → v < n → d.is_basic v ≡ true → (line_at t.lines (line v)).basic ≡ v
   pub column_in : (w : ℕ) → w < n → d.is_basic w ≡ false → column w < length t.others

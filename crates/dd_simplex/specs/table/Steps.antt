@@ -1,18 +1,20 @@
--- One turn of the code, and the tables at a run's start and end.
+-- One iteration of the code, and the first and the last table of a run.
 use Rattle.std.specs.Prelude.{◌≡◌, ℕ, ◌+◌, ◌<◌, ◌⊎◌, List, length, true, false, Option, Some, None}
 use Rattle.dd_fraction.specs.Checked.{IsFraction}
 use Rattle.dd_simplex.specs.Programs.{LinearProgram, ProgramRow, row_at, program_row, coefficient, bound_at, unit, fraction_at, zero_of}
 use Rattle.dd_simplex.specs.table.Lines.{Line, Table, line_at, other_at, changed_table, does_table_fit}
 use Rattle.dd_simplex.specs.table.Choices.{IsChosen, does_enter, EntersBefore, does_limit, LeavesBefore, DoRatiosFit, HasMisfit}
 
+-- o is the place of the variable that enters; none enters if it is None
 abbrev pub DoesEnter : Table → Option ℕ → Type 0
 DoesEnter t o = IsChosen (does_enter t.costs) (EntersBefore t.others) (length t.costs) o
 
+-- o is the line whose variable leaves; none leaves if it is None
 abbrev pub DoesLeave : Table → ℕ → Option ℕ → Type 0
 DoesLeave t e o = IsChosen (does_limit t.lines e) (LeavesBefore t.lines e) (length t.lines) o
 
--- a pivot was made, all of whose numbers fit
-pub record HasTurned (old new : Table) : Type 0 where
+-- a pivot was made, and all its numbers fit
+pub record HasIterated (old new : Table) : Type 0 where
   pub place : ℕ
   pub line : ℕ
   pub enters : DoesEnter old (Some place)
@@ -21,22 +23,24 @@ pub record HasTurned (old new : Table) : Type 0 where
   pub fit : does_table_fit place line old ≡ true
   pub pivoted : new ≡ changed_table place line old
 
+-- a line was chosen, but a number of its pivot doesn't fit
 pub record HasLeft (t : Table) (e : ℕ) : Type 0 where
   pub line : ℕ
   pub ratios : DoRatiosFit t.lines e (length t.lines)
   pub leaves : DoesLeave t e (Some line)
   pub misfit : does_table_fit e line t ≡ false
 
--- no pivot could be made: a ratio's number doesn't fit, nothing leaves, or a number of the pivot doesn't fit
+-- no pivot could be made: a number of a ratio doesn't fit, nothing leaves, or a number of the pivot doesn't fit
 pub record IsStuck (t : Table) : Type 0 where
   pub place : ℕ
   pub enters : DoesEnter t (Some place)
   pub reason : HasMisfit t.lines place ⊎ (DoesLeave t place None ⊎ HasLeft t place)
 
--- the table of the start
+-- the line of the slack of row i in the first table
 abbrev pub line_of : LinearProgram → ℕ → Line
 line_of p i = record { basic = p.columns + i; bound = bound_at p i; cells = (row_at p i).coefficients }
 
+-- the first table of a program
 pub record IsStart (p : LinearProgram) (t : Table) : Type 0 where
   pub height : length t.lines ≡ length p.rows
   pub lines : (i : ℕ) → i < length p.rows → line_at t.lines i ≡ line_of p i
@@ -48,7 +52,7 @@ pub record IsStart (p : LinearProgram) (t : Table) : Type 0 where
   pub fractions : (i j : ℕ) → i < length p.rows → j < p.columns → IsFraction (coefficient p i j)
   pub bounds : (i : ℕ) → i < length p.rows → IsFraction (bound_at p i)
 
--- a line whose basic variable is v has the numbers of a row, which are fractions
+-- the line of the variable v has the numbers of a row, and these are fractions
 pub record IsLineOf (row : ProgramRow) (v : ℕ) (l : Line) : Type 0 where
   pub is : l ≡ record { basic = v; bound = row.bound; cells = row.coefficients }
   pub bound : IsFraction row.bound

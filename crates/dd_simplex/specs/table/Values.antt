@@ -1,22 +1,25 @@
--- The columns and the duals so far, in a loop over lines, or over the other variables.
+-- The values of the columns once the first i lines are read, and the duals once the first i nonbasic variables are read.
 use Rattle.std.specs.Prelude.{◌≡◌, ℕ, ◌+◌, ◌<◌, ◌≤◌, List, length, not, ◌&&◌, cond}
 use Rattle.std.specs.Bool.{nat_lt}
 use Rattle.dd_fraction.specs.Exact.{Exact, minus}
 use Rattle.dd_simplex.specs.{Programs.fraction_at, Programs.zero_of, Dictionaries.Dictionary, table.Lines.Line, table.Lines.Table}
 use Rattle.dd_simplex.specs.table.Standing.{StandsFor}
 
+-- the value of column j by the first i lines, where `line` gives each basic variable's line
 abbrev pub column_so_far : (ℕ → ℕ) → Dictionary → ℕ → ℕ → Exact
 column_so_far line d i j = cond (d.is_basic j && nat_lt (line j) i) (d.bound j) zero_of
 
+-- the dual of the slack w by the first i nonbasic variables, where `column` gives each one's place
 abbrev pub dual_so_far : (ℕ → ℕ) → Dictionary → ℕ → ℕ → Exact
 dual_so_far column d i w = cond (not (d.is_basic w) && nat_lt (column w) i) (minus (d.cost w)) zero_of
 
--- the columns that the first i lines give, whatever the lines stand for
+-- the values that the first i lines give to the columns, for any dictionary that the lines stand for
 pub record GiveColumns (lines : List Line) (columns i : ℕ) (values : List Exact) : Type 0 where
   pub size : length values ≡ columns
   pub each : (n : ℕ) (t : Table) (d : Dictionary) (s : StandsFor n t d) → t.lines ≡ lines → columns ≤ n
       → (j : ℕ) → j < columns → fraction_at values j ≡ column_so_far s.line d i j
 
+-- the duals that the first i nonbasic variables give, for any dictionary that the table stands for
 pub record GiveDuals (t : Table) (columns i : ℕ) (duals : List Exact) : Type 0 where
   pub size : length duals ≡ length t.lines
   pub each : (n : ℕ) (d : Dictionary) (s : StandsFor n t d) → columns + length t.lines ≤ n

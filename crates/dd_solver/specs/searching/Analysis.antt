@@ -4,7 +4,7 @@ use Rattle.dd_clause.specs.{declared.clause.Literal.Literal, Clauses.negation}
 use Rattle.dd_derivation.specs.declared.propagation.Finding.TheVariants.{Forced}
 use Rattle.dd_derivation.specs.Derivations.{is_among, finding, clause_of, is_proper, is_conflict}
 use Rattle.dd_trail.specs.{declared.trail.Entry.Entry, Trails.falses}
-use Rattle.dd_solver.specs.declared.analysis.{Turn.Turn, Choice.Choice}
+use Rattle.dd_solver.specs.declared.analysis.{Backjump.Backjump, Choice.Choice}
 use Rattle.dd_solver.specs.declared.analysis.Choice.TheVariants.{Resolve, Keep}
 
 -- the literal's variable is marked
@@ -15,6 +15,7 @@ marks marked l = slice_index_or marked (l.variable - 1) false
 abbrev pub Grows : List Bool → List Bool → Type 0
 Grows old new = (l : Literal) → marks old l ≡ true → marks new l ≡ true
 
+-- the variables of the clause are marked
 abbrev pub AreMarked : List Bool → List Literal → Type 0
 AreMarked marked c = (l : Literal) → is_among c l ≡ true → marks marked l ≡ true
 
@@ -22,29 +23,31 @@ AreMarked marked c = (l : Literal) → is_among c l ≡ true → marks marked l 
 abbrev pub IsMarkedClause : List (Option (List Literal)) → List Bool → ℕ → Type 0
 IsMarkedClause known marked r = MatchOption (clause_of known r) ⊤ (AreMarked marked)
 
--- the hints show that the learned clause follows, and its variables are distinct
+-- the hints show that the learned clause follows, and its variables are distinct and in range
 abbrev pub is_rightly_learned : ℕ → List (Option (List Literal)) → List Literal → List ℕ → Bool
 is_rightly_learned n known learned hints = is_proper n learned && is_conflict known learned hints
 
--- the place of a decision, with nothing marked from there up to a higher place
+-- p is the place of a decision, and no entry from there to before the place `top` is marked
 pub record IsPlace (trail : List Entry) (marked : List Bool) (top p : ℕ) : Type 0 where
   pub from : p ≤ top
   pub decided : (d : Entry) → (slice_index_or trail p d).reason ≡ None
   pub between : (k : ℕ) (d : Entry) → p ≤ k → k < top → marks marked (slice_index_or trail k d).literal ≡ false
 
--- the turn is before a decision at or below the place, with nothing marked between; it makes the literal at the place false
-pub record IsTurn (trail : List Entry) (marked : List Bool) (place : ℕ) (turn : Turn) : Type 0 where
-  pub at : IsPlace trail marked place turn.place
-  pub literal : (d : Entry) → turn.literal ≡ negation (slice_index_or trail place d).literal
+-- The backjump goes back to before a decision at the place or earlier. No entry from that decision to before the place is
+-- marked. The backjump makes the literal at the place false.
+pub record IsBackjump (trail : List Entry) (marked : List Bool) (place : ℕ) (backjump : Backjump) : Type 0 where
+  pub at : IsPlace trail marked place backjump.place
+  pub literal : (d : Entry) → backjump.literal ≡ negation (slice_index_or trail place d).literal
 
--- the entry at the place was forced by the clause that it is resolved with, or its literal is kept; the first literal kept makes the turn
-abbrev pub ChoiceSays : List Entry → List Bool → Option Turn → ℕ → Choice → Type 0
-ChoiceSays trail marked turn place (Resolve r) = (d : Entry) → (slice_index_or trail place d).reason ≡ Some r
-ChoiceSays trail marked None place (Keep t) = IsTurn trail marked place t
+-- The choice is right. If the entry is resolved, the clause of this number forced it. If it is the first one kept, its backjump
+-- fits its place. If another was kept before, the backjump stays the same.
+abbrev pub ChoiceSays : List Entry → List Bool → Option Backjump → ℕ → Choice → Type 0
+ChoiceSays trail marked backjump place (Resolve r) = (d : Entry) → (slice_index_or trail place d).reason ≡ Some r
+ChoiceSays trail marked None place (Keep t) = IsBackjump trail marked place t
 ChoiceSays trail marked (Some u) place (Keep t) = t ≡ u
 
--- the learned clause forces the turn's literal before the decision at its place
-pub record Asserts (trail : List Entry) (learned : List Literal) (turn : Turn) : Type 0 where
-  pub within : turn.place < length trail
-  pub decided : (d : Entry) → (slice_index_or trail turn.place d).reason ≡ None
-  pub forces : finding (is_among (falses (take turn.place trail))) learned ≡ Forced turn.literal
+-- the backjump's place is that of a decision, and just before it the learned clause forces the backjump's literal
+pub record Asserts (trail : List Entry) (learned : List Literal) (backjump : Backjump) : Type 0 where
+  pub within : backjump.place < length trail
+  pub decided : (d : Entry) → (slice_index_or trail backjump.place d).reason ≡ None
+  pub forces : finding (is_among (falses (take backjump.place trail))) learned ≡ Forced backjump.literal

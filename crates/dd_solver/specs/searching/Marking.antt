@@ -3,7 +3,7 @@ use Rattle.std.specs.Prelude.{◌≡◌, ℕ, suc, ◌+◌, ◌-◌, ◌<◌, �
 use Rattle.dd_derivation.specs.declared.step.Step.{Step}
 use Rattle.dd_solver.specs.Trimming.{is_hint}
 
--- a marked step at the place or later, and later than the one at j, has this number as a hint
+-- a marked step has this number as a hint; it stands at the place or later, and later than the step at j
 pub record IsNeeded (place j number : ℕ) (steps : List Step) (marked : List Bool) : Type 0 where
   pub at : ℕ
   pub from : place ≤ at
@@ -12,8 +12,8 @@ pub record IsNeeded (place j number : ℕ) (steps : List Step) (marked : List Bo
   pub is_marked : slice_index_or marked at false ≡ true
   pub hinted : (d : Step) → is_hint number (slice_index_or steps at d).hints ≡ true
 
--- The last step is marked. So is each step that a hint of a marked step from the place on names. Each other marked
--- step is named so. The steps' numbers begin after those of the clauses.
+-- The last step is marked. So is each step that is hinted at by a later marked step, if that one stands at the place or
+-- later. Of each marked step but the last, such a hint is the reason. The steps' numbers begin after those of the clauses.
 pub record IsMarking (clauses place : ℕ) (steps : List Step) (marked : List Bool) : Type 0 where
   pub as_many : length marked ≡ length steps
   pub last : (j : ℕ) → suc j ≡ length steps → slice_index_or marked j false ≡ true
@@ -22,12 +22,12 @@ pub record IsMarking (clauses place : ℕ) (steps : List Step) (marked : List Bo
   pub needed : (j : ℕ) → suc j < length steps → slice_index_or marked j false ≡ true
       → IsNeeded place j (clauses + suc j) steps marked
 
--- the number of the last marked step, or of the last clause, at each step
+-- for each step the new number of the last marked step up to it, or `last` if there is none
 abbrev pub numbers_from : ℕ → List Bool → List ℕ
 numbers_from last [] = []
 numbers_from last (m ∷ marked) = let next = if m then suc last else last in next ∷ numbers_from next marked
 
--- a clause keeps its number, and the step at a place has the one that is given there
+-- a clause of the list keeps its number, and the step at an index gets the number at that index
 abbrev pub renamed : ℕ → List ℕ → ℕ → ℕ
 renamed clauses numbers number =
     if nat_le number clauses then number else slice_index_or numbers (number - clauses - 1) number

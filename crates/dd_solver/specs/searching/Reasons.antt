@@ -24,6 +24,7 @@ pub record EntryOk (n : ℕ) (known : List (Option (List Literal))) (older : Lis
   pub fresh : has_variable e.literal.variable (falses older) ≡ false
   pub follows : Follows known older e.literal e.reason
 
+-- each entry of the trail is right, given the entries before it
 abbrev pub IsTrail : ℕ → List (Option (List Literal)) → List Entry → Type 0
 IsTrail n known trail =
     (k : ℕ) (d : Entry) → k < length trail → EntryOk n known (take k trail) (slice_index_or trail k d)

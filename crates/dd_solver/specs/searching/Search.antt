@@ -6,7 +6,7 @@ use Rattle.dd_derivation.specs.declared.step.Step.{Step}
 use Rattle.dd_derivation.specs.Derivations.{clause_of, hint_finding, is_among, known_after, is_right, refutes}
 use Rattle.dd_derivation.specs.checking.MarksOf.{known_to}
 use Rattle.dd_trail.specs.{declared.trail.Entry.Entry, Trails.falses}
-use Rattle.dd_solver.specs.declared.analysis.Turn.{Turn}
+use Rattle.dd_solver.specs.declared.analysis.Backjump.{Backjump}
 use Rattle.dd_solver.specs.searching.Reasons.{all_known, AreInRange, IsTrail}
 
 -- the number of variables, the clauses, the steps learned so far, and the trail
@@ -16,15 +16,16 @@ pub record State : Type 0 where
   pub steps : List Step
   pub entries : List Entry
 
--- the clauses after a step
+-- the known clauses after a step
 abbrev pub after_step : List (Option (List Literal)) → Step → List (Option (List Literal))
 after_step before s = known_after before s.deletes ++ Some s.clause ∷ []
 
+-- the known clauses after several steps
 abbrev pub known_through : List (Option (List Literal)) → List Step → List (Option (List Literal))
 known_through before [] = before
 known_through before (s ∷ steps) = known_through (after_step before s) steps
 
--- the clauses and the learned ones, by number, without those that were deleted
+-- the clauses of the list and the learned ones, by number, without those that were deleted
 abbrev pub known : State → List (Option (List Literal))
 known s = known_through (all_known s.clauses) s.steps
 
@@ -33,7 +34,7 @@ abbrev pub is_derived : ℕ → List (Option (List Literal)) → List Step → B
 is_derived n before [] = true
 is_derived n before (s ∷ steps) = is_right n before s && is_derived n (after_step before s) steps
 
--- What the search keeps. The known clauses are in range. Those of the list are known. The trail's entries were
+-- The invariant of the search. The known clauses are in range. Those of the list are known. The trail's entries were
 -- decided, or known clauses force them. The steps are right.
 pub record IsSearch (s : State) : Type 0 where
   pub in_range : AreInRange s.variables (known s)
@@ -41,7 +42,7 @@ pub record IsSearch (s : State) : Type 0 where
   pub trail : IsTrail s.variables (known s) s.entries
   pub derived : is_derived s.variables (all_known s.clauses) s.steps ≡ true
 
--- the list tells which clauses are known, of those given and those learned
+-- of the given clauses and the learned ones, the list tells which are known
 pub record AreAlive (clauses : List (List Literal)) (steps : List Step) (alive : List Bool) : Type 0 where
   pub as_many : length alive ≡ length clauses + length steps
   pub same : known_to clauses steps alive ≡ known_through (all_known clauses) steps
@@ -54,18 +55,19 @@ AreOpen s = (r : ℕ) → hint_finding (known s) (is_among (falses s.entries)) r
 abbrev pub IsFalsified : State → ℕ → Type 0
 IsFalsified s r = hint_finding (known s) (is_among (falses s.entries)) r ≡ Falsified
 
--- the entry at the turn's place was decided, and the clause of the last number forces the turn's literal before it
-pub record IsForced (s : State) (turn : Turn) : Type 0 where
-  pub within : turn.place < length s.entries
-  pub decided : (d : Entry) → (slice_index_or s.entries turn.place d).reason ≡ None
-  pub forces : hint_finding (known s) (is_among (falses (take turn.place s.entries))) (length s.clauses + length s.steps) ≡ Forced turn.literal
+-- the backjump's place is that of a decision, and just before it the last step's clause forces the backjump's literal
+pub record IsForced (s : State) (backjump : Backjump) : Type 0 where
+  pub within : backjump.place < length s.entries
+  pub decided : (d : Entry) → (slice_index_or s.entries backjump.place d).reason ≡ None
+  pub forces : hint_finding (known s) (is_among (falses (take backjump.place s.entries))) (length s.clauses + length s.steps) ≡ Forced backjump.literal
 
--- the last step forces a literal before a decision, or the steps refute the clauses
-abbrev pub GoesOn : State → Option Turn → Type 0
-GoesOn s turn = MatchOption turn (refutes s.variables s.clauses s.steps ≡ true) (IsForced s)
+-- what the analysis of a conflict leaves: with a backjump, the last step's clause forces its literal; without one, the steps refute
+abbrev pub GoesOn : State → Option Backjump → Type 0
+GoesOn s backjump = MatchOption backjump (refutes s.variables s.clauses s.steps ≡ true) (IsForced s)
 
--- The trail read as a number in base 3, in which the first place weighs most: a propagated place is the digit 2, a
--- decided one 1, a free one 0. It rises at each propagation, decision and return, and is below 3 ^ n.
+-- The trail is read as a number of n digits in base 3, the first entry first. A forced entry is the digit 2, a decided one
+-- the digit 1, and a place without an entry the digit 0. The number rises with each propagation, decision and backjump. It is
+-- below 3 ^ n.
 abbrev pub digit : Bool → ℕ
 digit is_decided = if is_decided then 1 else 2
 
@@ -74,9 +76,10 @@ trail_number n [] = 0
 trail_number zero (d ∷ ds) = 0
 trail_number (suc n) (d ∷ ds) = digit d * 3 ^ n + trail_number n ds
 
+-- for each entry, whether it was decided
 abbrev pub decisions : List Entry → List Bool
 decisions trail = map (λ e. is_none e.reason) trail
 
--- how far the trail's number is from its bound
+-- how far the trail's number is from its bound 3 ^ n
 abbrev pub left : State → ℕ
 left s = 3 ^ s.variables - trail_number s.variables (decisions s.entries)

@@ -2,7 +2,7 @@
 use Rattle.std.specs.Prelude.{◌⊎◌, ◌↔◌, List, Contains}
 use Rattle.dd_lattice.specs.declared.position.Cell.{Cell}
 
--- the cells were added to those found before, and the fresh ones are those that were new
+-- `cells` were added to the cells `before`, which makes the cells `now`. `fresh` has at least those of `now` that are not in `before`
 pub record AddsCells (before cells now fresh : List Cell) : Type 0 where
   pub members : (d : Cell) → Contains now d ↔ (Contains before d ⊎ Contains cells d)
   pub fresh_found : (d : Cell) → Contains fresh d → Contains now d

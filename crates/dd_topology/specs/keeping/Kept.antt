@@ -1,4 +1,4 @@
--- What a topology keeps beside its edges, and how sets are kept.
+-- How topologies and the alphabets of nodes are kept in memory.
 use Rattle.std.specs.Prelude.{ℕ, zero, suc, List, [], ◌∷◌, take, drop}
 use Rattle.dd_topology.specs.declared.{edge.Edge.Edge, topology.Move.Move}
 
@@ -6,7 +6,7 @@ use Rattle.dd_topology.specs.declared.{edge.Edge.Edge, topology.Move.Move}
 abbrev pub move_of : Edge → Move
 move_of e = record { label = e.label; from = e.from }
 
--- a flat list as so many rows of m items
+-- a flat list, cut into a number of rows of m items each
 abbrev pub in_rows : {X : Type 0} → ℕ → ℕ → List X → List (List X)
 in_rows zero m xs = []
 in_rows (suc n) m xs = take m xs ∷ in_rows n m (drop m xs)

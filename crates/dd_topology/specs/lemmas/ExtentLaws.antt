@@ -1,4 +1,4 @@
--- How far a place lies from the origin.
+-- The extent of a sum of positions, and a way there and back.
 use Rattle.std.proofs.{Common.◌+◌, Common.arith, Common.◌≤◌, Common.◌≡◌, lemmas.Int.ints}
 use Rattle.dd_topology.specs.Topology.{extent, reversed}
 use Rattle.dd_lattice.specs.{Place.Place, Place.moved, lemmas.MoveLaws.place_same}

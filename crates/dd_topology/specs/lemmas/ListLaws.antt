@@ -31,7 +31,7 @@ module _ {X K : Type 0} (f : X → K) where
       let at = position_or_len (λ x. p (f x)) xs in
       ap (λ n. cond (nat_lt n (length (map f xs))) (Some n) None) (place-map p xs) ∙ ap (λ n. cond (nat_lt at n) (Some at) None) (length-map xs f)
 
--- what a test finds is the item at the first place where it passes
+-- what a test finds is the item at the first index where it passes
 pub find-position : {X : Type 0} (p : X → Bool) (xs : List X) → find p xs ≡ option_and_then (slice_get xs) (position p xs)
 find-position {X} p xs = find_at p xs ∙ by (nat_lt (position_or_len p xs) (length xs)) refl
   where

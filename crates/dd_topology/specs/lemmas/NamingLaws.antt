@@ -1,4 +1,4 @@
--- Names kept in another form, as the bytes of texts. A search in the kept list agrees with the list of names.
+-- Keys that spell names: f gives the bytes of a key. A search among the keys finds what a search among their names finds.
 use Rattle.std.proofs.Common.{◌≡◌, ℕ, List, [], ◌∷◌, true, false, map, length, Some, Contains, refl, ap, sym, ◌∙◌, true≢false, ◌++◌}
 use Rattle.std.proofs.lemmas.{List.map-append, List.Quantifiers.position-Some, Map.Made.AllPairs-from_IsDistinct}
 use Rattle.std.proofs.lemmas.{Map.Views.list_any-from_Contains, Map.Views.Contains-from_any, Option.slice_get_read}

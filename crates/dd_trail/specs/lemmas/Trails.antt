@@ -23,7 +23,7 @@ at_falses [] k d h = absurd (omega arith)
 at_falses (e ∷ trail) zero d h = in_here (falses trail) (negation e.literal)
 at_falses (e ∷ trail) (suc k) d h = or_right _ _ (at_falses trail k d (omega arith))
 
--- the same among the first entries
+-- the same for the first j entries
 pub in_falses_take : (trail : List Entry) (j : ℕ) (x : Literal) → j ≤ length trail → In (falses (take j trail)) x → (k : ℕ) × (k < j) × ((d : Entry) → negation (get_or trail k d).literal ≡ x)
 in_falses_take trail j x l h =
     let r = in_falses (take j trail) x h in
@@ -47,7 +47,7 @@ in-has_variable (x ∷ xs) v h = elim (or_cases (eqb x.variable v) (has_variable
   | inr a ↦ let r = in-has_variable xs v a in (r.0, or_right _ _ r.1, r.2)
 ]
 
--- no literal of a variable is among those that do not have it
+-- if no literal of a list has the variable, no literal of the variable is in the list
 pub absent : (xs : List Literal) (x : Literal) (v : ℕ) → x.variable ≡ v → has_variable v xs ≡ false → is_among xs x ≡ false
 absent xs x v q f = false_from_ne_true _ (λ h. false≢true (sym f ∙ subst (λ (w : ℕ). has_variable w xs ≡ true) q (has_variable-in xs x h)))
 

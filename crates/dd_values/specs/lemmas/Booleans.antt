@@ -6,6 +6,7 @@ use Rattle.std.specs.{Bool.beq, Bool.nat_lt, Bool.nat_eq, Ordering.ordering_then
 use Rattle.std.specs.declared.cmp.Ordering.TheVariants.{Equal, Greater, Less}
 use Rattle.std.specs.declared.cmp.Ordering.{Ordering}
 
+-- two truth values are equal if each is true when the other is
 pub same_bool : (b c : Bool) → (b ≡ true → c ≡ true) → (c ≡ true → b ≡ true) → b ≡ c
 same_bool true c to from = sym (to refl)
 same_bool false true to from = from refl
@@ -101,6 +102,7 @@ pub and_same : (b : Bool) → (b && b) ≡ b
 and_same true = refl
 and_same false = refl
 
+-- a comparison by two keys is Equal only if both keys are
 pub both_equal : (a b : Ordering) → ordering_then a b ≡ Equal → (a ≡ Equal) × (b ≡ Equal)
 both_equal Less b h = absurd (cc)
 both_equal Equal b h = (refl, h)
@@ -120,6 +122,7 @@ lt_no v n p = grind (arith, p)
 pub eq_other : (v w : ℕ) → v ≢ w → nat_eq v w ≡ false
 eq_other v w h = grind arith
 
+-- an option that has a value wherever b is true: kept under b, it has one exactly where b is true
 pub cond_domain : (b : Bool) (o : Option ℕ) → (b ≡ true → is_some o ≡ true) → is_some (cond b o None) ≡ b
 cond_domain true o h = h refl
 cond_domain false o h = refl

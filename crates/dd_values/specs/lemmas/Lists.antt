@@ -11,24 +11,26 @@ use Rattle.std.proofs.lemmas.List.FromFn.{get_or-range_with_len, length-range_wi
 use Rattle.std.proofs.lemmas.List.Elements.{All-nil, All-append, Contains-append_cases}
 use Rattle.std.proofs.lemmas.List.Recursion.{and_fails_at}
 
+-- the item at an index, if there is one, is below the bound
 pub below_at : (n : ℕ) (ss : List ℕ) → All (λ s. s < n) ss → (i : ℕ) → IfSome (slice_get ss i) (λ s. s < n)
 below_at n [] h i = tt
 below_at n (s ∷ ss) h zero = h zero s (omega arith)
 below_at n (s ∷ ss) h (suc i) = below_at n ss (λ k d within. h (suc k) d (omega arith)) i
 
--- a number of the list, or 0
+-- the item at an index, or 0 past the end, is at most n
 pub slice_index_within : (n : ℕ) (xs : List ℕ) (i : ℕ) → All (λ x. x ≤ n) xs → slice_index xs i ≤ n
 slice_index_within n [] i h = omega arith
 slice_index_within n (x ∷ xs) zero h = h zero x (omega arith)
 slice_index_within n (x ∷ xs) (suc i) h = slice_index_within n xs i (λ k d within. h (suc k) d (omega (arith, within)))
 
+-- an index with a true value is within the row
 pub nothing_past : (row : List Bool) (t : ℕ) → get_or row t false ≡ true → t < length row
 nothing_past row t h = elim (cases_lt t (length row)) [ inl low ↦ low | inr high ↦ absurd (let past = get_or-eq_default row false high in cc) ]
 
 pub empty_row : (row : List Bool) (t : ℕ) → row ≡ [] → get_or row t false ≡ false
 empty_row row t none = get_or-eq_default row false (let few : length row ≡ 0 = ap length none in let past : length row ≤ t = omega arith in past)
 
--- each member passes
+-- if all members pass a test, each does
 pub passes : {X : Type 0} (f : X → Bool) (xs : List X) (x : X) → list_all f xs ≡ true → Contains xs x → f x ≡ true
 passes f [] x h c = absurd (Contains-nil x c)
 passes f (y ∷ xs) x h c =
@@ -38,11 +40,13 @@ passes f (y ∷ xs) x h c =
       | inr there ↦ passes f xs x both.1 there
     ]
 
+-- an index below the length has an item
 pub some_within : {X : Type 0} (xs : List X) (i : ℕ) → i < length xs → is_some (slice_get xs i) ≡ true
 some_within [] i h = absurd (omega arith)
 some_within (x ∷ xs) zero h = refl
 some_within (x ∷ xs) (suc i) h = some_within xs i (omega arith)
 
+-- if all items pass a test, the item at each index does
 pub list_at : {X : Type 0} (test : X → Bool) (xs : List X) (i : ℕ) (d : X) → list_all test xs ≡ true → i < length xs → test (get_or xs i d) ≡ true
 list_at test [] i d h within = absurd (omega arith)
 list_at test (x ∷ xs) zero d h within = (and_parts _ _ h).0
@@ -60,7 +64,7 @@ pub map_alike : {X Y : Type 0} (f g : X → Y) → ((x : X) → f x ≡ g x) →
 map_alike f g same [] = refl
 map_alike f g same (x ∷ xs) = rw (same x, map_alike f g same xs) refl
 
--- the same for functions that agree on the members
+-- functions that agree on the members map the list alike
 pub map_agree : {X Y : Type 0} (f g : X → Y) (xs : List X) → ((x : X) → Contains xs x → f x ≡ g x) → map f xs ≡ map g xs
 map_agree f g [] same = refl
 map_agree f g (x ∷ xs) same = rw (same x (Contains-first x xs), map_agree f g xs (λ y there. same y (Contains-later x xs y there))) refl
@@ -73,6 +77,7 @@ pub list_all_both : {X : Type 0} (p q : X → Bool) (xs : List X) → list_all (
 list_all_both p q [] = refl
 list_all_both p q (x ∷ xs) = ap (λ b. (p x && q x) && b) (list_all_both p q xs) ∙ and_four (p x) (q x) (list_all p xs) (list_all q xs)
 
+-- each number below n is in the range of n numbers from 0
 pub range_has : (n s : ℕ) → s < n → Contains (range_with_len 0 n) s
 range_has n s below = (s, rw (length-range_with_len 0 n) below, get_or-range_with_len 0 n s s below ∙ (omega arith))
 
@@ -98,20 +103,24 @@ pub all_flat_map : {X Y : Type 0} (P : Y → Type 0) (Q : X → Type 0) (f : X �
 all_flat_map P Q f h [] all = All-nil P
 all_flat_map P Q f h (x ∷ xs) all = All-append P (f x) (flat_map f xs) (h x (all_first Q x xs all)) (all_flat_map P Q f h xs (all_rest Q x xs all))
 
+-- one more number in the range adds its items at the end
 pub range_more : {X : Type 0} (f : ℕ → List X) (k n : ℕ) → flat_map f (range_with_len k (suc n)) ≡ flat_map f (range_with_len k n) ++ f (k + n)
 range_more f k zero = append-nil (f k) ∙ ap f (omega arith)
 range_more f k (suc n) =
     ap (λ xs. f k ++ xs) (range_more f (k + 1) n ∙ ap (λ i. flat_map f (range_with_len (k + 1) n) ++ f i) (omega arith))
     ∙ sym (append_assoc (f k) (flat_map f (range_with_len (k + 1) n)) (f (k + suc n)))
 
+-- all but the first number; [] for []
 abbrev pub tail_of : List ℕ → List ℕ
 tail_of [] = []
 tail_of (x ∷ xs) = xs
 
+-- the first number; 0 for []
 abbrev pub head_of : List ℕ → ℕ
 head_of [] = 0
 head_of (x ∷ xs) = x
 
+-- two equal lists stay equal when their last items are removed
 pub same_start : (xs ys : List ℕ) (s t : ℕ) → xs ++ s ∷ [] ≡ ys ++ t ∷ [] → ys ≡ xs
 same_start [] [] s t h = refl
 same_start [] (y ∷ ys) s t h = absurd (let n = ap length h in let m = length-append ys (t ∷ []) in omega (arith, n, m))
@@ -121,27 +130,31 @@ same_start (x ∷ xs) (y ∷ ys) s t h =
     let first : x ≡ y = ap head_of h in
     ap (λ z. z ∷ ys) (sym first) ∙ ap (λ zs. x ∷ zs) rest
 
+-- zs is xs with s at its end: when its last item is removed, xs is left
 pub taken_off : (xs ys zs : List ℕ) (s : ℕ) (o : Option ℕ) → zs ≡ xs ++ s ∷ [] → MatchOption o ((zs ≡ []) × (ys ≡ [])) (λ last. zs ≡ ys ++ last ∷ []) → ys ≡ xs
 taken_off xs ys zs s None is h = absurd (let n = ap length (sym is ∙ h.0) in let m = length-append xs (s ∷ []) in omega (arith, n, m))
 taken_off xs ys zs s (Some last) is h = same_start xs ys s last (sym is ∙ h)
 
+-- the step of in_filter
 pub filter_at : {X : Type 0} (p : X → Bool) (y x : X) (xs : List X) (b : Bool) → p y ≡ b → p x ≡ true → (y ≡ x) ⊎ Contains (filter p xs) x → Contains (cond b (y ∷ filter p xs) (filter p xs)) x
 filter_at p y x xs true is passes (inl same) = subst (Contains (y ∷ filter p xs)) same (Contains-first y (filter p xs))
 filter_at p y x xs false is passes (inl same) = absurd (false≢true (sym is ∙ (ap p same ∙ passes)))
 filter_at p y x xs true is passes (inr there) = Contains-later y (filter p xs) x there
 filter_at p y x xs false is passes (inr there) = there
 
+-- a member that passes the test is in the filtered list
 pub in_filter : {X : Type 0} (p : X → Bool) (xs : List X) (x : X) → Contains xs x → p x ≡ true → Contains (filter p xs) x
 in_filter p [] x c passes = absurd (Contains-nil x c)
 in_filter p (y ∷ xs) x c passes =
     filter_at p y x xs (p y) refl passes (elim (Contains-cons_cases y xs x c) [ inl same ↦ inl same | inr there ↦ inr (in_filter p xs x there passes) ])
 
--- a member of a joined list is one of some part
+-- y is in f(x) for a member x of the list
 pub record IsOfPart {X Y : Type 0} (f : X → List Y) (xs : List X) (y : Y) : Type 0 where
   pub part : X
   pub listed : Contains xs part
   pub within : Contains (f part) y
 
+-- each member y of a flat_map is in f(x) for some member x of the list
 pub of_part : {X Y : Type 0} (f : X → List Y) (xs : List X) (y : Y) → Contains (flat_map f xs) y → IsOfPart f xs y
 of_part f [] y c = absurd (Contains-nil y c)
 of_part f (x ∷ xs) y c = elim (Contains-append_cases (f x) (flat_map f xs) y c) [
@@ -156,5 +169,6 @@ members_pass test (x ∷ xs) h = and_from _ _ (h x (Contains-first x xs)) (membe
 pub contains_at : {X : Type 0} (xs : List X) (i : ℕ) (x : X) → i < length xs → x ≡ get_or xs i x → Contains xs x
 contains_at xs i x less is = (i, less, sym is)
 
+-- if one item fails a test, not all pass
 pub some_fails : {X : Type 0} (p : X → Bool) (xs : List X) (i : ℕ) (x : X) → i < length xs → x ≡ get_or xs i x → p x ≡ false → list_all p xs ≡ false
 some_fails p xs i x within is fails = and_fails_at (list_all p) p refl (λ y ys. refl) xs i x within (ap p (sym is) ∙ fails)

@@ -23,7 +23,7 @@ Contains-nil q c = absurd (let below = c.1 in omega arith)
 pub All-from_contains : {X : Type 0} (P : X → Type 0) (xs : List X) → ((q : X) → Contains xs q → P q) → All P xs
 All-from_contains P xs h = All-weaker (Contains xs) P h xs (All-contains_itself xs)
 
--- two lists joined, where each member of the first is before all of the second
+-- two ascending lists joined ascend, if each member of the first is before each of the second
 pub sorted_append : {K : Type 0} (R : K → K → Ordering) (xs ys : List K) → IsStrictlySortedBy R xs → IsStrictlySortedBy R ys →
     ((p q : K) → Contains xs p → Contains ys q → R p q ≡ Less) → IsStrictlySortedBy R (xs ++ ys)
 unfolding IsStrictlySortedBy
@@ -34,6 +34,7 @@ sorted_append {K} R (x ∷ xs) ys up up' before =
       sorted_append R xs ys up.1 up' (λ p q c. before p q (Contains-later x xs p c)),
     )
 
+-- an ascending list with one later item at its end
 pub sorted_push : {K : Type 0} (R : K → K → Ordering) (xs : List K) (y : K) → IsStrictlySortedBy R xs → ((p : K) → Contains xs p → R p y ≡ Less) →
     IsStrictlySortedBy R (xs ++ y ∷ [])
 unfolding IsStrictlySortedBy
@@ -44,12 +45,12 @@ sorted_push {K} R xs y up before =
       | inr none ↦ absurd (Contains-nil q none)
     ])
 
--- the head comes before the rest
+-- the head of an ascending list comes before the rest
 pub sorted_first : {K : Type 0} (R : K → K → Ordering) (x : K) (xs : List K) → IsStrictlySortedBy R (x ∷ xs) → (q : K) → Contains xs q → R x q ≡ Less
 unfolding IsStrictlySortedBy
 sorted_first R x xs up q c = All-contains (λ y. R x y ≡ Less) xs q (All-from_recursion (λ y. R x y ≡ Less) xs up.0) c
 
--- a map that keeps the order
+-- a map that keeps the order keeps lists ascending
 pub sorted_map : {K : Type 0} (R : K → K → Ordering) (f : K → K) → ((p q : K) → R (f p) (f q) ≡ R p q) → (xs : List K) → IsStrictlySortedBy R xs →
     IsStrictlySortedBy R (map f xs)
 unfolding IsStrictlySortedBy

@@ -12,6 +12,7 @@ plus_zero x = omega (arith, ints)
 pub zero_plus : (x : ℤ) → (pos 0 +ℤ x) ≡ x
 zero_plus x = omega (arith, ints)
 
+-- a factor of a positive product is positive
 pub part_above : (q g b : ℕ) → q * g ≡ b → 0 < b → 0 < g
 part_above q zero b e p = absurd (omega (arith, e))
 part_above q (suc g) b e p = omega arith
@@ -25,6 +26,7 @@ le_to x y h = grind (arith, ints)
 pub lt_from : (x y : ℤ) → x <ℤ y → int_lt x y ≡ true
 lt_from x y h = grind (arith, ints)
 
+-- ≤ of integers is transitive
 pub along : (x y z : ℤ) → x ≤ℤ y → y ≤ℤ z → x ≤ℤ z
 along x y z p q = omega (arith, ints)
 
@@ -40,6 +42,7 @@ max_left x y = grind (arith, ints)
 pub max_right : (x y : ℤ) → y ≤ℤ int_max x y
 max_right x y = grind (arith, ints)
 
+-- a power of a positive number is positive
 pub power_some : (m n : ℕ) → 0 < m → 0 < m ^ n
 power_some m zero some = let one = pow-zero m in omega (arith, one)
 power_some m (suc n) some =
@@ -53,6 +56,7 @@ cmp_less x y h = sym (int_cmp_is x y Less h)
 pub cmp_equal : (x y : ℤ) → x ≡ y → int_cmp x y ≡ Equal
 cmp_equal x y h = sym (int_cmp_is x y Equal h)
 
+-- subtracting b and then adding it changes nothing
 pub taken_back : (a b : ℤ) → ((a +ℤ (pos 0 -ℤ b)) +ℤ b) ≡ a
 taken_back a b = omega (arith, ints)
 

@@ -4,6 +4,7 @@ use Rattle.std.specs.List.{flat_map}
 use Rattle.dd_written.specs.{Tree.Lexeme, reading.Readers.◌>>=◌, reading.Readers.Reader, reading.Readers.many, reading.Readers.ReadsAll}
 use Rattle.dd_written.specs.lemmas.Options.{bind_some, some_is, chosen}
 
+-- what was read one after the other are items, if each of them is
 pub many_sound : {X : Type 0} (reads : X → List Lexeme → List Lexeme → Type 0) (begins : List Lexeme → Bool) (item : Reader X)
     → ((tokens : List Lexeme) (x : X) (rest : List Lexeme) → begins tokens ≡ true → item tokens ≡ Some (x, rest) → reads x tokens rest)
     → (n : ℕ) (tokens : List Lexeme) (xs : List X) (rest : List Lexeme) → many begins item n tokens ≡ Some (xs, rest) → ReadsAll reads xs tokens rest
@@ -17,7 +18,7 @@ many_sound {X} reads begins item sound (suc n) tokens xs rest e =
       | inr ended ↦ subst (λ (x : List X × List Lexeme). ReadsAll reads x.0 tokens x.1) (some_is _ _ ended.1) refl
     ]
 
--- Items are read again if each stands where one begins. If there are fewer than allowed, none may begin after them.
+-- Items are read from their text if `begins` holds before each. If there are fewer than allowed, it must not hold after them.
 pub many_again : {X : Type 0} (reads : X → List Lexeme → List Lexeme → Type 0) (begins : List Lexeme → Bool) (item : Reader X)
     → ((x : X) (tokens rest : List Lexeme) → reads x tokens rest → (begins tokens ≡ true) × (item tokens ≡ Some (x, rest)))
     → (n : ℕ) (xs : List X) (tokens rest : List Lexeme) → length xs ≤ n → (length xs < n → begins rest ≡ false) → ReadsAll reads xs tokens rest → many begins item n tokens ≡ Some (xs, rest)
@@ -35,7 +36,7 @@ pub few_items : {X : Type 0} (reads : X → List Lexeme → List Lexeme → Type
 few_items reads takes [] tokens rest all = omega arith
 few_items reads takes (x ∷ xs) tokens rest all = omega (arith, takes x tokens all.0 all.1, few_items reads takes xs all.0 rest all.2)
 
--- x is read as its text
+-- x is read from its text
 abbrev pub ByText : {X : Type 0} → (X → List Lexeme) → X → List Lexeme → List Lexeme → Type 0
 ByText text x tokens rest = tokens ≡ text x ++ rest
 

@@ -8,11 +8,12 @@ pub bind_some : {A B : Type 0} (r : Option A) (f : A → Option B) (y : B) → (
 bind_some (Some x) f y e = (x, refl, e)
 bind_some None f y e = absurd cc
 
--- what holds after one step and then after the next
+-- if P holds after the first step, and Q after the second wherever P held, then Q holds after both
 pub followed : {A B : Type 0} (r : Option A) (f : A → Option B) (P : A → Type 0) (Q : B → Type 0) → IfSome r P → ((x : A) → P x → IfSome (f x) Q) → IfSome (r >>= f) Q
 followed (Some x) f P Q h step = step x h
 followed None f P Q h step = tt
 
+-- which branch a choice took
 pub chosen : {A : Type 0} (b : Bool) (x y z : A) → cond b x y ≡ z → ((b ≡ true) × (x ≡ z)) ⊎ ((b ≡ false) × (y ≡ z))
 chosen true x y z e = inl (refl, e)
 chosen false x y z e = inr (refl, e)

@@ -1,11 +1,11 @@
--- Reading formulas.
+-- Readers of formulas. Those of chains take the reader of the parts.
 use Rattle.std.specs.Prelude.{ℕ, zero, suc, ◌-◌, drop, List, [], ◌∷◌, length, Bool, true, false, nat_le, nat_lt, if◌then◌else◌, Some, None}
 use Rattle.dd_written.specs.Tree.{Mark, Lexeme, Quantifier, Join, Formula, roll-Formula, Formula-F}
 use Rattle.dd_written.specs.Formulas.{join_rank, tree_depth}
 use Rattle.dd_written.specs.reading.Readers.{◌>>=◌, Reader, many, with_front}
-use Rattle.dd_written.specs.reading.Atoms.{leaf_at, quantifier_at}
+use Rattle.dd_written.specs.reading.Atoms.{atom_at, quantifier_at}
 
--- whether the sign of a chain comes next
+-- whether this sign comes next
 abbrev pub begins : Join → List Lexeme → Bool
 begins Join.And (Lexeme.Mark Mark.And ∷ tokens) = true
 begins Join.Or (Lexeme.Mark Mark.Or ∷ tokens) = true
@@ -13,7 +13,7 @@ begins Join.Implies (Lexeme.Mark Mark.Arrow ∷ tokens) = true
 begins Join.Iff (Lexeme.Mark Mark.BothWays ∷ tokens) = true
 begins j tokens = false
 
--- at most n more parts, each after the sign
+-- as many parts as follow, each after the sign, but at most n
 abbrev pub more_at : Join → Reader Formula → ℕ → Reader (List Formula)
 more_at j part n tokens = many (begins j) (λ ts. part (drop 1 ts)) n tokens
 
@@ -23,14 +23,14 @@ chain_at j part tokens = do
   f ← part tokens
   if begins j f.1 then (with_front (f.0 ∷ []) (more_at j part (length f.1) f.1) >>= λ m. Some (roll-Formula (Formula-F.Chain j m.0), m.1)) else Some f
 
--- the sign of the loosest chains that may stand at a precedence
+-- the sign of the loosest chain that may stand at a place
 abbrev pub join_at : ℕ → Join
 join_at (suc zero) = Join.And
 join_at (suc (suc zero)) = Join.Or
 join_at (suc (suc (suc zero))) = Join.Implies
 join_at place = Join.Iff
 
--- a formula that may stand at a precedence, if `unary` reads those that bind tightest
+-- a formula that may stand at a place, where `unary` reads those that aren't chains
 abbrev pub level_at : Reader Formula → ℕ → Reader Formula
 level_at unary zero = unary
 level_at unary (suc place) = chain_at (join_at (suc place)) (level_at unary place)
@@ -57,11 +57,11 @@ nested_at unary (Lexeme.Mark Mark.Exists ∷ tokens) = quantified_at unary Quant
 nested_at unary (Lexeme.Mark Mark.Open ∷ tokens) = do
   f ← level_at unary 4 tokens
   group_end f.0 f.1
-nested_at unary tokens = leaf_at tokens
+nested_at unary tokens = atom_at tokens
 
--- a formula that binds tightest, with `!`, quantifiers and parentheses nested at most so deep
+-- a formula that isn't a chain, with `!`, quantifiers and parentheses nested at most this deep
 abbrev pub unary_at : ℕ → Reader Formula
-unary_at zero tokens = leaf_at tokens
+unary_at zero tokens = atom_at tokens
 unary_at (suc n) tokens = nested_at (unary_at n) tokens
 
 -- a formula of depth at most 64
@@ -70,7 +70,7 @@ formula_at tokens = do
   f ← level_at (unary_at 64) 4 tokens
   if nat_le (tree_depth f.0) 64 then Some f else None
 
--- tokens that can't belong to a formula before them, at this precedence
+-- whether a formula at this place ends before these tokens: they can't continue it
 abbrev pub ends : ℕ → List Lexeme → Bool
 ends place (Lexeme.Mark Mark.Dot ∷ tokens) = false
 ends place (Lexeme.Mark Mark.And ∷ tokens) = nat_lt place 1

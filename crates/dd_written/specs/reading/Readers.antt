@@ -1,8 +1,8 @@
--- Reading from left to right, with one token of lookahead.
+-- Readers: what they read, and how one reads after another.
 use Rattle.std.specs.Prelude.{◌≡◌, ℕ, zero, suc, List, [], ◌∷◌, ◌++◌, Bool, Option, Some, None, Result, Ok, Err, if◌then◌else◌}
 use Rattle.dd_written.specs.Tree.{ReadFault, Lexeme}
 
--- What was read from the front, and the rest; `None` if nothing of this kind stands there.
+-- Takes an item from the front of the tokens, and gives it with the tokens after it. `None` if the tokens begin with no such item.
 abbrev pub Reader : Type 0 → Type 0
 Reader X = List Lexeme → Option (X × List Lexeme)
 
@@ -11,25 +11,27 @@ abbrev pub ◌>>=◌ : {A B : Type 0} → Option A → (A → Option B) → Opti
 (Some x) >>= f = f x
 None >>= f = None
 
--- What a function returned, seen through `view`, is what the reader gives, unless memory ran out.
+-- a function may fail with this fault: memory ran out, or the reader reads nothing
 abbrev pub Fails : {Y : Type 0} → ReadFault → Option Y → Type 0
 Fails ReadFault.Memory read = Unit {0}
 Fails ReadFault.Syntax read = read ≡ None
 
+-- What a function returned, seen through `view`, is what the reader reads, unless memory ran out.
 abbrev pub Gives : {X Y : Type 0} → (X → Y) → Result X ReadFault → Option Y → Type 0
 Gives view (Ok x) read = read ≡ Some (view x)
 Gives view (Err e) read = Fails e read
 
--- at most n items, each where `begins` holds
+-- items for as long as `begins` holds of the tokens left, but at most n
 abbrev pub many : {X : Type 0} → (List Lexeme → Bool) → Reader X → ℕ → Reader (List X)
 many begins item zero tokens = Some ([], tokens)
 many begins item (suc n) tokens = if begins tokens then (item tokens >>= λ x. many begins item n x.1 >>= λ m. Some (x.0 ∷ m.0, m.1)) else Some ([], tokens)
 
--- what was read before, followed by what is read
+-- what was read before, followed by what is read now
 abbrev pub with_front : {X : Type 0} → List X → Option (List X × List Lexeme) → Option (List X × List Lexeme)
 with_front front read = read >>= λ x. Some (front ++ x.0, x.1)
 
--- the items are read one after the other, each from some tokens to the tokens after it
+-- The items are read one after the other, from the first tokens to the last ones. `reads` says that an item is read from some
+-- tokens, and which ones are left.
 abbrev pub ReadsAll : {X : Type 0} → (X → List Lexeme → List Lexeme → Type 0) → List X → List Lexeme → List Lexeme → Type 0
 ReadsAll reads [] tokens rest = tokens ≡ rest
 ReadsAll reads (x ∷ xs) tokens rest = (between : List Lexeme) × reads x tokens between × ReadsAll reads xs between rest

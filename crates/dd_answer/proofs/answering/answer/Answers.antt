@@ -1,4 +1,4 @@
-use Rattle.std.proofs.lemmas.Result.{IfOk-weaker, on_ok_weaker}
+use Rattle.std.proofs.lemmas.Result.{IfOk-weaker, on_ok_weaker, err_from_is_err_and}
 use Rattle.dd_respond.specs.Right.{IsResponse}
 use Rattle.dd_answer.specs.Right.{IsAnswerTo}
 use Rattle.dd_answer.proofs.QueryLaws.{right_for, engages_for}
@@ -23,3 +23,9 @@ returns-clause-engines g c = record {
       (engages_for c.args.script.now c.args.query.now c.question-question.result.question c.question-question.ensures.asks.is _ _)
       c.respond.ensures.engines.asked;
 }
+
+-- memory ran out before an engine was asked
+pub returns-in_err-pairs-clause-engines : goal.returns-in_err-pairs-clause-engines
+returns-in_err-pairs-clause-engines g c =
+    let p = err_from_is_err_and c.from_residual.result c.from_residual.ensures.1 in
+    record { kept = c.kept_is_reflexive.ensures _; asked = rw p.1 tt }

@@ -13,8 +13,13 @@ query_certified-requires c =
     item_stands c.queries-queries.result.now c.args.script.now.queries (c.args.query - 1) c.index-queries-number.result c.queries-queries.ensures.value
     c.index-queries-number.is (index_within c.args.script.now c.args.query c.requires)
 
-pub question-question-requires : goal.question-question-requires
-question-question-requires c =
+pub pairs-requires : goal.pairs-requires
+pairs-requires c =
+    item_stands c.queries-queries.result.now c.args.script.now.queries (c.args.query - 1) c.index-queries-number.result c.queries-queries.ensures.value
+    c.index-queries-number.is (index_within c.args.script.now c.args.query c.requires)
+
+pub question-question-requires-clause-query : goal.question-question-requires-clause-query
+question-question-requires-clause-query c =
     item_stands c.queries-queries.result.now c.args.script.now.queries (c.args.query - 1) c.index-queries-number.result c.queries-queries.ensures.value
     c.index-queries-number.is (index_within c.args.script.now c.args.query c.requires)
 
@@ -34,8 +39,8 @@ returns-then-accepted c =
       claim = λ _. claim_at s n q is a (c.query_certified.ensures a) (accepted s n q is a c.in_ok-accepted.accepted told c.if-accepted.true);
     }
 
-pub returns-else-accepted : goal.returns-else-accepted
-returns-else-accepted c =
+pub returns : goal.returns
+returns c =
     let s = c.args.script.now in
     let n = c.args.query in
     let a = c.args.answer.now in

@@ -15,7 +15,7 @@ returns-clause-certified c =
     let xs = c.as_slice.result.now in
     let ys = c.as_slice-2.result.now in
     let f = c.den-denominator.ensures.fraction in
-    let lowest : IsLowest s.value = record { positive = f.above; alone = f.alone } in
+    let lowest : IsLowest s.value = record { positive = f.above; coprime = f.coprime } in
     let best = subst (λ (p : LinearProgram). IsBest p s.value s.columns s.duals) c.in_ok-program.ensures c.in_ok-solved.ensures.best in
     IfOk-weaker c.bound_of.result (IsPrintedAs s.value xs ys) (IsCertifiedBound rows n)
     (λ b p. certified rows n s.value s.columns s.duals b lowest c.requires.wide best

@@ -3,7 +3,7 @@ use Rattle.std.proofs.lemmas.{List.length-set, Option.slice_get-get_or}
 use Rattle.dd_clause.specs.declared.clause.Literal.{Literal}
 use Rattle.dd_engines.specs.Walks.{NoneBefore, values_after, made_true}
 use Rattle.dd_engines.proofs.Walking.{FoundClause, found_clause, at_place, rem_within, none_more, none_at_end, reached_more, first_at}
-use Rattle.dd_engines.proofs.Cycling.{kept_reached, none_ever, turn_kept}
+use Rattle.dd_engines.proofs.Cycling.{kept_reached, none_ever, period_kept}
 use Rattle.dd_engines.proofs.walk.first_found.Goals as goal
 
 found : (c : goal.After-flip-arg-1) → FoundClause c.args.cnf.now.clauses c.first.new.self.values.items c.literals-literals.result.now
@@ -53,9 +53,9 @@ loop-k-preserved c =
       reached = reached_more c.args.cnf.now values c.loop-k.k literals literal started first.first at ∙ ap (λ (v : List Bool). Some v) (sym made);
       landmark = rw (c.flip.ensures.landmark, c.flip.ensures.flips)
           (kept_reached c.args.cnf.now c.first.new.self.landmark c.renew.new.self values c.loop-k.k (rw c.as_slice.ensures.value at c.renew.ensures.kept) (rw c.first.ensures.landmark c.loop-k.invariant.landmark) started);
-      turn = rw c.flip.ensures.flips
-          (turn_kept c.args.cnf.now c.first.new.self.landmark c.renew.new.self values c.loop-k.k c.loop-k.turn c.turn_with-turn.result values literals
-          (rw c.first.ensures.landmark c.loop-k.invariant.turn) (rw c.as_slice.ensures.value at c.renew.ensures.kept) c.turn_with-turn.ensures started first.first);
+      period = rw c.flip.ensures.flips
+          (period_kept c.args.cnf.now c.first.new.self.landmark c.renew.new.self values c.loop-k.k c.loop-k.period c.period_with-period.result values literals
+          (rw c.first.ensures.landmark c.loop-k.invariant.period) (rw c.as_slice.ensures.value at c.renew.ensures.kept) c.period_with-period.ensures started first.first);
       counted = c.flip.ensures.counted;
       none_before = none_more c.args.cnf.now values c.loop-k.k literals started first.first c.loop-k.invariant.none_before;
     }
@@ -65,7 +65,7 @@ returns-then-is_back c =
     let values = c.first.new.self.values.items in
     let same : values ≡ c.loop-k.walk.values.items = c.first.ensures.values in
     let started : values_after c.args.cnf.now c.loop-k.k ≡ Some values = c.loop-k.invariant.reached ∙ ap (λ (v : List Bool). Some v) (sym same) in
-    none_ever c.args.cnf.now c.first.new.self.landmark values c.loop-k.turn c.loop-k.k (rw c.first.ensures.landmark c.loop-k.invariant.turn) (c.if-is_back.ensures refl)
+    none_ever c.args.cnf.now c.first.new.self.landmark values c.loop-k.period c.loop-k.k (rw c.first.ensures.landmark c.loop-k.invariant.period) (c.if-is_back.ensures refl)
     (rw (c.first.ensures.landmark, c.first.ensures.values) c.loop-k.invariant.counted) (rw c.first.ensures.landmark c.loop-k.invariant.landmark) started c.loop-k.invariant.none_before (c.args.flips + 1)
 
 pub returns-in-Some-first : goal.returns-in-Some-first

@@ -1,5 +1,5 @@
 use Rattle.std.proofs.Common.{◌≡◌, Some, length}
-use Rattle.dd_engines.specs.{Walks.values_after, Walks.NoneBefore, walking.Walking.Walks, walking.Cycles.IsCounted, walking.Cycles.IsTurn}
+use Rattle.dd_engines.specs.{Walks.values_after, Walks.NoneBefore, walking.Walking.Walks, walking.Cycles.IsCounted, walking.Cycles.IsPeriod}
 use Rattle.std.specs.Option.{IfSome}
 use Rattle.dd_engines.proofs.walk.first_found.Given as goal
 
@@ -9,7 +9,7 @@ invariant-loop-k l = record {
   long : length l.walk.values.items ≡ l.cnf.variables;
   reached : values_after l.cnf l.k ≡ Some l.walk.values.items;
   landmark : values_after l.cnf l.walk.landmark.flips ≡ Some l.walk.landmark.values.items;
-  turn : IfSome l.turn (IsTurn l.cnf l.walk.landmark.flips l.k);
+  period : IfSome l.period (IsPeriod l.cnf l.walk.landmark.flips l.k);
   counted : IsCounted l.walk.landmark l.walk.values.items;
   none_before : NoneBefore l.cnf l.k;
 }

@@ -4,7 +4,7 @@ use Rattle.dd_lattice.specs.{Order.cell_cmp, declared.position.Cell.Cell}
 use Rattle.dd_pattern.specs.Filling.{Filled, filled}
 use Rattle.dd_topology.specs.lemmas.OrderLaws.{sorted-in_order}
 use Rattle.dd_formula.specs.LocalRule.{cells_at, reads_at}
-use Rattle.dd_forbidden.specs.{listing.Extensions.extensions, listing.Extensions.AreOf, lemmas.Kept.says_kept, lemmas.Kept.reads_of_nodes}
+use Rattle.dd_forbidden.specs.{listing.Extensions.extensions, listing.Extensions.AreOf, lemmas.SayingLaws.says_rule, lemmas.SayingLaws.reads_of_nodes}
 use Rattle.dd_forbidden.proofs.ExtensionLaws.{breaking_fillings}
 use Rattle.dd_forbidden.proofs.breaking.forbidden.Goals as goal
 
@@ -15,7 +15,7 @@ pub extend-requires-clause-formula : goal.extend-requires-clause-formula
 extend-requires-clause-formula c =
     let ranked : c.new-ranks.result.cells.now ≡ cells_at c.args.rule.now c.args.node =
     c.new-ranks.ensures ∙ c.reads-cells.ensures.value in
-    says_kept c.args.rule.now c.args.node c.in_ok-formula.formula c.expansion-expansion.result.now c.new-ranks.result.cells.now c.expansion-expansion.ensures.truth ranked
+    says_rule c.args.rule.now c.args.node c.in_ok-formula.formula c.expansion-expansion.result.now c.new-ranks.result.cells.now c.expansion-expansion.ensures.truth ranked
     c.in_ok-formula.ensures.truth
 
 pub extend-requires-clause-rest : goal.extend-requires-clause-rest

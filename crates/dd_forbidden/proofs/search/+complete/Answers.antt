@@ -2,7 +2,7 @@ use Rattle.std.proofs.Common.{◌≡◌, ◌++◌, ◌∷◌, [], ℕ, List, tru
 use Rattle.std.proofs.lemmas.List.{append-nil, length-append}
 use Rattle.dd_pattern.specs.Filling.{filled}
 use Rattle.dd_formula.specs.LocalRule.{rule_allows}
-use Rattle.dd_forbidden.specs.{listing.Extensions.completions, listing.Extensions.AreOf, lemmas.Kept.rest_of}
+use Rattle.dd_forbidden.specs.{listing.Extensions.completions, listing.Extensions.AreOf, lemmas.SayingLaws.rest_of}
 use Rattle.dd_forbidden.proofs.Steps.{one_more}
 use Rattle.dd_forbidden.proofs.search.+complete.Goals.{then-allows+in_ok-push+in_ok-complete, else-allows}
 use Rattle.dd_values.specs.lemmas.Lists.{taken_off}

@@ -3,7 +3,7 @@ use Rattle.std.proofs.lemmas.List.{append-nil, length-append, Elements.All-push}
 use Rattle.dd_pattern.specs.Filling.{filled}
 use Rattle.dd_formula.specs.LocalRule.{rule_allows, cells_at}
 use Rattle.dd_forbidden.specs.listing.Extensions.{completions, extensions, AreSymbols, AreOf}
-use Rattle.dd_forbidden.specs.lemmas.Kept.{rest_of}
+use Rattle.dd_forbidden.specs.lemmas.SayingLaws.{rest_of}
 use Rattle.dd_forbidden.proofs.{SettledLaws.all_broken, SettledLaws.none_broken, SettledLaws.settled_so, Steps.one_more}
 use Rattle.dd_forbidden.proofs.search.+extend.Goals.{then-allows+in_ok-push+in_ok-extend, else-allows}
 use Rattle.dd_values.specs.lemmas.Lists.{taken_off}

@@ -2,7 +2,7 @@ use Rattle.std.proofs.{Common.ap, Common.◌∙◌, Common.sym, Common.rules, le
 use Rattle.std.specs.Int.{w128}
 use mir.Val.{SFits}
 use Rattle.dd_fraction.specs.Exact.{lowest}
-use Rattle.dd_fraction.specs.lemmas.Results.{IsFraction-whole, lowest_alone, lowest_whole, lowest_made, lowest_result}
+use Rattle.dd_fraction.specs.lemmas.Results.{IsFraction-whole, lowest_coprime, lowest_whole, lowest_made, lowest_result}
 use Rattle.dd_fraction.proofs.fraction.reduced.Goals as goal
 
 pub in_lowest_terms-requires : goal.in_lowest_terms-requires
@@ -21,7 +21,7 @@ returns-then-divisor-eq1 c =
     let num_fits : SFits w128 c.args.num = c.ranges.num in
     let divisor = simp to_z-of_z at c.common_divisor-divisor.ensures.value in
     let made = simp to_z-of_z at c.in_lowest_terms-then-divisor-eq1.ensures in
-    made ∙ sym (lowest_alone c.args.num c.args.den c.requires.above (sym divisor ∙ c.if-divisor-eq1.true))
+    made ∙ sym (lowest_coprime c.args.num c.args.den c.requires.above (sym divisor ∙ c.if-divisor-eq1.true))
 
 pub in_lowest_terms-requires-2 : goal.in_lowest_terms-requires-2
 in_lowest_terms-requires-2 c =

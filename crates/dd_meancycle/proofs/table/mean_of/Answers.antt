@@ -1,16 +1,16 @@
 use Rattle.std.proofs.Common.{◌≡◌, ℕ, ◌+◌, ◌<◌, List, length, arith, sym, ◌∙◌, subst, None}
 use Rattle.dd_meancycle.specs.table.Levels.{AreRows, level_weight_at}
-use Rattle.dd_meancycle.proofs.Assembly.{reads, least_mean_is, no_cycle_is}
+use Rattle.dd_meancycle.proofs.Assembly.{tabulated, least_mean_is, no_cycle_is}
 use Rattle.dd_meancycle.proofs.table.mean_of.Goals as goal
 
-pub gentlest-requires-clause-reads : goal.gentlest-requires-clause-reads
-gentlest-requires-clause-reads c = λ v lt. reads c.args.edges.now c.args.states v c.args.levels.now c.requires.rows c.requires.len lt
+pub gentlest-requires-clause-tabulated : goal.gentlest-requires-clause-tabulated
+gentlest-requires-clause-tabulated c = λ v lt. tabulated c.args.edges.now c.args.states v c.args.levels.now c.requires.rows c.requires.len lt
 
-pub ranks-requires-clause-reads : goal.ranks-requires-clause-reads
-ranks-requires-clause-reads c = λ v lt. reads c.args.edges.now c.args.states v c.args.levels.now c.requires.rows c.requires.len lt
+pub ranks-requires-clause-tabulated : goal.ranks-requires-clause-tabulated
+ranks-requires-clause-tabulated c = λ v lt. tabulated c.args.edges.now c.args.states v c.args.levels.now c.requires.rows c.requires.len lt
 
-pub potentials-requires-clause-reads : goal.potentials-requires-clause-reads
-potentials-requires-clause-reads c = λ v lt. reads c.args.edges.now c.args.states v c.args.levels.now c.requires.rows c.requires.len lt
+pub potentials-requires-clause-tabulated : goal.potentials-requires-clause-tabulated
+potentials-requires-clause-tabulated c = λ v lt. tabulated c.args.edges.now c.args.states v c.args.levels.now c.requires.rows c.requires.len lt
 
 pub returns-in_default : goal.returns-in_default
 returns-in_default c = (

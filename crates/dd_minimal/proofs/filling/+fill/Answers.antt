@@ -2,7 +2,7 @@ use Rattle.std.proofs.Common.{◌≡◌, ◌<◌, ◌++◌, ◌∷◌, [], ℕ, 
 use Rattle.std.proofs.lemmas.List.Elements.{All-push}
 use Rattle.std.specs.List.{flat_map, range_with_len}
 use Rattle.dd_formula.specs.LocalRule.{rule_allows}
-use Rattle.dd_forbidden.specs.{listing.Extensions.AreSymbols, listing.Extensions.AreOf, lemmas.Kept.rest_of}
+use Rattle.dd_forbidden.specs.{listing.Extensions.AreSymbols, listing.Extensions.AreOf, lemmas.SayingLaws.rest_of}
 use Rattle.dd_minimal.specs.{declared.outcome.Outcome.Outcome, declared.outcome.Outcome.TheVariants.Barred, Minimal.words}
 use Rattle.dd_minimal.specs.finding.Outcomes.{outcome_behind, known_outcome}
 use Rattle.dd_minimal.proofs.FillSteps.{leaf, all_settled, one_more, all_parts, part, part_allowed, part_barred}

@@ -3,7 +3,7 @@ use Rattle.std.specs.List.Sorted.{IsStrictlySortedBy}
 use Rattle.dd_lattice.specs.{Order.cell_cmp, declared.position.Cell.Cell}
 use Rattle.dd_topology.specs.lemmas.OrderLaws.{sorted-in_order}
 use Rattle.dd_formula.specs.LocalRule.{cells_at, reads_at}
-use Rattle.dd_forbidden.specs.{listing.Extensions.AreOf, lemmas.Kept.says_kept, lemmas.Kept.reads_of_nodes}
+use Rattle.dd_forbidden.specs.{listing.Extensions.AreOf, lemmas.SayingLaws.says_rule, lemmas.SayingLaws.reads_of_nodes}
 use Rattle.dd_minimal.specs.{declared.outcome.Outcome.Outcome, Minimal.words, finding.Outcomes.outcome_behind}
 use Rattle.dd_minimal.proofs.filling.outcomes.Goals as goal
 
@@ -14,7 +14,7 @@ pub fill-requires-clause-formula : goal.fill-requires-clause-formula
 fill-requires-clause-formula c =
     let ranked : c.new-ranks.result.cells.now ≡ cells_at c.args.rule.now c.args.node =
     c.new-ranks.ensures ∙ c.reads-cells.ensures.value in
-    says_kept c.args.rule.now c.args.node c.in_ok-formula.formula c.expansion-expansion.result.now c.new-ranks.result.cells.now c.expansion-expansion.ensures.truth ranked
+    says_rule c.args.rule.now c.args.node c.in_ok-formula.formula c.expansion-expansion.result.now c.new-ranks.result.cells.now c.expansion-expansion.ensures.truth ranked
     c.in_ok-formula.ensures.truth
 
 pub fill-requires-clause-rest : goal.fill-requires-clause-rest

@@ -8,7 +8,7 @@ loop-numbers-smaller c =
     let entry = line_entry c.args.least c.args.most in
     let is : entry (length c.loop-numbers.numbers) c.loop-numbers.rest.now ≡ Ok (item c.in_ok-number.number, c.in_ok-number.after.now) =
     rw (← c.len.ensures) (rw c.if-is_last.false at c.in_ok-number.ensures) in
-    (numbers_unroll c.args.least c.args.most c.requires.some c.requires.room).shorter (length c.loop-numbers.numbers) c.loop-numbers.rest.now c.in_ok-number.number c.in_ok-number.after.now is
+    (numbers_unroll c.args.least c.args.most c.requires.some c.requires.allowed).shorter (length c.loop-numbers.numbers) c.loop-numbers.rest.now c.in_ok-number.number c.in_ok-number.after.now is
 
 pub loop-numbers-preserved : goal.loop-numbers-preserved
 loop-numbers-preserved c =
@@ -16,5 +16,5 @@ loop-numbers-preserved c =
     let is : entry (length c.loop-numbers.numbers) c.loop-numbers.rest.now ≡ Ok (item c.in_ok-number.number, c.in_ok-number.after.now) =
     rw (← c.len.ensures) (rw c.if-is_last.false at c.in_ok-number.ensures) in
     let pushed : c.push.new.self ≡ c.loop-numbers.numbers ++ c.in_ok-number.number ∷ [] = c.in_ok-push.ensures.ok in
-    rw pushed (goes_on entry (numbers_unroll c.args.least c.args.most c.requires.some c.requires.room) c.loop-numbers.numbers c.loop-numbers.rest.now c.in_ok-number.number c.in_ok-number.after.now
+    rw pushed (goes_on entry (numbers_unroll c.args.least c.args.most c.requires.some c.requires.allowed) c.loop-numbers.numbers c.loop-numbers.rest.now c.in_ok-number.number c.in_ok-number.after.now
     (entries_at entry 0 c.args.bytes.now) is c.loop-numbers.invariant)

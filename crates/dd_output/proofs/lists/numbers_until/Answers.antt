@@ -11,6 +11,6 @@ loop-entry-smaller c =
 pub loop-entry-preserved : goal.loop-entry-preserved
 loop-entry-preserved c =
     let is : number_entry c.args.end c.loop-entry.rest.now ≡ Ok (item c.in-Some.number, c.in_ok-entry.after.now) = rw c.in-Some.is at c.in_ok-entry.ensures in
-    let pushed : c.push.new.self.items ≡ c.loop-entry.room.items ++ c.in-Some.number ∷ [] = c.in_ok-push-in-Some.ensures.items in
-    rw pushed (goes_on (λ _. number_entry c.args.end) (hint_unrolls c.args.end) c.loop-entry.room.items c.loop-entry.rest.now c.in-Some.number c.in_ok-entry.after.now
+    let pushed : c.push.new.self.items ≡ c.loop-entry.buffer.items ++ c.in-Some.number ∷ [] = c.in_ok-push-in-Some.ensures.items in
+    rw pushed (goes_on (λ _. number_entry c.args.end) (hint_unrolls c.args.end) c.loop-entry.buffer.items c.loop-entry.rest.now c.in-Some.number c.in_ok-entry.after.now
     (entries_at (λ _. number_entry c.args.end) 0 c.args.bytes.now) is c.loop-entry.invariant)

@@ -4,7 +4,7 @@ use Rattle.dd_output.proofs.Loops.{with_front}
 use Rattle.dd_output.proofs.lists.numbers_until.Given as goal
 
 abbrev pub invariant-loop-entry : goal.invariant-loop-entry
-invariant-loop-entry l = with_front l.room.items (entries_at (λ _. number_entry l.end) (length l.room.items) l.rest) ≡ entries_at (λ _. number_entry l.end) 0 l.bytes
+invariant-loop-entry l = with_front l.buffer.items (entries_at (λ _. number_entry l.end) (length l.buffer.items) l.rest) ≡ entries_at (λ _. number_entry l.end) 0 l.bytes
 
 abbrev pub decreases-loop-entry : goal.decreases-loop-entry
 decreases-loop-entry l = length l.rest

@@ -1,5 +1,5 @@
 use Rattle.std.proofs.Common.{ℕ, arith, rules, length-take}
-use Rattle.dd_outside.specs.lemmas.Told.{gave}
+use Rattle.dd_outside.specs.lemmas.ByteLaws.{gave}
 use Rattle.dd_outside.proofs.memory.give.Goals as goal
 
 pub returns-clause-bytes : goal.returns-clause-bytes

@@ -1,5 +1,5 @@
 use Rattle.std.proofs.Common.{arith}
-use Rattle.dd_outside.specs.lemmas.Told.{wrote_more, wrote_front}
+use Rattle.dd_outside.specs.lemmas.ByteLaws.{wrote_more, wrote_front}
 use Rattle.dd_outside.proofs.sink.write_whole.Goals as goal
 
 pub loop-at-preserved : goal.loop-at-preserved

@@ -1,6 +1,6 @@
 use Rattle.std.proofs.Common.{map, take}
-use Rattle.dd_pairs.specs.Made.{part_of, ArePairs}
+use Rattle.dd_pairs.specs.Made.{comparison_of, ArePairs}
 use Rattle.dd_pairs.proofs.pairs.made.Given as goal
 
-abbrev pub invariant-loop-part : goal.invariant-loop-part
-invariant-loop-part l = ArePairs l.known (map part_of (take l.part-index l.parts)) l.pairs
+abbrev pub invariant-loop-comparison : goal.invariant-loop-comparison
+invariant-loop-comparison l = ArePairs l.known (map comparison_of (take l.comparison-index l.comparisons)) l.pairs

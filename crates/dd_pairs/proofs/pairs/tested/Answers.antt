@@ -1,5 +1,5 @@
 use Rattle.std.proofs.lemmas.Result.{err_from_is_err_and}
-use Rattle.dd_pairs.specs.Made.{part_of}
+use Rattle.dd_pairs.specs.Made.{comparison_of}
 use Rattle.dd_pairs.proofs.{Making.refuses_front, Testing.question_formed}
 use Rattle.dd_pairs.proofs.pairs.tested.Goals as goal
 
@@ -11,4 +11,4 @@ returns-in_err-pair c =
 pub excess-requires-clause-formed : goal.excess-requires-clause-formed
 excess-requires-clause-formed c =
     let made = c.in_ok-pair.ensures in
-    question_formed c.args.known.now.setting (part_of c.args.part) c.in_ok-pair.pair c.premise.result.now _ made.is c.premise.ensures c.question-question.ensures c.requires.sound.setting c.requires.part made.formed
+    question_formed c.args.known.now.setting (comparison_of c.args.comparison) c.in_ok-pair.pair c.premise.result.now _ made.is c.premise.ensures c.question-question.ensures c.requires.sound.setting c.requires.comparison made.formed

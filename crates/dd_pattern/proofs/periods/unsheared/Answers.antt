@@ -11,12 +11,12 @@ product_small k q near small = rw (unsigned_abs-mul k (pos q)) (mul-le-mul near 
 pub returns : goal.returns
 returns c =
     let x = c.args.x in
-    let k = c.args.turns in
+    let k = c.args.times in
     let q = c.args.shear in
     let near : IsCoordinateInRange x = c.requires.near in
-    let small = product_small k q c.requires.turns c.requires.small in
+    let small = product_small k q c.requires.times c.requires.small in
     let own_x : to_z w64 (of_z w64 (to_z w32 (of_z w32 x))) ≡ x = omega (arith, ints, near.0, near.1) in
-    let own_k : to_z w64 (of_z w64 (to_z w32 (of_z w32 k))) ≡ k = omega (arith, ints, c.requires.turns) in
+    let own_k : to_z w64 (of_z w64 (to_z w32 (of_z w32 k))) ≡ k = omega (arith, ints, c.requires.times) in
     let own_q : to_z w64 q ≡ pos q = omega (arith, ints, c.requires.small) in
     let own_product : to_z w64 (of_z w64 (k *ℤ pos q)) ≡ k *ℤ pos q = to_z-of_z w64 _ (fits_signed_from_abs w64 _ (omega (arith, small))) in
     let own : to_z w64 (of_z w64 (x -ℤ k *ℤ pos q)) ≡ x -ℤ k *ℤ pos q = to_z-of_z w64 _ (fits_signed_from_abs w64 _ (omega (arith, ints, small, near.0, near.1))) in

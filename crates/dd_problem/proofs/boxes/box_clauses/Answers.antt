@@ -49,8 +49,8 @@ problem-requires c =
       signals = signals_there x n cells told inputs second;
       all = subst (HasAllSymbols x.symbols) (sym inputs) (numbered_full x.symbols (box_cells x n) (range_with_len 0 (length (box_cells x n))));
       goal = c.requires.goal;
-      wired = goal_wired x g n cells told kept c.told_goal.ensures c.requires.reaches c.requires.few inputs second;
-      few = variables_few x g n cells told kept c.told_goal.ensures c.requires.reaches c.requires.few inputs second;
+      wired = goal_wired x g n cells told kept c.goal_facts.ensures c.requires.reaches c.requires.few inputs second;
+      few = variables_few x g n cells told kept c.goal_facts.ensures c.requires.reaches c.requires.few inputs second;
     }
 
 pub returns : goal.returns
@@ -67,9 +67,9 @@ returns c =
     let told = c.in_ok-inputs.inputs in
     let inputs = inputs_are x n c.symbols-symbols.result c.deref.result.now told c.in_ok-inputs.ensures c.symbols-symbols.ensures.value first in
     record {
-      exact = exactly x g n cells told kept c.told_goal.ensures c.requires.reaches c.requires.few inputs second c.problem.result c.problem.ensures;
-      shows = showing x g n cells told kept c.told_goal.ensures c.requires.reaches c.requires.few inputs second c.problem.result c.problem.ensures;
-      decides = deciding x g n cells told kept c.told_goal.ensures c.requires.reaches c.requires.few inputs second c.problem.result c.problem.ensures;
+      exact = exactly x g n cells told kept c.goal_facts.ensures c.requires.reaches c.requires.few inputs second c.problem.result c.problem.ensures;
+      shows = showing x g n cells told kept c.goal_facts.ensures c.requires.reaches c.requires.few inputs second c.problem.result c.problem.ensures;
+      decides = deciding x g n cells told kept c.goal_facts.ensures c.requires.reaches c.requires.few inputs second c.problem.result c.problem.ensures;
     }
 
 pub cells_of-requires : goal.cells_of-requires

@@ -49,11 +49,11 @@ problem-requires c =
     record {
       nodes = nodes_there x p kept c.requires.periods places cells;
       near = torus_near x p places kept c.requires.periods cells;
-      signals = signals_there x p kept c.requires.periods g c.told_goal.ensures places c.in_ok-inputs.inputs c.in_ok-inputs.ensures cells;
+      signals = signals_there x p kept c.requires.periods g c.goal_facts.ensures places c.in_ok-inputs.inputs c.in_ok-inputs.ensures cells;
       all = subst (HasAllSymbols x.symbols) (sym c.in_ok-inputs.ensures) (numbered_full x.symbols near (map (number_at (numbered_tile x p)) near));
       goal = c.requires.goal;
-      wired = goal_wired x p kept c.requires.periods g c.told_goal.ensures places c.in_ok-inputs.inputs c.in_ok-inputs.ensures cells;
-      few = variables_few x p kept c.requires.periods g c.told_goal.ensures places c.in_ok-inputs.inputs c.in_ok-inputs.ensures cells c.requires.few;
+      wired = goal_wired x p kept c.requires.periods g c.goal_facts.ensures places c.in_ok-inputs.inputs c.in_ok-inputs.ensures cells;
+      few = variables_few x p kept c.requires.periods g c.goal_facts.ensures places c.in_ok-inputs.inputs c.in_ok-inputs.ensures cells c.requires.few;
     }
 
 pub returns : goal.returns
@@ -67,6 +67,6 @@ returns c =
     cells_are x p kept c.requires.periods c.nodes-nodes.result c.fundamental.result
     c.in_ok-cells.cells.items places c.nodes-nodes.ensures.value c.fundamental.ensures c.in_ok-cells.ensures c.deref-2.ensures.value in
     record {
-      exact = exactly x p kept c.requires.periods g c.told_goal.ensures places c.in_ok-inputs.inputs c.in_ok-inputs.ensures cells c.problem.result c.problem.ensures;
-      shows = showing x p kept c.requires.periods g c.told_goal.ensures places c.in_ok-inputs.inputs c.in_ok-inputs.ensures cells c.problem.result c.problem.ensures;
+      exact = exactly x p kept c.requires.periods g c.goal_facts.ensures places c.in_ok-inputs.inputs c.in_ok-inputs.ensures cells c.problem.result c.problem.ensures;
+      shows = showing x p kept c.requires.periods g c.goal_facts.ensures places c.in_ok-inputs.inputs c.in_ok-inputs.ensures cells c.problem.result c.problem.ensures;
     }

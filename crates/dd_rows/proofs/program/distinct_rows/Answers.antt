@@ -2,7 +2,7 @@ use Rattle.std.proofs.Common.{◌<◌, ◌∙◌, length, map, sym, ap, subst}
 use Rattle.std.proofs.lemmas.{List.Elements.All-nil, Result.err_from_is_err_and}
 use Rattle.std.specs.Prelude.{replicate, None}
 use Rattle.dd_rows.specs.Programs.{add_row, first_seen, most_rows}
-use Rattle.dd_rows.specs.listing.Sparse.{dense, asked_row, asked_rows, IsSparse, AreSparse}
+use Rattle.dd_rows.specs.listing.Sparse.{dense, required_row, required_rows, IsSparse, AreSparse}
 use Rattle.dd_rows.proofs.Steps.{on_large_weaker}
 use Rattle.dd_rows.proofs.SparseLaws.{cap_sparse, exchanges_sparse, rows_begin, first_fits, rows_next, rows_large}
 use Rattle.dd_rows.proofs.program.distinct_rows.Goals as goal
@@ -19,7 +19,7 @@ returns-in_err-add_row-clause-err c =
     let is = c.in_ok-cap.ensures.exchanges ∙ ap (λ n. replicate n None) c.len.ensures in
     let p = err_from_is_err_and c.from_residual-in_err-add_row.result c.from_residual-in_err-add_row.ensures.1 in
     rw (p.1, p.2)
-    (on_large_weaker c.in_err-add_row.field-0.0 (most_rows < length (add_row (map (dense (length ps)) keys) (dense (length ps) cap))) (most_rows < length (first_seen (asked_rows ps v ws most c.args.fillings.now)))
+    (on_large_weaker c.in_err-add_row.field-0.0 (most_rows < length (add_row (map (dense (length ps)) keys) (dense (length ps) cap))) (most_rows < length (first_seen (required_rows ps v ws most c.args.fillings.now)))
     (λ many. absurd (first_fits ps v ws most keys cap c.new-rows.ensures.empty many))
     (c.in_err-add_row.ensures.err (length v.givers) (length ps) none (cap_sparse (length v.givers) (length ps) cap is)))
 
@@ -50,10 +50,10 @@ returns-in_err-add_row-2-clause-err c =
     let row = c.in_ok-row.row in
     let keys = c.loop-symbols.rows.keys in
     let sparse = exchanges_sparse ps v c.as_slice.result.now row c.in_ok-row.ensures.exchanges in
-    let stands = c.in_ok-row.ensures.row ∙ ap (asked_row ps v ws) c.as_slice.ensures in
+    let stands = c.in_ok-row.ensures.row ∙ ap (required_row ps v ws) c.as_slice.ensures in
     let p = err_from_is_err_and c.from_residual-in_err-add_row-2.result c.from_residual-in_err-add_row-2.ensures.1 in
     rw (p.1, p.2)
-    (on_large_weaker c.in_err-add_row-2.field-0.0 (most_rows < length (add_row (map (dense (length ps)) keys) (dense (length ps) row))) (most_rows < length (first_seen (asked_rows ps v ws most lists)))
+    (on_large_weaker c.in_err-add_row-2.field-0.0 (most_rows < length (add_row (map (dense (length ps)) keys) (dense (length ps) row))) (most_rows < length (first_seen (required_rows ps v ws most lists)))
     (rows_large ps v ws most lists c.loop-symbols.symbols-index d keys row c.loop-symbols-test.true c.loop-symbols.invariant.rows c.symbols-item.is stands)
     (c.in_err-add_row-2.ensures.err (length v.givers) (length ps) c.loop-symbols.invariant.sparse sparse))
 
@@ -67,7 +67,7 @@ loop-symbols-preserved c =
     let row = c.in_ok-row.row in
     let keys = c.loop-symbols.rows.keys in
     let sparse = exchanges_sparse ps v c.as_slice.result.now row c.in_ok-row.ensures.exchanges in
-    let stands = c.in_ok-row.ensures.row ∙ ap (asked_row ps v ws) c.as_slice.ensures in
+    let stands = c.in_ok-row.ensures.row ∙ ap (required_row ps v ws) c.as_slice.ensures in
     let with = c.in_ok-add_row-2.ensures.ok (length v.givers) (length ps) c.loop-symbols.invariant.sparse sparse in
     record {
       rows = rows_next ps v ws c.args.heaviest lists c.loop-symbols.symbols-index d keys c.add_row-in-loop-symbols.new.rows.keys row c.loop-symbols-test.true c.loop-symbols.invariant.rows c.symbols-item.is stands with;

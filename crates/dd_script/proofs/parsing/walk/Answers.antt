@@ -10,10 +10,10 @@ meaning_of-requires-clause-written c = written_here _ _ _ _ _ c.loop-written-tes
 
 pub loop-written-preserved : goal.loop-written-preserved
 loop-written-preserved c =
-    goes_on _ _ _ _ _ c.loop-written-test.true c.written-item.is c.loop-written.invariant _ c.in-Ok.ensures.0 _ c.in_ok-add-in-Ok.ensures c.symbols-symbols.ensures.kept
+    goes_on _ _ _ _ _ c.loop-written-test.true c.written-item.is c.loop-written.invariant _ c.in-Ok.ensures _ c.in_ok-add-in-Ok.ensures c.symbols-symbols.ensures.kept
 
-pub told-requires : goal.told-requires
-told-requires c =
+pub refusal_for-requires : goal.refusal_for-requires
+refusal_for-requires c =
     rw c.in-Err-At.field-0-is
     (stops _ _ _ _ _ c.loop-written-test.true c.written-item.is c.loop-written.invariant c.requires.written _ (rw c.in-Err-At.field-0-is at c.in-Err-At.ensures))
 
@@ -22,9 +22,9 @@ returns-in_err-add-in-Ok-clause-refused c =
     let p = err_from_is_err_and c.from_residual.result c.from_residual.ensures.1 in
     rw (p.1, p.2) refl
 
-pub returns-in_err-told-in-Err-At-clause-refused : goal.returns-in_err-told-in-Err-At-clause-refused
-returns-in_err-told-in-Err-At-clause-refused c =
-    let p = err_from_is_err_and c.from_residual-in_err-told-in-Err-At.result c.from_residual-in_err-told-in-Err-At.ensures.1 in
+pub returns-in_err-refusal_for-in-Err-At-clause-refused : goal.returns-in_err-refusal_for-in-Err-At-clause-refused
+returns-in_err-refusal_for-in-Err-At-clause-refused c =
+    let p = err_from_is_err_and c.from_residual-in_err-refusal_for-in-Err-At.result c.from_residual-in_err-refusal_for-in-Err-At.ensures.1 in
     rw (p.1, p.2) refl
 
 pub returns-clause-spelled : goal.returns-clause-spelled

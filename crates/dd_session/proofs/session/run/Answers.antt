@@ -1,10 +1,10 @@
 use Rattle.dd_session.proofs.{Decided.ended_run, Decided.took_all, Engaging.has_begun, Engaging.asks_first, Engaging.never_to_end}
-use Rattle.dd_session.specs.Sides.{told}
+use Rattle.dd_session.specs.Sides.{change}
 use Rattle.dd_session.proofs.session.run.Goals as goal
 
 pub returns-in-Ok-clause-ended : goal.returns-in-Ok-clause-ended
 returns-in-Ok-clause-ended g c =
-    ended_run (told g.S.Source.left g.S.Source.faults c.args.source.now c.read_all.new.source) _ c.in-Ok.bytes.items c.deref.result.now _
+    ended_run (change g.S.Source.left g.S.Source.faults c.args.source.now c.read_all.new.source) _ c.in-Ok.bytes.items c.deref.result.now _
     c.in-Ok.ensures.bytes c.in-Ok.ensures.fits c.deref.ensures.value c.run_bytes.ensures.ran
 
 pub returns-in-Ok-clause-taken : goal.returns-in-Ok-clause-taken
@@ -20,4 +20,4 @@ returns-in-Ok-clause-asked g c = λ to_end.
 
 pub returns-in-Err-TooLong-clause-asked : goal.returns-in-Err-TooLong-clause-asked
 returns-in-Err-TooLong-clause-asked g c = λ to_end.
-    absurd (never_to_end (told g.K.Sink.held g.K.Sink.faults c.args.sink.now c.refuse.new.sink) _ _ c.refuse.ensures.wrote to_end)
+    absurd (never_to_end (change g.K.Sink.held g.K.Sink.faults c.args.sink.now c.refuse.new.sink) _ _ c.refuse.ensures.wrote to_end)

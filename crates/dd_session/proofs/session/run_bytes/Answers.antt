@@ -1,4 +1,4 @@
-use Rattle.dd_session.specs.Sides.{told}
+use Rattle.dd_session.specs.Sides.{change}
 use Rattle.dd_session.proofs.{Engaging.begun, Refused.line_over, Refused.refused_to_end}
 use Rattle.dd_session.proofs.session.run_bytes.Goals as goal
 
@@ -18,5 +18,5 @@ returns-in-Ok-clause-asked g c = λ to_end. record {
 
 pub returns-in-Err-clause-asked : goal.returns-in-Err-clause-asked
 returns-in-Err-clause-asked g c = λ to_end.
-    absurd (refused_to_end (told g.K.Sink.held g.K.Sink.faults c.args.sink.now c.refuse_fault.new.sink) _ c.in-Err.fault.command c.in-Err.fault.kind _
+    absurd (refused_to_end (change g.K.Sink.held g.K.Sink.faults c.args.sink.now c.refuse_fault.new.sink) _ c.in-Err.fault.command c.in-Err.fault.kind _
     c.refuse_fault.ensures.wrote to_end)

@@ -1,10 +1,10 @@
-use Rattle.dd_session.specs.Sides.{told}
+use Rattle.dd_session.specs.Sides.{change}
 use Rattle.dd_session.proofs.{Engaging.never_unanswered, Sampled.lines_over}
 use Rattle.dd_session.proofs.session.run_lines.Goals as goal
 
 pub returns-in-Ok-clause-wrote : goal.returns-in-Ok-clause-wrote
 returns-in-Ok-clause-wrote g c =
-    lines_over (told g.K.Sink.held g.K.Sink.faults c.args.sink.now c.answer_to_end.new.sink) c.args.script.now c.in-Ok.is_open _ c.one_line.ensures c.in-Ok.ensures.whole c.status_of.ensures
+    lines_over (change g.K.Sink.held g.K.Sink.faults c.args.sink.now c.answer_to_end.new.sink) c.args.script.now c.in-Ok.is_open _ c.one_line.ensures c.in-Ok.ensures.whole c.status_of.ensures
 
 pub returns-in-Ok-clause-kept : goal.returns-in-Ok-clause-kept
 returns-in-Ok-clause-kept g c = record {

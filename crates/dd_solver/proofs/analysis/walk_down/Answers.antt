@@ -1,7 +1,7 @@
 use Rattle.std.proofs.Common.{◌≡◌, ℕ, ◌+◌, ◌-◌, ◌<◌, List, [], ◌∷◌, ◌++◌, length, true, false, None, sym, subst, get_or, arith}
 use Rattle.dd_trail.specs.declared.trail.Entry.{Entry}
 use Rattle.dd_solver.specs.searching.{Reasons.IsTrail, Analysis.marks}
-use Rattle.dd_solver.proofs.Walk.{Walk, walk_start, walk_past, walk_kept, walk_resolved, walk_turn}
+use Rattle.dd_solver.proofs.Walk.{Walk, walk_start, walk_past, walk_kept, walk_resolved, walk_backjump}
 use Rattle.dd_solver.proofs.analysis.walk_down.Goals as goal
 
 none : Entry
@@ -23,7 +23,7 @@ loop-i-preserved c =
     let s : n ≡ length c.args.marked.now = omega arith in
     let ok : IsTrail n known trail = subst (λ (k : ℕ). IsTrail k known trail) (sym s) c.requires.trail in
     let m : marks c.loop-i.marked (get_or trail j none).literal ≡ false = subst (λ (xs : List Entry). marks c.loop-i.marked (get_or xs j none).literal ≡ false) same c.if-marked-entry.false in
-    walk_past n known trail ok j none c.loop-i.marked c.loop-i.literals.items c.loop-i.hints.items c.loop-i.turn l m (rw next at c.loop-i.invariant)
+    walk_past n known trail ok j none c.loop-i.marked c.loop-i.literals.items c.loop-i.hints.items c.loop-i.backjump l m (rw next at c.loop-i.invariant)
 
 pub loop-i-preserved-in-Keep : goal.loop-i-preserved-in-Keep
 unfolding none
@@ -38,7 +38,7 @@ loop-i-preserved-in-Keep c =
     let s : n ≡ length c.args.marked.now = omega arith in
     let ok : IsTrail n known trail = subst (λ (k : ℕ). IsTrail k known trail) (sym s) c.requires.trail in
     let m : marks c.loop-i.marked (get_or trail j none).literal ≡ true = subst (λ (xs : List Entry). marks c.loop-i.marked (get_or xs j none).literal ≡ true) same c.if-marked-entry.true in
-    let w = walk_kept n known trail ok j none c.loop-i.marked c.loop-i.literals.items c.loop-i.hints.items c.loop-i.turn c.in-Keep.next l m c.in-Keep.ensures (rw next at c.loop-i.invariant) in
+    let w = walk_kept n known trail ok j none c.loop-i.marked c.loop-i.literals.items c.loop-i.hints.items c.loop-i.backjump c.in-Keep.next l m c.in-Keep.ensures (rw next at c.loop-i.invariant) in
     rw (c.in_ok-push-in-Keep.ensures.items, c.negation.ensures, same) w
 
 pub loop-i-preserved-in-Resolve : goal.loop-i-preserved-in-Resolve
@@ -55,16 +55,16 @@ loop-i-preserved-in-Resolve c =
     let ok : IsTrail n known trail = subst (λ (k : ℕ). IsTrail k known trail) (sym s) c.requires.trail in
     let m : marks c.loop-i.marked (get_or trail j none).literal ≡ true = subst (λ (xs : List Entry). marks c.loop-i.marked (get_or xs j none).literal ≡ true) same c.if-marked-entry.true in
     let more = c.mark_clause-more in
-    let w = walk_resolved n known trail ok j none c.loop-i.marked more.new.marked c.loop-i.literals.items c.loop-i.hints.items c.loop-i.turn c.in-Resolve.reason l m (c.in-Resolve.ensures none) more.ensures.grows more.ensures.marks (rw next at c.loop-i.invariant) in
+    let w = walk_resolved n known trail ok j none c.loop-i.marked more.new.marked c.loop-i.literals.items c.loop-i.hints.items c.loop-i.backjump c.in-Resolve.reason l m (c.in-Resolve.ensures none) more.ensures.grows more.ensures.marks (rw next at c.loop-i.invariant) in
     let s' : n ≡ length more.new.marked = omega arith in
-    rw c.in_ok-push-in-Resolve.ensures.items (subst (λ (k : ℕ). Walk k known trail j more.new.marked c.loop-i.literals.items (c.loop-i.hints.items ++ c.in-Resolve.reason ∷ []) c.loop-i.turn) s' w)
+    rw c.in_ok-push-in-Resolve.ensures.items (subst (λ (k : ℕ). Walk k known trail j more.new.marked c.loop-i.literals.items (c.loop-i.hints.items ++ c.in-Resolve.reason ∷ []) c.loop-i.backjump) s' w)
 
-pub returns-clause-turn : goal.returns-clause-turn
-returns-clause-turn c =
+pub returns-clause-backjump : goal.returns-clause-backjump
+returns-clause-backjump c =
     let known = c.args.database.now in
     let trail = c.args.trail.now.entries in
     let n = length c.loop-i.marked in
     let s : n ≡ length c.args.marked.now = omega arith in
     let ok : IsTrail n known trail = subst (λ (k : ℕ). IsTrail k known trail) (sym s) c.requires.trail in
     let z : c.loop-i.i ≡ 0 = omega arith in
-    walk_turn n known trail ok c.loop-i.marked c.loop-i.literals.items c.loop-i.hints.items c.loop-i.turn (rw z at c.loop-i.invariant)
+    walk_backjump n known trail ok c.loop-i.marked c.loop-i.literals.items c.loop-i.hints.items c.loop-i.backjump (rw z at c.loop-i.invariant)

@@ -4,8 +4,8 @@ use Rattle.std.proofs.lemmas.List.Elements.{Contains-get_or}
 use Rattle.dd_trials.proofs.images.assert_rounds.Goals as goal
 
 -- the query is in the script
-pub question-requires : goal.question-requires
-question-requires g c =
+pub question-question-requires-clause-query : goal.question-question-requires-clause-query
+question-question-requires-clause-query g c =
     let queries = c.args.script.now.queries in
     let same = c.queries-query-items.ensures.value in
     let i = c.loop-query.query-index in

@@ -1,4 +1,4 @@
--- How a recursive type may contain `Boxed`: as the value itself, since contracts see only the value.
+-- How a recursive type may contain a `Boxed` of itself: as the value, since contracts see only the value. The hole stands for the type.
 use mathlib.Core.Path.{refl}
 use mathlib.Core.Former.{Former, this, const, pair, via}
 use base.Stored.{gnil}
@@ -20,7 +20,7 @@ use Rattle.std.specs.contracts.alloc.Global as heap
 use Rattle.dd_values.specs.contracts.boxed.Boxed as value
 use Rattle.dd_values.specs.contracts.boxed.Boxed.TheInside as inside
 
--- the type that fills the hole, unchanged
+-- a value of the type in the hole
 abbrev pub the_former : Former {0} → Former {0}
 the_former hole = hole
 

@@ -1,4 +1,4 @@
--- How a recursive type may contain `Items`: as a list, since contracts see only the items.
+-- How a recursive type may contain `Items` of itself: as a list, since contracts see only the items. The hole stands for the type.
 use mathlib.Core.Path.{◌≡◌, refl, sym}
 use mathlib.Core.List.{List, []}
 use mathlib.Core.Former.{Former, this, list, via, children}
@@ -18,7 +18,7 @@ use Rattle.std.specs.contracts.alloc.Global as heap
 use Rattle.dd_values.specs.contracts.items.Items as value
 use Rattle.dd_values.specs.contracts.items.Items.TheInside as inside
 
--- lists of the type that fills the hole
+-- a list of values of the type in the hole
 abbrev pub the_former : Former {0} → Former {0}
 the_former hole = list hole
 

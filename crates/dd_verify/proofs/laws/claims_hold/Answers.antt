@@ -1,4 +1,4 @@
-use Rattle.dd_problem.specs.pushing.Told.{IsToldGoal}
+use Rattle.dd_problem.specs.pushing.GoalFacts.{HasGoalFacts}
 use Rattle.dd_question.specs.Conjugacies.{EachPart, conjugacy_of}
 use Rattle.dd_verify.proofs.{Claiming.member_claims, Claiming.box_claims, Claiming.equal_claims, Listing.list_claims}
 use Rattle.dd_verify.proofs.{Starring.minimal_claims, PartForms.conjugacy_claims, TorusForms.torus_claims}
@@ -11,7 +11,7 @@ returns-in-Membership c a = rw (← c.question.ensures.value, c.in-Membership.is
 pub returns-in-Box : goal.returns-in-Box
 returns-in-Box c a =
     let sound = rw (← c.question.ensures.value, c.in-Box.is) at c.question.ensures.kept.sound in
-    rw (← c.question.ensures.value, c.in-Box.is) (box_claims _ _ _ a sound.0 sound.1.goal (c.tell_goal.ensures _ sound.1.goal sound.1.rule))
+    rw (← c.question.ensures.value, c.in-Box.is) (box_claims _ _ _ a sound.0 sound.1.goal (c.goal_facts.ensures _ sound.1.goal sound.1.rule))
 
 pub returns-in-Equality : goal.returns-in-Equality
 returns-in-Equality c a =
@@ -30,11 +30,11 @@ returns-in-Smallest c a =
 pub returns-in-Conjugacy : goal.returns-in-Conjugacy
 returns-in-Conjugacy c a =
     let sound = rw (← c.question.ensures.value, c.in-Conjugacy.is) at c.question.ensures.kept.sound in
-    let gates : EachPart IsToldGoal (conjugacy_of c.in-Conjugacy.conjugacy) = record {
-      image = c.tell_goal-in-Conjugacy.ensures _ sound.image.1.goal sound.image.1.rule;
-      image_back = c.tell_goal-in-Conjugacy-2.ensures _ sound.image_back.1.goal sound.image_back.1.rule;
-      round = c.tell_goal-in-Conjugacy-3.ensures _ sound.round.1.goal sound.round.1.rule;
-      round_back = c.tell_goal-in-Conjugacy-4.ensures _ sound.round_back.1.goal sound.round_back.1.rule;
+    let gates : EachPart HasGoalFacts (conjugacy_of c.in-Conjugacy.conjugacy) = record {
+      image = c.goal_facts-in-Conjugacy.ensures _ sound.image.1.goal sound.image.1.rule;
+      image_back = c.goal_facts-in-Conjugacy-2.ensures _ sound.image_back.1.goal sound.image_back.1.rule;
+      round = c.goal_facts-in-Conjugacy-3.ensures _ sound.round.1.goal sound.round.1.rule;
+      round_back = c.goal_facts-in-Conjugacy-4.ensures _ sound.round_back.1.goal sound.round_back.1.rule;
     } in
     rw (← c.question.ensures.value, c.in-Conjugacy.is) (conjugacy_claims _ _ _ sound gates)
 

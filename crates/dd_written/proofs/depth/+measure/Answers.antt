@@ -8,7 +8,7 @@ chain_more : (j : Join) (n i : ℕ) (fs : List Formula) (f : Formula) → i < le
     → chain_depth j n i (map tree_depth (drop i fs)) ≡ max (signs_over j n i + tree_depth f) (chain_depth j n (i + 1) (map tree_depth (drop (i + 1) fs)))
 chain_more j n i fs f lt is = ap (λ (gs : List Formula). chain_depth j n i (map tree_depth gs)) (drop_more fs i f lt ∙ ap (λ (g : Formula). g ∷ drop (i + 1) fs) (sym is))
 
-pub deepest-loop-place-preserved : goal.deepest-loop-place-preserved
-deepest-loop-place-preserved t c =
+pub deepest-loop-index-preserved : goal.deepest-loop-index-preserved
+deepest-loop-index-preserved t c =
     let parts = c.args.parts.now in
-    omega (arith, chain_more c.args.join (length parts) c.loop-place.place parts c.index-parts-place.result c.loop-place-test.true c.index-parts-place.is)
+    omega (arith, chain_more c.args.join (length parts) c.loop-index.index parts c.index-parts-index.result c.loop-index-test.true c.index-parts-index.is)

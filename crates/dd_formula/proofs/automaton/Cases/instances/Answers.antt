@@ -39,7 +39,7 @@ loop-rule-preserved c =
     let nodes = rule_nodes c.requires.setting case.0 (case_has c.requires.setting cases c.args.self.now.otherwise i case c.requires.fit item.below item.is) in
     let node : c.args.node < case.0.nodes = omega (arith, nodes, c.requires.below) in
     record {
-      count = omega (arith, more, c.plus-nodes.ensures, c.loop-rule.invariant.count, c.instances.ensures, ap instances c.expansion.ensures.value);
+      count = omega (arith, more, c.plus-sum.ensures, c.loop-rule.invariant.count, c.instances.ensures, ap instances c.expansion.ensures.value);
       near =
           ap (list_all is_near) (flat_more (λ (x : LocalRule × ℕ). reads_at x.0 c.args.node) cases i case item.below item.is)
           ∙ passes_both is_near (cases_reads (take i cases) c.args.node) (reads_at case.0 c.args.node) c.loop-rule.invariant.near

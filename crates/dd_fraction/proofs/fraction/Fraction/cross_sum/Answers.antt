@@ -55,7 +55,7 @@ returns-in_err-den c =
     (c.from_residual-in_err-den.ensures
     ∙ sum_none_fourth a b c.in_ok-left.left c.in_ok-right.right c.in_ok-num.num left right sum c.in_err-den.ensures)
 
--- one side is a whole number
+-- one of the two summands is a whole number
 module _ (c : Joined-then-self-eq1) where
   abbrev a : Exact
   a = record { num = c.self.inside.num; den = c.self.inside.den }
@@ -78,13 +78,13 @@ module _ (c : Joined-then-self-eq1) where
     | then-self-eq1-via-else-self-eq1+then-other-eq1 w ↦ inr w.if-other-eq1.true
   ]
 
-  alone : IsFraction (record { num = c.in_ok-num.num; den = c.in_ok-den.den })
-  alone =
+  coprime : IsFraction (record { num = c.in_ok-num.num; den = c.in_ok-den.den })
+  coprime =
       whole_side a b c.in_ok-left.left c.in_ok-right.right c.in_ok-num.num c.in_ok-den.den
       c.self.invariant c.other.invariant left right sum c.in_ok-den.ensures side
 
 pub in_lowest_terms-requires : goal.in_lowest_terms-requires
-in_lowest_terms-requires c = let five : SFits w128 c.in_ok-num.num = search rules in simp to_z-of_z (alone c)
+in_lowest_terms-requires c = let five : SFits w128 c.in_ok-num.num = search rules in simp to_z-of_z (coprime c)
 
 pub returns-then-self-eq1 : goal.returns-then-self-eq1
 returns-then-self-eq1 c =
@@ -94,7 +94,7 @@ returns-then-self-eq1 c =
     rw (← c.self.view_is, ← c.other.view_is)
     (sum_some (a joined) (b joined) c.in_lowest_terms.result c.in_ok-left.left c.in_ok-right.right c.in_ok-num.num c.in_ok-den.den
     c.self.invariant c.other.invariant (left joined) (right joined) (sum joined) c.in_ok-den.ensures
-    (as_lowest c.in_lowest_terms.result c.in_ok-num.num c.in_ok-den.den (alone joined) made))
+    (as_lowest c.in_lowest_terms.result c.in_ok-num.num c.in_ok-den.den (coprime joined) made))
 
 pub reduced-requires-clause-bounded : goal.reduced-requires-clause-bounded
 reduced-requires-clause-bounded c =

@@ -25,8 +25,8 @@ module _ (c : Joined-then-is_unit) where
   num : Some c.in_ok-num.num ≡ bounded (a.num *ℤ b.num)
   num = num_is _ a.num b.num (search rules) (search rules) c.in_ok-num.ensures
 
-  alone : IsFraction (record { num = c.in_ok-num.num; den = c.in_ok-den.den })
-  alone =
+  coprime : IsFraction (record { num = c.in_ok-num.num; den = c.in_ok-den.den })
+  coprime =
       let n = bounded_some (a.num *ℤ b.num) c.in_ok-num.num num in
       let d = size_some (a.den * b.den) c.in_ok-den.den c.in_ok-den.ensures in
       elim c.then-is_unit.branch [
@@ -45,7 +45,7 @@ module _ (c : Joined-then-is_unit) where
       ]
 
 pub in_lowest_terms-requires : goal.in_lowest_terms-requires
-in_lowest_terms-requires c = let three : SFits w128 c.in_ok-num.num = search rules in simp to_z-of_z (alone c)
+in_lowest_terms-requires c = let three : SFits w128 c.in_ok-num.num = search rules in simp to_z-of_z (coprime c)
 
 pub returns-then-is_unit : goal.returns-then-is_unit
 returns-then-is_unit c =
@@ -55,7 +55,7 @@ returns-then-is_unit c =
     rw (← c.self.view_is, ← c.other.view_is)
     (product_some (a joined) (b joined) c.in_lowest_terms.result c.in_ok-num.num c.in_ok-den.den
     c.self.invariant c.other.invariant (num joined) c.in_ok-den.ensures
-    (as_lowest c.in_lowest_terms.result c.in_ok-num.num c.in_ok-den.den (alone joined) made))
+    (as_lowest c.in_lowest_terms.result c.in_ok-num.num c.in_ok-den.den (coprime joined) made))
 
 pub reduced-requires-clause-bounded : goal.reduced-requires-clause-bounded
 reduced-requires-clause-bounded c =

@@ -2,8 +2,8 @@ use Rattle.std.proofs.{Common.arith, Common.rules, lemmas.Grind.common_steps}
 use Rattle.dd_pattern.specs.lemmas.TileSizes.{sizes_of}
 use Rattle.dd_pattern.proofs.periodic.Periodic.base.Goals as goal
 
-pub quotient-turns-requires-clause-small : goal.quotient-turns-requires-clause-small
-quotient-turns-requires-clause-small c = (sizes_of _ c.self.invariant).y_small
+pub quotient-times-requires-clause-small : goal.quotient-times-requires-clause-small
+quotient-times-requires-clause-small c = (sizes_of _ c.self.invariant).y_small
 
 pub unsheared-x-requires-clause-small : goal.unsheared-x-requires-clause-small
 unsheared-x-requires-clause-small c = (sizes_of _ c.self.invariant).shear_small

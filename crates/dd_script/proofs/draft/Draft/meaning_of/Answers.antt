@@ -12,17 +12,16 @@ mean-requires-clause-formed c = rw c.as_slice.ensures c.requires.script.automata
 pub mean-requires-clause-faultless : goal.mean-requires-clause-faultless
 mean-requires-clause-faultless c = none_first (written_faults c.args.self.now.context c.args.written.now) c.in_ok-check.ensures
 
-pub weigh-requires-clause-sound : goal.weigh-requires-clause-sound
-weigh-requires-clause-sound c = rw c.in_ok-meaning.ensures.exact.1 c.in_ok-meaning.ensures.sound
+pub check_limits-requires-clause-sound : goal.check_limits-requires-clause-sound
+check_limits-requires-clause-sound c = rw c.in_ok-meaning.ensures.exact.1 c.in_ok-meaning.ensures.sound
 
-pub returns-in_err-pairs : goal.returns-in_err-pairs
-returns-in_err-pairs c =
+pub returns-in_err-check_limits : goal.returns-in_err-check_limits
+returns-in_err-check_limits c =
     let exact = rw c.as_slice.ensures at c.in_ok-meaning.ensures.exact in
-    let p = err_from_is_err_and c.from_residual-in_err-pairs.result c.from_residual-in_err-pairs.ensures.1 in
-    rw (p.1, p.2, asked_is c.args.self.now c.args.written.now c.in_ok-meaning.meaning c.in_ok-check.ensures exact.0 exact.1) c.in_err-pairs.ensures.accepts
+    let p = err_from_is_err_and c.from_residual-in_err-check_limits.result c.from_residual-in_err-check_limits.ensures.1 in
+    rw (p.1, p.2, asked_is c.args.self.now c.args.written.now c.in_ok-meaning.meaning c.in_ok-check.ensures exact.0 exact.1) c.in_err-check_limits.ensures.accepts
 
 pub returns : goal.returns
 returns c =
     let exact = rw c.as_slice.ensures at c.in_ok-meaning.ensures.exact in
-    let pairs = c.in_ok-pairs.ensures.pairs in
-    (means _ _ _ c.in_ok-check.ensures exact.0 exact.1 (rw c.as_slice.ensures at c.in_ok-meaning.ensures.sound) c.in_ok-pairs.ensures.accepts (rw pairs.are at pairs), pairs.are)
+    means _ _ _ c.in_ok-check.ensures exact.0 exact.1 (rw c.as_slice.ensures at c.in_ok-meaning.ensures.sound) c.in_ok-check_limits.ensures.accepts c.in_ok-check_limits.ensures.pairs

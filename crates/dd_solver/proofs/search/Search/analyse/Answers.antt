@@ -23,8 +23,8 @@ invariant_of-self-2 c =
     let kept : length (take i.marked.len (w ++ drop (length w) i.marked.items)) ≡ n = omega (arith, length-take i.marked.len (w ++ drop (length w) i.marked.items), length-append w (drop (length w) i.marked.items), length-drop (length w) i.marked.items, same, i.marked.ok.0, c.self.invariant.1) in
     rw c.in_ok-push_step.ensures.steps (search_learned n i.clauses.now i.steps.items i.trail.entries c.self.invariant.0 s r f, kept, c.self.invariant.2, alive_more i.clauses.now i.steps.items i.alive.items c.push_step.new.alive.items s c.self.invariant.3 c.in_ok-push_step.ensures.length c.in_ok-push_step.ensures.alive f.deletable)
 
-pub returns-clause-turn : goal.returns-clause-turn
-returns-clause-turn c =
+pub returns-clause-backjump : goal.returns-clause-backjump
+returns-clause-backjump c =
     let i = c.self.inside in
     let n = i.trail.variables in
     let now = known_through (all_known i.clauses.now) i.steps.items in
@@ -34,5 +34,5 @@ returns-clause-turn c =
     let m : length c.as_mut_slice.result.now ≡ n = ap length c.as_mut_slice.ensures.value ∙ c.self.invariant.1 in
     let r : is_rightly_learned n now s.clause s.hints ≡ true = rw (e, c.from_vec-hints.ensures, ← d, ← m) c.in_ok-learned.ensures.right in
     let f : MayDelete now (length i.clauses.now) i.trail.entries s.deletes = rw (c.from_vec-deletes.ensures, ← d) c.in_ok-numbers.ensures in
-    let t : MatchOption c.in_ok-learned.learned.turn (s.clause ≡ []) (Asserts i.trail.entries s.clause) = rw e c.in_ok-learned.ensures.turn in
-    rw c.in_ok-push_step.ensures.steps (goes_on n i.clauses.now i.steps.items i.trail.entries c.self.invariant.0 s c.in_ok-learned.learned.turn r f t)
+    let t : MatchOption c.in_ok-learned.learned.backjump (s.clause ≡ []) (Asserts i.trail.entries s.clause) = rw e c.in_ok-learned.ensures.backjump in
+    rw c.in_ok-push_step.ensures.steps (goes_on n i.clauses.now i.steps.items i.trail.entries c.self.invariant.0 s c.in_ok-learned.learned.backjump r f t)

@@ -8,35 +8,35 @@ use Rattle.dd_solver.proofs.search.Search.propagate.Goals as goal
 
 pub assign-requires-clause-in_range : goal.assign-requires-clause-in_range
 assign-requires-clause-in_range c =
-    let s = c.turns.self-inside in
+    let s = c.rounds.self-inside in
     let p = is_among (falses s.trail.entries) in
     let now = known_through (all_known s.clauses.now) s.steps.items in
     let u : hint_finding c.new-database.result p c.in-Unit.number ≡ Forced c.in-Unit.literal = rw c.in-Unit.is at c.in_ok-found.ensures in
-    let d : c.new-database.result ≡ now = c.new-database.ensures ∙ rw (c.as_slice.ensures.value, c.as_slice-in-turns.ensures.value) c.turns.invariant.alive.same in
+    let d : c.new-database.result ≡ now = c.new-database.ensures ∙ rw (c.as_slice.ensures.value, c.as_slice-in-rounds.ensures.value) c.rounds.invariant.alive.same in
     let h = subst (λ (known : Known). hint_finding known p c.in-Unit.number ≡ Forced c.in-Unit.literal) d u in
-    forced_in_range now s.trail.variables p c.in-Unit.number c.in-Unit.literal c.turns.invariant.search.in_range h
+    forced_in_range now s.trail.variables p c.in-Unit.number c.in-Unit.literal c.rounds.invariant.search.in_range h
 
 pub assign-requires-clause-fresh : goal.assign-requires-clause-fresh
 assign-requires-clause-fresh c =
-    let s = c.turns.self-inside in
+    let s = c.rounds.self-inside in
     let p = is_among (falses s.trail.entries) in
     let u : hint_finding c.new-database.result p c.in-Unit.number ≡ Forced c.in-Unit.literal = rw c.in-Unit.is at c.in_ok-found.ensures in
     forced_new c.new-database.result (falses s.trail.entries) c.in-Unit.number c.in-Unit.literal u
 
-pub turns-smaller : goal.turns-smaller
-turns-smaller c =
-    let s = c.turns.self-inside in
+pub rounds-smaller : goal.rounds-smaller
+rounds-smaller c =
+    let s = c.rounds.self-inside in
     let e : Entry = record { literal = c.in-Unit.literal; reason = Some c.in-Unit.number } in
     rw (c.assign.ensures.variables, c.in_ok-assign-in-Unit.ensures.entries) (push_falls s.trail.variables s.trail.entries e c.in_ok-assign-in-Unit.ensures.room)
 
-pub turns-preserved : goal.turns-preserved
-turns-preserved c =
-    let s = c.turns.self-inside in
-    let v = c.turns.invariant in
+pub rounds-preserved : goal.rounds-preserved
+rounds-preserved c =
+    let s = c.rounds.self-inside in
+    let v = c.rounds.invariant in
     let p = is_among (falses s.trail.entries) in
     let now = known_through (all_known s.clauses.now) s.steps.items in
     let u : hint_finding c.new-database.result p c.in-Unit.number ≡ Forced c.in-Unit.literal = rw c.in-Unit.is at c.in_ok-found.ensures in
-    let d : c.new-database.result ≡ now = c.new-database.ensures ∙ rw (c.as_slice.ensures.value, c.as_slice-in-turns.ensures.value) v.alive.same in
+    let d : c.new-database.result ≡ now = c.new-database.ensures ∙ rw (c.as_slice.ensures.value, c.as_slice-in-rounds.ensures.value) v.alive.same in
     let h = subst (λ (known : Known). hint_finding known p c.in-Unit.number ≡ Forced c.in-Unit.literal) d u in
     let e : Entry = record { literal = c.in-Unit.literal; reason = Some c.in-Unit.number } in
     let o = entry_forced s.trail.variables now s.trail.entries c.in-Unit.number c.in-Unit.literal v.search.in_range h in
@@ -54,10 +54,10 @@ turns-preserved c =
 
 pub returns-in-Nothing-clause-conflict : goal.returns-in-Nothing-clause-conflict
 returns-in-Nothing-clause-conflict c =
-    let s = c.turns.self-inside in
+    let s = c.rounds.self-inside in
     let p = is_among (falses s.trail.entries) in
     let now = known_through (all_known s.clauses.now) s.steps.items in
-    let d : c.new-database.result ≡ now = c.new-database.ensures ∙ rw (c.as_slice.ensures.value, c.as_slice-in-turns.ensures.value) c.turns.invariant.alive.same in
+    let d : c.new-database.result ≡ now = c.new-database.ensures ∙ rw (c.as_slice.ensures.value, c.as_slice-in-rounds.ensures.value) c.rounds.invariant.alive.same in
     let o : IsFull s.trail.variables s.trail.entries → AreOpenBetween c.new-database.result (falses s.trail.entries) 0 (length c.new-database.result) = rw c.in-Nothing.is at c.in_ok-found.ensures in
     let h = subst (λ (known : Known). IsFull s.trail.variables s.trail.entries → AreOpenBetween known (falses s.trail.entries) 0 (length known)) d o in
     λ full. all_open now p (h full)

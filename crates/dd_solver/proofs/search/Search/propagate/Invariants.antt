@@ -2,8 +2,8 @@ use Rattle.std.proofs.Common.{◌≡◌, ◌<◌, ◌≤◌, ◌^◌, length}
 use Rattle.dd_solver.specs.searching.Search.{IsSearch, AreAlive, left}
 use Rattle.dd_solver.proofs.search.Search.propagate.Given as goal
 
-abbrev pub invariant-turns : goal.invariant-turns
-invariant-turns l =
+abbrev pub invariant-rounds : goal.invariant-rounds
+invariant-rounds l =
     let s = l.self-inside in
     let first = l.initial.self-inside in
     record {
@@ -17,7 +17,7 @@ invariant-turns l =
       left : left (record { variables = s.trail.variables; clauses = s.clauses.now; steps = s.steps.items; entries = s.trail.entries }) ≤ left (record { variables = first.trail.variables; clauses = first.clauses.now; steps = first.steps.items; entries = first.trail.entries });
     }
 
-abbrev pub decreases-turns : goal.decreases-turns
-decreases-turns l =
+abbrev pub decreases-rounds : goal.decreases-rounds
+decreases-rounds l =
     let s = l.self-inside in
     left (record { variables = s.trail.variables; clauses = s.clauses.now; steps = s.steps.items; entries = s.trail.entries })

@@ -13,4 +13,4 @@ loop-self-preserved c =
     let v = denied_less s.variables t s.denied.items j e (omega (arith, s.entries.ok.0)) c.loop-self.invariant.denied in
     let v' = subst (λ (x : Entry). IsDenied s.variables (take j t) (set s.denied.items (code (negation x.literal)) false)) (sym c.index-entry.ensures) v in
     let kept = take_shorter t c.args.place j (omega arith) ∙ c.loop-self.invariant.kept in
-    rw (c.truncate.ensures.items, c.place_of.ensures, c.negation.ensures) (record { denied = v'; variables = c.loop-self.invariant.variables; kept = kept })
+    rw (c.truncate.ensures.items, c.code_of.ensures, c.negation.ensures) (record { denied = v'; variables = c.loop-self.invariant.variables; kept = kept })

@@ -1,1 +1,0 @@
--- Lists whose members all have a property.

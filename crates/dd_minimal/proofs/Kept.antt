@@ -1,5 +1,0 @@
--- What the formula over numbers says, and the nodes of the cells that are read.
-
--- the truth of the expansion at the origin
-
--- the cells that are read are of the rule's nodes

@@ -1,0 +1,56 @@
+-- Comparisons: what a query about an image or a conjugacy consists of. Each becomes a question about one pair of automata.
+use Rattle.dd_boxes.specs.{Goals.GoalOf, Goals.differ, Views.numbers_of}
+use Rattle.dd_known.specs.declared.known.Setting.{Setting}
+use Rattle.dd_formula.specs.{LocalRule.LocalRule, Automata.IsAutomaton, ByCases.numbers_over, Values.IsPlaced, declared.automaton.Automaton.Automaton}
+use Rattle.dd_formula.specs.declared.automaton.Automaton.TheVariants.{Composed}
+use Rattle.dd_compile.specs.Valued.{SaysItsValue}
+use Rattle.dd_maps.specs.Pairs.{marked, always_zero, identity}
+use Rattle.dd_meanings.specs.Made.{IsRuleOf, IsAutomatonOf}
+use Rattle.dd_pairs.specs.declared.pair.Pair.{Pair}
+
+-- a question about the configurations that obey a rule, the premise
+pub data ComparisonOf : Type 0 where
+  -- can the image of a configuration under the automaton break the second rule?
+  image : LocalRule → Automaton → LocalRule → ComparisonOf
+  -- can the first automaton after the second change a configuration?
+  change : LocalRule → Automaton → Automaton → ComparisonOf
+
+-- the rule that the configurations obey
+abbrev pub premise : ComparisonOf → LocalRule
+premise (image x f y) = x
+premise (change x f g) = x
+
+-- the comparison's rules and automata have the script's topology, nodes and symbols
+abbrev pub IsComparisonOf : Setting → ComparisonOf → Type 0
+IsComparisonOf s (image x f y) = IsRuleOf s x × IsAutomatonOf s f × IsRuleOf s y
+IsComparisonOf s (change x f g) = IsRuleOf s x × IsAutomatonOf s f × IsAutomatonOf s g
+
+-- The two automata differ at a cell exactly if the answer there is yes. For an image, the left one is `marked` of the second rule
+-- after the automaton: it gives 0 where the image is allowed and obeys the rule, else 1. For a change, the left one is the first
+-- automaton after the second.
+abbrev pub pair_of : Setting → ComparisonOf → Pair
+pair_of s (image x f y) = record { left = Composed (marked s.topology s.sets y) f; right = always_zero s.topology s.sets }
+pair_of s (change x f g) = record { left = Composed f g; right = identity s.topology s.sets }
+
+-- the automaton reads only cells of the lattice, and the gates compiled for its value compute that value
+pub record HasGates (f : Automaton) : Type 0 where
+  pub placed : IsPlaced f
+  pub says : SaysItsValue f
+
+-- `HasGates` of both automata of a pair
+pub record HaveGates (p : Pair) : Type 0 where
+  pub left : HasGates p.left
+  pub right : HasGates p.right
+
+-- both automata are well formed, with the script's dimension and numbers of nodes and symbols, and have gates as above
+pub record IsPair (s : Setting) (p : Pair) : Type 0 where
+  pub left : IsAutomaton (numbers_over s.topology s.sets) p.left
+  pub right : IsAutomaton (numbers_over s.topology s.sets) p.right
+  pub gates : HaveGates p
+
+-- the goal that the two automata differ, in a question about a rule
+abbrev pub difference : LocalRule → Pair → GoalOf
+difference x p = differ (numbers_of x) p.left p.right
+
+abbrev pub goal_of : Setting → ComparisonOf → GoalOf
+goal_of s c = difference (premise c) (pair_of s c)

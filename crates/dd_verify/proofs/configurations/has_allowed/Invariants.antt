@@ -1,7 +1,0 @@
-use Rattle.std.proofs.Common.{ℕ, ◌<◌}
-use Rattle.dd_question.specs.lemmas.AllowedLaws.{IsAllowedAt}
-use Rattle.dd_verify.proofs.configurations.has_allowed.Given as goal
-
--- the symbols seen so far are allowed
-abbrev pub invariant-loop-number : goal.invariant-loop-number
-invariant-loop-number l = (k : ℕ) → k < l.number → IsAllowedAt l.rule l.periodic k

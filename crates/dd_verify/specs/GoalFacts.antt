@@ -1,0 +1,11 @@
+-- The facts about the goals of a question.
+use Rattle.dd_boxes.specs.Goals.{GoalOf}
+use Rattle.dd_formula.specs.LocalRule.{LocalRule}
+use Rattle.dd_problem.specs.pushing.GoalFacts.{HasGoalFacts}
+use Rattle.dd_question.specs.{Conjugacies.ConjugacyOf, Conjugacies.EachPart, Questions.Asked}
+use Rattle.dd_question.specs.Questions as asked
+
+-- a box question or a conjugacy, with the facts about its goals
+pub data HaveGoalFacts : Asked → Type 0 where
+  box_facts : {x : LocalRule} {g : GoalOf} → HasGoalFacts x g → HaveGoalFacts (asked.box x g)
+  conjugacy_facts : {c : ConjugacyOf} → EachPart HasGoalFacts c → HaveGoalFacts (asked.conjugacy c)
