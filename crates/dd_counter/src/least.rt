@@ -12,10 +12,11 @@ ghost use Rattle.dd_counter.specs.searching.Lighter.{IsLighter};
 
 use crate::weights::weight_clauses;
 use dd_derivation::{Outcome, Step, last_number};
+use dd_elimination::solve_reduced;
 use dd_formula::Rule;
 use dd_pattern::Periodic;
 use dd_problem::read_torus;
-use dd_solver::{solve, trimmed};
+use dd_solver::trimmed;
 use dd_values::Items;
 use std::alloc::{AllocError, Global};
 
@@ -56,7 +57,7 @@ fn search_below(
     ensures { IfOk result (IsLighter rule.now (periods_of periods 0) weights.now below) }
 {
     let cnf = weight_clauses(alloc, rule, periods, weights, below)?;
-    match solve(alloc, &cnf)? {
+    match solve_reduced(alloc, &cnf)? {
         Outcome::Found(found) => {
             let periodic = read_torus(alloc, rule, periods, 0, &found)?;
             // This call tells the proof what the type guarantees.

@@ -2,6 +2,7 @@
 // clause.
 use dd_clause::{Clause, Cnf, Literal, satisfies};
 use dd_derivation::{Marks, Outcome, Step, check_refutation};
+use dd_elimination::solve_reduced;
 use dd_solver::{solve, trimmed};
 use dd_values::Items;
 use std::alloc::{AllocError, Global};
@@ -61,9 +62,19 @@ fn push_pigeonholes(numbers: &mut Vec<i32>, first: i32, holes: i32) -> Result<()
     Ok(())
 }
 
-/// The answer, confirmed by the check of assignments or of refutations.
+/// The answer of both searches, each confirmed.
 fn answer(alloc: Global, cnf: &Cnf) -> Result<&'static str, AllocError> {
-    match solve(alloc, cnf)? {
+    let whole = confirmed(alloc, cnf, solve(alloc, cnf)?)?;
+    let reduced = confirmed(alloc, cnf, solve_reduced(alloc, cnf)?)?;
+    if whole != reduced {
+        return Ok("different");
+    }
+    Ok(whole)
+}
+
+/// An outcome, confirmed by the check of assignments or of refutations.
+fn confirmed(alloc: Global, cnf: &Cnf, outcome: Outcome) -> Result<&'static str, AllocError> {
+    match outcome {
         Outcome::Found(assignment) => {
             if satisfies(cnf, &assignment) {
                 return Ok("found");
