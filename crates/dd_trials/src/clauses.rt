@@ -84,8 +84,8 @@ const SIZES: [(&str, u32, u32, u32, u32); 18] = [
     // The formula is about one symbol of one cell, so there is no gate. A negation needs no gate either.
     ("%dim 1 %rule x o=1", 0, 8, 8, 51),
     ("%dim 1 %rule x !(o.rt=1)", 0, 0, 8, 24),
-    // An implication is a gate over two parts. Here one of these parts is a gate over two parts itself. So each position has 3 +
-    // 3 + 3 clauses. There are 9, 16 and 25 positions.
+    // An implication is a gate over two parts, and one of these parts is itself a gate over two. This gives 3 + 3 + 3 clauses on
+    // each of 9, 16 and 25 positions.
     ("%rule x o=1 -> (o.rt=0 & o.up=0)", 0, 1, 3, 81),
     ("%rule x o=1 -> (o.rt=0 & o.up=0)", 7, 1, 4, 151),
     ("%rule x o=1 -> (o.rt=0 & o.up=0)", 7, 2, 4, 232),
