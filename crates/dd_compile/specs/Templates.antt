@@ -1,4 +1,4 @@
--- Templates, which contracts see as a rule and a node: the gates are placed at one cell of this node after another.
+-- Templates, which contracts see as a rule and one of its nodes. The gates of a template are placed at one cell with this node after another.
 use Rattle.std.specs.Prelude.{ℕ}
 use Rattle.dd_formula.specs.LocalRule.{LocalRule}
 

@@ -1,6 +1,6 @@
-//! Expansions, rules and the values of automata as gates. An expansion is a formula without variables. The gates stand over
-//! signals that say which symbol each cell has. The signal that says that a cell has a symbol is their wire. One wire for each
-//! symbol of a cell is the direct encoding of finite domains (Walsh 2000).
+//! Expansions, rules and the values of automata as gates. An expansion is a formula without variables. The inputs of the gates
+//! are signals that say which symbol each cell has. The signal that says that a cell has a symbol is called the wire of the
+//! cell and the symbol. Having one wire for each symbol of a cell is the direct encoding of finite domains (Walsh 2000).
 #![tactic(auto)]
 
 mod automata;

@@ -1,5 +1,6 @@
 //! The search for a configuration of least weight on a torus. After each configuration that is found, a lighter one is searched
-//! for, until that is refuted. While the weight is high, much lighter ones are asked for, so that few searches are needed.
+//! for, until a refutation shows that there is none. While the weight may still be far above the least one, the search asks for
+//! much lighter configurations, so that few searches are needed.
 ghost use Rattle.std.specs.Prelude.{◌≡◌, ◌≤◌, ◌*◌, length, All, IfOk};
 ghost use Rattle.dd_values.specs.Bounds.{most_variables, most_weight};
 ghost use Rattle.dd_pattern.specs.Periods.{periods_of, periods_volume};
@@ -23,27 +24,27 @@ use std::alloc::{AllocError, Global};
 /// The least weight of the configurations of given periods that live in a rule's subshift.
 #[derive(Debug, Drop)]
 pub enum LeastWeight {
-    /// The least weight, and a configuration that has it. The steps refute that a configuration weighs less. There are none if the
-    /// weight is 0.
+    /// The least weight, and a configuration that has it. The steps refute the clauses that ask for a smaller weight. There are
+    /// no steps if the weight is 0.
     Least {
         weight: u64,
         periodic: Periodic,
         steps: Items<Step>,
     },
-    /// No configuration lives. The steps refute that one does.
+    /// No configuration lives in the subshift. The steps refute the clauses that ask for one.
     Nothing {
         steps: Items<Step>,
     },
 }
 
-/// What a search gives: a configuration that weighs less than a bound, or steps that refute that there is one.
+/// The result of one search: a configuration that weighs less than a bound, or steps that refute the clauses that ask for one.
 #[derive(Drop)]
 enum Lighter {
     Found(Periodic),
     Nothing(Items<Step>),
 }
 
-/// Looks for a configuration that lives and, if `below` is at least 1, weighs less than `below`.
+/// Searches for a configuration that lives in the rule's subshift and, if `below` is at least 1, weighs less than `below`.
 fn search_below(
     alloc: Global,
     rule: &Rule,
@@ -74,12 +75,13 @@ fn search_below(
     }
 }
 
-/// The first step of the descent. The descent ends once the weight is known to be at most this much above the least one.
+/// The first step of the descent. The descent ends once the weight is known to be at most this much above the least weight.
 const NEAR: u64 = 32;
 
-/// The descent: from `start` to a living configuration that weighs at most `NEAR` more than the least weight. Each search asks for
-/// one that is lighter by more than `step`. If that leaves only refuted weights, it asks for one that weighs `refuted`. A success
-/// doubles the step, and a refutation sets it back to `NEAR`.
+/// The descent: goes from the living configuration `start` to one that weighs at most `NEAR` more than the least weight. Each
+/// search asks for a configuration that is lighter than the last one by more than `step`. If all weights that small are refuted,
+/// it asks for one that weighs `refuted`, the least weight that is not refuted. A success doubles the step, and a refutation sets
+/// it back to `NEAR`.
 fn descended(
     alloc: Global,
     rule: &Rule,
@@ -117,8 +119,8 @@ fn descended(
     Ok(best)
 }
 
-/// The least weight of one fundamental box over the configurations of these periods, with shear 0, that live in the rule's
-/// subshift, or that none lives. The symbol `s` weighs `weights[s]`.
+/// The least weight of a configuration with these periods and shear 0 that lives in the rule's subshift, or that there is no such
+/// configuration. The weight is that of one fundamental box, and the symbol `s` weighs `weights[s]`.
 pub fn least_weight(
     alloc: Global,
     rule: &Rule,

@@ -1,4 +1,6 @@
-//! First-order formulas over the cells of a topology, and their expansions without variables.
+//! First-order formulas over the cells of a topology, and their expansions. The expansion of a formula at a cell says the
+//! same without variables: each quantifier is written out over the cells of its balls. The size of an expansion is the
+//! number of its instances: the expansion itself, its parts, their parts, and so on.
 #![tactic(auto, using(std::proofs::lemmas::Grind::common_steps))]
 
 mod atoms;

@@ -15,7 +15,7 @@ use dd_values::{GREATEST_PERIOD, GREATEST_RADIUS, MOST_PIVOTS};
 use dd_written::{Name, Number, Text, name_text, number_value};
 use std::alloc::{AllocError, Global};
 
-/// Whether a kind of topology agrees with the dimension, and with the nodes if the script names them.
+/// Whether the built-in topology of this kind has the script's dimension and, if the script names its nodes, as many nodes.
 pub(crate) fn kind_fits(alloc: Global, known: &Known, kind: Kind) -> Result<bool, AllocError>
     ensures { IfOk result (λ fits. fits ≡ kind_fits known.now kind) }
 {
@@ -39,7 +39,7 @@ impl Notes<Edge> for Context {
     }
 }
 
-/// Notes a name that names no symbol.
+/// Notes a name that isn't that of a symbol.
 impl Notes<Name> for Context {
     ghost faults = { λ x. missing x.text x.known.setting.symbols };
 
@@ -57,7 +57,7 @@ pub(crate) fn is_restricted(context: &Context, node: Name) -> bool
     number.is_some_and(|number| known.restricted.as_slice().contains(&number))
 }
 
-/// Whether `limits` may not set these numbers: one of them exceeds its limit, or the period is 0.
+/// Whether the command `limits` must not set these numbers, because one of them exceeds its limit or the period is 0.
 pub(crate) fn passes_limits(text: &Text, radius: Number, period: Number, pivots: Number) -> bool
     ensures { result ≡ passes_limits (written_value text.now radius) (written_value text.now period) (written_value text.now pivots) }
 {

@@ -1,5 +1,6 @@
-//! Local rules and cellular automata: the truth of a rule, the values of an automaton, the cells that they read, and their
-//! limits. The crate also tests whether a periodic configuration is in the subshift of a rule.
+//! Local rules and cellular automata: the truth of a rule, the value of an automaton, the cells that they read (the cells whose
+//! symbols they look up), and their limits. The crate also tests whether a periodic configuration is in the subshift of a rule:
+//! the set of the configurations for which the rule is true at every cell.
 #![tactic(auto, using(std::proofs::lemmas::Grind::common_steps))]
 
 mod automaton;

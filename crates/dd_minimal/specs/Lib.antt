@@ -1,4 +1,4 @@
--- patterns: which cells of a filling they keep, and what agrees with them
+-- patterns, which keep some cells of a filling, and the fillings that agree with them
 pub mod Patterns
 -- the minimal list of a rule at a node
 pub mod Minimal

@@ -49,10 +49,10 @@ problem l x g = record {
   clauses = problem_clauses l x g;
 }
 
--- on the box of radius n
+-- the clause list of the question on the box of radius n
 abbrev pub box_problem : LocalRule → GoalOf → ℕ → ClauseList
 box_problem x g n = problem (box_layout x n) x g
 
--- on the torus of these periods
+-- the clause list of the question on the torus of these periods
 abbrev pub torus_problem : LocalRule → GoalOf → Periods → ClauseList
 torus_problem x g periods = problem (torus_layout x g periods) x g

@@ -17,8 +17,8 @@ use dd_formula::{Automaton, Rule};
 use dd_lattice::{Cell, Position};
 use std::alloc::{AllocError, Global};
 
-/// Adds for each symbol a gate that says that it is the first value and not the second. Returns the gates' signals. `first` and
-/// `second` hold, for each symbol, the signal that says that it is this value.
+/// For each symbol, adds a gate that says that it is the first value and not the second. Returns the gates' signals. `first`
+/// holds, for each symbol, the signal that says that it is the first value, and `second` likewise for the second value.
 fn compile_apart(
     circuit: &mut Circuit,
     alloc: Global,

@@ -47,8 +47,8 @@ impl Model for Encoder {
     ghost invariant = { λ e. e.cnf.variables ≡ size_of e.circuit.inputs e.circuit.gates };
 }
 
-/// Gives the clause list as many variables as the circuit has. If `made` is a signal, also adds the clauses of all gates but the
-/// first `before`, and returns the signal.
+/// Gives the clause list as many variables as the circuit has. If `made` is a signal, also adds the clauses of all gates except
+/// the first `before` gates, and returns the signal.
 fn push_made(
     alloc: Global,
     cnf: &mut Cnf,

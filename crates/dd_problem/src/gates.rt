@@ -42,7 +42,7 @@ fn push_place(
     encoder.push_clause(&[literal_of(signal)])
 }
 
-/// Does what `push_place` does, if each cell that the rule reads at the cell has inputs; else does nothing.
+/// Does what `push_place` does if each cell that the rule reads at `cell` has inputs. Otherwise does nothing.
 fn push_if_wired(
     encoder: &mut Encoder,
     rule: &Rule,
@@ -59,7 +59,7 @@ fn push_if_wired(
     ensures inputs { encoder.new.circuit.inputs ≡ encoder.old.circuit.inputs }
     ensures ok { OnOk result (encoder.new ≡ with_parts encoder.old (wired_parts inputs.now encoder.old.circuit.inputs rule.now (cell.now ∷ []))) }
 {
-    // This call brings in a fact: the rule's invariant.
+    // This call tells the proof the rule's invariant.
     let _nodes = rule.nodes();
     if !reads_are_wired(encoder.circuit(), rule, cell, inputs) {
         return Ok(());

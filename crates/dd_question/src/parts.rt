@@ -163,7 +163,7 @@ pub(crate) fn check_equality(left: &Rule, right: &Rule) -> Result<(), QuestionFa
     Ok(())
 }
 
-/// Whether these are periods of a strip of the rule's dimension.
+/// Whether these may be the periods of a strip of the rule's dimension.
 fn is_strip(rule: &Rule, periods: [u32; 2]) -> bool
     ensures { IsTrue result ↔ IsStrip rule.now periods }
 {
@@ -243,7 +243,7 @@ fn is_among(vector: &Position, others: &[Position]) -> bool
     others.iter().any(|other| vector.cmp(other).is_eq())
 }
 
-/// Whether no vector comes again later in the list.
+/// Whether no vector occurs twice in the list.
 fn are_apart(vectors: &[Position]) -> bool
     ensures { result ≡ are_apart vectors.now }
 {
@@ -253,7 +253,7 @@ fn are_apart(vectors: &[Position]) -> bool
     }
 }
 
-/// Whether each of the vectors is one along which amounts may be sent.
+/// Whether amounts may be sent along each of the vectors.
 fn are_short(dimension: u32, vectors: &[Position]) -> bool
     ensures { IsTrue result ↔ All (IsVector dimension) vectors.now }
 {

@@ -1,7 +1,10 @@
-//! The linear program of a discharge. Each position first holds the weight of its symbols. Along each of some vectors it gives
-//! an amount that depends on the pattern around it. The program seeks amounts with which the least that any position then
-//! holds is as great as possible. This crate makes the program. It lists the cells around the origin that matter, and their
-//! admissible fillings. From these come the patterns that they show, and the distinct rows that they require.
+//! The linear program of a discharge, which is a plan for moving weight between positions. At first each position holds the
+//! weight of its symbols. Then it gives an amount along each of some vectors. The amount depends on the pattern around the
+//! position: the symbols of a box. The program seeks amounts that make the least that any position then holds as great as
+//! possible. To make the program, this crate lists the cells around the origin that matter, and their admissible fillings. (A
+//! filling is admissible if the rule is true at each cell where it fits: where the cell, and each cell that the rule reads
+//! there, has a symbol.) From the fillings come the patterns that they show, and the distinct rows that they require. (A row
+//! is a linear inequality.)
 #![tactic(auto, using(std::proofs::lemmas::Grind::common_steps))]
 
 mod domain;

@@ -1,6 +1,6 @@
--- when an answer is right
+-- when the outcome of a search is right
 pub mod Answers
--- what it is for each step of a refutation to be used
+-- when each step of a refutation is used
 pub mod Trimming
 -- the state of the search and its parts
 pub mod searching

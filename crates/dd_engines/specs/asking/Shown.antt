@@ -6,7 +6,7 @@ use Rattle.dd_engines.specs.declared.roster.Asked.{Asked}
 use Rattle.dd_engines.specs.declared.roster.Asked.TheVariants.{Right, Silent, Wrong}
 use Rattle.dd_engines.specs.{Proposals.IsRightOutcome, Rounds.Seen}
 
--- it gave a right proposal, gave nothing, or isn't sound
+-- the engine made a right proposal, proposed nothing, or isn't sound
 abbrev pub Shows : ClauseList → Seen → Seen → Asked → Type 0
 Shows cnf old new (Right outcome) = IsRightOutcome cnf outcome × Rose old.given new.given
 Shows cnf old new Silent = new.given ≡ old.given
