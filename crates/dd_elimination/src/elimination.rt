@@ -345,8 +345,12 @@ impl Elimination {
         {
             return Ok(false);
         }
-        let Some(resolvents) =
-            self.resolvents(alloc, variable, positive.as_slice(), negative.as_slice())?
+        let Some(resolvents) = self.resolvents(
+            alloc,
+            variable,
+            positive.as_slice(),
+            negative.as_slice(),
+        )?
         else {
             return Ok(false);
         };

@@ -36,7 +36,11 @@ fn renumbered(numbers: &[u64], before: u64, hints: Items<u64>) -> Items<u64> {
 
 impl Elimination {
     /// The clauses that are left. `None` if one has a variable that the list hasn't, which can't be.
-    pub(crate) fn reduced(&self, alloc: Global, whole: &Cnf) -> Result<Option<Reduced>, AllocError> {
+    pub(crate) fn reduced(
+        &self,
+        alloc: Global,
+        whole: &Cnf,
+    ) -> Result<Option<Reduced>, AllocError> {
         let mut cnf = Cnf::new(alloc, whole.variables());
         let mut numbers: Vec<u64> = Vec::new(alloc);
         for entry in self.entries.as_slice() {

@@ -13,8 +13,8 @@ abbrev pub IsSatisfying : ClauseList → List Bool → Type 0
 IsSatisfying cnf values = (length values ≡ cnf.variables) × Satisfies (true_variables values) cnf.clauses
 
 -- the clauses are unsatisfiable: no assignment satisfies them
-abbrev pub IsUnsatisfied : ClauseList → Type 0
-IsUnsatisfied cnf = (set : ℕ → Bool) → Satisfies set cnf.clauses → ⊥
+abbrev pub IsUnsatisfiable : ClauseList → Type 0
+IsUnsatisfiable cnf = (set : ℕ → Bool) → Satisfies set cnf.clauses → ⊥
 
 -- the proposal is right; `Nothing` counts as right
 abbrev pub IsRight : ClauseList → Proposal → Type 0
@@ -35,7 +35,7 @@ GivenAfter old new (Refutation steps) = RisesOn old new
 -- the outcome is right; if it is a refutation, no assignment satisfies the clauses
 abbrev pub IsRightOutcome : ClauseList → Outcome → Type 0
 IsRightOutcome cnf (Found values) = IsSatisfying cnf values
-IsRightOutcome cnf (Refuted steps) = IsRefuting cnf steps × IsUnsatisfied cnf
+IsRightOutcome cnf (Refuted steps) = IsRefuting cnf steps × IsUnsatisfiable cnf
 
 -- how a round ends, by what it returns
 abbrev pub round_end : {E : Type 0} → Result (Option Outcome) E → End

@@ -19,7 +19,7 @@ pub struct Roster<E = Box<dyn Engine>> {
 }
 
 /// What asking one engine has shown.
-pub enum Asked {
+pub enum Reply {
     /// It proposed this outcome, which is right.
     Right(Outcome),
     /// It proposed nothing.
@@ -29,25 +29,25 @@ pub enum Asked {
 }
 
 /// Asks one engine, and checks its proposal.
-fn ask_one<E: Engine>(alloc: Global, cnf: &Cnf, engine: &mut E) -> Result<Asked, AllocError>
+fn ask_one<E: Engine>(alloc: Global, cnf: &Cnf, engine: &mut E) -> Result<Reply, AllocError>
     ensures once { AskedOnce (seen_of_engine E.asked E.given E.sound engine.old) (seen_of_engine E.asked E.given E.sound engine.new) }
     ensures shows { IfOk result (Shows cnf.now (seen_of_engine E.asked E.given E.sound engine.old) (seen_of_engine E.asked E.given E.sound engine.new)) }
 {
     match engine.propose(alloc, cnf)? {
-        Proposal::Nothing => Ok(Asked::Silent),
+        Proposal::Nothing => Ok(Reply::Silent),
         Proposal::Found(assignment) => {
             if satisfies(cnf, &assignment) {
-                Ok(Asked::Right(Outcome::Found(assignment)))
+                Ok(Reply::Right(Outcome::Found(assignment)))
             } else {
-                Ok(Asked::Wrong)
+                Ok(Reply::Wrong)
             }
         }
         Proposal::Refutation(steps) => {
             let mut marks = Marks::new(alloc, cnf, steps.as_slice())?;
             if check_refutation(cnf, steps.as_slice(), &mut marks) {
-                Ok(Asked::Right(Outcome::Refuted(steps)))
+                Ok(Reply::Right(Outcome::Refuted(steps)))
             } else {
-                Ok(Asked::Wrong)
+                Ok(Reply::Wrong)
             }
         }
     }
@@ -81,9 +81,9 @@ impl<E: Engine> Roster<E> {
         let mut place = 0;
         while place < self.engines.len() {
             match ask_one(alloc, cnf, &mut self.engines[place])? {
-                Asked::Right(outcome) => return Ok(Some(outcome)),
-                Asked::Silent => place += 1,
-                Asked::Wrong => {
+                Reply::Right(outcome) => return Ok(Some(outcome)),
+                Reply::Silent => place += 1,
+                Reply::Wrong => {
                     let _ = self.engines.remove(place);
                 }
             }

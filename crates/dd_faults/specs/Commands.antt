@@ -34,8 +34,8 @@ abbrev pub weight_faults : Context → Number → List Fault
 weight_faults x n = over (nat_lt most_weight (written_value x.text n)) Limit.Weight
 
 -- the command `limits` must not set these numbers, because one of them exceeds its limit or the period is 0
-abbrev pub passes_limits : ℕ → ℕ → ℕ → Bool
-passes_limits radius period pivots = nat_lt greatest_radius radius || nat_lt period 1 || nat_lt greatest_period period || nat_lt most_pivots pivots
+abbrev pub exceeds_limits : ℕ → ℕ → ℕ → Bool
+exceeds_limits radius period pivots = nat_lt greatest_radius radius || nat_lt period 1 || nat_lt greatest_period period || nat_lt most_pivots pivots
 
 -- ---- definitions
 
@@ -101,7 +101,7 @@ faults_of x (Command.Edges es) = flat_map (edge_faults x) es ++ (twice_labelled 
 faults_of x (Command.Only node symbols) =
     missing x.text x.known.setting.nodes node ++ (when (is_restricted x node) (Fault.Twice node) ++ (flat_map (missing x.text x.known.setting.symbols) symbols ++ twice_named x.text symbols))
 faults_of x (Command.Weights ns) = dimension_unless (length ns == length x.known.setting.symbols) ++ flat_map (weight_faults x) ns
-faults_of x (Command.Limits radius period pivots) = over (passes_limits (written_value x.text radius) (written_value x.text period) (written_value x.text pivots)) Limit.Limits
+faults_of x (Command.Limits radius period pivots) = over (exceeds_limits (written_value x.text radius) (written_value x.text period) (written_value x.text pivots)) Limit.Limits
 faults_of x (Command.Rule called f) = named_again x.text x.known called ++ formula_faults x f []
 faults_of x (Command.Automaton called cases symbol) =
     named_again x.text x.known called ++ (flat_map (case_faults x) cases ++ missing x.text x.known.setting.symbols symbol)

@@ -10,7 +10,7 @@ use crate::boxes::configuration;
 use crate::each::note_each;
 use crate::fault::{Done, Fault, Found, Limit, Refusal, note_if, note_over};
 use crate::formulas::{cases, formula};
-use crate::header::{is_restricted, kind_fits, passes_limits};
+use crate::header::{exceeds_limits, is_restricted, kind_fits};
 use crate::names::{note_defined, note_missing};
 use crate::numbers::note_dimension_unless;
 use crate::requests::request;
@@ -62,7 +62,7 @@ fn note_header(alloc: Global, context: &Context, command: &Command, found: &mut 
             period,
             pivots,
         } => {
-            let passed = passes_limits(text, *radius, *period, *pivots);
+            let passed = exceeds_limits(text, *radius, *period, *pivots);
             note_over(found, passed, Limit::Limits);
         }
         _ => {}

@@ -2,7 +2,7 @@
 ghost use Rattle.std.specs.Prelude.{◌≡◌, IfOk};
 ghost use Rattle.dd_written.specs.Values.{written_value};
 ghost use Rattle.dd_faults.specs.Names.{missing};
-ghost use Rattle.dd_faults.specs.Commands.{kind_fits, edge_faults, is_restricted, passes_limits};
+ghost use Rattle.dd_faults.specs.Commands.{kind_fits, edge_faults, is_restricted, exceeds_limits};
 
 use crate::each::Notes;
 use crate::fault::{Found, Limit, note_over};
@@ -58,8 +58,8 @@ pub(crate) fn is_restricted(context: &Context, node: Name) -> bool
 }
 
 /// Whether the command `limits` must not set these numbers, because one of them exceeds its limit or the period is 0.
-pub(crate) fn passes_limits(text: &Text, radius: Number, period: Number, pivots: Number) -> bool
-    ensures { result ≡ passes_limits (written_value text.now radius) (written_value text.now period) (written_value text.now pivots) }
+pub(crate) fn exceeds_limits(text: &Text, radius: Number, period: Number, pivots: Number) -> bool
+    ensures { result ≡ exceeds_limits (written_value text.now radius) (written_value text.now period) (written_value text.now pivots) }
 {
     let period = number_value(text, period);
     number_value(text, radius) > GREATEST_RADIUS

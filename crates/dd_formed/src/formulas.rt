@@ -5,7 +5,7 @@ ghost use Rattle.std.specs.Prelude.{◌≡◌, ◌+◌, ◌<◌, ◌^◌, ◌↔
 ghost use Rattle.std.specs.List.{list_all};
 ghost use Rattle.dd_expansion.specs.Limits.{term_fits, ball_fits, balls_fit, formula_fits, depth, IsFormula};
 
-use crate::depth::keeps_depth;
+use crate::depth::is_within_depth;
 use dd_expansion::{BallOf, Formula, Term};
 use dd_topology::Topology;
 
@@ -21,7 +21,7 @@ const WIDEST_RADIUS: u32 = 3;
 
 /// What formulas may name: the labels and nodes of a topology, and symbols.
 #[derive(Drop)]
-struct Language<'a> {
+struct Signature<'a> {
     topology: &'a Topology,
     /// How many labels the topology has. `Topology` has no method that returns this.
     labels: u32,
@@ -55,7 +55,7 @@ fn balls_fit(scope: u32, balls: &[BallOf]) -> bool
     balls.len() <= MOST_BALLS && all_balls_fit(scope, balls)
 }
 
-impl Language<'_> {
+impl Signature<'_> {
     /// Whether the term's variable is in scope, the term has at most `MOST_MOVES` moves, and their labels exist.
     fn term_fits(&self, scope: u32, term: &Term) -> bool
         ensures { result ≡ term_fits self.now.topology.now scope term.now }
@@ -141,10 +141,10 @@ pub fn is_formula(topology: &Topology, labels: u32, symbols: u32, formula: &Form
     requires { length topology.now.labels ≡ labels }
     ensures { IsTrue result ↔ IsFormula topology.now symbols formula.now }
 {
-    let language = Language {
+    let language = Signature {
         topology,
         labels,
         symbols,
     };
-    keeps_depth(formula) && language.fits(1, formula)
+    is_within_depth(formula) && language.fits(1, formula)
 }
