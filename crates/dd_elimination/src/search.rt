@@ -32,7 +32,7 @@ fn find_answer(alloc: Global, cnf: &Cnf) -> Result<Option<Outcome>, AllocError>
     let Some(reduced) = elimination.reduced(alloc, cnf)? else {
         return Ok(None);
     };
-    match solve_with(alloc, &reduced.cnf, Style::Broad)? {
+    match solve_with(alloc, &reduced.cnf, Style::Focused)? {
         Outcome::Found(assignment) => {
             let whole = elimination.extended(alloc, &assignment)?;
             if satisfies(cnf, &whole) {

@@ -7,7 +7,7 @@ ghost use Rattle.dd_examples.specs.Checked.{IsRight, AreRight, IsJudged, IsJudge
 
 use dd_certificate::Answer;
 use dd_checker::{Verdict, check_answer};
-use dd_output::{Output, OutputFault, read_output};
+use dd_output::{CertificateFault, Output, read_output};
 use dd_script::{Script, ScriptFault, ScriptKind, parse};
 use std::alloc::{AllocError, Global};
 
@@ -15,7 +15,7 @@ use std::alloc::{AllocError, Global};
 #[derive(Debug, Drop)]
 pub enum Unchecked {
     /// The bytes are no output, or memory ran out.
-    Output(OutputFault),
+    Output(CertificateFault),
     /// The bytes that the output gives as its script spell no script, or memory ran out.
     Script(ScriptFault),
 }

@@ -1,17 +1,17 @@
 //! Reading an output, and writing it again.
 ghost use Rattle.std.specs.Prelude.{◌≡◌, IfOk};
 
-use dd_output::{OutputFault, read_output, write_output};
+use dd_output::{CertificateFault, read_output, write_output};
 use std::alloc::Global;
 
 /// Reads these bytes as an output, and writes the output again, as the same bytes. If they are no output, the error has the
 /// length of their longest prefix that begins one.
-pub fn rewritten(alloc: Global, bytes: &[u8]) -> Result<Vec<u8>, OutputFault>
+pub fn rewritten(alloc: Global, bytes: &[u8]) -> Result<Vec<u8>, CertificateFault>
     ensures { IfOk result (λ text. text.items ≡ bytes.now) }
 {
     let output = read_output(alloc, bytes)?;
     match write_output(alloc, &output) {
         Ok(text) => Ok(text),
-        Err(_) => Err(OutputFault::Memory),
+        Err(_) => Err(CertificateFault::Memory),
     }
 }

@@ -7,7 +7,7 @@ use crate::rewriting::rewritten;
 use crate::squares::chessboard_membership;
 use dd_certificate::Answer;
 use dd_formula::Membership;
-use dd_output::{MOST_OUTPUT, OutputFault};
+use dd_output::{CertificateFault, MOST_OUTPUT};
 use dd_outside::{ReadAllFault, Source, read_all};
 use dd_script::{ScriptFault, ScriptKind};
 use dd_values::{Limits, MOST_SCRIPT};
@@ -70,11 +70,11 @@ impl From<ReadAllFault> for Fault {
     }
 }
 
-impl From<OutputFault> for Fault {
-    fn from(fault: OutputFault) -> Fault {
+impl From<CertificateFault> for Fault {
+    fn from(fault: CertificateFault) -> Fault {
         match fault {
-            OutputFault::Malformed(_) => Fault::Output,
-            OutputFault::Memory => Fault::Memory,
+            CertificateFault::Malformed(_) => Fault::Output,
+            CertificateFault::Memory => Fault::Memory,
         }
     }
 }

@@ -5,7 +5,7 @@ ghost use Rattle.std.specs.Prelude.{◌≡◌, ◌+◌, ◌<◌, ◌^◌, ◌↔
 ghost use Rattle.std.specs.List.{list_all};
 ghost use Rattle.dd_expansion.specs.Limits.{term_fits, ball_fits, balls_fit, formula_fits, depth, IsFormula};
 
-use crate::depth::is_within_depth;
+use crate::depth::keeps_depth;
 use dd_expansion::{BallOf, Formula, Term};
 use dd_topology::Topology;
 
@@ -146,5 +146,5 @@ pub fn is_formula(topology: &Topology, labels: u32, symbols: u32, formula: &Form
         labels,
         symbols,
     };
-    is_within_depth(formula) && language.fits(1, formula)
+    keeps_depth(formula) && language.fits(1, formula)
 }

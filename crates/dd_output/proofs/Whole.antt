@@ -5,10 +5,10 @@ use Rattle.std.proofs.{lemmas.List.append-nil, lemmas.List.nil_from_length, lemm
 use Rattle.std.specs.Prelude.{◌==◌}
 use Rattle.dd_output.specs.{declared.output.Output.Output, reading.Stops.Stop, reading.Stops.stop, reading.Stops.StoppedAt}
 use Rattle.dd_output.specs.{Outputs.output_text, Outputs.IsWritableOutput, Outputs.IsWellFormed, Offsets.IsOffset, Offsets.ReadsOutput}
-use Rattle.dd_output.specs.declared.fault.OutputFault.{OutputFault}
+use Rattle.dd_output.specs.declared.fault.CertificateFault.{CertificateFault}
 use Rattle.dd_output.specs.reading.Whole.{output_at, all_at, missing_of, completion}
 use Rattle.dd_output.proofs.{Readers.bind_ok, Readers.bind_err, Readers.ok_is, Outputs.output_reads}
-use Rattle.dd_output.specs.declared.fault.OutputFault.TheVariants as faults
+use Rattle.dd_output.specs.declared.fault.CertificateFault.TheVariants as faults
 
 ended_ok : {A : Type 0} (b : Bool) (x y : A) (s : Stop) → cond b (Ok x) (Err s) ≡ Ok y → (b ≡ true) × (x ≡ y)
 ended_ok true x y s e = (refl, cc)
@@ -166,7 +166,7 @@ one_offset bytes m n one two =
     let down = no_less bytes n m two one in
     omega (arith, up, down)
 
-pub read_again : (o : Output) (read : Result Output OutputFault) → IsWritableOutput o → ReadsOutput (output_text o) read → (read ≡ Ok o) ⊎ (read ≡ Err faults.Memory)
+pub read_again : (o : Output) (read : Result Output CertificateFault) → IsWritableOutput o → ReadsOutput (output_text o) read → (read ≡ Ok o) ⊎ (read ≡ Err faults.Memory)
 read_again o (Ok p) fits good = inl (ap (λ (x : Output). Ok x) (unique p o good.0 fits (sym good.1)))
 read_again o (Err faults.Memory) fits good = inr refl
 read_again o (Err (faults.Malformed n)) fits good = absurd (good.0 (o, fits, refl))

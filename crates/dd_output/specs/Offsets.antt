@@ -1,9 +1,9 @@
 -- The output whose text the bytes are. If there is none, the bytes have an offset: the length of their longest prefix with which some output
 -- begins.
 use Rattle.std.specs.Prelude.{◌≡◌, ℕ, ◌<◌, ◌≤◌, List, ◌++◌, length, take, Result, Ok, Err}
-use Rattle.dd_output.specs.declared.{output.Output.Output, fault.OutputFault.OutputFault}
+use Rattle.dd_output.specs.declared.{output.Output.Output, fault.CertificateFault.CertificateFault}
 use Rattle.dd_output.specs.{Outputs.output_text, Outputs.IsWritableOutput, Outputs.IsWellFormed, reading.Whole.completion}
-use Rattle.dd_output.specs.declared.fault.OutputFault.TheVariants as faults
+use Rattle.dd_output.specs.declared.fault.CertificateFault.TheVariants as faults
 
 -- The longest prefix of the bytes with which a well-formed output begins has this length, and `completion` completes it.
 pub record IsOffset (bytes : List ℕ) (offset : ℕ) : Type 0 where
@@ -12,12 +12,12 @@ pub record IsOffset (bytes : List ℕ) (offset : ℕ) : Type 0 where
   pub no_longer : (n : ℕ) (more : List ℕ) → offset < n → n ≤ length bytes → IsWellFormed (take n bytes ++ more) → ⊥
 
 -- the bytes aren't the text of an output, and this is their offset; or memory ran out
-abbrev pub IsOutputFault : List ℕ → OutputFault → Type 0
+abbrev pub IsOutputFault : List ℕ → CertificateFault → Type 0
 IsOutputFault bytes faults.Memory = Unit {0}
 IsOutputFault bytes (faults.Malformed offset) = (IsWellFormed bytes → ⊥) × IsOffset bytes offset
 
 -- What reading the bytes gives: the only output with this text, or a fault. If there is no such output, the fault gives the offset of the bytes.
 -- Otherwise it says that memory ran out.
-abbrev pub ReadsOutput : List ℕ → Result Output OutputFault → Type 0
+abbrev pub ReadsOutput : List ℕ → Result Output CertificateFault → Type 0
 ReadsOutput bytes (Ok o) = IsWritableOutput o × (bytes ≡ output_text o)
 ReadsOutput bytes (Err fault) = IsOutputFault bytes fault

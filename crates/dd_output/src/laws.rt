@@ -3,8 +3,8 @@ ghost use Rattle.std.specs.Prelude.{◌≡◌, ◌++◌, ◌⊎◌, ℕ, List, R
 ghost use Rattle.dd_output.specs.declared.output.Output.{Output};
 ghost use Rattle.dd_output.specs.Outputs.{output_text, IsWritableOutput, IsWellFormed};
 ghost use Rattle.dd_output.specs.Offsets.{IsOffset, ReadsOutput};
-ghost use Rattle.dd_output.specs.declared.fault.OutputFault.{OutputFault};
-ghost use Rattle.dd_output.specs.declared.fault.OutputFault.TheVariants as faults;
+ghost use Rattle.dd_output.specs.declared.fault.CertificateFault.{CertificateFault};
+ghost use Rattle.dd_output.specs.declared.fault.CertificateFault.TheVariants as faults;
 ghost use Rattle.dd_output.specs.reading.Whole.{completion};
 
 /// Does nothing. Its contract says that different outputs have different texts.
@@ -14,7 +14,7 @@ pub fn one_output()
 
 /// Does nothing. Its contract says that reading the text of an output gives that output, unless memory runs out.
 pub fn read_again()
-    ensures { (o : Output) (read : Result Output OutputFault) → IsWritableOutput o → ReadsOutput (output_text o) read → (read ≡ Ok o) ⊎ (read ≡ Err faults.Memory) }
+    ensures { (o : Output) (read : Result Output CertificateFault) → IsWritableOutput o → ReadsOutput (output_text o) read → (read ≡ Ok o) ⊎ (read ≡ Err faults.Memory) }
 {}
 
 /// Does nothing. Its contract says that at most one offset fits the bytes, so the bytes determine the offset in `Malformed`.

@@ -21,7 +21,7 @@ mod sides;
 mod stars;
 mod writing;
 
-pub use fault::OutputFault;
+pub use fault::CertificateFault;
 pub use laws::{completes, one_offset, one_output, read_again};
 pub use output::Output;
 pub use reading::{MOST_OUTPUT, read_output};

@@ -16,7 +16,7 @@ ghost use Rattle.dd_output.specs.reading.Whole.{
 };
 
 use crate::bodies::answer_of;
-use crate::fault::{OutputFault, ReadFault};
+use crate::fault::{CertificateFault, ReadFault};
 use crate::lexing::{begins, bytes_at, number_at, word_at};
 use crate::output::Output;
 use dd_certificate::{Answer, push_decimal};
@@ -139,14 +139,14 @@ fn all_of(alloc: Global, bytes: &[u8]) -> Result<Output, ReadFault>
 /// `Malformed` if there is no such output. It holds the length of the longest prefix of the bytes with which some output begins.
 /// `Memory` if memory runs out.
 #[tactic(auto, using(crate::proofs::Whole::whole_takes, crate::proofs::Whole::refused_at, crate::proofs::Whole::left_fits))]
-pub fn read_output(alloc: Global, bytes: &[u8]) -> Result<Output, OutputFault>
+pub fn read_output(alloc: Global, bytes: &[u8]) -> Result<Output, CertificateFault>
     ensures { ReadsOutput bytes.now result }
 {
     match all_of(alloc, bytes) {
         Ok(output) => Ok(output),
-        Err(ReadFault::Memory) => Err(OutputFault::Memory),
+        Err(ReadFault::Memory) => Err(CertificateFault::Memory),
         Err(ReadFault::Stopped(left)) => {
-            Err(OutputFault::Malformed((bytes.len() - left) as u64))
+            Err(CertificateFault::Malformed((bytes.len() - left) as u64))
         }
     }
 }

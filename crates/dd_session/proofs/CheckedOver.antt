@@ -11,7 +11,7 @@ use Rattle.dd_session.specs.{Answers.has_unknown, Output.IsLineOf, Sides.Change,
 use Rattle.dd_session.specs.Checks.{offset_line, IsOutput, IsCheckable, IsRefusedOutput, malformed, no_script}
 use Rattle.dd_session.specs.Checked.{CheckedOver}
 use Rattle.dd_session.specs.checking.Judged.{RejectedHere, AcceptedAll, AllJudged, checked_status}
-use Rattle.dd_output.specs.declared.fault.OutputFault.TheVariants as faults
+use Rattle.dd_output.specs.declared.fault.CertificateFault.TheVariants as faults
 use Rattle.dd_script.specs.declared.fault.ScriptKind.TheVariants as refused
 
 output_itself : (o : Output) → IsWritableOutput o → IsOutput (output_text o) o

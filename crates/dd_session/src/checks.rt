@@ -15,7 +15,7 @@ use crate::session::{refuse, refuse_fault, status_of};
 use crate::status::Status;
 use crate::stream::RunFault;
 use dd_certificate::Answer;
-use dd_output::{MOST_OUTPUT, Output, OutputFault, one_output, read_output};
+use dd_output::{CertificateFault, MOST_OUTPUT, Output, one_output, read_output};
 use dd_outside::{ReadAllFault, Sink, Source, read_all};
 use dd_script::{Script, parse};
 use dd_spelling::spelled_or_refused;
@@ -73,11 +73,11 @@ fn check_bytes<K: Sink>(alloc: Global, bytes: &[u8], sink: &mut K) -> Status
 {
     match read_output(alloc, bytes) {
         Ok(output) => check_output(alloc, &output, sink),
-        Err(OutputFault::Malformed(offset)) => match offset_line(alloc, offset) {
+        Err(CertificateFault::Malformed(offset)) => match offset_line(alloc, offset) {
             Ok(line) => refuse(sink, line.as_bytes()),
             Err(AllocError) => Status::Memory,
         },
-        Err(OutputFault::Memory) => Status::Memory,
+        Err(CertificateFault::Memory) => Status::Memory,
     }
 }
 

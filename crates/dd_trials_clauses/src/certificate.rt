@@ -2,7 +2,7 @@
 // longest prefix that could begin an output, counted by hand.
 use crate::samples::{SAMPLES, Sample, answer_of};
 use dd_certificate::{Answer, answer_line, write_answer};
-use dd_output::{OutputFault, read_output, write_output};
+use dd_output::{CertificateFault, read_output, write_output};
 use std::alloc::{AllocError, Global};
 use std::process::Abort;
 use std::test::Fail;
@@ -47,7 +47,7 @@ fn writes_each_kind(rt: HostRuntime) -> Result<(), Fail> {
 /// The length of the longest prefix of the text that could begin an output; `None` if the text isn't refused.
 fn refused_at(alloc: Global, text: &[u8]) -> Option<u64> {
     match read_output(alloc, text) {
-        Err(OutputFault::Malformed(at)) => Some(at),
+        Err(CertificateFault::Malformed(at)) => Some(at),
         _ => None,
     }
 }

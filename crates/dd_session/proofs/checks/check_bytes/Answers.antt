@@ -1,5 +1,5 @@
 use Rattle.std.proofs.Common.{◌≡◌, refl, rules, subst}
-use Rattle.dd_output.specs.declared.fault.OutputFault.TheVariants as faults
+use Rattle.dd_output.specs.declared.fault.CertificateFault.TheVariants as faults
 use Rattle.dd_output.specs.Offsets.{IsOutputFault}
 use Rattle.dd_session.specs.Checks.{offset_line}
 use Rattle.dd_session.proofs.CheckedOver.{same_over, offset_over}
