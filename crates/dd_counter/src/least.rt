@@ -1,23 +1,28 @@
 //! The search for a configuration of least weight on a torus. After each configuration that is found, a lighter one is searched
 //! for, until a refutation shows that there is none. While the weight may still be far above the least one, the search asks for
-//! much lighter configurations, so that few searches are needed.
+//! much lighter configurations, so that few searches are needed. Before that, a local search makes the first configuration lighter.
 ghost use Rattle.std.specs.Prelude.{◌≡◌, ◌≤◌, ◌*◌, length, All, IfOk};
 ghost use Rattle.dd_values.specs.Bounds.{most_variables, most_weight};
 ghost use Rattle.dd_pattern.specs.Periods.{periods_of, periods_volume};
 ghost use Rattle.dd_boxes.specs.Goals.{always};
 ghost use Rattle.dd_boxes.specs.Counts.{most_clauses};
 ghost use Rattle.dd_boxes.specs.TorusPeriods.{AreTorusPeriods};
+ghost use Rattle.dd_solver.specs.Answers.{IsAnswer};
 ghost use Rattle.dd_counter.specs.Weights.{weight_count};
 ghost use Rattle.dd_counter.specs.Least.{greatest, IsLiving, IsLeast};
 ghost use Rattle.dd_counter.specs.searching.Lighter.{IsLighter};
 
+use crate::landscape::Landscape;
+use crate::lightening::Lightening;
+use crate::living::living;
 use crate::weights::weight_clauses;
+use dd_clause::Cnf;
 use dd_derivation::{Outcome, Step, last_number};
 use dd_elimination::solve_reduced;
 use dd_formula::Rule;
 use dd_pattern::Periodic;
 use dd_problem::read_torus;
-use dd_solver::trimmed;
+use dd_solver::{solve, trimmed};
 use dd_values::Items;
 use std::alloc::{AllocError, Global};
 
@@ -44,6 +49,18 @@ enum Lighter {
     Nothing(Items<Step>),
 }
 
+/// Finds an assignment that satisfies the clauses, or steps that refute them. Without a bound on the weight, the list is mostly
+/// easy to satisfy, and an elimination of variables would take longer than the search.
+fn solved(alloc: Global, cnf: &Cnf, below: u64) -> Result<Outcome, AllocError>
+    ensures answer { IfOk result (IsAnswer cnf.now.variables cnf.now.clauses) }
+{
+    if below == 0 {
+        solve(alloc, cnf)
+    } else {
+        solve_reduced(alloc, cnf)
+    }
+}
+
 /// Searches for a configuration that lives in the rule's subshift and, if `below` is at least 1, weighs less than `below`.
 fn search_below(
     alloc: Global,
@@ -58,7 +75,7 @@ fn search_below(
     ensures { IfOk result (IsLighter rule.now (periods_of periods 0) weights.now below) }
 {
     let cnf = weight_clauses(alloc, rule, periods, weights, below)?;
-    match solve_reduced(alloc, &cnf)? {
+    match solved(alloc, &cnf, below)? {
         Outcome::Found(found) => {
             let periodic = read_torus(alloc, rule, periods, 0, &found)?;
             // This call tells the proof what the type guarantees.
@@ -72,6 +89,31 @@ fn search_below(
             let _number = last_number(&cnf, used.as_slice());
             Ok(Lighter::Nothing(used))
         }
+    }
+}
+
+/// A torus whose rules take more clauses than this isn't searched locally.
+const MOST_LOCAL: u64 = 200_000;
+
+/// A living configuration that is most often lighter than the given one, by a local search.
+fn lightened(
+    alloc: Global,
+    rule: &Rule,
+    periods: [u32; 3],
+    weights: &[u32],
+    start: Periodic,
+) -> Result<Periodic, AllocError>
+    requires lives { IsLiving rule.now (periods_of periods 0) start }
+    ensures { IfOk result (IsLiving rule.now (periods_of periods 0)) }
+{
+    let Some(landscape) = Landscape::new(alloc, rule, &start, MOST_LOCAL)? else {
+        return Ok(start);
+    };
+    let search = Lightening::new(alloc, rule, &landscape, weights, start.symbols())?;
+    let symbols = search.run(alloc)?;
+    match living(rule, periods, symbols) {
+        Some(lighter) => Ok(lighter),
+        None => Ok(start),
     }
 }
 
@@ -138,7 +180,8 @@ pub fn least_weight(
         Lighter::Found(periodic) => periodic,
         Lighter::Nothing(steps) => return Ok(LeastWeight::Nothing { steps }),
     };
-    let mut found = descended(alloc, rule, periods, weights, first)?;
+    let light = lightened(alloc, rule, periods, weights, first)?;
+    let mut found = descended(alloc, rule, periods, weights, light)?;
     let mut weight = found.weight(weights);
     while weight > 0 {
         match search_below(alloc, rule, periods, weights, weight)? {

@@ -4,8 +4,11 @@
 #![tactic(auto)]
 
 mod counter;
+mod landscape;
 mod laws;
 mod least;
+mod lightening;
+mod living;
 mod weights;
 
 pub use laws::least_law;

@@ -3,6 +3,7 @@
 //! the set of the configurations for which the rule is true at every cell.
 #![tactic(auto, using(std::proofs::lemmas::Grind::common_steps))]
 
+mod allowed;
 mod automaton;
 mod by_cases;
 mod composition;
@@ -17,6 +18,7 @@ mod rule;
 mod shifting;
 mod values;
 
+pub use allowed::{fits, has_allowed};
 pub use automaton::{Automaton, Cases};
 pub use counts::{cut_off, plus, power, times};
 pub use dd_expansion::{Expanded, Formula, Term};

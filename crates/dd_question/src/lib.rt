@@ -21,5 +21,4 @@ pub use excess::Excess;
 pub use fault::QuestionFault;
 pub use laws::sound_questions;
 pub use measures::MOST_CLAUSES;
-pub use parts::has_allowed;
 pub use question::Question;

@@ -8,7 +8,7 @@ use Rattle.dd_topology.specs.Sets.{row_allows}
 use Rattle.dd_pattern.specs.Tile.{Tile}
 use Rattle.dd_formula.specs.{Living.Fits, Allowed.HasAllowed}
 use Rattle.dd_question.specs.{Questions.Asked, Questions.membership, Questions.box, Questions.IsFormed, Questions.excess_of, Questions.IsSoundAsked}
-use Rattle.dd_question.specs.lemmas.AllowedLaws.{allowed_from_box}
+use Rattle.dd_formula.specs.lemmas.AllowedTiles.{allowed_from_box}
 use Rattle.dd_pairs.specs.lemmas.{ComparisonLaws.comparison_fits, QueryLaws.item_at}
 use Rattle.dd_script.specs.{Parts.Parts, Parts.Known, Parts.LocalRule, Parts.Automaton, Parts.Query, Questions.asked, Questions.map_question, Questions.conjugacy_question, Questions.comparisons_for, Asking.AreOf, Asking.AreSound}
 use Rattle.dd_pairs.specs.{Comparisons.ComparisonOf, Comparisons.image, Comparisons.change, Comparisons.pair_of, Comparisons.IsPair, Queries.of_both, Queries.of_three, Queries.of_four, Queries.map_comparisons, Queries.conjugate_comparisons}

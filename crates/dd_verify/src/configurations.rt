@@ -13,10 +13,9 @@ ghost use Rattle.dd_boxes.specs.Witnesses.{IsWitness};
 
 use dd_automaton::differ_at_origin;
 use dd_boxes::Goal;
-use dd_formula::{Membership, Rule};
+use dd_formula::{Membership, Rule, has_allowed};
 use dd_lattice::{Cell, Position};
 use dd_pattern::Periodic;
-use dd_question::has_allowed;
 use std::alloc::{AllocError, Global};
 
 /// Whether the configuration lives in the rule's subshift.
