@@ -28,7 +28,7 @@ use Rattle.dd_compile.specs.lemmas.{Progress.size-append, CaseRules.agrees_befor
 use Rattle.dd_compile.proofs.Composing.{there_of}
 use Rattle.dd_formula.specs.declared.automaton.Automaton.TheVariants as v
 
--- signals that say the value of the cases say the value of the automaton that is given by them
+-- if signals say what value the cases give, they also say what the value of the automaton is that is given by these cases
 pub cases_say : (new : Network) (w : Wiring) (k : ℕ) (f : Automaton) (c : Cases) (at : Cell) (ss : List Signal) → f ≡ v.Given c → SaysCases new w k c at ss → SaysValue new w k f at ss
 cases_say new w k f c at ss is h =
     let here : SaysValue new w k (v.Given c) at ss = record {
@@ -119,7 +119,8 @@ found_wired circuit w k g c o found =
     ap (are_signals (size circuit) k) found.1
     ∙ and_from (length ss == k) (list_all (is_signal (size circuit)) ss) (eq-eqb (length ss) k found.2.says.one_each) (all_signals (size circuit) ss found.2.in_range)
 
--- an assignment that tells the symbols that the composition reads tells those that the inner automaton reads at each cell that the outer one reads
+-- if an assignment tells the symbols that the composition reads, it also tells those that the inner automaton reads at each cell that the outer one
+-- reads
 inner_tells : (set : ℕ → Bool) (w : Wiring) (f g : Automaton) (at : Cell) (look : Look) →
     TellsCells set w (flat_map (λ (c : Cell). map (shifted c.position) ((counted g).reads c.node)) ((counted f).reads at.node)) at look →
     (d : Cell) → Contains ((counted f).reads at.node) d → TellsCells set w ((counted g).reads d.node) (shifted at.position d) look

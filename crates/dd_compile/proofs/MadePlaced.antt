@@ -1,4 +1,4 @@
--- If the wires of an expansion are replaced by others, its gates are the old gates, placed over the new wires.
+-- If the wires of an expansion are replaced by others, the expansion's gates are the old gates, placed over the new wires.
 use Rattle.std.proofs.Common.{◌≡◌, ℕ, ◌+◌, ◌-◌, Bool, true, false, List, [], ◌∷◌, ◌++◌, Option, Some, None, map, length, slice_get, refl, ap, sym, ◌∙◌, arith}
 use Rattle.std.proofs.lemmas.{Bool.and_parts, List.map-append, List.length-map, Option.slice_get_past}
 use Rattle.std.specs.{Prelude.not, List.list_all}

@@ -51,7 +51,7 @@ placing_size inputs n gates i start now p within =
     let k = length-take i gates in
     omega (arith, l, m, k, within)
 
--- if t holds the rule r and the node a, a template of r at a is one of the rule and the node that t holds
+-- if t consists of the rule r and the node a, a template of r at a is a template of t's rule at t's node
 pub template_here : (t : RuleAt) (r : LocalRule) (a : ℕ) → rule_at r a ≡ t → (b : ℕ) → b ≡ t.node → (tc : Network) (ts : Signal) → IsTemplate r a tc ts → IsTemplate t.rule b tc ts
 template_here t r a is b node tc ts h =
     let rule : r ≡ t.rule = ap (λ (x : RuleAt). x.rule) is in

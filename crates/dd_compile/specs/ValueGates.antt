@@ -19,7 +19,7 @@ fresh n (suc k) = signal_of (suc n) ∷ fresh (suc n) k
 abbrev pub rules_made : Wiring → Cell → List (LocalRule × ℕ) → ℕ → AllMade
 rules_made w at cases n = all_made (map (λ case. compiled w at.position (expansion_at case.0 at.node)) cases) n
 
--- the choices: for each case a gate that says that its rule is true and no earlier rule is, and then a gate that says that no rule is true
+-- the choices: for each case a gate that says that the case's rule is true and no earlier rule is, and then a gate that says that no rule is true
 abbrev pub choices : List Signal → List Signal → List Gate
 choices before [] = And (map opposite before) ∷ []
 choices before (l ∷ ls) = And (l ∷ map opposite before) ∷ choices (before ++ l ∷ []) ls
@@ -73,7 +73,7 @@ composed_made reads f g w at n =
     let outer = f inner.wiring at (n + length inner.gates) in
     record { signals = outer.signals; gates = inner.gates ++ outer.gates }
 
--- the counts of an automaton, and the gates of its value
+-- the counts of an automaton (the cells that it reads, its instances and its depth), and the gates of its value
 pub record Gated : Type 0 where
   pub counts : Counted
   pub made : ValueMaker

@@ -53,7 +53,7 @@ CasesSay circuit w c at some signals =
 abbrev pub SaysWhich : (ℕ → Bool) → List Signal → ℕ → Type 0
 SaysWhich set signals symbol = (s : ℕ) (x : Signal) → slice_get signals s ≡ Some x → signal_value set x ≡ (symbol == s)
 
--- the same as `SaysValue`, for an automaton by cases
+-- the same as `SaysValue` below, for an automaton that is given by cases
 pub record SaysCases (circuit : Network) (w : Wiring) (k : ℕ) (cases : Cases) (c : Cell) (signals : List Signal) : Type 0 where
   pub one_each : length signals ≡ k
   pub says : (set : ℕ → Bool) (look : Look) → agrees set circuit.inputs circuit.gates ≡ true → HasSymbolsBelow k look → TellsCells set w (cases_reads cases.cases c.node) c look →

@@ -61,8 +61,8 @@ pub fn value_gates(_automaton: &Automaton, _symbols: u32)
         length (value_made _symbols _automaton.now w at n).gates ≤ value_clauses _symbols _automaton.now at.node }
 {}
 
-/// The same as `compile_value`, for any cell so near the origin that compositions of the automaton's depth read only cells in
-/// range there.
+/// The same as `compile_value`, for any cell so near the origin that an automaton of this depth (how deep its compositions are
+/// nested) reads only cells in the range of positions.
 #[cycle(compile_near)]
 fn compile_near(
     circuit: &mut Circuit,

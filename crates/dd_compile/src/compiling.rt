@@ -1,6 +1,6 @@
 //! The gates of an expansion: one for each constant, conjunction, disjunction and equivalence in it. Leaves and negations have
-//! no gates. A leaf says that a cell has a symbol, and its signal is the wire of that cell and symbol. The signal of a negation
-//! is the opposite of the signal that it negates.
+//! no gates. A leaf says that a cell has a certain symbol, and its signal is the wire of that cell and symbol. The signal of a
+//! negation is the opposite of the signal that it negates.
 ghost use Rattle.std.specs.Prelude.{◌≡◌, ◌≤◌, ◌+◌, ◌++◌, true, All, IfOk};
 ghost use Rattle.dd_values.specs.Bounds.{most_variables};
 ghost use Rattle.dd_circuit.specs.Circuits.{IsSignal, size};

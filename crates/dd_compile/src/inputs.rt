@@ -17,7 +17,7 @@ use std::marker::Model;
 /// symbol `s`.
 #[derive(Debug, Drop)]
 pub struct Inputs {
-    /// The cells, in cell order.
+    /// The cells, in cell order (by z, then y, then x, then the node).
     cells: Vec<Cell>,
     /// The signals of each cell, in the order of the cells.
     signals: Vec<Items<Signal>>,

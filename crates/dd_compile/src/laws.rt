@@ -15,8 +15,8 @@ fn rules_are_kept(cases: &Cases)
     }
 }
 
-/// Does nothing. Its contract is the law for any cell so near the origin that compositions of the automaton's depth read only
-/// cells in range there.
+/// Does nothing. Its contract is the law for any cell so near the origin that an automaton of this depth (how deep its
+/// compositions are nested) reads only cells in the range of positions.
 fn says_near(automaton: &Automaton)
     ensures { SaysNear automaton.now }
 {
@@ -30,8 +30,8 @@ fn says_near(automaton: &Automaton)
     }
 }
 
-/// Does nothing. Its contract is the law: after any number of variables, the gates of the automaton's value are over earlier
-/// variables, and the signals of the value say which symbol it is.
+/// Does nothing. Its contract is the law: however many variables come before the gates of the automaton's value, each gate is
+/// over earlier variables, and the signals of the value say which symbol it is.
 pub fn says_its_value(automaton: &Automaton)
     ensures { SaysItsValue automaton.now }
 {

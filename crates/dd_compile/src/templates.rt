@@ -153,7 +153,7 @@ fn placed(signal: Signal, inputs: &[Signal], before: u32) -> Signal
     }
 }
 
-/// Replaces the content of `placed_signals` by the signals that replace those of `signals`, in order.
+/// Sets `placed_signals` to the signals that replace those of `signals`, in order.
 fn place_all(
     placed_signals: &mut Vec<Signal>,
     signals: &[Signal],

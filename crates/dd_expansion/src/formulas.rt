@@ -5,8 +5,8 @@ ghost use Rattle.dd_expansion.specs.expanding.Atoms.{is_atom};
 use dd_values::{Boxed, Items};
 use std::alloc::{AllocError, Global};
 
-/// A term names a cell: start at the cell of a variable, and make the moves one after another. The term has no cell if
-/// there is no edge for one of the moves.
+/// A term names a cell: start at the cell of a variable, and make the moves one after another. Each move follows an edge with
+/// a given label. The term has no cell if there is no edge for one of the moves.
 ///
 /// Variables are numbered from the outside in (de Bruijn levels). Number 0 is the free variable, which stands for the cell
 /// that the formula is about. The number of a bound variable is the number of variables in scope just outside its

@@ -71,7 +71,8 @@ cells_of f a = in_order ((counted f).reads a)
 abbrev pub rule_has : CommonNumbers → LocalRule → Bool
 rule_has s r = r.dimension == s.dimension && r.nodes == s.nodes && r.symbols == s.symbols
 
--- the cases fit the setting: each rule has its numbers, and each symbol that a case gives, or that is the default, is in its alphabet
+-- the cases fit the setting: each rule has the setting's numbers, and each symbol that a case gives, or that is the default, is in the setting's
+-- alphabet
 abbrev pub cases_fit : CommonNumbers → List (LocalRule × ℕ) → ℕ → Bool
 cases_fit s cases otherwise = list_all (λ case. rule_has s case.0 && nat_lt case.1 s.symbols) cases && nat_lt otherwise s.symbols
 
@@ -152,7 +153,7 @@ pub record HaveNode (f g : Automaton) (a : ℕ) : Type 0 where
   pub inner : IsAutomaton setting g
   pub below : a < setting.nodes
 
--- the cell has a position of the setting's dimension, and one of its nodes
+-- the cell has a position of the setting's dimension, and one of the setting's nodes
 abbrev pub is_cell_of : CommonNumbers → Cell → Bool
 is_cell_of s c = is_cell_in s.dimension s.nodes c
 

@@ -1,4 +1,4 @@
--- Automata by cases, made from formulas, and why they are refused.
+-- Automata that are given by cases, made from formulas, and why they are refused.
 use Rattle.std.specs.Prelude.{ℕ, ◌<◌, ◌≡◌, false, List, map}
 use Rattle.dd_topology.specs.{Grid.Grid, Sets.SymbolSets}
 use Rattle.dd_expansion.specs.{declared.formulas.Formula.Formula, Limits.IsFormula}
@@ -9,7 +9,7 @@ use Rattle.dd_formula.specs.declared.{automaton.Automaton.TheOpen.Automaton-F, f
 use Rattle.dd_formula.specs.declared.fault.RuleFault.TheVariants.{Reach, Instances, Depth, Memory}
 use Rattle.dd_formula.specs.declared.automaton.Automaton.TheVariants as v
 
--- the setting of a topology and its alphabet
+-- the setting of a topology and an alphabet
 abbrev pub numbers_over : Grid → SymbolSets → CommonNumbers
 numbers_over g s = record { dimension = g.dimension; nodes = g.nodes; symbols = s.symbols }
 

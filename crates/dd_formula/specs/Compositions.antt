@@ -57,6 +57,6 @@ pub record HaveNumbers (c : Cases) (nodes : ℕ) : Type 0 where
   pub all : setting.nodes ≡ nodes
   pub some : 1 ≤ nodes
 
--- the automaton by these cases is well formed in each setting that they fit and that has exactly this many nodes
+-- the automaton that these cases give is well formed in each setting that they fit and that has exactly this many nodes
 abbrev pub IsGivenByCases : Cases → ℕ → Type 0
 IsGivenByCases c nodes = (s : CommonNumbers) → cases_fit s c.cases c.otherwise ≡ true → s.nodes ≡ nodes → IsAutomaton s (v.Given c)

@@ -24,8 +24,8 @@ disallowed r a = filter (λ s. not (rule_allows r a s)) (range_with_len 0 r.symb
 abbrev pub disallowed_pairs : LocalRule → ℕ
 disallowed_pairs r = over_nodes (λ a. length (disallowed r a)) r.nodes
 
--- The number of clauses of a cell over s symbols. One clause says that the cell has a symbol, and one that the rule is true there. For each pair of
--- symbols, one clause says that the cell doesn't have both.
+-- The number of clauses of a cell over s symbols. One clause says that the cell has at least one symbol, and one that the rule is true there. For
+-- each pair of symbols, one clause says that the cell doesn't have both.
 abbrev pub cell_clause_count : ℕ → ℕ
 cell_clause_count s = 2 + s * (s - 1) / 2
 

@@ -14,7 +14,7 @@ pub mod Automata
 pub mod Values
 -- compositions of automata, and why they are refused
 pub mod Compositions
--- automata by cases, made from formulas, and why they are refused
+-- automata that are given by cases, made from formulas, and why they are refused
 pub mod ByCases
 -- how many clauses encode a question about a rule
 pub mod Counts

@@ -6,7 +6,7 @@ use Rattle.dd_expansion.specs.Placed.{is_flat}
 use Rattle.dd_formula.specs.{LocalRule.LocalRule, LocalRule.is_true, declared.lives.Membership.Membership}
 use Rattle.dd_formula.specs.declared.lives.Membership.TheVariants.{Inside, Outside}
 
--- the periodic configuration has the rule's dimension, its number of nodes, and only symbols of its alphabet
+-- the periodic configuration has the rule's dimension, the rule's number of nodes, and only symbols of the rule's alphabet
 pub record Fits (r : LocalRule) (t : Tile) : Type 0 where
   pub dimension : t.dimension ≡ r.dimension
   pub nodes : t.nodes ≡ r.nodes

@@ -64,7 +64,7 @@ cells_at r a = in_order (reads_at r a)
 abbrev pub most_instances : ℕ
 most_instances = 20000
 
--- each cell that they read at the origin lies at most this far away, along each axis
+-- each cell that rules and automata read at the origin lies at most this far away, along each axis
 abbrev pub most_reach : ℕ
 most_reach = 16
 
@@ -96,9 +96,9 @@ pub record IsRule (r : LocalRule) : Type 0 where
   pub allowed : IsSets r.nodes (sets_of r)
   pub small : IsSmall r
   pub short : ReadsNear r
-  -- each cell that it reads has a position in Z^d and one of its nodes
+  -- each cell that the rule reads has a position in Z^d and one of the rule's nodes
   pub placed : (a : ℕ) → a < r.nodes → list_all (is_of r) (reads_at r a) ≡ true
-  -- each leaf of its expansions has a symbol of the alphabet
+  -- each leaf of the rule's expansions has a symbol of the alphabet
   pub known : (a : ℕ) → a < r.nodes → leaves_pass (λ c s. nat_lt s r.symbols) (expansion_at r a) ≡ true
 
 -- a well-formed rule, with its expansion and the cells that it reads at each node

@@ -10,8 +10,8 @@ use Rattle.dd_formula.specs.declared.automaton.Automaton.{TheFolds.fold-Automato
 abbrev pub gate_clause_count : ℕ → ℕ
 gate_clause_count k = k + 1
 
--- The number of clauses of the gates that choose among m cases. Each case has a gate over itself and the cases before it, which says that its rule is
--- true and no earlier one is. The default symbol has a gate over all cases, which says that no rule is true.
+-- The number of clauses of the gates that choose among m cases. Each case has a gate over itself and the cases before it, which says that the case's
+-- rule is true and no earlier rule is. The default symbol has a gate over all cases, which says that no rule is true.
 abbrev pub choice_clauses : ℕ → ℕ
 choice_clauses m = total (map (λ i. gate_clause_count (i + 1)) (range_with_len 0 m)) + gate_clause_count m
 
@@ -24,11 +24,11 @@ giving_clauses n m = (m + 1) + n
 abbrev pub case_clauses : List (LocalRule × ℕ) → ℕ → ℕ
 case_clauses cases a = total (map (λ case. clause_count (expansion_at case.0 a)) cases)
 
--- the number of clauses of the value, at a node, of an automaton by cases over n symbols
+-- the number of clauses of the value, at a node, of an automaton that is given by cases, over n symbols
 abbrev pub given_clauses : ℕ → Cases → ℕ → ℕ
 given_clauses n c a = case_clauses c.cases a + choice_clauses (length c.cases) + giving_clauses n (length c.cases)
 
--- the counts of an automaton, and the number of clauses of its value
+-- the counts of an automaton (the cells that it reads, its instances and its depth), and the number of clauses of its value
 pub record Valued : Type 0 where
   pub counts : Counted
   -- the number of clauses of its value at a node

@@ -15,8 +15,8 @@ use dd_lattice::{Cell, in_order};
 use dd_values::{Boxed, Items};
 use std::alloc::{AllocError, Global};
 
-/// An automaton by cases. It gives each cell the symbol of the first case whose rule is true there, or a default symbol if there
-/// is no such case.
+/// An automaton that is given by cases. It gives each cell the symbol of the first case whose rule is true there, or a default
+/// symbol if there is no such case.
 #[derive(Debug, Drop)]
 pub struct Cases {
     /// The cases: each is a rule with the symbol that it gives.
@@ -164,10 +164,10 @@ impl Automaton {
         in_order(alloc, &found)
     }
 
-    /// The number of instances at a node, or 20,001 if there are more than 20,000. An automaton by cases has the instances of
-    /// each rule's expansion, one more for each case, and one for the default symbol. A composition has the instances of the
-    /// outer automaton, those of the inner one at the same node, and those of the inner one at each cell that the outer one
-    /// reads.
+    /// The number of instances at a node, or 20,001 if there are more than 20,000. An automaton that is given by cases has the
+    /// instances of each rule's expansion, one more for each case, and one for the default symbol. A composition has the
+    /// instances of the outer automaton, those of the inner one at the same node, and those of the inner one at each cell that
+    /// the outer one reads.
     #[cycle(instances)]
     #[tactic(auto, using(std::proofs::lemmas::Grind::common_steps, crate::specs::lemmas::AutomatonLaws::layers))]
     pub fn instances(&self, alloc: Global, node: u32) -> Result<u32, AllocError>

@@ -1,5 +1,6 @@
-//! Automata by cases, made from formulas. The instances of all cases are counted before any rule is made. So if an automaton has
-//! too many instances and also reads a cell that lies too far away, the fault is that it has too many instances.
+//! Automata that are given by cases, made from formulas. The instances of all cases are counted before any rule is made. So if
+//! an automaton has too many instances and also reads a cell that lies too far away, the fault is that it has too many
+//! instances.
 ghost use Rattle.std.specs.Prelude.{◌≡◌, ◌+◌, ◌<◌, ◌≤◌, length, map, true, IfOk, IfErr, OnOk};
 ghost use Rattle.std.specs.List.{All};
 ghost use Rattle.dd_expansion.specs.Leaves.{instances};

@@ -122,7 +122,7 @@ impl Rule {
         self.nodes
     }
 
-    /// The size of the alphabet, 1 to 16. Each symbol that a node allows is below it.
+    /// The size of the alphabet, 1 to 16. Each symbol that a node allows is less than this size.
     pub fn symbols(&self) -> u32
         ensures value { result ≡ self.now.symbols }
         ensures kept { IsRule self.now }

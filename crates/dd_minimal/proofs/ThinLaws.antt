@@ -10,7 +10,7 @@ use Rattle.dd_minimal.specs.finding.Numbers.{KeepsBelow}
 abbrev pub Weaker : List (Option ℕ) → List (Option ℕ) → Type 0
 Weaker p q = (ss : List ℕ) → agrees q ss ≡ true → agrees p ss ≡ true
 
--- if a pattern is enough, then so is each pattern with which fewer fillings agree
+-- if p is enough, then so is each pattern q such that every filling that agrees with q agrees with p
 abbrev pub Rises : (List (Option ℕ) → Bool) → Type 0
 Rises enough = (p q : List (Option ℕ)) → Weaker p q → enough p ≡ true → enough q ≡ true
 

@@ -1,4 +1,4 @@
--- What each pattern of a minimal list says.
+-- What holds of each pattern of a minimal list.
 use Rattle.std.specs.Prelude.{ℕ, ◌≡◌, ◌++◌, true, false, Option, Some, List, [], ◌∷◌, slice_get}
 use Rattle.dd_formula.specs.LocalRule.{LocalRule, cells_at}
 use Rattle.dd_forbidden.specs.Breaking.{are_allowed, is_true_at_origin, IsBreaking}
@@ -21,7 +21,7 @@ pub record IsNew (r : LocalRule) (a : ℕ) (before : List (List (Option ℕ))) (
   pub agreeing : agrees p ss ≡ true
   pub new : is_covered before ss ≡ false
 
--- each pattern of the list has such a filling, where `before` and the earlier patterns of the list come before it
+-- each pattern of the list has such a filling; the patterns before a pattern are those of `before` and the earlier ones of the list
 abbrev pub AreNew : LocalRule → ℕ → List (List (Option ℕ)) → List (List (Option ℕ)) → Type 0
 AreNew r a before [] = Unit {0}
 AreNew r a before (p ∷ ps) = ((ss : List ℕ) × IsNew r a before p ss) × AreNew r a (before ++ p ∷ []) ps

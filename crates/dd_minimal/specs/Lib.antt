@@ -2,7 +2,7 @@
 pub mod Patterns
 -- the minimal list of a rule at a node
 pub mod Minimal
--- what each pattern of a minimal list says
+-- what holds of each pattern of a minimal list
 pub mod Claims
 -- definitions for the search: numbers of fillings, tables of outcomes, and walks
 pub mod finding

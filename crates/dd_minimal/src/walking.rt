@@ -8,8 +8,8 @@ ghost use Rattle.dd_minimal.specs.finding.Walks.{marked, none_holds};
 
 use crate::outcome::Outcome;
 
-/// Whether the rule is true under none of the walk's fillings with allowed symbols. The walk stops at the first under which it
-/// is true.
+/// Whether the rule is true under none of the walk's fillings with allowed symbols. The walk stops at the first of them under
+/// which the rule is true.
 pub(crate) fn none_holds(symbols: u32, strides: &[usize], table: &[Outcome], from: usize) -> bool
     requires { from + reach symbols strides.now < length table.now }
     ensures { result ≡ none_holds symbols strides.now table.now from }
@@ -26,8 +26,8 @@ pub(crate) fn none_holds(symbols: u32, strides: &[usize], table: &[Outcome], fro
 }
 
 /// The answer of `none_holds` for a walk along one more stride, that of a further cell. The cell is left out if the answer is
-/// yes. The walk skips the fillings in which this cell has the symbol `kept`: it is known that, with allowed symbols, the rule
-/// is true under none of them.
+/// yes. The walk skips the fillings in which this cell has the symbol `kept`: it is known that the rule is true under none of
+/// those with allowed symbols.
 pub(crate) fn can_spare(
     symbols: u32,
     kept: u32,

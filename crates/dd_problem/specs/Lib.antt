@@ -10,7 +10,7 @@ pub mod Encodings
 pub mod Problems
 -- the symbols of cells, and their inputs in an assignment
 pub mod Symbols
--- when clauses say what a question asks
+-- when clauses express what a question asks
 pub mod Shows
 -- the clauses of `Problems` over the inputs that the code keeps, and the facts about goals that proofs need
 pub mod pushing

@@ -30,7 +30,7 @@ goal_part l m (differ s f g) =
     record { makers = map (λ a. differ_made s.symbols f g l.inputs (cell origin a)) (range_with_len 0 s.nodes); tail = some_true }
 goal_part l m always = record { makers = []; tail = λ _. [] }
 
--- the premise at each cell where all that it reads has inputs, in the order of the cells, and then the goal
+-- the premise at each cell where all that the premise reads has inputs, in the order of the cells, and then the goal
 abbrev pub problem_parts : Layout → LocalRule → GoalOf → List Part
 problem_parts l x g = map (premise_part l x) (filter (fits_in l x) l.places) ++ goal_part l x.symbols g ∷ []
 

@@ -62,7 +62,7 @@ fn goal_cells(alloc: Global, premise: &Rule, goal: &Goal) -> Result<Vec<Cell>, A
     cells_of(alloc, &bounds, nodes)
 }
 
-/// The cell, moved by a position.
+/// The cell, moved by the position `by`.
 fn shifted(cell: &Cell, by: &Position) -> Cell
     requires near { is_near cell.now ≡ true }
     requires by { extent by.now ≤ most_coordinate - 16 }
@@ -74,7 +74,7 @@ fn shifted(cell: &Cell, by: &Position) -> Cell
     }
 }
 
-/// Appends the cells, moved by a position.
+/// Appends the cells, moved by the position `by`.
 fn push_shifted(found: &mut Vec<Cell>, by: &Position, cells: &[Cell]) -> Result<(), AllocError>
     requires near { list_all is_near cells.now ≡ true }
     requires by { extent by.now ≤ most_coordinate - 16 }

@@ -1,4 +1,4 @@
--- If the views show the same symbols in a filling as in the one before, it shows no new pattern and requires no new row.
+-- If the views show the same symbols in a filling as in the one before, the filling shows no new pattern and requires no new row.
 use Rattle.std.proofs.Common.{◌≡◌, ◌<◌, ◌+◌, ℕ, zero, suc, Bool, true, false, cond, List, [], ◌∷◌, ◌++◌, length, get_or, map, take, refl, sym, ◌∙◌, ap, subst, inl, inr, arith}
 use Rattle.std.proofs.lemmas.Bool.{and_from, eq-eqb}
 use Rattle.std.proofs.lemmas.List.{append-nil, map-append, map_more, take_more}

@@ -23,7 +23,7 @@ module _ {K : Type 0} {R : K → K → Ordering} (o : IsTotalOrder R) where
       let less = Less-from_sorted R ks k (suc k) d up (omega arith) (omega arith) in
       rw add-one (ap is_lt (turned (get_or ks k d) (get_or ks (suc k) d) Less less))
 
-  -- a binary search for a key finds its index, or shows that it isn't in the list
+  -- a binary search for a key finds the key's index, or shows that the key isn't in the list
   pub number_searched : (ks : List K) (k : K) (r : Result ℕ ℕ) → IsStrictlySortedBy R ks → IsSearchInRange r (length ks) → IsBinarySearchResult (λ y. R y k) ks r →
       MatchResult r (λ i. position_or_len (λ y. is_eq (R y k)) ks ≡ i) (λ _. position_or_len (λ y. is_eq (R y k)) ks ≡ length ks)
   number_searched ks k (Ok i) up within h =

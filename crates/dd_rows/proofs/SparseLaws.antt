@@ -1,4 +1,4 @@
--- Two rows of one program are the same if they have the same right side and the same exchange along each vector.
+-- Two rows of one program are the same if they have the same bound and the same exchange along each vector.
 use Rattle.std.proofs.Common.{◌≡◌, ◌<◌, ◌≤◌, ◌+◌, ◌*◌, ℕ, zero, suc, Bool, true, false, cond, List, [], ◌∷◌, ◌++◌, length, get_or, map, take, drop, refl, sym, ◌∙◌, ap, subst, inl, inr, arith, ℤ, pos, Option, Some, None, replicate}
 use Rattle.std.proofs.lemmas.Option.{same_Some}
 use Rattle.std.proofs.lemmas.Bool.{false≢true, and_parts, and_from, cases_lt, cases_eq, eq-eqb, eqb-true}
@@ -115,7 +115,7 @@ same_exchanges p (x ∷ xs) (y ∷ ys) size all all' same =
     ap (λ e. e ∷ xs) (same_exchange p x y (all_first (IsExchange p) x xs all) (all_first (IsExchange p) y ys all') (entry_at p x y parts.front))
     ∙ ap (λ (es : List (Option Exchange)). y ∷ es) (same_exchanges p xs ys (omega (arith, size)) (all_rest (IsExchange p) x xs all) (all_rest (IsExchange p) y ys all') parts.back)
 
--- the two rows have the same exchanges and the same right side
+-- the two rows have the same exchanges and the same bound
 abbrev pub AreAlike : SparseRow → SparseRow → Type 0
 AreAlike a b = (a.exchanges.items ≡ b.exchanges.items) × (a.bound ≡ b.bound)
 

@@ -75,7 +75,7 @@ extended_barred x q a ss n m next barred =
     ∙ (extended_one x q a ss n
     ∙ (ap (λ b. extended_below x q a ss n ++ cond b (cond (q (ss ++ n ∷ [])) ((ss ++ n ∷ []) ∷ []) []) []) barred ∙ append-nil (extended_below x q a ss n)))
 
--- the items of a list up to one of them give no more results than all of its items
+-- the first items of a list, up to and including one of them, give no more results than all of its items
 pub flat_map_grows : {X Y : Type 0} (f : X → List Y) (xs : List X) (i : ℕ) (d : X) → i < length xs → length (flat_map f (take i xs) ++ f (get_or xs i d)) ≤ length (flat_map f xs)
 flat_map_grows f xs i d below =
     let first = take (i + 1) xs in

@@ -5,7 +5,7 @@ use Rattle.dd_lattice.specs.declared.position.Cell.{Cell}
 use Rattle.dd_formula.specs.LocalRule.{LocalRule}
 use Rattle.dd_boxes.specs.Cells.{cells_on}
 
--- the domain D: the centred box of the radius, and for each vector v this box moved by -v
+-- the domain D: the box of this radius centred at the origin, and for each vector v this box moved by -v
 abbrev pub IsInDomain : ℕ → ℕ → List Place → PlaceSet
 IsInDomain d radius vs p = IsCentred d radius p ⊎ ((v : Place) × Contains vs v × IsCentred d radius (moved p v))
 

@@ -1,11 +1,11 @@
 -- where a discharge along some vectors looks: the domain, and the ground, which is the domain grown by the margin
 pub mod Domains
 -- The admissible fillings of a list of cells, in the lexicographic order of their symbols. A filling is admissible if the rule
--- is true at each cell where it fits: where the cell, and each cell that the rule reads there, has a symbol.
+-- is true at each cell where the rule fits: where the cell, and each cell that the rule reads there, has a symbol.
 pub mod Fillings
 -- the patterns (the symbols of a box) around the origin, and around the positions that give to it
 pub mod Patterns
--- the program of a rule along some vectors: rows that say how much each position holds at least
+-- the program of a rule along some vectors: rows that bound from below what each position holds
 pub mod Programs
 -- why a rule has no program
 pub mod Faults

@@ -1,4 +1,4 @@
--- The patterns around the origin, which gives along some vectors, and around the positions that give to it.
+-- In a discharge along some vectors, the patterns around the origin and around the positions that give to it.
 use Rattle.std.specs.Prelude.{ℕ, List, [], ◌∷◌, map, unwrap_or}
 use Rattle.std.specs.{List.fold, List.flat_map, List.position_or_len, Ordering.nat_cmp, Ordering.is_eq, Cmp.Lexicographic.slice_cmp}
 use Rattle.std.specs.BTreeSet.{insert_key}

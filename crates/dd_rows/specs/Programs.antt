@@ -1,5 +1,5 @@
 -- The program of a rule along some vectors. Along each vector, each position gives an amount that the pattern around it
--- determines. Column 0 is a number that each position then holds at least. After it there is a column for each vector and each
+-- determines. Column 0 is a lower bound for what each position then holds. After it there is a column for each vector and each
 -- pattern: the amount that a position with this pattern gives along this vector.
 use Rattle.std.specs.Prelude.{ℕ, ◌+◌, ◌*◌, ◌<◌, ◌≤◌, ◌≡◌, ◌⊎◌, Bool, ◌&&◌, cond, pos, ◌-ℤ◌, ℤ, List, [], ◌∷◌, ◌++◌, map, length, replicate, unwrap_or}
 use Rattle.std.specs.{Bool.nat_eq, Ordering.int_eq, List.fold, List.flat_map, List.list_any, List.range_with_len}
@@ -17,9 +17,10 @@ use Rattle.dd_boxes.specs.{Cells.box_cells, Boxes.origin}
 abbrev pub one_at : ℕ → ℕ → ℤ
 one_at k n = pos (cond (nat_eq k n) 1 0)
 
--- The coefficients of a row: 1 for column 0. Then, for each vector and pattern: 1 if this is the pattern around the origin,
--- less 1 if it is the pattern around the position that gives to the origin along the vector. `out` is the pattern around the
--- origin. `ins` has, for each vector, the pattern around the position that gives to the origin along it.
+-- The coefficients of a row: 1 for column 0. Then, for each vector and pattern, the sum of two numbers: 1 if this is the
+-- pattern around the origin, else 0; and -1 if it is the pattern around the position that gives to the origin along the vector,
+-- else 0. `out` is the pattern around the origin. `ins` has, for each vector, the pattern around the position that gives to the
+-- origin along it.
 abbrev pub coefficients : List (List ℕ) → List ℕ → List (List ℕ) → List ℤ
 coefficients ps out ins =
     pos 1 ∷ flat_map (λ q. map (λ k. one_at k (pattern_number ps out) -ℤ one_at k (pattern_number ps q)) (range_with_len 0 (length ps))) ins

@@ -1,5 +1,6 @@
-//! The ground of a discharge: the cells whose fillings it looks at. The ground is the domain, grown by the margin. The domain
-//! is made of the boxes around the origin and around the positions that give to it.
+//! The ground of a discharge: the cells whose fillings it looks at. The ground is the domain grown by the margin: its
+//! positions are those that are, along each axis, at most the margin away from a position of the domain. The domain is made of
+//! the boxes around the origin and around the positions that give to it.
 ghost use Rattle.std.specs.Prelude.{◌≡◌, ◌<◌, ◌≤◌, IfOk, IfErr, [], All};
 ghost use Rattle.std.specs.List.Sorted.{IsStrictlySortedBy};
 ghost use Rattle.dd_values.specs.Bounds.{widest_radius};

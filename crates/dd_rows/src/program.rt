@@ -74,7 +74,7 @@ fn all_patterns(
     Ok(patterns)
 }
 
-/// The row that a filling requires. Each pattern that the filling shows is first read into `seen`.
+/// The row that the filling requires. Each pattern that the filling shows is first read into `seen`.
 fn required_row(
     alloc: Global,
     symbols: &[u32],
@@ -95,7 +95,7 @@ fn required_row(
     Ok(SparseRow::new(list, weight_of(seen.symbols(), weights)))
 }
 
-/// Appends a row, unless it is already there.
+/// Appends the row, unless it is already there.
 fn add_row(rows: &mut IndexSet<SparseRow>, row: SparseRow) -> Result<(), RowsFault>
     ensures ok { (vectors : ℕ) → (patterns : ℕ) → AreSparse vectors patterns rows.old.keys → IsSparse vectors patterns row →
         OnOk result (IsWithRow vectors patterns rows.old.keys row rows.new.keys) }
@@ -200,7 +200,7 @@ fn program_listed(
     })
 }
 
-/// The same program as that of `program_listed`, made faster: repeated fillings are left out first.
+/// The same program as that of `program_listed`, made faster: fillings in which the views show nothing new are left out first.
 fn program_shown(
     alloc: Global,
     fillings: &[Items<u32>],

@@ -68,8 +68,8 @@ fn ends_alike(shown: &[Items<u32>], symbols: &[u32], views: &Views) -> bool
     }
 }
 
-/// The fillings, except those in which the views show the same symbols as in the filling before. The remaining fillings show
-/// the same patterns as all of them, and require the same rows.
+/// The fillings, except those in which the views show the same symbols as in the filling before. The fillings that remain show
+/// the same patterns as all the fillings, and require the same rows.
 pub(crate) fn without_repeats(
     alloc: Global,
     fillings: &[Items<u32>],

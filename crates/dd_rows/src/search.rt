@@ -125,8 +125,8 @@ fn last_number(rule: &Rule, cells: &[Cell], cell: &Cell) -> usize
     last
 }
 
-/// The number of a cell that the rule reads at `cell`. That cell is given by `read`, relative to the position of `cell`. If it
-/// is not in `cells`, the result is the length of this list.
+/// The number of the cell `read`, which the rule reads at `cell`. The cell `read` is given relative to the position of `cell`.
+/// If it is not in `cells`, the result is the length of this list.
 pub(crate) fn number_of_read(cells: &[Cell], cell: &Cell, read: &Cell) -> usize
     requires ascending { IsStrictlySortedBy cell_cmp cells.now }
     requires near { AreInRange cells.now }

@@ -26,7 +26,8 @@ pub(crate) struct SparseRow {
     bound: u64,
 }
 
-/// The exchange with these two patterns. If they are equal, there is none, since the amounts given and received cancel.
+/// The exchange with these two patterns. If the patterns are equal, there is no exchange, since the amounts given and received
+/// cancel.
 fn exchange_between(gives: usize, receives: usize) -> Option<Exchange>
     ensures { result ≡ exchange_of gives receives }
 {

@@ -57,7 +57,7 @@ fn view(
     Ok(numbers)
 }
 
-/// For each vector, the numbers of the cells of the box around its opposite.
+/// For each vector, the numbers of the cells of the box around the vector's opposite.
 fn givers(
     alloc: Global,
     cells: &[Cell],

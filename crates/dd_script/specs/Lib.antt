@@ -1,4 +1,4 @@
--- types of other crates: syntax trees, their faults, and what a script has said before a command
+-- types of other crates: syntax trees, their faults, and what a script has set and named before a command
 pub mod Tree
 -- the parts of a script
 pub mod Parts

@@ -20,8 +20,8 @@ start = record { known = known_start; rules = []; automata = []; configurations 
 
 -- ---- what a command changes
 
--- The script s after one more command, which has this meaning. If it gives nodes or symbols, each node allows each symbol again. If it gives
--- symbols, the weight of each symbol is its index.
+-- The script s after one more command, which has this meaning. If the command gives nodes or symbols, each node allows each symbol again. If the
+-- command gives symbols, the weight of each symbol is its index.
 abbrev pub with : List ℕ → Parts → Meaning → Parts
 with bytes s (Meaning.Topology g) = record s { known = record (s.known) { setting = record (s.known.setting) { topology = g } } }
 with bytes s (Meaning.Nodes nodes given g) =
@@ -74,8 +74,8 @@ comparisons_in s m = unwrap_or (option_map (comparisons_for s) (query_in m)) []
 abbrev pub meaning_at : List ℕ → Bool → ℕ → Parts → Written → Meaning
 meaning_at bytes topology n s w = meaning_of (context bytes topology n s) s.automata w.command
 
--- The first fault of a command. It is the first fault of its text; or if there is none, the first limit on counts that it exceeds; or if there is
--- none, `asked_fault` of its meaning.
+-- The first fault of a command. It is the first fault of the command's text; or if there is none, the first limit on counts that the command exceeds;
+-- or if there is none, `asked_fault` of the command's meaning.
 abbrev pub fault_of : List ℕ → Bool → ℕ → Parts → Written → Option Fault
 fault_of bytes topology n s w =
     option_or (first_fault (written_faults (context bytes topology n s) w))

@@ -30,7 +30,8 @@ pub(crate) struct Draft {
     pub(crate) made: Made,
 }
 
-/// Adds a name that is not in the list. If the list is longer than it can be in any script, the error is that memory ran out.
+/// Adds the name, which is not in the list yet. If the list is longer than it can be in any script, the error is that memory
+/// ran out.
 fn add_name(alloc: Global, text: &Text, names: &mut Names, name: Word) -> Result<(), AllocError>
     requires { ¬ Contains names.old (word_text text.now name) }
     ensures { OnOk result (names.new ≡ names.old ++ word_text text.now name ∷ []) }

@@ -20,8 +20,8 @@ pub(crate) struct Made {
     pub(crate) queries: Items<Query>,
 }
 
-/// All that a script says. `known` holds its nodes, symbols and topology, which symbols each node allows, the names of what it
-/// defines, its weights and its limits. `made` holds the rules, automata and configurations themselves, and the queries.
+/// The contents of a script. `known` holds its nodes, symbols and topology, which symbols each node allows, the names of what
+/// it defines, its weights and its limits. `made` holds the rules, automata and configurations themselves, and the queries.
 #[derive(Drop)]
 pub(crate) struct Contents {
     pub(crate) known: Known,

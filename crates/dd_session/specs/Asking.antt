@@ -15,7 +15,8 @@ pub record Engines (E : Type 0) : Type 0 where
   -- the roster before and after
   pub old : Roster E
   pub new : Roster E
-  -- what contracts see of each engine, before and after: its two counts, and whether it is sound
+  -- what contracts see of each engine, before and after: its two counts (how often it was asked, and how often it proposed something), and whether it
+  -- is sound
   pub before : List Seen
   pub after : List Seen
 

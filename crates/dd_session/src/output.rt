@@ -48,8 +48,8 @@ fn refused_line(
     format!(in alloc; "{words} {command} {fault}{name}\n")
 }
 
-/// The line for bytes that aren't a script. It begins with `words`. There is no line if memory ran out, either here or when the
-/// bytes were parsed.
+/// The line for bytes that aren't a script. The line begins with `words`. There is no line if memory ran out, either here or
+/// when the bytes were parsed.
 pub(crate) fn refused_text(
     alloc: Global,
     words: &str,

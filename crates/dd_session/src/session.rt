@@ -71,7 +71,7 @@ pub(crate) fn refuse<K: Sink>(sink: &mut K, line: &[u8]) -> Status
     }
 }
 
-/// Writes the line for bytes that aren't a script. It begins with `words`. Returns the status of the session.
+/// Writes the line for bytes that aren't a script. The line begins with `words`. Returns the status of the session.
 pub(crate) fn refuse_fault<K: Sink>(
     alloc: Global,
     words: &str,

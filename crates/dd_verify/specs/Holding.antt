@@ -24,9 +24,9 @@ pub data MemberClaim (x : LocalRule) (t : Tile) : Answer → Type 0 where
   says_inside : Lives x t → MemberClaim x t answer.Inside
   says_outside : {place : List ℤ} → IsFalseAt x t place → MemberClaim x t (answer.Outside place)
 
--- Box questions. YES claims that the goal holds nowhere: not in a configuration that obeys the premise, and not in an admissible filling at a
--- position round which it fills the box of radius n. NO claims that the configuration lives in the premise's subshift and has the goal at the origin.
--- UNKNOWN claims nothing.
+-- Box questions. YES claims that the goal holds nowhere: at no position of a configuration that obeys the premise, and at no position of an
+-- admissible filling such that the filling covers the box of radius n round that position. NO claims that the configuration lives in the premise's
+-- subshift and has the goal at the origin. UNKNOWN claims nothing.
 pub data BoxClaim (x : LocalRule) (g : GoalOf) : Answer → Type 0 where
   says_nowhere : {n : ℕ} {steps : List Step} → HoldsNowhere x g n → BoxClaim x g (answer.Yes n steps)
   says_witness : {along : List ℕ} {shear : ℕ} {symbols : List ℕ} → IsWitness x g (given_tile x along shear symbols) → BoxClaim x g (answer.No side.Whole along shear symbols)
@@ -42,7 +42,7 @@ pub data EqualClaim (x y : LocalRule) : Answer → Type 0 where
   says_none : {r : Reason} → EqualClaim x y (answer.Unknown r)
 
 -- Conjugacies. CONJUGATE claims that the goal of each of the four box questions holds nowhere. BROKEN names one of these questions. It claims that
--- the configuration lives in the subshift of this question's premise, and has its goal at the origin. UNKNOWN claims nothing.
+-- the configuration lives in the subshift of this question's premise, and has this question's goal at the origin. UNKNOWN claims nothing.
 pub data ConjugacyClaim (c : ConjugacyOf) : Answer → Type 0 where
   says_conjugate : {n1 n2 n3 n4 : ℕ} {s1 s2 s3 s4 : List Step} → HoldsNowhere c.from c.image n1 → HoldsNowhere c.to c.image_back n2 → HoldsNowhere c.from c.round n3 →
       HoldsNowhere c.to c.round_back n4 → ConjugacyClaim c (answer.Conjugate (n1 ∷ n2 ∷ n3 ∷ n4 ∷ []) (s1 ∷ s2 ∷ s3 ∷ s4 ∷ []))
@@ -75,7 +75,7 @@ pub record SayMinimal (x : LocalRule) (a : ℕ) (ps : List (List (Option ℕ))) 
   pub tells : TellsCovered x a ps
   -- each cell of a pattern is needed: without it, the pattern would forbid something that the rule allows
   pub needed : All (NeedsEach x a) ps
-  -- each pattern is needed: a filling that breaks the rule agrees with this pattern, and with no earlier one
+  -- each pattern is needed: some filling that breaks the rule agrees with this pattern, and with no earlier one
   pub new : AreNew x a [] ps
 
 -- what a list of minimal patterns claims: each pattern is at a node of the rule, and `SayMinimal` is true of the patterns at each node

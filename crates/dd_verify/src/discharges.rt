@@ -1,5 +1,5 @@
-//! The check of answers about the best bound of a discharge: how much each position holds at least, after each has sent amounts
-//! along given vectors.
+//! The check of answers about the best bound of a discharge: a lower bound for what each position holds after each has sent
+//! amounts along given vectors.
 ghost use Rattle.std.specs.Prelude.{◌≡◌, ◌↔◌, ◌⊎◌, IsTrue, IfOk};
 ghost use Rattle.dd_certificate.specs.declared.answer.Answer.TheVariants as answer;
 ghost use Rattle.dd_certificate.specs.Bounds.{IsWritable};

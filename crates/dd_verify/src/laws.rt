@@ -36,8 +36,9 @@ fn goal_facts(goal: &Goal)
     }
 }
 
-/// Does nothing. Its contract says that what a certificate for the question claims is true. The claim of a bound is about boxes of
-/// every side at every position: each weighs at least what the bound says, less what it may receive from outside.
+/// Does nothing. Its contract says that what a certificate for the question claims is true. The claim of a bound is about
+/// boxes of every side at every position: a box of n positions weighs at least n times the bound, less what the box may
+/// receive from outside.
 pub fn claims_hold(question: &CheckedQuestion)
     ensures { (answer : AnyAnswer) → IsCertificateOf question.now.limits question.now.question answer → ClaimOf question.now.question answer }
 {

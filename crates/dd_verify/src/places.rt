@@ -62,8 +62,8 @@ fn is_outside(rule: &Rule, periodic: &Periodic, place: &[i64]) -> bool
     }
 }
 
-/// Whether the answer is right. A right answer says that the configuration lives in the rule's subshift, if it does. Otherwise it
-/// gives the place of the first cell at which the rule is false.
+/// Whether the answer is right. If the configuration lives in the rule's subshift, a right answer says so. Otherwise a right
+/// answer gives the place of the first cell at which the rule is false.
 #[tactic(auto, using(dd_evidence::specs::Answers::member_outside))]
 fn is_member_certificate(rule: &Rule, periodic: &Periodic, answer: &Answer) -> bool
     requires { Fits rule.now periodic.now }

@@ -15,7 +15,7 @@ use dd_pattern::Periodic;
 use dd_values::Limits;
 use std::alloc::{AllocError, Global};
 
-/// The period along an axis; 1 if none is given.
+/// The period along this axis; 1 if none is given for it.
 fn along(periods: &[u64], axis: usize) -> u64
     ensures { result ≡ slice_index_or periods.now axis 1 }
 {

@@ -15,8 +15,8 @@ pub record HaveSymbols (f g : Automaton) (k a : ℕ) : Type 0 where
   pub below : a < setting.nodes
   pub all : setting.symbols ≡ k
 
--- the automaton is well formed over some common numbers for which k is the size of the alphabet, and each of these cells has their dimension and one
--- of their nodes
+-- the automaton is well formed over some common numbers for which k is the size of the alphabet, and each of these cells has a position of the common
+-- dimension and one of the common nodes
 pub record HasSymbolsAt (f : Automaton) (k : ℕ) (cs : List Cell) : Type 0 where
   pub setting : CommonNumbers
   pub formed : IsAutomaton setting f

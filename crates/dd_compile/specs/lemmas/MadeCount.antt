@@ -59,7 +59,7 @@ pub made_count : (e : Expanded) → Counts e
 made_count = ind-Expanded Counts (λ x y is wires n.
     rw (fold-roll-Expanded Maker (made_step wires) x, fold-roll-Expanded ℕ gate_count_step x, ← is) (step_counts y wires n))
 
--- both give the same wires to the leaves that pass p
+-- `wires` and `other` give the same wires to the leaves that pass p
 abbrev pub AreSame : LeafTest → (Cell → ℕ → Signal) → (Cell → ℕ → Signal) → Type 0
 AreSame p wires other = (c : Cell) (s : ℕ) → p c s ≡ true → wires c s ≡ other c s
 

@@ -23,7 +23,7 @@ Extends-trans a b c first rest = record {
   gates = rest.gates ∙ (ap (λ gs. gs ++ rest.added) first.gates ∙ append_assoc a.gates first.added rest.added);
 }
 
--- if a circuit extends another one, so does that circuit with one more gate
+-- if a circuit extends another one, it still does when one more gate is added to it
 pub one_more : (old mid new : Network) (g : Gate) → Extends old mid → new.inputs ≡ mid.inputs → new.gates ≡ mid.gates ++ g ∷ [] → Extends old new
 one_more old mid new g so_far inputs gates = Extends-trans old mid new so_far (record { inputs = inputs; added = g ∷ []; gates = gates })
 

@@ -27,7 +27,7 @@ gated_given k c = ap (gated k) (sym (v.rolls-Given c)) ∙ fold-roll-Automaton G
 gated_composed : (k : ℕ) (f g : Automaton) → gated k (v.Composed f g) ≡ gated_step k (Automaton-F.Composed (gated k f) (gated k g))
 gated_composed k f g = ap (gated k) (sym (v.rolls-Composed f g)) ∙ fold-roll-Automaton Gated (gated_step k) (Automaton-F.Composed f g)
 
--- the fold that makes the gates has the same counts as `counted`
+-- the fold that makes the gates has the same counts (the cells that are read, instances and depth) as `counted`
 gated_counts : (k : ℕ) (f : Automaton) → (gated k f).counts ≡ counted f
 gated_counts k =
     by_forms (λ f. (gated k f).counts ≡ counted f) (λ c. ap (λ (x : Gated). x.counts) (gated_given k c) ∙ sym (counted_given c))

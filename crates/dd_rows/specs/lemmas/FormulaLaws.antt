@@ -1,4 +1,4 @@
--- The formulas of places say what the rule says there. Where one more symbol makes the rule fit, all that it reads is given.
+-- The formula of each place says that the rule is true there. Where one more symbol makes the rule fit, each cell that the rule reads has a symbol.
 use Rattle.std.proofs.Common.{◌≡◌, ◌<◌, ◌+◌, ℕ, Bool, true, false, cond, List, [], ◌∷◌, ◌++◌, length, get_or, take, Some, None, Result, Ok, Err, IfOk, refl, sym, ◌∙◌, ap, subst, arith}
 use Rattle.std.proofs.{Math.Path.fun_ext, lemmas.Bool.eqb-true, lemmas.Bool.lt-ltb, lemmas.List.take_more, lemmas.List.length-take-le}
 use Rattle.std.proofs.lemmas.{List.Folds.list_all-append, Option.slice_get_past}
@@ -37,7 +37,7 @@ read_when cs ss d false near size is = none_past cs ss d near size is
 near_reads : (cs : List Cell) (v : Place) (ss : List ℕ) → AreInRange cs → length ss ≡ length cs → (c : Cell) → read_by (ranks_near cs v) ss c ≡ look_of cs ss (shifted v c)
 near_reads cs v ss near size c = read_when cs ss (shifted v c) (is_in_range (moved c.position v)) near size refl
 
--- an expansion that says what the rule says at the cells of a node
+-- an expansion that is true exactly where the rule is, at the cells of a node
 abbrev pub Tells : LocalRule → ℕ → Expanded → Type 0
 Tells x a y = (look : Look) → HasSymbolsBelow x.symbols look → (v : Place) → holds y (λ d. look (shifted v d)) ≡ is_true x (cell v a) look
 

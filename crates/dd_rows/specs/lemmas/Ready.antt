@@ -1,4 +1,4 @@
--- Where the rule fits once the first cells have symbols. There it says the same when there are more symbols.
+-- Where the rule fits once the first cells have symbols. There more symbols don't change whether the rule is true.
 use Rattle.std.proofs.Common.{◌≡◌, ◌<◌, ◌≤◌, ◌+◌, ℕ, zero, suc, Bool, true, false, cond, List, [], ◌∷◌, ◌++◌, length, get_or, map, take, drop, min, max, refl, sym, ◌∙◌, ap, subst, inl, inr, arith, get_or-drop, length-drop, rules}
 use Rattle.std.proofs.lemmas.Bool.{and_parts, and_from, and_left, and_right, cases_lt, cases_order, cases_Bool, lt-ltb, le-ltb, ltb-true, ne_eqb, eq-eqb, false≢true}
 use Rattle.std.proofs.lemmas.List.{take-append-drop, get_or_default, length-append}
@@ -108,7 +108,7 @@ same_symbol all j ss s c size h =
     let same : rank (take j all) c ≡ rank (take (j + 1) all) c = omega (arith, low, here, there) in
     get_longer ss s (rank (take j all) c) h ∙ ap (slice_get (ss ++ s ∷ [])) same
 
--- where the rule fits, one more symbol doesn't change what it says
+-- where the rule fits, one more symbol doesn't change whether the rule is true
 same_truth : (x : LocalRule) (all : List Cell) (j : ℕ) (ss : List ℕ) (s : ℕ) (d : Cell) → length ss ≡ j → place_fits x (look_of (take j all) ss) d ≡ true →
     is_true x d (look_of (take j all) ss) ≡ is_true x d (look_of (take (j + 1) all) (ss ++ s ∷ []))
 same_truth x all j ss s d size fits =
@@ -117,7 +117,7 @@ same_truth x all j ss s d size fits =
     keeps_at x look more d.position d.position d.node (λ c h. same_symbol all j ss s (shifted d.position c) size h)
     (and_parts (is_some (look d)) (list_all (λ e. is_some (look (shifted d.position e))) (reads_at x d.node)) fits).1
 
--- where the rule fits, it is given
+-- where the rule fits, the rule is given
 seen_some : (near : Bool) (o : Option ℕ) → near ≡ true → is_some o ≡ true → is_some (cond near o None) ≡ true
 seen_some true o h some = some
 seen_some false o h some = absurd (false≢true h)

@@ -12,7 +12,7 @@ use Rattle.dd_rows.specs.Fillings.{look_of}
 abbrev pub AreOf : LocalRule → List Cell → Type 0
 AreOf x cs = All (λ c. c.node < x.nodes) cs
 
--- the position of each cell is in range
+-- the position of each cell is in range: each coordinate is at most 2^20 in absolute value
 abbrev pub AreInRange : List Cell → Type 0
 AreInRange cs = All (λ c. IsInRange c.position) cs
 
@@ -30,11 +30,11 @@ chosen [] cs k = []
 chosen (n ∷ ns) [] k = []
 chosen (n ∷ ns) (c ∷ cs) k = cond (nat_eq n k) (c ∷ chosen ns cs k) (chosen ns cs k)
 
--- whether the rule is true at the cell, or isn't given there: a cell that it reads there has no symbol or is out of range
+-- whether the rule is true at the cell, or isn't given there: a cell that the rule reads there has no symbol or is out of range
 abbrev pub is_true_if_given : LocalRule → Look → Cell → Bool
 is_true_if_given x look c = not (is_given x c look) || is_true x c look
 
--- whether, with the symbols ss of the cells cs, the rule is true at each of the places where it is given
+-- whether, with the symbols ss of the cells cs, the rule is true at each of the places where the rule is given
 abbrev pub are_true : LocalRule → List Cell → List Cell → List ℕ → Bool
 are_true x cs places ss = list_all (is_true_if_given x (look_of cs ss)) places
 

@@ -16,7 +16,8 @@ pub record EndsAlike (v : Views) (lists : List (List ℕ)) (ss : List ℕ) : Typ
   pub is : lists ≡ front ++ last ∷ []
   pub alike : ShowAlike v last ss
 
--- both lists of fillings show the same patterns, and require the same rows, whatever the patterns, the weights and the first row's bound
+-- Both lists of fillings show the same patterns. For any list ps by which patterns are numbered, any weights and any bound of the first row, both
+-- lists require the same rows.
 pub record ShowsSame (v : Views) (lists shown : List (List ℕ)) : Type 0 where
   pub patterns : patterns_shown v shown ≡ patterns_shown v lists
   pub rows : (ps : List (List ℕ)) (ws : List ℕ) (most : ℕ) → first_seen (required_rows ps v ws most shown) ≡ first_seen (required_rows ps v ws most lists)

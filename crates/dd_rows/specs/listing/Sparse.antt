@@ -29,7 +29,7 @@ abbrev pub IsExchange : ℕ → Option Exchange → Type 0
 IsExchange patterns None = Unit {0}
 IsExchange patterns (Some e) = (e.gives ≤ patterns) × (e.receives ≤ patterns) × (e.gives ≡ e.receives → ⊥)
 
--- the row has an exchange, or none, for each vector
+-- the row has one item for each vector: an exchange, or none
 pub record IsSparse (vectors patterns : ℕ) (r : SparseRow) : Type 0 where
   pub as_many : length r.exchanges.items ≡ vectors
   pub each : All (IsExchange patterns) r.exchanges.items

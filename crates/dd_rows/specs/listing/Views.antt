@@ -13,7 +13,7 @@ use Rattle.dd_numbered.specs.Numbering.{rank}
 abbrev pub view_of : List Cell → List Cell → Place → List ℕ
 view_of cs box p = map (λ c. rank cs (shifted p c)) box
 
--- for each vector, the view of the box around its opposite
+-- for each vector, the view of the box around the vector's opposite
 abbrev pub givers_of : List Cell → List Cell → List Place → List (List ℕ)
 givers_of cs box vs = map (λ v. view_of cs box (reversed v)) vs
 
