@@ -17,6 +17,7 @@ mod tori;
 
 pub use checked::CheckedQuestion;
 pub use conjugacy::Conjugacy;
+pub use dd_formula::has_allowed;
 pub use excess::Excess;
 pub use fault::QuestionFault;
 pub use laws::sound_questions;
