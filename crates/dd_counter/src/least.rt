@@ -1,6 +1,6 @@
-//! The search for a configuration of least weight on a torus. After each configuration that is found, a lighter one is searched
-//! for, until a refutation shows that there is none. While the weight may still be far above the least one, the search asks for
-//! much lighter configurations, so that few searches are needed. Before that, a local search makes the first configuration lighter.
+//! The search for a configuration of least weight on a torus. A local search makes the first configuration lighter. Then, after
+//! each configuration that is found, a lighter one is searched for, until a refutation shows that there is none. While the weight
+//! may still be far above the least one, the search asks for much lighter configurations, so that few searches are needed.
 ghost use Rattle.std.specs.Prelude.{◌≡◌, ◌≤◌, ◌*◌, length, All, IfOk};
 ghost use Rattle.dd_values.specs.Bounds.{most_variables, most_weight};
 ghost use Rattle.dd_pattern.specs.Periods.{periods_of, periods_volume};
@@ -12,9 +12,9 @@ ghost use Rattle.dd_counter.specs.Weights.{weight_count};
 ghost use Rattle.dd_counter.specs.Least.{greatest, IsLiving, IsLeast};
 ghost use Rattle.dd_counter.specs.searching.Lighter.{IsLighter};
 
-use crate::landscape::Landscape;
-use crate::lightening::Lightening;
 use crate::living::living;
+use crate::local_search::LocalSearch;
+use crate::torus_rule::TorusRule;
 use crate::weights::weight_clauses;
 use dd_clause::Cnf;
 use dd_derivation::{Outcome, Step, last_number};
@@ -25,6 +25,12 @@ use dd_problem::read_torus;
 use dd_solver::{solve, trimmed};
 use dd_values::Items;
 use std::alloc::{AllocError, Global};
+
+/// A torus on which the rule takes more clauses than this isn't searched locally.
+const MOST_LOCAL_CLAUSES: u64 = 200_000;
+
+/// The first step of the descent. The descent ends once the weight is known to be at most this much above the least weight.
+const NEAR: u64 = 32;
 
 /// The least weight of the configurations of given periods that live in a rule's subshift.
 #[derive(Debug, Drop)]
@@ -49,8 +55,8 @@ enum Lighter {
     Nothing(Items<Step>),
 }
 
-/// Finds an assignment that satisfies the clauses, or steps that refute them. Without a bound on the weight, the list is mostly
-/// easy to satisfy, and an elimination of variables would take longer than the search.
+/// Finds an assignment that satisfies the clauses, or steps that refute them. Without a bound on the weight, the list is usually
+/// easy to satisfy, and eliminating variables would take longer than the search.
 fn solved(alloc: Global, cnf: &Cnf, below: u64) -> Result<Outcome, AllocError>
     ensures answer { IfOk result (IsAnswer cnf.now.variables cnf.now.clauses) }
 {
@@ -92,10 +98,7 @@ fn search_below(
     }
 }
 
-/// A torus whose rules take more clauses than this isn't searched locally.
-const MOST_LOCAL: u64 = 200_000;
-
-/// A living configuration that is most often lighter than the given one, by a local search.
+/// A living configuration that a local search finds from the given one. It is usually lighter.
 fn lightened(
     alloc: Global,
     rule: &Rule,
@@ -106,10 +109,10 @@ fn lightened(
     requires lives { IsLiving rule.now (periods_of periods 0) start }
     ensures { IfOk result (IsLiving rule.now (periods_of periods 0)) }
 {
-    let Some(landscape) = Landscape::new(alloc, rule, &start, MOST_LOCAL)? else {
+    let Some(torus) = TorusRule::new(alloc, rule, &start, MOST_LOCAL_CLAUSES)? else {
         return Ok(start);
     };
-    let search = Lightening::new(alloc, rule, &landscape, weights, start.symbols())?;
+    let search = LocalSearch::new(alloc, rule, &torus, weights, start.symbols())?;
     let symbols = search.run(alloc)?;
     match living(rule, periods, symbols) {
         Some(lighter) => Ok(lighter),
@@ -117,13 +120,10 @@ fn lightened(
     }
 }
 
-/// The first step of the descent. The descent ends once the weight is known to be at most this much above the least weight.
-const NEAR: u64 = 32;
-
-/// The descent: goes from the living configuration `start` to one that weighs at most `NEAR` more than the least weight. Each
-/// search asks for a configuration that is lighter than the last one by more than `step`. If all weights that small are refuted,
-/// it asks for one that weighs `refuted`, the least weight that is not refuted. A success doubles the step, and a refutation sets
-/// it back to `NEAR`.
+/// The descent: goes from the living configuration `start` to one that weighs at most `NEAR` more than the least weight. After a
+/// local search, each search asks for a configuration that is lighter than the last one by more than `step`. If all weights that
+/// small are refuted, it asks for one that weighs `refuted`, the least weight that is not refuted. A success doubles the step, and
+/// a refutation sets it back to `NEAR`.
 fn descended(
     alloc: Global,
     rule: &Rule,
@@ -139,7 +139,7 @@ fn descended(
     requires lives { IsLiving rule.now (periods_of periods 0) start }
     ensures { IfOk result (IsLiving rule.now (periods_of periods 0)) }
 {
-    let mut best = start;
+    let mut best = lightened(alloc, rule, periods, weights, start)?;
     let mut weight = best.weight(weights);
     // No living configuration weighs less than this.
     let mut refuted: u64 = 0;
@@ -180,8 +180,7 @@ pub fn least_weight(
         Lighter::Found(periodic) => periodic,
         Lighter::Nothing(steps) => return Ok(LeastWeight::Nothing { steps }),
     };
-    let light = lightened(alloc, rule, periods, weights, first)?;
-    let mut found = descended(alloc, rule, periods, weights, light)?;
+    let mut found = descended(alloc, rule, periods, weights, first)?;
     let mut weight = found.weight(weights);
     while weight > 0 {
         match search_below(alloc, rule, periods, weights, weight)? {

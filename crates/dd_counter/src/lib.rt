@@ -4,11 +4,11 @@
 #![tactic(auto)]
 
 mod counter;
-mod landscape;
 mod laws;
 mod least;
-mod lightening;
 mod living;
+mod local_search;
+mod torus_rule;
 mod weights;
 
 pub use laws::least_law;

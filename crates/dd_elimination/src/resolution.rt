@@ -1,16 +1,27 @@
-//! Resolution: two clauses, one with a variable and one with its negation, give a third clause that follows from them.
+//! Resolution: two clauses, one with a variable and one with its negation, give a third clause that follows from them. In each
+//! list of literals here, the literals have different variables.
 use dd_clause::Literal;
 use std::alloc::{AllocError, Global};
 
-/// What a clause says of another one.
+/// How one clause relates to another.
 #[derive(Clone, Copy)]
 pub(crate) enum Relation {
-    /// Each literal of the clause is in the other one, which therefore follows from it.
+    /// All its literals are in the other clause, which therefore follows from it.
     Subsumes,
-    /// The other clause has each of its literals but this one, and this one's negation. So the negation can be left out of the
-    /// other clause.
+    /// The other clause contains the negation of this literal, and all the rest of the clause. So the negation can be dropped
+    /// from the other clause.
     Shortens(Literal),
     Unrelated,
+}
+
+/// The literal of this variable, if there is one.
+fn literal_of(literals: &[Literal], variable: u32) -> Option<Literal> {
+    for literal in literals {
+        if literal.variable == variable {
+            return Some(*literal);
+        }
+    }
+    None
 }
 
 /// The literals, each once. `None` if they hold a literal and its negation.
@@ -20,38 +31,57 @@ pub(crate) fn distinct(
 ) -> Result<Option<Vec<Literal>>, AllocError> {
     let mut kept: Vec<Literal> = Vec::with_capacity(alloc, literals.len())?;
     for literal in literals {
-        if kept.contains(&literal.negation()) {
-            return Ok(None);
-        }
-        if !kept.contains(literal) {
-            kept.push(*literal)?;
+        match literal_of(kept.as_slice(), literal.variable) {
+            None => kept.push(*literal)?,
+            Some(other) => {
+                if other != *literal {
+                    return Ok(None);
+                }
+            }
         }
     }
     Ok(Some(kept))
 }
 
-/// The literals of two clauses but those of the variable, each once. `None` if they hold a literal and its negation.
+/// How many literals the resolvent of two clauses on a variable has. `None` if it holds a literal and its negation.
+pub(crate) fn resolvent_length(
+    first: &[Literal],
+    second: &[Literal],
+    variable: u32,
+) -> Option<usize> {
+    let mut length = first.len().saturating_sub(1);
+    for literal in second {
+        if literal.variable != variable {
+            match literal_of(first, literal.variable) {
+                None => length = length.saturating_add(1),
+                Some(other) => {
+                    if other != *literal {
+                        return None;
+                    }
+                }
+            }
+        }
+    }
+    Some(length)
+}
+
+/// The literals of two clauses, each once, without those of the variable.
 pub(crate) fn resolvent(
     alloc: Global,
     first: &[Literal],
     second: &[Literal],
     variable: u32,
-) -> Result<Option<Vec<Literal>>, AllocError> {
+) -> Result<Vec<Literal>, AllocError> {
     let mut literals = without(alloc, first, variable)?;
     for literal in second {
-        if literal.variable != variable {
-            if first.contains(&literal.negation()) {
-                return Ok(None);
-            }
-            if !first.contains(literal) {
-                literals.push(*literal)?;
-            }
+        if literal.variable != variable && !first.contains(literal) {
+            literals.push(*literal)?;
         }
     }
-    Ok(Some(literals))
+    Ok(literals)
 }
 
-/// The literals of other variables.
+/// The literals without those of the variable.
 pub(crate) fn without(
     alloc: Global,
     literals: &[Literal],
@@ -66,15 +96,20 @@ pub(crate) fn without(
     Ok(others)
 }
 
-/// What the clause of the first literals says of that of the others.
+/// How the clause with the first literals relates to the clause with the others.
 pub(crate) fn relate(literals: &[Literal], others: &[Literal]) -> Relation {
     let mut opposed: Option<Literal> = None;
     for literal in literals {
-        if !others.contains(literal) {
-            if opposed.is_some() || !others.contains(&literal.negation()) {
-                return Relation::Unrelated;
+        match literal_of(others, literal.variable) {
+            None => return Relation::Unrelated,
+            Some(other) => {
+                if other != *literal {
+                    if opposed.is_some() {
+                        return Relation::Unrelated;
+                    }
+                    opposed = Some(*literal);
+                }
             }
-            opposed = Some(*literal);
         }
     }
     match opposed {

@@ -1,5 +1,5 @@
-//! The search on the clauses that are left after the elimination of variables. The answer for the whole list that comes from it is
-//! checked. If it weren't right, the whole list would be searched.
+//! The search on the clauses that remain after the elimination of variables. Its result is turned into an answer for the whole
+//! list, which is checked. If that answer were wrong, the whole list would be searched.
 ghost use Rattle.std.specs.Prelude.{IfOk, IfSome};
 ghost use Rattle.dd_solver.specs.Answers.{IsAnswer};
 
@@ -9,10 +9,10 @@ use dd_derivation::{Marks, Outcome, check_refutation};
 use dd_solver::{Style, solve, solve_with};
 use std::alloc::{AllocError, Global};
 
-/// A longer list is searched as it is.
+/// A list with more clauses than this is searched as it is.
 const MOST_CLAUSES: usize = 200_000;
 
-/// Finds an assignment that satisfies the clauses, or steps that refute them, by an elimination of variables before the search.
+/// Like `solve`, but variables are eliminated before the search. This is faster on lists of least weights.
 pub fn solve_reduced(alloc: Global, cnf: &Cnf) -> Result<Outcome, AllocError>
     ensures answer { IfOk result (IsAnswer cnf.now.variables cnf.now.clauses) }
 {
@@ -24,11 +24,13 @@ pub fn solve_reduced(alloc: Global, cnf: &Cnf) -> Result<Outcome, AllocError>
     solve(alloc, cnf)
 }
 
-/// The answer that the reduced list leads to, if it is right.
+/// The answer that the reduced list leads to. `None` if it is wrong, which never happens, or if the clauses are too long to reduce.
 fn find_answer(alloc: Global, cnf: &Cnf) -> Result<Option<Outcome>, AllocError>
     ensures { IfOk result (λ found. IfSome found (IsAnswer cnf.now.variables cnf.now.clauses)) }
 {
-    let elimination = Elimination::new(alloc, cnf)?;
+    let Some(elimination) = Elimination::of(alloc, cnf)? else {
+        return Ok(None);
+    };
     let Some(reduced) = elimination.reduced(alloc, cnf)? else {
         return Ok(None);
     };

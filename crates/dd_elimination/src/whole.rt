@@ -1,11 +1,11 @@
-//! What is left of a list after the elimination, and the way back: from an answer for that list to one for the whole list.
+//! The list that is left after the elimination, and the way back: from an answer for it to an answer for the whole list.
 use crate::elimination::{Eliminated, Elimination};
 use dd_clause::{Assignment, Clause, Cnf, Literal};
 use dd_derivation::Step;
 use dd_values::Items;
 use std::alloc::{AllocError, Global};
 
-/// The clauses that are left, and the number that each has in the whole list or among its steps.
+/// The remaining clauses, and for each its number in the whole list or among the steps after it.
 #[derive(Drop)]
 pub(crate) struct Reduced {
     pub cnf: Cnf,
@@ -18,24 +18,34 @@ fn is_true(values: &[bool], literal: Literal) -> bool {
     variable >= 1 && variable <= values.len() && values[variable - 1] == literal.positive
 }
 
-/// Replaces the numbers that clauses have in the reduced list by those in the whole list. `numbers` has them for the clauses of the
-/// reduced list. Its first step comes after `before` clauses and steps of the whole list.
-fn renumbered(numbers: &[u64], before: u64, hints: Items<u64>) -> Items<u64> {
-    let count = numbers.len() as u64;
-    let mut hints = hints.into_vec();
-    for hint in hints.iter_mut() {
-        let number = *hint;
-        if number > count {
-            *hint = before.saturating_add(number - count);
-        } else if number >= 1 {
-            *hint = numbers[number as usize - 1];
+/// Whether a literal of another variable is true.
+fn has_other_true(literals: &[Literal], variable: u32, values: &[bool]) -> bool {
+    for literal in literals {
+        if literal.variable != variable && is_true(values, *literal) {
+            return true;
         }
     }
-    Items::from_vec(hints)
+    false
+}
+
+/// Replaces clause numbers of the reduced list by those of the whole list. `numbers` has the new number of each clause of the
+/// reduced list. The steps of the search come after `before` clauses and steps.
+fn renumbered(numbers: &[u64], before: u64, old: Items<u64>) -> Items<u64> {
+    let count = numbers.len() as u64;
+    let mut renumbered = old.into_vec();
+    for entry in renumbered.iter_mut() {
+        let number = *entry;
+        if number > count {
+            *entry = before.saturating_add(number - count);
+        } else if number >= 1 {
+            *entry = numbers[number as usize - 1];
+        }
+    }
+    Items::from_vec(renumbered)
 }
 
 impl Elimination {
-    /// The clauses that are left. `None` if one has a variable that the list hasn't, which can't be.
+    /// The remaining clauses. `None` if one has a variable that isn't in the list, which never happens.
     pub(crate) fn reduced(
         &self,
         alloc: Global,
@@ -74,7 +84,7 @@ impl Elimination {
         Ok(Assignment::new(values))
     }
 
-    /// Whether some clause of the variable has no other true literal.
+    /// Whether some clause that contains the variable has no other true literal.
     fn has_to_be_true(&self, eliminated: &Eliminated, values: &[bool]) -> bool {
         for index in eliminated.clauses.as_slice() {
             if let Some(entry) = self.entries.get(*index) {
@@ -109,14 +119,4 @@ impl Elimination {
         }
         Ok(Items::from_vec(whole))
     }
-}
-
-/// Whether a literal of another variable is true.
-fn has_other_true(literals: &[Literal], variable: u32, values: &[bool]) -> bool {
-    for literal in literals {
-        if literal.variable != variable && is_true(values, *literal) {
-            return true;
-        }
-    }
-    false
 }

@@ -28,7 +28,7 @@ impl Numbers for Around<'_> {
 
 /// The rule at one cell.
 #[derive(Drop)]
-struct Spot {
+struct CellRule {
     /// Says of the symbols of all cells whether the rule is true here.
     formula: Numbered,
     /// The node of the cell.
@@ -43,28 +43,29 @@ struct Spot {
 
 /// The rule at all cells of a torus.
 #[derive(Drop)]
-pub(crate) struct Landscape {
-    spots: Vec<Spot>,
+pub(crate) struct TorusRule {
+    cells: Vec<CellRule>,
 }
 
-/// The cost of a formula that takes this many clauses. To evaluate it, only a part of it is looked at.
+/// The cost of evaluating a formula that takes this many clauses. Usually only a small part of it is looked at.
 fn cost_of(clauses: u64) -> u64 {
     1 + clauses / 32
 }
 
-impl Landscape {
-    /// The rule at the cells of this configuration's fundamental box. `None` if these take more than `most` clauses together.
+impl TorusRule {
+    /// The rule at the cells of this configuration's fundamental box. `None` if it takes more than `most` clauses at these cells
+    /// together.
     pub(crate) fn new(
         alloc: Global,
         rule: &Rule,
         periodic: &Periodic,
         most: u64,
-    ) -> Result<Option<Landscape>, AllocError> {
+    ) -> Result<Option<TorusRule>, AllocError> {
         let Some(numbers) = numbered_box(alloc, periodic)? else {
             return Ok(None);
         };
-        let mut landscape = Landscape {
-            spots: Vec::new(alloc),
+        let mut torus = TorusRule {
+            cells: Vec::new(alloc),
         };
         let mut clauses = 0u64;
         for number in 0..periodic.symbols().len() {
@@ -76,10 +77,10 @@ impl Landscape {
             if clauses > most {
                 return Ok(None);
             }
-            landscape.add(alloc, rule, &numbers, &cell)?;
+            torus.add(alloc, rule, &numbers, &cell)?;
         }
-        landscape.note_readers()?;
-        Ok(Some(landscape))
+        torus.note_readers()?;
+        Ok(Some(torus))
     }
 
     /// Adds the rule at the next cell.
@@ -104,7 +105,7 @@ impl Landscape {
                 }
             }
         }
-        self.spots.push(Spot {
+        self.cells.push(CellRule {
             formula: Numbered::new(alloc, rule.expansion(cell.node), &around)?,
             node: cell.node,
             cost: cost_of(rule.clause_count(cell.node)),
@@ -114,13 +115,13 @@ impl Landscape {
         Ok(())
     }
 
-    /// Notes for each cell at which cells it is read.
+    /// Notes for each cell where it is read.
     fn note_readers(&mut self) -> Result<(), AllocError> {
-        for reader in 0..self.spots.len() {
-            for place in 0..self.spots[reader].reads.len() {
+        for reader in 0..self.cells.len() {
+            for place in 0..self.cells[reader].reads.len() {
                 if let Some(number) = self.read_at(reader, place) {
-                    if number < self.spots.len() {
-                        self.spots[number].readers.push(reader)?;
+                    if number < self.cells.len() {
+                        self.cells[number].readers.push(reader)?;
                     }
                 }
             }
@@ -135,48 +136,48 @@ impl Landscape {
 
     /// How many cells there are.
     pub(crate) fn len(&self) -> usize {
-        self.spots.len()
+        self.cells.len()
     }
 
     /// The node of a cell.
     pub(crate) fn node(&self, cell: usize) -> Option<u32> {
-        self.spots.get(cell).map(|spot| spot.node)
+        self.cells.get(cell).map(|cell_rule| cell_rule.node)
     }
 
     /// The cells that the rule reads at a cell.
     pub(crate) fn reads(&self, cell: usize) -> &[usize] {
-        match self.spots.get(cell) {
-            Some(spot) => spot.reads.as_slice(),
+        match self.cells.get(cell) {
+            Some(cell_rule) => cell_rule.reads.as_slice(),
             None => &[],
         }
     }
 
     /// The cells at which the rule reads a cell.
     pub(crate) fn readers(&self, cell: usize) -> &[usize] {
-        match self.spots.get(cell) {
-            Some(spot) => spot.readers.as_slice(),
+        match self.cells.get(cell) {
+            Some(cell_rule) => cell_rule.readers.as_slice(),
             None => &[],
         }
     }
 
     /// Whether the rule is true at a cell, under these symbols of all cells.
     pub(crate) fn is_true(&self, cell: usize, symbols: &[u32]) -> bool {
-        match self.spots.get(cell) {
-            Some(spot) => spot.formula.truth(symbols),
+        match self.cells.get(cell) {
+            Some(cell_rule) => cell_rule.formula.truth(symbols),
             None => false,
         }
     }
 
     /// What `is_true` costs at a cell.
     pub(crate) fn cost(&self, cell: usize) -> u64 {
-        match self.spots.get(cell) {
-            Some(spot) => spot.cost,
+        match self.cells.get(cell) {
+            Some(cell_rule) => cell_rule.cost,
             None => 0,
         }
     }
 }
 
-/// The configuration with the same fundamental box that has at each cell of it the cell's number as its symbol.
+/// The configuration with the same fundamental box in which the symbol of each cell is the cell's number.
 fn numbered_box(alloc: Global, periodic: &Periodic) -> Result<Option<Periodic>, AllocError> {
     let mut numbers: Vec<u32> = Vec::new(alloc);
     for number in 0..periodic.symbols().len() {
