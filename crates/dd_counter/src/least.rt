@@ -1,13 +1,13 @@
 //! The search for a configuration of least weight on a torus. A local search makes the first configuration lighter. Then, after
 //! each configuration that is found, a lighter one is searched for, until a refutation shows that there is none. While the weight
 //! may still be far above the least one, the search asks for much lighter configurations, so that few searches are needed.
-ghost use Rattle.std.specs.Prelude.{◌≡◌, ◌≤◌, ◌*◌, length, All, IfOk};
+ghost use Rattle.std.specs.Prelude.{◌≡◌, ◌≤◌, ◌*◌, ◌↔◌, length, All, IfOk};
 ghost use Rattle.dd_values.specs.Bounds.{most_variables, most_weight};
 ghost use Rattle.dd_pattern.specs.Periods.{periods_of, periods_volume};
 ghost use Rattle.dd_boxes.specs.Goals.{always};
 ghost use Rattle.dd_boxes.specs.Counts.{most_clauses};
 ghost use Rattle.dd_boxes.specs.TorusPeriods.{AreTorusPeriods};
-ghost use Rattle.dd_solver.specs.Answers.{IsAnswer};
+ghost use Rattle.dd_solver.specs.Answers.{IsAnswer, IsRefuted, IsSatisfiable};
 ghost use Rattle.dd_counter.specs.Weights.{weight_count};
 ghost use Rattle.dd_counter.specs.Least.{greatest, IsLiving, IsLeast};
 ghost use Rattle.dd_counter.specs.searching.Lighter.{IsLighter};
@@ -59,6 +59,7 @@ enum Lighter {
 /// easy to satisfy, and eliminating variables would take longer than the search.
 fn solved(alloc: Global, cnf: &Cnf, below: u64) -> Result<Outcome, AllocError>
     ensures answer { IfOk result (IsAnswer cnf.now.variables cnf.now.clauses) }
+    ensures refuted { IfOk result (λ outcome. IsRefuted outcome ↔ ¬ (IsSatisfiable cnf.now.clauses)) }
 {
     if below == 0 {
         solve(alloc, cnf)

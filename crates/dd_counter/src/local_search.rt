@@ -67,7 +67,7 @@ impl<'a> LocalSearch<'a> {
         let count = torus.len();
         let mut weight = 0u64;
         for symbol in symbols {
-            weight = weight.saturating_add(weight_of(weights, *symbol));
+            weight = weight.saturating_add(u64::from(weight_of(weights, *symbol)));
         }
         Ok(LocalSearch {
             rule,
@@ -132,10 +132,13 @@ impl<'a> LocalSearch<'a> {
 
     /// Raises the penalty of each cell where the rule is false.
     fn raise_penalties(&mut self) {
-        self.pay(1 + self.falses.len() as u64 / 16);
-        for cell in self.falses.as_slice() {
-            if *cell < self.penalties.len() {
-                self.penalties[*cell] = self.penalties[*cell].saturating_add(1);
+        let count = self.falses.len();
+        self.pay(1 + count as u64 / 16);
+        for place in 0..count {
+            if let Some(cell) = self.falses.get(place).copied() {
+                if cell < self.penalties.len() {
+                    self.penalties[cell] = self.penalties[cell].saturating_add(1);
+                }
             }
         }
     }
@@ -157,9 +160,10 @@ impl<'a> LocalSearch<'a> {
 
     /// The best change to a lighter symbol, among the cells that weren't changed in the previous step.
     fn best_lighter(&mut self) -> Option<Change> {
-        self.pay(self.symbols.len() as u64 / 16);
+        let count = self.symbols.len();
+        self.pay(count as u64 / 16);
         let mut best: Option<Change> = None;
-        for cell in 0..self.symbols.len() {
+        for cell in 0..count {
             if self.is_rested(cell) {
                 for symbol in 0..self.rule.symbols() {
                     best = better(best, self.lighter(cell, symbol));
@@ -228,8 +232,8 @@ impl<'a> LocalSearch<'a> {
 
     /// How much heavier the configuration becomes if a cell gets this symbol.
     fn heavier(&self, cell: usize, symbol: u32) -> i64 {
-        let old = weight_of(self.weights, self.symbol(cell)) as i64;
-        (weight_of(self.weights, symbol) as i64).saturating_sub(old)
+        let old = i64::from(weight_of(self.weights, self.symbol(cell)));
+        i64::from(weight_of(self.weights, symbol)).saturating_sub(old)
     }
 
     /// The change that gives the cell this symbol, if the symbol is lighter and allowed.
@@ -329,11 +333,8 @@ impl<'a> LocalSearch<'a> {
 }
 
 /// The weight of a symbol.
-fn weight_of(weights: &[u32], symbol: u32) -> u64 {
-    match weights.get(symbol as usize) {
-        Some(weight) => u64::from(*weight),
-        None => 0,
-    }
+fn weight_of(weights: &[u32], symbol: u32) -> u32 {
+    weights.get(symbol as usize).copied().unwrap_or(0)
 }
 
 /// The better of two changes, each of which may be missing.

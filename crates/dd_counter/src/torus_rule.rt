@@ -1,4 +1,5 @@
 //! A rule on the cells of a torus. The cells are numbered in cell order.
+ghost use Rattle.std.specs.Prelude.{◌≡◌, ◌<◌};
 ghost use Rattle.dd_pattern.specs.Tile.{tile_look};
 ghost use Rattle.dd_expansion.specs.Leaves.{seen};
 
@@ -21,8 +22,17 @@ impl Numbers for Around<'_> {
     fn number(&self, cell: &Cell) -> Option<usize> {
         let position = shift(&cell.position, &self.at)?;
         let node = cell.node;
-        let number = self.numbers.symbol(&Cell { position, node })?;
-        Some(number as usize)
+        number_at(self.numbers, &Cell { position, node })
+    }
+}
+
+/// The symbol that `numbers` has at a cell.
+fn number_at(numbers: &Periodic, cell: &Cell) -> Option<usize>
+    ensures { result ≡ tile_look numbers.now cell.now }
+{
+    match numbers.symbol(cell) {
+        None => None,
+        Some(number) => Some(number as usize),
     }
 }
 

@@ -1,7 +1,7 @@
 //! The search on the clauses that remain after the elimination of variables. Its result is turned into an answer for the whole
 //! list, which is checked. If that answer were wrong, the whole list would be searched.
-ghost use Rattle.std.specs.Prelude.{IfOk, IfSome};
-ghost use Rattle.dd_solver.specs.Answers.{IsAnswer};
+ghost use Rattle.std.specs.Prelude.{IfOk, IfSome, ◌↔◌};
+ghost use Rattle.dd_solver.specs.Answers.{IsAnswer, IsFound, IsRefuted, IsSatisfiable};
 
 use crate::elimination::Elimination;
 use dd_clause::{Cnf, satisfies};
@@ -15,6 +15,15 @@ const MOST_CLAUSES: usize = 200_000;
 /// Like `solve`, but variables are eliminated before the search. This is faster on lists of least weights.
 pub fn solve_reduced(alloc: Global, cnf: &Cnf) -> Result<Outcome, AllocError>
     ensures answer { IfOk result (IsAnswer cnf.now.variables cnf.now.clauses) }
+    ensures found { IfOk result (λ outcome. IsFound outcome ↔ IsSatisfiable cnf.now.clauses) }
+    ensures refuted { IfOk result (λ outcome. IsRefuted outcome ↔ ¬ (IsSatisfiable cnf.now.clauses)) }
+{
+    answer_of(alloc, cnf)
+}
+
+/// The answer for the reduced list, turned into one for the whole list, or else that of a search on the whole list.
+fn answer_of(alloc: Global, cnf: &Cnf) -> Result<Outcome, AllocError>
+    ensures { IfOk result (IsAnswer cnf.now.variables cnf.now.clauses) }
 {
     if cnf.clauses().len() <= MOST_CLAUSES {
         if let Some(outcome) = find_answer(alloc, cnf)? {
