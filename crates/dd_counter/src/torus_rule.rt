@@ -1,6 +1,5 @@
 //! A rule on the cells of a torus. The cells are numbered in cell order.
 ghost use Rattle.std.specs.Prelude.{◌≡◌, ◌<◌};
-ghost use Rattle.dd_pattern.specs.Tile.{tile_look};
 ghost use Rattle.dd_expansion.specs.Leaves.{seen};
 
 use dd_formula::Rule;
@@ -11,13 +10,13 @@ use std::alloc::{AllocError, Global};
 
 /// Numbers cells that are given relative to the position `at`. The symbol that `numbers` has at a cell is its number.
 #[derive(Drop)]
-struct Around<'a> {
-    numbers: &'a Periodic,
+struct Around<'a, R> {
+    numbers: &'a R,
     at: Position,
 }
 
-impl Numbers for Around<'_> {
-    ghost numbering = { λ around. seen (tile_look around.numbers.now) around.at };
+impl<R: Reads> Numbers for Around<'_, R> {
+    ghost numbering = { λ around. seen (R.symbols around.numbers.now) around.at };
 
     fn number(&self, cell: &Cell) -> Option<usize> {
         let position = shift(&cell.position, &self.at)?;
@@ -27,8 +26,8 @@ impl Numbers for Around<'_> {
 }
 
 /// The symbol that `numbers` has at a cell.
-fn number_at(numbers: &Periodic, cell: &Cell) -> Option<usize>
-    ensures { result ≡ tile_look numbers.now cell.now }
+fn number_at<R: Reads>(numbers: &R, cell: &Cell) -> Option<usize>
+    ensures { result ≡ R.symbols numbers.now cell.now }
 {
     match numbers.symbol(cell) {
         None => None,
