@@ -1,5 +1,5 @@
--- A right answer is a certificate. The decision of a box question gives a YES its radius and its refutation. The configuration of
--- a NO can be read back from what is written of it.
+-- A right answer is a certificate. Where it answers a box question, its certificate comes from the decision of the question. This gives a YES its
+-- radius and its refutation. For a NO, the configuration can be read back from what the answer writes of it.
 use Rattle.std.proofs.Common.{◌≡◌, ℕ, List, max, refl, ap, sym, subst, ◌∙◌, arith}
 use Rattle.dd_derivation.specs.{Derivations.IsRefuting, declared.step.Step.Step}
 use Rattle.dd_problem.specs.Problems.{box_problem}
@@ -35,7 +35,7 @@ discharge_is x radius margin vs ws pivots a (is_large h) = too_large
 discharge_is x radius margin vs ws pivots a (overflows h) = overflow
 discharge_is x radius margin vs ws pivots a (used_up h) = no_pivots
 
--- a configuration that lives on the torus can be read back from its symbols
+-- a configuration that lives on the torus, so that it has the torus's periods and obeys the rule, can be read back from its symbols
 torus_same : (x : LocalRule) (along : List ℕ) (t : Tile) → IsLiving x (periods_of along 0) t → t ≡ torus_tile x along t.symbols
 torus_same x along t lives =
     let dimension : t.dimension ≡ x.dimension = lives.1.fits.dimension in
@@ -68,7 +68,7 @@ module _ (back : AreWrittenBack) (l : Limits) where
         witness = subst (IsWitness x g) (sym written.same) shows.1;
       }
 
-  -- the decision of a box question makes a certificate
+  -- the decision of a box question gives a certificate
   decided_no : (x : LocalRule) (g : GoalOf) (t : Tile) → IsDecided x g l.radius l.period (decision.No t) → IsNo l x g (written_periods t) t.periods.shear t.symbols
   decided_no x g t h = no_of x g h.2.1.0 t h.2.1.1.within h.2.1.2
 
@@ -98,7 +98,7 @@ module _ (back : AreWrittenBack) (l : Limits) where
       let both = right.decided in
       subst (IsEqualCertificate l x y) (sym (right.written ∙ ap written_equality both.join)) (joined_is x y both.left both.right both.left_decided both.right_decided)
 
-  -- the decision of one of the four questions of a conjugacy makes a certificate
+  -- a YES to one of the four questions of a conjugacy gives a part of its certificate
   yes_at : (c : ConjugacyOf) (k n : ℕ) (x : LocalRule) (g : GoalOf) (steps : List Step) → IsPart c k x g → ComesTo l c k (decision.Yes n steps) →
       IsYes l x g n steps
   yes_at c k n x g steps part comes =

@@ -1,4 +1,4 @@
-//! The law of right answers, as the contract of a call that does nothing.
+//! The law that right answers are certificates, as the contract of a function that does nothing.
 ghost use Rattle.dd_certificate.specs.declared.answer.Answer.{Answer as AnyAnswer};
 ghost use Rattle.dd_question.specs.Questions.{Asked};
 ghost use Rattle.dd_respond.specs.Right.{IsRightTo};
@@ -7,8 +7,8 @@ ghost use Rattle.dd_verify.specs.Certificates.{IsCertificateOf};
 
 use dd_evidence::written_back;
 
-/// Does nothing. Its contract says that each right answer to a question within some limits is a certificate within the same
-/// limits. This holds even of the answer UNKNOWN.
+/// Does nothing. Its contract says that each answer that is right for a question within some limits is a certificate for it within
+/// the same limits. This holds even for the answer UNKNOWN.
 pub fn right_is_certificate()
     ensures { (limits : AnyLimits) (question : Asked) (answer : AnyAnswer) → IsRightTo limits question answer → IsCertificateOf limits question answer }
 {

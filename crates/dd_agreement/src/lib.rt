@@ -1,4 +1,5 @@
-//! Every right answer is a certificate, so the check accepts it.
+//! Every right answer is a certificate. So the check, which accepts exactly the certificates, accepts it. Which answers are right
+//! is defined in `dd_respond`, and which are certificates in `dd_verify`.
 #![tactic(auto)]
 
 mod laws;

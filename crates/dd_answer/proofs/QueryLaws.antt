@@ -1,4 +1,4 @@
--- What holds of a question holds of the query that asks it.
+-- What holds for a question also holds for a query that asks it.
 use Rattle.std.proofs.Common.{◌≡◌, Some, None, refl, sym, subst}
 use Rattle.std.specs.{Prelude.Option, Prelude.List, Prelude.IsSomeAnd, List.Contains}
 use Rattle.dd_certificate.specs.declared.answer.Answer.{Answer}
@@ -15,11 +15,11 @@ module _ (s : Parts) (q : Query) (k : Asked) (asks : asked s q ≡ Some k) where
   right_for l limits a right =
       subst (λ (o : Option Asked). IsSomeAnd o (λ j. IsRightTo s.known.limits j a)) (sym asks) (subst (λ (m : Limits). IsRightTo m k a) limits right)
 
-  -- the query asks engines exactly if its question does
+  -- engines are asked for the query exactly if they are asked for its question
   pub engages_for : (before after : List Seen) → Engages (IsBoxQuestion k) before after → Engages (AsksBoxes s q) before after
   engages_for before after told = subst (λ (o : Option Asked). Engages (IsSomeAnd o IsBoxQuestion) before after) (sym asks) told
 
--- two facts about the same item
+-- two facts about the item of an option are facts about the same item
 both_of_one : {X : Type 0} (o : Option X) (P Q : X → Type 0) (G : Type 0) → IsSomeAnd o P → IsSomeAnd o Q → ((x : X) → o ≡ Some x → P x → Q x → G) → G
 both_of_one (Some x) P Q G p q then = then x refl p q
 both_of_one None P Q G p q then = absurd p

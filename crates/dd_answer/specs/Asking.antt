@@ -1,4 +1,5 @@
--- Which queries come down to box questions, for which engines are asked.
+-- Which queries come down to box questions. Engines are asked for these queries. A box question has a rule and a goal, such as that another rule is
+-- broken, and asks whether the goal occurs in no configuration that obeys the rule.
 use Rattle.std.specs.Prelude.{◌⊎◌, List, [], ◌∷◌, IsSomeAnd}
 use Rattle.dd_query.specs.declared.queries.Query.{Query}
 use Rattle.dd_respond.specs.Asking.{IsBoxQuestion}
@@ -8,7 +9,7 @@ use Rattle.dd_script.specs.{Parts.Parts, Questions.asked}
 abbrev pub AsksBoxes : Parts → Query → Type 0
 AsksBoxes s q = IsSomeAnd (asked s q) IsBoxQuestion
 
--- one of the queries does
+-- one of the queries comes down to box questions
 abbrev pub AsksSomeBoxes : Parts → List Query → Type 0
 AsksSomeBoxes s [] = ⊥
 AsksSomeBoxes s (q ∷ queries) = AsksBoxes s q ⊎ AsksSomeBoxes s queries

@@ -1,4 +1,4 @@
 -- which answers to the queries of a script are right
 pub mod Right
--- which queries ask engines
+-- for which queries engines are asked
 pub mod Asking

@@ -5,13 +5,13 @@ use Rattle.dd_query.specs.declared.queries.Query.{Query}
 use Rattle.dd_respond.specs.Right.{IsRightTo}
 use Rattle.dd_script.specs.{Parts.Parts, Questions.asked}
 
--- the answer to what the query asks is right within the script's limits
+-- within the script's limits, the answer is a right one to the question that the query asks
 abbrev pub Right : Parts → Query → Answer → Type 0
 Right s q a = IsSomeAnd (asked s q) (λ k. IsRightTo s.known.limits k a)
 
--- A right answer to a query, which an output can hold.
+-- The answer is a right answer to the query, and one that an output can hold.
 pub record IsAnswerTo (s : Parts) (q : Query) (a : Answer) : Type 0 where
   -- It is right.
   pub right : Right s q a
-  -- An output can hold it: each number and each list is within its bounds.
+  -- An output can hold it: each of its numbers and lists is within its bounds.
   pub writable : IsWritable a

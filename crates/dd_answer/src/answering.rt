@@ -1,4 +1,4 @@
-//! The right answer to one query.
+//! A right answer to one query.
 ghost use Rattle.std.specs.Prelude.{IfOk, Contains};
 ghost use Rattle.dd_engines.specs.Rosters.{roster_seen};
 ghost use Rattle.dd_respond.specs.Asking.{AreEngaged};
@@ -12,10 +12,10 @@ use dd_respond::respond;
 use dd_script::Script;
 use std::alloc::{AllocError, Global};
 
-/// The right answer to a query of a script. An output can hold each of the answer's numbers and lists.
+/// A right answer to a query of a script. It is one that an output can hold: each of its numbers and lists is within its bounds.
 ///
-/// A query that comes down to box questions asks the roster, as in `decide` of `dd_contain`. No other query asks an engine. The sound
-/// engines stay in the roster.
+/// If the query comes down to box questions, the engines of the roster are asked, as in `decide` of `dd_contain`. For other queries
+/// no engine is asked. The sound engines stay in the roster.
 ///
 /// # Errors
 /// Memory ran out.

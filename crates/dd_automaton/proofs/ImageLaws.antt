@@ -1,4 +1,4 @@
--- The image of a configuration, from its fundamental box and through compositions.
+-- The image of a configuration, from the values in its fundamental box, and under compositions.
 use Rattle.std.proofs.Common.{◌≡◌, ◌<◌, ℕ, zero, suc, ◌+◌, Bool, true, false, List, [], ◌∷◌, ◌++◌, Some, None, cond, length, slice_get, ap, sym, ◌∙◌, refl, subst, arith, inl, inr}
 use Rattle.std.proofs.Math.Nat.{eq-or-lt_of_le}
 use Rattle.std.proofs.lemmas.Bool.{and_parts, and_from, ltb-true, lt-ltb, leb-true}
@@ -23,7 +23,7 @@ use Rattle.dd_formula.specs.declared.automaton.Automaton.TheVariants as v
 node_of : (s : CommonNumbers) (c : Cell) → is_cell_of s c ≡ true → c.node < s.nodes
 node_of s c h = ltb-true c.node s.nodes (and_parts (is_flat s.dimension c.position) (nat_lt c.node s.nodes) h).1
 
--- the value at a cell is the value at the cell of the fundamental box
+-- the value at a cell is the value at the cell of the fundamental box that corresponds to it
 pub value_at_base : (f : Automaton) (t : Tile) (n : ℕ) → IsTile t → IsAutomaton (tile_numbers t n) f → IsPlaced f → (w : Place) (a : ℕ) → a < t.nodes →
     value f (tile_look t) (cell w a) ≡ value f (tile_look t) (cell (base_of t.periods w) a)
 value_at_base f t n ok formed placed w a node =
@@ -35,7 +35,7 @@ value_at_base f t n ok formed placed w a node =
     (look_given t ok (shifted w d) (node_of (tile_numbers t n) d here)))
     ((counted f).reads a) (placed (tile_numbers t n) formed a node))
 
--- a configuration with the values at the cells of the box is the image
+-- the configuration that has the automaton's values as its symbols in the box is the image
 pub image_from_box : (f : Automaton) (t : Tile) (n : ℕ) → IsTile t → IsAutomaton (tile_numbers t n) f → IsPlaced f → (ss : List ℕ) → length ss ≡ length t.symbols →
     ((k : ℕ) → k < length t.symbols → slice_get ss k ≡ Some (value f (tile_look t) (cell_in t k))) → IsImage f t (tile t.dimension t.periods t.nodes ss)
 image_from_box f t n ok formed placed ss as_many each = record {
@@ -56,7 +56,7 @@ image_from_box f t n ok formed placed ss as_many each = record {
     below_by m (x ∷ xs) h zero d within = h zero (omega arith)
     below_by m (x ∷ xs) h (suc k) d within = below_by m xs (λ j below. h (suc j) (omega arith)) k d (omega arith)
 
--- the configuration's symbols are in the alphabet, and each cell that is read from the box has a symbol
+-- the configuration's symbols are in the alphabet, and each cell that is read at a cell of the box has a symbol
 pub tile_is_below : (n : ℕ) (t : Tile) → All (λ s. s < n) t.symbols → HasSymbolsBelow n (tile_look t)
 tile_is_below n t h c = by (nat_lt c.node t.nodes)
   where
@@ -88,7 +88,7 @@ cases_look cases t h ok placed c within =
           (placed s fit c.node within.node);
     }
 
--- the image of the image
+-- the image under a composition is the image of an image
 pub defined_inner : (f g : Automaton) (t : Tile) → IsDefinedOn (v.Composed f g) t → IsDefinedOn g t
 defined_inner f g t h = record { symbols = h.symbols; formed = inner_part (tile_numbers t h.symbols) f g h.formed; below = h.below }
 
@@ -118,7 +118,7 @@ image_composed f g t u w h placed first second = record {
   below = λ n well. second.below n (subst (λ s. IsAutomaton s f) (same_numbers t u n first.dimension first.nodes) (outer_part (tile_numbers t n) f g well));
 }
 
--- one value more
+-- one more value in a list
 get_before : (xs : List ℕ) (x k : ℕ) → k < length xs → slice_get (xs ++ x ∷ []) k ≡ slice_get xs k
 get_before [] x k h = absurd (omega arith)
 get_before (y ∷ ys) x zero h = refl
@@ -139,7 +139,7 @@ value_more h xs ys x n is long here before k below =
     by (inl same) = get_last xs x k (omega (arith, long, same)) ∙ ap Some (here ∙ ap h (sym same))
     by (inr less) = get_before xs x k (omega (arith, long, less)) ∙ before k less
 
--- the configuration that has the numbers that the code reads
+-- a configuration made with the dimension, periods, shear and number of nodes that the code reads from t has those of t
 pub tile_again : (t : Tile) (d shear n : ℕ) (ps ss : List ℕ) → d ≡ t.dimension → ps ≡ t.periods.x ∷ t.periods.y ∷ t.periods.z ∷ [] → shear ≡ t.periods.shear → n ≡ t.nodes →
     tile d (periods_of ps shear) n ss ≡ tile t.dimension t.periods t.nodes ss
 tile_again t d shear n ps ss one two three four =

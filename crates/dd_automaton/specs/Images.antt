@@ -5,11 +5,11 @@ use Rattle.dd_pattern.specs.Tile.{Tile, tile_look}
 use Rattle.dd_expansion.specs.Terms.{origin_at}
 use Rattle.dd_formula.specs.{Automata.CommonNumbers, Automata.IsAutomaton, Automata.value, declared.automaton.Automaton.Automaton}
 
--- the configuration's dimension and nodes, with an alphabet of n symbols
+-- the setting with the configuration's dimension and number of nodes, and an alphabet of n symbols
 abbrev pub tile_numbers : Tile → ℕ → CommonNumbers
 tile_numbers t n = record { dimension = t.dimension; nodes = t.nodes; symbols = n }
 
--- the automaton is well formed over the configuration's dimension and nodes, and some alphabet that has its symbols
+-- the automaton is well formed over the configuration's dimension and nodes, and over some alphabet that has all its symbols
 pub record IsDefinedOn (f : Automaton) (t : Tile) : Type 0 where
   pub symbols : ℕ
   pub formed : IsAutomaton (tile_numbers t symbols) f

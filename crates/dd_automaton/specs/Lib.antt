@@ -1,2 +1,2 @@
--- images of configurations, and where two automata differ
+-- images of configurations, and whether two automata differ at the origin
 pub mod Images

@@ -21,9 +21,9 @@ fn value_at_origin(
     requires node { node < periodic.now.nodes }
     ensures { IfOk result (λ s. s ≡ value automaton.now (tile_look periodic.now) (origin_at node)) }
 {
-    // This call brings in a fact: the automaton reads only cells with nodes of the configuration.
+    // This call tells the proof that the automaton reads only cells with nodes of the configuration.
     automaton.reads_are_placed();
-    // This call brings in a fact: what holds of every periodic configuration.
+    // This call tells the proof what holds of every periodic configuration.
     let _symbols = periodic.symbols();
     let position = Position { x: 0, y: 0, z: 0 };
     match automaton.value(alloc, &Cell { position, node }, periodic)? {

@@ -6,8 +6,8 @@ use dd_formula::{Automaton, Cases};
 use dd_pattern::Periodic;
 use std::alloc::{AllocError, Global};
 
-/// The image of the configuration. It has the automaton's value at every cell, and the configuration's periods and shear. A value
-/// may be a symbol that the cell's node doesn't allow.
+/// The image of the configuration under the automaton. It has the automaton's value at every cell, and the configuration's
+/// periods and shear. A value may be a symbol that the cell's node doesn't allow.
 pub fn apply(
     alloc: Global,
     automaton: &Automaton,
@@ -19,7 +19,7 @@ pub fn apply(
     match automaton {
         Automaton::Given(cases) => image_by_cases(alloc, cases, periodic),
         Automaton::Composed(outer, inner) => {
-            // This call brings in a fact: the outer automaton reads only cells with nodes of the configuration.
+            // This call tells the proof that the outer automaton reads only cells with nodes of the configuration.
             outer.get().reads_are_placed();
             let between = apply(alloc, inner.get(), periodic)?;
             apply(alloc, outer.get(), &between)
@@ -32,7 +32,7 @@ fn image_by_cases(alloc: Global, cases: &Cases, periodic: &Periodic) -> Result<P
     requires { IsDefinedOn (Automaton.Given cases.now) periodic.now }
     ensures { IfOk result (IsImage (Automaton.Given cases.now) periodic.now) }
 {
-    // This call brings in a fact: the rules read only cells with nodes of the configuration.
+    // This call tells the proof that the rules read only cells with nodes of the configuration.
     cases.reads_are_placed();
     let count = periodic.symbols().len();
     let mut symbols = Vec::with_capacity(alloc, count)?;

@@ -1,4 +1,4 @@
--- When a box shows that a goal holds nowhere.
+-- When a box shows that a goal holds nowhere. B(n) is the box of radius n round the origin.
 use Rattle.std.specs.Prelude.{ℕ, ◌<◌, ◌≤◌, ◌≡◌, true, is_some, max, pos}
 use Rattle.std.specs.List.{list_all}
 use Rattle.dd_lattice.specs.{Place.Place, Place.place, Cells.shifted, declared.position.Cell.Cell}
@@ -16,7 +16,7 @@ origin = place (pos 0) (pos 0) (pos 0)
 abbrev pub Suffices : LocalRule → GoalOf → ℕ → Type 0
 Suffices x g n = (look : Look) → IsBoxFilling x n look → Admissible x look → HasGoal g look origin → ⊥
 
--- B(n) holds each cell that the goal reads at the origin
+-- B(n) contains each cell that the goal reads at the origin
 abbrev pub Reaches : GoalOf → ℕ → Type 0
 Reaches (breaks y) n = (a : ℕ) → a < y.nodes → list_all (is_box_cell y n) (reads_at y a) ≡ true
 Reaches (differ s f g) n =
@@ -29,17 +29,17 @@ goal_reach (breaks y) = reach y
 goal_reach (differ s f g) = max (automaton_reach s.nodes f) (automaton_reach s.nodes g)
 goal_reach always = 0
 
--- B(n) holds each cell that the goal reads at the origin, and no smaller box does
+-- B(n) contains each cell that the goal reads at the origin, and no smaller box does
 pub record IsLeastRadius (g : GoalOf) (n : ℕ) : Type 0 where
   pub reaches : Reaches g n
   pub least : (k : ℕ) → Reaches g k → n ≤ k
 
--- the look fills the box of radius n round v: each cell of B(n), moved by v, has a symbol
+-- the look covers the box of radius n round v: it gives a symbol to each cell of B(n), moved by v
 abbrev pub Covers : LocalRule → ℕ → Look → Place → Type 0
 Covers x n look v = (c : Cell) → is_box_cell x n c ≡ true → is_some (look (shifted v c)) ≡ true
 
--- B(n) holds what the goal reads, and no admissible filling of any domain has the goal at a position of Z^d round which it
--- fills the box of radius n
+-- B(n) contains what the goal reads at the origin. No admissible filling of any domain has the goal at a position v of Z^d if the filling covers the
+-- box of radius n round v.
 pub record Never (x : LocalRule) (g : GoalOf) (n : ℕ) : Type 0 where
   pub reaches : Reaches g n
   pub nowhere : (look : Look) → AreAllowed x look → Admissible x look → (v : Place) → is_flat x.dimension v ≡ true → Covers x n look v → HasGoal g look v → ⊥
@@ -48,7 +48,7 @@ pub record Never (x : LocalRule) (g : GoalOf) (n : ℕ) : Type 0 where
 abbrev pub IsInNoConfiguration : LocalRule → GoalOf → Type 0
 IsInNoConfiguration x g = (look : Look) → IsConfiguration x look → Obeys x look → (v : Place) → is_flat x.dimension v ≡ true → HasGoal g look v → ⊥
 
--- no periodic configuration of the rule's subshift, with whatever periods and shear, has the goal at any position of Z^d
+-- no periodic configuration of the rule's subshift has the goal at any position of Z^d, whatever its periods and shear are
 abbrev pub IsInNoTile : LocalRule → GoalOf → Type 0
 IsInNoTile x g = (t : Tile) → IsTile t → Fits x t → HasAllowed x t → Lives x t → (v : Place) → is_flat x.dimension v ≡ true → HasGoal g (tile_look t) v → ⊥
 

@@ -3,7 +3,7 @@ use Rattle.std.specs.{Prelude.ℕ, Prelude.List, Prelude.map, List.flat_map, Lis
 use Rattle.dd_lattice.specs.{Place.Place, Cells.cell, Boxes.centred, Boxes.positions_of, declared.position.Cell.Cell}
 use Rattle.dd_formula.specs.LocalRule.{LocalRule}
 
--- the cells at the positions, in cell order if the positions are in order
+-- the cells at these positions; if the positions are in order, so are the cells
 abbrev pub cells_on : ℕ → List Place → List Cell
 cells_on nodes ps = flat_map (λ p. map (cell p) (range_with_len 0 nodes)) ps
 

@@ -4,13 +4,13 @@ use Rattle.dd_formula.specs.{Counts.broken_clauses, Counts.region_clauses, Count
 use Rattle.dd_formula.specs.LocalRule.{LocalRule}
 use Rattle.dd_boxes.specs.{Goals.GoalOf, Goals.breaks, Goals.differ, Goals.always, Boxes.IsLeastRadius}
 
--- the clauses that say that the goal holds at the origin
+-- the number of clauses that say that the goal holds at the origin
 abbrev pub goal_clauses : GoalOf → ℕ
 goal_clauses (breaks y) = broken_clauses y
 goal_clauses (differ s f g) = differ_clauses s.symbols s.nodes f g
 goal_clauses always = 0
 
--- the clauses of a question on a region of so many positions
+-- the number of clauses of a question on a region of this many positions
 abbrev pub question_clauses : LocalRule → GoalOf → ℕ → ℕ
 question_clauses x g positions = region_clauses x (goal_clauses g) positions
 
@@ -18,6 +18,6 @@ question_clauses x g positions = region_clauses x (goal_clauses g) positions
 abbrev pub most_clauses : ℕ
 most_clauses = 2000000
 
--- with radii up to n and periods up to p, the question's largest box and largest torus have at most so many clauses
+-- with radii up to n and periods up to p, the question has at most `most_clauses` clauses on its largest box and on its largest torus
 abbrev pub IsSmallQuestion : LocalRule → GoalOf → ℕ → ℕ → Type 0
 IsSmallQuestion x g n p = (least : ℕ) → IsLeastRadius g least → largest_clauses x (goal_clauses g) (max n least) p ≤ most_clauses

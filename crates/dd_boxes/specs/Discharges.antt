@@ -1,4 +1,4 @@
--- What a discharging question may ask.
+-- What a discharging question may ask: along which vectors weight is given, and what the symbols weigh.
 use Rattle.std.specs.Prelude.{ℕ, ◌≤◌, ◌≡◌, true, unsigned_abs, List, length}
 use Rattle.std.specs.{List.All, List.IsDistinct, Ordering.is_eq}
 use Rattle.dd_values.specs.Bounds.{most_weight}
@@ -13,7 +13,7 @@ pub record IsVector (d : ℕ) (v : Place) : Type 0 where
   pub on_z : unsigned_abs v.z ≤ 4
   pub flat : is_flat d v ≡ true
 
--- from 1 to 16 such vectors, each once
+-- from 1 to 16 such vectors, all of them different
 pub record AreVectors (d : ℕ) (vs : List Place) : Type 0 where
   pub some : 1 ≤ length vs
   pub few : length vs ≤ 16

@@ -1,5 +1,5 @@
--- A filling gives each cell of a domain a symbol that the cell's node allows. A look is a filling of the cells to which it
--- gives a symbol.
+-- A filling gives each cell of a domain a symbol that the cell's node allows. A look is a function that gives symbols to some cells and none to the
+-- others. Here it stands for a filling of the cells to which it gives symbols.
 use Rattle.std.specs.Prelude.{ℕ, ◌<◌, ◌≡◌, ◌&&◌, Bool, true, is_some, nat_lt, nat_le, ℤ, unsigned_abs}
 use Rattle.std.specs.List.{list_all}
 use Rattle.dd_lattice.specs.{Place.Place, Cells.cell, Cells.shifted, Boxes.is_active, Boxes.spread, declared.position.Cell.Cell}
@@ -20,20 +20,20 @@ Admissible x look =
 abbrev pub is_up_to : ℕ → ℤ → Bool
 is_up_to n c = nat_le (unsigned_abs c) n
 
--- a test for the positions of B(n), the box of radius n round the origin, in d dimensions
+-- whether the position is in B(n), the box of radius n round the origin, in d dimensions
 abbrev pub in_box : ℕ → ℕ → Place → Bool
 in_box d n p =
     is_up_to (spread (is_active d 0) n) p.x && is_up_to (spread (is_active d 1) n) p.y && is_up_to (spread (is_active d 2) n) p.z
 
--- a cell of B(n) in d dimensions, where each position has so many nodes
+-- whether the cell is in B(n), in d dimensions and where each position has this many nodes
 abbrev pub is_cell_in_box : ℕ → ℕ → ℕ → Cell → Bool
 is_cell_in_box d nodes n c = in_box d n c.position && nat_lt c.node nodes
 
--- a cell of B(n), in the rule's dimension and with one of its nodes
+-- whether the cell is in B(n), in the rule's dimension and with one of the rule's nodes
 abbrev pub is_box_cell : LocalRule → ℕ → Cell → Bool
 is_box_cell x n c = is_cell_in_box x.dimension x.nodes n c
 
--- a cell of B(n), in the automata's dimension and with one of their nodes
+-- whether the cell is in B(n), in the automata's dimension and with one of their nodes
 abbrev pub is_cell_within : CommonNumbers → ℕ → Cell → Bool
 is_cell_within s n c = is_cell_in_box s.dimension s.nodes n c
 
@@ -42,7 +42,7 @@ pub record IsBoxFilling (x : LocalRule) (n : ℕ) (look : Look) : Type 0 where
   pub domain : (c : Cell) → is_some (look c) ≡ is_box_cell x n c
   pub allowed : AreAllowed x look
 
--- a configuration: each cell of Z^d has a symbol, one that its node allows
+-- a configuration: each cell of Z^d has a symbol that its node allows
 pub record IsConfiguration (x : LocalRule) (look : Look) : Type 0 where
   pub everywhere : (c : Cell) → is_flat x.dimension c.position ≡ true → c.node < x.nodes → is_some (look c) ≡ true
   pub allowed : AreAllowed x look

@@ -1,22 +1,23 @@
--- goals: what may hold at a position of a configuration
+-- the goals of box questions: properties that may hold at a position of a configuration
 pub mod Goals
--- fillings of the cells of a domain, and which are admissible
+-- fillings of the cells of a domain, and which of them are admissible: the rule is true at each cell that has a symbol and where all that it reads
+-- has symbols
 pub mod Fillings
--- which boxes suffice for a goal
+-- which boxes suffice for a goal: those without an admissible filling that has the goal at the origin
 pub mod Boxes
 -- the cells of boxes, as lists
 pub mod Cells
 -- which periods a torus may have
 pub mod TorusPeriods
--- fillings and periodic configurations that show a goal
+-- fillings of a box and periodic configurations that have a goal at the origin
 pub mod Witnesses
--- the law of one box: what it says about every box, filling and configuration
+-- the law of one box: what a box that suffices says about larger boxes, and about every filling and configuration
 pub mod Laws
--- goals of contracts, from those of the code
+-- the goals of the code, as contracts see them
 pub mod Views
--- what a discharging question may ask
+-- what a discharging question may ask: along which vectors weight is given, and what the symbols weigh
 pub mod Discharges
--- how many clauses a question takes
+-- how many clauses a box question has at most
 pub mod Counts
 -- lemmas on these definitions, with their proofs, for other crates to cite
 pub mod lemmas

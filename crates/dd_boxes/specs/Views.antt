@@ -1,9 +1,9 @@
--- Goals as contracts see them, from those of the code, in questions about a rule x.
+-- The goals of the code, as contracts see them in questions whose premise is a rule x.
 use Rattle.dd_formula.specs.{LocalRule.LocalRule, Automata.CommonNumbers}
 use Rattle.dd_boxes.specs.{Goals.GoalOf, Goals.breaks, Goals.differ, Goals.always, Goals.IsGoalFor, declared.goals.Goal.Goal}
 use Rattle.dd_boxes.specs.declared.goals.Goal.TheVariants.{Breaks, Differ, Always}
 
--- the rule's own numbers
+-- the rule's dimension, number of nodes and size of the alphabet
 abbrev pub numbers_of : LocalRule → CommonNumbers
 numbers_of x = record { dimension = x.dimension; nodes = x.nodes; symbols = x.symbols }
 
@@ -12,6 +12,6 @@ goal_of x (Breaks y) = breaks y.now
 goal_of x (Differ f g) = differ (numbers_of x) f.now g.now
 goal_of x Always = always
 
--- it is a goal for questions about some rule
+-- it is a goal for questions with some rule as their premise
 abbrev pub IsGoal : Goal → Type 0
 IsGoal g = (x : LocalRule) × IsGoalFor x (goal_of x g)

@@ -5,13 +5,14 @@ use Rattle.dd_pattern.specs.{Reading.Look, declared.periods.Periods.Periods, Per
 use Rattle.dd_formula.specs.{LocalRule.LocalRule, Allowed.HasAllowed, Living.Fits, Living.Lives}
 use Rattle.dd_boxes.specs.{Goals.GoalOf, Goals.HasGoal, Fillings.Admissible, Fillings.IsBoxFilling, Boxes.origin}
 
--- an admissible filling of B(n) with the goal at the origin
+-- an admissible filling of B(n), the box of radius n round the origin, that has the goal at the origin
 pub record IsBoxWitness (x : LocalRule) (g : GoalOf) (n : ℕ) (look : Look) : Type 0 where
   pub filling : IsBoxFilling x n look
   pub admissible : Admissible x look
   pub goal : HasGoal g look origin
 
--- a periodic configuration of allowed symbols that lives in the rule's subshift and has the goal at the origin
+-- a periodic configuration of allowed symbols that lives in the rule's subshift, that is, obeys the rule at every cell, and has the goal at the
+-- origin
 pub record IsWitness (x : LocalRule) (g : GoalOf) (t : Tile) : Type 0 where
   pub tile : IsTile t
   pub fits : Fits x t
@@ -23,6 +24,6 @@ pub record IsWitness (x : LocalRule) (g : GoalOf) (t : Tile) : Type 0 where
 abbrev pub HasPeriods : Periods → Tile → Type 0
 HasPeriods p t = t.periods ≡ p
 
--- periods within the limit of questions, in d dimensions
+-- periods in d dimensions that are within the limit on the periods of questions
 abbrev pub ArePeriods : ℕ → Periods → Type 0
 ArePeriods d p = AreWithin d greatest_period p

@@ -1,4 +1,4 @@
-//! The goals of box questions, and how far goals read.
+//! The goals of box questions, and how far goals read. A goal reads the cells that its rule or its automata read.
 ghost use Rattle.std.specs.Prelude.{IfOk};
 ghost use Rattle.dd_boxes.specs.Boxes.{IsLeastRadius};
 ghost use Rattle.dd_boxes.specs.Goals.{IsGoalFor, KeepsRule};
@@ -8,24 +8,24 @@ ghost use Rattle.dd_formula.specs.LocalRule.{LocalRule, IsRule};
 use dd_formula::{Automaton, Rule};
 use std::alloc::{AllocError, Global};
 
-/// A goal: what may hold at a position of a configuration.
+/// A goal: a property that may hold at a position of a configuration.
 #[derive(Debug, Clone, Copy)]
 pub enum Goal<'a> {
-    /// Some node of the position breaks the rule.
+    /// The rule is false at some node of the position.
     Breaks(&'a Rule),
-    /// The values of the two automata are different at some node of the position.
+    /// The two automata have different values at some node of the position.
     Differ(&'a Automaton, &'a Automaton),
-    /// The goal that holds at every position.
+    /// This goal holds at every position.
     Always,
 }
 
-/// Brings in the invariant of the goal's rule, if it has one, and does nothing else.
+/// Does nothing. Its contract says that the goal's rule, if the goal has one, satisfies the invariant of rules.
 pub fn keeps_rule(goal: &Goal)
     ensures { (x : LocalRule) → KeepsRule (goal_of x goal.now) }
 {
     match goal {
         Goal::Breaks(rule) => {
-            // This call brings in a fact: the rule's invariant.
+            // This call tells the proof that the rule satisfies the invariant of rules.
             let _nodes = rule.nodes();
         }
         Goal::Differ(_, _) => {}
@@ -33,7 +33,7 @@ pub fn keeps_rule(goal: &Goal)
     }
 }
 
-/// The least radius of a box round the origin that holds all cells that the goal reads at the origin's nodes.
+/// The least radius for which the box round the origin contains every cell that the goal reads at the origin's nodes.
 pub fn least_radius(alloc: Global, goal: &Goal) -> Result<u32, AllocError>
     requires { IsGoal goal.now }
     ensures { IfOk result (λ n. (x : LocalRule) → IsRule x → IsGoalFor x (goal_of x goal.now) → IsLeastRadius (goal_of x goal.now) n) }
@@ -41,7 +41,7 @@ pub fn least_radius(alloc: Global, goal: &Goal) -> Result<u32, AllocError>
     match goal {
         Goal::Breaks(rule) => Ok(rule.reach()),
         Goal::Differ(left, right) => {
-            // These calls bring in facts: each automaton reads only cells of Z^d with its own nodes.
+            // These calls tell the proof that each automaton reads only cells of Z^d with nodes of its rules.
             left.reads_are_placed();
             right.reads_are_placed();
             let left_radius = left.reach(alloc)?;

@@ -1,5 +1,6 @@
-//! Box questions. A box question has a rule, the premise, and a goal. It asks whether no configuration that obeys the premise
-//! has the goal at any position. One box may already show this.
+//! Box questions. A box question has a rule, which is its premise, and a goal, which may hold at a position of a configuration.
+//! It asks whether the goal holds nowhere: no configuration that obeys the premise has the goal at any position. One finite box
+//! may already show this.
 #![tactic(auto)]
 
 mod goals;

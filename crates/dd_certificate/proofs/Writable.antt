@@ -1,5 +1,5 @@
--- An output can hold the steps that refute a list of clauses. Their variables are in range, and each clause that a step hints at
--- or deletes comes before it.
+-- An output can hold the steps that refute a list of clauses. The variables of the steps are in range, and each clause that a step hints at or
+-- deletes comes before it.
 use Rattle.std.proofs.Common.{◌≡◌, ℕ, zero, suc, ◌+◌, ◌<◌, ◌≤◌, Bool, true, false, not, ◌&&◌, ◌||◌, List, [], ◌∷◌, ◌++◌, length, map, Option, None, Some, is_some, slice_get, All, refl, sym, subst, ◌∙◌, ◌⊎◌, inl, inr, arith, nat_le, length-append}
 use Rattle.std.proofs.lemmas.Bool.{false≢true, leb-true, and_parts, or_cases}
 use Rattle.std.proofs.lemmas.List.{length-set, length-map, Elements.All-nil, Elements.All-cons}
@@ -13,9 +13,9 @@ use Rattle.dd_derivation.specs.declared.step.Step.{Step}
 use Rattle.dd_derivation.specs.Derivations.{is_empty, is_among, finding, clause_of, without, hint_finding, follow, is_conflict, are_deletable, known_after, is_literal_in_range, has_variable, is_proper, is_right, refutes_from, refutes}
 use Rattle.dd_certificate.specs.Bounds.{most_count, IsWritableHint, IsWritableStep, IsWritableRefutation}
 
--- ---- numbers of clauses
+-- ---- clause numbers
 
--- a number that has a clause is in the bounds of a hint
+-- the number of a known clause is within the bounds of a hint
 numbered : (known : List (Option (List Literal))) (h : ℕ) (c : List Literal) → length known ≤ most_count → clause_of known h ≡ Some c → IsWritableHint h
 numbered known zero c few is = absurd (none-some c is)
 numbered known (suc k) c few is =
@@ -28,13 +28,13 @@ alive known h (Some c) few is some = numbered known h c few is
 
 -- ---- hints
 
--- a hint that is used is the number of a clause
+-- a hint that is used is the number of a known clause
 hinted : (says : List Literal → Finding) (o : Option (List Literal)) (is_last : Bool) (next : Literal → Bool) →
     follow (option_map_or says o Open) is_last next ≡ true → is_some o ≡ true
 hinted says None is_last next goes_on = absurd (false≢true goes_on)
 hinted says (Some c) is_last next goes_on = refl
 
--- a used hint is the last one, or it forces a literal and the next hints are used
+-- a used hint is the last one, or else it forces a literal and the hints after it are used
 followed : (says : Finding) (hints : List ℕ) (next : Literal → Bool) → follow says (is_empty hints) next ≡ true →
     (hints ≡ []) ⊎ ((l : Literal) × (next l ≡ true))
 followed Falsified [] next goes_on = inl refl
@@ -93,7 +93,7 @@ step_fits n known s small few right =
     let rest = and_parts (is_conflict known s.clause s.hints) (are_deletable known s.deletes) parts.1 in
     (clause_fits n s.clause small parts.0, hints_fit known s.clause s.hints few rest.0, deletes_fit known s.deletes few rest.1)
 
--- each step adds one number
+-- each step adds one clause number
 one_more : (known : List (Option (List Literal))) (s : Step) → length (known_after known s.deletes ++ Some s.clause ∷ []) ≡ length known + 1
 one_more known s = length-append (known_after known s.deletes) (Some s.clause ∷ []) ∙ (let same = many_after known s.deletes in omega (arith, same))
 
@@ -120,7 +120,7 @@ some_steps : (n : ℕ) (known : List (Option (List Literal))) (steps : List Step
 some_steps n known [] refuting = absurd (false≢true refuting)
 some_steps n known (s ∷ steps) refuting = omega arith
 
--- an output can hold the steps if the variables and the numbers of clauses and steps are within bounds
+-- an output can hold the steps if there are few enough variables, and few enough clauses and steps together
 pub refuting_writable : (n : ℕ) (clauses : List (List Literal)) (steps : List Step) → refutes n clauses steps ≡ true → n ≤ most_variables →
     length clauses + length steps ≤ most_count → IsWritableRefutation steps
 refuting_writable n clauses steps refuting small few =

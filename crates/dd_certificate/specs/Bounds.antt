@@ -7,7 +7,7 @@ use Rattle.dd_derivation.specs.declared.step.Step.{Step}
 use Rattle.dd_certificate.specs.declared.answer.{Listed.Listed, Starred.Starred, Answer.Answer}
 use Rattle.dd_certificate.specs.declared.answer.Answer.TheVariants as answer
 
--- the greatest number of a clause, and the greatest number of steps of a refutation, that an output can hold
+-- the greatest clause number that an output can hold, and the most steps that a refutation in it can have
 abbrev pub most_count : ℕ
 most_count = 2 ^ 64 - 1
 
@@ -21,7 +21,7 @@ IsWritableSigned z = unsigned_abs z ≤ most_number
 abbrev pub IsWritableDenominator : ℕ → Type 0
 IsWritableDenominator n = (1 ≤ n) × (n ≤ most_number)
 
--- the number of a clause, from 1
+-- a clause number: clauses are numbered from 1
 abbrev pub IsWritableHint : ℕ → Type 0
 IsWritableHint n = (1 ≤ n) × (n ≤ most_count)
 
@@ -50,7 +50,7 @@ IsWritableList ns = (1 ≤ length ns) × All IsWritableNumber ns
 abbrev pub IsShearFor : List ℕ → ℕ → Type 0
 IsShearFor periods shear = (shear ≡ 0) ⊎ (2 ≤ length periods)
 
--- a periodic configuration, by its periods, its shear and the symbols of one of its boxes
+-- a periodic configuration, given by its periods, its shear and the symbols of its fundamental box, the box that repeats
 abbrev pub IsWritableConfiguration : List ℕ → ℕ → List ℕ → Type 0
 IsWritableConfiguration periods shear symbols =
     (length periods ≤ 3) × IsWritableList periods × IsWritableNumber shear × IsShearFor periods shear × IsWritableList symbols
@@ -59,7 +59,7 @@ IsWritableConfiguration periods shear symbols =
 abbrev pub IsWritablePart : ℕ → Type 0
 IsWritablePart part = (1 ≤ part) × (part ≤ 4)
 
--- no steps if the weight is 0; otherwise steps, which refute the lower weights
+-- no steps if the weight is 0; otherwise a refutation (of the lower weights) that an output can hold
 abbrev pub IsWritableBelow : ℕ → List Step → Type 0
 IsWritableBelow weight steps = ((weight ≡ 0) × (steps ≡ [])) ⊎ ((1 ≤ weight) × IsWritableRefutation steps)
 

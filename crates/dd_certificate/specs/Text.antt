@@ -23,14 +23,14 @@ signed_after_space z = codes " " ++ signed_decimal z
 abbrev pub spaced_out : List ℕ → List ℕ
 spaced_out ns = flat_map after_space ns
 
--- these numbers, and the line feed: the end of a line
+-- these numbers and a line feed: the end of a line
 abbrev pub numbers_to_end : List ℕ → List ℕ
 numbers_to_end ns = spaced_out ns ++ line_feed
 
 abbrev pub signed_to_end : List ℤ → List ℕ
 signed_to_end zs = flat_map signed_after_space zs ++ line_feed
 
--- this fraction, and the line feed
+-- this fraction and a line feed
 abbrev pub fraction_to_end : ℕ → ℕ → List ℕ
 fraction_to_end numerator denominator = decimal numerator ++ (codes "/" ++ (decimal denominator ++ line_feed))
 
@@ -48,18 +48,19 @@ spaced_literal l = literal_text l ++ codes " "
 abbrev pub spaced : ℕ → List ℕ
 spaced n = decimal n ++ codes " "
 
--- numbers, then the 0 that ends them and the byte `next`: 32 is a space, 10 a line feed
+-- numbers, each with a space after it, then the 0 that ends them, and then the byte `next`: 32 is a space, 10 a line feed
 abbrev pub numbers_to_zero : ℕ → List ℕ → List ℕ
 numbers_to_zero next ns = flat_map spaced ns ++ (codes "0" ++ next ∷ [])
 
 abbrev pub literals_to_zero : List Literal → List ℕ
 literals_to_zero ls = flat_map spaced_literal ls ++ codes "0 "
 
--- the line of a step: its clause's literals, its hints, and the numbers of the clauses that it deletes
+-- the line of a step: its clause's literals, its hints (the numbers of the clauses that it follows from), and the numbers of the clauses that it
+-- deletes
 abbrev pub step_text : Step → List ℕ
 step_text s = codes "step " ++ (literals_to_zero s.clause ++ (numbers_to_zero 32 s.hints ++ numbers_to_zero 10 s.deletes))
 
--- a line with the number of steps, and a line for each
+-- a line with the number of steps, and a line for each step
 abbrev pub refutation_text : List Step → List ℕ
 refutation_text steps = codes "refutation " ++ (decimal (length steps) ++ (line_feed ++ flat_map step_text steps))
 
@@ -92,7 +93,7 @@ symbol_or_star_text (Some n) = decimal n
 abbrev pub symbol_or_star_after_space : Option ℕ → List ℕ
 symbol_or_star_after_space s = codes " " ++ symbol_or_star_text s
 
--- these symbols and stars, and the line feed
+-- these symbols and stars, and a line feed
 abbrev pub symbols_and_stars_to_end : List (Option ℕ) → List ℕ
 symbols_and_stars_to_end symbols = flat_map symbol_or_star_after_space symbols ++ line_feed
 
@@ -102,7 +103,7 @@ starred_text p = codes "pattern " ++ (decimal p.node ++ symbols_and_stars_to_end
 abbrev pub yes_both_text : ℕ → ℕ → List ℕ
 yes_both_text left right = codes "YES " ++ (decimal left ++ (codes " " ++ (decimal right ++ line_feed)))
 
--- these periods and this shear, and the line feed
+-- these periods, this shear, and a line feed
 abbrev pub periods_to_end : List ℕ → ℕ → List ℕ
 periods_to_end periods shear = spaced_out periods ++ (shear_text shear ++ line_feed)
 
@@ -114,11 +115,11 @@ no_text side periods shear = codes "NO" ++ (side_text side ++ periods_to_end per
 abbrev pub broken_text : ℕ → List ℕ → ℕ → List ℕ
 broken_text part periods shear = codes "BROKEN " ++ (decimal part ++ periods_to_end periods shear)
 
--- a line of a word, with the space after it, and a number
+-- a line: a word that ends with a space, and a number
 abbrev pub number_line : List ℕ → ℕ → List ℕ
 number_line word n = word ++ (decimal n ++ line_feed)
 
--- a line of a word and numbers
+-- a line: a word, and then numbers
 abbrev pub numbers_line : List ℕ → List ℕ → List ℕ
 numbers_line word ns = word ++ numbers_to_end ns
 
@@ -140,7 +141,7 @@ verdict_text (answer.Broken part periods shear symbols) = broken_text part perio
 verdict_text (answer.Least weight symbols steps) = number_line (codes "LEAST ") weight
 verdict_text (answer.Nothing steps) = codes "NONE\n"
 
--- the further lines of `Density`: one with the length of the cycle and its states, and one with the potentials
+-- the lines of `Density` after the first: one with the length of the cycle and its states, and one with the potentials
 abbrev pub density_lines : List ℕ → List ℤ → List ℕ
 density_lines cycle potentials =
     codes "cycle " ++ (decimal (length cycle) ++ (numbers_to_end cycle ++ (codes "potentials" ++ signed_to_end potentials)))
@@ -151,11 +152,11 @@ amounts_and_duals_text amounts duals = numbers_line (codes "amounts") amounts ++
 abbrev pub bound_lines : ℕ → List ℕ → List ℕ → List ℕ
 bound_lines common amounts duals = number_line (codes "denominator ") common ++ amounts_and_duals_text amounts duals
 
--- the further lines of `Least`: one with the symbols, and a refutation if the weight isn't 0
+-- the lines of `Least` after the first: one with the symbols, and a refutation if the weight isn't 0
 abbrev pub least_lines : ℕ → List ℕ → List Step → List ℕ
 least_lines weight symbols steps = numbers_line (codes "conf") symbols ++ (if weight == 0 then [] else refutation_text steps)
 
--- the lines that follow the first one of an answer
+-- the lines of an answer after the first
 abbrev pub further_lines : Answer → List ℕ
 further_lines answer.Inside = []
 further_lines (answer.Outside place) = []

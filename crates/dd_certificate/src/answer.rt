@@ -1,11 +1,11 @@
-//! Answers to queries, each with its certificate: all that is needed to check it without a search.
+//! Answers to queries. Each has its certificate, which is all that is needed to check the answer without a search.
 use dd_derivation::Step;
 use dd_values::Items;
 
-/// Which of the two rules of an equality the configuration of a NO obeys. It breaks the other one.
+/// Which of the two rules of an equality query the configuration of a `No` obeys. It breaks the other rule.
 #[derive(Clone, Copy, Debug, PartialEq, Eq)]
 pub enum Side {
-    /// The query is not about an equality.
+    /// The query doesn't ask about equality.
     Whole,
     /// The configuration obeys the first rule only.
     Left,
@@ -16,17 +16,17 @@ pub enum Side {
 /// Why there is no definite answer.
 #[derive(Clone, Copy, Debug, PartialEq, Eq)]
 pub enum Reason {
-    /// The search ended at the limits of the script.
+    /// The search found no definite answer within the script's limits.
     Limits,
-    /// The linear program or its list of fillings is too large.
+    /// The linear program of a discharging query, or the list of fillings that it is made from, is too large.
     Large,
-    /// A number became too large for its integer type.
+    /// A number became too large, in the run of the simplex method on the linear program or in its result.
     Overflow,
-    /// All pivots that the script allows are used up.
+    /// The simplex method has not ended after as many pivots as the script allows.
     Pivots,
 }
 
-/// A pattern in the answer `List`. A rule forbids it at a node. It has a symbol for each cell that the rule reads there.
+/// A pattern in a `List` answer. A rule forbids it at a node. It has a symbol for each cell that the rule reads there.
 #[derive(Debug, Drop)]
 pub struct Listed {
     /// The node's number, from 0.
@@ -35,8 +35,8 @@ pub struct Listed {
     pub symbols: Items<u64>,
 }
 
-/// A pattern in the answer `Minimal`. A rule forbids it at a node. Some of the cells that the rule reads there may be left out:
-/// their symbols don't matter.
+/// A pattern in a `Minimal` answer. A rule forbids it at a node. Some of the cells that the rule reads there may be left out,
+/// since their symbols don't matter.
 #[derive(Debug, Drop)]
 pub struct Starred {
     /// The node's number, from 0.
@@ -60,7 +60,7 @@ pub enum Answer {
     Yes {
         /// The radius of a box.
         radius: u64,
-        /// They refute the claim's negation on this box.
+        /// Steps that refute the claim's negation on this box.
         steps: Items<Step>,
     },
     /// The claim holds in both directions. Each direction has a refutation on a box of its own.
@@ -69,9 +69,9 @@ pub enum Answer {
         left: u64,
         /// The radius of the second box.
         right: u64,
-        /// They refute the negation of the first direction on the first box.
+        /// Steps that refute the negation of the first direction on the first box.
         left_steps: Items<Step>,
-        /// The same for the second direction and the second box.
+        /// Steps that refute the negation of the second direction on the second box.
         right_steps: Items<Step>,
     },
     /// The claim doesn't hold, as a periodic configuration shows.
@@ -81,14 +81,14 @@ pub enum Answer {
         periods: Items<u64>,
         /// How far the second period vector goes along the first axis. It is 0 if there is only one period.
         shear: u64,
-        /// The symbols of the cells of one box of the configuration, in cell order.
+        /// The symbols of the configuration's fundamental box, the box that repeats, in cell order.
         symbols: Items<u64>,
     },
     /// The answer is not known.
     Unknown {
         reason: Reason,
     },
-    /// The patterns that the rule forbids, of all nodes.
+    /// The patterns that the rule forbids, at all nodes.
     List {
         patterns: Items<Listed>,
     },
@@ -97,37 +97,37 @@ pub enum Answer {
     Density {
         numerator: u64,
         denominator: u64,
-        /// The states of a cycle of the transfer graph that has this mean.
+        /// The states of a cycle with this mean in the strip's transfer graph.
         cycle: Items<u64>,
-        /// One for each state. They show that no cycle has a lower mean.
+        /// A number for each state. These numbers show that no cycle has a lower mean.
         potentials: Items<i64>,
     },
     /// No configuration of the subshift has the strip's periods.
     Empty {
-        /// One for each state of the transfer graph. They fall along each edge, so no walk goes on forever.
+        /// A number for each state of the transfer graph. These numbers fall along each edge, so no walk goes on forever.
         ranks: Items<u64>,
     },
-    /// A lower bound of the mean weight, as a fraction.
+    /// A lower bound for the mean weight, as a fraction.
     Bound {
         numerator: u64,
         denominator: u64,
-        /// The denominator of all amounts and duals.
+        /// The common denominator of all amounts and duals.
         common: u64,
-        /// The numerators of the amounts that cells send.
+        /// The numerators of the amounts that cells send along the query's vectors.
         amounts: Items<u64>,
-        /// The numerators of factors, one for each pattern's row of the linear program. They show that no amounts give a greater
-        /// bound.
+        /// The numerators of the duals: factors, one for each row of the linear program that belongs to a pattern. They show that
+        /// no amounts give a greater bound.
         duals: Items<u64>,
     },
-    /// The minimal forbidden patterns of the rule. No further cell of any of them can be left out.
+    /// The minimal forbidden patterns of the rule. No further cell can be left out of any of them.
     Minimal {
         patterns: Items<Starred>,
     },
     /// The answer to each of the four questions of a conjugacy is yes.
     Conjugate {
-        /// The radius of a box for each question.
+        /// For each question, the radius of a box.
         radii: Items<u64>,
-        /// For each question, the steps that refute its negation on its box.
+        /// For each question, steps that refute its negation on this box.
         steps: Items<Items<Step>>,
     },
     /// The answer to one of the four questions is no, as a periodic configuration shows. The configuration is given as in `No`.
@@ -138,17 +138,17 @@ pub enum Answer {
         shear: u64,
         symbols: Items<u64>,
     },
-    /// The least weight of a configuration of the subshift that has the periods.
+    /// The least weight of a box, over the configurations of the subshift that have the query's periods.
     Least {
         weight: u64,
-        /// The symbols of the cells of a box that has this weight, in cell order.
+        /// The symbols of a box of this weight, in cell order.
         symbols: Items<u64>,
-        /// They refute that some box weighs less. There are none if the weight is 0.
+        /// Steps that refute that some box weighs less. If the weight is 0, there are none.
         steps: Items<Step>,
     },
-    /// No configuration of the subshift has the periods.
+    /// No configuration of the subshift has the query's periods.
     Nothing {
-        /// They refute that there is such a configuration.
+        /// Steps that refute that there is such a configuration.
         steps: Items<Step>,
     },
 }

@@ -1,4 +1,6 @@
-//! Answers to queries with their certificates, and the texts of answers.
+//! Answers to queries with their certificates, and the texts of answers. A certificate is all that is needed to check an answer
+//! without a search. Many certificates hold a refutation of some clauses: a list of steps that derive further clauses, up to the
+//! empty one. A rule reads a cell if its formula asks for the cell's symbol. Cell order is by z, then y, then x, then node.
 #![tactic(auto, using(std::proofs::lemmas::Grind::common_steps))]
 
 mod answer;

@@ -19,7 +19,7 @@ fn push_literal(text: &mut Vec<u8>, literal: &Literal) -> Result<(), AllocError>
     push_decimal(text, u64::from(literal.variable))
 }
 
-/// Appends literals, each with a space after it, and then the 0 that ends them and a space.
+/// Appends literals, each with a space after it. Then appends the 0 that ends them, and a space.
 fn push_literals(text: &mut Vec<u8>, literals: &[Literal]) -> Result<(), AllocError>
     ensures { OnOk result (text.new.items ≡ text.old.items ++ literals_to_zero literals.now) }
 {
@@ -30,7 +30,7 @@ fn push_literals(text: &mut Vec<u8>, literals: &[Literal]) -> Result<(), AllocEr
     text.extend_from_slice(b"0 ")
 }
 
-/// Appends numbers of clauses, each with a space after it, and then the 0 that ends them and the byte `next`.
+/// Appends clause numbers, each with a space after it. Then appends the 0 that ends them, and the byte `next`.
 fn push_clause_numbers(text: &mut Vec<u8>, numbers: &[u64], next: u8) -> Result<(), AllocError>
     ensures { OnOk result (text.new.items ≡ text.old.items ++ numbers_to_zero next numbers.now) }
 {

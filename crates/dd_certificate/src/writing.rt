@@ -70,7 +70,7 @@ fn push_signed_to_end(text: &mut Vec<u8>, numbers: &[i64]) -> Result<(), AllocEr
     Ok(())
 }
 
-/// Appends a line: a word, with the space after it, and a number.
+/// Appends a line: `word`, which ends with a space, and a number.
 fn push_number_line(text: &mut Vec<u8>, word: &[u8], number: u64) -> Result<(), AllocError>
     ensures { OnOk result (text.new.items ≡ text.old.items ++ number_line word.now number) }
 {
@@ -95,7 +95,7 @@ fn push_fraction_to_end(
     Ok(())
 }
 
-/// The word of a side, with the space before it.
+/// The word for a side, with a space before it. For `Whole` it is empty.
 fn side_word(side: Side) -> &'static [u8]
     ensures { result.now ≡ side_text side }
 {
@@ -106,7 +106,7 @@ fn side_word(side: Side) -> &'static [u8]
     }
 }
 
-/// The word of a reason.
+/// The word for a reason.
 fn reason_word(reason: Reason) -> &'static [u8]
     ensures { result.now ≡ reason_text reason }
 {
@@ -187,7 +187,7 @@ fn push_unknown(text: &mut Vec<u8>, reason: Reason) -> Result<(), AllocError>
     Ok(())
 }
 
-/// Appends a line: a word, with the space after it, and a fraction.
+/// Appends a line: `word`, which ends with a space, and a fraction.
 fn push_fraction_line(
     text: &mut Vec<u8>,
     word: &[u8],
@@ -200,7 +200,7 @@ fn push_fraction_line(
     push_fraction_to_end(text, numerator, denominator)
 }
 
-/// Appends a line: a word, and numbers, each after a space.
+/// Appends a line: a word, and then numbers, each after a space.
 fn push_numbers_line(text: &mut Vec<u8>, word: &[u8], numbers: &[u64]) -> Result<(), AllocError>
     ensures { OnOk result (text.new.items ≡ text.old.items ++ numbers_line word.now numbers.now) }
 {
@@ -293,7 +293,7 @@ fn push_symbol_or_star(text: &mut Vec<u8>, symbol: Option<u64>) -> Result<(), Al
     }
 }
 
-/// Ends a line with these symbols, each after a space. A cell that is left out has a star.
+/// Ends a line with these symbols, each after a space. A star stands for a cell that is left out.
 fn push_symbols_and_stars_to_end(
     text: &mut Vec<u8>,
     symbols: &[Option<u64>],
@@ -337,7 +337,7 @@ fn push_each_refutation(text: &mut Vec<u8>, lists: &[Items<Step>]) -> Result<(),
     Ok(())
 }
 
-/// Appends the lines that follow the first one of `Least`: the symbols, and a refutation if the weight isn't 0.
+/// Appends the lines of `Least` after the first: the symbols, and a refutation if the weight isn't 0.
 fn push_least_lines(
     text: &mut Vec<u8>,
     weight: u64,
@@ -353,7 +353,7 @@ fn push_least_lines(
     Ok(())
 }
 
-/// Appends the lines that follow the first one of `Density`: the cycle and the potentials.
+/// Appends the lines of `Density` after the first: the cycle and the potentials.
 fn push_density_lines(
     text: &mut Vec<u8>,
     cycle: &[u64],
@@ -380,7 +380,7 @@ fn push_amounts_and_duals(
     push_numbers_line(text, b"duals", duals)
 }
 
-/// Appends the lines that follow the first one of `Bound`.
+/// Appends the lines of `Bound` after the first.
 fn push_bound_lines(
     text: &mut Vec<u8>,
     common: u64,
@@ -393,7 +393,7 @@ fn push_bound_lines(
     push_amounts_and_duals(text, amounts, duals)
 }
 
-/// Appends the lines that follow the first one of an answer.
+/// Appends the lines of an answer after the first.
 fn push_further_lines(text: &mut Vec<u8>, answer: &Answer) -> Result<(), AllocError>
     ensures { OnOk result (text.new.items ≡ text.old.items ++ further_lines answer.now) }
 {

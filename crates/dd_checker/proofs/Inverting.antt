@@ -1,4 +1,4 @@
--- What a CONJUGATE that is a certificate says of any configuration, even a function on all cells of Z^d.
+-- What a CONJUGATE that is a certificate says about any configuration, even one that is a function on all cells of Z^d.
 use Rattle.std.proofs.Common.{◌≡◌, ℕ, ◌<◌, true, refl, sym, subst, ◌∙◌, Some, None}
 use Rattle.std.proofs.lemmas.Bool.{false≢true}
 use Rattle.std.specs.Prelude.{Option, IsSomeAnd, IfSome, slice_get}
@@ -21,7 +21,7 @@ use Rattle.dd_checker.specs.{Claims.ClaimFor, Claims.Claim, Lifted.whole_look, L
 use Rattle.dd_checker.specs.Inverses.{is_conjugate, IsConjugacy, a_conjugacy, IsConjugacyAt, IsCarriedAt, AreInverseAt, AreInverseFor, are_inverse, AreInverseIn}
 use Rattle.dd_checker.proofs.Lifting.{look_allowed, look_whole, not_at}
 
--- the four items exist, and P holds of h of them
+-- the four items exist, and P holds for the value of h on them
 record Found {X Y F G Z : Type 0} (h : X → Y → F → G → Z) (P : Z → Type 0) (o : Option X) (p : Option Y) (q : Option F) (r : Option G) : Type 0 where
   x : X
   y : Y
@@ -41,7 +41,7 @@ found h P (Some x) (Some y) None r k = absurd k
 found h P (Some x) None q r k = absurd k
 found h P None p q r k = absurd k
 
--- what holds of the item, if there is one, holds of x, which is the item
+-- if P holds for the item of `o`, whenever there is one, and x is this item, then P holds for x
 of_item : {X : Type 0} (P : X → Type 0) (o : Option X) (x : X) → IfSome o P → o ≡ Some x → P x
 of_item P o x told is = subst (λ p. IfSome p P) is told
 
@@ -78,7 +78,7 @@ module _ (s : Parts) (kept : IsScriptOf s) (nodes : ℕ) (symbol_of : Cell → �
               (subst (λ k. Differ k other.left other.right look v) (sym ofx.nodes) ((identity_differs grid sets g f look v has).1 changed))));
         }
 
-  -- a CONJUGATE carries configurations in both directions
+  -- what a CONJUGATE claims gives both directions: f carries configurations from x to y, and g carries them from y to x
   inverse : (x y : LocalRule) (f g : Automaton) → IsRuleOf s.known.setting x → IsRuleOf s.known.setting y → IsAutomatonOf s.known.setting f →
       IsAutomatonOf s.known.setting g → (a : Answer) → is_conjugate a ≡ true → ClaimOf (conjugacy_question s.known.setting x y f g) a → AreInverseAt x y f g look v
   inverse x y f g ofx ofy off ofg _ told (says_conjugate {n1 = n1} {n2 = n2} {n3 = n3} {n4 = n4} one two three four) = record {

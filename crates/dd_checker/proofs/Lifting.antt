@@ -1,4 +1,4 @@
--- What a YES that is a certificate says of any configuration, even a function on all cells of Z^d.
+-- What a YES that is a certificate says about any configuration, even one that is a function on all cells of Z^d.
 use Rattle.std.proofs.Common.{◌≡◌, ℕ, ◌-◌, ◌<◌, Bool, true, false, List, refl, ap, sym, subst, ◌∙◌, arith, Some, None}
 use Rattle.std.proofs.lemmas.Bool.{and_from, lt-ltb, ltb-true, false≢true}
 use Rattle.std.proofs.lemmas.Option.{slice_get_within, get_or_from_slice_get}
@@ -22,12 +22,12 @@ use Rattle.dd_checker.specs.Lifted.{is_yes, whole_look, IsWhole, IsNotAt, IsAske
 use Rattle.dd_certificate.specs.declared.answer.Answer.TheVariants as answer
 use Rattle.dd_question.specs.Questions as question
 
--- if P holds of the item, and P implies Q for it, Q holds of it
+-- if there is an item, P holds for it, and P implies Q for it, then Q holds for it
 pub some_then : {X : Type 0} (o : Option X) (P Q : X → Type 0) → ((x : X) → o ≡ Some x → P x → Q x) → IsSomeAnd o P → IsSomeAnd o Q
 some_then (Some x) P Q h p = h x refl p
 some_then None P Q h p = p
 
--- the list contains the item at an index
+-- if x is the item of a list at some index, the list contains x
 stands_at : (xs : List Query) (n : ℕ) (x : Query) → slice_get xs n ≡ Some x → Contains xs x
 stands_at xs n x is = (n, slice_get_within xs n x is, get_or_from_slice_get xs n x x is)
 

@@ -1,5 +1,5 @@
--- What a certificate of a query about an image or a conjugacy claims is true. The script doesn't keep the query's pairs, but the facts
--- about their automata were proved when the script was read.
+-- What a certificate for a query about an image or a conjugacy claims is true. Such a query asks whether pairs of automata agree. The script doesn't
+-- store these pairs, but the facts about their automata were proved when the script was read.
 use Rattle.std.proofs.Common.{◌≡◌, true, List, [], Some, None, Option, subst, arith}
 use Rattle.std.proofs.lemmas.{List.Elements.All-contains}
 use Rattle.std.specs.{List.All, List.Contains, Prelude.unwrap_or, Prelude.slice_get}
@@ -18,7 +18,7 @@ use Rattle.dd_checker.proofs.{Lifting.some_then, Certifying.IsTruthful}
 use Rattle.dd_question.specs.Questions as question
 
 module _ (s : Parts) where
-  -- the pair of each of these comparisons is well formed
+  -- for each of these comparisons, its pair of automata is well formed
   abbrev ArePaired : List ComparisonOf → Type 0
   ArePaired cs = All (λ c. IsPair s.known.setting (pair_of s.known.setting c)) cs
 
@@ -31,7 +31,7 @@ module _ (s : Parts) where
     right_says = pair.gates.right.says;
   }
 
-  -- if what is asked is sound, the facts about its goals hold
+  -- if the question is sound, the facts about its goals hold
   abbrev FactsIfSound : Asked → Type 0
   FactsIfSound k = IsSoundAsked s.known.limits k → HaveGoalFacts k
 

@@ -1,4 +1,4 @@
--- From the test of an answer to the verdict on it.
+-- The test of an answer gives the verdict on it.
 use Rattle.std.proofs.Common.{◌≡◌, ℕ, ◌-◌, ◌<◌, Bool, true, false, List, length, get_or, refl, ap, sym, subst, ◌∙◌, arith, Some}
 use Rattle.std.proofs.lemmas.{Bool.false≢true, Option.slice_get_read, List.Elements.Contains-get_or}
 use Rattle.std.specs.{Prelude.◌↔◌, Prelude.Option, Prelude.IsSomeAnd, Prelude.slice_get, List.Contains}
@@ -12,7 +12,7 @@ use Rattle.dd_checker.specs.Certificates.{IsCertificateFor, IsCertificate, HasQu
 use Rattle.dd_checker.specs.Claims.{ClaimFor, Claim}
 use Rattle.dd_checker.specs.declared.verdict.Verdict.TheVariants as verdict
 
--- a certificate of what the query asks is a certificate of the query
+-- a test which decides whether the answer is a certificate for the question that the query asks also decides this for the query
 pub certificate_for : (s : Parts) (q : Query) (k : Asked) (a : Answer) (l : Limits) → asked s q ≡ Some k → l ≡ s.known.limits → (b : Bool) →
     (b ≡ true) ↔ (IsWritable a × IsCertificateOf l k a) → (b ≡ true) ↔ IsCertificateFor s q a
 certificate_for s q k a l asks limits b told =
@@ -43,7 +43,7 @@ module _ (s : Parts) (number : ℕ) (q : Query) (is : query_at s number ≡ Some
   to_query : IsCertificate s number a → IsCertificateFor s q a
   to_query h = subst (λ (o : Option Query). IsSomeAnd o (λ p. IsCertificateFor s p a)) is h
 
-  -- what a certificate of the query claims is true
+  -- what a certificate for the query claims is true
   pub claim_at : (IsCertificateFor s q a → ClaimFor s q a) → IsCertificate s number a → Claim s number a
   claim_at told h = subst (λ (o : Option Query). IsSomeAnd o (λ p. ClaimFor s p a)) (sym is) (told (to_query h))
 

@@ -5,10 +5,10 @@ use Rattle.dd_query.specs.declared.queries.Query.{Query}
 use Rattle.dd_script.specs.{Parts.Parts, Questions.asked, Questions.query_at}
 use Rattle.dd_verify.specs.Certificates.{ClaimOf}
 
--- the claim of an answer to a query of the script
+-- what an answer to the query of the script claims
 abbrev pub ClaimFor : Parts → Query → Answer → Type 0
 ClaimFor s q a = IsSomeAnd (asked s q) (λ k. ClaimOf k a)
 
--- the claim of an answer to the query with this number, from 1
+-- what an answer to the query with this number, from 1, claims
 abbrev pub Claim : Parts → ℕ → Answer → Type 0
 Claim s number a = IsSomeAnd (query_at s number) (λ q. ClaimFor s q a)

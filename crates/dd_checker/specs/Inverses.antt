@@ -1,4 +1,4 @@
--- What a CONJUGATE says of any configuration, even a function on all cells of Z^d.
+-- What a CONJUGATE says about any configuration, even one that is a function on all cells of Z^d.
 use Rattle.std.specs.Prelude.{ℕ, ◌≡◌, Bool, nat_eq, codes, Some, IsSomeAnd, slice_get}
 use Rattle.std.specs.List.{starts_with}
 use Rattle.dd_lattice.specs.Place.{Place}
@@ -17,23 +17,23 @@ is_conjugate a = starts_with nat_eq (verdict_text a) (codes "CONJUGATE")
 pub data IsConjugacy : Query → Type 0 where
   a_conjugacy : {there back from to : ℕ} → IsConjugacy (Query.Conjugate there back from to)
 
--- the query with this number, from 1, asks this
+-- the query with this number, from 1, is such a query
 abbrev pub IsConjugacyAt : Parts → ℕ → Type 0
 IsConjugacyAt s number = IsSomeAnd (query_at s number) IsConjugacy
 
--- At each node of the position v, the configuration's image under f has an allowed symbol and obeys y. The value of g on that image
--- is the configuration's symbol there.
+-- The image of the configuration under f gives each cell the value of f there. At each node of the position v, this image has an allowed symbol and
+-- obeys y, and the value of g on the image is the configuration's symbol.
 pub record IsCarriedAt (y : LocalRule) (f g : Automaton) (look : Look) (v : Place) : Type 0 where
   pub keeps : AtEachNode y.nodes (KeepsAt f y look) v
   pub gives_back : AtEachNode y.nodes (GivesBackAt g f look) v
 
--- If the configuration obeys x everywhere, then at v f carries it to y, and g back. If it obeys y everywhere, then at v g carries
--- it to x, and f back.
+-- If the configuration obeys x everywhere, then, at v, f carries it to one that obeys y, and g carries this one back. If the configuration obeys y
+-- everywhere, then, at v, g carries it to one that obeys x, and f carries this one back.
 pub record AreInverseAt (x y : LocalRule) (f g : Automaton) (look : Look) (v : Place) : Type 0 where
   pub there : Obeys x look → IsCarriedAt y f g look v
   pub back : Obeys y look → IsCarriedAt x g f look v
 
--- the query is a conjugacy; the rules and automata that it names exist, and `AreInverseAt` holds of them
+-- the query asks about a conjugacy; the rules and automata that it names exist, and `AreInverseAt` holds for them
 pub data AreInverseFor (s : Parts) (look : Look) (v : Place) : Query → Type 0 where
   are_inverse : {there back from to : ℕ} {x y : LocalRule} {f g : Automaton} → slice_get s.rules from ≡ Some x → slice_get s.rules to ≡ Some y →
       slice_get s.automata there ≡ Some f → slice_get s.automata back ≡ Some g → AreInverseAt x y f g look v → AreInverseFor s look v (Query.Conjugate there back from to)

@@ -4,7 +4,7 @@ pub mod Certificates
 pub mod Claims
 -- what the verdict on an answer says
 pub mod Verdicts
--- what a YES says of any configuration
+-- what a YES says about any configuration
 pub mod Lifted
--- what a CONJUGATE says of any configuration
+-- what a CONJUGATE says about any configuration
 pub mod Inverses

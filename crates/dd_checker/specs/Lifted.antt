@@ -1,4 +1,5 @@
--- What a YES says of any configuration, even a function on all cells of Z^d.
+-- What a YES says about any configuration, even one that is a function on all cells of Z^d. A YES answers a box question, or the two box questions of
+-- an equality. A box question has a rule, the premise, and a goal: a property of a position, such as that another rule is broken there.
 use Rattle.std.specs.Prelude.{ℕ, ◌≡◌, ◌<◌, Bool, true, cond, nat_eq, codes, Some, None, IsSomeAnd}
 use Rattle.std.specs.List.{starts_with}
 use Rattle.dd_lattice.specs.{Place.Place, declared.position.Cell.Cell}
@@ -12,29 +13,30 @@ use Rattle.dd_script.specs.{Parts.Parts, Questions.asked, Questions.query_at}
 use Rattle.dd_question.specs.Questions.{Asked}
 use Rattle.dd_question.specs.Questions as question
 
--- the answer's first line says YES
+-- the answer's first line begins with YES
 abbrev pub is_yes : Answer → Bool
 is_yes a = starts_with nat_eq (verdict_text a) (codes "YES ")
 
--- the symbol of each cell at a position of Z^d with a node below `nodes`; other cells have none
+-- the look-up that gives each cell its symbol, if the cell is at a position of Z^d and its node is below `nodes`; other cells have no symbol
 abbrev pub whole_look : ℕ → ℕ → (Cell → ℕ) → Look
 whole_look d nodes symbol_of c = cond (is_cell_in d nodes c) (Some (symbol_of c)) None
 
--- the configuration has the script's nodes, and each cell of Z^d has a symbol that its node allows
+-- the configuration has the script's number of nodes, and each cell of Z^d has a symbol that its node allows
 pub record IsWhole (s : Parts) (nodes : ℕ) (symbol_of : Cell → ℕ) : Type 0 where
   pub same_nodes : nodes ≡ s.known.setting.topology.nodes
   pub allowed : (c : Cell) → is_flat s.known.setting.topology.dimension c.position ≡ true → c.node < nodes →
       allows s.known.setting.sets c.node (symbol_of c) ≡ true
 
--- if the configuration obeys the premise everywhere, the goal does not hold at v
+-- if the configuration obeys the premise x everywhere, the goal g does not hold at v
 abbrev pub IsNotAt : LocalRule → GoalOf → Look → Place → Type 0
 IsNotAt x g look v = Obeys x look → HasGoal g look v → ⊥
 
--- The goal of a box question does not hold at v; of an equality, neither goal does. YES answers no other question.
+-- For a box question, `IsNotAt` holds for its premise and its goal. For an equality, it holds for both of its box questions. No other question has
+-- the answer YES.
 pub data IsAskedNotAt : Asked → Look → Place → Type 0 where
   of_box : {x : LocalRule} {g : GoalOf} {look : Look} {v : Place} → IsNotAt x g look v → IsAskedNotAt (question.box x g) look v
   of_equality : {x y : LocalRule} {look : Look} {v : Place} → IsNotAt x (breaks y) look v → IsNotAt y (breaks x) look v → IsAskedNotAt (question.equality x y) look v
 
--- The same for the query with this number, from 1. Though the name says nowhere, only the position v is meant.
+-- The same for the question of the query with this number, from 1. Despite its name, this is about the position v only.
 abbrev pub IsNowhereAt : Parts → ℕ → Look → Place → Type 0
 IsNowhereAt s number look v = IsSomeAnd (query_at s number) (λ q. IsSomeAnd (asked s q) (λ k. IsAskedNotAt k look v))

@@ -10,11 +10,11 @@ use dd_script::Script;
 use dd_verify::check_question;
 use std::alloc::{AllocError, Global};
 
-/// Whether an answer is a certificate of the query with this number, from 1. What an accepted answer claims is true. A claim may
-/// speak of all finite domains, all positions of Z^d and all configurations.
+/// The verdict on an answer: whether it is a certificate for the query with the number `query`, from 1, and an output can hold it.
+/// What an accepted answer claims is true. The claim may be about all finite domains, all positions of Z^d and all configurations.
 ///
 /// # Errors
-/// Memory ran out.
+/// `AllocError` if memory ran out.
 pub fn check_answer(
     alloc: Global,
     script: &Script,

@@ -1,4 +1,4 @@
-//! Laws of certificates, as contracts of functions that change nothing.
+//! Laws about certificates. Each law is the contract of a function that changes nothing.
 ghost use Rattle.std.specs.Prelude.{◌≡◌, ℕ, true, Contains};
 ghost use Rattle.dd_expansion.specs.Placed.{is_flat};
 ghost use Rattle.dd_certificate.specs.declared.answer.Answer.{Answer as AnyAnswer};
@@ -15,13 +15,14 @@ use dd_query::Query;
 use dd_script::Script;
 use dd_verify::{claims_hold, claims_hold_for_goals};
 
-/// Changes nothing. Its contract says that what a certificate of the query claims is true.
+/// Changes nothing. Its contract says that what a certificate for the query claims is true.
 pub(crate) fn query_certified(script: &Script, query: &Query)
     requires { Contains script.now.queries query.now }
     ensures { (answer : AnyAnswer) → IsCertificateFor script.now query.now answer → ClaimFor script.now query.now answer }
 {
     if asks_pairs(query) {
-        // The script doesn't keep the pairs. The facts about their automata were proved when the script was read.
+        // The query asks whether pairs of automata agree. The script doesn't store these pairs, but the facts about their automata
+        // were proved when the script was read.
         claims_hold_for_goals();
         script.sound_questions();
         // This call tells the proof what the type guarantees.
@@ -32,8 +33,8 @@ pub(crate) fn query_certified(script: &Script, query: &Query)
     }
 }
 
-/// Changes nothing. Its contract says that what a certificate of a query of the script claims is true. The claim of a bound covers
-/// boxes of every side at every position: they weigh at least what the bound says, less what may come in from outside.
+/// Changes nothing. Its contract says that what a certificate for a query of the script claims is true. The claim of a bound
+/// covers boxes of every side at every position: each weighs at least what the bound says, less what it may receive from outside.
 pub fn certified(script: &Script)
     ensures { (number : ℕ) (answer : AnyAnswer) → IsCertificate script.now number answer → Claim script.now number answer }
 {
@@ -43,9 +44,10 @@ pub fn certified(script: &Script)
     }
 }
 
-/// Changes nothing and allocates nothing. Its contract says what a YES means for any configuration, even a function on all cells
-/// of Z^d. The YES must be a certificate of the query with the number `_query`, from 1. The query asks one box question, or two for
-/// an equality. If the configuration obeys the premise of such a question at every position of Z^d, its goal doesn't hold at `_place`.
+/// Changes nothing and allocates nothing. Its contract says what a YES means for any configuration, even one that is a function on
+/// all cells of Z^d. The YES must be a certificate for the query with the number `_query`, from 1. This query asks one box
+/// question, or two if it asks for an equality. If the configuration obeys the premise of one of these questions at every position
+/// of Z^d, the goal of this question doesn't hold at `_place`.
 pub fn lifted<C: Configuration>(
     script: &Script,
     _query: u32,
@@ -64,13 +66,13 @@ pub fn lifted<C: Configuration>(
     certified(script);
 }
 
-/// Changes nothing and allocates nothing. Its contract says what a CONJUGATE means for any configuration, even a function on all
-/// cells of Z^d. The CONJUGATE must be a certificate of the query with the number `_query`, from 1. If the configuration obeys the
-/// first rule at every position of Z^d, then at `_place`:
-/// - its image under the first automaton has allowed symbols and obeys the second rule;
-/// - the second automaton takes the image back to the configuration's symbols, at every node.
+/// Changes nothing and allocates nothing. Its contract says what a CONJUGATE means for any configuration, even one that is a
+/// function on all cells of Z^d. The CONJUGATE must be a certificate for the query with the number `_query`, from 1. If the
+/// configuration obeys the first rule at every position of Z^d, then at each node of `_place`:
+/// - its image under the first automaton has an allowed symbol and obeys the second rule;
+/// - the second automaton takes the image back to the configuration's symbol.
 ///
-/// The same holds with rules and automata exchanged.
+/// The same holds with the two rules exchanged, and the two automata exchanged.
 pub fn conjugate_at<C: Configuration>(
     script: &Script,
     _query: u32,

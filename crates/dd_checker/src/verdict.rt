@@ -3,7 +3,7 @@
 /// Whether an answer is a certificate.
 #[derive(Clone, Copy, Debug, PartialEq, Eq)]
 pub enum Verdict {
-    /// The answer is a certificate of its query, so what it claims holds.
+    /// The answer is a certificate for its query, so what it claims is true.
     Accepted,
     /// The answer is not a certificate. The query may have another answer, or the same answer with other evidence.
     Rejected,

@@ -4,12 +4,12 @@ use Rattle.std.specs.{List.list_all, List.list_any, Bool.beq}
 use Rattle.dd_circuit.specs.declared.gates.{Signal.Signal, Gate.Gate}
 use Rattle.dd_circuit.specs.declared.gates.Gate.TheVariants.{And, Or, Iff}
 
--- A circuit. Its inputs are the variables 1, 2, .. and each gate has the next variable.
+-- A circuit. Its inputs are the variables 1, 2, .., and its gates have the variables after these, in order.
 pub record Network : Type 0 where
   pub inputs : ℕ
   pub gates : List Gate
 
--- the number of variables of these inputs and gates
+-- the number of variables of a circuit with this many inputs and these gates
 abbrev pub size_of : ℕ → List Gate → ℕ
 size_of inputs gates = inputs + length gates
 
@@ -29,7 +29,7 @@ opposite s = record { variable = s.variable; positive = not s.positive }
 abbrev pub IsSignal : ℕ → Signal → Type 0
 IsSignal n s = (1 ≤ s.variable) × (s.variable ≤ n)
 
--- the members of the gate are over the variables 1..n
+-- the variables of the gate's members are among 1..n
 abbrev pub IsGate : ℕ → Gate → Type 0
 IsGate n (And members) = All (IsSignal n) members
 IsGate n (Or members) = All (IsSignal n) members
@@ -40,7 +40,7 @@ abbrev pub AreGates : ℕ → List Gate → Type 0
 AreGates n [] = Unit {0}
 AreGates n (g ∷ gs) = IsGate n g × AreGates (suc n) gs
 
--- the value of a signal; `set` gives each variable's value
+-- the value of a signal, where `set` gives the value of each variable
 abbrev pub signal_value : (ℕ → Bool) → Signal → Bool
 signal_value set s = if s.positive then set s.variable else not (set s.variable)
 

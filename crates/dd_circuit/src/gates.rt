@@ -1,5 +1,6 @@
-//! Circuits and their gates. The variables are numbered from 1: first the inputs, and then the gates in order. So no gate
-//! stores its variable. The members of a gate are the signals that it combines. They are over earlier variables.
+//! Circuits and their gates. Each input and each gate has a variable. The variables are numbered from 1: first the inputs, and
+//! then the gates in order. So gates don't store their variables. The members of a gate are the signals that it combines:
+//! earlier variables or their opposites.
 ghost use Rattle.std.specs.Prelude.{◌≡◌, ◌+◌, ◌<◌, ◌≤◌, ◌∷◌, ◌++◌, [], All, IfOk, OnErr};
 ghost use Rattle.dd_values.specs.Bounds.{most_variables};
 ghost use Rattle.dd_circuit.specs.Circuits.{IsSignal, IsGate, AreGates, size, signal_of, opposite};
@@ -8,7 +9,7 @@ use dd_values::Items;
 use std::alloc::{AllocError, Global};
 use std::marker::Model;
 
-/// A variable, or its opposite.
+/// A variable, or its opposite (its negation).
 #[derive(Clone, Copy, Debug, PartialEq, Eq)]
 pub struct Signal {
     /// The number of the variable, from 1.
@@ -29,7 +30,7 @@ impl Signal {
     }
 }
 
-/// A gate over signals, its members. `And` of no signals is true, and `Or` of none is false.
+/// A gate. It combines signals, its members. `And` of no members is true, and `Or` of no members is false.
 #[derive(Debug, PartialEq, Drop)]
 pub enum Gate {
     /// True if all members are true.
@@ -40,8 +41,8 @@ pub enum Gate {
     Iff(Signal, Signal),
 }
 
-/// Inputs and gates. The inputs are the variables from 1 to `inputs`. Gate k, from 0, has the variable `inputs + 1 + k`,
-/// and its members are over earlier variables.
+/// Inputs and gates. The inputs are the variables from 1 to `inputs`. The gates are numbered from 0. Gate k has the variable
+/// `inputs + 1 + k`, and its members are over earlier variables.
 #[derive(Debug, Drop)]
 pub struct Circuit {
     alloc: Global,
@@ -82,7 +83,7 @@ impl Circuit {
         self.inputs
     }
 
-    /// The gates, in the order in which they were added. The first one has the variable after the inputs.
+    /// The gates, in the order in which they were added. The first gate has the variable that follows the inputs.
     pub fn gates(&self) -> &[Gate]
         ensures value { result.now ≡ self.now.gates }
         ensures in_range { AreGates self.now.inputs result.now }
@@ -91,7 +92,7 @@ impl Circuit {
         self.gates.as_slice()
     }
 
-    /// The number of variables: the inputs and the gates.
+    /// The number of variables: one for each input and one for each gate.
     pub fn variables(&self) -> u32
         ensures value { result ≡ size self.now }
         ensures few { result ≤ most_variables }

@@ -1,4 +1,4 @@
-//! Circuits over truth values: inputs, and gates over the inputs and over earlier gates.
+//! Boolean circuits: inputs, and gates over the inputs and over earlier gates.
 #![tactic(auto)]
 
 mod evaluation;

@@ -11,12 +11,12 @@ IsLiteralInRange n l = (1 ≤ l.variable) × (l.variable ≤ n)
 abbrev pub IsClauseInRange : ℕ → List Literal → Type 0
 IsClauseInRange n clause = All (IsLiteralInRange n) clause
 
--- the literal of the same variable with the other sign
+-- the negation of a literal: the same variable with the opposite sign
 abbrev pub negation : Literal → Literal
 negation l = record { variable = l.variable; positive = not l.positive }
 
--- the literal is true where exactly the variables of the set are true: it is positive and its variable is in the set, or it is
--- negative and its variable is not in the set
+-- the literal is true if exactly the variables in the set are true: it is positive and its variable is in the set, or it is negative and its variable
+-- is not in the set
 abbrev pub is_true_under : (ℕ → Bool) → Literal → Bool
 is_true_under set l = if l.positive then set l.variable else not (set l.variable)
 
@@ -24,7 +24,7 @@ is_true_under set l = if l.positive then set l.variable else not (set l.variable
 abbrev pub is_clause_true : (ℕ → Bool) → List Literal → Bool
 is_clause_true set clause = list_any (is_true_under set) clause
 
--- the set of true variables satisfies the clauses: each has a true literal
+-- the set of true variables satisfies the clauses: each clause has a true literal
 abbrev pub Satisfies : (ℕ → Bool) → List (List Literal) → Type 0
 Satisfies set clauses = All (λ clause. is_clause_true set clause ≡ true) clauses
 

@@ -1,4 +1,4 @@
-//! Literals and clauses. Most clauses are short, so a clause of up to four literals needs no allocation.
+//! Literals and clauses. Most clauses are short, so a clause of at most four literals is stored without an allocation.
 ghost use Rattle.std.specs.Prelude.{◌≡◌, ◌≤◌, length, IsOk, IfOk};
 ghost use Rattle.dd_clause.specs.Clauses as spec;
 
@@ -16,7 +16,7 @@ pub struct Literal {
 }
 
 impl Literal {
-    /// The literal of the same variable with the other sign.
+    /// The negation of this literal: the same variable with the opposite sign.
     pub fn negation(self) -> Literal
         ensures { result ≡ spec.negation self }
     {
@@ -43,7 +43,8 @@ impl Model for Clause {
 }
 
 impl Clause {
-    /// The clause of these literals. It fails only if memory runs out, so never for at most four literals.
+    /// Makes a clause of these literals. This fails only if memory runs out, and never for at most four literals, which need no
+    /// allocation.
     pub fn from_literals(alloc: Global, literals: &[Literal]) -> Result<Clause, AllocError>
         ensures ok { IfOk result (λ clause. clause ≡ literals.now) }
         ensures short_is_made { length literals.now ≤ 4 → IsOk result }

@@ -27,7 +27,7 @@ impl Model for Cnf {
 }
 
 impl Cnf {
-    /// The empty list over this many variables. It allocates nothing.
+    /// Makes an empty list over this many variables. Allocates nothing.
     pub fn new(alloc: Global, variables: u32) -> Cnf
         requires { variables ≤ most_variables }
         ensures variables { result.variables ≡ variables }
@@ -62,7 +62,7 @@ impl Cnf {
         Ok(())
     }
 
-    /// Raises the number of variables to this one. The clauses stay as they are.
+    /// Raises the number of variables to `variables`. The clauses stay as they are.
     pub fn widen(&mut self, variables: u32)
         requires more { self.old.variables ≤ variables }
         requires few { variables ≤ most_variables }

@@ -1,4 +1,4 @@
--- The clauses of some gates, and of one more.
+-- The clauses of several gates, and of one more gate.
 use Rattle.std.proofs.Common.{◌≡◌, ℕ, suc, ◌+◌, ◌<◌, ◌≤◌, Bool, List, [], ◌∷◌, ◌++◌, map, length, ap, sym, ◌∙◌, arith, get_or, take, drop, length-drop, append_assoc}
 use Rattle.std.proofs.lemmas.List.{append-nil, take_more, take_rest, length-take-le}
 use Rattle.std.proofs.lemmas.List.Elements.{All-cons, All-map, All-take}
@@ -16,7 +16,7 @@ gates_clauses-more n gs i g within here =
     ∙ (ap (λ k. gates_clauses n (take i gs) ++ gates_clauses (n + k) (get_or gs i g ∷ [])) (length-take-le i gs (omega arith))
     ∙ ap (λ x. gates_clauses n (take i gs) ++ x) (append-nil (gate_clauses (suc (n + i)) (get_or gs i g)) ∙ ap (gate_clauses (suc (n + i))) (sym here))))
 
--- a pass of the loop over gates
+-- one pass of the loop over the gates
 pub clauses_step : (before now new : List (List Literal)) (n variable : ℕ) (gs : List Gate) (i : ℕ) (g : Gate) → i < length gs → g ≡ get_or gs i g →
     variable ≡ suc (n + i) → now ≡ before ++ gates_clauses n (take i gs) → new ≡ now ++ gate_clauses variable g →
     new ≡ before ++ gates_clauses n (take (i + 1) gs)
@@ -24,13 +24,13 @@ clauses_step before now new n variable gs i g within here number so_far pushed =
     rw (pushed, so_far, number, gates_clauses-more n gs i g within here)
     (append_assoc before (gates_clauses n (take i gs)) (gate_clauses (suc (n + i)) g))
 
--- the last clause of And and Or is over the circuit's variables
+-- the last clause of an And or Or gate is over the variables of the clause list
 pub last_in_range : (n : ℕ) (gate : Literal) (sign : Bool) (members : List Signal) (literals : List Literal) (i : ℕ) →
     literals ≡ gate ∷ map (signed sign) (take i members) → IsLiteralInRange n gate → All (IsSignal n) members → IsClauseInRange n literals
 last_in_range n gate sign members literals i is first rest =
     rw is (All-cons (IsLiteralInRange n) gate (map (signed sign) (take i members)) first (All-map (IsLiteralInRange n) (signed sign) (take i members) (All-take (IsSignal n) i members rest)))
 
--- each gate from `from` on is over the circuit's variables
+-- each gate from `from` on is over the variables of the clause list
 pub gate_from : (n m from : ℕ) (gs : List Gate) (i : ℕ) (g : Gate) → from ≤ length gs → n + length gs ≤ m → AreGates n gs →
     i < length (take (length gs - from) (drop from gs)) → g ≡ get_or (take (length gs - from) (drop from gs)) i g → IsGate m g
 gate_from n m from gs i g low few ok within here =

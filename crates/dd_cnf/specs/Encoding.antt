@@ -1,11 +1,11 @@
--- The clauses of gates (Tseitin 1968). Those of a gate say that its variable has the value of the gate.
+-- The clauses of gates (Tseitin 1968). The clauses of a gate say that its variable has the gate's value.
 use Rattle.std.specs.Prelude.{ℕ, suc, Bool, true, false, not, if◌then◌else◌, List, [], ◌∷◌, ◌++◌, map}
 use Rattle.dd_clause.specs.{declared.clause.Literal.Literal, Clauses.negation, Clauses.ClauseList}
 use Rattle.dd_circuit.specs.declared.gates.{Signal.Signal, Gate.Gate}
 use Rattle.dd_circuit.specs.declared.gates.Gate.TheVariants.{And, Or, Iff}
 use Rattle.dd_circuit.specs.Circuits.{Network, size}
 
--- the literal of a variable, with a sign
+-- the literal of the variable that is positive or negative, as the truth value says
 abbrev pub literal : ℕ → Bool → Literal
 literal variable positive = record { variable = variable; positive = positive }
 
@@ -42,11 +42,12 @@ gates_clauses n (g ∷ gs) = gate_clauses (suc n) g ++ gates_clauses (suc n) gs
 abbrev pub encoded : Network → ClauseList
 encoded circuit = record { variables = size circuit; clauses = gates_clauses circuit.inputs circuit.gates }
 
--- the signal's literal at `true`, and its negation at `false`
+-- the signal's literal if `sign` is true, and its negation if not
 abbrev pub signed : Bool → Signal → Literal
 signed sign s = literal s.variable (if sign then s.positive else not s.positive)
 
--- For a positive `gate` the clauses of And, and for a negative one those of Or. The two differ only in their signs.
+-- The clauses of an And gate if the literal `gate` is positive, and those of an Or gate if it is negative. They differ only in the signs of the
+-- literals.
 abbrev pub and_or_clauses : Literal → List Signal → List (List Literal)
 and_or_clauses gate members =
     map (λ l. negation gate ∷ signed gate.positive l ∷ []) members ++ (gate ∷ map (signed (not gate.positive)) members) ∷ []

@@ -34,7 +34,7 @@ fn signed(signal: &Signal, sign: bool) -> Literal
     }
 }
 
-/// Adds one clause, of these literals. If memory runs out, the clause list is unchanged.
+/// Adds one clause, which has these literals. If memory runs out, the clause list is unchanged.
 pub fn push_clause(alloc: Global, cnf: &mut Cnf, literals: &[Literal]) -> Result<(), AllocError>
     requires { IsClauseInRange cnf.old.variables literals.now }
     ensures variables { cnf.new.variables ≡ cnf.old.variables }
@@ -44,9 +44,9 @@ pub fn push_clause(alloc: Global, cnf: &mut Cnf, literals: &[Literal]) -> Result
     cnf.push(Clause::from_literals(alloc, literals)?)
 }
 
-/// Adds the clauses of a gate `And` or `Or`. The literal `gate` is positive for `And`, and negative for `Or`. For `And` the
-/// clauses say that `gate` is true exactly if all members are true. For `Or` they say that `gate` is true exactly if all members
-/// are false, so that the variable of `gate` is true exactly if some member is.
+/// Adds the clauses of an `And` gate or an `Or` gate. The literal `gate` has the gate's variable, and is positive for `And` and
+/// negative for `Or`. For `And` the clauses say that `gate` is true exactly if all members are true. For `Or` they say that
+/// `gate` is true exactly if all members are false, so that the gate's variable is true exactly if some member is true.
 fn push_and_or(
     alloc: Global,
     cnf: &mut Cnf,
@@ -59,7 +59,7 @@ fn push_and_or(
     ensures ok { OnOk result (cnf.new.clauses
         ≡ cnf.old.clauses ++ spec.and_or_clauses gate members.now) }
 {
-    // the last clause: `gate` is true, or some member keeps it from being so
+    // the last clause: `gate` is true, or some member prevents this
     let mut last = Vec::with_capacity(alloc, members.len() + 1)?;
     last.push(gate)?;
     for member in members {
@@ -73,7 +73,7 @@ fn push_and_or(
     push_clause(alloc, cnf, &last)
 }
 
-/// Adds the clauses of a gate `Iff`: the literal `gate` is true exactly if `a` and `b` have the same value.
+/// Adds the clauses of an `Iff` gate. They say that the literal `gate` is true exactly if `a` and `b` have the same value.
 fn push_iff(
     alloc: Global,
     cnf: &mut Cnf,
@@ -93,7 +93,7 @@ fn push_iff(
     push_clause(alloc, cnf, &[gate, a.negation(), b.negation()])
 }
 
-/// Adds the clauses of the gate with this variable. If memory runs out, some may have been added.
+/// Adds the clauses of the gate, which has this variable. If memory runs out, some of them may have been added.
 pub fn push_gate(alloc: Global, cnf: &mut Cnf, variable: u32, gate: &Gate) -> Result<(), AllocError>
     requires variable { (1 ≤ variable) × (variable ≤ cnf.old.variables) }
     requires members { IsGate cnf.old.variables gate.now }
@@ -101,7 +101,7 @@ pub fn push_gate(alloc: Global, cnf: &mut Cnf, variable: u32, gate: &Gate) -> Re
     ensures ok { OnOk result (cnf.new.clauses
         ≡ cnf.old.clauses ++ spec.gate_clauses variable gate.now) }
 {
-    // the literal that the gate is true
+    // the literal that says that the gate is true
     let is_true = Literal {
         variable,
         positive: true,
@@ -113,8 +113,8 @@ pub fn push_gate(alloc: Global, cnf: &mut Cnf, variable: u32, gate: &Gate) -> Re
     }
 }
 
-/// Adds the clauses of the circuit's gates in order, from gate `from` on; the first gate is 0. If memory runs out, some may have
-/// been added.
+/// Adds the clauses of the circuit's gates, in order, from gate `from` on. The gates are numbered from 0. If memory runs out,
+/// some of the clauses may have been added.
 pub fn push_gates(
     alloc: Global,
     cnf: &mut Cnf,

@@ -1,4 +1,4 @@
-//! Circuits as clauses, which are satisfied exactly by the values of the circuit.
+//! Circuits as clauses, which are satisfied exactly by the values of the circuit's variables.
 #![tactic(auto)]
 
 mod encoding;

@@ -1,4 +1,4 @@
--- The parts of a script are cut off one after the other. The commands read so far, and those in the parts left, are all commands.
+-- The parts of a script are cut off one after another. The commands read so far and those in the remaining parts are together all the commands.
 use Rattle.std.proofs.Common.{◌≡◌, ℕ, suc, ◌+◌, ◌<◌, ◌≤◌, List, [], ◌∷◌, ◌++◌, length, take, drop, Some, zero-add, refl, ap, subst, append_assoc, arith, append-nil}
 use Rattle.std.specs.List.{prefix_len}
 use Rattle.dd_written.specs.reading.Laws.{FormulasAreRead}
@@ -6,7 +6,7 @@ use Rattle.dd_commands.specs.{Tree.Mark, Tree.Lexeme, Tree.Written, reading.Part
 use Rattle.dd_commands.specs.lemmas.Whole.{written_sound}
 use Rattle.dd_commands.specs.Scripts.{parts, stage_after, AreCommands, IsFirstBad, AreWritten, IsBadCommand}
 
--- The tokens before the first `%` are the first component of `parts`. The tokens after them have the same parts.
+-- The first component of `parts` is the list of tokens before the first `%`. The tokens after these have the same parts, with nothing before them.
 pub cut : (tokens : List Lexeme) → let n = prefix_len is_inside tokens in
     ((parts tokens).0 ≡ take n tokens) × ((parts tokens).1 ≡ (parts (drop n tokens)).1) × ((parts (drop n tokens)).0 ≡ [])
 cut [] = (refl, refl, refl)
@@ -16,13 +16,13 @@ cut (t ∷ tokens) =
     let more : 1 + prefix_len is_inside tokens ≡ suc (prefix_len is_inside tokens) = omega arith in
     rw more (ap (λ (ts : List Lexeme). t ∷ ts) rest.0, rest.1, rest.2)
 
--- the first part is what stands between the `%` at the front and the next
+-- the first part is what stands between the `%` at the front and the next `%`
 pub behind_mark : (tokens : List Lexeme) → 0 < length tokens → (parts tokens).0 ≡ [] → (parts tokens).1 ≡ (parts (drop 1 tokens)).0 ∷ (parts (drop 1 tokens)).1
 behind_mark [] some none = absurd (omega (arith, some))
 behind_mark (Lexeme.Mark Mark.Percent ∷ tokens) some none = refl
 behind_mark (t ∷ tokens) some none = absurd cc
 
--- ---- what the tokens left say of all tokens
+-- ---- what the remaining tokens say about all tokens
 pub record Sofar (bytes : List ℕ) (tokens rest : List Lexeme) (cs : List Written) (number from : ℕ) : Type 0 where
   pub at_mark : (parts rest).0 ≡ []
   pub written : (ws : List Written) → AreCommands bytes from (parts rest).1 ws → AreWritten bytes tokens (cs ++ ws)

@@ -1,4 +1,4 @@
--- Each command that is read has the tokens beside it, and the bytes of a script are ASCII.
+-- Each command that is read is spelled by the tokens that are stored with it, and the bytes of a script are ASCII.
 use Rattle.std.proofs.Common.{◌≡◌, ℕ, ◌<◌, Bool, true, false, List, [], ◌∷◌, ◌++◌, map, length, refl, sym, ap, subst, ◌==◌, ◌&&◌, if◌then◌else◌, All, IsAscii}
 use Rattle.std.specs.{List.list_all, Char.is_ascii}
 use Rattle.std.proofs.lemmas.{Bool.ltb-true, Bool.and_parts, Bool.and_from, List.Elements.All-nil, List.Elements.All-cons, List.Elements.All-weaker, List.Sums.AllPass-from_list_all}
@@ -19,7 +19,7 @@ all_written bytes from ps ws each = absurd search
 abbrev with_end : Bool → List Lexeme → List Lexeme
 with_end ends tokens = tokens ++ (if ends then [] else Lexeme.Stray ∷ [])
 
--- if no token of a part is stray, none stands at the end
+-- if neither the parts nor the tokens before them have a stray token, there is none at the end
 no_stray : (ends : Bool) (tokens : List Lexeme) → list_all is_whole (parts (with_end ends tokens)).0 ≡ true → list_all (list_all is_whole) (parts (with_end ends tokens)).1 ≡ true → ends ≡ true
 no_stray true tokens before each = refl
 no_stray false [] before each = absurd cc

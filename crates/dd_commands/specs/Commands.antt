@@ -18,11 +18,11 @@ abbrev pub is_plain_entry : Entry → Bool
 is_plain_entry (Entry.Number n) = true
 is_plain_entry (Entry.Negative n) = false
 
--- no entry is negative
+-- whether no entry is negative
 abbrev pub is_plain : Vector → Bool
 is_plain v = list_all is_plain_entry v.entries
 
--- the text of the shear of a configuration, which is a second vector after the periods; nothing if there is none
+-- the text of the shear of a configuration, which is a second vector after the periods; empty if there is no shear
 abbrev pub second_vector_text : Option Vector → List Lexeme
 second_vector_text None = []
 second_vector_text (Some v) = vector_text v
@@ -36,18 +36,18 @@ edge_text e = Lexeme.Mark Mark.Open ∷ Lexeme.Word e.label ∷ name_lexeme e.fr
 
 -- ---- cases
 
--- the tokens are a word with the wanted text, and then the rest
+-- the tokens are a word with the wanted text, followed by the rest
 abbrev pub BeginsWith : List ℕ → List ℕ → List Lexeme → List Lexeme → Type 0
 BeginsWith bytes wanted tokens rest = (w : Word) × (word_text bytes w ≡ wanted) × (tokens ≡ Lexeme.Word w ∷ rest)
 
--- the tokens before the rest are a case: "when" formula "give" name
+-- the tokens are a case, which is "when" formula "give" name, followed by the rest
 pub record IsCase (bytes : List ℕ) (c : Case) (tokens rest : List Lexeme) : Type 0 where
   pub middle : List Lexeme
   pub when : BeginsWith bytes (codes "when") tokens (text c.condition ++ middle)
   pub condition : IsWrittenFormula c.condition
   pub give : BeginsWith bytes (codes "give") middle (name_lexeme c.symbol ∷ rest)
 
--- the tokens are cases, one after the other, and then "else" and a name
+-- the tokens are cases, one after another, and then "else" and a name
 pub record AreCases (bytes : List ℕ) (cases : List Case) (default : Name) (tokens : List Lexeme) : Type 0 where
   pub last : List Lexeme
   pub before : ReadsAll (IsCase bytes) cases tokens last
@@ -59,7 +59,7 @@ pub record AreCases (bytes : List ℕ) (cases : List Case) (default : Name) (tok
 abbrev pub IsOnePlain : List Vector → Type 0
 IsOnePlain vs = (v : Vector) × (vs ≡ v ∷ []) × (is_plain v ≡ true)
 
--- the vectors that a query may have at its end
+-- these are vectors that a query may have at its end
 abbrev pub AreLists : Lists → List Vector → Type 0
 AreLists Lists.None vs = vs ≡ []
 AreLists Lists.Strip vs = IsOnePlain vs

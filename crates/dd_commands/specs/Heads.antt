@@ -2,7 +2,7 @@
 use Rattle.std.specs.Prelude.{ℕ, ◌+◌, List, Bool, true, false, if◌then◌else◌, codes}
 use Rattle.dd_commands.specs.{Tree.Kind, Tree.Head, Tree.Command, Table.kind_word}
 
--- What the grammar says of a first word.
+-- What the grammar says about the first word of a command.
 pub record HeadRow : Type 0 where
   pub word : List ℕ
   -- no command may follow one of a higher stage
@@ -13,7 +13,7 @@ pub record HeadRow : Type 0 where
 abbrev pub entry : List ℕ → ℕ → Bool → HeadRow
 entry word stage once = record { word = word; stage = stage; once = once }
 
--- The row of a head. Commands of a stage below 7 are the header of a script; the others are its definitions and queries.
+-- The row of a head. Commands of a stage below 7 make up the header of a script; the others are its definitions and queries.
 abbrev pub head_row : Head → HeadRow
 head_row Head.Dimension = entry (codes "dim") 0 true
 head_row Head.Nodes = entry (codes "nodes") 1 true
@@ -37,7 +37,7 @@ stage h = (head_row h).stage
 abbrev pub is_once : Head → Bool
 is_once h = (head_row h).once
 
--- the lowest stage of the commands that may follow this one
+-- the lowest stage that a command may have if it follows a command with this head
 abbrev pub next_stage : Head → ℕ
 next_stage h = if is_once h then stage h + 1 else stage h
 

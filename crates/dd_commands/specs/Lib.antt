@@ -4,9 +4,9 @@ pub mod Tree
 pub mod Table
 -- the first words of commands, and their order
 pub mod Heads
--- the tokens that follow the `%` of each command
+-- commands: the tokens that follow the `%` of each
 pub mod Commands
--- scripts, and the first command that is not well formed
+-- scripts, and which command is the first that is not well formed
 pub mod Scripts
 -- the readers of all these, as functions
 pub mod reading

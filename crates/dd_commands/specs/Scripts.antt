@@ -1,4 +1,4 @@
--- Scripts: their commands in order. Also which command is the first that is not well formed.
+-- Scripts: their commands in order, and which command is the first that is not well formed.
 use Rattle.std.specs.Prelude.{◌≡◌, ℕ, zero, suc, ◌≤◌, List, [], ◌∷◌, Bool, true, false, if◌then◌else◌, Result, Ok, Err}
 use Rattle.std.specs.List.{list_all}
 use Rattle.dd_commands.specs.Tree.{Mark, Lexeme, Written, Syntax, SyntaxFault}
@@ -33,12 +33,12 @@ is_percent (Lexeme.Negative n) = false
 is_percent (Lexeme.Mark m) = is_percent_mark m
 is_percent Lexeme.Stray = false
 
--- What stands before the first `%`, and the parts. A part is what follows one `%`, up to the next.
+-- The tokens before the first `%`, and the parts. A part consists of the tokens that follow one `%`, up to the next.
 abbrev pub parts : List Lexeme → List Lexeme × List (List Lexeme)
 parts [] = ([], [])
 parts (t ∷ tokens) = if is_percent t then ([], (parts tokens).0 ∷ (parts tokens).1) else (t ∷ (parts tokens).0, (parts tokens).1)
 
--- a token that is not stray
+-- whether a token is not stray
 abbrev pub is_whole : Lexeme → Bool
 is_whole (Lexeme.Word w) = true
 is_whole (Lexeme.Number n) = true
@@ -53,21 +53,21 @@ stage_of w = stage (head_of w.command)
 abbrev pub stage_after : Written → ℕ
 stage_after w = next_stage (head_of w.command)
 
--- the part is this command, and its stage is `from` at least
+-- the part is this command, without stray tokens, and the stage of the command is at least `from`
 pub record MayStand (bytes : List ℕ) (from : ℕ) (part : List Lexeme) (w : Written) : Type 0 where
   pub tokens : w.tokens ≡ part
   pub whole : list_all is_whole part ≡ true
   pub is : IsCommand bytes w.command part
   pub ordered : from ≤ stage_of w
 
--- The parts are these commands. Each has a stage that may follow the one before; that of the first is `from` at least.
+-- The parts are these commands. Each command has a stage that may follow the command before it. The stage of the first is at least `from`.
 abbrev pub AreCommands : List ℕ → ℕ → List (List Lexeme) → List Written → Type 0
 AreCommands bytes from [] [] = Unit {0}
 AreCommands bytes from [] (w ∷ ws) = ⊥
 AreCommands bytes from (p ∷ ps) [] = ⊥
 AreCommands bytes from (p ∷ ps) (w ∷ ws) = MayStand bytes from p w × AreCommands bytes (stage_after w) ps ws
 
--- The index, from 0, of the first bad part. A part is bad if it is no command, or its stage is below the lowest that may follow.
+-- This is the index, from 0, of the first bad part. A part is bad if it is not a command, or if its stage is below the lowest that may come there.
 abbrev pub IsFirstBad : List ℕ → ℕ → List (List Lexeme) → ℕ → Type 0
 IsFirstBad bytes from [] place = ⊥
 IsFirstBad bytes from (p ∷ ps) zero = (w : Written) → MayStand bytes from p w → ⊥
@@ -77,7 +77,7 @@ IsFirstBad bytes from (p ∷ ps) (suc place) = (w : Written) × MayStand bytes f
 abbrev pub AreWritten : List ℕ → List Lexeme → List Written → Type 0
 AreWritten bytes tokens ws = ((parts tokens).0 ≡ []) × AreCommands bytes 0 (parts tokens).1 ws
 
--- the number, from 1, of the first bad part; 0 if some token stands before the first `%`
+-- this is the number, from 1, of the first bad part, or 0 if some token stands before the first `%`
 abbrev pub IsBadCommand : List ℕ → List Lexeme → ℕ → Type 0
 IsBadCommand bytes tokens zero = (parts tokens).0 ≡ [] → ⊥
 IsBadCommand bytes tokens (suc place) = ((parts tokens).0 ≡ []) × IsFirstBad bytes 0 (parts tokens).1 place
@@ -90,12 +90,12 @@ IsScript bytes s = (s.text ≡ bytes) × AreWritten bytes (lexemes_of bytes) s.c
 abbrev pub IsSyntaxFault : List ℕ → ℕ → Type 0
 IsSyntaxFault bytes n = IsBadCommand bytes (lexemes_of bytes) n
 
--- What a result of `read` says of the bytes. Where memory ran out it says nothing.
+-- What a result of `read` says about the bytes. If memory ran out, it says nothing.
 abbrev pub IsReading : List ℕ → Result Syntax SyntaxFault → Type 0
 IsReading bytes (Ok s) = IsScript bytes s
 IsReading bytes (Err (SyntaxFault.At n)) = IsSyntaxFault bytes n
 IsReading bytes (Err SyntaxFault.Memory) = Unit {0}
 
--- the command is written in this text by the tokens beside it
+-- in a script with these bytes, the tokens that are stored with the command are the tokens of that command
 pub record IsWritten (bytes : List ℕ) (w : Written) : Type 0 where
   pub is : IsCommand bytes w.command w.tokens

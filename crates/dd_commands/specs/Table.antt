@@ -2,7 +2,7 @@
 use Rattle.std.specs.Prelude.{ℕ, List, [], ◌∷◌, codes}
 use Rattle.dd_commands.specs.Tree.{Role, Lists, QueryKind}
 
--- What the table says of a kind of query.
+-- What the table says about a kind of query.
 pub record QueryRow : Type 0 where
   -- the first word
   pub word : List ℕ
@@ -12,7 +12,7 @@ pub record QueryRow : Type 0 where
   pub numbers : ℕ
   -- which vectors follow the numbers
   pub lists : Lists
-  -- how many symbols the alphabet must have at least
+  -- the least number of symbols that the alphabet must have
   pub symbols : ℕ
 
 abbrev pub entry : List ℕ → List Role → ℕ → Lists → ℕ → QueryRow

@@ -1,4 +1,4 @@
--- The types of syntax trees, from words to scripts, in one place. Declares nothing of its own.
+-- The types of syntax trees, from words to scripts, gathered in one place. This module declares nothing of its own.
 pub use Rattle.dd_topology.specs.declared.{builtin.Kind.Kind}
 pub use Rattle.dd_written.specs.declared.{lexeme.Word.Word, lexeme.Number.Number, lexeme.Mark.Mark, lexeme.Lexeme.Lexeme, tree.Name.Name}
 pub use Rattle.dd_written.specs.declared.{tree.Formula.Formula}

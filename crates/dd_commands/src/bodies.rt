@@ -1,4 +1,4 @@
-//! Reading whole commands. The body of a command is what follows its first word.
+//! Reads whole commands. The body of a command is what follows its first word.
 ghost use Rattle.std.specs.Prelude.{◌≡◌};
 ghost use Rattle.dd_written.specs.reading.{Readers.Gives, Formulas.formula_at};
 ghost use Rattle.dd_commands.specs.reading.Commands.{case_at, body, command_of};

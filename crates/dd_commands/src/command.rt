@@ -9,11 +9,11 @@ use dd_written::{Formula, Name, Number, Word};
 pub enum Entry {
     /// A number without a sign.
     Number(Number),
-    /// A number with its `-`; it is not 0.
+    /// A number with a `-`. It is not 0.
     Negative(Number),
 }
 
-/// A vector: integers in brackets, such as `[3 -1]`. It may have no entries.
+/// A vector: integers in brackets, such as `[3 -1]`. There may be no entries.
 #[derive(Debug, Drop)]
 pub struct Vector {
     pub entries: Items<Entry>,
@@ -35,7 +35,8 @@ pub struct Case {
     pub symbol: Name,
 }
 
-/// The syntax tree of a query, without its first word. The row of its kind says which words, numbers and vectors it has.
+/// The syntax tree of a query, without its first word. The kind's row in the table of queries says which words, numbers and
+/// vectors the query has.
 #[derive(Debug, Drop)]
 pub struct Request {
     pub kind: QueryKind,
@@ -45,7 +46,7 @@ pub struct Request {
 }
 
 /// The syntax tree of a command, without its `%` and its first word.
-/// A list of names, edges, weights or symbols has at least one item.
+/// Each list of names, edges, weights or symbols has at least one item.
 #[derive(Debug, Drop)]
 pub enum Command {
     /// `dim number`: the dimension of the lattice.
@@ -64,11 +65,11 @@ pub enum Command {
     Topology {
         kind: Kind,
     },
-    /// `topology (label from [offset] to) ..`: a topology given by its edges. The head is `Topology` here too.
+    /// `topology (label from [offset] to) ..`: a topology given by its edges. Its head is `Topology` too.
     Edges {
         edges: Items<Edge>,
     },
-    /// `only node symbol ..`: the symbols that the node may have.
+    /// `only node symbol ..`: the symbols that cells with this node may have.
     Only {
         node: Name,
         symbols: Items<Name>,
@@ -77,7 +78,7 @@ pub enum Command {
     Weights {
         weights: Items<Number>,
     },
-    /// `limits radius period pivots`: how far the searches go, and how many pivots a linear program may take.
+    /// `limits radius period pivots`: how far searches go, and how many pivots a linear program may take.
     Limits {
         radius: Number,
         period: Number,

@@ -11,11 +11,11 @@ use crate::table::QueryKind;
 use dd_topology::Kind::{self, Cube, Hex, King, Line, Square, Triangle};
 use dd_written::{Lexeme, ReadFault, Word, same_bytes, word_bytes};
 
-/// What the grammar says of a first word.
+/// What the grammar says about the first word of a command.
 #[derive(Clone, Copy)]
 pub(crate) struct HeadRow {
     pub(crate) word: &'static [u8],
-    /// The stage orders the commands: none may follow one of a higher stage.
+    /// The stage gives the order of commands: no command may follow one of a higher stage.
     pub(crate) stage: u32,
     /// Whether a script may have this command only once.
     pub(crate) once: bool,
@@ -72,7 +72,7 @@ fn query_kind(written: &[u8]) -> Option<QueryKind>
         .find(|kind| same_bytes(written, kind.row().word))
 }
 
-/// The head with this first word, if it is not that of a query.
+/// The head with this first word, unless it is the head of a query.
 fn other_head(written: &[u8]) -> Option<Head>
     ensures { result ≡ one_of head_text other_heads written.now }
 {

@@ -1,5 +1,5 @@
-//! The syntax trees of commands and scripts, and how they are read from bytes. A table says for each kind of query what
-//! follows its first word.
+//! The syntax trees of scripts and their commands, and how they are read from bytes. A command is a `%`, a first word, and what
+//! follows. Some commands are queries. For each kind of query, a table says what follows the first word.
 #![tactic(auto)]
 
 mod bodies;

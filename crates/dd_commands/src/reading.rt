@@ -1,4 +1,4 @@
-//! Reading items from the front of a list of tokens: one, or several in a row.
+//! Reads items from the front of a list of tokens: one item, or several in a row.
 ghost use Rattle.std.specs.Prelude.{◌≡◌, ℕ, List};
 ghost use Rattle.dd_written.specs.reading.Readers.{Gives, Reader};
 ghost use Rattle.dd_commands.specs.reading.Forms.{at_most, each_at, some_at, exactly_at};
@@ -14,12 +14,12 @@ pub(crate) struct Source<'a> {
     pub(crate) bytes: &'a [u8],
 }
 
-/// The item that was read, and the tokens after it.
+/// The item that was read and the tokens after it, or why nothing was read.
 pub(crate) type Read<'a, T> = Result<(T, &'a [Lexeme]), ReadFault>;
 
-/// What can be read from the front of a list of tokens.
+/// Items that can be read from the front of a list of tokens.
 pub(crate) trait FromTokens: Drop {
-    // The reader of this item, for a script of these bytes.
+    // The reader of such an item, given the bytes of the script.
     ghost item: { List ℕ → Reader Self };
 
     fn read<'a>(from: Source, tokens: &'a [Lexeme]) -> Read<'a, Self>
@@ -45,14 +45,14 @@ fn at_most<'a, T: FromTokens>(from: Source, most: usize, tokens: &'a [Lexeme]) -
     Ok((items, rest))
 }
 
-/// All items that come next; there may be none.
+/// All items that come next. There may be none.
 pub(crate) fn each<'a, T: FromTokens>(from: Source, tokens: &'a [Lexeme]) -> Read<'a, Items<T>>
     ensures { Gives (λ x. (x.0, x.1.now)) result (each_at (T.item from.entry.bytes.now) tokens.now) }
 {
     at_most(from, tokens.len(), tokens)
 }
 
-/// One item or more.
+/// All items that come next. There must be at least one.
 pub(crate) fn some<'a, T: FromTokens>(from: Source, tokens: &'a [Lexeme]) -> Read<'a, Items<T>>
     ensures { Gives (λ x. (x.0, x.1.now)) result (some_at (T.item from.entry.bytes.now) tokens.now) }
 {

@@ -1,4 +1,4 @@
-//! Reading queries, each by the row of its kind.
+//! Reads queries, each as the row of its kind in the table of queries says.
 ghost use Rattle.std.specs.Prelude.{◌≡◌};
 ghost use Rattle.dd_written.specs.reading.Readers.{Gives};
 ghost use Rattle.dd_commands.specs.declared.head.Head.TheVariants as head;
@@ -27,7 +27,7 @@ fn lists<'a>(from: Source, lists: Lists, tokens: &'a [Lexeme]) -> Read<'a, Items
     }
 }
 
-/// The body of a query of this kind.
+/// The body of a query of this kind, which is what follows the first word.
 pub(crate) fn query<'a>(from: Source, kind: QueryKind, tokens: &'a [Lexeme]) -> Read<'a, Command>
     ensures { Gives (λ x. (x.0, x.1.now)) result (body from.entry.bytes.now (head.Query kind) tokens.now) }
 {

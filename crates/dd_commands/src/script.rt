@@ -1,4 +1,4 @@
-//! Reading a script, command by command. A part is the tokens of one command: what stands after its `%`, up to the next.
+//! Reads a script, command by command. A part consists of the tokens of one command: those after its `%`, up to the next `%`.
 ghost use Rattle.std.specs.Prelude.{◌≡◌, [], ◌∷◌, ◌+◌, ◌<◌, ◌≤◌, length, IfOk, All};
 ghost use Rattle.std.specs.List.{prefix_len, list_all};
 ghost use Rattle.dd_values.specs.Bounds.{most_script};
@@ -30,7 +30,7 @@ pub struct Syntax {
     pub commands: Items<Written>,
 }
 
-/// How many tokens stand before the next `%`.
+/// The number of tokens before the next `%`.
 fn part_length(tokens: &[Lexeme]) -> usize
     ensures value { result ≡ prefix_len is_inside tokens.now }
     ensures within { result ≤ length tokens.now }
@@ -41,7 +41,7 @@ fn part_length(tokens: &[Lexeme]) -> usize
         .count()
 }
 
-/// The part after the `%` at the front, and the tokens left after that part.
+/// The part after the `%` at the front of the tokens, and the tokens after that part.
 #[tactic(auto, using(crate::proofs::Parts::cut, crate::proofs::Parts::behind_mark))]
 fn next_part(tokens: &[Lexeme]) -> (&[Lexeme], &[Lexeme])
     requires some { 0 < length tokens.now }
@@ -83,7 +83,7 @@ fn are_whole(part: &[Lexeme]) -> bool
     part.iter().all(|token| !matches!(token, Lexeme::Stray))
 }
 
-/// The command that the part is. Its stage must be `from` at least.
+/// Reads this part as a command, whose stage must be at least `from`.
 fn command_from(source: Source, from: u32, part: &[Lexeme]) -> Result<Written, ReadFault>
     ensures { Gives (λ x. x) result (written_of source.entry.bytes.now from part.now) }
 {
@@ -109,7 +109,7 @@ fn commands(alloc: Global, bytes: &[u8], tokens: &[Lexeme]) -> Result<Items<Writ
     }
     let mut commands = Items::new(alloc);
     let mut number = 0;
-    // the lowest stage of the commands that may come next
+    // the lowest stage that the next command may have
     let mut from = 0;
     let mut rest = tokens;
     while !rest.is_empty() {

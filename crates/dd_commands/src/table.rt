@@ -1,4 +1,4 @@
-//! The table of queries, with a row for each kind. A query is read, checked and resolved by its row alone.
+//! The table of queries, with a row for each kind. Queries are read, checked and resolved by these rows alone.
 ghost use Rattle.std.specs.Prelude.{◌≡◌};
 ghost use Rattle.dd_commands.specs.Table.{row};
 
@@ -28,7 +28,8 @@ pub enum Lists {
     Vectors,
 }
 
-/// The kinds of queries, each with its form: X and Y are rules, f and g automata, c is a configuration, r and m are numbers.
+/// The kinds of queries, each with its form. X and Y are rules, f and g are automata, c is a configuration, and r and m are
+/// numbers.
 #[derive(Clone, Copy, Debug, PartialEq, Eq)]
 pub enum QueryKind {
     /// `member c X`: does the configuration obey the rule?
@@ -39,7 +40,7 @@ pub enum QueryKind {
     Equal,
     /// `empty X`: does no configuration obey the rule?
     Empty,
-    /// `same f g X`: do both automata agree on each configuration that obeys X?
+    /// `same f g X`: do the two automata agree on each configuration that obeys X?
     Agree,
     /// `maps f X Y`: does the automaton map each configuration that obeys X to one that obeys Y?
     Maps,
@@ -57,7 +58,7 @@ pub enum QueryKind {
     Discharge,
 }
 
-/// The row of a kind of query.
+/// What the table says about a kind of query.
 #[derive(Clone, Copy)]
 pub struct QueryRow {
     /// The first word.

@@ -1,4 +1,4 @@
-//! Words, names, numbers, vectors and edges.
+//! Reads words, names, numbers, vectors and edges.
 ghost use Rattle.std.specs.Prelude.{◌≡◌};
 ghost use Rattle.dd_written.specs.reading.{Atoms.name_at, Readers.Gives};
 ghost use Rattle.dd_commands.specs.Commands.{is_plain_entry, is_plain};
@@ -51,7 +51,7 @@ impl FromTokens for Entry {
     }
 }
 
-/// The tokens after the first, which must be the wanted mark.
+/// The tokens after the first token, which must be the wanted mark.
 #[tactic(auto, unfolding(crate::specs::reading::Vectors::same_mark))]
 fn past<'a>(wanted: Mark, tokens: &'a [Lexeme]) -> Result<&'a [Lexeme], ReadFault>
     ensures { Gives (λ x. (tt, x.now)) result (mark_at wanted tokens.now) }
@@ -114,7 +114,8 @@ pub(crate) fn plain<'a>(from: Source, tokens: &'a [Lexeme]) -> Read<'a, Vector>
     Ok((vector, rest))
 }
 
-/// The shear of a configuration, if a vector without negative numbers comes next; otherwise none, and nothing is read.
+/// The shear of a configuration, if a vector without negative numbers comes next. Otherwise there is no shear, and nothing is
+/// read.
 pub(crate) fn shear<'a>(from: Source, tokens: &'a [Lexeme]) -> Read<'a, Option<Vector>>
     ensures { Gives (λ x. (x.0, x.1.now)) result (shear.item tokens.now) }
 {

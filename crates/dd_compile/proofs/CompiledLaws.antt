@@ -1,4 +1,4 @@
--- The signal of a wired formula has the formula's value, and its gates are over earlier variables.
+-- If each leaf of an expansion has its wire, the expansion's signal has the expansion's value, and the expansion's gates are over earlier variables.
 use Rattle.std.proofs.Common.{◌≡◌, ℕ, Bool, true, Option, Some, None, refl, arith}
 use Rattle.std.proofs.lemmas.Bool.{and_parts, leb-true}
 use Rattle.std.specs.Prelude.{nat_le}

@@ -28,7 +28,7 @@ use Rattle.dd_compile.specs.lemmas.{Progress.size-append, CaseRules.agrees_befor
 use Rattle.dd_compile.proofs.Composing.{there_of}
 use Rattle.dd_formula.specs.declared.automaton.Automaton.TheVariants as v
 
--- what the cases say is what the automaton given by them says
+-- if signals say what value the cases give, they also say what the value of the automaton is that is given by these cases
 pub cases_say : (new : Network) (w : Wiring) (k : ℕ) (f : Automaton) (c : Cases) (at : Cell) (ss : List Signal) → f ≡ v.Given c → SaysCases new w k c at ss → SaysValue new w k f at ss
 cases_say new w k f c at ss is h =
     let here : SaysValue new w k (v.Given c) at ss = record {
@@ -57,7 +57,7 @@ comes_after at cs i cell there cells up below is placed are =
     (All-weaker (λ d. cell_cmp d cell ≡ Less) (λ d. cell_cmp (shifted at.position d) there ≡ Less)
     (λ d h. ap (cell_cmp (shifted at.position d)) placed ∙ (shifted_cmp at d cell ∙ h)) (take i cs) (before cs i cell up below is)))
 
--- What the inner automaton reads at the cells that the outer one reads is what the composition reads.
+-- What a composition reads is what its inner automaton reads at the cells that its outer automaton reads.
 pub inner_wired : (n k : ℕ) (w : Wiring) (f g : Automaton) (at : Cell) (cs : List Cell) → cs ≡ cells_of f at.node → are_wired_there n k w ((counted (v.Composed f g)).reads at.node) at ≡ true → AreWired n k w g cs at
 inner_wired n k w f g at cs is h =
     let q : Cell → Bool = λ e. are_signals n k (signals_of w (shifted at.position e)) in
@@ -73,7 +73,7 @@ inner_wired n k w f g at cs is h =
     ∙ (list_all-alike test (λ c. list_all q (there c)) same reads
     ∙ (sym (list_all-flat_map q there reads) ∙ (sym (ap (λ (x : Counted). list_all q (x.reads at.node)) (counted_composed f g)) ∙ h))))
 
--- A cell among those whose values are made is found, with the signals of its value.
+-- A search for a cell whose value has been made finds the signals of this value.
 abbrev Found : Network → Wiring → ℕ → Automaton → Cell → Option (List Signal) → Type 0
 Found circuit w k g c o = (ss : List Signal) × (o ≡ Some ss) × IsValued circuit w k g c ss
 
@@ -119,7 +119,8 @@ found_wired circuit w k g c o found =
     ap (are_signals (size circuit) k) found.1
     ∙ and_from (length ss == k) (list_all (is_signal (size circuit)) ss) (eq-eqb (length ss) k found.2.says.one_each) (all_signals (size circuit) ss found.2.in_range)
 
--- an assignment that tells what the composition reads tells what the inner automaton reads at each cell of the outer one
+-- if an assignment tells the symbols that the composition reads, it also tells those that the inner automaton reads at each cell that the outer one
+-- reads
 inner_tells : (set : ℕ → Bool) (w : Wiring) (f g : Automaton) (at : Cell) (look : Look) →
     TellsCells set w (flat_map (λ (c : Cell). map (shifted c.position) ((counted g).reads c.node)) ((counted f).reads at.node)) at look →
     (d : Cell) → Contains ((counted f).reads at.node) d → TellsCells set w ((counted g).reads d.node) (shifted at.position d) look

@@ -15,7 +15,7 @@ use Rattle.dd_compile.specs.lemmas.Progress.{size-append, Extends-trans}
 use Rattle.dd_compile.specs.lemmas.{CaseGates.itself, CaseGates.next_is, CaseGates.taken_is, CaseRules.agrees_before}
 use Rattle.dd_compile.specs.lemmas.StillWired.{still_wired}
 
--- what holds for values still holds when gates have been added
+-- if signals say what a value is, they still say it after gates have been added
 still_valued : (now new : Network) (w : Wiring) (k : ℕ) (f : Automaton) (c : Cell) (ss : List Signal) → Extends now new → IsValued now w k f c ss → IsValued new w k f c ss
 still_valued now new w k f c ss more h =
     let n = size-append now new more.added more.inputs more.gates in

@@ -1,4 +1,4 @@
--- A rule reads no more cells at a node than its expansion there has instances.
+-- A rule reads no more cells at a node than its expansion there has instances (itself, its parts, their parts, and so on).
 use Rattle.std.proofs.Common.{◌≡◌, ◌≤◌, ℕ, ◌+◌, List, [], ◌∷◌, map, length, ap, arith, length-append}
 use Rattle.std.specs.{Prelude.fold, List.flat_map, BTreeSet.insert_key, Ordering.match_ordering, declared.cmp.Ordering.Ordering}
 use Rattle.std.specs.declared.cmp.Ordering.TheVariants.{Less, Equal, Greater}

@@ -1,4 +1,4 @@
--- If the wires of a formula are replaced by others, its gates are the old gates, placed.
+-- If the wires of an expansion are replaced by others, the expansion's gates are the old gates, placed over the new wires.
 use Rattle.std.proofs.Common.{◌≡◌, ℕ, ◌+◌, ◌-◌, Bool, true, false, List, [], ◌∷◌, ◌++◌, Option, Some, None, map, length, slice_get, refl, ap, sym, ◌∙◌, arith}
 use Rattle.std.proofs.lemmas.{Bool.and_parts, List.map-append, List.length-map, Option.slice_get_past}
 use Rattle.std.specs.{Prelude.not, List.list_all}
@@ -34,7 +34,7 @@ module _ (inputs : List Signal) (n : ℕ) where
   placed_opposite : (s : Signal) → over (opposite s) ≡ opposite (over s)
   placed_opposite s = by_opposite (slice_get inputs (s.variable - 1)) (n + (s.variable - length inputs)) s.positive
 
-  -- the variables after the inputs are placed one after the other
+  -- the variables after the inputs are replaced by the variables after n, in order
   placed_later : (v k : ℕ) → v ≡ length inputs + k + 1 → over (signal_of v) ≡ signal_of (n + k + 1)
   placed_later v k is =
       let past : slice_get inputs (v - 1) ≡ None = slice_get_past inputs (v - 1) (omega (arith, is)) in

@@ -1,4 +1,4 @@
--- The new variables of a template's cells: the loops that list them, and what they are.
+-- The new variables of a template's cells: the loops that list these variables, and which variables they are.
 use Rattle.std.proofs.Common.{◌≡◌, ◌<◌, ◌≤◌, ℕ, zero, suc, ◌+◌, ◌-◌, ◌*◌, true, List, [], ◌∷◌, ◌++◌, Some, length, take, drop, get_or, slice_get, refl, ap, sym, ◌∙◌, arith, length-append, append_assoc, append-nil, drop-cons, add-one, eq-eqb}
 use Rattle.std.proofs.lemmas.{Bool.and_from, Bool.le-leb, List.take_more, List.take_all, List.drop_all}
 use Rattle.std.specs.{Prelude.◌==◌, Prelude.nat_le, List.list_all, List.flat_map}
@@ -59,7 +59,7 @@ fresh_test n (suc k) m h =
     (and_from (nat_le 1 (suc n)) (nat_le (suc n) m) (le-leb 1 (suc n) (omega arith)) (le-leb (suc n) m (omega (arith, h))))
     (fresh_test (suc n) k m (omega (arith, h)))
 
--- each cell has its m signals, with variables up to a bound
+-- each cell has m signals, whose variables are at most `most`
 pub in_turn_full : (m n most : ℕ) (cs : List Cell) → n + length cs * m ≤ most → (i : ℕ) → i < length cs → are_signals most m (slice_get (signals_in_turn m n cs) i) ≡ true
 in_turn_full m n most [] h i below = absurd (omega arith)
 in_turn_full m n most (c ∷ cs) h zero below =
@@ -80,7 +80,8 @@ get_left [] ys j h = absurd (omega arith)
 get_left (x ∷ xs) ys zero h = refl
 get_left (x ∷ xs) ys (suc j) h = get_left xs ys j (omega arith)
 
--- the signal of a cell's symbol is at the symbol's place in a list of m items for each cell, one cell after the other
+-- Each cell has a row of m items. The rows of all cells are joined into one list, after n other items. The signal of the symbol s of a cell has some
+-- variable k + 1, and the item at index k of this list is the item at index s of the cell's row.
 pub own_read : (m n : ℕ) (cs : List Cell) (row : Cell → List Signal) (before : List Signal) → length before ≡ n → ((i : ℕ) (d : Cell) → i < length cs → length (row (get_or cs i d)) ≡ m) →
     (i s : ℕ) (d : Cell) → i < length cs → s < m →
     (k : ℕ) × (signal_for (slice_get (signals_in_turn m n cs) i) s ≡ Some (signal_of (suc k))) × (slice_get (before ++ flat_map row cs) k ≡ slice_get (row (get_or cs i d)) s)
@@ -98,7 +99,7 @@ own_read m n (c ∷ cs) row before long full (suc i) s d below h =
     let rest = own_read m (n + m) cs row (before ++ row c) (omega (arith, l, long, wide)) (λ j e inside. full (suc j) e (omega (arith, inside))) i s d (omega arith) h in
     (rest.0, rest.1, ap (λ xs. slice_get xs rest.0) (sym (append_assoc before (row c) (flat_map row cs))) ∙ rest.2)
 
--- the length of such a list
+-- the length of the list of all rows
 pub row_count : (m : ℕ) (cs : List Cell) (row : Cell → List Signal) → ((i : ℕ) (d : Cell) → i < length cs → length (row (get_or cs i d)) ≡ m) → length (flat_map row cs) ≡ length cs * m
 row_count m [] row full = omega arith
 row_count m (c ∷ cs) row full =

@@ -1,4 +1,4 @@
--- The state while the gates of a template are placed, and what holds when all are there.
+-- The state while the gates of a template are placed, and what holds when all of them are there.
 use Rattle.std.proofs.Common.{◌≡◌, ◌<◌, ◌≤◌, ℕ, ◌+◌, Bool, true, List, [], ◌∷◌, ◌++◌, map, length, take, get_or, refl, ap, sym, ◌∙◌, subst, arith, append_assoc, append-nil}
 use Rattle.std.proofs.lemmas.Bool.{and_from}
 use Rattle.std.proofs.lemmas.List.{map-append, length-map, length-take, take_all, get_or-map}
@@ -51,7 +51,7 @@ placing_size inputs n gates i start now p within =
     let k = length-take i gates in
     omega (arith, l, m, k, within)
 
--- a template of the rule r at the node a, where t holds this rule and this node
+-- if t consists of the rule r and the node a, a template of r at a is a template of t's rule at t's node
 pub template_here : (t : RuleAt) (r : LocalRule) (a : ℕ) → rule_at r a ≡ t → (b : ℕ) → b ≡ t.node → (tc : Network) (ts : Signal) → IsTemplate r a tc ts → IsTemplate t.rule b tc ts
 template_here t r a is b node tc ts h =
     let rule : r ≡ t.rule = ap (λ (x : RuleAt). x.rule) is in
@@ -68,7 +68,7 @@ some_signals : (n k : ℕ) (o : Option (List Signal)) → are_signals n k o ≡ 
 some_signals n k None h = absurd (cc)
 some_signals n k (Some ss) h = refl
 
--- what a rule reads is there
+-- each cell that a rule reads is in range and has signals
 pub reads_there : (r : LocalRule) → IsRule r → (n : ℕ) (w : Wiring) (c : Cell) → c.node < r.nodes → extent c.position ≤ 1048560 → are_reads_wired n w r c ≡ true →
     (cs : List Cell) → cs ≡ cells_at r c.node → list_all (is_there w c.position) cs ≡ true
 reads_there r rule n w c exists inner wired cs is =

@@ -18,7 +18,7 @@ use Rattle.dd_compile.specs.Compiling.{Extends, wire_or_zero, certain, is_wire, 
 use Rattle.dd_compile.specs.{RuleSignals.TellsReads, RuleSignals.SaysTruth, lemmas.MadeSays.made_says}
 use Rattle.dd_values.specs.lemmas.Lists.{members_pass}
 
--- whether the rule reads a cell at a node of the origin
+-- whether a cell is one of the cells cs, which a rule reads at a node of the origin
 abbrev pub is_among : List Cell → Cell → Bool
 is_among cs d = list_any (λ x. is_eq (cell_cmp x d)) cs
 
@@ -55,7 +55,7 @@ rule_says n w r some c wired set look ok below tells =
     passes ok
     ∙ at_cell r c look below
 
--- what the gates' values say in the circuit that has them at its end
+-- what the signal says in a circuit that has these gates at its end
 pub says_in : (old new : Network) (w : Wiring) (r : LocalRule) → 1 ≤ r.symbols → (c : Cell) → are_wired (size old) (wires_near w c.position) (expansion_at r c.node) ≡ true →
     new.inputs ≡ old.inputs → new.gates ≡ old.gates ++ (compiled w c.position (expansion_at r c.node) (size old)).gates →
     (s : Signal) → s ≡ (compiled w c.position (expansion_at r c.node) (size old)).signal → SaysTruth new w r c s
@@ -65,7 +65,7 @@ says_in old new w r some c wired inputs gates s is set look ok below tells =
     let parts = and_parts (agrees set old.inputs old.gates) (agrees set (size old) made.gates) (sym (agrees-append set old.inputs old.gates made.gates) ∙ whole) in
     ap (signal_value set) is ∙ rule_says (size old) w r some c wired set look parts.1 below tells
 
--- the same for the result of a call, which may be that memory ran out
+-- the same for the result of a call that may run out of memory
 pub answer_says : (old new : Network) (w : Wiring) (r : LocalRule) → 1 ≤ r.symbols → (c : Cell) → are_wired (size old) (wires_near w c.position) (expansion_at r c.node) ≡ true →
     (e : Expanded) → e ≡ expansion_at r c.node → {E : Type 0} (result : Result Signal E) → Extends old new →
     IfOk result (λ _. new.gates ≡ old.gates ++ (compiled w c.position e (size old)).gates) → IfOk result (λ s. s ≡ (compiled w c.position e (size old)).signal) →

@@ -1,4 +1,4 @@
--- The gates of compositions say their values wherever they stand in a circuit.
+-- The gates of a composition say what its value is, wherever they stand in a circuit.
 use Rattle.std.proofs.Common.{◌≡◌, ◌<◌, ◌≤◌, ℕ, zero, suc, ◌+◌, ◌*◌, true, List, [], ◌++◌, length, get_or, refl, sym, ◌∙◌, subst, arith, length-append}
 use Rattle.std.proofs.lemmas.List.{get_or_default, Elements.All-weaker}
 use Rattle.std.specs.List.{list_all, All}
@@ -18,7 +18,7 @@ use Rattle.dd_compile.proofs.Composed.{inner_wired, outer_wired, composed_says, 
 use Rattle.dd_compile.proofs.SaidRules.{of_network}
 use Rattle.dd_formula.specs.declared.automaton.Automaton.TheVariants as v
 
--- a value at the end of a circuit
+-- the gates of a value at the end of a circuit say what the value is
 said_after : (now : Network) (k : ℕ) (f : Automaton) (w : Wiring) (at : Cell) (m : AllMade) → IsMadeValue (size now) k f w at m →
     SaysValue (record { inputs = now.inputs; gates = now.gates ++ m.gates }) w k f at m.signals
 said_after now k f w at m made = record {
@@ -81,6 +81,6 @@ composed_made_says f g placed first second s ok w at n node near wired =
     (subst (λ i. SaysValue (record { inputs = i; gates = new.gates }) w k (v.Composed f g) at mo.signals) kept value)
     (subst (λ i. All (IsSignal (i + length new.gates)) mo.signals) kept (in_range_after one mo out.in_range)) gates signals)
 
--- near the origin compositions are never too deep
+-- the law near the origin gives the law for all cells at least 2048 from the border of the range, since automata are at most 64 deep
 pub says_from_near : (f : Automaton) → SaysNear f → SaysItsValue f
 says_from_near f says s ok w at n node near wired = let deep = shallow s f ok in says s ok w at n node (omega (arith, near, deep)) wired

@@ -1,4 +1,4 @@
--- The gates of cases say their value wherever they stand in a circuit.
+-- The gates of an automaton that is given by cases say what its value is, wherever they stand in a circuit.
 use Rattle.std.proofs.Common.{◌≡◌, ◌<◌, ◌≤◌, ℕ, zero, suc, ◌+◌, Bool, true, List, [], ◌∷◌, ◌++◌, map, length, refl, ap, sym, ◌∙◌, subst, arith, length-append}
 use Rattle.std.proofs.lemmas.{Bool.and_parts, List.map-append, List.Folds.list_all-append}
 use Rattle.std.proofs.lemmas.List.Elements.{All-cons, All-push, All-weaker, Contains-append_left, Contains-append_right}
@@ -86,7 +86,7 @@ module _ (s : CommonNumbers) (w : Wiring) (at : Cell) (node : at.node < s.nodes)
             λ i. here i ∷ later i;
       }
 
--- the choices, and the gates of the symbols
+-- the choices and the gates of the symbols are over earlier variables
 choices_fit : (n : ℕ) (before ls : List Signal) → All (IsSignal n) (map opposite before) → All (IsSignal n) ls → AreGates n (choices before ls)
 choices_fit n before [] b all = (b, tt)
 choices_fit n before (l ∷ ls) b all =
@@ -106,7 +106,7 @@ symbols_fit m xs fs all (suc k) j n le =
     let up : (x : Signal) → IsSignal m x → IsSignal n x = λ x h. (h.0, (let top = h.1 in omega (arith, top, le))) in
     (giving_in_range n j xs fs (All-weaker (IsSignal m) (IsSignal n) up fs all), symbols_fit m xs fs all k (j + 1) (suc n) (omega arith))
 
--- the law for an automaton by cases
+-- the law for an automaton that is given by cases
 pub given_says : (c : Cases) → All (λ (x : LocalRule × ℕ). IsRule x.0) c.cases → SaysNear (v.Given c)
 given_says c kept s ok w at n node near wired =
     let k = s.symbols in

@@ -22,18 +22,18 @@ pub record AllMade : Type 0 where
 abbrev pub made_of : Signal → List Gate → Made
 made_of s gs = record { signal = s; gates = gs }
 
--- a signal and its gates, from the number n of variables before them
+-- a function that gives a signal and its gates, from the number n of variables before these gates
 abbrev pub Maker : Type 0
 Maker = ℕ → Made
 
--- the gates of all parts, one part after the other
+-- the signals and the gates of all parts, one part after the other
 abbrev pub all_made : List Maker → ℕ → AllMade
 all_made [] n = record { signals = []; gates = [] }
 all_made (m ∷ ms) n =
     let rest = all_made ms (n + length (m n).gates) in
     record { signals = (m n).signal ∷ rest.signals; gates = (m n).gates ++ rest.gates }
 
--- a gate with the next variable, after the gates of its parts
+-- the gates of a gate's parts, and then the gate itself, which has the next variable
 abbrev pub then_gate : ℕ → List Gate → Gate → Made
 then_gate n gates g = made_of (signal_of (n + length gates + 1)) (gates ++ g ∷ [])
 
@@ -68,7 +68,7 @@ gate_count = fold-Expanded ℕ gate_count_step
 abbrev pub all_counts : List Expanded → ℕ
 all_counts es = total (map gate_count es)
 
--- a signal for each cell and symbol that has one
+-- for each cell and symbol its wire, the signal that says that the cell has the symbol, or `None` if there is none
 abbrev pub Wires : Type 0
 Wires = Cell → ℕ → Option Signal
 
@@ -76,12 +76,12 @@ Wires = Cell → ℕ → Option Signal
 abbrev pub wires_near : Wiring → Place → Wires
 wires_near w v c s = if is_in_range (moved c.position v) then wire_of w (shifted v c) s else None
 
--- there is a wire, and its variable is one of 1..n
+-- the wire is there, and its variable is one of 1..n
 abbrev pub is_wire : ℕ → Option Signal → Bool
 is_wire n None = false
 is_wire n (Some s) = nat_le 1 s.variable && nat_le s.variable n
 
--- each leaf has its wire, a signal of n variables
+-- each leaf has its wire, and this wire's variable is one of 1..n
 abbrev pub are_wired : ℕ → Wires → Expanded → Bool
 are_wired n wires = leaves_pass (λ c s. is_wire n (wires c s))
 
@@ -93,7 +93,7 @@ abbrev pub wire_or_zero : Option Signal → Signal
 wire_or_zero None = signal_of 0
 wire_or_zero (Some s) = s
 
--- the wires as signals, for expansions each leaf of which has a wire
+-- the wires as signals, for expansions in which each leaf has a wire
 abbrev pub certain : Wires → Cell → ℕ → Signal
 certain wires c s = wire_or_zero (wires c s)
 
@@ -104,7 +104,7 @@ compiled w v = made (certain (wires_near w v))
 abbrev pub all_compiled : Wiring → Place → List Expanded → ℕ → AllMade
 all_compiled w v es = all_made (map (compiled w v) es)
 
--- the inputs are the same, and gates were added at the end
+-- the new circuit is the old one with gates, possibly none, added at the end
 pub record Extends (old new : Network) : Type 0 where
   pub inputs : new.inputs ≡ old.inputs
   pub added : List Gate

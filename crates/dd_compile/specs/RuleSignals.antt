@@ -1,4 +1,4 @@
--- The signals of the cells that a rule reads, and what the signal of its gates says.
+-- The signals of the cells that a rule reads, and what the signal of the rule's gates says.
 use Rattle.std.specs.Prelude.{◌≡◌, ◌==◌, ◌&&◌, if◌then◌else◌, ℕ, Bool, true, false, List, Option, Some, None, length, nat_le}
 use Rattle.std.specs.List.{Contains, list_all}
 use Rattle.dd_lattice.specs.{Place.Place, Place.moved, Place.is_in_range, Cells.shifted, declared.position.Cell.Cell}
@@ -12,21 +12,21 @@ use Rattle.dd_compile.specs.Wiring.{Wiring, signals_of, wire_of}
 abbrev pub is_signal : ℕ → Signal → Bool
 is_signal n s = nat_le 1 s.variable && nat_le s.variable n
 
--- one signal for each of k symbols, each a signal of n variables
+-- there is one signal for each of k symbols, and the variable of each signal is one of 1..n
 abbrev pub are_signals : ℕ → ℕ → Option (List Signal) → Bool
 are_signals n k None = false
 are_signals n k (Some ss) = (length ss == k) && list_all (is_signal n) ss
 
--- the cell d, relative to v, has one such signal for each of k symbols; false if it is out of range there
+-- the cell d, which is relative to v, has one such signal for each of k symbols; false if d, moved by v, is out of range
 abbrev pub is_cell_wired : ℕ → ℕ → Wiring → Place → Cell → Bool
 is_cell_wired n k w v d = if is_in_range (moved d.position v) then are_signals n k (signals_of w (shifted v d)) else false
 
--- each cell that the rule reads at c has one signal for each symbol, a signal of n variables
+-- each cell that the rule reads at c has one signal for each symbol, and the variables of these signals are among 1..n
 abbrev pub are_reads_wired : ℕ → Wiring → LocalRule → Cell → Bool
 are_reads_wired n w r c = list_all (λ d. are_signals n r.symbols (signals_of w (shifted c.position d))) (reads_at r c.node)
 
--- under the assignment, at each cell that the rule reads at c, the signal of a symbol says whether look gives the cell that
--- symbol
+-- under the assignment, for each cell that the rule reads at c and each symbol, the cell's signal for the symbol says whether `look` gives the cell
+-- that symbol
 abbrev pub TellsReads : (ℕ → Bool) → Wiring → LocalRule → Cell → Look → Type 0
 TellsReads set w r c look =
     (d : Cell) (s : ℕ) (x : Signal) → Contains (reads_at r c.node) d → wire_of w (shifted c.position d) s ≡ Some x →

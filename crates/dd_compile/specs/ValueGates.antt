@@ -10,7 +10,7 @@ use Rattle.dd_circuit.specs.declared.gates.{Signal.Signal, Gate.Gate}
 use Rattle.dd_circuit.specs.{declared.gates.Gate.TheVariants.And, declared.gates.Gate.TheVariants.Or, Circuits.signal_of, Circuits.opposite}
 use Rattle.dd_compile.specs.{Wiring.Wiring, Wiring.unwired, Wiring.with_cell, Compiling.AllMade, Compiling.all_made, Compiling.compiled}
 
--- the signals of the k variables after the first n
+-- the signals of the k variables that follow the first n variables
 abbrev pub fresh : ℕ → ℕ → List Signal
 fresh n zero = []
 fresh n (suc k) = signal_of (suc n) ∷ fresh (suc n) k
@@ -19,7 +19,7 @@ fresh n (suc k) = signal_of (suc n) ∷ fresh (suc n) k
 abbrev pub rules_made : Wiring → Cell → List (LocalRule × ℕ) → ℕ → AllMade
 rules_made w at cases n = all_made (map (λ case. compiled w at.position (expansion_at case.0 at.node)) cases) n
 
--- the choices: for each case a gate that says that its rule is true and no earlier one is, then one that says that none is
+-- the choices: for each case a gate that says that the case's rule is true and no earlier rule is, and then a gate that says that no rule is true
 abbrev pub choices : List Signal → List Signal → List Gate
 choices before [] = And (map opposite before) ∷ []
 choices before (l ∷ ls) = And (l ∷ map opposite before) ∷ choices (before ++ l ∷ []) ls
@@ -34,16 +34,16 @@ giving s [] fs = []
 giving s (x ∷ xs) [] = []
 giving s (x ∷ xs) (f ∷ fs) = if x == s then f ∷ giving s xs fs else giving s xs fs
 
--- for each of k symbols a gate that says that some choice that gives it is true
+-- for each of k symbols, a gate that says that some choice that gives this symbol is true
 abbrev pub symbol_gates : ℕ → List ℕ → List Signal → List Gate
 symbol_gates k xs fs = map (λ s. Or (giving s xs fs)) (range_with_len 0 k)
 
--- the signals of a value, by symbol, and its gates, from the signals of cells, a cell and the number of variables before
+-- a function that gives the signals of a value, by symbol, and its gates, from a wiring, a cell and the number of variables before these gates
 abbrev pub ValueMaker : Type 0
 ValueMaker = Wiring → Cell → ℕ → AllMade
 
--- The value of an automaton by cases over an alphabet of k symbols: first the gates of the rules, then the choices,
--- then the symbols. Each symbol has the signal of its gate.
+-- The value of an automaton that is given by cases, over an alphabet of k symbols: first the gates of the rules, then those of the choices, then
+-- those of the symbols. Each symbol has the signal of its gate.
 abbrev pub given_made : ℕ → Cases → ValueMaker
 given_made k c w at n =
     let rules = rules_made w at c.cases n in
@@ -57,7 +57,7 @@ pub record WiredMade : Type 0 where
   pub wiring : Wiring
   pub gates : List Gate
 
--- adds cells to those of the wiring v, one after the other, each with the signals of its value over the wiring w
+-- adds the cells to the wiring v, one after the other, each with the signals of its value over the wiring w
 abbrev pub inner_made : ValueMaker → Wiring → Wiring → List Cell → ℕ → WiredMade
 inner_made g w v [] n = record { wiring = v; gates = [] }
 inner_made g w v (c ∷ cs) n =
@@ -65,15 +65,15 @@ inner_made g w v (c ∷ cs) n =
     let rest = inner_made g w (with_cell v c here.signals) cs (n + length here.gates) in
     record { wiring = rest.wiring; gates = here.gates ++ rest.gates }
 
--- The value of a composition: first the inner automaton's value at each cell that the outer one reads; then the outer one's
--- value over these.
+-- The value of a composition: first the gates of the inner automaton's value at each cell that the outer automaton reads, then the gates of the outer
+-- automaton's value over these values.
 abbrev pub composed_made : List Cell → ValueMaker → ValueMaker → ValueMaker
 composed_made reads f g w at n =
     let inner = inner_made g w unwired (map (shifted at.position) reads) n in
     let outer = f inner.wiring at (n + length inner.gates) in
     record { signals = outer.signals; gates = inner.gates ++ outer.gates }
 
--- the counts of an automaton, and the gates of its value
+-- the counts of an automaton (the cells that it reads, its instances and its depth), and the gates of its value
 pub record Gated : Type 0 where
   pub counts : Counted
   pub made : ValueMaker

@@ -11,56 +11,56 @@ use Rattle.dd_formula.specs.declared.automaton.{Automaton.Automaton, Cases.Cases
 use Rattle.dd_circuit.specs.{declared.gates.Signal.Signal, Circuits.Network, Circuits.signal_value, Circuits.agrees}
 use Rattle.dd_compile.specs.{Wiring.Wiring, Wiring.signals_of, Wiring.wire_of, RuleSignals.are_signals}
 
--- the cases fit some common numbers, of which k is the size of the alphabet, and a is one of the nodes
+-- the cases fit some common numbers for which k is the size of the alphabet and a is one of the nodes
 pub record HasCasesSymbols (c : Cases) (k a : ℕ) : Type 0 where
   pub setting : CommonNumbers
   pub fit : cases_fit setting c.cases c.otherwise ≡ true
   pub below : a < setting.nodes
   pub all : setting.symbols ≡ k
 
--- the automaton is well formed over some common numbers, of which k is the size of the alphabet, and a is one of the nodes
+-- the automaton is well formed over some common numbers for which k is the size of the alphabet and a is one of the nodes
 pub record HasSymbols (f : Automaton) (k a : ℕ) : Type 0 where
   pub setting : CommonNumbers
   pub formed : IsAutomaton setting f
   pub below : a < setting.nodes
   pub all : setting.symbols ≡ k
 
--- each of these cells, relative to c, has one signal for each of k symbols, a signal of n variables
+-- each of these cells, which are relative to c, has one signal for each of k symbols, and the variables of these signals are among 1..n
 abbrev pub are_wired_there : ℕ → ℕ → Wiring → List Cell → Cell → Bool
 are_wired_there n k w ds c = list_all (λ d. are_signals n k (signals_of w (shifted c.position d))) ds
 
--- under the assignment, at each of these cells, relative to c, the signal of a symbol says whether look gives the cell that
--- symbol
+-- under the assignment, for each of these cells, which are relative to c, and each symbol, the cell's signal for the symbol says whether `look` gives
+-- the cell that symbol
 abbrev pub TellsCells : (ℕ → Bool) → Wiring → List Cell → Cell → Look → Type 0
 TellsCells set w ds c look =
     (d : Cell) (s : ℕ) (x : Signal) → Contains ds d → wire_of w (shifted c.position d) s ≡ Some x → signal_value set x ≡ is_symbol s (look (shifted c.position d))
 
--- the cases fit some common numbers, and each cell that they read at a cell has its signals
+-- the cases fit some common numbers, and each cell that their rules read at the cell `at` has its signals
 pub record AreCasesWired (n : ℕ) (w : Wiring) (c : Cases) (at : Cell) : Type 0 where
   pub setting : CommonNumbers
   pub fit : cases_fit setting c.cases c.otherwise ≡ true
   pub below : at.node < setting.nodes
   pub wired : are_wired_there n setting.symbols w (cases_reads c.cases at.node) at ≡ true
 
--- Under every assignment that gives the circuit's gates their values, and whose inputs tell the symbols that the cases read
--- at a cell, the signals say whether the rules of `some` of the cases are true there.
+-- Under every assignment that gives the circuit's gates their values, and whose inputs tell the symbols that the cases read at the cell `at`, the
+-- signals say whether the rules of the cases in the list `some` are true there.
 abbrev pub CasesSay : Network → Wiring → Cases → Cell → List (LocalRule × ℕ) → List Signal → Type 0
 CasesSay circuit w c at some signals =
     (s : CommonNumbers) (set : ℕ → Bool) (look : Look) → cases_fit s c.cases c.otherwise ≡ true → agrees set circuit.inputs circuit.gates ≡ true → HasSymbolsBelow s.symbols look →
     TellsCells set w (cases_reads c.cases at.node) at look → map (signal_value set) signals ≡ map (λ case. is_true case.0 at look) some
 
--- under the assignment, the signal of each symbol says whether that symbol is the given one
+-- under the assignment, the signal of each symbol s says whether s is the given symbol
 abbrev pub SaysWhich : (ℕ → Bool) → List Signal → ℕ → Type 0
 SaysWhich set signals symbol = (s : ℕ) (x : Signal) → slice_get signals s ≡ Some x → signal_value set x ≡ (symbol == s)
 
--- the same as `SaysValue`, for an automaton by cases
+-- the same as `SaysValue` below, for an automaton that is given by cases
 pub record SaysCases (circuit : Network) (w : Wiring) (k : ℕ) (cases : Cases) (c : Cell) (signals : List Signal) : Type 0 where
   pub one_each : length signals ≡ k
   pub says : (set : ℕ → Bool) (look : Look) → agrees set circuit.inputs circuit.gates ≡ true → HasSymbolsBelow k look → TellsCells set w (cases_reads cases.cases c.node) c look →
       SaysWhich set signals (first_case cases.cases cases.otherwise look c)
 
--- Each of k symbols has a signal. Under every assignment that gives the circuit's gates their values, and whose inputs tell
--- the symbols that the automaton reads at c, the signal says whether the automaton's value at c is that symbol.
+-- Each of k symbols has a signal. Under every assignment that gives the circuit's gates their values, and whose inputs tell the symbols that the
+-- automaton reads at c, each symbol's signal says whether that symbol is the automaton's value at c.
 pub record SaysValue (circuit : Network) (w : Wiring) (k : ℕ) (f : Automaton) (c : Cell) (signals : List Signal) : Type 0 where
   pub one_each : length signals ≡ k
   pub says : (set : ℕ → Bool) (look : Look) → agrees set circuit.inputs circuit.gates ≡ true → HasSymbolsBelow k look → TellsCells set w ((counted f).reads c.node) c look →

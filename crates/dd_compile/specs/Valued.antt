@@ -9,9 +9,9 @@ use Rattle.dd_circuit.specs.Circuits.{IsSignal, AreGates, agrees}
 use Rattle.dd_compile.specs.{Wiring.Wiring, Compiling.AllMade, ValueGates.value_made}
 use Rattle.dd_compile.specs.ValueSignals.{TellsCells, SaysWhich, are_wired_there}
 
--- After n variables these are gates over earlier variables, with a signal for each of k symbols. Under every assignment
--- that gives the gates their values, and whose inputs tell the symbols that the automaton reads at a cell, each signal says
--- whether its symbol is the value there.
+-- These gates, which come after n variables, are over earlier variables, and there is a signal for each of k symbols. Under every assignment that
+-- gives the gates their values, and whose inputs tell the symbols that the automaton reads at the cell `at`, each signal says whether its symbol is
+-- the value there.
 pub record IsMadeValue (n k : ℕ) (f : Automaton) (w : Wiring) (at : Cell) (m : AllMade) : Type 0 where
   pub gates : AreGates n m.gates
   pub one_each : length m.signals ≡ k
@@ -19,15 +19,15 @@ pub record IsMadeValue (n k : ℕ) (f : Automaton) (w : Wiring) (at : Cell) (m :
   pub says : (set : ℕ → Bool) (look : Look) → agrees set n m.gates ≡ true → HasSymbolsBelow k look → TellsCells set w ((counted f).reads at.node) at look →
       SaysWhich set m.signals (value f look at)
 
--- the gates of the automaton's value are as `IsMadeValue` says, at each cell so near the origin that compositions of this
--- depth read only cells in range
+-- At each cell so near the origin that an automaton of this depth reads only cells in range: if each cell that the automaton reads there has its
+-- signals, the gates of its value are as `IsMadeValue` says.
 abbrev pub SaysNear : Automaton → Type 0
 SaysNear f =
     (s : CommonNumbers) → IsAutomaton s f → (w : Wiring) (at : Cell) (n : ℕ) → at.node < s.nodes → extent at.position + 16 * (counted f).depth + 16 ≤ most_coordinate →
     are_wired_there n s.symbols w ((counted f).reads at.node) at ≡ true → IsMadeValue n s.symbols f w at (value_made s.symbols f w at n)
 
--- The gates of the automaton's value are as `IsMadeValue` says, if each cell that it reads has its signals. Depths are at most 64,
--- and reaches at most 16, so 2048 is far enough from the border of the range.
+-- The same at each cell at least 2048 from the border of the range of positions. Compositions are nested at most 64 deep, and no automaton and no
+-- part of one reads a cell more than 16 away along an axis, so at this distance only cells in range are read.
 abbrev pub SaysItsValue : Automaton → Type 0
 SaysItsValue f =
     (s : CommonNumbers) → IsAutomaton s f → (w : Wiring) (at : Cell) (n : ℕ) → at.node < s.nodes → extent at.position ≤ most_coordinate - 2048 →

@@ -1,5 +1,5 @@
-//! The gates of an automaton's value at a cell. Those of a composition come from the inner automaton's values, as the
-//! inputs of the outer one.
+//! The gates of an automaton's value at a cell. For a composition of two automata, the signals of the inner automaton's values
+//! are the inputs of the outer automaton's gates.
 ghost use Rattle.std.specs.Prelude.{ℕ, ◌≡◌, ◌≤◌, ◌+◌, ◌-◌, ◌*◌, ◌++◌, true, All, IfOk, length, map, max};
 ghost use Rattle.std.specs.List.{list_all};
 ghost use Rattle.std.specs.List.Sorted.{IsStrictlySortedBy};
@@ -27,11 +27,11 @@ use dd_lattice;
 use dd_lattice::{Position, shift};
 use std::alloc::{AllocError, Global};
 
-/// Adds the gates of the automaton's value at the cell `at`, over an alphabet of `symbols` symbols. Returns for each symbol
-/// the signal that says that it is the value there. If memory runs out, gates may have been added.
+/// Adds the gates of the automaton's value at the cell `at`, over an alphabet of `symbols` symbols. Returns, for each symbol,
+/// the signal that says that this symbol is the value at `at`. If memory runs out, gates may have been added.
 ///
-/// For a composition, the gates of the inner automaton's value come first, at each cell that the outer one reads, in cell
-/// order. Those of the outer automaton's value over these follow.
+/// For a composition, first come the gates of the inner automaton's value at each cell that the outer automaton reads, in cell
+/// order. Then come the gates of the outer automaton's value, with the signals of these values as their inputs.
 pub fn compile_value(
     circuit: &mut Circuit,
     alloc: Global,
@@ -54,14 +54,15 @@ pub fn compile_value(
     compile_near(circuit, alloc, automaton, symbols, at, inputs)
 }
 
-/// Does nothing. Its contract is a law: the automaton's value has at most as many gates as `value_clauses` counts clauses.
+/// Does nothing. Its contract is a law: the automaton's value has no more gates than the number of clauses that `value_clauses`
+/// gives.
 pub fn value_gates(_automaton: &Automaton, _symbols: u32)
     ensures { (w : Wiring) (at : Cell) (n : ℕ) →
         length (value_made _symbols _automaton.now w at n).gates ≤ value_clauses _symbols _automaton.now at.node }
 {}
 
-/// The same as `compile_value`, for any cell that is near enough to the origin: compositions of the automaton's depth read
-/// only cells in range there.
+/// The same as `compile_value`, for any cell so near the origin that an automaton of this depth (how deep its compositions are
+/// nested) reads only cells in the range of positions.
 #[cycle(compile_near)]
 fn compile_near(
     circuit: &mut Circuit,
@@ -128,8 +129,8 @@ fn compile_composed(
     compile_near(circuit, alloc, outer, symbols, at, &values)
 }
 
-/// Adds the gates of the automaton's values at the cells, which are relative to `at`, one after the other. Returns the cells
-/// with the signals of their values.
+/// Adds the gates of the automaton's values at `cells`, which are relative to `at`, one cell after the other. Returns these
+/// cells, moved by `at`, each with the signals of its value.
 #[cycle(compile_near)]
 fn compile_inner(
     circuit: &mut Circuit,

@@ -1,5 +1,6 @@
-//! The gates of an expansion: one for each constant, conjunction, disjunction and equivalence in it. A leaf is a signal of
-//! the inputs, and a negation is the opposite signal.
+//! The gates of an expansion: one for each constant, conjunction, disjunction and equivalence in it. Leaves and negations have
+//! no gates. A leaf says that a cell has a certain symbol, and its signal is the wire of that cell and symbol. The signal of a
+//! negation is the opposite of the signal that it negates.
 ghost use Rattle.std.specs.Prelude.{◌≡◌, ◌≤◌, ◌+◌, ◌++◌, true, All, IfOk};
 ghost use Rattle.dd_values.specs.Bounds.{most_variables};
 ghost use Rattle.dd_circuit.specs.Circuits.{IsSignal, size};
@@ -11,7 +12,7 @@ use dd_expansion::Expanded;
 use dd_lattice::{Cell, Position, shift};
 use std::alloc::{AllocError, Global};
 
-/// The signal that says that the cell, relative to `at`, has the symbol; `None` if there is none.
+/// The signal that says that the cell, which is relative to `at`, has the symbol. `None` if there is no such signal.
 fn wire_near(inputs: &Inputs, at: &Position, cell: &Cell, symbol: u32) -> Option<Signal>
     ensures { result ≡ wires_near inputs.now at.now cell.now symbol }
 {
@@ -20,7 +21,7 @@ fn wire_near(inputs: &Inputs, at: &Position, cell: &Cell, symbol: u32) -> Option
     inputs.get(&Cell { position, node }, symbol)
 }
 
-/// Whether there is a wire, and it is a signal of the circuit.
+/// Whether `wire` is there, and is a signal of the circuit.
 fn is_wire(circuit: &Circuit, wire: Option<Signal>) -> bool
     ensures { result ≡ is_wire (size circuit.now) wire }
 {
@@ -30,8 +31,8 @@ fn is_wire(circuit: &Circuit, wire: Option<Signal>) -> bool
     }
 }
 
-/// Whether each leaf of the expansion has its wire: the inputs have a signal of the circuit for its cell, relative to `at`,
-/// and its symbol.
+/// Whether each leaf of the expansion has its wire: for the leaf's cell, relative to `at`, and the leaf's symbol, the inputs
+/// have a signal of the circuit.
 #[cycle(wired)]
 pub fn is_wired(circuit: &Circuit, expanded: &Expanded, at: &Position, inputs: &Inputs) -> bool
     ensures { result ≡ are_wired (size circuit.now) (wires_near inputs.now at.now) expanded.now }
@@ -49,7 +50,7 @@ pub fn is_wired(circuit: &Circuit, expanded: &Expanded, at: &Position, inputs: &
     }
 }
 
-/// The same for several expansions.
+/// Whether each leaf of each of these expansions has its wire.
 #[cycle(wired)]
 fn are_wired(circuit: &Circuit, parts: &[Expanded], at: &Position, inputs: &Inputs) -> bool
     ensures { result ≡ all_wired (size circuit.now) (wires_near inputs.now at.now) parts.now }
@@ -110,7 +111,7 @@ pub fn compile_expanded(
     }
 }
 
-/// Adds the gates of expansions one after the other, and returns their signals.
+/// Adds the gates of the expansions, one expansion after the other. Returns the signal of each expansion.
 #[cycle(compile)]
 fn compile_all(
     circuit: &mut Circuit,

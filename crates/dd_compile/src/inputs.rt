@@ -13,10 +13,11 @@ use dd_values::Items;
 use std::alloc::{AllocError, Global};
 use std::marker::Model;
 
-/// Cells, each once, and the signals of each: the signal `s` says that the cell has the symbol `s`.
+/// A set of cells, each with its signals. The signals of a cell are numbered from 0: signal `s` says that the cell has the
+/// symbol `s`.
 #[derive(Debug, Drop)]
 pub struct Inputs {
-    /// In cell order.
+    /// The cells, in cell order (by z, then y, then x, then the node).
     cells: Vec<Cell>,
     /// The signals of each cell, in the order of the cells.
     signals: Vec<Items<Signal>>,
@@ -43,8 +44,8 @@ impl Inputs {
         }
     }
 
-    /// Adds a cell that comes after all others in cell order, and its signals, by symbol. If memory runs out, the inputs are
-    /// unchanged.
+    /// Adds a cell, which comes after all others in cell order, and its signals, in the order of the symbols. If memory runs
+    /// out, the inputs are unchanged.
     pub fn add(&mut self, cell: Cell, signals: Vec<Signal>) -> Result<(), AllocError>
         requires { All (λ c. cell_cmp c cell ≡ Less) self.old.cells }
         ensures ok { OnOk result (self.new ≡ with_cell self.old cell signals.items) }
@@ -56,8 +57,8 @@ impl Inputs {
         Ok(())
     }
 
-    /// The signal that says that the cell has the symbol. `None` if the inputs don't have the cell, or the symbol isn't below
-    /// the number of its signals.
+    /// The signal that says that the cell has the symbol. `None` if the inputs don't have the cell, or if the symbol isn't less
+    /// than the number of the cell's signals.
     #[tactic(auto, using(crate::specs::lemmas::WiringLaws::read_by_place))]
     pub fn get(&self, cell: &Cell, symbol: u32) -> Option<Signal>
         ensures value { result ≡ wire_of self.now cell.now symbol }
@@ -69,7 +70,7 @@ impl Inputs {
         }
     }
 
-    /// The signals of the cell, by symbol, or `None` if the inputs don't have the cell.
+    /// The signals of the cell, in the order of the symbols, or `None` if the inputs don't have the cell.
     pub fn signals(&self, cell: &Cell) -> Option<&[Signal]>
         ensures { option_copied result ≡ signals_of self.now cell.now }
     {
@@ -100,7 +101,7 @@ fn is_signal(signal: &Signal, variables: u32) -> bool
     1 <= signal.variable && signal.variable <= variables
 }
 
-/// The same for each of the signals.
+/// Whether the variable of each signal is from 1 to `variables`.
 fn are_signals(signals: &[Signal], variables: u32) -> bool
     ensures { result ≡ list_all (is_signal variables) signals.now }
 {

@@ -1,22 +1,22 @@
-//! The law of an automaton's value: its gates say the value wherever they stand in a circuit.
+//! The law of an automaton's value: the signals of its gates say what the value is, wherever the gates stand in a circuit.
 ghost use Rattle.std.specs.List.{All};
 ghost use Rattle.dd_formula.specs.LocalRule.{IsRule};
 ghost use Rattle.dd_compile.specs.Valued.{SaysNear, SaysItsValue};
 
 use dd_formula::{Automaton, Cases};
 
-/// Brings in the invariants of the cases' rules, and does nothing else.
+/// Does nothing. Its contract says that the rules of the cases satisfy the invariant of rules.
 fn rules_are_kept(cases: &Cases)
     ensures { All (λ case. IsRule case.0) cases.now.cases }
 {
     for (rule, _) in cases.cases.as_slice() {
-        // This call brings in a fact: the rule's invariant.
+        // This call tells the proof that the rule satisfies the invariant of rules.
         let _nodes = rule.nodes();
     }
 }
 
-/// The law for any cell that is near enough to the origin: compositions of the automaton's depth read only cells in range
-/// there.
+/// Does nothing. Its contract is the law for any cell so near the origin that an automaton of this depth (how deep its
+/// compositions are nested) reads only cells in the range of positions.
 fn says_near(automaton: &Automaton)
     ensures { SaysNear automaton.now }
 {
@@ -30,8 +30,8 @@ fn says_near(automaton: &Automaton)
     }
 }
 
-/// Brings in the invariants of the rules, and does nothing else. The contract is the law: after any number of variables, the
-/// gates of the automaton's value are over earlier variables, and their signals say the value.
+/// Does nothing. Its contract is the law: however many variables come before the gates of the automaton's value, each gate is
+/// over earlier variables, and the signals of the value say which symbol it is.
 pub fn says_its_value(automaton: &Automaton)
     ensures { SaysItsValue automaton.now }
 {

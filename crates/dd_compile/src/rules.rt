@@ -16,7 +16,7 @@ use dd_formula::Rule;
 use dd_lattice::{Cell, Position, shift};
 use std::alloc::{AllocError, Global};
 
-/// Whether the cell, relative to `at`, has one signal of the circuit for each symbol.
+/// Whether the cell, which is relative to `at`, has one signal of the circuit for each symbol.
 fn is_cell_wired(
     circuit: &Circuit,
     symbols: u32,
@@ -35,7 +35,7 @@ fn is_cell_wired(
     }
 }
 
-/// The same for each of the cells.
+/// Whether each of the cells, which are relative to `at`, has one signal of the circuit for each symbol.
 fn are_cells_wired(
     circuit: &Circuit,
     symbols: u32,

@@ -25,9 +25,9 @@ use dd_lattice::{Cell, Position, shift};
 use std::alloc::{AllocError, Global};
 use std::marker::Model;
 
-/// The gates of a rule at one of its nodes, to be placed at that node of any position. They are a circuit of their own.
-/// Its inputs are a variable for each symbol of each cell that the rule reads there. The cells are numbered from 0 in cell
-/// order: symbol `s` of cell `k` has the variable `1 + k * symbols + s`.
+/// The gates of a rule at one of its nodes, to be placed at that node of any position. The template has a circuit of its own
+/// for them. This circuit has an input for each symbol of each cell that the rule reads at that node of the origin. These cells
+/// are numbered from 0 in cell order: symbol `s` of cell `k` has the variable `1 + k * symbols + s`.
 #[derive(Debug, Drop)]
 pub struct Template<'a> {
     rule: &'a Rule,
@@ -52,7 +52,7 @@ impl<'a> Model for Template<'a> {
     ghost invariant = { λ t. IsTemplate t.rule.now t.node t.circuit t.signal };
 }
 
-/// The signals of the `count` variables after the first `before`.
+/// The signals of the `count` variables that follow the first `before` variables.
 fn fresh(alloc: Global, before: u32, count: u32) -> Result<Vec<Signal>, AllocError>
     requires { before + count ≤ most_variables }
     ensures { IfOk result (λ v. v.items ≡ fresh before count) }
@@ -67,7 +67,7 @@ fn fresh(alloc: Global, before: u32, count: u32) -> Result<Vec<Signal>, AllocErr
     Ok(signals)
 }
 
-/// Inputs for the cells: new variables from 1 on, `symbols` of them for each cell.
+/// Inputs for the cells: new variables, numbered from 1, with `symbols` of them for each cell.
 fn own_inputs(alloc: Global, cells: &[Cell], symbols: u32) -> Result<Inputs, AllocError>
     requires ascending { IsStrictlySortedBy cell_cmp cells.now }
     requires few { length cells.now * symbols ≤ most_variables }
@@ -101,7 +101,7 @@ pub fn compile_template(alloc: Global, rule: &Rule, node: u32) -> Result<Templat
     })
 }
 
-/// The signals of the cell, relative to `at`.
+/// The signals of the cell, which is relative to `at`.
 fn signals_near<'a>(inputs: &'a Inputs, at: &Position, cell: &Cell) -> &'a [Signal]
     requires inside { is_in_range (moved cell.now.position at.now) ≡ true }
     requires there { is_some (signals_of inputs.now (shifted at.now cell.now)) ≡ true }
@@ -114,7 +114,7 @@ fn signals_near<'a>(inputs: &'a Inputs, at: &Position, cell: &Cell) -> &'a [Sign
     inputs.signals(&Cell { position, node }).unwrap()
 }
 
-/// The signals of the cells, relative to `at`, one cell after the other.
+/// The signals of the cells, which are relative to `at`, one cell after the other.
 fn signals_there(
     alloc: Global,
     cells: &[Cell],
@@ -131,8 +131,8 @@ fn signals_there(
     Ok(signals)
 }
 
-/// The signal that takes the place of a template's signal. One of `inputs` takes the place of each input of the template. The
-/// variables after the first `before` take the places of the variables of its gates, in order.
+/// The signal that replaces `signal`, a signal of a template. Each input of the template is replaced by one of `inputs`. The
+/// variables of the template's gates are replaced, in order, by the variables that follow the first `before`.
 fn placed(signal: Signal, inputs: &[Signal], before: u32) -> Signal
     requires signal { IsSignal most_variables signal }
     requires before { before ≤ most_variables }
@@ -153,7 +153,7 @@ fn placed(signal: Signal, inputs: &[Signal], before: u32) -> Signal
     }
 }
 
-/// Replaces the content of `placed_signals` by the signals that take the place of these.
+/// Sets `placed_signals` to the signals that replace those of `signals`, in order.
 fn place_all(
     placed_signals: &mut Vec<Signal>,
     signals: &[Signal],
@@ -171,7 +171,7 @@ fn place_all(
     Ok(())
 }
 
-/// Adds the gate that takes the place of a template's gate. `members` is a buffer for its members.
+/// Adds the gate that replaces `gate`, a gate of a template. `members` is a buffer for the new gate's members.
 fn place_gate(
     circuit: &mut Circuit,
     gate: &Gate,
@@ -205,9 +205,9 @@ fn place_gate(
     Ok(())
 }
 
-/// Adds the gates of the template's rule at the cell `at`, which has the template's node: the same gates in the same order
-/// as `compile_rule` adds. Returns their signal, which says whether the rule is true there. If memory runs out, gates may
-/// have been added.
+/// Adds the gates of the template's rule at the cell `at`, whose node is the template's node. These are the gates that
+/// `compile_rule` adds, in the same order. Returns the rule's signal, which says whether the rule is true at `at`. If memory
+/// runs out, gates may have been added.
 pub fn place_template(
     circuit: &mut Circuit,
     alloc: Global,

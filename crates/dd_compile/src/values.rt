@@ -1,6 +1,8 @@
-//! The gates of the value of an automaton by cases at a cell. They are added in three steps. The gates of the cases' rules come
-//! first. Then comes a gate for each choice: the first case whose rule is true, or the last choice if no rule is true. Exactly
-//! one choice is true. Then comes a gate for each symbol, which says that a choice that gives this symbol is true.
+//! The gates of the value, at a cell, of an automaton that is given by cases. A case has a rule and a symbol. The value is the
+//! symbol of the first case whose rule is true, or the symbol `otherwise` if no rule is true. The gates are added in three
+//! steps. First come the gates of the cases' rules. Then comes a gate for each choice. There is a choice for each case, which
+//! is true if this case is the first whose rule is true. One more choice, the last, is true if no rule is true. So exactly one
+//! choice is true. Last comes a gate for each symbol, which says that some choice that gives this symbol is true.
 ghost use Rattle.std.specs.Prelude.{◌≡◌, ◌≤◌, ◌+◌, ◌-◌, ◌++◌, [], true, All, IfOk, length};
 ghost use Rattle.dd_lattice.specs.Place.{most_coordinate};
 ghost use Rattle.dd_values.specs.Bounds.{most_variables};
@@ -18,8 +20,9 @@ use dd_formula::Cases;
 use dd_lattice::Cell;
 use std::alloc::{AllocError, Global};
 
-/// Adds the gates of the value at the cell `at` of the automaton by these cases, over an alphabet of `symbols` symbols.
-/// Returns for each symbol the signal that says that it is the value. If memory runs out, gates may have been added.
+/// Adds the gates of the value, at the cell `at`, of the automaton that these cases give, over an alphabet of `symbols`
+/// symbols. Returns, for each symbol, the signal that says that this symbol is the value. If memory runs out, gates may have
+/// been added.
 pub fn compile_cases(
     circuit: &mut Circuit,
     alloc: Global,
@@ -45,7 +48,7 @@ pub fn compile_cases(
     give(circuit, alloc, &given, symbols, &chosen)
 }
 
-/// Adds the gates of the cases' rules, one after the other, and returns their signals.
+/// Adds the gates of the cases' rules, one rule after the other. Returns the signal of each rule.
 fn compile_rules(
     circuit: &mut Circuit,
     alloc: Global,
@@ -71,8 +74,8 @@ fn compile_rules(
     Ok(signals)
 }
 
-/// Adds the gates of the choices, and returns their signals. The choice of a case says that its rule is true and no earlier
-/// one is. The last choice says that no rule is true.
+/// Adds the gates of the choices, and returns their signals. The choice of a case says that the case's rule is true and no
+/// earlier rule is. The last choice says that no rule is true.
 fn choose(circuit: &mut Circuit, alloc: Global, rules: &[Signal]) -> Result<Vec<Signal>, AllocError>
     requires few { size circuit.old + length (choices [] rules.now) ≤ most_variables }
     requires in_range { All (IsSignal (size circuit.old)) rules.now }
@@ -107,7 +110,7 @@ fn given_symbols(alloc: Global, cases: &Cases) -> Result<Vec<u32>, AllocError>
     Ok(symbols)
 }
 
-/// The choices that give the symbol, as their signals.
+/// The signals of the choices that give the symbol.
 fn giving(
     alloc: Global,
     given: &[u32],
@@ -126,7 +129,8 @@ fn giving(
     Ok(members)
 }
 
-/// Adds a gate for each symbol, and returns their signals. The gate says that some choice that gives the symbol is true.
+/// Adds a gate for each symbol, and returns the signals of these gates. A symbol's gate says that some choice that gives the
+/// symbol is true.
 fn give(
     circuit: &mut Circuit,
     alloc: Global,

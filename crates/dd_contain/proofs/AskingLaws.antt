@@ -1,4 +1,4 @@
--- What several requests do to a roster, and that a right proposal is an answer.
+-- Right proposals are answers. What several requests do to a roster.
 use Rattle.std.proofs.Common.{List, refl, sym, inl, inr, subst}
 use Rattle.std.specs.Prelude.{◌↔◌}
 use Rattle.dd_clause.specs.Clauses.{ClauseList}
@@ -28,7 +28,7 @@ same_so_far all = inl refl
 pub asked_since : (before after : List Seen) → FirstAsked before after → AskedOrSame before after
 asked_since before after asked = inr asked
 
--- one request, and then perhaps more
+-- after one request, and then perhaps more, the first engine that is left was asked
 pub asked_still : ((before between after : List Seen) → Kept before between → FirstAsked between after → FirstAsked before after)
     → (a b c : List Seen) → Kept a b → FirstAsked a b → AskedOrSame b c → FirstAsked a c
 asked_still earlier a b c kept asked (inl same) = subst (FirstAsked a) (sym same) asked

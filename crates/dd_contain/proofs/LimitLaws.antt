@@ -1,4 +1,4 @@
--- From a question's limits to what the search asks, and from what it finds to the decision.
+-- What the search may ask within a question's limits, and how the decision follows from what the search finds.
 use Rattle.std.proofs.Common.{◌≡◌, ℕ, ◌≤◌, subst, arith}
 use Rattle.std.specs.Prelude.{max}
 use Rattle.dd_derivation.specs.Derivations.{IsRefuting}
@@ -52,7 +52,7 @@ module _ (x : LocalRule) (g : GoalOf) (n p least : ℕ) (rule : IsRule x) (ok : 
       found (No tile) by = by
       found Unknown by = by
 
--- the variables, clauses and steps of a YES keep their bounds
+-- the variables, clauses and steps of a YES stay within their bounds
 pub numbered : (x : LocalRule) (g : GoalOf) (least most d p : ℕ) (decision : Decision) →
     IsDecidedBy (Suffices x g) (RefutesByNumbers x g) (ShowsAt x g) (Displays x g) least most d p decision → HasNumbers x g decision
 numbered x g least most d p (Yes m steps) by = by.1.numbered

@@ -1,4 +1,4 @@
--- If a list has all periods within the limits, the first that satisfies a condition in the list is the first of all.
+-- If an ascending list has all periods within the limits, the first in it that satisfies a condition is the first of all.
 use Rattle.std.proofs.Common.{◌≡◌, ℕ, ◌<◌, List, length, get_or, Some, refl, sym, subst, inl, inr, Contains}
 use Rattle.std.proofs.lemmas.Bool.{cases_order}
 use Rattle.std.proofs.lemmas.Cmp.{nat_cmp_total, on_total, then_total, tied_itself}

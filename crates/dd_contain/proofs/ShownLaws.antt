@@ -1,4 +1,4 @@
--- What the clauses of a torus say of the configuration that is read from an assignment.
+-- What the clauses of a torus say about the configuration that is read from an assignment.
 use Rattle.std.proofs.Common.{◌≡◌, ℕ, ◌*◌, Bool, List, length, sym, subst, ◌∙◌}
 use Rattle.dd_pattern.specs.{declared.periods.Periods.Periods, Periods.periods_volume, Tile.Tile, Tile.IsTile}
 use Rattle.dd_formula.specs.{LocalRule.LocalRule, Living.Fits}

@@ -10,7 +10,7 @@ use Rattle.dd_contain.specs.declared.equal.Equality.TheVariants.{Yes as Same, No
 use Rattle.dd_contain.specs.Questions.{IsDecided}
 use Rattle.dd_problem.specs.Problems.{box_problem}
 
--- The join of two answers. It is NO on the left if the left one is NO, else NO on the right if the right one is NO, else YES if
+-- The join of two answers. It is NO with the left side if the left answer is NO, else NO with the right side if the right answer is NO, else YES if
 -- both are YES, else unknown.
 abbrev pub joined : Decision → Decision → Equality
 joined (No tile) right = Differ Left tile
@@ -28,7 +28,7 @@ UnlessNo (Yes n steps) P = P
 UnlessNo Unknown P = P
 
 -- The answer is the join of two answers. The left one decides whether no configuration of x breaks y, and the right one
--- whether no configuration of y breaks x. If the left answer is NO, the right one may be any.
+-- whether no configuration of y breaks x. If the left answer is NO, the right one may be anything.
 pub record IsEqualDecided (x y : LocalRule) (n p : ℕ) (equality : Equality) : Type 0 where
   pub left : Decision
   pub right : Decision
@@ -45,7 +45,7 @@ HasBothNumbers x y Open = Unit {0}
 
 -- The answer within the limits n on radii and p on periods.
 pub record IsEquality (x y : LocalRule) (n p : ℕ) (equality : Equality) : Type 0 where
-  -- It is the join of the answers of the two questions.
+  -- It is the join of the answers to the two questions.
   pub decided : IsEqualDecided x y n p equality
-  -- The variables, clauses and steps of a YES keep their bounds.
+  -- The variables, clauses and steps of a YES stay within their bounds.
   pub numbered : HasBothNumbers x y equality

@@ -1,4 +1,4 @@
--- The law of the three answers of a box question.
+-- The law of the three answers to a box question.
 use Rattle.std.specs.Prelude.{ℕ, ◌↔◌}
 use Rattle.dd_formula.specs.LocalRule.{LocalRule}
 use Rattle.dd_boxes.specs.{Goals.GoalOf, Boxes.Suffices}
@@ -29,7 +29,7 @@ IsUndecided Unknown = Unit {0}
 abbrev pub IsShown : LocalRule → GoalOf → ℕ → Type 0
 IsShown x g p = (q : Periods) × AreWithin x.dimension p q × ShowsAt x g q
 
--- exactly when each answer comes, where `most` is the radius of the largest box, and periods are at most p
+-- exactly when each answer is given, where `most` is the radius of the largest box, and periods are at most p
 pub record Trichotomy (x : LocalRule) (g : GoalOf) (most p : ℕ) (decision : Decision) : Type 0 where
   pub yes : IsDecidedYes decision ↔ Suffices x g most
   pub no : IsDecidedNo decision ↔ IsShown x g p

@@ -11,7 +11,7 @@ use Rattle.dd_contain.specs.declared.decision.Decision.{Decision}
 use Rattle.dd_contain.specs.declared.decision.Decision.TheVariants.{Yes, No, Unknown}
 use Rattle.dd_contain.specs.Decided.{IsDecidedBy}
 
--- the steps refute the clauses of the box, with at most 2^24 variables and with numbers of clauses and steps that fit in 64 bits
+-- the steps refute the clauses of the box; there are at most 2^24 variables, and the numbers of clauses and steps fit in 64 bits
 pub record RefutesByNumbers (x : LocalRule) (g : GoalOf) (n : ℕ) (steps : List Step) : Type 0 where
   pub refuting : IsRefuting (box_problem x g n) steps
   pub numbered : AreNumbered (box_problem x g n) steps
@@ -37,13 +37,13 @@ pub record AsksPeriods (x : LocalRule) (g : GoalOf) (p : Periods) : Type 0 where
   pub periods : ArePeriods x.dimension p
   pub few : question_clauses x g (tile_volume p) ≤ most_clauses
 
--- the least radius that suffices, from the goal's least radius on; else the first periods that show the goal; else unknown
+-- the least radius that suffices, among those whose boxes hold what the goal reads; else the first periods that show the goal; else unknown
 abbrev pub IsDecided : LocalRule → GoalOf → ℕ → ℕ → Decision → Type 0
 IsDecided x g n p decision =
     (least : ℕ) × IsLeastRadius g least
     × IsDecidedBy (Suffices x g) (λ k steps. IsRefuting (box_problem x g k) steps) (ShowsAt x g) (Displays x g) least (max n least) x.dimension p decision
 
--- a YES has at most 2^24 variables, and the numbers of its clauses and steps fit in 64 bits
+-- the clauses of a YES have at most 2^24 variables, and the numbers of its clauses and steps fit in 64 bits
 abbrev pub HasNumbers : LocalRule → GoalOf → Decision → Type 0
 HasNumbers x g (Yes n steps) = AreNumbered (box_problem x g n) steps
 HasNumbers x g (No tile) = Unit {0}
@@ -53,5 +53,5 @@ HasNumbers x g Unknown = Unit {0}
 pub record IsDecision (x : LocalRule) (g : GoalOf) (n p : ℕ) (decision : Decision) : Type 0 where
   -- It is the least radius that suffices, else the first periods that show the goal, else unknown.
   pub decided : IsDecided x g n p decision
-  -- The variables, clauses and steps of a YES keep their bounds.
+  -- The variables, clauses and steps of a YES stay within their bounds.
   pub numbered : HasNumbers x g decision

@@ -1,4 +1,4 @@
-//! The answer of a box question.
+//! The answer to a box question.
 use dd_derivation::Step;
 use dd_pattern::Periodic;
 use dd_values::Items;
@@ -11,13 +11,14 @@ pub struct Enough {
     pub steps: Items<Step>,
 }
 
-/// The answer of a box question: whether the goal holds nowhere in any configuration that obeys the premise.
+/// The answer to a box question: whether the goal holds nowhere in any configuration that obeys the premise.
 #[derive(Debug, Drop)]
 pub enum Decision {
     /// It holds nowhere. `radius` is the least radius that suffices, and `steps` refute the clauses of its box.
     Yes { radius: u32, steps: Items<Step> },
-    /// It holds at the origin of `periodic`, whose periods and shear are the first of all such configurations.
+    /// It holds at the origin of `periodic`, whose periods and shear come first among those of all such configurations within
+    /// the limits.
     No { periodic: Periodic },
-    /// The search found neither within the limits.
+    /// The search found neither such a radius nor such a configuration within the limits.
     Unknown,
 }

@@ -25,18 +25,19 @@ pub enum Half {
     Right,
 }
 
-/// The answer of the question whether two rules allow the same configurations.
+/// The answer to the question whether two rules allow the same configurations.
 #[derive(Debug, Drop)]
 pub enum Equality {
-    /// No configuration of either rule breaks the other. For each of the two questions this has the least radius that suffices.
+    /// No configuration of either rule breaks the other. Each of `left` and `right` has the least radius that suffices for its
+    /// question.
     Yes { left: Enough, right: Enough },
     /// A configuration of this side's rule that breaks the other rule.
     No { side: Half, periodic: Periodic },
-    /// The search found neither within the limits.
+    /// The search found neither of these answers within the limits.
     Unknown,
 }
 
-/// Joins the answers of the two questions.
+/// Joins the answers to the two questions.
 fn joined(left: Decision, right: Decision) -> Equality
     ensures { result ≡ joined left right }
 {
@@ -69,7 +70,7 @@ fn joined(left: Decision, right: Decision) -> Equality
 }
 
 /// Decides whether two rules allow the same configurations. The left question asks whether no configuration of `left` breaks
-/// `right`. The right question exchanges the two. Limits and roster are used as in `decide`. The answer is:
+/// `right`. The right question exchanges the two rules. Limits and roster are used as in `decide`. The answer is:
 /// - NO, with the left side, if the left answer is NO;
 /// - otherwise NO, with the right side, if the right answer is NO;
 /// - otherwise YES if both answers are YES;

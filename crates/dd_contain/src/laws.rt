@@ -1,4 +1,4 @@
-//! The law of the three answers of a box question.
+//! The law of the three answers to a box question.
 ghost use Rattle.std.specs.Prelude.{ℕ, max};
 ghost use Rattle.dd_boxes.specs.Goals.{IsGoalFor};
 ghost use Rattle.dd_boxes.specs.Boxes.{IsLeastRadius};
@@ -11,9 +11,9 @@ use dd_boxes::{Goal, one_box};
 use dd_formula::Rule;
 
 /// Does nothing. Its contract says exactly when `decide` gives each answer:
-/// - YES if the largest box within the limits has no admissible filling with the goal at the origin.
+/// - YES if the largest box that the search may try has no admissible filling with the goal at the origin.
 /// - NO if some configuration of periods within the limits obeys the premise and has the goal at the origin.
-/// - Unknown if neither holds. They never both hold.
+/// - Unknown if neither condition holds. The two never hold together.
 pub fn trichotomy(premise: &Rule, goal: &Goal)
     requires { IsGoalFor premise.now (goal_of premise.now goal.now) }
     ensures { (n p least : ℕ) (decision : AnyDecision) → IsLeastRadius (goal_of premise.now goal.now) least → IsDecided premise.now (goal_of premise.now goal.now) n p decision

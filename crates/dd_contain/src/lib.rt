@@ -1,6 +1,11 @@
-//! Decides box questions, and whether two rules allow the same configurations. The search goes through boxes of growing
-//! radius, until one has no admissible filling with the goal at the origin: its radius suffices. Then it goes through tori of
-//! growing volume, until a configuration has the goal.
+//! Decides box questions, and whether two rules allow the same configurations. A box question has a rule, the premise, and a
+//! goal: a property of a position, such as that a given rule is broken there. It asks whether the goal holds nowhere in any
+//! configuration that obeys the premise.
+//!
+//! The search goes through boxes of growing radius, until one has no admissible filling with the goal at the origin: its radius
+//! suffices. (A filling is admissible if the premise is true at each of its cells where all that the premise reads has a symbol.)
+//! If none of the radii that may be tried suffices, the search goes through tori of growing volume, each given by its periods,
+//! until a configuration of these periods obeys the premise and has the goal.
 #![tactic(auto)]
 
 mod decision;

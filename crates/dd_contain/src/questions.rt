@@ -1,4 +1,4 @@
-//! Box questions as the search asks them: each box and each torus is a list of clauses to be satisfied or refuted.
+//! Box questions as the search asks them: each box and each torus becomes a list of clauses to be satisfied or refuted.
 ghost use Rattle.std.specs.Prelude.{◌≡◌, ◌↔◌, ◌≤◌, true, IfOk, IfSome};
 ghost use Rattle.dd_boxes.specs.Boxes.{Suffices};
 ghost use Rattle.dd_boxes.specs.Goals.{IsGoalFor};
@@ -31,14 +31,14 @@ fn evidence(alloc: Global, cnf: &Cnf, steps: Items<Step>) -> Result<Items<Step>,
     ensures numbered { IfOk result (AreNumbered cnf.now) }
 {
     let used = trimmed(alloc, cnf, steps)?;
-    // These calls tell the proof the bounds of these numbers.
+    // These calls tell the proof the bounds on the variables and on the numbers of clauses and steps.
     let _variable = cnf.variables();
     let _number = last_number(cnf, used.as_slice());
     Ok(used)
 }
 
 /// Whether the clauses can be satisfied, with evidence. This is the proposal of an engine of the roster, if one makes a right
-/// proposal. Otherwise it is what the solver finds in this style.
+/// proposal. Otherwise it is what the solver finds in the given style.
 fn outcome<E: Engine>(
     alloc: Global,
     cnf: &Cnf,
@@ -59,7 +59,7 @@ fn outcome<E: Engine>(
 /// A torus of at least this many positions is searched in the focused style.
 const LARGE_TORUS: u32 = 25;
 
-/// The style of search for these periods. A small torus is searched in the broad style, as a box is.
+/// The style of search for these periods. A small torus is searched in the broad style, as a box is for most goals.
 fn style_of(at: &Periods) -> Style {
     if at.x.saturating_mul(at.y).saturating_mul(at.z) >= LARGE_TORUS {
         Style::Focused
@@ -68,8 +68,8 @@ fn style_of(at: &Periods) -> Style {
     }
 }
 
-/// The style of search for a box. It is broad, except for the question whether two automata agree: that depends on their gates
-/// more than on the cells.
+/// The style of search for a box. It is broad, except for the question whether two automata agree, which depends on the
+/// automata's gates more than on the cells.
 fn box_style(goal: &Goal) -> Style {
     match goal {
         Goal::Differ(_, _) => Style::Focused,
@@ -119,7 +119,7 @@ impl<'a> Questions for BoxQuestion<'a> {
     ) -> Result<Option<Periodic>, AllocError> {
         // A law: a roster that is not asked stays as it is.
         kept_is_reflexive();
-        // This call brings in a fact: what a rule keeps.
+        // This call tells the proof what the type of the premise guarantees.
         let _nodes = self.premise.nodes();
         let periods = [at.x, at.y, at.z];
         let cnf = torus_clauses(self.alloc, self.premise, self.goal, periods, at.shear)?;
@@ -135,19 +135,19 @@ impl<'a> Questions for BoxQuestion<'a> {
     }
 }
 
-/// Decides a box question. The radius of boxes is at most that of the limits, or the goal's least radius if that is greater.
-/// Periods are at most that of the limits. The answer is:
+/// Decides a box question. The radius of a box is at most the limit, or at most the least radius whose box holds all that the
+/// goal reads at the origin, if that is greater. Periods are at most their limit. The answer is:
 /// - YES, with the least radius that suffices;
 /// - otherwise NO, with a configuration that obeys the premise and has the goal at the origin. Its periods and shear come first
 ///   among those of all such configurations, ordered by volume and then lexicographically;
 /// - otherwise unknown.
 ///
 /// Each list of clauses goes to the roster first, without a copy. If no engine proposes a right answer, the solver decides.
-/// So engines change only the time, and which steps or which configuration with those periods is shown. An engine that takes
-/// too much memory may prevent a decision.
+/// So engines change only the time, which steps are shown, and which configuration of the first periods is shown. An engine
+/// that takes too much memory may prevent a decision.
 ///
-/// Each sound engine stays in the roster, in order. On success the first engine that is left was asked, and only engines that
-/// aren't sound were dropped before it.
+/// Each sound engine stays in the roster, in order. On success, if any engine is left, the first of them was asked. All engines
+/// that stood ahead of it were dropped, and none of these was sound.
 ///
 /// # Errors
 /// `AllocError` if memory ran out.

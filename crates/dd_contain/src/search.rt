@@ -17,8 +17,8 @@ use dd_pattern::{Periodic, Periods};
 use dd_values::Items;
 use std::alloc::{AllocError, Global};
 
-/// What the search asks: whether a radius suffices, and whether some configuration of given periods shows the goal. Each answer
-/// comes with its evidence. The roster's engines may help. A set of periods includes its shear.
+/// What the search asks: whether a radius suffices, and whether some configuration of given periods shows the goal. Each yes
+/// comes with its evidence. The roster's engines may help. Periods always include their shear here.
 pub(crate) trait Questions {
     /// The radius suffices.
     ghost suffices: { Self → ℕ → Type 0 };
@@ -137,9 +137,9 @@ fn first_periods<Q: Questions, E: Engine>(
     first_listed(questions, &all, roster)
 }
 
-/// The decision: the least radius from `least` to `most` that suffices. If none does, it is the first periods that show the goal,
-/// in `dim` dimensions and at most `period` along each axis. Periods are ordered by volume, then lexicographically, the shear
-/// last.
+/// The decision: the least radius from `least` to `most` that suffices; else a configuration of the first periods that show the
+/// goal, in `dim` dimensions and at most `period` along each axis; else unknown. Periods are ordered by volume, then
+/// lexicographically, with the shear last.
 #[tactic(auto, using(crate::proofs::AskingLaws::asked_still))]
 pub(crate) fn search<Q: Questions, E: Engine>(
     alloc: Global,

@@ -13,7 +13,7 @@ module _ (x : LocalRule) (p : Periods) (ws : List ℕ) (below : ℕ) (clauses : 
       let shown = shows.each set satisfied in
       one_each_read x p set shown.0 shown.1.witness.tile shown.1.along shown.1.witness.fits shown.2
 
-  -- what is read is the configuration that the assignment stands for
+  -- the configuration that is read is the one that the assignment stands for
   pub read_light : (set : ℕ → Bool) → Satisfies set clauses → (t : Tile) → IsTile t → HasPeriods p t → Fits x t →
       ((u : Tile) → HasPeriods p u → Fits x u → AreRead set x.symbols u.symbols → length u.symbols ≡ length t.symbols → u ≡ t) → IsLightWitness x p ws below t
   read_light set satisfied t tile has fit only =

@@ -26,7 +26,7 @@ inputs_there x p ws cnf nodes rule ok same is known =
     subst (λ c. periods_volume p * nodes * length ws ≤ c.variables) (sym is)
     (subst (λ n. periods_volume p * n * length ws ≤ (torus_problem x always p).variables) (sym known) (inputs_within x p (length ws) rule ok same))
 
--- the list is the problem's clauses
+-- the list that was made has exactly the clauses of the problem
 pub exactly : (base cnf now new : ClauseList) (ws : List ℕ) (below cells c : ℕ) (signals : List Signal) → cnf ≡ base → cells ≡ c → now ≡ grown cnf (rows ws below cells 0 [] cnf.variables).gates →
     signals ≡ (rows ws below cells 0 [] cnf.variables).signals → new.variables ≡ now.variables → new.clauses ≡ now.clauses ++ last_refused below signals →
     new ≡ weighed base ws below c
@@ -36,7 +36,7 @@ exactly base cnf now new ws below cells c signals is count made said wide last =
     (last ∙ (ap (λ k. k.clauses ++ last_refused below signals) made ∙ ap (λ xs. (grown cnf all.gates).clauses ++ last_refused below xs) said))
     ∙ (ap (λ k. weighed cnf ws below k) count ∙ ap (λ k. weighed k ws below c) is)
 
--- the list says what it should
+-- the list has the meaning that `ShowsWeights` states
 pub shown : (x : LocalRule) (p : Periods) (ws : List ℕ) (below : ℕ) (new : ClauseList) → IsRule x → AreTorusPeriods x.dimension x.nodes p → length ws ≡ x.symbols → new ≡ weight_problem x p ws below →
     ShowsWeights new.clauses x p ws below
 shown x p ws below new rule ok same exact = subst (λ k. ShowsWeights k.clauses x p ws below) (sym exact) (weight_shows x p ws below rule ok same)
@@ -51,7 +51,7 @@ pub few_there : (base cnf : ClauseList) (ws : List ℕ) (below cells c most : �
 few_there base cnf ws below cells c most is count few =
     subst (λ k. (weighed k ws below cells).variables ≤ most) (sym is) (subst (λ k. (weighed base ws below k).variables ≤ most) (sym count) few)
 
--- the count bounds the variables
+-- if `weight_count` is within its limit, so is the number of variables
 pub enough : (d : ℕ) (x : LocalRule) (p : Periods) (ws : List ℕ) (below : ℕ) → ArePeriodsIn d p → weight_count x p ws below ≤ 2000000 → (weight_problem x p ws below).variables ≤ 2 ^ 24
 enough d x p ws below ok few =
     let base = torus_problem x always p in

@@ -1,5 +1,5 @@
--- The counter: gates that say how much the first cells weigh. Each cell has a row of signals. The signal at t, from 0,
--- says that the cells up to this one weigh more than t. `ws` lists the weight of each symbol.
+-- The counter: gates that say how much the first cells weigh. Each cell has a row of signals. The signal at t, counted from 0, says that the cells up
+-- to and including this one weigh more than t. `ws` lists the weights of the symbols.
 use Rattle.std.specs.Prelude.{ℕ, zero, suc, ◌+◌, ◌-◌, Bool, true, false, nat_lt, List, [], ◌∷◌, ◌++◌, map, length, Option, Some, None, slice_get, slice_index}
 use Rattle.std.specs.List.{range_with_len}
 use Rattle.dd_clause.specs.{declared.clause.Literal.Literal, Clauses.ClauseList}
@@ -9,7 +9,7 @@ use Rattle.dd_cnf.specs.Encoding.{gates_clauses, opposing}
 use Rattle.dd_compile.specs.Compiling.{AllMade}
 use Rattle.dd_problem.specs.Clauses.{input}
 
--- from the number of variables before: the gates that are added, and signals over them
+-- a making: given the number of variables so far, the gates that are added, and signals over the variables and these gates
 abbrev pub Making : Type 0
 Making = ℕ → AllMade
 
@@ -24,35 +24,36 @@ joined (m ∷ ms) n =
     let rest = joined ms (n + length (m n).gates) in
     making ((m n).signals ++ rest.signals) ((m n).gates ++ rest.gates)
 
--- how a symbol makes the cells up to its own weigh more than t: by itself, together with the cells before, or not at all
+-- The member for a symbol of a cell. Its signal says that the cell has the symbol, and that the cells up to and including it then weigh more than t.
+-- There are three cases: the symbol weighs enough by itself, it may do so together with the cells before, or it can't, and there is no signal.
 abbrev pub member_by : Signal → Bool → Option Signal → Making
 member_by input true earlier n = making (input ∷ []) []
 member_by input false (Some r) n = making (signal_of (suc n) ∷ []) (And (input ∷ r ∷ []) ∷ [])
 member_by input false None n = making [] []
 
--- the same for a symbol that weighs w, where `before` is the row of the cell before
+-- the member for a symbol that weighs w, where `before` is the row of the cell before
 abbrev pub member : Signal → ℕ → ℕ → List Signal → Making
 member input w t before = member_by input (nat_lt t w) (slice_get before (t - w))
 
--- the same for the symbol s of the cell with the number k
+-- the member for the symbol s of the cell with the number k
 abbrev pub of_symbol : List ℕ → ℕ → ℕ → List Signal → ℕ → Making
 of_symbol ws k t before s = member (signal_of (input (length ws) k s)) (slice_index ws s) t before
 
--- the same for each symbol of the cell
+-- the members for all symbols of the cell with the number k
 abbrev pub members : List ℕ → ℕ → ℕ → List Signal → List Making
 members ws k t before = map (of_symbol ws k t before) (range_with_len 0 (length ws))
 
--- the gates of the symbols, and then the gate that says that the cells up to the cell k weigh more than t
+-- the gates of the members, and then the gate that says that the cells up to and including the cell k weigh more than t
 abbrev pub count : List ℕ → ℕ → List Signal → ℕ → Making
 count ws k before t n =
     let each = joined (members ws k t before) n in
     making (signal_of (suc (n + length each.gates)) ∷ []) (each.gates ++ Or each.signals ∷ [])
 
--- the row of the cell k: its gates at 0, 1, .. up to below - 1
+-- the row of the cell k: its signals at 0, 1, .. up to below - 1, with their gates
 abbrev pub row : List ℕ → ℕ → ℕ → List Signal → Making
 row ws below k before = joined (map (count ws k before) (range_with_len 0 below))
 
--- the rows of c cells from k on, each over the one before it; the signals are those of the last row
+-- the rows of c cells, from the cell k on, each over the row before it; the signals are those of the last row
 abbrev pub rows : List ℕ → ℕ → ℕ → ℕ → List Signal → Making
 rows ws below zero k before n = making before []
 rows ws below (suc c) k before n =
@@ -60,11 +61,11 @@ rows ws below (suc c) k before n =
     let rest = rows ws below c (k + 1) first.signals (n + length first.gates) in
     making rest.signals (first.gates ++ rest.gates)
 
--- the clauses, and then those of more gates
+-- a clause list to which gates are added: one variable for each gate, and the clauses of the gates
 abbrev pub grown : ClauseList → List Gate → ClauseList
 grown cnf gates = record { variables = cnf.variables + length gates; clauses = cnf.clauses ++ gates_clauses cnf.variables gates }
 
--- the clause that says that the signal is false, if there is one
+-- if there is a signal, the clause that says that it is false
 abbrev pub refusal_of : Option Signal → List (List Literal)
 refusal_of None = []
 refusal_of (Some r) = (opposing r ∷ []) ∷ []
@@ -74,7 +75,7 @@ refusal_of (Some r) = (opposing r ∷ []) ∷ []
 abbrev pub last_refused : ℕ → List Signal → List (List Literal)
 last_refused below signals = refusal_of (slice_get signals (below - 1))
 
--- the clauses, and then, if `below` is at least 1, those that say that the c cells weigh less than `below`
+-- the clause list and then, if `below` is at least 1, the clauses that say that the c cells weigh less than `below`
 abbrev pub weighed : ClauseList → List ℕ → ℕ → ℕ → ClauseList
 weighed cnf ws below c =
     let all = rows ws below c 0 [] cnf.variables in

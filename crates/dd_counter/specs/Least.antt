@@ -27,7 +27,7 @@ pub record IsRefutedBelow (x : LocalRule) (p : Periods) (ws : List ℕ) (w : ℕ
   pub refuting : IsRefuting (weight_problem x p ws w) steps
   pub numbered : AreNumbered (weight_problem x p ws w) steps
 
--- the living configuration has the least weight w, and the steps refute the clauses that ask for less; there are none for w = 0
+-- the living configuration has the least weight w, and the steps refute the clauses that ask for less; there are no steps if w is 0
 pub record IsLeastShown (x : LocalRule) (p : Periods) (ws : List ℕ) (w : ℕ) (t : Tile) (steps : List Step) : Type 0 where
   pub least : LeastOn x p ws w
   pub lives : IsLiving x p t
@@ -35,7 +35,7 @@ pub record IsLeastShown (x : LocalRule) (p : Periods) (ws : List ℕ) (w : ℕ) 
   pub refutes : 0 < w → IsRefutedBelow x p ws w steps
   pub empty : w ≡ 0 → steps ≡ []
 
--- what the search for the least weight gives is right
+-- the result of the search for the least weight is right
 abbrev pub IsLeast : LocalRule → Periods → List ℕ → LeastWeight → Type 0
 IsLeast x p ws (Least w t steps) = IsLeastShown x p ws w t steps
 IsLeast x p ws (Nothing steps) = NoneOn x p × IsRefutedBelow x p ws 0 steps

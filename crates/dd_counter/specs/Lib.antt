@@ -2,11 +2,11 @@
 pub mod Counter
 -- the clauses that ask for a configuration whose weight is below a bound, and when clauses do so
 pub mod Weights
--- the least weight, and when no configuration lives
+-- the least weight of the configurations that live in a rule's subshift (obey the rule at every cell), and when none lives
 pub mod Least
 -- what a refutation says about the weights of all configurations
 pub mod Laws
--- what the search for a lighter configuration answers
+-- what the search for a lighter configuration returns
 pub mod searching
 -- lemmas on these definitions, with their proofs
 pub mod lemmas

@@ -28,7 +28,7 @@ pub record IsLightWitness (x : LocalRule) (periods : Periods) (ws : List ℕ) (b
   pub witness : IsWitness x always t
   pub light : IsLight below ws t
 
--- Each satisfying assignment stands for such a configuration, and each such one is read from some satisfying assignment.
+-- Each satisfying assignment stands for such a configuration, and each such configuration is read from some satisfying assignment.
 pub record ShowsWeights (clauses : List (List Literal)) (x : LocalRule) (periods : Periods) (ws : List ℕ) (below : ℕ) : Type 0 where
   pub each : (set : ℕ → Bool) → Satisfies set clauses → (t : Tile) × IsLightWitness x periods ws below t × AreRead set x.symbols t.symbols
   pub every : (t : Tile) → IsLightWitness x periods ws below t → (set : ℕ → Bool) × Satisfies set clauses × AreRead set x.symbols t.symbols

@@ -1,5 +1,6 @@
-//! The counter: gates that say how much the first cells weigh. Each cell has a row of gates, over the row of the cell
-//! before. The gate at `most`, from 0, says that the cells up to this one weigh more than `most`.
+//! The counter: gates that say how much the first cells weigh. Each cell has a row of signals, which are the outputs of gates
+//! over the row of the cell before. The signal at `most`, counted from 0, says that the cells up to and including this one weigh
+//! more than `most`.
 ghost use Rattle.std.specs.Prelude.{◌≡◌, ◌≤◌, ◌<◌, ◌+◌, ◌*◌, ◌++◌, ◌∷◌, [], suc, length, All, IfOk, OnOk};
 ghost use Rattle.dd_values.specs.Bounds.{most_variables};
 ghost use Rattle.dd_circuit.specs.Circuits.{IsSignal, IsGate, signal_of};
@@ -12,7 +13,7 @@ use dd_cnf::{literal_of, push_clause, push_gate};
 use dd_values::Items;
 use std::alloc::{AllocError, Global};
 
-/// Adds a gate with its clauses, and returns its signal.
+/// Adds a new variable for the gate, and the clauses that say that it has the gate's value. Returns the signal of this variable.
 fn push_next(alloc: Global, cnf: &mut Cnf, gate: &Gate) -> Result<Signal, AllocError>
     requires few { cnf.old.variables < most_variables }
     requires members { IsGate cnf.old.variables gate.now }
@@ -28,7 +29,7 @@ fn push_next(alloc: Global, cnf: &mut Cnf, gate: &Gate) -> Result<Signal, AllocE
     })
 }
 
-/// The signal that says that the cell with this number has the symbol.
+/// The signal that says that the cell with this number has this symbol.
 fn input_of(number: u32, symbols: u32, symbol: u32) -> Signal
     requires few { number * symbols + symbols ≤ most_variables }
     requires known { symbol < symbols }
@@ -40,9 +41,9 @@ fn input_of(number: u32, symbols: u32, symbol: u32) -> Signal
     }
 }
 
-/// Appends a signal to `members`. It says that a cell has the symbol of the input `from`, and that the cells up to it then weigh more
-/// than `most`. The symbol weighs `weight`, and `before` is the row of the cell before. Appends nothing if there is no such row, and
-/// the symbol alone doesn't weigh enough.
+/// Appends a signal to `members`. It says that a cell has the symbol of the input `from`, and that the cells up to and including
+/// it then weigh more than `most`. The symbol weighs `weight`, and `before` is the row of the cell before. If there is no such
+/// row, and the symbol alone doesn't weigh enough, nothing is appended.
 fn push_member(
     alloc: Global,
     cnf: &mut Cnf,
@@ -74,8 +75,8 @@ fn push_member(
     Ok(())
 }
 
-/// Adds the gates of a cell at `most`, those of its symbols first. Returns the signal that says that the cells up to this one weigh
-/// more than `most`.
+/// Adds the gates for one signal of a cell's row: first those for the symbols, then the one that combines them. Returns the
+/// signal, which says that the cells up to and including this one weigh more than `most`.
 fn push_count(
     alloc: Global,
     cnf: &mut Cnf,
@@ -109,8 +110,8 @@ fn push_count(
     Ok(signal)
 }
 
-/// Adds the row of a cell. Returns its signals, which say that the cells up to this one weigh more than 0, more than 1, and so
-/// on, up to more than `below - 1`.
+/// Adds the gates for a cell's row. Returns its signals, which say that the cells up to and including this one weigh more than 0,
+/// more than 1, and so on, up to more than `below - 1`.
 fn push_row(
     alloc: Global,
     cnf: &mut Cnf,
@@ -134,8 +135,8 @@ fn push_row(
     Ok(signals)
 }
 
-/// Adds the rows of all cells. Returns the signals of the last row, which say how much all cells weigh. At most two rows of
-/// signals are in memory at a time.
+/// Adds the gates for the rows of all cells. Returns the signals of the last row, which say how much all cells weigh together. At
+/// most two rows of signals are in memory at a time.
 pub(crate) fn push_rows(
     alloc: Global,
     cnf: &mut Cnf,
@@ -156,8 +157,8 @@ pub(crate) fn push_rows(
     Ok(before)
 }
 
-/// Adds the clause that says that the last of `below` signals is false. This signal says that the cells weigh at least `below`. Adds
-/// nothing if there is no signal.
+/// Adds the clause that says that the last of the `below` signals is false. This signal says that all cells together weigh at
+/// least `below`. If there is no signal, nothing is added.
 pub(crate) fn push_refusal(
     alloc: Global,
     cnf: &mut Cnf,

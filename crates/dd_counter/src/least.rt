@@ -1,17 +1,24 @@
-//! The search for a configuration of least weight on a torus. After each configuration that is found, a lighter one is searched
-//! for, until that is refuted. While the weight is high, much lighter ones are asked for, so that few searches are needed.
-ghost use Rattle.std.specs.Prelude.{◌≡◌, ◌≤◌, ◌*◌, length, All, IfOk};
+//! The search for a configuration of least weight on a torus. A local search makes the first configuration lighter. Then, after
+//! each configuration that is found, a lighter one is searched for, until a refutation shows that there is none. While the weight
+//! may still be far above the least one, the search asks for much lighter configurations, so that few searches are needed.
+ghost use Rattle.std.specs.Prelude.{◌≡◌, ◌≤◌, ◌*◌, ◌↔◌, length, All, IfOk};
 ghost use Rattle.dd_values.specs.Bounds.{most_variables, most_weight};
 ghost use Rattle.dd_pattern.specs.Periods.{periods_of, periods_volume};
 ghost use Rattle.dd_boxes.specs.Goals.{always};
 ghost use Rattle.dd_boxes.specs.Counts.{most_clauses};
 ghost use Rattle.dd_boxes.specs.TorusPeriods.{AreTorusPeriods};
+ghost use Rattle.dd_solver.specs.Answers.{IsAnswer, IsRefuted, IsSatisfiable};
 ghost use Rattle.dd_counter.specs.Weights.{weight_count};
 ghost use Rattle.dd_counter.specs.Least.{greatest, IsLiving, IsLeast};
 ghost use Rattle.dd_counter.specs.searching.Lighter.{IsLighter};
 
+use crate::living::living;
+use crate::local_search::LocalSearch;
+use crate::torus_rule::TorusRule;
 use crate::weights::weight_clauses;
+use dd_clause::Cnf;
 use dd_derivation::{Outcome, Step, last_number};
+use dd_elimination::solve_reduced;
 use dd_formula::Rule;
 use dd_pattern::Periodic;
 use dd_problem::read_torus;
@@ -19,30 +26,49 @@ use dd_solver::{solve, trimmed};
 use dd_values::Items;
 use std::alloc::{AllocError, Global};
 
+/// A torus on which the rule takes more clauses than this isn't searched locally.
+const MOST_LOCAL_CLAUSES: u64 = 200_000;
+
+/// The first step of the descent. The descent ends once the weight is known to be at most this much above the least weight.
+const NEAR: u64 = 32;
+
 /// The least weight of the configurations of given periods that live in a rule's subshift.
 #[derive(Debug, Drop)]
 pub enum LeastWeight {
-    /// The least weight, and a configuration that has it. The steps refute that a configuration weighs less. There are none if the
-    /// weight is 0.
+    /// The least weight, and a configuration that has it. The steps refute the clauses that ask for a smaller weight. There are
+    /// no steps if the weight is 0.
     Least {
         weight: u64,
         periodic: Periodic,
         steps: Items<Step>,
     },
-    /// No configuration lives. The steps refute that one does.
+    /// No configuration lives in the subshift. The steps refute the clauses that ask for one.
     Nothing {
         steps: Items<Step>,
     },
 }
 
-/// What a search gives: a configuration that weighs less than a bound, or steps that refute that there is one.
+/// The result of one search: a configuration that weighs less than a bound, or steps that refute the clauses that ask for one.
 #[derive(Drop)]
 enum Lighter {
     Found(Periodic),
     Nothing(Items<Step>),
 }
 
-/// Looks for a configuration that lives and, if `below` is at least 1, weighs less than `below`.
+/// Finds an assignment that satisfies the clauses, or steps that refute them. Without a bound on the weight, the list is usually
+/// easy to satisfy, and eliminating variables would take longer than the search.
+fn solved(alloc: Global, cnf: &Cnf, below: u64) -> Result<Outcome, AllocError>
+    ensures answer { IfOk result (IsAnswer cnf.now.variables cnf.now.clauses) }
+    ensures refuted { IfOk result (λ outcome. IsRefuted outcome ↔ ¬ (IsSatisfiable cnf.now.clauses)) }
+{
+    if below == 0 {
+        solve(alloc, cnf)
+    } else {
+        solve_reduced(alloc, cnf)
+    }
+}
+
+/// Searches for a configuration that lives in the rule's subshift and, if `below` is at least 1, weighs less than `below`.
 fn search_below(
     alloc: Global,
     rule: &Rule,
@@ -56,7 +82,7 @@ fn search_below(
     ensures { IfOk result (IsLighter rule.now (periods_of periods 0) weights.now below) }
 {
     let cnf = weight_clauses(alloc, rule, periods, weights, below)?;
-    match solve(alloc, &cnf)? {
+    match solved(alloc, &cnf, below)? {
         Outcome::Found(found) => {
             let periodic = read_torus(alloc, rule, periods, 0, &found)?;
             // This call tells the proof what the type guarantees.
@@ -73,12 +99,32 @@ fn search_below(
     }
 }
 
-/// The first step of the descent. The descent ends once the weight is known to be at most this much above the least one.
-const NEAR: u64 = 32;
+/// A living configuration that a local search finds from the given one. It is usually lighter.
+fn lightened(
+    alloc: Global,
+    rule: &Rule,
+    periods: [u32; 3],
+    weights: &[u32],
+    start: Periodic,
+) -> Result<Periodic, AllocError>
+    requires lives { IsLiving rule.now (periods_of periods 0) start }
+    ensures { IfOk result (IsLiving rule.now (periods_of periods 0)) }
+{
+    let Some(torus) = TorusRule::new(alloc, rule, &start, MOST_LOCAL_CLAUSES)? else {
+        return Ok(start);
+    };
+    let search = LocalSearch::new(alloc, rule, &torus, weights, start.symbols())?;
+    let symbols = search.run(alloc)?;
+    match living(rule, periods, symbols) {
+        Some(lighter) => Ok(lighter),
+        None => Ok(start),
+    }
+}
 
-/// The descent: from `start` to a living configuration that weighs at most `NEAR` more than the least weight. Each search asks for
-/// one that is lighter by more than `step`. If that leaves only refuted weights, it asks for one that weighs `refuted`. A success
-/// doubles the step, and a refutation sets it back to `NEAR`.
+/// The descent: goes from the living configuration `start` to one that weighs at most `NEAR` more than the least weight. After a
+/// local search, each search asks for a configuration that is lighter than the last one by more than `step`. If all weights that
+/// small are refuted, it asks for one that weighs `refuted`, the least weight that is not refuted. A success doubles the step, and
+/// a refutation sets it back to `NEAR`.
 fn descended(
     alloc: Global,
     rule: &Rule,
@@ -94,7 +140,7 @@ fn descended(
     requires lives { IsLiving rule.now (periods_of periods 0) start }
     ensures { IfOk result (IsLiving rule.now (periods_of periods 0)) }
 {
-    let mut best = start;
+    let mut best = lightened(alloc, rule, periods, weights, start)?;
     let mut weight = best.weight(weights);
     // No living configuration weighs less than this.
     let mut refuted: u64 = 0;
@@ -116,8 +162,8 @@ fn descended(
     Ok(best)
 }
 
-/// The least weight of one fundamental box over the configurations of these periods, with shear 0, that live in the rule's
-/// subshift, or that none lives. The symbol `s` weighs `weights[s]`.
+/// The least weight of a configuration with these periods and shear 0 that lives in the rule's subshift, or that there is no such
+/// configuration. The weight is that of one fundamental box, and the symbol `s` weighs `weights[s]`.
 pub fn least_weight(
     alloc: Global,
     rule: &Rule,

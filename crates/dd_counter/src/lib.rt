@@ -1,9 +1,14 @@
-//! Configurations of least weight on a torus: the clauses that ask for a weight below a bound, and the search for the least.
+//! Configurations of least weight on a torus: the clauses that ask for a weight below a bound, and the search for the least
+//! weight. A torus stands for the configurations with given periods. The weight of a configuration is the sum of the weights of
+//! the symbols in one fundamental box. A configuration lives in a rule's subshift if it obeys the rule at every cell.
 #![tactic(auto)]
 
 mod counter;
 mod laws;
 mod least;
+mod living;
+mod local_search;
+mod torus_rule;
 mod weights;
 
 pub use laws::least_law;

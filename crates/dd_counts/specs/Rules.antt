@@ -1,38 +1,39 @@
--- How many patterns a rule has at a node, how many states its transfer graph has over a strip, and the limits on both.
+-- How many patterns a rule has at a node, how many states its transfer graph has over a strip, and the limits on both. The vertices of a transfer
+-- graph are states. A state is a filling of successive slices, and a slice of a strip has the cells of one x.
 use Rattle.std.specs.Prelude.{ℕ, ◌+◌, ◌-◌, ◌*◌, ◌^◌, max, ℤ, pos, ◌-ℤ◌, unsigned_abs, List, length}
 use Rattle.std.specs.{Int.int_min, Int.int_max, List.fold}
 use Rattle.dd_lattice.specs.declared.position.Cell.{Cell}
 use Rattle.dd_formula.specs.{LocalRule.LocalRule, LocalRule.cells_at, Reach.all_cells}
 
--- a rule may have at most so many patterns at a node
+-- the greatest number of patterns that a rule may have at a node
 abbrev pub most_patterns : ℕ
 most_patterns = 65536
 
--- a transfer graph may have at most so many states
+-- the greatest number of states that a transfer graph may have
 abbrev pub most_states : ℕ
 most_states = 4096
 
--- a transfer graph may have at most so many windows; a window is a longer state, with one slice more
+-- the greatest number of windows that a transfer graph may have; a window is like a state, but has one more slice
 abbrev pub most_longer_states : ℕ
 most_longer_states = 131072
 
--- the number of fillings of the cells that a rule reads at a node
+-- the number of patterns of a rule at a node: fillings of the cells that the rule reads there
 abbrev pub pattern_count : LocalRule → ℕ → ℕ
 pattern_count r a = r.symbols ^ length (cells_at r a)
 
--- the least of a number and the x of each cell
+-- the least of a number and the x coordinates of the cells
 abbrev pub least_x : ℤ → List Cell → ℤ
 least_x from cs = fold (λ x c. int_min x c.position.x) from cs
 
--- the greatest of a number and the x of each cell
+-- the greatest of a number and the x coordinates of the cells
 abbrev pub greatest_x : ℤ → List Cell → ℤ
 greatest_x from cs = fold (λ x c. int_max x c.position.x) from cs
 
--- the number of slices from the first to the last that the rule reads at a cell; the cell's own slice is among them
+-- the number of slices from the first to the last that the rule reads when it is evaluated at a cell; the cell's own slice always counts as read
 abbrev pub slice_span : LocalRule → ℕ
 slice_span r = unsigned_abs (greatest_x (pos 0) (all_cells r) -ℤ least_x (pos 0) (all_cells r)) + 1
 
--- the number of slices of a state of the rule's transfer graph
+-- the number of slices in a state of the rule's transfer graph
 abbrev pub state_length : LocalRule → ℕ
 state_length r = max 1 (slice_span r - 1)
 
@@ -40,10 +41,10 @@ state_length r = max 1 (slice_span r - 1)
 abbrev pub slices : LocalRule → ℕ → ℕ
 slices r volume = r.symbols ^ (r.nodes * volume)
 
--- the number of states of the transfer graph over a strip with such slices
+-- the number of states of the transfer graph over a strip whose slices have `volume` positions
 abbrev pub states : LocalRule → ℕ → ℕ
 states r volume = slices r volume ^ state_length r
 
--- the number of windows over such a strip
+-- the number of windows over a strip whose slices have `volume` positions
 abbrev pub longer_states : LocalRule → ℕ → ℕ
 longer_states r volume = slices r volume ^ (state_length r + 1)

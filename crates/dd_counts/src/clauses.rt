@@ -1,10 +1,11 @@
-//! How many clauses a box question takes. It asks whether no configuration that obeys a rule, the premise, has a goal anywhere.
+//! How many clauses encode a box question. A box question asks whether no configuration that obeys a rule, the premise, has a
+//! given property, the goal, at any position. Rules are encoded as logic gates first, and these as clauses.
 ghost use Rattle.std.specs.Prelude.{◌≡◌, ◌≤◌, ◌^◌, ◌<◌, ℕ, length};
 ghost use Rattle.dd_formula.specs.Counts.{cut, rule_clauses, disallowed, disallowed_pairs, place_clauses, broken_clauses, largest_clauses};
 
 use dd_formula::{Rule, cut_off, plus, power, times};
 
-/// How many clauses the gates of the rule take, over all nodes of a position; cut off past the limit.
+/// The number of clauses of the rule's gates, over all nodes of a position, or `limit + 1` if it is greater than `limit`.
 fn rule_clauses(rule: &Rule, limit: u32) -> u32
     requires { limit < 2 ^ 31 }
     ensures { result ≡ cut limit (rule_clauses rule.now) }
@@ -16,7 +17,7 @@ fn rule_clauses(rule: &Rule, limit: u32) -> u32
     clauses
 }
 
-/// How many symbols the node doesn't allow.
+/// The number of symbols that the node doesn't allow.
 fn disallowed_at(rule: &Rule, node: u32) -> u32
     requires { node < rule.now.nodes }
     ensures count { result ≡ length (disallowed rule.now node) }
@@ -43,8 +44,8 @@ fn disallowed_pairs(rule: &Rule) -> u32
     count
 }
 
-/// How many clauses a position takes; cut off past the limit. They say of each of its cells that it has exactly one symbol, that
-/// its node allows the symbol, and that the rule is true there.
+/// The number of clauses of a position, or `limit + 1` if it is greater than `limit`. These clauses say of each cell of the
+/// position that it has exactly one symbol, that its node allows the symbol, and that the rule is true there.
 pub fn place_clauses(rule: &Rule, limit: u32) -> u32
     requires { limit < 2 ^ 31 }
     ensures { result ≡ cut limit (place_clauses rule.now) }
@@ -58,7 +59,8 @@ pub fn place_clauses(rule: &Rule, limit: u32) -> u32
     )
 }
 
-/// How many clauses say that the rule is false at some node of the origin; cut off past the limit.
+/// The number of clauses that say that the rule is false at some node of the origin, or `limit + 1` if it is greater than
+/// `limit`.
 pub fn broken_clauses(rule: &Rule, limit: u32) -> u32
     requires { limit < 2 ^ 31 }
     ensures { result ≡ cut limit (broken_clauses rule.now) }
@@ -66,9 +68,9 @@ pub fn broken_clauses(rule: &Rule, limit: u32) -> u32
     plus(limit, rule_clauses(rule, limit), 1)
 }
 
-/// How many clauses a box question takes; cut off past the limit. Its region is the box of this radius, or the torus with this
-/// period along each axis if that has more positions. `goal` is the number of clauses of the goal. It may be cut off past the
-/// same limit.
+/// The number of clauses of a box question, or `limit + 1` if it is greater than `limit`. The question's region is the box of
+/// this radius, or the torus with this period along each axis if that has more positions. `goal` is the number of clauses of the
+/// goal. If that number is greater than `limit`, `goal` may be `limit + 1` instead.
 pub fn question_clauses(premise: &Rule, goal: u32, radius: u32, period: u32, limit: u32) -> u32
     requires radius { radius < 2 ^ 31 }
     requires limit { limit < 2 ^ 31 }

@@ -1,6 +1,7 @@
-//! How many patterns a rule has at a node, how many states its transfer graph has over a strip, and the limits on both. A
-//! pattern is a filling of the cells that the rule reads at the node. A slice of a strip has the cells of one `x`. A state is
-//! a filling of `state_length` successive slices. A window is a filling of one slice more.
+//! How many patterns a rule has at a node, how many states its transfer graph has over a strip, and the limits on both. A pattern
+//! is a filling of the cells that the rule reads at the node: it gives each of them a symbol. A strip has no end along x. A slice
+//! of a strip has the cells of one `x`. The vertices of a transfer graph are states: a state is a filling of `state_length`
+//! successive slices. Each edge is a window, which is a filling of one more slice than a state.
 ghost use Rattle.std.specs.Prelude.{◌≡◌, ◌^◌, ◌<◌, ◌≤◌};
 ghost use Rattle.dd_formula.specs.Counts.{cut};
 ghost use Rattle.dd_counts.specs.Rules.{pattern_count, least_x, greatest_x, slice_span, state_length, slices, states, longer_states};
@@ -8,16 +9,17 @@ ghost use Rattle.dd_counts.specs.Rules.{pattern_count, least_x, greatest_x, slic
 use dd_formula::{Rule, power};
 use dd_lattice::Cell;
 
-/// How many patterns a rule may have at a node.
+/// The greatest number of patterns that a rule may have at a node.
 pub const MOST_PATTERNS: u32 = 65_536;
 
-/// How many states a transfer graph may have.
+/// The greatest number of states that a transfer graph may have.
 pub const MOST_STATES: u32 = 4_096;
 
-/// How many windows a transfer graph may have. A window is a longer state: it has one slice more.
+/// The greatest number of windows that a transfer graph may have. A window is like a state, but has one more slice.
 pub const MOST_LONGER_STATES: u32 = 131_072;
 
-/// The number of patterns at a node: fillings of the cells that the rule reads there. It is cut off past the limit.
+/// The number of patterns of the rule at a node, or `limit + 1` if it is greater than `limit`. A pattern is a filling of the
+/// cells that the rule reads there.
 pub fn patterns(rule: &Rule, node: u32, limit: u32) -> u32
     requires node { node < rule.now.nodes }
     requires limit { limit < 2 ^ 31 }
@@ -32,7 +34,7 @@ fn x_of(cell: &Cell) -> i32
     cell.position.x
 }
 
-/// The least of `from` and the x of each cell.
+/// The least of `from` and the x coordinates of the cells.
 pub fn least_x(from: i32, cells: &[Cell]) -> i32
     ensures { result ≡ least_x from cells.now }
 {
@@ -43,7 +45,7 @@ pub fn least_x(from: i32, cells: &[Cell]) -> i32
     least
 }
 
-/// The greatest of `from` and the x of each cell.
+/// The greatest of `from` and the x coordinates of the cells.
 fn greatest_x(from: i32, cells: &[Cell]) -> i32
     ensures { result ≡ greatest_x from cells.now }
 {
@@ -54,7 +56,8 @@ fn greatest_x(from: i32, cells: &[Cell]) -> i32
     greatest
 }
 
-/// The number of slices from the first to the last that the rule reads at a cell. The cell's own slice is among them.
+/// The number of slices from the first to the last that the rule reads when it is evaluated at a cell. The cell's own slice
+/// always counts as read.
 fn span(rule: &Rule) -> u64
     ensures value { result ≡ slice_span rule.now }
     ensures small { result ≤ 2 ^ 32 }
@@ -68,7 +71,7 @@ fn span(rule: &Rule) -> u64
     (greatest as i64 - least as i64).unsigned_abs() + 1
 }
 
-/// The number of slices of a state of the rule's transfer graph, at least 1.
+/// The number of slices in a state of the rule's transfer graph. It is at least 1.
 pub fn state_length(rule: &Rule) -> u64
     ensures value { result ≡ state_length rule.now }
     ensures small { result ≤ 2 ^ 32 }
@@ -76,7 +79,7 @@ pub fn state_length(rule: &Rule) -> u64
     (span(rule) - 1).max(1)
 }
 
-/// The number of fillings of one slice, which has `volume` positions; cut off past the limit.
+/// The number of fillings of one slice, which has `volume` positions; or `limit + 1` if it is greater than `limit`.
 fn slices(rule: &Rule, volume: u32, limit: u32) -> u32
     requires { limit < 2 ^ 31 }
     ensures { result ≡ cut limit (slices rule.now volume) }
@@ -84,7 +87,8 @@ fn slices(rule: &Rule, volume: u32, limit: u32) -> u32
     power(limit, rule.symbols(), rule.nodes() as u64 * volume as u64)
 }
 
-/// The number of states of the rule's transfer graph over a strip whose slices have `volume` positions; cut off past the limit.
+/// The number of states of the rule's transfer graph over a strip whose slices have `volume` positions; or `limit + 1` if it is
+/// greater than `limit`.
 pub fn states(rule: &Rule, volume: u32, limit: u32) -> u32
     requires { limit < 2 ^ 31 }
     ensures { result ≡ cut limit (states rule.now volume) }
@@ -92,7 +96,8 @@ pub fn states(rule: &Rule, volume: u32, limit: u32) -> u32
     power(limit, slices(rule, volume, limit), state_length(rule))
 }
 
-/// The number of windows over such a strip; cut off past the limit. The transfer graph has at most so many edges.
+/// The number of windows over a strip whose slices have `volume` positions; or `limit + 1` if it is greater than `limit`. The
+/// rule's transfer graph has at most as many edges as there are windows.
 pub fn longer_states(rule: &Rule, volume: u32, limit: u32) -> u32
     requires { limit < 2 ^ 31 }
     ensures { result ≡ cut limit (longer_states rule.now volume) }

@@ -1,4 +1,4 @@
-//! How many clauses the values of automata take.
+//! How many clauses encode the values of automata, which are the symbols that they give to cells.
 ghost use Rattle.std.specs.Prelude.{◌≡◌, ◌≤◌, ◌^◌, ◌<◌, IfOk, map};
 ghost use Rattle.dd_expansion.specs.Leaves.{total};
 ghost use Rattle.dd_formula.specs.Automata.{HasNode, HaveNode, HasCells, HasCaseNode};
@@ -10,18 +10,18 @@ use dd_formula::{Automaton, Cases, cut_off, plus};
 use dd_lattice::Cell;
 use std::alloc::{AllocError, Global};
 
-/// How many clauses the value of an automaton by cases takes at a node, over an alphabet of `symbols` symbols; cut off past the
-/// limit.
+/// The number of clauses of the value, at a node, of an automaton by cases over an alphabet of `symbols` symbols; or `limit + 1`
+/// if it is greater than `limit`.
 fn given_clauses(cases: &Cases, node: u32, symbols: u32, limit: u32) -> u32
     requires node { HasCaseNode cases.now node }
     requires limit { limit < 2 ^ 31 }
     ensures { result ≡ cut limit (given_clauses symbols cases.now node) }
 {
-    // Without cases, the default's gate has one clause. The gate of each symbol has one too, and that of the default symbol one
+    // Without cases, the default's gate has one clause. So does the gate of each symbol, and that of the default symbol has one
     // more.
     let mut clauses = plus(limit, 2, symbols);
-    // Each case has a gate that says that it is the first true one. It has 2 clauses for the first case, 3 for the second, and so
-    // on. The case also adds one clause to the default's gate, and one to the gate of its symbol.
+    // Each case has a gate that says that it is the first true case. This gate has 2 clauses for the first case, 3 for the
+    // second, and so on. The case also adds one clause to the default's gate, and one to the gate of its symbol.
     let mut choosing = 4;
     for (rule, _) in cases.cases.as_slice() {
         let gates = cut_off(limit, rule.clause_count(node));
@@ -31,7 +31,8 @@ fn given_clauses(cases: &Cases, node: u32, symbols: u32, limit: u32) -> u32
     clauses
 }
 
-/// How many clauses the value of an automaton takes at a node, over an alphabet of `symbols` symbols; cut off past the limit.
+/// The number of clauses of the automaton's value at a node, over an alphabet of `symbols` symbols; or `limit + 1` if it is
+/// greater than `limit`.
 #[cycle(value_clauses)]
 fn value_clauses(
     alloc: Global,
@@ -55,7 +56,7 @@ fn value_clauses(
     }
 }
 
-/// How many clauses the values of an automaton at these cells take; cut off past the limit.
+/// The number of clauses of the automaton's values at all these cells; or `limit + 1` if it is greater than `limit`.
 #[cycle(value_clauses)]
 fn value_clauses_from(
     alloc: Global,
@@ -79,8 +80,8 @@ fn value_clauses_from(
     Ok(sum)
 }
 
-/// How many clauses say that two automata differ at a node; cut off past the limit. They are the clauses of both values, of a
-/// gate over two signals for each symbol, and of a gate over all these gates.
+/// The number of clauses that say that two automata differ at a node, or `limit + 1` if it is greater than `limit`. They are the
+/// clauses of both values, of a gate over two signals for each symbol, and of a gate over all these gates.
 fn differ_at(
     alloc: Global,
     first: &Automaton,
@@ -99,7 +100,8 @@ fn differ_at(
     Ok(plus(limit, plus(limit, one, other), gates))
 }
 
-/// How many clauses say that two automata differ at one of the first `nodes` nodes of the origin; cut off past the limit.
+/// The number of clauses that say that two automata differ at one of the first `nodes` nodes of the origin, or `limit + 1` if it
+/// is greater than `limit`.
 ///
 /// # Errors
 /// `AllocError` if memory ran out.

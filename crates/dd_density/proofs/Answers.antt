@@ -1,4 +1,4 @@
--- The answer that a least mean gives is right, and its numbers are small.
+-- The answer that results from a least mean is right, and its numbers are small.
 use Rattle.std.proofs.Common.{◌≡◌, ℕ, ◌*◌, ◌<◌, ◌≤◌, ◌^◌, List, length, arith, sym, ap, subst}
 use Rattle.std.proofs.{lemmas.List.get_or_default, Math.Nat.mul-le-mul}
 use Rattle.std.specs.{Prelude.ℤ, Prelude.pos, Prelude.unsigned_abs, List.All}
@@ -22,7 +22,7 @@ mean_small g m l cycle ps is = lowest_small m l (weight_of g cycle) (length cycl
 some_product : (a b : ℕ) → 0 < a → 0 < b → 0 < a * b
 some_product a b p q = let x : 1 * 1 ≤ a * b = mul-le-mul {n₁ = 1} {m₁ = 1} {n₂ = a} {m₂ = b} p q in omega (arith, x)
 
--- the numbers of a least mean, divided by the number of positions of a slice, are small
+-- a least mean has small numbers, and so has the mean divided by the number of positions in a slice
 pub mean_over : (g : Transfer) (volume : ℕ) (m : Mean) → IsTransfer g → 0 < volume → volume ≤ 4096 → IsMeanOf g m → IsMeanOver volume m
 mean_over g volume (mean.Least m l cycle ps) well some few is =
     let small = mean_small g m l cycle ps is in
@@ -68,7 +68,7 @@ is_small r s weights g (mean.NoCycle ranks) (Empty given) is least over of = λ 
 is_small r s weights g (mean.Least m l cycle ps) (Empty given) is least over of = absurd of
 is_small r s weights g (mean.NoCycle ranks) (Least p q walk qs) is least over of = absurd of
 
--- a slice has a position
+-- a slice has at least one position
 pub volume_some : (y z : ℕ) → 0 < y → 0 < z → 0 < y * z
 volume_some y z p q = some_product y z p q
 

@@ -20,7 +20,7 @@ cross n d m e a b some p q =
     let z : (n * e) * b ≡ (m * d) * b = omega (arith, x, y) in
     eq_of_mul-eq-mul_right b some (n * e) (m * d) z
 
--- the lowest terms are unique
+-- a fraction has only one form in lowest terms
 pub lowest_same : (n d m e a b : ℕ) → 0 < b → IsInLowestTerms n d a b → IsInLowestTerms m e a b → SameFraction n d m e
 lowest_same n d m e a b some p q =
     let turned : n * e ≡ m * d = cross n d m e a b some p.same q.same in

@@ -8,12 +8,12 @@ use Rattle.dd_transfer.specs.Certificates.{IsDensityCertificate, IsEmptyCertific
 use Rattle.dd_density.specs.declared.answer.Density.{Density}
 use Rattle.dd_density.specs.declared.answer.Density.TheVariants.{Least, Empty}
 
--- the answer has a certificate for its density, or one that there are no configurations
+-- the answer has a certificate for its density, or a certificate that no configuration lives on the strip
 abbrev pub IsCertifiedDensity : LocalRule → Strip → List ℕ → Density → Type 0
 IsCertifiedDensity r s weights (Least p q walk ps) = IsDensityCertificate r s weights p q walk ps
 IsCertifiedDensity r s weights (Empty ranks) = IsEmptyCertificate r s ranks
 
--- an output can hold each number, and the walk has at most as many states as the transfer graph
+-- each number is small enough for an output, and the walk has at most as many states as the transfer graph
 pub record IsSmallLeast (r : LocalRule) (s : Strip) (p q : ℕ) (walk : List ℕ) (ps : List ℤ) : Type 0 where
   pub numerator : p ≤ most_number
   pub denominator : q ≤ most_number
@@ -21,7 +21,7 @@ pub record IsSmallLeast (r : LocalRule) (s : Strip) (p q : ℕ) (walk : List ℕ
   pub walked : All (λ u. u ≤ most_number) walk
   pub potentials : All (λ x. unsigned_abs x ≤ most_number) ps
 
--- an output can hold the answer
+-- the answer's numbers are small enough for an output
 abbrev pub IsSmallDensity : LocalRule → Strip → Density → Type 0
 IsSmallDensity r s (Least p q walk ps) = IsSmallLeast r s p q walk ps
 IsSmallDensity r s (Empty ranks) = All (λ x. x ≤ most_number) ranks

@@ -31,8 +31,8 @@ pub fn check_density(
     Ok(is_shown(&graph, volume, numerator, denominator, walk, potentials))
 }
 
-/// Whether there is a rank for each state of the transfer graph, and it falls along each edge. Then no configuration lives on
-/// the strip.
+/// Whether there is a rank for each state of the transfer graph, and the rank falls along each edge. If so, no configuration
+/// lives on the strip.
 pub fn check_empty(
     alloc: Global,
     rule: &Rule,

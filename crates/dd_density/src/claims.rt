@@ -1,6 +1,6 @@
-//! Whether a closed walk, potentials or ranks are right for a transfer graph. Potentials belong to a mean, which is that of
-//! the walk. Along an edge of weight `w` they may rise by at most `mean.denominator * w - mean.numerator`, which is called
-//! the edge's bound.
+//! Whether a closed walk, potentials or ranks are right for a transfer graph. Potentials belong to a mean, which is the mean
+//! of the closed walk. Along an edge of weight `w`, the potential may rise by at most
+//! `mean.denominator * w - mean.numerator`. Here this is called the edge's bound.
 ghost use Rattle.std.specs.Prelude.{◌≡◌, ℕ, ◌*◌, ◌%◌, ◌<◌, ◌≤◌, ◌^◌, ◌↔◌, IsTrue, MatchOption, Some, length, pos, ◌-ℤ◌, ◌≤ℤ◌};
 ghost use Rattle.dd_transfer.specs.Graphs.{next_of, weight_at, IsTransfer};
 ghost use Rattle.dd_meancycle.specs.Means.{IsCycle, ArePotentials, weight_of};
@@ -111,7 +111,7 @@ fn are_rises_from(graph: &Graph, state: u32, potentials: &[i64], mean: Ratio) ->
     true
 }
 
-/// Whether there is a potential for each state, and it rises along each edge by at most the edge's bound.
+/// Whether there is a potential for each state, and the potential rises along each edge by at most the edge's bound.
 fn are_potentials(graph: &Graph, potentials: &[i64], mean: Ratio) -> bool
     requires numerator { mean.numerator < 2 ^ 89 }
     requires denominator { mean.denominator < 2 ^ 64 }
@@ -128,8 +128,8 @@ fn are_potentials(graph: &Graph, potentials: &[i64], mean: Ratio) -> bool
     true
 }
 
-/// Whether the walk is closed and has this density in lowest terms, and the potentials are right for its mean. A slice has
-/// `volume` positions.
+/// Whether the walk is closed, its density in lowest terms is `numerator / denominator`, and the potentials are right for
+/// its mean. A slice has `volume` positions.
 pub(crate) fn is_shown(
     graph: &Graph,
     volume: u32,
@@ -180,7 +180,7 @@ fn are_falls_from(graph: &Graph, state: u32, ranks: &[u64]) -> bool
     true
 }
 
-/// Whether there is a rank for each state, and it falls along each edge.
+/// Whether there is a rank for each state, and the rank falls along each edge.
 pub(crate) fn are_ranks(graph: &Graph, ranks: &[u64]) -> bool
     ensures { IsTrue result ↔ AreFallen graph.now ranks.now }
 {

@@ -1,4 +1,4 @@
-//! The least density of the configurations of a strip.
+//! The least density of the configurations that live on a strip.
 ghost use Rattle.std.specs.Prelude.{◌≡◌, ◌<◌, ◌≤◌, ◌^◌, IfOk};
 ghost use Rattle.std.specs.List.{All};
 ghost use Rattle.dd_strip.specs.Strips.{IsStrip, HasWeights, IsFew, strip_for};
@@ -33,7 +33,7 @@ pub fn least_density(
     density_of(alloc, mean, strip[0] * strip[1])
 }
 
-/// The numbers, as numbers of 64 bits.
+/// The numbers as 64-bit numbers.
 fn widened(alloc: Global, numbers: &[u32]) -> Result<Items<u64>, AllocError>
     ensures same { IfOk result (λ ns. ns ≡ numbers.now) }
     ensures small { IfOk result (All (λ n. n < 2 ^ 32)) }
@@ -45,7 +45,8 @@ fn widened(alloc: Global, numbers: &[u32]) -> Result<Items<u64>, AllocError>
     Ok(Items::from_vec(wide))
 }
 
-/// The density of a least mean, where a slice has `volume` positions. `Empty` if there is no cycle.
+/// The density for a least mean: the mean divided by `volume`, the number of positions in a slice. `Empty` if there is no
+/// cycle.
 fn density_of(alloc: Global, mean: Mean, volume: u32) -> Result<Density, AllocError>
     requires { IsMeanOver volume mean }
     ensures { IfOk result (IsOfMean volume mean) }

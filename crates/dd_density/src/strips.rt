@@ -1,4 +1,4 @@
-//! The transfer graph with which the search and the checks begin, and weights of 0 for a check without weights.
+//! The transfer graph with which the search and the checks begin, and weights of 0 for the check that needs no weights.
 ghost use Rattle.std.specs.Prelude.{◌≡◌, IfOk, replicate};
 ghost use Rattle.dd_strip.specs.Strips.{IsStrip, HasWeights, IsFew, strip_for};
 ghost use Rattle.dd_transfer.specs.Transfers.{IsGraphOf};
@@ -7,7 +7,7 @@ use dd_formula::Rule;
 use dd_transfer::{Graph, TransferFault, graph};
 use std::alloc::{AllocError, Global};
 
-/// The transfer graph of a strip that isn't too large. So memory is the only fault.
+/// The transfer graph of the rule over a strip. The graph isn't too large, so lack of memory is the only possible fault.
 pub(crate) fn graph_of(
     alloc: Global,
     rule: &Rule,

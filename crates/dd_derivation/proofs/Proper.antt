@@ -1,4 +1,4 @@
--- Marking a step's clause: its variables are distinct and in range.
+-- Marking the literals of a step's clause, which shows whether its variables are distinct and in range.
 use Rattle.std.proofs.Common.{◌≡◌, ℕ, suc, ◌+◌, ◌-◌, ◌<◌, ◌≤◌, true, false, not, ◌&&◌, List, [], ◌∷◌, ◌++◌, refl, ap, sym, ◌∙◌, subst, length, get_or, take, drop, eqb, inl, inr, ◌⊎◌, drop-cons, take-append-drop}
 use Rattle.std.proofs.lemmas.Bool.{eq-eqb, eqb-true, ne_eqb, and_parts, and_from, and_left, and_right, or_cases, or_left, or_right, not-true, not_from_true, or_parts, false≢true, false_from_ne_true}
 use Rattle.std.proofs.lemmas.List.{take_more, Folds.list_any-append}
@@ -58,13 +58,13 @@ mark_of marks v = get_or marks (v - 1) (record { step = 0; positive = false })
 marked_at : (marks : List VariableMark) (step : ℕ) (front : List Literal) (x : Literal) → FalsesAre marks step [] front → IsLiteralInRange (length marks) x → is_among front x ≡ ((eqb (mark_of marks x.variable).step step) && beq (mark_of marks x.variable).positive x.positive)
 marked_at marks step front x m r = sym (rw (in_range-true (length marks) x r) at (m x))
 
--- a variable with a mark of this step is one of the clause's
+-- a variable with a mark of this step occurs in the part of the clause that was marked
 pub marked_has : (marks : List VariableMark) (step : ℕ) (front : List Literal) (v : ℕ) → FalsesAre marks step [] front → 1 ≤ v → v ≤ length marks → (mark_of marks v).step ≡ step → has_variable v front ≡ true
 marked_has marks step front v m a b e =
     let y : Literal = record { variable = v; positive = (mark_of marks v).positive } in
     has-in front y (marked_at marks step front y m (a, b) ∙ and_from _ _ (eq-eqb _ step e) (beq_same (mark_of marks v).positive))
 
--- with the clause's next literal marked, the marks stand for one more false literal
+-- after the clause's next literal is marked, the marks stand for one more false literal, and the variables so far are still distinct and in range
 pub start_more : (marks : List VariableMark) (step : ℕ) (clause : List Literal) (i : ℕ) (d : Literal) → i < length clause → IsLiteralInRange (length marks) (get_or clause i d) → ((mark_of marks (get_or clause i d).variable).step ≡ step → ⊥) → FalsesAre marks step [] (take i clause) → is_proper (length marks) (take i clause) ≡ true → (is_proper (length marks) (take (i + 1) clause) ≡ true) × FalsesAre (with_mark marks step (get_or clause i d)) step [] (take (i + 1) clause)
 start_more marks step clause i d lt r u m p =
     let l = get_or clause i d in

@@ -27,40 +27,40 @@ finding_of is_false (l ∷ rest) =
 abbrev pub finding : (Literal → Bool) → List Literal → Finding
 finding is_false clause = finding_of is_false (filter (λ l. not (is_false l)) clause)
 
--- The clauses by number, from 1. A place is empty where the clause was deleted.
+-- The clause with a number, counted from 1, if there is one. Where a clause was deleted, the list has an empty place.
 abbrev pub clause_of : List (Option (List Literal)) → ℕ → Option (List Literal)
 clause_of known zero = None
 clause_of known (suc k) = option_and_then (λ c. c) (slice_get known k)
 
--- the clauses without the one of a number
+-- the clauses without the one with this number
 abbrev pub without : List (Option (List Literal)) → ℕ → List (Option (List Literal))
 without known zero = known
 without known (suc k) = slice_set known k None
 
--- what the clause of a number says; `Open` if there is no such clause
+-- what the clause with this number says; `Open` if there is no such clause
 abbrev pub hint_finding : List (Option (List Literal)) → (Literal → Bool) → ℕ → Finding
 hint_finding known is_false h = option_map_or (finding is_false) (clause_of known h) Open
 
--- Whether the hints lead to a conflict, from what the first of them finds. A falsified clause has to be that of the last hint.
--- After a forced literal, `next` tells for the other hints. An open clause is a failure.
+-- Whether the hints lead to a conflict, given what the clause of the first hint says. If this clause is falsified, its hint must be the last one. If
+-- it forces a literal, `next` tells whether the other hints lead to a conflict. If it is open, the hints fail.
 abbrev pub follow : Finding → Bool → (Literal → Bool) → Bool
 follow Falsified is_last next = is_last
 follow (Forced l) is_last next = next l
 follow Open is_last next = false
 
--- each hint but the last forces a literal, which is true from then on, and the clause of the last one is falsified
+-- the hints end in a conflict: each hint but the last forces a literal, which is true from then on, and the clause of the last hint is falsified
 abbrev pub is_conflict : List (Option (List Literal)) → List Literal → List ℕ → Bool
 is_conflict known falses [] = false
 is_conflict known falses (h ∷ hints) =
     follow (hint_finding known (is_among falses) h) (is_empty hints)
     (λ l. is_conflict known (negation l ∷ falses) hints)
 
--- the numbers can be deleted one after the other: each has a clause when its turn comes
+-- the clauses with these numbers can be deleted one after the other: each clause is still there when its turn comes
 abbrev pub are_deletable : List (Option (List Literal)) → List ℕ → Bool
 are_deletable known [] = true
 are_deletable known (d ∷ ds) = is_some (clause_of known d) && are_deletable (without known d) ds
 
--- the clauses without those of the deleted numbers
+-- the clauses that are left after those with these numbers are deleted
 abbrev pub known_after : List (Option (List Literal)) → List ℕ → List (Option (List Literal))
 known_after known [] = known
 known_after known (d ∷ ds) = known_after (without known d) ds
@@ -78,8 +78,8 @@ abbrev pub is_proper : ℕ → List Literal → Bool
 is_proper n [] = true
 is_proper n (l ∷ rest) = (is_literal_in_range n l && not (has_variable l.variable rest)) && is_proper n rest
 
--- The step is right. Its clause is proper. With the literals of its clause false, its hints end in a conflict, so the clause
--- follows. The clauses that it deletes exist.
+-- The step is right. Its clause is proper. If the literals of its clause are false, its hints end in a conflict, so the clause follows. The clauses
+-- that it deletes exist.
 abbrev pub is_right : ℕ → List (Option (List Literal)) → Step → Bool
 is_right n known s = is_proper n s.clause && (is_conflict known s.clause s.hints && are_deletable known s.deletes)
 
@@ -99,7 +99,7 @@ refutes n clauses steps = refutes_from n (map (λ c. Some c) clauses) steps
 abbrev pub IsRefuting : ClauseList → List Step → Type 0
 IsRefuting cnf steps = refutes cnf.variables cnf.clauses steps ≡ true
 
--- the clauses of the list, and then those of the steps
+-- the clauses of the list, followed by those of the steps
 abbrev pub clauses_before : List (List Literal) → List Step → List (List Literal)
 clauses_before clauses steps = clauses ++ map (λ s. s.clause) steps
 
@@ -108,8 +108,8 @@ abbrev pub known_after_steps : List (Option (List Literal)) → List Step → Li
 known_after_steps known [] = known
 known_after_steps known (s ∷ steps) = known_after_steps (known_after known s.deletes) steps
 
--- The step at a place, from 0, is right. Known are the clauses of the list and of earlier steps, except those that an
--- earlier step deletes.
+-- The step at this index, counted from 0, is right. The known clauses are those of the list and of earlier steps, except those that an earlier step
+-- deletes.
 abbrev pub is_step_right : ℕ → List (List Literal) → List Step → ℕ → Bool
 is_step_right n clauses steps index =
     let earlier = take index steps in

@@ -1,6 +1,6 @@
--- refutations of a list of clauses, and which steps are right
+-- refutations of a list of clauses: steps whose clauses follow one after the other, and when a step is right
 pub mod Derivations
--- the sizes of refutations that a check has room for
+-- how much memory a check needs, and when the numbers of clauses and steps are in range
 pub mod Sizes
 -- what the marks of a check mean
 pub mod checking

@@ -1,5 +1,5 @@
-//! The clauses that a step may hint at: those of the list and of earlier steps, without the deleted ones. A clause is alive
-//! until it is deleted. A list of truth values says which clauses are alive, so a deletion writes one value.
+//! The clauses that a step may use as hints: those of the list and of earlier steps, except the deleted ones. A clause is alive
+//! until it is deleted. A list of truth values says which clauses are alive, so a deletion changes a single value.
 ghost use Rattle.std.specs.Prelude.{◌≡◌, ℕ, ◌+◌, ◌≤◌, List, length, true, false, slice_index_or};
 ghost use Rattle.std.specs.Option.{option_copied};
 ghost use Rattle.dd_clause.specs.declared.clause.Literal.{Literal};
@@ -10,7 +10,7 @@ use crate::step::Step;
 use dd_clause::{Clause, Literal};
 use std::marker::Model;
 
-/// The clauses of a list and then those of steps, numbered from 1. A clause is known if it is alive.
+/// The clauses of a list, followed by those of the steps, numbered together from 1. A clause is known if it is alive.
 #[derive(Drop)]
 pub struct Known<'a> {
     clauses: &'a [Clause],
@@ -31,7 +31,7 @@ impl<'a> Model for Known<'a> {
 }
 
 impl<'a> Known<'a> {
-    /// What is known after these steps. The clause of number k is alive if `alive[k - 1]` is true.
+    /// The clauses that are known after these steps. The clause with the number k is alive if `alive[k - 1]` is true.
     pub fn new(clauses: &'a [Clause], steps: &'a [Step], alive: &'a [bool]) -> Known<'a>
         requires { length clauses.now + length steps.now ≤ length alive.now }
         ensures { result ≡ known_to clauses.now steps.now alive.now }
@@ -43,7 +43,7 @@ impl<'a> Known<'a> {
         }
     }
 
-    /// The clause of this number, if it is alive.
+    /// The clause with this number, if it is alive.
     pub fn find_clause(&self, number: u64) -> Option<&'a [Literal]>
         ensures { option_copied result ≡ spec.clause_of self.now number }
     {
@@ -64,8 +64,9 @@ impl<'a> Known<'a> {
     }
 }
 
-/// Deletes the clauses of these numbers, one after the other. There are `count` clauses: those of the list and of earlier steps.
-/// It stops and returns false at the first number that is not from 1 to `count`, or whose clause is deleted already.
+/// Deletes the clauses with these numbers, one after the other, and returns true. But at the first number that is not from 1 to
+/// `count`, or whose clause is already deleted, it stops and returns false. `count` is the number of clauses of the list and of
+/// earlier steps together.
 pub fn delete_all(alive: &mut [bool], count: usize, numbers: &[u64]) -> bool
     requires { count ≤ length alive.old }
     ensures value { (cs : List (List Literal)) → length cs ≡ count →
@@ -91,7 +92,7 @@ pub fn delete_all(alive: &mut [bool], count: usize, numbers: &[u64]) -> bool
     true
 }
 
-/// Deletes the clauses of these numbers, and checks nothing. A number without a clause is skipped.
+/// Deletes the clauses with these numbers, and checks nothing. A number that no clause has is skipped.
 pub fn delete_named(alive: &mut [bool], numbers: &[u64])
     ensures { (cs : List (List Literal)) →
         known_of cs alive.new ≡ spec.known_after (known_of cs alive.old) numbers.now }

@@ -1,4 +1,6 @@
-//! Refutations of a clause list: their steps, and the check that they are right.
+//! Refutations of a clause list, and their check. A refutation is a list of steps. Each step gives a clause that follows from
+//! clauses before it, and hints: the numbers of the clauses that show this. The last step's clause is empty, so no assignment
+//! satisfies the list.
 #![tactic(auto)]
 
 mod known;

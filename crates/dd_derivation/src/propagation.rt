@@ -1,6 +1,7 @@
-//! Unit propagation along hints. The literals of a step's clause are taken as false. Each hinted clause makes one more
-//! literal true, until one has only false literals. A mark holds the number of the step that made it, so nothing is undone between
-//! steps. This number counts the steps from 1 as they are checked. It is not the number of the step's clause.
+//! Unit propagation along the hints of a step. The literals of the step's clause are assumed to be false. Then each hinted clause
+//! makes one more literal true, until a hinted clause has only false literals. The mark of a variable says which of its literals
+//! is false. It also holds the number of the step that made it, so marks need not be cleared between steps. For this, steps are
+//! numbered from 1 in the order in which they are checked. This is not the number of the step's clause.
 ghost use Rattle.std.specs.Prelude.{◌≡◌, ◌<◌, [], Bool, length, take, true, slice_index_or};
 ghost use Rattle.dd_clause.specs.declared.clause.Literal.{Literal};
 ghost use Rattle.dd_derivation.specs.Derivations as spec;
@@ -22,7 +23,7 @@ pub enum Finding {
     Open,
 }
 
-/// The mark of a variable: in the step of this number, the variable's literal of this sign is false.
+/// The mark of a variable: in the step with the number `step`, the variable's literal with the sign `positive` is false.
 #[derive(Clone, Copy)]
 pub struct VariableMark {
     /// The number of the step that made the mark.
@@ -31,7 +32,8 @@ pub struct VariableMark {
     pub positive: bool,
 }
 
-/// Marks a literal as false in this step. A variable that is not from 1 to `marks.len()` has no mark, and is skipped.
+/// Marks a literal as false in this step. Does nothing if the literal's variable is not from 1 to `marks.len()`: such a variable
+/// has no mark.
 fn mark(marks: &mut [VariableMark], step: u64, literal: Literal)
     ensures { marks.new ≡ marks_of.with_mark marks.old step literal }
 {
@@ -44,7 +46,7 @@ fn mark(marks: &mut [VariableMark], step: u64, literal: Literal)
     }
 }
 
-/// The first of the literals whose variable is this one.
+/// The first of the literals that has this variable.
 fn first_of(literals: &[Literal], variable: u32) -> Option<Literal>
     ensures { result ≡ marks_of.first_literal_of variable literals.now }
 {
@@ -56,7 +58,7 @@ fn first_of(literals: &[Literal], variable: u32) -> Option<Literal>
     None
 }
 
-/// The first literal of this variable in the clauses of the hints.
+/// The first literal with this variable in the hinted clauses.
 fn first_hinted(known: &Known, hints: &[u64], variable: u32) -> Option<Literal>
     ensures { result ≡ marks_of.first_literal_of variable (literals_of known.now hints.now) }
 {
@@ -79,7 +81,7 @@ pub trait FalseLiterals {
         ensures { result ≡ is_false self.now literal };
 }
 
-/// What is false in a step after some of its hints.
+/// Tells which literals are false in a step once some of its hints have been followed.
 #[derive(Clone, Copy)]
 struct After<'a> {
     known: &'a Known<'a>,
@@ -91,8 +93,9 @@ struct After<'a> {
 impl<'a> FalseLiterals for After<'a> {
     ghost is_false = { λ a. marks_of.is_false a.marks.now a.step (literals_of a.known.now a.hints.now) };
 
-    /// A variable has no mark only if it is out of range. Then it occurs only in clauses of wrong earlier steps, which `check_step`
-    /// lets stand. The first hinted clause with the variable forced its own literal of it.
+    /// A variable has no mark only if it is out of range. Such a variable occurs only in the clauses of earlier steps that are
+    /// wrong, which `check_step` allows. The first hinted clause that contains the variable forced its own literal of it. So the
+    /// negation of that literal is false.
     fn is_false(&self, literal: Literal) -> bool {
         let variable = literal.variable as usize;
         if variable >= 1 && variable <= self.marks.len() {
@@ -135,7 +138,7 @@ pub fn find<F: FalseLiterals>(falses: &F, clause: &[Literal]) -> Finding
     }
 }
 
-/// What the clause of the hint at this place says after the hints before it. `Open` if there is no such clause.
+/// What the clause of the hint at this place says once the hints before it have been followed. `Open` if there is no such clause.
 fn find_hint(
     known: &Known,
     marks: &[VariableMark],
@@ -162,7 +165,8 @@ fn find_hint(
     }
 }
 
-/// Whether the step's hints end in a conflict. Before the call, exactly the literals of its clause are marked as false.
+/// Whether the step's hints end in a conflict: a clause whose literals are all false. Before the call, exactly the literals of
+/// the step's own clause must be marked as false.
 pub fn follow_hints(known: &Known, marks: &mut [VariableMark], number: u64, step: &Step) -> bool
     requires marks { FalsesAre marks.old number [] step.now.clause }
     requires older { AreUpTo number marks.old }
@@ -180,8 +184,8 @@ pub fn follow_hints(known: &Known, marks: &mut [VariableMark], number: u64, step
     false
 }
 
-/// Marks the literals of a step's clause as false. It stops and returns false at a variable without a mark, and at one that
-/// occurs a second time.
+/// Marks the literals of a step's clause as false, and returns true. But at a variable that has no mark, or that occurs a second
+/// time, it stops and returns false.
 pub fn start_marks(marks: &mut [VariableMark], step: u64, clause: &[Literal]) -> bool
     requires { AreBelow step marks.old }
     ensures value { result ≡ spec.is_proper (length marks.old) clause.now }

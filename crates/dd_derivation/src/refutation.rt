@@ -1,5 +1,5 @@
-//! The check of a refutation: each step is right, and the last one's clause is empty. The check allocates nothing. Its `Marks`
-//! are made beforehand, and serve any refutation of the same sizes.
+//! The check of a refutation: whether each step is right, and the last step's clause is empty. The check allocates nothing. Its
+//! `Marks` are made beforehand, and serve for any refutation of the same sizes.
 ghost use Rattle.std.specs.Prelude.{◌≡◌, ℕ, ◌+◌, ◌<◌, ◌≤◌, Bool, true, false, List, length, slice_index_or, IfOk, ◌-◌, ◌^◌};
 ghost use Rattle.dd_clause.specs.declared.clause.Literal.{Literal};
 ghost use Rattle.dd_clause.specs.Clauses.{Satisfies};
@@ -13,7 +13,8 @@ use dd_clause::{Clause, Cnf};
 use std::alloc::{AllocError, Global};
 use std::marker::Model;
 
-/// Room for a check: a mark for each variable, and a truth value for each clause and step, which says whether it is alive.
+/// The memory that a check works in: a mark for each variable, and a truth value for each clause and step. The truth value says
+/// whether the clause is alive.
 #[derive(Drop)]
 pub struct Marks {
     variables: Vec<VariableMark>,
@@ -30,8 +31,8 @@ impl Model for Marks {
 }
 
 impl Marks {
-    /// Room for the check of these clauses and steps. It serves any others with as many variables, and as many clauses and steps
-    /// together.
+    /// Allocates the memory for a check of these clauses and steps. It also serves for any others with the same number of
+    /// variables and the same number of clauses and steps together.
     pub fn new(alloc: Global, cnf: &Cnf, steps: &[Step]) -> Result<Marks, AllocError>
         ensures variables { IfOk result (λ m. m.variables ≡ cnf.now.variables) }
         ensures numbers { IfOk result (λ m. m.numbers ≡ length cnf.now.clauses + length steps.now) }
@@ -46,7 +47,7 @@ impl Marks {
     }
 }
 
-/// The number of the last step. The clauses are numbered from 1, and the steps after them.
+/// The number of the last step. The clauses are numbered from 1, and the steps continue their numbers.
 pub fn last_number(cnf: &Cnf, steps: &[Step]) -> u64
     ensures value { result ≡ length cnf.now.clauses + length steps.now }
     ensures few { length cnf.now.clauses + length steps.now ≤ 2 ^ 64 - 1 }
@@ -55,7 +56,7 @@ pub fn last_number(cnf: &Cnf, steps: &[Step]) -> u64
     clauses.len() as u64 + steps.len() as u64
 }
 
-/// Gives each mark the number 0, which no step has.
+/// Sets the step of each mark to 0, a number that no step has.
 fn clear(marks: &mut [VariableMark])
     ensures { AreBelow 1 marks.new }
 {
@@ -76,8 +77,8 @@ fn revive(alive: &mut [bool])
     }
 }
 
-/// Whether a step is right after earlier ones. If it is, the clauses that it deletes are no longer alive. `number` is greater than
-/// that of each mark made before. It is not the number of the step's clause.
+/// Whether a step is right, given the steps before it. If it is, the clauses that it deletes are no longer alive after the call.
+/// `number` must be greater than the step number of each mark made before. It is not the number of the step's clause.
 fn check_one(
     clauses: &[Clause],
     earlier: &[Step],
@@ -111,7 +112,7 @@ fn check_one(
     )
 }
 
-/// Whether the steps refute the clauses, if the marks are cleared and all clauses are alive.
+/// Whether the steps refute the clauses. Before the call, the marks must be cleared and all clauses alive.
 fn check_all(
     clauses: &[Clause],
     steps: &[Step],
@@ -134,7 +135,7 @@ fn check_all(
     false
 }
 
-/// Whether the steps refute the clauses. What `alive` and `marks` hold before does not matter.
+/// Whether the steps refute the clauses. What `alive` and `marks` hold before the call does not matter.
 fn check_with(cnf: &Cnf, steps: &[Step], alive: &mut [bool], marks: &mut [VariableMark]) -> bool
     requires variables { length marks.old ≡ cnf.now.variables }
     requires numbers { length alive.old ≡ length cnf.now.clauses + length steps.now }
@@ -145,9 +146,9 @@ fn check_with(cnf: &Cnf, steps: &[Step], alive: &mut [bool], marks: &mut [Variab
     check_all(cnf.clauses(), steps, alive, marks)
 }
 
-/// Whether the steps refute the clauses: there is a step, each is right, and the last one's clause is empty. Then no
-/// assignment satisfies the clauses. It allocates nothing. Its time grows with the lengths of the hinted clauses, each counted as
-/// often as it is hinted.
+/// Whether the steps refute the clauses: there is at least one step, each step is right, and the last step's clause is empty.
+/// Then no assignment satisfies the clauses. The check allocates nothing. Its time grows with the total length of the hinted
+/// clauses, where each clause counts as often as it is used as a hint.
 pub fn check_refutation(cnf: &Cnf, steps: &[Step], marks: &mut Marks) -> bool
     requires variables { marks.old.variables ≡ cnf.now.variables }
     requires numbers { marks.old.numbers ≡ length cnf.now.clauses + length steps.now }
@@ -163,7 +164,7 @@ pub fn check_refutation(cnf: &Cnf, steps: &[Step], marks: &mut Marks) -> bool
     )
 }
 
-/// Deletes the clauses that these steps delete. A number without a clause is skipped.
+/// Deletes the clauses that these steps delete. A number that no clause has is skipped.
 fn delete_earlier(alive: &mut [bool], steps: &[Step])
     ensures { (cs : List (List Literal)) →
         known_of cs alive.new ≡ spec.known_after_steps (known_of cs alive.old) steps.now }
@@ -173,7 +174,7 @@ fn delete_earlier(alive: &mut [bool], steps: &[Step])
     }
 }
 
-/// Whether the step at this index is right. What `alive` and `marks` hold before does not matter.
+/// Whether the step at this index is right. What `alive` and `marks` hold before the call does not matter.
 fn check_step_with(
     cnf: &Cnf,
     steps: &[Step],
@@ -193,8 +194,8 @@ fn check_step_with(
     check_one(cnf.clauses(), earlier, alive, marks, 1, &steps[index])
 }
 
-/// Whether the step at this index, from 0, is right. Known are the clauses of the list and of the steps before it, except
-/// those that a step before it deletes. The steps before it need not be right. It allocates nothing.
+/// Whether the step at this index, counted from 0, is right. The known clauses are those of the list and of the steps before it,
+/// except those that a step before it deletes. The steps before it need not be right. The check allocates nothing.
 pub fn check_step(cnf: &Cnf, steps: &[Step], index: usize, marks: &mut Marks) -> bool
     requires exists { index < length steps.now }
     requires variables { marks.old.variables ≡ cnf.now.variables }

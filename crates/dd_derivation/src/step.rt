@@ -2,21 +2,22 @@
 use dd_clause::{Assignment, Clause};
 use dd_values::Items;
 
-/// A clause that follows from clauses before it, by unit propagation along the hints.
+/// A clause that follows from clauses before it by unit propagation along its hints.
 ///
-/// In a list of C clauses, the clauses have the numbers 1 to C, and the steps have the numbers after them. A step gives its hints
-/// and the clauses that it deletes by number. No later step may hint at a deleted clause.
+/// The C clauses of a list have the numbers 1 to C, and the steps after them have the numbers from C + 1 on. A step refers to its
+/// hints and to the clauses that it deletes by number. No later step may use a deleted clause as a hint.
 ///
-/// Proofs by clauses that follow by unit propagation are due to Goldberg and Novikov (2003). The hints are those of the
-/// format LRAT of Cruz-Filipe, Heule, Hunt, Kaufmann and Schneider-Kamp (2017).
+/// Proofs whose clauses follow by unit propagation are due to Goldberg and Novikov (2003). The hints are those of the format LRAT
+/// of Cruz-Filipe, Heule, Hunt, Kaufmann and Schneider-Kamp (2017).
 #[derive(Debug, Drop)]
 pub struct Step {
     /// The clause that follows.
     pub clause: Clause,
-    /// The numbers of the clauses that show it, when the literals of `clause` are false. Each but the last becomes unit in turn,
-    /// and makes its literal true. In the last one, all literals are then false.
+    /// The numbers of the clauses that show that `clause` follows. Its literals are assumed to be false. Each hinted clause but
+    /// the last then becomes unit in turn: all of its literals but one are false, and that one is made true. In the last hinted
+    /// clause, all literals are then false.
     pub hints: Items<u64>,
-    /// The numbers of the clauses that this step deletes: no later step may hint at them.
+    /// The numbers of the clauses that this step deletes: no later step may use them as hints.
     pub deletes: Items<u64>,
 }
 

@@ -1,6 +1,5 @@
--- The end of a run, over the least common denominator, is a certificate. The columns meet the rows, the duals sum to
--- enough in each column, and both have the same value. Each of these statements about fractions becomes one about
--- whole numbers.
+-- The result of a run, over the least common denominator, is a certificate: the columns meet the rows, the duals sum to enough
+-- in each column, and both have the same value. Each of these statements about fractions becomes one about whole numbers.
 use Rattle.std.proofs.Common.{◌≡◌, ℕ, zero, suc, ◌+◌, ◌*◌, ◌/◌, ◌%◌, ◌<◌, ◌≤◌, List, [], ◌∷◌, ◌++◌, length, get_or, map, drop, slice_index, max, refl, sym, ap, subst, ◌∙◌, arith}
 use Rattle.std.proofs.lemmas.{Int.ints, Nat.Gcd.mod-eq-zero_of_dvd}
 use Rattle.std.proofs.{lemmas.List.get_or-map, lemmas.List.length-map, lemmas.List.get_or-append-add, Math.ListN.get_or-append}
@@ -35,7 +34,7 @@ coefficient_is rows n k j =
 bound_is : (rows : List Row) (n k : ℕ) → bound_at (in_fractions rows n) k ≡ whole_of (pos (row_in rows k).bound)
 bound_is rows n k = ap (λ (r : _). r.bound) (numbered.get_or-map row_of_fractions rows k no_row)
 
--- the whole numbers for the columns and for the duals
+-- the whole numbers that stand for the columns and for the duals
 nonneg_at : (c : ℕ) (xs : List Exact) (j : ℕ) → j < length xs → den_of (fraction_at xs j) ∣ c → IsNonneg (fraction_at xs j)
     → IsOver c (pos (slice_index (map (numerator_over c) xs) j)) (fraction_at xs j)
 nonneg_at c xs j p d s =

@@ -1,6 +1,6 @@
--- Weak duality: for duals of at least 0, no amounts hold more than the duals are worth. What is held is at most the double sum
--- of dual times coefficient times column, since the duals sum to at least 1 in column 0 and to at least 0 elsewhere. Taken
--- row by row, this sum is at most the sum of dual times right side.
+-- Weak duality: if the duals are at least 0, no amounts let each position hold more than the duals are worth. What each holds
+-- is at most the double sum of dual times coefficient times column, since the sum of dual times coefficient is at least 1 in
+-- column 0 and at least 0 in the other columns. Taken row by row, the double sum is at most the sum of dual times right side.
 use Rattle.std.proofs.Common.{◌≡◌, ℕ, zero, suc, ◌+◌, ◌*◌, ◌/◌, ◌%◌, ◌<◌, ◌≤◌, List, [], ◌∷◌, length, refl, sym, ap, subst, ◌∙◌, slice_index, arith}
 use Rattle.std.proofs.lemmas.{Nat.div-add-mod', Int.ints}
 use lib.IntN.{ℤ, pos, negsuc, ◌+ℤ◌, ◌*ℤ◌, *ℤ_comm}
@@ -16,7 +16,7 @@ value_nonneg : (held : ℤ) (amounts : List ℕ) (j : ℕ) → pos 0 ≤ℤ held
 value_nonneg held amounts zero h = h
 value_nonneg held amounts (suc j) h = omega (arith, ints)
 
--- column by column
+-- column by column, the double sum is at least what is held
 by_columns : (rows : List Row) (columns common : ℕ) (duals : List ℕ) (held : ℤ) (amounts : List ℕ) → 0 < columns → pos 0 ≤ℤ held → AreDualsOver rows columns common duals
     → (pos common *ℤ held) ≤ℤ total_below (λ j. column_sum rows duals j *ℤ column_value held amounts j) columns
 by_columns rows columns common duals held amounts z h d =
@@ -27,7 +27,7 @@ by_columns rows columns common duals held amounts z h d =
     let grown = scaled_right (pos 0) (column_sum rows duals j) (column_value held amounts j) (value_nonneg held amounts j h) (d.others j q r) in
     omega (arith, ints, grown, zero))
 
--- the same double sum, column by column and row by row
+-- the double sum is the same column by column and row by row
 regrouped : (y : ℕ → ℤ) (a : ℕ → ℕ → ℤ) (x : ℕ → ℤ) (m n : ℕ)
     → total_below (λ j. total_below (λ k. y k *ℤ a k j) m *ℤ x j) n ≡ total_below (λ k. y k *ℤ total_below (λ j. a k j *ℤ x j) n) m
 regrouped y a x m n =
@@ -38,7 +38,7 @@ regrouped y a x m n =
     turned : (x y a : ℤ) → x *ℤ (y *ℤ a) ≡ y *ℤ (a *ℤ x)
     turned x y a = *ℤ_comm x (y *ℤ a) ∙ sym (times_times y a x)
 
--- row by row
+-- row by row, the double sum is at most what the duals are worth
 by_rows : (rows : List Row) (columns common : ℕ) (duals : List ℕ) (held : ℤ) (amounts : List ℕ) → MeetRows rows columns common held amounts
     → total_below (λ k. pos (slice_index duals k) *ℤ total_below (λ j. coefficient_in rows k j *ℤ column_value held amounts j) columns) (length rows) ≤ℤ (pos common *ℤ dual_worth rows duals)
 by_rows rows columns common duals held amounts m =
@@ -69,7 +69,7 @@ weak_duality rows columns common other duals held amounts h d m =
     let high = by_rows rows columns other duals held amounts m in
     omega (arith, ints, low, same, high)
 
--- a fraction in lowest terms, over the common denominator
+-- if the denominator q divides the common denominator n, then n is t * q for some t > 0
 whole_part : (q n : ℕ) → n % q ≡ 0 → n ≡ n / q * q
 whole_part q n e = let parts = div-add-mod' n q in omega (arith, parts, e)
 
@@ -77,7 +77,7 @@ above : (q n t : ℕ) → 1 ≤ n → n ≡ t * q → 0 < t
 above q n zero p e = absurd (omega (arith, p, e))
 above q n (suc t) p e = omega arith
 
--- q·t·held at most other·p·t
+-- if t·q·held is at most other·p·t, then q·held is at most other·p
 unscaled : (p q t other : ℕ) (held : ℤ) → 0 < t → (pos (t * q) *ℤ held) ≤ℤ (pos other *ℤ pos (p * t)) → (held *ℤ pos q) ≤ℤ pos (p * other)
 unscaled p q t other held z h =
     cancel_le (held *ℤ pos q) (pos (p * other)) t z

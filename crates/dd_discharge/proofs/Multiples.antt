@@ -1,4 +1,4 @@
--- Least common denominators: each denominator divides them.
+-- Each denominator divides the least common denominator.
 use Rattle.std.proofs.Common.{◌≡◌, ℕ, zero, suc, ◌+◌, ◌*◌, ◌/◌, ◌<◌, ◌≤◌, List, [], ◌∷◌, length, get_or, drop, drop-cons, max, Bool, true, false, cond, Some, None, refl, sym, ap, subst, ◌∙◌, arith}
 use Rattle.std.proofs.{lemmas.Bool.lt-leb, lemmas.Bool.le-leb, lemmas.Bool.leb-true, lemmas.Bool.leb-false, Math.Dec.leb}
 use Rattle.std.proofs.{Math.Seq.drop-length, lemmas.Nat.Gcd.dvd_trans, lemmas.Nat.Gcd.dvd_refl, lemmas.Nat.Gcd.le_of_dvd}
@@ -45,7 +45,7 @@ joined_divides : (n : ℕ) (xs : List Exact) → n ∣ fold joined_denominator n
 joined_divides n [] = dvd_refl n
 joined_divides n (x ∷ xs) = dvd_trans n (least_common_front n (den_of x)) (joined_divides (joined_denominator n x) xs)
 
--- more denominators have no smaller common denominator
+-- with more denominators, the least common denominator gets no smaller
 pub joined_grows : (n : ℕ) (xs : List Exact) → 0 < n → n ≤ fold joined_denominator n xs
 joined_grows n xs p = le_of_dvd (joined_above n xs p) (joined_divides n xs)
 
@@ -54,7 +54,7 @@ each_divides n [] k d p = absurd (omega (arith, p))
 each_divides n (x ∷ xs) zero d p = dvd_trans (den_of x) (least_common_back n (den_of x)) (joined_divides (joined_denominator n x) xs)
 each_divides n (x ∷ xs) (suc k) d p = each_divides (joined_denominator n x) xs k d (omega (arith, p))
 
--- the numerator of n over d in lowest terms, times d, is their least common multiple
+-- the numerator of n / d in lowest terms, times d, is the least common multiple of n and d
 pub ratio_num : (n d : ℕ) (r : Exact) → 0 < d → r ≡ lowest (pos n) d → unsigned_abs r.num * d ≡ least_common n (max 1 d)
 unfolding lowest
 ratio_num n d r p e =
@@ -75,7 +75,7 @@ printed_none n p = rw (lt-leb n most_number p) refl
 pub printed_some : (n : ℕ) → n ≤ most_number → Some n ≡ printed n
 printed_some n p = rw (le-leb n most_number p) refl
 
--- the product that is tested, and the least common multiple
+-- the product that is tested is the least common multiple
 pub multiple_is : (n : ℕ) (a r : Exact) (x y s t : ℤ) (u v : ℕ) → IsFraction a → x ≡ pos n → y ≡ pos a.den → Some r ≡ fraction_of x y
     → s ≡ r.num → u ≡ unsigned_abs s → t ≡ pos a.den → v ≡ unsigned_abs t → u * v ≡ joined_denominator n a
 multiple_is n a r x y s t u v f px py pr ps pu pt pv =
@@ -98,7 +98,7 @@ unprinted n e = by (leb n most_number) refl e
     by true l e = absurd cc
     by false l e = leb-false n most_number l
 
--- one fraction more
+-- one more fraction
 pub joined_more : (n c i : ℕ) (xs : List Exact) (x : Exact) → i < length xs → x ≡ get_or xs i x → fold joined_denominator n xs ≡ fold joined_denominator c (drop i xs)
     → fold joined_denominator n xs ≡ fold joined_denominator (joined_denominator c x) (drop (i + 1) xs)
 joined_more n c i xs x p e h = h ∙ (ap (fold joined_denominator c) (drop-cons xs i x p) ∙ (ap (λ (y : Exact). fold joined_denominator (joined_denominator c y) (drop (suc i) xs)) (sym e) ∙ ap (λ (k : ℕ). fold joined_denominator (joined_denominator c x) (drop k xs)) (next i)))
@@ -106,7 +106,7 @@ joined_more n c i xs x p e h = h ∙ (ap (fold joined_denominator c) (drop-cons 
     next : (i : ℕ) → suc i ≡ i + 1
     next i = omega arith
 
--- if a denominator on the way can't be printed, the last one can't be either
+-- if the common denominator of the first fractions can't be printed, that of all fractions can't be printed either
 pub joined_past : (n c i : ℕ) (xs : List Exact) (x : Exact) → 0 < c → i < length xs → x ≡ get_or xs i x → fold joined_denominator n xs ≡ fold joined_denominator c (drop i xs)
     → None ≡ printed (joined_denominator c x) → None ≡ printed (fold joined_denominator n xs)
 joined_past n c i xs x z p e h none =
@@ -118,7 +118,7 @@ joined_past n c i xs x z p e h none =
 pub joined_whole : (n c : ℕ) (xs : List Exact) → c ≤ most_number → fold joined_denominator n xs ≡ fold joined_denominator c (drop (length xs) xs) → Some c ≡ printed (fold joined_denominator n xs)
 joined_whole n c xs p h = let same : c ≡ fold joined_denominator n xs = sym (h ∙ ap (fold joined_denominator c) (drop-length xs)) in printed_some c p ∙ ap printed same
 
--- a fraction in lowest terms is its own reduction
+-- a fraction is in lowest terms if reducing it doesn't change its denominator
 reduced_coprime : (q g d : ℕ) → q * g ≡ d → 0 < d → q ≡ d → g ≡ 1
 reduced_coprime q zero d e p s = absurd (omega (arith, e, p))
 reduced_coprime q (suc zero) d e p s = refl

@@ -1,4 +1,4 @@
--- A discharge has one outcome: a rule has one program along some vectors, and a run stops in one way.
+-- A discharge has only one outcome, since a rule has at most one program along given vectors, and a run stops in only one way.
 use Rattle.std.proofs.Common.{◌≡◌, ℕ, ◌+◌, ◌<◌, ◌≤◌, List, ◌++◌, length, get_or, map, drop, inl, inr, sym, ap, subst, ◌∙◌, arith}
 use Rattle.std.proofs.lemmas.List.{ext_get_or}
 use Rattle.std.specs.{Prelude.◌⊎◌, Prelude.unsigned_abs, List.All, List.Any}
@@ -16,7 +16,7 @@ use Rattle.dd_rows.specs.{declared.rows.Rows.Rows, Programs.IsProgramOf, Program
 use Rattle.dd_discharge.proofs.OneProgram.{one_program, never_large}
 use Rattle.dd_discharge.specs.Bounds as bounds
 
--- ---- one end
+-- ---- a run has only one end
 
 record IsSameEnd (p : LinearProgram) (k : ℕ) (a b : DoesEnd p k) : Type 0 where
   value : a.value ≡ b.value
@@ -91,7 +91,7 @@ module _ (p : LinearProgram) (k : ℕ) where
   over_not_stopped (inl o) stops = over_before o stops
   over_not_stopped (inr e) stops = ends_before (unprinted_end e) stops
 
--- ---- over the one program
+-- ---- the outcomes, for the only program
 
 module _ (x : LocalRule) (ws : List ℕ) (radius margin : ℕ) (vs : List Place) (pivots : ℕ) where
   abbrev IsProgram : Rows → Type 0

@@ -1,5 +1,5 @@
--- Fractions as whole numbers over a common denominator: sums, products and comparisons of the fractions are those of the whole
--- numbers.
+-- Fractions as whole numbers over a common denominator. To add or compare the fractions, or to multiply them by whole numbers,
+-- it is enough to do so with the whole numbers.
 use Rattle.std.proofs.Common.{◌≡◌, ℕ, zero, suc, ◌+◌, ◌*◌, ◌/◌, ◌%◌, ◌<◌, ◌≤◌, max, sym, ap, ◌∙◌, arith}
 use Rattle.std.proofs.{lemmas.Int.ints, Math.Nat.div-mul_cancel}
 use Prim.Native.Nat.{◌∣◌}
@@ -13,7 +13,7 @@ use Rattle.dd_simplex.specs.Programs.{fraction_sum}
 use Rattle.dd_discharge.specs.{Amounts.total_below, Denominators.numerator_over}
 use Rattle.dd_discharge.specs.lemmas.WholeNumbers.{sum_times, scaled_right, cancel_le}
 
--- n over c is the fraction
+-- the fraction a is n / c
 pub record IsOver (c : ℕ) (n : ℤ) (a : Exact) : Type 0 where
   pub cross : a.num *ℤ pos c ≡ n *ℤ pos (den_of a)
 

@@ -56,7 +56,7 @@ pub any_later : {X : Type 0} (P : X → Type 0) (xs ys : List X) → Any P (drop
 any_later P [] ys (k, x, p, e, h) = absurd (omega (arith, p))
 any_later P (y ∷ xs) ys (k, x, p, e, h) = any_front P (y ∷ xs) ys (suc k, x, omega (arith, p), e, h)
 
--- ---- the value, which is that of the first column
+-- ---- the value of the run, which is the first column
 pub record Given (v : Exact) (xs ys : List Exact) (n : ℕ) : Type 0 where
   pub fraction : IsFraction v
   pub some : 0 < length xs

@@ -1,4 +1,4 @@
--- The shape of a program's rows: each has a coefficient from -1 to 1 for each column and a small bound, and the first is the cap's row.
+-- The shape of a program's rows: a coefficient from -1 to 1 for each column, and a small bound. The first row caps column 0.
 use Rattle.std.proofs.Common.{◌≡◌, ℕ, zero, suc, ◌+◌, ◌-◌, ◌*◌, ◌<◌, ◌≤◌, Bool, true, false, cond, List, [], ◌∷◌, ◌++◌, length, map, replicate, refl, sym, ap, subst, ◌∙◌, length-append, arith}
 use Rattle.std.proofs.{lemmas.List.length-map, lemmas.List.length-replicate, Math.Nat.mul-le-mul_right}
 use Rattle.std.proofs.lemmas.List.FromFn.{length-range_with_len}
@@ -113,7 +113,7 @@ capped_row x ws vs ps few small =
       bound = product_small x.nodes (greatest ws) few (greatest_small ws small);
     }
 
--- ---- rows once each, where they are first seen
+-- ---- the rows, each once, where it is first seen
 all_add : (P : Row → Type 0) (b : Bool) (rs : List Row) (r : Row) → All P rs → P r → All P (cond b rs (rs ++ r ∷ []))
 all_add P true rs r h p = h
 all_add P false rs r h p = All-append P rs (r ∷ []) h (All-cons P r [] p (All-nil P))
@@ -123,7 +123,7 @@ all_seen P rs [] h g = h
 all_seen P rs (r ∷ list) h g =
     all_seen P (add_row rs r) list (all_add P (list_any (is_same_row r) rs) rs r h (g 0 r (omega arith))) (λ k d p. g (suc k) d (omega (arith, p)))
 
--- a list that begins with the row
+-- the list rs begins with the row r
 record BeginsWith (r : Row) (rs : List Row) : Type 0 where
   rest : List Row
   is : rs ≡ r ∷ rest

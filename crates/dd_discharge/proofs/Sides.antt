@@ -1,4 +1,4 @@
--- What the tests of a claimed bound compare.
+-- The numbers that the tests of a claimed bound compare.
 use Rattle.std.proofs.Common.{◌≡◌, ℕ, ◌+◌, ◌*◌, ◌<◌, ◌≤◌, ◌^◌, List, length, slice_index_or, true, false, ap, ◌∙◌, arith}
 use Rattle.std.proofs.{Math.Nat.mul-le-mul_right, lemmas.Int.ints}
 use lib.IntN.{ℤ, pos, ◌*ℤ◌}

@@ -1,4 +1,4 @@
--- Each number of a printed bound can be printed.
+-- If the numbers of a run's result can be printed, so can all numbers of the bound that is made from it.
 use Rattle.std.proofs.Common.{◌≡◌, ℕ, ◌<◌, ◌≤◌, List, ◌++◌, length, map, drop, Some, sym, ap, subst, ◌∙◌, arith}
 use Rattle.std.proofs.lemmas.List.{length-map, Elements.All-map}
 use Rattle.std.specs.{Int.RustNames.unsigned_abs, List.All}

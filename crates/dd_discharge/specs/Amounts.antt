@@ -1,5 +1,6 @@
--- What certifies a bound, in whole numbers over a common denominator. Column 0 of a program is what each position holds at
--- least, and each other column is an amount. The duals show that no other amounts hold more.
+-- What certifies a bound, in whole numbers over a common denominator. Column 0 of a program is a number that each position
+-- holds at least, and each other column is an amount that positions give. The duals, which are factors of the rows, show that
+-- no other amounts let each position hold more.
 use Rattle.std.specs.Prelude.{ℕ, zero, suc, ◌+◌, ◌*◌, ◌/◌, ◌%◌, ◌<◌, ◌≤◌, ◌≡◌, ℤ, pos, ◌+ℤ◌, ◌*ℤ◌, ◌≤ℤ◌, List, [], length, slice_index, slice_index_or}
 use Rattle.dd_fraction.specs.Exact.{IsLowest}
 use Rattle.dd_rows.specs.declared.rows.Row.{Row}
@@ -14,31 +15,31 @@ total_below f (suc n) = total_below f n +ℤ f n
 abbrev pub row_in : List Row → ℕ → Row
 row_in rows k = slice_index_or rows k (record { coefficients = []; bound = 0 })
 
--- the coefficient of the column j in the row k
+-- the coefficient of column j in row k
 abbrev pub coefficient_in : List Row → ℕ → ℕ → ℤ
 coefficient_in rows k j = slice_index_or (row_in rows k).coefficients j (pos 0)
 
--- the value of a column: what is held, or an amount
+-- the value of a column: `held` for column 0, and an amount for any other column
 abbrev pub column_value : ℤ → List ℕ → ℕ → ℤ
 column_value held amounts zero = held
 column_value held amounts (suc j) = pos (slice_index amounts j)
 
--- each row holds when its right side is multiplied by the common denominator
+-- each row holds for these values, with its right side multiplied by the common denominator
 pub record MeetRows (rows : List Row) (columns common : ℕ) (held : ℤ) (amounts : List ℕ) : Type 0 where
   pub size : 1 + length amounts ≡ columns
   pub each : (k : ℕ) → k < length rows
       → total_below (λ j. coefficient_in rows k j *ℤ column_value held amounts j) columns ≤ℤ pos (common * (row_in rows k).bound)
 
--- the sum of dual times coefficient in a column
+-- the sum, over the rows, of dual times coefficient in column j
 abbrev pub column_sum : List Row → List ℕ → ℕ → ℤ
 column_sum rows duals j = total_below (λ k. pos (slice_index duals k) *ℤ coefficient_in rows k j) (length rows)
 
--- the sum of dual times right side
+-- the worth of the duals: the sum, over the rows, of dual times right side
 abbrev pub dual_worth : List Row → List ℕ → ℤ
 dual_worth rows duals = total_below (λ k. pos (slice_index duals k * (row_in rows k).bound)) (length rows)
 
--- There is a dual for each row. They sum to at least 1, over the common denominator, in column 0, and to at least 0 in each
--- other column.
+-- There is a dual for each row. The sum of dual times coefficient is at least 1, over the common denominator, in column 0, and
+-- at least 0 in each other column.
 pub record AreDualsOver (rows : List Row) (columns common : ℕ) (duals : List ℕ) : Type 0 where
   pub size : length duals ≡ length rows
   pub first : pos common ≤ℤ column_sum rows duals 0
@@ -48,8 +49,8 @@ pub record AreDualsOver (rows : List Row) (columns common : ℕ) (duals : List �
 abbrev pub held_over : Bound → ℕ
 held_over b = b.numerator * (b.common / b.denominator)
 
--- The bound is in lowest terms, and its denominator divides the common one. With the amounts each position holds at least the
--- bound, and the duals have the bound as value.
+-- The bound is in lowest terms, and its denominator divides the common denominator. With the amounts, each position holds at
+-- least the bound. The duals are worth exactly the bound.
 pub record IsCertifiedBound (rows : List Row) (columns : ℕ) (b : Bound) : Type 0 where
   pub lowest : IsLowest (record { num = pos b.numerator; den = b.denominator })
   pub some : 1 ≤ b.common
@@ -58,11 +59,11 @@ pub record IsCertifiedBound (rows : List Row) (columns : ℕ) (b : Bound) : Type
   pub duals : AreDualsOver rows columns b.common b.duals
   pub equal : dual_worth rows b.duals ≡ pos (held_over b)
 
--- no amounts that meet the rows hold more than p / q, whatever their common denominator
+-- whatever the common denominator, no amounts meet the rows with more than p / q in column 0
 abbrev pub HoldAtMost : List Row → ℕ → ℕ → ℕ → Type 0
 HoldAtMost rows columns p q =
     (common : ℕ) (held : ℤ) (amounts : List ℕ) → 1 ≤ common → MeetRows rows columns common held amounts → (held *ℤ pos q) ≤ℤ pos (p * common)
 
--- a bound from its parts
+-- the bound with these parts
 abbrev pub bound_claimed : ℕ → ℕ → ℕ → List ℕ → List ℕ → Bound
 bound_claimed p q n amounts duals = record { numerator = p; denominator = q; common = n; amounts = amounts; duals = duals }

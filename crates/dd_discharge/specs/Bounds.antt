@@ -1,4 +1,4 @@
--- The result of a discharge: that of its program's run, over the least common denominator.
+-- The result of a discharge: the result of the simplex run of its program, over the least common denominator.
 use Rattle.std.specs.Prelude.{ℕ, ◌⊎◌, pos, List, ◌++◌, map, length}
 use Rattle.dd_lattice.specs.Place.{Place}
 use Rattle.dd_fraction.specs.Exact.{Exact, whole_of}
@@ -35,14 +35,14 @@ pub record EndsUnprinted (p : LinearProgram) (pivots : ℕ) : Type 0 where
   pub ends : RunEnds p pivots value columns duals
   pub unprinted : HasUnprinted (columns ++ duals)
 
--- why a run gives no bound
+-- what each fault says of a run that gives no bound
 abbrev pub GivesNone : LinearProgram → ℕ → DischargeFault → Type 0
 GivesNone p pivots fault.Large = ⊥
 GivesNone p pivots fault.Overflow = RunOverflows p pivots ⊎ EndsUnprinted p pivots
 GivesNone p pivots fault.Pivots = RunPivots p pivots
 GivesNone p pivots fault.Memory = Unit {0}
 
--- the linear program of a rule's program along this number of vectors
+-- the linear program of p, a rule's program along this number of vectors
 abbrev pub linear_program : ℕ → Rows → LinearProgram
 linear_program vectors p = in_fractions (column_count vectors (length p.patterns)) p.rows
 

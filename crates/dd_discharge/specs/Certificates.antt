@@ -1,4 +1,4 @@
--- What certifies a bound of a rule along some vectors, and that no bound is better.
+-- When a bound of a rule along some vectors is certified, and when it is the best.
 use Rattle.std.specs.Prelude.{ℕ, List, length}
 use Rattle.dd_lattice.specs.Place.{Place}
 use Rattle.dd_formula.specs.LocalRule.{LocalRule}
@@ -11,7 +11,7 @@ pub record IsBoundCertificate (x : LocalRule) (ws : List ℕ) (radius margin : �
   pub is_program : IsProgramOf x ws radius margin vs program
   pub certified : IsCertifiedBound program.rows (column_count (length vs) (length program.patterns)) b
 
--- no amounts that meet the rows of the rule's program hold more than p / q
+-- no amounts meet the rows of the rule's program with more than p / q in column 0
 pub record BestOf (x : LocalRule) (ws : List ℕ) (radius margin : ℕ) (vs : List Place) (p q : ℕ) : Type 0 where
   pub program : Rows
   pub is_program : IsProgramOf x ws radius margin vs program

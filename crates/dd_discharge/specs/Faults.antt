@@ -13,13 +13,13 @@ OnOverflow fault.Overflow reason = reason
 OnOverflow fault.Pivots reason = ⊥
 OnOverflow fault.Memory reason = Unit {0}
 
--- the fault of a run
+-- the fault of the discharge for each fault of its simplex run
 abbrev pub fault_of_run : SimplexFault → DischargeFault
 fault_of_run simplex.Overflow = fault.Overflow
 fault_of_run simplex.Pivots = fault.Pivots
 fault_of_run simplex.Memory = fault.Memory
 
--- the fault of a program
+-- the fault of the discharge for each fault of its program
 abbrev pub fault_of_rows : RowsFault → DischargeFault
 fault_of_rows rows.Large = fault.Large
 fault_of_rows rows.Memory = fault.Memory

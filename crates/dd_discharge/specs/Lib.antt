@@ -1,14 +1,14 @@
 -- fractions over their least common denominator
 pub mod Denominators
--- bounds whose numbers can all be printed
+-- bounds whose numbers can all be printed, that is, are at most `most_number`
 pub mod Printed
--- the result of a discharge: that of its program's run, over the least common denominator
+-- the result of a discharge: the result of the simplex run of its program, over the least common denominator
 pub mod Bounds
 -- the law that a discharge has one outcome: one bound, or one reason why there is none
 pub mod Outcomes
--- what certifies a bound over the rows of a program
+-- what certifies a bound for the rows of a program: amounts that reach it, and duals that show that no amounts do better
 pub mod Amounts
--- what certifies a bound of a rule along some vectors, and that no bound is better
+-- when a bound of a rule along some vectors is certified, and when it is the best
 pub mod Certificates
 -- what a fault says
 pub mod Faults

@@ -1,4 +1,4 @@
-//! The best bound of a program's rows: the result of its simplex run.
+//! The best bound that the rows of a program allow. It is the result of a simplex run.
 ghost use Rattle.std.specs.Prelude.{◌≡◌, ◌<◌, map, IfOk, IfErr, OnOk};
 ghost use Rattle.dd_fraction.specs.Exact.{whole_of};
 ghost use Rattle.dd_discharge.specs.Amounts.{IsCertifiedBound};
@@ -25,7 +25,7 @@ fn fractions(alloc: Global, numbers: &[i64]) -> Result<Vec<Fraction>, AllocError
     Ok(fractions)
 }
 
-/// The linear program of the rows. The first row, which bounds column 0 alone, becomes its cap.
+/// The linear program of the rows. The first row bounds column 0 alone, and becomes the program's cap.
 fn linear_program(alloc: Global, rows: &[Row], columns: u32) -> Result<Program, AllocError>
     requires { AreRowsOf columns rows.now }
     ensures { IfOk result (λ program. program ≡ in_fractions columns rows.now) }
@@ -39,7 +39,7 @@ fn linear_program(alloc: Global, rows: &[Row], columns: u32) -> Result<Program, 
     Ok(program)
 }
 
-/// The bound with which the simplex run of the rows ends. It is certified for the rows.
+/// The bound that results from the simplex run over the rows. It is certified for the rows.
 pub(crate) fn best_of(
     alloc: Global,
     rows: &[Row],

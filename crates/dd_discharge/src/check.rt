@@ -1,6 +1,6 @@
-//! The check of a claimed bound by sums of whole numbers over the common denominator. With coefficients from -1 to 1, and at
-//! most 2,048 rows and 256 columns, no sum passes 2^92. `held` is what each position holds at least: the numerator of the
-//! bound over the common denominator.
+//! The check of a claimed bound. It compares sums of whole numbers, which are numerators over the common denominator.
+//! Coefficients are from -1 to 1, and there are at most 2,048 rows and 256 columns, so no sum exceeds 2^92. `held` is what
+//! each position holds at least: the numerator of the bound over the common denominator.
 ghost use Rattle.std.specs.Prelude.{◌≡◌, ℕ, ◌+◌, ◌*◌, ◌<◌, ◌≤◌, ◌^◌, pos, ◌-ℤ◌, ◌*ℤ◌, ◌≤ℤ◌, length, slice_index_or, unsigned_abs, true, false};
 ghost use Rattle.std.specs.List.{All};
 ghost use Rattle.dd_values.specs.Bounds.{most_number};
@@ -12,7 +12,7 @@ use crate::claimed::ClaimedBound;
 use dd_fraction::Fraction;
 use dd_rows::Row;
 
-/// A number times a coefficient.
+/// The product of a coefficient and a number.
 fn term(coefficient: i64, number: u128) -> i128
     requires unit { unsigned_abs coefficient ≤ 1 }
     requires small { number ≤ 2 ^ 80 }
@@ -23,7 +23,7 @@ fn term(coefficient: i64, number: u128) -> i128
     coefficient as i128 * number as i128
 }
 
-/// The value of a column: what is held, or an amount.
+/// The value of a column: `held` for column 0, and an amount for any other column.
 fn value_of(held: u128, amounts: &[u64], column: usize) -> u128
     requires held { held ≤ 2 ^ 80 }
     requires column { column < 1 + length amounts.now }
@@ -37,7 +37,7 @@ fn value_of(held: u128, amounts: &[u64], column: usize) -> u128
     }
 }
 
-/// The left side of a row: the sum of coefficient times the value of the column.
+/// The left side of a row: the sum, over the columns, of coefficient times value.
 fn left_side(coefficients: &[i64], held: u128, amounts: &[u64]) -> i128
     requires held { held ≤ 2 ^ 80 }
     requires size { length coefficients.now ≡ 1 + length amounts.now }
@@ -52,7 +52,7 @@ fn left_side(coefficients: &[i64], held: u128, amounts: &[u64]) -> i128
     sum
 }
 
-/// The sum of dual times coefficient in a column.
+/// The sum, over the rows, of dual times coefficient in the column.
 fn sum_in_column(rows: &[Row], columns: usize, duals: &[u64], column: usize) -> i128
     requires rows { AreRowsOf columns rows.now }
     requires duals { length duals.now ≡ length rows.now }
@@ -66,7 +66,7 @@ fn sum_in_column(rows: &[Row], columns: usize, duals: &[u64], column: usize) -> 
     sum
 }
 
-/// What the duals are worth: the sum of dual times right side.
+/// What the duals are worth: the sum, over the rows, of dual times right side.
 fn worth(rows: &[Row], columns: usize, duals: &[u64]) -> u128
     requires rows { AreRowsOf columns rows.now }
     requires duals { length duals.now ≡ length rows.now }
@@ -79,7 +79,7 @@ fn worth(rows: &[Row], columns: usize, duals: &[u64]) -> u128
     sum
 }
 
-/// Whether each row holds when its right side is multiplied by the common denominator.
+/// Whether each row holds for these values, with its right side multiplied by the common denominator.
 fn meets_rows(rows: &[Row], columns: usize, common: u64, held: u128, amounts: &[u64]) -> bool
     requires rows { AreRowsOf columns rows.now }
     requires held { held ≤ 2 ^ 80 }
@@ -97,7 +97,8 @@ fn meets_rows(rows: &[Row], columns: usize, common: u64, held: u128, amounts: &[
     true
 }
 
-/// Whether the duals sum to at least 1, over the common denominator, in column 0, and to at least 0 in each other column.
+/// Whether the sum of dual times coefficient is at least 1, over the common denominator, in column 0, and at least 0 in each
+/// other column.
 fn are_duals(rows: &[Row], columns: usize, common: u64, duals: &[u64]) -> bool
     requires rows { AreRowsOf columns rows.now }
     requires size { length duals.now ≡ length rows.now }

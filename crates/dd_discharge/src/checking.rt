@@ -1,4 +1,4 @@
-//! Whether a claimed bound of a rule along some vectors is certified.
+//! The check whether a claimed bound of a rule along some vectors is certified.
 ghost use Rattle.std.specs.Prelude.{◌≡◌, ◌≤◌, IfOk, true, false};
 ghost use Rattle.dd_values.specs.Bounds.{most_number, widest_radius};
 ghost use Rattle.dd_boxes.specs.Discharges.{AreVectors, AreWeightsFor};
@@ -12,9 +12,9 @@ use dd_lattice::Position;
 use dd_rows::{RowsFault, program_of};
 use std::alloc::{AllocError, Global};
 
-/// Whether the bound is certified for the rule along the vectors. Then the rule's program is within its limits. The bound is
-/// in lowest terms, and its denominator divides the common one. With the amounts each position holds at least the bound. The
-/// duals have the bound as value, so no amounts do better.
+/// Whether the bound is certified for the rule along the vectors. If it is, the rule's program is within its limits. The bound
+/// is in lowest terms, and its denominator divides the common denominator. With the amounts, each position holds at least the
+/// bound. The duals are worth exactly the bound, so no amounts do better.
 ///
 /// # Errors
 /// `AllocError` if memory ran out.

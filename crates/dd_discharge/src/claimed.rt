@@ -1,7 +1,7 @@
 //! Claimed bounds.
 
 /// A claimed bound: the fraction `numerator / denominator`, and the numerators of the amounts and the duals over the
-/// denominator `common`. There is an amount for each column of the program after the first, and a dual for each row.
+/// denominator `common`. There should be an amount for each column of the program after the first, and a dual for each row.
 #[derive(Clone, Copy, Debug)]
 pub struct ClaimedBound<'a> {
     pub numerator: u64,

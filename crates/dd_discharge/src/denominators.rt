@@ -1,4 +1,4 @@
-//! Fractions over their least common denominator, as in a bound. A number can be printed if it is at most 2^40.
+//! Fractions over their least common denominator, as a bound has them. A number can be printed if it is at most 2^40.
 ghost use Rattle.std.specs.Prelude.{◌≡◌, ◌<◌, ◌≤◌, ◌++◌, length, map, IfOk, OnOk, IfErr};
 ghost use Rattle.std.specs.List.{fold, All, Any};
 ghost use Rattle.dd_values.specs.Bounds.{most_number};
@@ -31,7 +31,7 @@ fn joined(common: u64, fraction: &Fraction) -> Option<u64>
     requires { 0 < common }
     ensures { result ≡ printed (joined_denominator common fraction.now) }
 {
-    // In lowest terms, the numerator of this ratio times the fraction's denominator is the least common multiple.
+    // The ratio is in lowest terms. So its numerator times the fraction's denominator is the least common multiple.
     let ratio = Fraction::new(common as i128, fraction.den())?;
     let multiple = ratio
         .num()
@@ -90,7 +90,7 @@ fn numerators(
     Ok(numbers)
 }
 
-/// The result of a run as a bound, over the least common denominator of its columns and its duals.
+/// The result of a simplex run, as a bound over the least common denominator of the run's columns and duals.
 pub(crate) fn bound_of(
     alloc: Global,
     value: &Fraction,
@@ -108,7 +108,7 @@ pub(crate) fn bound_of(
     let Some(common) = common_denominator(columns, duals) else {
         return Err(DischargeFault::Overflow);
     };
-    // The first column is the value. Its numerator is not listed, but must not be too large.
+    // The first column is the value. Its numerator is not listed, but must not be too large to be printed.
     let Some(_held) = numerator_over(common, value) else {
         return Err(DischargeFault::Overflow);
     };

@@ -14,15 +14,16 @@ use dd_lattice::Position;
 use dd_rows::program_of;
 use std::alloc::Global;
 
-/// The best bound. Each position gives along each vector an amount that its pattern determines. The bound is the greatest
-/// number that every position can then be made to hold at least. With it come such amounts, and duals that show that no
-/// amounts do better. `dd_simplex` finds them: it maximises the rule's program in at most `pivots` pivots.
+/// The best bound of the rule along the vectors. Along each vector, each position gives an amount that the pattern around it
+/// determines. The bound is the greatest number c such that, for some amounts, every position then holds at least c. The
+/// result also has such amounts, and duals that show that no amounts do better. `dd_simplex` finds all of these: it maximises
+/// the rule's program in at most `pivots` pivots.
 ///
 /// # Errors
 /// - `Large` if the program passes a limit on its size.
 /// - `Overflow` if a number of the run is greater than 2^127 - 1 in absolute value, or a number of its result, over the least
 ///   common denominator, is greater than 2^40.
-/// - `Pivots` if the run has not ended after that many pivots.
+/// - `Pivots` if the run has not ended after `pivots` pivots.
 /// - `Memory` if memory ran out.
 pub fn discharge(
     alloc: Global,

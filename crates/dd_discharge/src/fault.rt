@@ -1,4 +1,4 @@
-//! Why there is no bound of a rule along some vectors.
+//! The reasons why a discharge gave no bound.
 ghost use Rattle.std.specs.Prelude.{◌≡◌};
 
 use dd_rows::RowsFault;
@@ -9,13 +9,13 @@ use thiserror::Error;
 /// Why a discharge gave no bound.
 #[derive(Clone, Copy, Debug, PartialEq, Eq, Error)]
 pub enum DischargeFault {
-    /// The program passes a limit on its size.
+    /// The program exceeds a limit on its size.
     #[error("the program of the discharge is too large")]
     Large,
-    /// A number of the run is greater than 2^127 - 1 in absolute value, or a number of its result is greater than 2^40.
+    /// A number in the simplex run is greater than 2^127 - 1 in absolute value, or a number of its result is greater than 2^40.
     #[error("a number of the discharge is too large")]
     Overflow,
-    /// The run needs more pivots than its limit.
+    /// The simplex run needs more pivots than its limit allows.
     #[error("the run of the discharge passes its limit of pivots")]
     Pivots,
     /// Memory ran out.

@@ -1,6 +1,5 @@
--- The walk back from a conflict. Take as false some of the literals that the entries so far made false, with all
--- those of marked variables among them. Then the hints so far lead to the conflict. In the end no entry is left, and
--- no literal is taken as false.
+-- The walk back from a conflict. At each point, take as false some of the literals that the entries still to be visited make false, including
+-- all those of marked variables. Then the hints found so far lead to the conflict. In the end no entry is left, so no literal is taken as false.
 use Rattle.std.proofs.Common.{◌≡◌, ℕ, zero, suc, ◌+◌, ◌<◌, Bool, true, false, cond, not, ◌&&◌, List, [], ◌∷◌, ◌++◌, Some, refl, ap, sym, ◌∙◌, subst, inl, inr, ◌⊎◌, length, get_or, take, reverse, arith, add-one}
 use Rattle.std.proofs.lemmas.Bool.{cases_Bool, or_cases, or_left, or_right, false≢true}
 use Rattle.std.proofs.lemmas.List.{take_more, take_all, reverse-append, map-append, Folds.list_any-append}
@@ -15,7 +14,8 @@ use Rattle.dd_engines.specs.propagation.Following.{alive, falses, IsForced, IsTr
 use Rattle.dd_engines.specs.propagation.Analysis.{marks, Grows, AreMarked}
 use Rattle.dd_engines.proofs.Following.{forced_has}
 
--- Two tests that agree on a clause leave the same literals of it. If the second calls fewer literals false, it finds the same.
+-- Let p and q say which literals are false. If they agree on the literals of a clause, they leave the same literals of it. If q also
+-- calls no more literals false than p, it finds the same conflict or forced literal.
 filter_same : (p q : Literal → Bool) (c : List Literal) → ((x : Literal) → In c x → p x ≡ q x) → filter (λ x. not (p x)) c ≡ filter (λ x. not (q x)) c
 filter_same p q [] same = refl
 filter_same p q (y ∷ c) same = rw (same y (in_here c y), filter_same p q c (λ x i. same x (or_right _ _ i))) refl
@@ -33,7 +33,8 @@ fewer_false p q (y ∷ xs) f fewer shut is = go (list_all (same_literal y) xs) (
 same_finding : (p q : Literal → Bool) (c : List Literal) (f : Finding) → ((x : Literal) → p x ≡ false → q x ≡ false) → ((x : Literal) → In c x → p x ≡ q x) → (f ≡ Open → ⊥) → finding p c ≡ f → finding q c ≡ f
 same_finding p q c f fewer same shut is = fewer_false p q (filter (λ x. not (q x)) c) f fewer shut (subst (λ (xs : List Literal). finding_of p xs ≡ f) (filter_same p q c same) is)
 
--- the literals that may be taken as false before the entry at a place
+-- The literals of `start` may be taken as false before the entry at place i: the earlier entries make them false, and they include all
+-- such literals of marked variables.
 pub record Start (entries : List Entry) (i : ℕ) (marked : List Bool) (start : List Literal) : Type 0 where
   pub within : (x : Literal) → In start x → In (falses (take i entries)) x
   pub marked_in : (x : Literal) → In (falses (take i entries)) x → marks marked x ≡ true → In start x
@@ -41,7 +42,7 @@ pub record Start (entries : List Entry) (i : ℕ) (marked : List Bool) (start : 
 pub record Leads (cs : List (List Literal)) (entries : List Entry) (i : ℕ) (marked : List Bool) (hints : List ℕ) : Type 0 where
   pub leads : (start : List Literal) → Start entries i marked start → is_conflict (alive cs) start hints ≡ true
 
--- the finding for a clause whose variables are marked is the same from each such start
+-- if all variables of a clause are marked, then each such start finds the same conflict or forced literal for it
 from_start : (entries : List Entry) (i : ℕ) (marked : List Bool) (start c : List Literal) (f : Finding) → Start entries i marked start → AreMarked marked c → (f ≡ Open → ⊥) → finding (is_among (falses (take i entries))) c ≡ f → finding (is_among start) c ≡ f
 from_start entries i marked start c f s m shut is = same_finding (is_among (falses (take i entries))) (is_among start) c f fewer same shut is
   where
@@ -54,7 +55,7 @@ from_start entries i marked start c f s m shut is = same_finding (is_among (fals
       | inr n ↦ n ∙ sym (fewer x n)
     ]
 
--- the clause with a number, from 1
+-- the clause with a number, counted from 1
 clause_at : (cs : List (List Literal)) (k : ℕ) → k < length cs → clause_of (alive cs) (k + 1) ≡ Some (get_or cs k [])
 clause_at cs k lt = rw (add-one k) (at cs k lt)
   where
@@ -75,7 +76,7 @@ leads_conflict cs entries marked k conflict m = record {
 falses-more : (entries : List Entry) (j : ℕ) (d : Entry) (x : Literal) → j < length entries → is_among (falses (take (j + 1) entries)) x ≡ is_among (falses (take j entries) ++ negation (get_or entries j d).literal ∷ []) x
 falses-more entries j d x lt = ap (λ (es : List Entry). is_among (falses es) x) (take_more entries j d lt) ∙ ap (λ (xs : List Literal). is_among xs x) (map-append (λ (e : Entry). negation e.literal) (take j entries) (get_or entries j d ∷ []))
 
--- a literal that is false after an entry was false before it, or is the negation of its literal
+-- a literal is false after an entry exactly if it was false before the entry, or if it is the negation of the entry's literal
 later_from : (entries : List Entry) (j : ℕ) (d : Entry) (x : Literal) → j < length entries → In (falses (take j entries)) x → In (falses (take (j + 1) entries)) x
 later_from entries j d x lt i = falses-more entries j d x lt ∙ list_any-append (same_literal x) (falses (take j entries)) (negation (get_or entries j d).literal ∷ []) ∙ or_left _ _ i
 
@@ -106,7 +107,7 @@ leads_past cs entries j d marked hints lt unmarked w = record {
   });
 }
 
--- the case of an entry that is needed, and so are the values of the other variables of its clause
+-- the case of an entry that is needed: the values of the other variables of its clause are then needed too
 pub leads_forced : (cs : List (List Literal)) (entries : List Entry) (j : ℕ) (d : Entry) (marked more : List Bool) (hints : List ℕ) → j < length entries → IsTrail cs entries → Grows marked more → AreMarked more (get_or cs (get_or entries j d).number []) → Leads cs entries (j + 1) marked hints
     → Leads cs entries j more (((get_or entries j d).number + 1) ∷ hints)
 leads_forced cs entries j d marked more hints lt trail grows m w = record {
@@ -131,18 +132,18 @@ leads_forced cs entries j d marked more hints lt trail grows m w = record {
 pub leads_all : (cs : List (List Literal)) (entries : List Entry) (marked : List Bool) (hints : List ℕ) → Leads cs entries 0 marked hints → Ends cs hints
 leads_all cs entries marked hints w = w.leads [] (record { within = λ x i. absurd (false≢true i); marked_in = λ x i m. absurd (false≢true i) })
 
--- the next hint comes first
+-- the next hint, added at the end of the list, comes first in the reversed list
 pub leads_reversed : (cs : List (List Literal)) (entries : List Entry) (j : ℕ) (marked : List Bool) (hints : List ℕ) (h : ℕ) → Leads cs entries j marked (h ∷ reverse hints) → Leads cs entries j marked (reverse (hints ++ h ∷ []))
 leads_reversed cs entries j marked hints h w = subst (Leads cs entries j marked) (sym (reverse-append hints (h ∷ []))) w
 
--- an entry's variable is one of the clauses'
+-- the variable of an entry is in the range of the clauses' variables
 pub entry_in_range : (n : ℕ) (cs : List (List Literal)) (entries : List Entry) (j : ℕ) (d : Entry) → All (IsClauseInRange n) cs → IsTrail cs entries → j < length entries → IsLiteralInRange n (get_or entries j d).literal
 entry_in_range n cs entries j d all trail lt =
     let e = get_or entries j d in
     let forced : IsForced cs (take j entries) e = trail j d lt in
     forced_has (IsLiteralInRange n) (is_among (falses (take j entries))) (get_or cs e.number []) e.literal (all e.number [] forced.within) forced.forced
 
--- a marked clause, as it is read
+-- if the variables of the literals read from a clause are marked, then so are those of the clause with this number
 pub marked_clause : (cs : List (List Literal)) (k : ℕ) (c literals : List Literal) (marked : List Bool) → k < length cs → c ≡ get_or cs k c → literals ≡ c → AreMarked marked literals → AreMarked marked (get_or cs k [])
 marked_clause cs k c literals marked lt is same m = subst (AreMarked marked) (same ∙ is ∙ any cs k c [] lt) m
   where

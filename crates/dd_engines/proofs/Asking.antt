@@ -1,4 +1,4 @@
--- Engines asked in turn, as lists. A round of those that are left makes a round of all.
+-- Engines asked in turn, as lists. A round of the engines from some place on extends to a round of all.
 use Rattle.std.proofs.Common.{◌≡◌, ℕ, suc, ◌+◌, ◌<◌, ◌≤◌, List, [], ◌∷◌, ◌++◌, Bool, false, refl, sym, ◌∙◌, ap, subst, length, take, drop, get_or, arith, add-one, append_assoc, append-nil, length-take, Result, Ok, Err, Option, Some, None, IsErr}
 use Rattle.std.proofs.Math.ListN.{set}
 use Rattle.std.proofs.lemmas.List.{drop_more, drop-set, drop-set-lt, drop_all, drop_at, length-set, take-set, take_all, take-append-drop, take-append-le, map-append, take_more_set}
@@ -8,7 +8,7 @@ use Rattle.dd_derivation.specs.declared.step.Outcome.{Outcome}
 use Rattle.dd_engines.specs.{Proposals.round_end, Rosters.seen_of_engine, Rosters.seen_all}
 use Rattle.dd_engines.specs.Rounds.{Seen, AskedOnce, Round, End, found, nothing, memory, all_asked, was_found, at_asking, gave_nothing, was_dropped}
 
--- an error ends the round: memory ran out
+-- an error means that memory ran out, which ends the round
 pub ended_err : {F : Type 0} (answer : Result (Option Outcome) F) → IsErr answer → round_end answer ≡ memory
 ended_err (Ok (Some x)) is = absurd (cc is)
 ended_err (Ok None) is = absurd (cc is)
@@ -21,7 +21,7 @@ module _ {E : Type 0} (asked given : E → ℕ) (sound : E → Bool) where
   abbrev all : List E → List Seen
   all = seen_all asked given sound
 
-  -- A round of the engines from a place on, with the earlier ones as they are now, makes a round of all.
+  -- Each round of the engines from this place on gives a round of all engines, in which the engines before the place end up as they are now.
   abbrev pub Whole : List Seen → List E → ℕ → Type 0
   Whole before now place = (after : List Seen) (end : End) → Round (all (drop place now)) after end → Round before (all (take place now) ++ after) end
 
@@ -34,7 +34,7 @@ module _ {E : Type 0} (asked given : E → ℕ) (sound : E → Bool) where
   joined : (xs ys : List E) → all xs ++ all ys ≡ all (xs ++ ys)
   joined xs ys = sym (map-append one xs ys)
 
-  -- a list with a new item at a place, cut at that place
+  -- a list with a new item at a place consists of the part before the place, the new item, and the part after it
   cut : (xs : List E) (n : ℕ) (y : E) → n < length xs → take n xs ++ (y ∷ drop (n + 1) xs) ≡ set xs n y
   cut xs n y lt =
       ap (λ (zs : List E). zs ++ (y ∷ drop (n + 1) xs)) (sym (take-set xs n y))
@@ -48,7 +48,7 @@ module _ {E : Type 0} (asked given : E → ℕ) (sound : E → Bool) where
       let whole_of : Round before (all (take n xs) ++ []) nothing = whole [] nothing ended in
       subst (λ (l : List Seen). Round before l nothing) (joined (take n xs) [] ∙ ap all (append-nil (take n xs) ∙ take_all n xs past)) whole_of
 
-  -- how the engine at a place and those after it change
+  -- if a round of the engines from this place on changes only the first of them, it gives a round of all engines
   changed : (before : List Seen) (xs : List E) (n : ℕ) (x y : E) (end : End) → x ≡ get_or xs n x → n < length xs → Round (one x ∷ all (drop (n + 1) xs)) (one y ∷ all (drop (n + 1) xs)) end → Whole before xs n → Round before (all (set xs n y)) end
   changed before xs n x y end is lt round whole =
       let rest : Round (all (drop n xs)) (all (y ∷ drop (n + 1) xs)) end = rw (split_at xs n x is lt) round in

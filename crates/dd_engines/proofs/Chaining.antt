@@ -62,32 +62,32 @@ along_push links e linked (suc f) (suc at) few =
     go None back rest = refl
     go (Some link) back rest = ap (λ (ks : List ℕ). link.number ∷ ks) (rest link.next (back link refl))
 
--- earlier chains stay as they were
+-- earlier chains stay as they were when a link is added
 pub chain_stays : (links : List Link) (e : Link) (at : ℕ) → AreLinked links → at ≤ length links → chain_of (links ++ e ∷ []) at ≡ chain_of links at
 chain_stays links e at linked few = along_push links e linked at at few
 
--- a new link stands before the chain that it leads to
+-- a new link is put in front of the chain that it leads to
 pub chain_push : (links : List Link) (e : Link) → AreLinked links → e.next ≤ length links → chain_of (links ++ e ∷ []) (length links + 1) ≡ e.number ∷ chain_of links e.next
 chain_push links e linked back =
     ap (chain_of (links ++ e ∷ [])) (add-one (length links))
     ∙ ap (λ (o : Option Link). option_map_or (λ link. link.number ∷ along (length links) (links ++ e ∷ []) link.next) o []) (get_last links e)
     ∙ ap (λ (ks : List ℕ). e.number ∷ ks) (along_push links e linked (length links) e.next back ∙ along_enough links linked (length links) e.next e.next back (omega arith))
 
--- the chain of a link that was read
+-- the chain that begins with a link that was read from the list
 pub chain_next : (links : List Link) (at : ℕ) (link : Link) → AreLinked links → slice_get links at ≡ Some link → chain_of links (at + 1) ≡ link.number ∷ chain_of links link.next
 chain_next links at link linked is =
     ap (chain_of links) (add-one at)
     ∙ ap (λ (o : Option Link). option_map_or (λ l. l.number ∷ along at links l.next) o []) is
     ∙ ap (λ (ks : List ℕ). link.number ∷ ks) (along_enough links linked at link.next link.next (linked at link is) (omega arith))
 
--- a walk along a chain, at the link of a number from 1
+-- a step along a chain, at the link with number `at`, counted from 1
 pub chain_at : (links : List Link) (at k : ℕ) (link : Link) → AreLinked links → at ≡ k + 1 → at ≤ length links → link ≡ get_or links k link → (chain_of links at ≡ link.number ∷ chain_of links link.next) × (link.next < at)
 chain_at links at k link linked is few read =
     let there : slice_get links k ≡ Some link = slice_get-get_or links k link (omega (arith, is, few)) ∙ ap (λ (l : Link). Some l) (sym read) in
     let back : link.next ≤ k = linked k link there in
     (ap (chain_of links) is ∙ chain_next links k link linked there, omega (arith, is, back))
 
--- ---- one literal more
+-- ---- one more literal
 
 module _ (firsts : List ℕ) (links : List Link) (number p : ℕ) (linked : AreLinked links) (firsts_in : All (λ at. at ≤ length links) firsts) (within : p < length firsts) where
   abbrev one : Link
@@ -126,7 +126,7 @@ added_more m x d xs i number first before after lt is a b so_far here other = el
       other (place_differs m x a b f) ∙ so_far ∙ ap (λ (n : ℕ). replicate n number ++ first) (sym times)
 ]
 
--- a clause is put before those with greater numbers
+-- a clause is put in front of those with greater numbers
 pub chained_more : (old new : Chains) (clauses : List (List Literal)) (i : ℕ) (clause : List Literal) → i < length clauses → clause ≡ get_or clauses i clause → length new.firsts.items ≡ length old.firsts.items
     → AreChained old (i + 1) (drop (i + 1) clauses) → ((l : Literal) → HasChain old l → numbers_of new l ≡ replicate (times_in l clause) i ++ numbers_of old l) → AreChained new i (drop i clauses)
 chained_more old new clauses i clause lt is long chained added l has =

@@ -22,7 +22,7 @@ at_none (x ∷ counts) (suc k) lt h = at_none counts k (omega (arith, lt)) h
 pub some_at : (counts : List ℕ) (k : ℕ) → 0 < get_or counts k 0 → is_none_at counts k ≡ false
 some_at counts k some = false_from_ne_true (is_none_at counts k) (λ t. absurd (omega (arith, some, (none_at counts k t).none)))
 
--- at first there is a mark at each block
+-- at the start there is a mark at each block
 pub all_marked : (counts : List ℕ) → IsListed counts (replicate (length counts / 32 + 1) true) 0
 all_marked counts = record {
   long = length-replicate (length counts / 32 + 1) true;
@@ -30,7 +30,7 @@ all_marked counts = record {
   marked = λ k h. get_or-replicate (length counts / 32 + 1) (k / 32) true false (omega (arith, (none_at counts k h).within));
 }
 
--- a block without a mark is passed
+-- a block without a mark can be passed over
 pub passed : (counts : List ℕ) (marks : List Bool) (block : ℕ) → IsListed counts marks block → get_or marks block false ≡ false → IsListed counts marks (block + 1)
 passed counts marks block listed unmarked = record {
   long = listed.long;
@@ -41,7 +41,7 @@ passed counts marks block listed unmarked = record {
   marked = listed.marked;
 }
 
--- a block without a count of 0 loses its mark
+-- a block without a count of 0 can lose its mark
 pub cleared : (counts : List ℕ) (marks : List Bool) (block : ℕ) → IsListed counts marks block → NoneWithin counts (32 * block) (32 * block + 32) → IsListed counts (set marks block false) (block + 1)
 cleared counts marks block listed none =
     let past : (k : ℕ) → is_none_at counts k ≡ true → block + 1 ≤ k / 32 = λ k h. elim (cases_lt k (32 * block + 32)) [
@@ -65,7 +65,7 @@ first_of_all counts marks block place listed first = record {
   ];
 }
 
--- past the last block there is none
+-- if all blocks have been passed, no count is 0
 pub none_left : (counts : List ℕ) (marks : List Bool) (block : ℕ) → IsListed counts marks block → length marks ≤ block → NoneIsNone counts
 none_left counts marks block listed past k = false_from_ne_true (is_none_at counts k) (λ t. absurd (omega (arith, listed.long, past, listed.after k t, (none_at counts k t).within)))
 
@@ -76,7 +76,7 @@ none_listed counts marks block listed past start = record {
   marked = listed.marked;
 }
 
--- a count that isn't 0 needs no mark
+-- a count other than 0 can be written without a mark
 pub some_written : (counts : List ℕ) (marks : List Bool) (start number count : ℕ) → number < length counts → IsListed counts marks start → 0 < count → IsListed (set counts number count) marks start
 some_written counts marks start number count lt listed some =
     let before : (k : ℕ) → is_none_at (set counts number count) k ≡ true → is_none_at counts k ≡ true = λ k h.
@@ -91,7 +91,7 @@ some_written counts marks start number count lt listed some =
       marked = λ k h. listed.marked k (before k h);
     }
 
--- a count of any kind may be written where its block is marked
+-- any count can be written if its block gets a mark
 pub written_marked : (counts : List ℕ) (marks : List Bool) (start number count : ℕ) → number < length counts → IsListed counts marks start → IsListed (set counts number count) (set marks (number / 32) true) (min start (number / 32))
 written_marked counts marks start number count lt listed =
     let inside : number / 32 < length marks = omega (arith, lt, listed.long) in

@@ -1,4 +1,4 @@
--- How many values differ from those of a landmark, and when the walk is back there.
+-- How many values differ from those of a landmark, and what follows when the walk is back at the landmark.
 use Rattle.std.proofs.Common.{◌≡◌, ℕ, zero, suc, ◌+◌, ◌-◌, ◌%◌, ◌<◌, ◌≤◌, Bool, true, false, not, List, [], ◌∷◌, Option, Some, None, refl, sym, ◌∙◌, ap, subst, inl, inr, ◌⊎◌, length, get_or, arith}
 use Rattle.std.proofs.Math.{ListN.set, Nat.mod-add-mod}
 use Rattle.std.proofs.lemmas.Nat.Gcd.{dvd_of_mod-eq-zero, mod-eq-zero_of_dvd, dvd_trans}
@@ -51,7 +51,7 @@ changed_other (false ∷ xs) (true ∷ ys) zero long lt other = omega arith
 changed_other (false ∷ xs) (false ∷ ys) zero long lt other = absurd (cc other)
 changed_other (x ∷ xs) (y ∷ ys) (suc i) long lt other = omega (arith, changed_other xs ys i (omega (arith, long)) (omega (arith, lt)) other)
 
--- a multiple of a period is a period
+-- a positive multiple of a period is a period
 period_more : (cnf : ClauseList) (from to period next : ℕ) → 0 < next → next % period ≡ 0 → IsPeriod cnf from to period → IsPeriod cnf from to next
 period_more cnf from to period next some multiple is = (
   some,
@@ -62,7 +62,7 @@ period_on : (cnf : ClauseList) (from to next : ℕ) (period : Option ℕ) → If
 period_on cnf from to next None periods multiple some = absurd multiple
 period_on cnf from to next (Some period) periods multiple some = period_more cnf from to period next some multiple periods
 
--- where no flip was made, each number is a period
+-- if no flip was made, each positive number is a period
 pub period_none : (cnf : ClauseList) (from to next : ℕ) → 0 < next → from ≡ to → IsPeriod cnf from to next
 period_none cnf from to next some same = (some, λ i values clause after before at takes has. absurd (omega (arith, same, after, before)))
 
@@ -78,7 +78,7 @@ takes_same cnf k i values other clause taken same reached first at takes =
     let equal : other ≡ values = same_values other values (sym at ∙ ap (values_after cnf) same ∙ reached) in
     same_clause clause taken (sym first ∙ ap (λ (v : List Bool). first_unsatisfied v cnf.clauses) (sym equal) ∙ takes)
 
--- a period that is a multiple of the length of the next clause is one after the next flip too
+-- a period that is a multiple of the next clause's length is still a period after the next flip
 period_next : (cnf : ClauseList) (from k period : ℕ) (values : List Bool) (clause : List Literal) → values_after cnf k ≡ Some values → first_unsatisfied values cnf.clauses ≡ Some clause → (0 < length clause → period % length clause ≡ 0)
     → IsPeriod cnf from k period → IsPeriod cnf from (k + 1) period
 period_next cnf from k period values clause reached first here is = (
@@ -97,7 +97,7 @@ period_before cnf old new kept k next period periods same some (inl at) = period
 period_before cnf old new kept k next period periods (inr now) some (inr multiple) = period_none cnf new.flips k next some now.1
 period_before cnf old new kept k next period periods (inl same) some (inr multiple) = subst (λ (f : ℕ). IsPeriod cnf f k next) (sym same.1) (period_on cnf old.flips k next period periods multiple some)
 
--- the next period is one of all flips since the landmark
+-- the next period is a period of all flips since the landmark
 pub period_kept : (cnf : ClauseList) (old new : Landmark) (kept : List Bool) (k : ℕ) (period next : Option ℕ) (values : List Bool) (clause : List Literal) → IfSome period (IsPeriod cnf old.flips k) → IsSameOrNew old new kept k
     → IfSome next (IsPeriodWith new.flips k period (length clause)) → values_after cnf k ≡ Some values → first_unsatisfied values cnf.clauses ≡ Some clause → IfSome next (IsPeriod cnf new.flips (k + 1))
 period_kept cnf old new kept k period None values clause periods same with_length reached first = tt
@@ -110,7 +110,8 @@ alike n j k less none =
     let here : 0 + j ≡ j = omega arith in
     ap (λ (m : ℕ). m % n) (sym here) ∙ ap (λ (r : ℕ). (r + j) % n) (sym none) ∙ mod-add-mod (k - j) n j ∙ ap (λ (m : ℕ). m % n) at
 
--- The values after some number of flips came before, after a number between two others, and the flips that follow pick alike.
+-- The values after m flips are those after an earlier number of flips, at least j and less than k. The difference of the two numbers is
+-- a multiple of the period, so the next flips pick the same literals.
 record IsAsBefore (cnf : ClauseList) (j k period m : ℕ) : Type 0 where
   at : ℕ
   after : j ≤ at
@@ -168,7 +169,7 @@ as_before cnf j k period less multiple is back (suc d) =
     let next : suc (d + k) ≡ suc d + k = omega arith in
     subst (λ (m : ℕ). IsAsBefore cnf j k period m) next (next_as cnf j k period (d + k) less multiple is back (as_before cnf j k period less multiple is back d))
 
--- All later values came before: each is reached after fewer flips.
+-- All later values have occurred before: each is also reached after fewer flips.
 none_after : (cnf : ClauseList) (j k period : ℕ) → j < k → (k - j) % period ≡ 0 → IsPeriod cnf j k period → values_after cnf j ≡ values_after cnf k → NoneBefore cnf k → (n : ℕ) → NoneBefore cnf n
 none_after cnf j k period less multiple is back none n m values lt reached satisfying = elim (cases_lt m k) [
   | inl before ↦ none m values before reached satisfying
@@ -178,12 +179,12 @@ none_after cnf j k period less multiple is back none n m values lt reached satis
       none b.at values b.before (b.same ∙ ap (values_after cnf) at ∙ reached) satisfying
 ]
 
--- the landmark stays one of the walk's assignments
+-- the landmark always holds one of the walk's assignments
 pub kept_reached : (cnf : ClauseList) (old new : Landmark) (values : List Bool) (k : ℕ) → IsSameOrNew old new values k → values_after cnf old.flips ≡ Some old.values.items → values_after cnf k ≡ Some values → values_after cnf new.flips ≡ Some new.values.items
 kept_reached cnf old new values k (inl same) old_reached reached = ap (values_after cnf) same.1 ∙ old_reached ∙ ap (λ (v : List Bool). Some v) (sym same.0)
 kept_reached cnf old new values k (inr now) old_reached reached = ap (values_after cnf) now.1 ∙ reached ∙ ap (λ (v : List Bool). Some v) (sym now.0)
 
--- A walk that is back in an earlier state goes round. If no values satisfied until then, none ever do.
+-- A walk that is back in an earlier state goes round in a cycle. If no values up to then satisfy the clauses, none ever do.
 pub none_ever : (cnf : ClauseList) (landmark : Landmark) (values : List Bool) (period : Option ℕ) (k : ℕ) → IfSome period (IsPeriod cnf landmark.flips k) → IsBack landmark period k → IsCounted landmark values
     → values_after cnf landmark.flips ≡ Some landmark.values.items → values_after cnf k ≡ Some values → NoneBefore cnf k → (n : ℕ) → NoneBefore cnf n
 none_ever cnf landmark values None k periods back counted kept reached none = absurd back.is_multiple

@@ -1,4 +1,4 @@
--- The first clause without a true literal, by the numbers of true literals.
+-- How to find the first clause without a true literal from the counts of true literals.
 use Rattle.std.proofs.Common.{◌≡◌, ℕ, zero, suc, ◌+◌, ◌<◌, Bool, true, false, cond, not, eqb, List, [], ◌∷◌, Some, refl, sym, ◌∙◌, ap, inl, inr, length, get_or, map, arith}
 use Rattle.std.proofs.lemmas.Bool.{cases_Bool, ne_eqb, false≢true, not-true, not-false}
 use Rattle.std.proofs.lemmas.List.{Sums.sum_by-cons, Elements.All-cons, Elements.All-nil}
@@ -41,7 +41,7 @@ none_by_counts values (c ∷ cs) none =
     let here : is_unsatisfied values c ≡ false = sym (none_true (is_true_under (true_variables values)) c) ∙ none 0 in
     All-cons (λ d. is_clause_true (true_variables values) d ≡ true) c cs (not-false _ here) (none_by_counts values cs (λ k. none (suc k)))
 
--- if there is such a clause, the values do not satisfy
+-- if there is a first clause without a true literal, the values do not satisfy the clauses
 pub not_satisfied : (values : List Bool) (cs : List (List Literal)) (c : List Literal) → first_unsatisfied values cs ≡ Some c → Satisfies (true_variables values) cs → ⊥
 not_satisfied values [] c h all = absurd (cc)
 not_satisfied values (d ∷ cs) c h all = elim (cases_Bool (is_unsatisfied values d)) [

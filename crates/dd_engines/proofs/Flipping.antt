@@ -1,5 +1,5 @@
--- What a flip does to the numbers of true literals: one more for each time that a clause has the literal, and one less
--- for each time that it has its negation.
+-- How a flip changes the counts of true literals. A clause's count rises by one for each time that the clause contains the literal, and
+-- falls by one for each time that it contains the literal's negation.
 use Rattle.std.proofs.Common.{◌≡◌, ℕ, zero, suc, ◌+◌, ◌-◌, ◌^◌, ◌<◌, ◌≤◌, Bool, true, false, cond, not, List, [], ◌∷◌, ◌++◌, refl, sym, ◌∙◌, ap, subst, inl, inr, length, get_or, map, arith, append_assoc, length-append}
 use Rattle.std.proofs.Math.ListN.{set, replicate}
 use Rattle.std.proofs.lemmas.Bool.{cases_eq, ne_eqb, eq-eqb, false≢true}
@@ -57,7 +57,8 @@ unfolding times
 times_less zero x = omega arith
 times_less (suc h) x = times_less h (x - 1) ∙ omega arith
 
--- one literal, by the signs and the value
+-- How a flip changes one literal of a clause. Here t and new say whether this literal is true before and after the flip. It is the
+-- literal that the flip makes true if a holds, and the negation of that literal if b holds.
 record Balance (t new a b : Bool) : Type 0 where
   balance : cond new 1 0 + cond b 1 0 ≡ cond t 1 0 + cond a 1 0
   few : cond t 1 0 + cond a 1 0 ≤ 1
@@ -109,7 +110,7 @@ one_clause values l c b short =
     ∙ times_less (times_in (negation l) c) (true_count values c + times_in l c)
     ∙ omega (arith, b.balance)
 
--- clauses whose literals are in range, and whose lengths fit
+-- clauses whose literals are in range, and whose lengths fit in 64 bits
 pub record Fits (n : ℕ) (cs : List (List Literal)) : Type 0 where
   pub range : All (IsClauseInRange n) cs
   pub short : All (λ c. length c < 2 ^ 64) cs

@@ -1,4 +1,4 @@
--- Unit propagation. A literal that one more clause makes true follows. If every clause is settled, no hints end in a conflict.
+-- Unit propagation. If a clause forces a literal, this literal follows as one more entry. If every clause is settled, no hints end in a conflict.
 use Rattle.std.proofs.Common.{◌≡◌, ℕ, zero, suc, ◌-◌, ◌<◌, ◌≤◌, Bool, true, false, cond, not, ◌&&◌, ◌||◌, eqb, List, [], ◌∷◌, ◌++◌, Option, Some, None, refl, ap, sym, ◌∙◌, subst, inl, inr, ◌⊎◌, get_or, length, arith}
 use Rattle.std.proofs.Math.ListN.{set, replicate}
 use Rattle.std.proofs.lemmas.Bool.{eq-eqb, ne_eqb, le-leb, leb-true, and_from, and_parts, or_cases, cases_Bool, cases_eq, cases_lt, not-true, false≢true}
@@ -15,7 +15,7 @@ use Rattle.dd_derivation.specs.lemmas.{Falses.among_snoc, Findings.finding-congr
 use Rattle.dd_engines.specs.{declared.analysis.Entry.Entry, SingleSteps.IsSingleStep}
 use Rattle.dd_engines.specs.propagation.Following.{is_other, is_false_by, unknown_count, unknowns, alive, falses, IsForced, IsTrail, Conflicts, Follows, FollowsMore, IsSettled}
 
--- a literal that a clause makes true is one of its own, and has no value
+-- a literal that a clause forces is one of the clause's own, and its variable has no value
 pub record IsFree (p : Literal → Bool) (l : Literal) : Type 0 where
   pub free : p l ≡ false
   pub other : p (negation l) ≡ false
@@ -102,7 +102,7 @@ fewer values l range free =
     let one : unknown_count (get_or values (l.variable - 1) None) ≡ 1 = no_value (get_or values (l.variable - 1) None) l.positive (rw within at free.free) (rw within at free.other) in
     omega (arith, one, sum_by-set unknown_count values (l.variable - 1) (Some l.positive) None (omega (arith, range.0, range.1)))
 
--- one more entry follows
+-- a trail remains a trail when an entry forced by the older ones is added
 trail_more : (cs : List (List Literal)) (entries : List Entry) (e : Entry) → IsTrail cs entries → IsForced cs entries e → IsTrail cs (entries ++ e ∷ [])
 trail_more cs entries e trail here k d h = elim (cases_eq k (length entries)) [
   | inl q ↦ rw (q, get_or-append_seam entries e [] d, take-append_seam entries (e ∷ [])) here
@@ -116,7 +116,7 @@ among_more entries e x = ap (λ (xs : List Literal). is_among xs x) (map-append 
 entry : Literal → ℕ → Entry
 entry l k = record { literal = l; number = k }
 
--- one more clause makes a literal true
+-- a clause forces a literal, so one more entry and value follow
 pub follows_more : (cs : List (List Literal)) (entries : List Entry) (values : List (Option Bool)) (k : ℕ) (l : Literal) → Follows cs entries values → k < length cs → All (IsLiteralInRange (length values)) (get_or cs k []) → finding (is_false_by values) (get_or cs k []) ≡ Forced l
     → FollowsMore cs values (entries ++ record { literal = l; number = k } ∷ []) (set values (l.variable - 1) (Some l.positive))
 unfolding entry
@@ -134,7 +134,7 @@ follows_more cs entries values k l follows lt range forced =
       fewer = fewer values l within free;
     }
 
--- a clause is falsified
+-- a falsified clause is a conflict
 pub conflicts_at : (cs : List (List Literal)) (entries : List Entry) (values : List (Option Bool)) (k : ℕ) → Follows cs entries values → k < length cs → finding (is_false_by values) (get_or cs k []) ≡ Falsified → Conflicts cs entries k
 conflicts_at cs entries values k follows lt falsified = (
   follows.trail,
@@ -159,7 +159,7 @@ follows_from_nothing cs n = record {
   trail = λ k d h. absurd (omega (arith, h));
 }
 
--- A clause settled by g is settled by f too, which calls fewer literals false; or f forces a literal that is true by g.
+-- Let f call no more literals false than g. If a clause is open by g, then it is open by f too, or by f it forces a literal that is true by g.
 filter_again : (f g : Literal → Bool) → ((l : Literal) → f l ≡ true → g l ≡ true) → (c : List Literal) → filter (λ x. not (g x)) (filter (λ x. not (f x)) c) ≡ filter (λ x. not (g x)) c
 filter_again f g below [] = refl
 filter_again f g below (x ∷ xs) = elim (cases_Bool (f x)) [
@@ -182,7 +182,7 @@ same_left g y (x ∷ rest) all =
       | inr n ↦ rw n (and_from (same_literal y x) _ p.0 (same_left g y rest p.1))
     ]
 
--- the literal that the test with fewer false literals finds is true by the other
+-- f, the test with fewer false literals, finds a forced literal, and this literal is true by g
 record MadeTrue (f g : Literal → Bool) (xs : List Literal) : Type 0 where
   literal : Literal
   forced : finding_of f xs ≡ Forced literal

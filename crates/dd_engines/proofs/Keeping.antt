@@ -1,4 +1,4 @@
--- What a round keeps, and rounds one after the other.
+-- A round keeps the engines, and so do several rounds, one after the other.
 use Rattle.std.proofs.Common.{◌≡◌, ◌≢◌, ◌-◌, ◌^◌, ◌<◌, List, [], ◌∷◌, true, refl, sym, ◌∙◌, ⊎_elim, arith}
 use Rattle.dd_engines.specs.Rounds.{Seen, AskedOnce, AskedSince, Later, Round, End, found, nothing, memory, all_asked, was_found, before_asking, at_asking, gave_nothing, was_dropped, Kept, none_left, stayed, let_go, FirstAsked, nobody, first, went, IsHeadAsked, one_was_asked}
 
@@ -48,14 +48,14 @@ kept_from_first _ _ nobody = none_left
 kept_from_first _ _ (first {old = old} {new = new} {before = before} {after = after} since kept) = stayed old new before after since.later kept
 kept_from_first _ _ (went {old = old} {before = before} {after = after} unsound asked) = let_go old before after unsound (kept_from_first before after asked)
 
--- an engine asked in the last part was asked since the beginning
+-- if the first engine was asked in the last part of a period, it was asked in the whole period
 pub first_after : (a b c : List Seen) → Kept a b → FirstAsked b c → FirstAsked a c
 first_after _ _ _ none_left nobody = nobody
 first_after _ _ _ (stayed old mid before middle p ps) (first {new = new} {after = after} q qs) = first (since_later old mid new p q) (kept_kept before middle after ps qs)
 first_after _ _ c (stayed old mid before middle p ps) (went unsound q) = went (sym p.same ∙ unsound) (first_after before middle c ps q)
 first_after _ b c (let_go old before _ unsound ps) q = went unsound (first_after before b c ps q)
 
--- a sound engine is not dropped
+-- a sound engine that was first is not dropped: it is still first, and was asked in the meantime
 pub head_asked : (old : Seen) (before after : List Seen) → old.sound ≡ true → FirstAsked (old ∷ before) after → IsHeadAsked old after
 head_asked old before _ sound (first since kept) = since
 head_asked old before _ sound (went unsound asked) = absurd (cc (sound, unsound))

@@ -1,4 +1,4 @@
--- A pass over all clauses, a clause at a time.
+-- A pass over all clauses, one clause at a time.
 use Rattle.std.proofs.Common.{◌≡◌, ℕ, ◌+◌, ◌<◌, Bool, true, false, List, [], Option, inl, inr, subst, ◌∙◌, ap, length, get_or, take, arith}
 use Rattle.std.proofs.lemmas.{Bool.cases_Bool, List.Elements.All-more}
 use Rattle.std.specs.List.{All}
@@ -6,7 +6,7 @@ use Rattle.dd_clause.specs.declared.clause.Literal.{Literal}
 use Rattle.dd_engines.specs.declared.analysis.Entry.{Entry}
 use Rattle.dd_engines.specs.propagation.Following.{FollowsMore, IsSettled, unknowns}
 
--- If nothing has changed, each clause so far is settled. Otherwise fewer variables have no value.
+-- If nothing has changed, each clause looked at so far is settled. Otherwise fewer variables than before have no value.
 pub record PassedSoFar (clauses : List (List Literal)) (values now : List (Option Bool)) (count : ℕ) (is_settled : Bool) : Type 0 where
   pub settled : is_settled ≡ true → (now ≡ values) × All (IsSettled values) (take count clauses)
   pub more : is_settled ≡ false → unknowns now < unknowns values

@@ -1,4 +1,4 @@
--- The clauses that have a literal, by number.
+-- The numbers of the clauses that contain a literal.
 use Rattle.std.proofs.Common.{ℕ, suc, ◌+◌, ◌<◌, List, [], ◌∷◌, length, arith}
 use Rattle.std.proofs.Math.ListN.{replicate}
 use Rattle.std.specs.List.{All}
@@ -6,7 +6,7 @@ use Rattle.std.proofs.lemmas.List.Elements.{All-nil, All-append, All-replicate, 
 use Rattle.dd_clause.specs.declared.clause.Literal.{Literal}
 use Rattle.dd_engines.specs.walking.Truths.{times_in, occurrences}
 
--- each clause that has a literal is one of the list
+-- each of these numbers belongs to a clause of the list
 pub occurrences_within : (l : Literal) (cs : List (List Literal)) (n : ℕ) → All (λ k. k < n + length cs) (occurrences l n cs)
 occurrences_within l [] n = All-nil (λ k. k < n + 0)
 occurrences_within l (c ∷ cs) n =

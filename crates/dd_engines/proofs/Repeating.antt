@@ -1,4 +1,4 @@
--- A walk that comes back to a state repeats itself, and so has no new values from there on.
+-- A walk that comes back to an earlier state repeats itself, so it has no new values from there on.
 use Rattle.std.proofs.Common.{◌≡◌, ℕ, zero, suc, ◌+◌, ◌-◌, ◌%◌, ◌<◌, Bool, true, false, cond, List, [], ◌∷◌, Option, Some, None, refl, sym, ◌∙◌, ap, subst, inl, inr, length, arith, add-one}
 use Rattle.std.proofs.{Math.Nat.mod-add-mod, lemmas.Bool.cases_lt}
 use Rattle.std.proofs.lemmas.List.Elements.{All-head, All-tail, All-weaker}
@@ -7,7 +7,7 @@ use Rattle.dd_clause.specs.{declared.clause.Literal.Literal, Clauses.ClauseList}
 use Rattle.dd_engines.specs.Walks.{values_after, first_unsatisfied, is_unsatisfied, flipped, made_true, NoneBefore}
 use Rattle.dd_engines.specs.Repeats.{PickAlike, IsSameState}
 
--- an item that is found has what all items have
+-- an item that is found has any property that all items have
 found_has : {X : Type 0} (P : X → Type 0) (p : X → Bool) (xs : List X) (x : X) → All P xs → find p xs ≡ Some x → P x
 found_has P p [] x all is = absurd (cc is)
 found_has {X = X} P p (y ∷ ys) x all is = go (p y) (found_has P p ys x (All-tail P y ys all)) is
@@ -60,7 +60,7 @@ same_later cnf j k same (suc d) =
     let b : suc (k + d) ≡ k + suc d = omega arith in
     subst (λ (n : ℕ). IsSameState cnf n (k + suc d)) a (subst (λ (n : ℕ). IsSameState cnf (suc (j + d)) n) b (next_state cnf (j + d) (k + d) (same_later cnf j k same d)))
 
--- All later values came before: each is reached after fewer flips.
+-- All later values have occurred before: each is also reached after fewer flips.
 pub none_later : (cnf : ClauseList) (j k : ℕ) → j < k → IsSameState cnf j k → NoneBefore cnf k → (n : ℕ) → NoneBefore cnf n
 none_later cnf j k less same none zero m values lt reached satisfying = absurd (omega (arith, lt))
 none_later cnf j k less same none (suc n) m values lt reached satisfying = elim (cases_lt m k) [

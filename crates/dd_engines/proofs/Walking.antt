@@ -25,7 +25,7 @@ has_chain n chains l long range = (range.0, omega (arith, long, range.0, range.1
 pub chain_there : (n : ℕ) (clauses : List (List Literal)) (chains : Chains) (l : Literal) → IsListingOf chains n clauses → IsLiteralInRange n l → HasChain chains l
 chain_there n clauses chains l listing range = has_chain n chains l listing.long range
 
--- the clauses that have a literal have counts
+-- each clause in a literal's chain has a count
 pub within_counts : (clauses : List (List Literal)) (values : List Bool) (counts : List ℕ) (marks : List Bool) (start : ℕ) (chains : Chains) (l : Literal) → Walks clauses values counts marks start → IsListingOf chains (length values) clauses → IsLiteralInRange (length values) l → All (λ k. k < length counts) (numbers_of chains l)
 within_counts clauses values counts marks start chains l walks listing range =
     let long : length counts ≡ length clauses = ap length walks.counted ∙ length-map clauses (true_count values) in
@@ -37,7 +37,7 @@ pub length-changed : (f : ℕ → ℕ) (ks counts : List ℕ) → length (change
 length-changed f [] counts = refl
 length-changed f (k ∷ ks) counts = length-changed f ks (set counts k (f (get_or counts k 0))) ∙ length-set counts k (f (get_or counts k 0))
 
--- after a flip the walk stands at the new values
+-- after a flip the changed counts agree with the new values
 pub flip_walks : (clauses : List (List Literal)) (values : List Bool) (counts new_counts : List ℕ) (marks new_marks : List Bool) (start new_start : ℕ) (chains : Chains) (l : Literal) → Walks clauses values counts marks start → IsListingOf chains (length values) clauses → IsLiteralInRange (length values) l → is_true_under (true_variables values) l ≡ false
     → new_counts ≡ changed less (numbers_of chains (negation l)) (changed more (numbers_of chains l) counts) → IsListed new_counts new_marks new_start → Walks clauses (made_true values l) new_counts new_marks new_start
 flip_walks clauses values counts new_counts marks new_marks start new_start chains l walks listing range is_false made are_listed =
@@ -51,7 +51,7 @@ flip_walks clauses values counts new_counts marks new_marks start new_start chai
       are_listed = are_listed;
     }
 
--- the same numbers, with other marks
+-- the state of a walk stays right if the counts are the same and only the marks change
 pub looked_walks : (clauses : List (List Literal)) (values : List Bool) (counts new_counts : List ℕ) (marks new_marks : List Bool) (start new_start : ℕ) → Walks clauses values counts marks start
     → new_counts ≡ counts → IsListed new_counts new_marks new_start → Walks clauses values new_counts new_marks new_start
 looked_walks clauses values counts new_counts marks new_marks start new_start walks same are_listed = record {
@@ -83,7 +83,7 @@ read_default [] k x d lt is = absurd (omega (arith, lt))
 read_default (y ∷ xs) zero x d lt is = is
 read_default (y ∷ xs) (suc k) x d lt is = read_default xs k x d (omega (arith, lt)) is
 
--- the clause that a walk finds first
+-- the clause that a walk finds: the first without a true literal
 pub record FoundClause (clauses : List (List Literal)) (values : List Bool) (clause : List Literal) : Type 0 where
   pub first : first_unsatisfied values clauses ≡ Some clause
   pub range : IsClauseInRange (length values) clause
@@ -120,7 +120,7 @@ rem_within k (suc n) some = let above : 0 < suc n = omega arith in omega (arith,
 some_same : (v w : List Bool) → Some v ≡ Some w → v ≡ w
 some_same v w e = cc
 
--- no values up to these satisfy
+-- if no earlier values satisfy the clauses, and these leave a clause without a true literal, then no values up to these satisfy the clauses
 pub none_more : (cnf : ClauseList) (values : List Bool) (k : ℕ) (c : List Literal) → values_after cnf k ≡ Some values → first_unsatisfied values cnf.clauses ≡ Some c → NoneBefore cnf k → NoneBefore cnf (k + 1)
 none_more cnf values k c reached first before j other lt at satisfying = elim (cases_lt j k) [
   | inl earlier ↦ before j other earlier at satisfying
@@ -143,7 +143,7 @@ first_at cnf values counts marks start k flips walks long none few reached befor
   none_before = before;
 }
 
--- if some clause has no true literal at the end of the walk, nothing was found
+-- if some clause has no true literal at the end of the walk, no values on the walk satisfy the clauses
 pub none_at_end : (cnf : ClauseList) (values : List Bool) (counts : List ℕ) (marks : List Bool) (start : ℕ) (k place : ℕ) → Walks cnf.clauses values counts marks start → IsFirstNone counts place → values_after cnf k ≡ Some values → NoneBefore cnf k → NoneBefore cnf (k + 1)
 none_at_end cnf values counts marks start k place walks none reached before =
     let clause = get_or cnf.clauses place [] in

@@ -1,4 +1,4 @@
--- what a round of asking does to a list of engines, and what keeps them
+-- how a list of engines changes when they are asked in turn, and what it means that the list is kept
 pub mod Rounds
 -- which proposals and outcomes are right
 pub mod Proposals
@@ -12,11 +12,11 @@ pub mod SingleSteps
 pub mod Walks
 -- when a walk repeats itself
 pub mod Repeats
--- how many flips a walker makes at most
+-- the greatest number of flips that a walker makes
 pub mod Walkers
 -- what asking one engine shows
 pub mod asking
--- what follows by unit propagation from no assumptions, and what a conflict needs of it
+-- what follows by unit propagation from no assumptions, and which part of it a conflict needs
 pub mod propagation
--- how a walk is made: counts of true literals, occurrence lists, and the landmark that tells a cycle
+-- how the code walks: counts of true literals, occurrence lists, and the landmark by which a cycle is noticed
 pub mod walking

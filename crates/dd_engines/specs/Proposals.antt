@@ -8,36 +8,36 @@ use Rattle.dd_engines.specs.declared.engine.Proposal.{Proposal}
 use Rattle.dd_engines.specs.declared.engine.Proposal.TheVariants.{Nothing, Found as Proposed, Refutation}
 use Rattle.dd_engines.specs.Rounds.{End, found, nothing, memory}
 
--- there is one value for each variable, and by them each clause is true
+-- there is one value for each variable, and under these values each clause is true
 abbrev pub IsSatisfying : ClauseList → List Bool → Type 0
 IsSatisfying cnf values = (length values ≡ cnf.variables) × Satisfies (true_variables values) cnf.clauses
 
 -- the clauses are unsatisfiable: no assignment satisfies them
-abbrev pub IsUnsatisfied : ClauseList → Type 0
-IsUnsatisfied cnf = (set : ℕ → Bool) → Satisfies set cnf.clauses → ⊥
+abbrev pub IsUnsatisfiable : ClauseList → Type 0
+IsUnsatisfiable cnf = (set : ℕ → Bool) → Satisfies set cnf.clauses → ⊥
 
--- a proposal is right
+-- the proposal is right; `Nothing` counts as right
 abbrev pub IsRight : ClauseList → Proposal → Type 0
 IsRight cnf Nothing = Unit {0}
 IsRight cnf (Proposed values) = IsSatisfying cnf values
 IsRight cnf (Refutation steps) = IsRefuting cnf steps
 
--- a count has risen, or was at its greatest number and has not fallen
+-- the count has risen, or it was already at its maximum and has not fallen
 abbrev pub RisesOn : ℕ → ℕ → Type 0
 RisesOn old new = (old ≤ new) × Rose old new
 
--- the count of proposals, after one more proposal or none
+-- how the count of proposals changes: it rises with a proposal, and stays as it is if nothing is proposed
 abbrev pub GivenAfter : ℕ → ℕ → Proposal → Type 0
 GivenAfter old new Nothing = new ≡ old
 GivenAfter old new (Proposed values) = RisesOn old new
 GivenAfter old new (Refutation steps) = RisesOn old new
 
--- an outcome is right; refuted clauses are satisfied by no assignment
+-- the outcome is right; if it is a refutation, no assignment satisfies the clauses
 abbrev pub IsRightOutcome : ClauseList → Outcome → Type 0
 IsRightOutcome cnf (Found values) = IsSatisfying cnf values
-IsRightOutcome cnf (Refuted steps) = IsRefuting cnf steps × IsUnsatisfied cnf
+IsRightOutcome cnf (Refuted steps) = IsRefuting cnf steps × IsUnsatisfiable cnf
 
--- how a round ends, by its answer
+-- how a round ends, by what it returns
 abbrev pub round_end : {E : Type 0} → Result (Option Outcome) E → End
 round_end (Ok (Some outcome)) = found
 round_end (Ok None) = nothing

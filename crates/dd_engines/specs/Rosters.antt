@@ -2,7 +2,7 @@
 use Rattle.std.specs.Prelude.{ℕ, Bool, List, map}
 use Rattle.dd_engines.specs.{declared.roster.Roster.Roster, Rounds.Seen}
 
--- an engine as contracts see it, from its two counts and whether it is sound
+-- an engine as contracts see it, given its two counts and whether it is sound
 abbrev pub seen_of_engine : {E : Type 0} → (E → ℕ) → (E → ℕ) → (E → Bool) → E → Seen
 seen_of_engine asked given sound engine = record { asked = asked engine; given = given engine; sound = sound engine }
 

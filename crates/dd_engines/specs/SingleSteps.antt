@@ -9,7 +9,7 @@ use Rattle.dd_engines.specs.declared.engine.Proposal.TheVariants.{Nothing, Found
 abbrev pub IsSingleStep : ClauseList → Step → Type 0
 IsSingleStep cnf step = IsRefuting cnf (step ∷ [])
 
--- a single step that refutes the clauses, or nothing exactly if there is none
+-- the proposal is a single step that refutes the clauses, or nothing if there is no such step
 abbrev pub ProposesSingleStep : ClauseList → Proposal → Type 0
 ProposesSingleStep cnf Nothing = (step : Step) → IsSingleStep cnf step → ⊥
 ProposesSingleStep cnf (Found values) = ⊥

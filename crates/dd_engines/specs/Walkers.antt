@@ -1,4 +1,4 @@
--- How many flips a walker makes at most.
+-- The greatest number of flips that a walker makes.
 use Rattle.std.specs.Prelude.{ℕ}
 use Rattle.dd_engines.specs.declared.walker.Walker.{Walker}
 

@@ -1,4 +1,4 @@
--- A walk through assignments: each flip makes a literal of the first clause without a true literal true.
+-- A walk through assignments. Each flip takes the first clause without a true literal, and makes one of its literals true.
 use Rattle.std.specs.Prelude.{◌≡◌, ℕ, zero, suc, ◌+◌, ◌-◌, ◌%◌, ◌<◌, ◌≤◌, Bool, false, not, List, Option, Some, length, replicate, slice_get, slice_set}
 use Rattle.std.specs.{List.find, Option.option_map, Option.option_and_then}
 use Rattle.dd_clause.specs.{declared.clause.Literal.Literal, Clauses.ClauseList, Clauses.is_clause_true}
@@ -15,25 +15,26 @@ is_unsatisfied values clause = not (is_clause_true (true_variables values) claus
 abbrev pub first_unsatisfied : List Bool → List (List Literal) → Option (List Literal)
 first_unsatisfied values clauses = find (is_unsatisfied values) clauses
 
--- the values with a literal made true
+-- the values after this literal is made true
 abbrev pub made_true : List Bool → Literal → List Bool
 made_true values l = slice_set values (l.variable - 1) l.positive
 
--- Flip number k makes one literal of the clause true: the one at place k % length, from 0. An empty clause has none.
+-- The values after flip number k. It makes one literal of the clause true: the one at place k % length, counted from 0. An empty clause
+-- has no such literal.
 abbrev pub flipped : ℕ → List Bool → List Literal → Option (List Bool)
 flipped k values clause = option_map (made_true values) (slice_get clause (k % length clause))
 
--- The values after k flips, starting with all variables false. There are none if an earlier flip finds no clause
--- without a true literal, or an empty one.
+-- The values after k flips, starting with all variables false. There are none if one of these flips finds no clause without a true
+-- literal, or finds an empty clause.
 abbrev pub values_after : ClauseList → ℕ → Option (List Bool)
 values_after cnf zero = Some (replicate cnf.variables false)
 values_after cnf (suc k) = option_and_then (λ values. option_and_then (flipped k values) (first_unsatisfied values cnf.clauses)) (values_after cnf k)
 
--- no values after fewer than this many flips satisfy the clauses
+-- no values reached after fewer than this many flips satisfy the clauses
 abbrev pub NoneBefore : ClauseList → ℕ → Type 0
 NoneBefore cnf count = (k : ℕ) (values : List Bool) → k < count → values_after cnf k ≡ Some values → IsSatisfying cnf values → ⊥
 
--- the values are the first on the walk that satisfy the clauses
+-- the values are the first on the walk that satisfy the clauses, and are reached after at most this many flips
 pub record IsFirstOnWalk (cnf : ClauseList) (flips : ℕ) (values : List Bool) : Type 0 where
   pub count : ℕ
   pub few : count ≤ flips
@@ -41,7 +42,7 @@ pub record IsFirstOnWalk (cnf : ClauseList) (flips : ℕ) (values : List Bool) :
   pub satisfying : IsSatisfying cnf values
   pub none_before : NoneBefore cnf count
 
--- the first assignment of the walk, after at most this many flips, that satisfies the clauses; nothing if none does
+-- the proposal is the first assignment on the walk, after at most this many flips, that satisfies the clauses; it is nothing if none does
 abbrev pub ProposesFirst : ClauseList → ℕ → Proposal → Type 0
 ProposesFirst cnf flips Nothing = NoneBefore cnf (flips + 1)
 ProposesFirst cnf flips (Found values) = IsFirstOnWalk cnf flips values

@@ -1,5 +1,6 @@
-//! The clauses that a conflict needs, found by going back over the trail (Marques-Silva and Sakallah 1999). The conflict's
-//! clause needs the values of its variables. Each clause that gave a needed value in turn needs the values of its variables.
+//! The clauses that a conflict needs, found by going back over the trail (Marques-Silva and Sakallah 1999). The clause of the
+//! conflict needs the values of its variables. Each clause that forced a needed value needs, in turn, the values of its own
+//! variables.
 ghost use Rattle.std.specs.Prelude.{◌≡◌, All, length, IfOk};
 ghost use Rattle.dd_clause.specs.Clauses.{IsClauseInRange};
 ghost use Rattle.dd_engines.specs.propagation.Following.{IsTrail, IsFalsified, Ends};
@@ -8,7 +9,7 @@ ghost use Rattle.dd_engines.specs.propagation.Analysis.{Grows, AreMarked};
 use dd_clause::{Clause, Literal};
 use std::alloc::{AllocError, Global};
 
-/// A literal that became true, and the number, from 0, of the clause that made it so.
+/// A literal that became true, and the number, counted from 0, of the clause that made it true.
 #[derive(Clone, Copy)]
 pub struct Entry {
     pub literal: Literal,
@@ -26,8 +27,8 @@ fn mark(marked: &mut [bool], literals: &[Literal])
     }
 }
 
-/// Goes back over the entries from the conflict, and marks the variables whose values it needs. Returns the hints: the needed
-/// clauses, numbered from 1, as in a step.
+/// Goes back over the entries from the conflict, and marks the variables whose values the conflict needs. Returns the hints: the
+/// numbers of the needed clauses, counted from 1, as in a step.
 fn walk_back(
     alloc: Global,
     clauses: &[Clause],
@@ -54,8 +55,8 @@ fn walk_back(
     Ok(hints)
 }
 
-/// The hints, in the order of the trail, of a step that refutes the clauses. The last is the clause of the conflict; each
-/// of the others gives a value that a later one needs.
+/// Returns the hints of a step that refutes the clauses, in the order of the trail. The last hint is the clause of the conflict.
+/// Each of the others forces a value that a later one needs.
 pub fn needed_hints(
     alloc: Global,
     clauses: &[Clause],

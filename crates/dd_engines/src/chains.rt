@@ -1,6 +1,6 @@
-//! Occurrence lists: for each literal a chain of the clauses that have it. All chains share one list of links. They are
-//! made in one pass over the clauses, from the last one back, so the numbers along a chain are in order. A clause that has a
-//! literal several times stands in its chain as often, in a row.
+//! Occurrence lists: each literal has a chain of the clauses that contain it. All chains share one list of links. They are made
+//! in one pass over the clauses, from the last to the first, so the clause numbers along a chain are in ascending order. A
+//! clause that contains a literal several times occurs in the literal's chain as many times, in a row.
 ghost use Rattle.std.specs.Prelude.{◌≡◌, ◌≢◌, ◌++◌, ◌∷◌, slice_index_or, All, replicate, length, IfOk, OnOk};
 ghost use Rattle.dd_clause.specs.declared.clause.Literal.{Literal};
 ghost use Rattle.dd_engines.specs.walking.Truths as spec;
@@ -13,22 +13,23 @@ use std::alloc::{AllocError, Global};
 /// A link of a literal's chain.
 #[derive(Clone, Copy)]
 pub struct Link {
-    /// The number, from 0, of a clause that has the literal.
+    /// The number, counted from 0, of a clause that contains the literal.
     pub number: usize,
-    /// The number, from 1, of the next link, or 0 at the end.
+    /// The number, counted from 1, of the next link, or 0 at the end of the chain.
     pub next: usize,
 }
 
 /// The chains of all literals.
 #[derive(Drop)]
 pub struct Chains {
-    /// For each literal, at its place, the number, from 1, of its first link, or 0 if it has none.
+    /// For each literal, at the literal's place, the number of the first link of its chain, counted from 1, or 0 if the chain is
+    /// empty.
     pub firsts: Vec<usize>,
     /// The links of all chains.
     pub links: Vec<Link>,
 }
 
-/// The place of a literal among all literals, two for each variable.
+/// The place of a literal in a list of all literals, which has two for each variable.
 fn place_of(literal: Literal) -> usize
     ensures { result ≡ spec.place_of literal }
 {
@@ -45,7 +46,7 @@ impl Chains {
         }
     }
 
-    /// Replaces the chains by those of a clause list. The memory is used again.
+    /// Replaces the chains with those of a clause list, and reuses their memory.
     fn list(&mut self, cnf: &Cnf) -> Result<(), AllocError>
         ensures { OnOk result (IsListingOf self.new cnf.now.variables cnf.now.clauses) }
     {
@@ -59,7 +60,7 @@ impl Chains {
         Ok(())
     }
 
-    /// Adds a clause with this number, before those in the chains.
+    /// Adds a clause with this number to the chains of its literals, in front of the clauses that are there.
     fn add(&mut self, number: usize, clause: &Clause) -> Result<(), AllocError>
         requires places { All (HasChain self.old) clause.now }
         requires linked { IsLinked self.old }
@@ -89,7 +90,7 @@ impl Chains {
         Ok(())
     }
 
-    /// The number, from 1, of the first link of a literal's chain, or 0.
+    /// The number, counted from 1, of the first link of a literal's chain, or 0 if there is none.
     pub fn first(&self, literal: Literal) -> usize
         ensures { result ≡ slice_index_or self.now.firsts.items (spec.place_of literal) 0 }
     {
@@ -99,7 +100,7 @@ impl Chains {
         }
     }
 
-    /// The link with this number, from 1. `None` for 0.
+    /// The link with this number, counted from 1. `None` if there is no such link, as for 0.
     pub fn link(&self, at: usize) -> Option<Link> {
         if at == 0 {
             return None;
@@ -107,7 +108,7 @@ impl Chains {
         self.links.get(at - 1).copied()
     }
 
-    /// Whether the chain goes on with the same clause, which has the literal several times.
+    /// Whether the next link of the chain is for the same clause. If so, the clause contains the literal several times.
     pub fn is_repeated(&self, link: Link) -> bool {
         match self.link(link.next) {
             Some(next) => next.number == link.number,
@@ -116,7 +117,7 @@ impl Chains {
     }
 }
 
-/// The chains of a list. They are made in the memory of earlier chains, if `room` has any.
+/// The chains of a clause list. They reuse the memory of the chains in `room`, if there are any.
 pub fn listed(alloc: Global, room: &mut Option<Chains>, cnf: &Cnf) -> Result<Chains, AllocError>
     ensures { IfOk result (λ chains. IsListingOf chains cnf.now.variables cnf.now.clauses) }
 {

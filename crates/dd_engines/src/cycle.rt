@@ -1,28 +1,29 @@
 //! Whether a walk is in a cycle: it is back at earlier values, and its flips pick the same literals again. One earlier
-//! assignment is kept, the landmark. It is replaced each time that the number of flips has doubled (Brent 1980). A count says
-//! in how many variables the present assignment differs from it.
+//! assignment is kept, the landmark. The present assignment replaces it each time the number of flips has doubled (Brent 1980).
+//! A count says in how many variables the present assignment differs from the landmark.
 //!
-//! The number of a flip, modulo the length of the clause that it takes, picks the literal. Here a period is a common multiple
-//! of the lengths of the clauses taken since the landmark; it isn't the length of the cycle. If the number of flips since the
-//! landmark is a multiple of a period, the flips pick the same literals again. The lengths of other clauses don't matter.
+//! A flip takes a clause, and picks a literal of it: the one whose place is the number of the flip modulo the length of the
+//! clause. Here a period is a common multiple of the lengths of the clauses taken since the landmark. It isn't the length of the
+//! cycle. If the walk is back at the landmark's values, and the number of flips since the landmark is a multiple of a period,
+//! the next flips pick the same literals again. The lengths of other clauses don't matter.
 ghost use Rattle.std.specs.Prelude.{◌≡◌, ◌*◌, ◌<◌, ◌%◌, true, false, not, length, replicate, slice_set, slice_index_or, IfOk, IfSome};
 ghost use Rattle.dd_engines.specs.walking.Cycles.{IsCounted, IsBack, IsSameOrNew, IsPeriodWith};
 
 use std::alloc::{AllocError, Global};
 
-/// An earlier assignment of the walk.
+/// The landmark: an earlier assignment of the walk.
 #[derive(Drop)]
 pub struct Landmark {
     /// The values of the variables.
     values: Vec<bool>,
-    /// How many flips the walk had made then.
+    /// How many flips the walk had made when it reached this assignment.
     flips: u32,
     /// In how many variables the present assignment differs from this one.
     differing: usize,
 }
 
 impl Landmark {
-    /// The start of the walk, with all variables false.
+    /// The landmark at the start of the walk, with all variables false.
     pub fn new(alloc: Global, variables: usize) -> Result<Landmark, AllocError>
         ensures values { IfOk result (λ landmark. landmark.values.items ≡ replicate variables false) }
         ensures flips { IfOk result (λ landmark. landmark.flips ≡ 0) }
@@ -35,8 +36,8 @@ impl Landmark {
         })
     }
 
-    /// Adjusts the count of variables in which the assignments differ. The value at this place is about to change: `values`
-    /// are those before.
+    /// Updates the count of the variables in which the two assignments differ, as the value at this place is about to change.
+    /// `values` are the walk's values before the change.
     pub fn count(&mut self, values: &[bool], place: usize)
         requires within { place < length values.now }
         requires counted { IsCounted self.old values.now }
@@ -52,7 +53,7 @@ impl Landmark {
     }
 
     /// Whether the walk, after `k` flips, is known to be back in the state that it had at the landmark. `period` is a period of
-    /// the flips since, if one is known.
+    /// the flips since the landmark, if one is known.
     pub fn is_back(&self, k: u32, period: Option<u32>) -> bool
         requires { IfSome period (λ t. 0 < t) }
         ensures { result ≡ true → IsBack self.now period k }
@@ -63,7 +64,7 @@ impl Landmark {
         }
     }
 
-    /// Makes the assignment after `k` flips the landmark, if the number of flips has doubled.
+    /// Replaces the landmark with the assignment after `k` flips, if the number of flips has at least doubled since the landmark.
     pub fn renew(&mut self, k: u32, values: &[bool])
         requires { IsCounted self.old values.now }
         ensures counted { IsCounted self.new values.now }
@@ -76,9 +77,10 @@ impl Landmark {
         }
     }
 
-    /// A period of the flips from the landmark to flip number `k`, from 0, which takes a clause of this length. `period` is a
-    /// period of those without flip `k`, if one is known. It isn't used if flip `k` is the first since the landmark. `None` if
-    /// a period was needed and not known, or the new one is greater than `most`: a walk of `most` flips has no use for it.
+    /// A period of the flips from the landmark up to flip number `k`, counted from 0, which takes a clause of this length.
+    /// `period` is a period of the flips before flip `k`, if one is known. It isn't used if flip `k` is the first since the
+    /// landmark. Returns `None` if a period was needed but not known, or if the new period is greater than `most`: a walk of
+    /// `most` flips has no use for it.
     pub fn period_with(&self, k: u32, period: Option<u32>, length: usize, most: u32) -> Option<u32>
         requires { IfSome period (λ t. 0 < t) }
         ensures { IfSome result (IsPeriodWith self.now.flips k period length) }
@@ -89,7 +91,8 @@ impl Landmark {
     }
 }
 
-/// The least multiple of `first`, up to `most`, that is a multiple of `other` too. If `other` is 0, it is `first`.
+/// The least positive multiple of `first` that is also a multiple of `other`. `None` if it is greater than `most`. If `other` is
+/// 0, the result is `first`.
 fn common_multiple(first: u32, other: u32, most: u32) -> Option<u32>
     requires { 0 < first }
     ensures { IfSome result (λ found. (0 < found) × (found % first ≡ 0) × (0 < other → found % other ≡ 0)) }

@@ -1,5 +1,5 @@
-//! What an engine is: it proposes something about a clause list, and its caller checks the proposal. So an engine may
-//! be of any kind, may guess and may be wrong.
+//! What an engine is. It proposes something about a clause list, and its caller checks the proposal. So an engine may work in
+//! any way: it may guess, and it may be wrong.
 ghost use Rattle.std.specs.Prelude.{◌≡◌, ◌-◌, ◌^◌, ◌≤◌, ℕ, Bool, true, IfOk, OnErr};
 ghost use Rattle.dd_engines.specs.Proposals.{IsRight, GivenAfter};
 ghost use Rattle.dd_engines.specs.Rounds.{RisesByOne};
@@ -9,7 +9,7 @@ use dd_derivation::Step;
 use dd_values::Items;
 use std::alloc::{AllocError, Global};
 
-/// What an engine proposes about a clause list. Nothing of it is checked yet.
+/// What an engine proposes about a clause list. The proposal has not been checked yet.
 #[derive(Debug, Drop)]
 pub enum Proposal {
     /// No proposal.
@@ -20,7 +20,8 @@ pub enum Proposal {
     Refutation(Items<Step>),
 }
 
-/// Proposes assignments and refutations, from a state of its own. The state holds two counts, for example in a `Tally`.
+/// Something that proposes assignments and refutations. It has a state of its own, which holds two counts, for example in a
+/// `Tally`.
 pub trait Engine: Drop {
     /// How often it was asked. The count stops at 2^64 - 1.
     ghost asked: { Self → ℕ };
@@ -31,7 +32,7 @@ pub trait Engine: Drop {
     /// Whether each of its proposals is right.
     ghost sound: { Self → Bool };
 
-    /// Proposes something about the clauses, or nothing. If memory runs out, nothing was proposed.
+    /// Proposes something about the clauses, or nothing. If the call fails because memory runs out, it has proposed nothing.
     fn propose(&mut self, alloc: Global, cnf: &Cnf) -> Result<Proposal, AllocError>
         ensures asked { RisesByOne (asked self.old) (asked self.new) }
         ensures given { IfOk result (GivenAfter (given self.old) (given self.new)) }

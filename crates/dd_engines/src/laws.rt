@@ -1,4 +1,6 @@
-//! Laws of rounds and kept rosters, for callers that ask a roster several times, and of walks that are in a cycle.
+//! Laws for callers that ask a roster several times, and a law of walks that are in a cycle. A round asks the engines of a
+//! roster once, as `Roster::ask` does. A roster is kept if only engines that aren't sound are dropped, the others stay in order,
+//! and no count falls.
 ghost use Rattle.std.specs.Prelude.{◌≡◌, ◌<◌, ◌+◌, ℕ, true, List, ◌∷◌};
 ghost use Rattle.dd_clause.specs.Clauses.{ClauseList};
 ghost use Rattle.dd_engines.specs.Rounds.{Seen, End, Round, Kept, FirstAsked, IsHeadAsked, one_was_asked};
@@ -10,36 +12,38 @@ pub fn rounds_keep()
     ensures { (before after : List Seen) (end : End) → Round before after end → Kept before after }
 {}
 
-/// Does nothing; its contract is the law that a roster that is not asked is kept.
+/// Does nothing; its contract is the law that an unchanged roster is kept.
 pub fn kept_is_reflexive()
     ensures { (all : List Seen) → Kept all all }
 {}
 
-/// Does nothing; its contract is the law that a roster that is kept twice is kept.
+/// Does nothing; its contract is the law that a roster that is kept from a first time to a second, and from the second to a
+/// third, is kept from the first to the third.
 pub fn kept_is_transitive()
     ensures { (before between after : List Seen) → Kept before between → Kept between after → Kept before after }
 {}
 
-/// Does nothing; its contract is the law that a roster whose first engine was asked is kept.
+/// Does nothing; its contract is the law that a roster whose first engine was asked, in the sense of `FirstAsked`, is kept.
 pub fn first_asked_keeps()
     ensures { (before after : List Seen) → FirstAsked before after → Kept before after }
 {}
 
-/// Does nothing; its contract is the law that the first engine is not skipped. If it is sound, it is still the first,
-/// and was asked since. An example shows that `FirstAsked` can be false: it is so for two sound engines whose counts stay as
-/// they were.
+/// Does nothing; its contract is the law that the first engine is not skipped. If it is sound, it is still the first, and it was
+/// asked in the meantime. An example shows that `FirstAsked` can be false: it is false for two sound engines whose counts have
+/// not changed.
 pub fn first_is_not_skipped()
     ensures head { (old : Seen) (before after : List Seen) → old.sound ≡ true → FirstAsked (old ∷ before) after → IsHeadAsked old after }
     ensures pair { FirstAsked one_was_asked one_was_asked → ⊥ }
 {}
 
-/// Does nothing; its contract is the law that an engine asked recently was asked since any earlier time.
+/// Does nothing; its contract is the law that if the first engine was asked since some time, it was asked since any earlier time
+/// too.
 pub fn first_asked_earlier()
     ensures { (before between after : List Seen) → Kept before between → FirstAsked between after → FirstAsked before after }
 {}
 
-/// Does nothing; its contract is the law that a walk which comes back to a state repeats itself. From equal states on
-/// it goes through equal states. If none of its values satisfied until then, none does later.
+/// Does nothing; its contract is the law that a walk repeats itself once it is back in an earlier state: after equal states, it
+/// goes through equal states. If none of its assignments up to then satisfies the clauses, no later one does.
 pub fn walk_repeats()
     ensures same { (cnf : ClauseList) (j k : ℕ) → IsSameState cnf j k → (d : ℕ) → IsSameState cnf (j + d) (k + d) }
     ensures none { (cnf : ClauseList) (j k : ℕ) → j < k → IsSameState cnf j k → NoneBefore cnf k → (n : ℕ) → NoneBefore cnf n }

@@ -1,4 +1,5 @@
-//! Engines that propose assignments or refutations for a clause list, and a roster that asks them in turn.
+//! Engines that propose an outcome for a clause list: an assignment that satisfies it, or a refutation, which is a list of steps
+//! that derive the empty clause. A roster asks the engines in turn and checks what they propose.
 #![tactic(auto, using(std::proofs::lemmas::Grind::common_steps))]
 
 mod analysis;

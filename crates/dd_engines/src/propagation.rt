@@ -1,12 +1,13 @@
-//! Unit propagation from no assumptions: if all literals of a clause but one are false, the clause makes this one true. It ends
-//! with a conflict, a clause of which all literals are false, or when a pass over all clauses changes nothing.
+//! Unit propagation from no assumptions. If all literals of a clause but one are false, the clause makes the remaining one true.
+//! Propagation ends with a conflict, which is a clause whose literals are all false, or when a pass over all clauses changes
+//! nothing.
 //!
-//! A count for each clause says how many of its literals are not false. When a literal becomes false, each clause that is left
-//! with one literal is looked at next. So the second pass finds nothing new, and the whole takes linear time.
+//! Each clause has a count of its literals that are not false. When a literal becomes false, each clause that has only one such
+//! literal left is looked at next. So the second pass finds nothing new, and the whole takes linear time.
 //!
-//! Before this, two passes without counts are tried, from the last clause to the first. Mostly they find as much. For in clauses
-//! that are made of gates, those of a gate stand before the clauses that use the gate. So these passes go from the uses of a
-//! gate to the gate.
+//! Before this, two passes without counts are tried, from the last clause to the first. They usually find just as much. In a
+//! clause list that is made from gates, the clauses of a gate come before the clauses that use the gate. So these passes go from
+//! the uses of a gate to the gate.
 ghost use Rattle.std.specs.Prelude.{◌≡◌, [], List, All, true, length, IfOk, MatchOption};
 ghost use Rattle.dd_clause.specs.Clauses.{IsClauseInRange};
 ghost use Rattle.dd_clause.specs.declared.clause.Literal.{Literal};
@@ -20,7 +21,7 @@ use dd_derivation::{FalseLiterals, Finding, Step, find};
 use dd_values::Items;
 use std::alloc::{AllocError, Global};
 
-/// What follows so far: the values of the variables that have one, and the literals that became true, in order.
+/// What has followed so far: the values of the variables that have one, and the literals that became true, in order.
 #[derive(Drop)]
 struct Trail {
     values: Vec<Option<bool>>,
@@ -43,7 +44,7 @@ impl FalseLiterals for Trail {
 }
 
 impl Trail {
-    /// The trail before anything follows: no variable has a value.
+    /// The trail at the start: no variable has a value.
     fn new(alloc: Global, variables: usize) -> Result<Trail, AllocError>
         ensures values { IfOk result (λ trail. length trail.values.items ≡ variables) }
         ensures follows { IfOk result (λ trail. (clauses : List (List Literal)) → Follows clauses trail.entries.items trail.values.items) }
@@ -54,8 +55,8 @@ impl Trail {
         })
     }
 
-    /// Looks at a clause, and adds the literal that it makes true, if there is one. Returns what the look finds: the clause
-    /// forces a literal, all its literals are false, or it is open, where neither holds.
+    /// Looks at a clause, and adds the literal that it forces to be true, if there is one. Returns what the look finds: the
+    /// clause forces a literal, all its literals are false, or it is open, which means neither.
     fn look(&mut self, clauses: &[Clause], number: usize) -> Result<Finding, AllocError>
         requires in_range { All (IsClauseInRange (length self.old.values.items)) clauses.now }
         requires follows { Follows clauses.now self.old.entries.items self.old.values.items }
@@ -77,7 +78,7 @@ impl Trail {
         Ok(finding)
     }
 
-    /// Gives the literal's variable a value, without an entry.
+    /// Gives the literal's variable the value that makes the literal true, but adds no entry.
     fn set(&mut self, literal: Literal) {
         let place = (literal.variable as usize).saturating_sub(1);
         if let Some(value) = self.values.get_mut(place) {
@@ -86,7 +87,8 @@ impl Trail {
     }
 }
 
-/// Looks at each clause, from the last to the first, and gives values without entries. Returns whether no clause is falsified.
+/// Looks at the clauses, from the last to the first, and makes the literals true that they force, but adds no entries. Stops and
+/// returns false at a clause that is falsified. Returns true if there is none.
 fn pass_back(trail: &mut Trail, clauses: &[Clause]) -> bool {
     for number in (0..clauses.len()).rev() {
         match find(trail, clauses[number].literals()) {
@@ -98,7 +100,7 @@ fn pass_back(trail: &mut Trail, clauses: &[Clause]) -> bool {
     true
 }
 
-/// Whether, by the values, no clause is falsified or forces a literal.
+/// Whether no clause is falsified or forces a literal under the trail's values.
 fn is_settled(trail: &Trail, clauses: &[Clause]) -> bool
     ensures { result ≡ true → All (IsSettled trail.now.values.items) clauses.now }
 {
@@ -112,8 +114,8 @@ fn is_settled(trail: &Trail, clauses: &[Clause]) -> bool
     true
 }
 
-/// Whether two passes from the last clause to the first find all that follows, and no conflict. If so, no single step refutes
-/// the clauses.
+/// Whether two passes, from the last clause to the first, find everything that follows, and no conflict. If so, no single step
+/// refutes the clauses.
 pub fn settles_soon(alloc: Global, cnf: &Cnf) -> Result<bool, AllocError>
     ensures { IfOk result (λ settles. settles ≡ true → (step : _) → IsSingleStep cnf.now step → ⊥) }
 {
@@ -125,9 +127,9 @@ pub fn settles_soon(alloc: Global, cnf: &Cnf) -> Result<bool, AllocError>
     Ok(is_settled(&trail, clauses))
 }
 
-/// How far propagation came.
+/// How far propagation got.
 enum Progress {
-    /// All literals of the clause with this number, from 0, are false.
+    /// All literals of the clause with this number, counted from 0, are false.
     Conflict(usize),
     /// More literals became true.
     More,
@@ -135,13 +137,13 @@ enum Progress {
     Settled,
 }
 
-/// How many literals each clause has left, that is, literals that are not false.
+/// How many literals each clause has left, that is, how many of its literals are not false.
 #[derive(Drop)]
 struct Counts<'a> {
     chains: &'a Chains,
-    /// For each clause, how many of its literals are not false, each counted once.
+    /// For each clause, how many of its literals are not false. A repeated literal counts once.
     left: Vec<usize>,
-    /// The numbers, from 0, of clauses that are left with one literal and wait for a look.
+    /// The numbers, counted from 0, of the clauses that have one literal left and wait to be looked at.
     waiting: Vec<usize>,
 }
 
@@ -150,7 +152,7 @@ impl<'a> Counts<'a> {
     fn new(alloc: Global, cnf: &Cnf, chains: &'a Chains) -> Result<Counts<'a>, AllocError> {
         let mut left = vec![in alloc; 0usize; cnf.clauses().len()]?;
         for link in chains.links.as_slice() {
-            // Each number is that of a clause, so it has a count.
+            // The number is that of a clause, so there is a count for it.
             if !chains.is_repeated(*link)
                 && let Some(count) = left.get_mut(link.number)
             {
@@ -164,10 +166,11 @@ impl<'a> Counts<'a> {
         })
     }
 
-    /// Counts a literal that became false, once for each clause that has it. Clauses that are left with one literal wait.
+    /// Lowers by one the count of each clause that has this literal, which became false. A clause that has one literal left then
+    /// waits to be looked at.
     fn falsify(&mut self, literal: Literal) -> Result<(), AllocError> {
         let mut at = self.chains.first(literal);
-        // A chain has at most as many links as there are in all.
+        // A chain has at most as many links as all chains together.
         for _ in 0..self.chains.links.len() {
             let Some(link) = self.chains.link(at) else {
                 break;
@@ -176,7 +179,7 @@ impl<'a> Counts<'a> {
             if self.chains.is_repeated(link) {
                 continue;
             }
-            // Each number is that of a clause, so it has a count.
+            // The number is that of a clause, so there is a count for it.
             let Some(count) = self.left.get_mut(link.number) else {
                 continue;
             };
@@ -189,7 +192,8 @@ impl<'a> Counts<'a> {
     }
 }
 
-/// Looks at a clause, and then at the clauses that wait because of it. Each clause waits at most once.
+/// Looks at a clause. If it forces a literal, looks at the clauses that then wait, one after the other. Each clause waits at
+/// most once.
 fn follow(
     counts: &mut Counts,
     trail: &mut Trail,
@@ -254,7 +258,7 @@ fn step_of(alloc: Global, hints: Vec<u64>) -> Result<Step, AllocError>
     })
 }
 
-/// A single step that refutes the clauses, exactly if there is one. `chains` are those of the clauses.
+/// Returns a single step that refutes the clauses, or `None` if there is no such step. `chains` are the chains of these clauses.
 pub fn single_step(alloc: Global, cnf: &Cnf, chains: &Chains) -> Result<Option<Step>, AllocError>
     ensures { IfOk result (λ found. MatchOption found ((step : _) → IsSingleStep cnf.now step → ⊥) (IsSingleStep cnf.now)) }
 {

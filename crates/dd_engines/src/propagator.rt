@@ -1,5 +1,5 @@
-//! The engine that uses unit propagation only. It refutes a list in one step if that can be done, and its cost is
-//! linear in the number of literals.
+//! The engine that uses only unit propagation. It refutes a clause list in one step if that can be done. Its cost is linear in
+//! the number of literals.
 ghost use Rattle.std.specs.Prelude.{◌≡◌, ◌-◌, ◌^◌, ◌≤◌, true, IfOk, OnErr};
 ghost use Rattle.dd_engines.specs.Proposals.{IsRight, GivenAfter};
 ghost use Rattle.dd_engines.specs.Rounds.{RisesByOne};
@@ -13,17 +13,17 @@ use dd_clause::Cnf;
 use dd_values::Items;
 use std::alloc::{AllocError, Global};
 
-/// Proposes a refutation of a single step exactly if there is one: if unit propagation from no assumptions ends in a
-/// conflict. Else it proposes nothing.
+/// Proposes a refutation by a single step exactly if there is one, that is, if unit propagation from no assumptions ends in a
+/// conflict. Otherwise it proposes nothing.
 #[derive(Drop)]
 pub struct Propagator {
     tally: Tally,
-    /// The last chains. Their memory is used again.
+    /// The chains that were made last. Their memory is reused.
     room: Option<Chains>,
 }
 
 impl Propagator {
-    /// An engine that was not asked yet.
+    /// An engine that has not been asked yet.
     pub fn new() -> Self
         ensures asked { ⟦<Propagator as Engine>⟧.asked result ≡ 0 }
         ensures given { ⟦<Propagator as Engine>⟧.given result ≡ 0 }

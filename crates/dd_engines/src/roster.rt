@@ -1,5 +1,5 @@
-//! A roster of engines, which are asked from the first on until a proposal is right. One whose proposal is wrong is
-//! dropped. The result is right whatever the engines claim, since each proposal is checked here.
+//! A roster of engines. They are asked in order, from the first on, until one makes a right proposal. An engine whose proposal
+//! is wrong is dropped. Each proposal is checked here, so the result is right whatever the engines claim.
 ghost use Rattle.std.specs.Prelude.{◌≡◌, length, IfOk, OnOk, IfSome};
 ghost use Rattle.dd_engines.specs.Rounds.{AskedOnce, Round, Kept, FirstAsked};
 ghost use Rattle.dd_engines.specs.Rosters.{seen_of_engine, seen_all, roster_seen};
@@ -11,49 +11,50 @@ use dd_clause::{Cnf, satisfies};
 use dd_derivation::{Marks, Outcome, check_refutation};
 use std::alloc::{AllocError, Global};
 
-/// Engines that are asked in turn. Contracts say how often each was asked, how often it proposed something, and whether it is sound.
+/// Engines that are asked in turn. Contracts say of each engine how often it was asked, how often it proposed something, and
+/// whether it is sound, that is, whether all its proposals are right.
 #[derive(Drop)]
 pub struct Roster<E = Box<dyn Engine>> {
     engines: Vec<E>,
 }
 
-/// What asking one engine showed.
-pub enum Asked {
-    /// It proposed this, and it is right.
+/// What asking one engine has shown.
+pub enum Reply {
+    /// It proposed this outcome, which is right.
     Right(Outcome),
     /// It proposed nothing.
     Silent,
-    /// It proposed something that is not right.
+    /// It proposed something wrong.
     Wrong,
 }
 
 /// Asks one engine, and checks its proposal.
-fn ask_one<E: Engine>(alloc: Global, cnf: &Cnf, engine: &mut E) -> Result<Asked, AllocError>
+fn ask_one<E: Engine>(alloc: Global, cnf: &Cnf, engine: &mut E) -> Result<Reply, AllocError>
     ensures once { AskedOnce (seen_of_engine E.asked E.given E.sound engine.old) (seen_of_engine E.asked E.given E.sound engine.new) }
     ensures shows { IfOk result (Shows cnf.now (seen_of_engine E.asked E.given E.sound engine.old) (seen_of_engine E.asked E.given E.sound engine.new)) }
 {
     match engine.propose(alloc, cnf)? {
-        Proposal::Nothing => Ok(Asked::Silent),
+        Proposal::Nothing => Ok(Reply::Silent),
         Proposal::Found(assignment) => {
             if satisfies(cnf, &assignment) {
-                Ok(Asked::Right(Outcome::Found(assignment)))
+                Ok(Reply::Right(Outcome::Found(assignment)))
             } else {
-                Ok(Asked::Wrong)
+                Ok(Reply::Wrong)
             }
         }
         Proposal::Refutation(steps) => {
             let mut marks = Marks::new(alloc, cnf, steps.as_slice())?;
             if check_refutation(cnf, steps.as_slice(), &mut marks) {
-                Ok(Asked::Right(Outcome::Refuted(steps)))
+                Ok(Reply::Right(Outcome::Refuted(steps)))
             } else {
-                Ok(Asked::Wrong)
+                Ok(Reply::Wrong)
             }
         }
     }
 }
 
 impl<E: Engine> Roster<E> {
-    /// A roster of these engines, in their order. The call allocates no memory.
+    /// A roster of these engines, in this order. The call allocates no memory.
     pub fn new(engines: Vec<E>) -> Self
         ensures { roster_seen E.asked E.given E.sound result ≡ seen_all E.asked E.given E.sound engines.items }
     {
@@ -67,10 +68,10 @@ impl<E: Engine> Roster<E> {
         self.engines.len()
     }
 
-    /// Asks the engines from the first on, each at most once, until a proposal is right, and returns that one. An
-    /// engine whose proposal is wrong is dropped. The others stay in order, even if memory runs out. If memory suffices,
-    /// the first engine left, if there is one, was asked, and the engines dropped before it aren't sound. So no sound engine
-    /// is skipped at the start.
+    /// Asks the engines in order, from the first on and each at most once, until one makes a right proposal. Returns this
+    /// proposal, or `None` if no engine makes one. An engine whose proposal is wrong is dropped. The others keep their order,
+    /// even if memory runs out. If memory suffices and an engine is left, then the first one left was asked, and the engines
+    /// dropped before it aren't sound. So no sound engine is skipped at the start.
     pub fn ask(&mut self, alloc: Global, cnf: &Cnf) -> Result<Option<Outcome>, AllocError>
         ensures right { IfOk result (λ answer. IfSome answer (IsRightOutcome cnf.now)) }
         ensures round { Round (roster_seen E.asked E.given E.sound self.old) (roster_seen E.asked E.given E.sound self.new) (round_end result) }
@@ -80,9 +81,9 @@ impl<E: Engine> Roster<E> {
         let mut place = 0;
         while place < self.engines.len() {
             match ask_one(alloc, cnf, &mut self.engines[place])? {
-                Asked::Right(outcome) => return Ok(Some(outcome)),
-                Asked::Silent => place += 1,
-                Asked::Wrong => {
+                Reply::Right(outcome) => return Ok(Some(outcome)),
+                Reply::Silent => place += 1,
+                Reply::Wrong => {
                     let _ = self.engines.remove(place);
                 }
             }

@@ -24,7 +24,7 @@ impl Model for Tally {
 }
 
 impl Tally {
-    /// The counts of an engine that was never asked.
+    /// The counts of an engine that has never been asked.
     pub fn new() -> Self
         ensures asked { result.asked ≡ 0 }
         ensures given { result.given ≡ 0 }
@@ -32,7 +32,7 @@ impl Tally {
         Tally { asked: 0, given: 0 }
     }
 
-    /// Counts that the engine is asked.
+    /// Counts one more time that the engine is asked.
     pub fn ask(&mut self)
         ensures asked { RisesByOne self.old.asked self.new.asked }
         ensures given { self.new.given ≡ self.old.given }
@@ -41,7 +41,7 @@ impl Tally {
         self.asked = self.asked.saturating_add(1);
     }
 
-    /// Counts that the engine proposes something.
+    /// Counts one more time that the engine proposes something.
     pub fn give(&mut self)
         ensures asked { self.new.asked ≡ self.old.asked }
         ensures given { RisesOn self.old.given self.new.given }

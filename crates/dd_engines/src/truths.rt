@@ -1,7 +1,7 @@
-//! How many literals of each clause are true, and where to look for the first clause that has none. The clauses are
-//! in blocks of 32, by their numbers. A block has a mark if one of its clauses may have no true literal. At the start each
-//! block has a mark. A mark is made when a clause loses its last true literal, and removed when a search of the block finds no
-//! such clause.
+//! How many literals of each clause are true, and where to look for the first clause that has no true literal. The clauses are
+//! divided into blocks of 32, in the order of their numbers. A block has a mark if one of its clauses may have no true literal.
+//! At the start each block has a mark. A block gets a mark when one of its clauses loses its last true literal. It loses the
+//! mark when a search of the block finds no clause without a true literal.
 ghost use Rattle.std.specs.Prelude.{◌≡◌, ◌^◌, ◌*◌, ◌<◌, ◌+◌, ◌≤◌, length, map, slice_set, slice_index_or, All, IfOk, MatchOption};
 ghost use Rattle.dd_clause.specs.Clauses.{IsClauseInRange};
 ghost use Rattle.dd_engines.specs.walking.Truths.{IsListed, NoneWithin, IsFirstIn, NoneIsNone, IsFirstNone, changed, more, less, true_count};
@@ -14,16 +14,16 @@ use std::alloc::{AllocError, Global};
 /// The counts of true literals, and the marks of the blocks.
 #[derive(Drop)]
 pub struct Truths {
-    /// How many literals of each clause are true.
+    /// For each clause, how many of its literals are true.
     counts: Vec<usize>,
-    /// Whether each block has a mark.
+    /// For each block, whether it has a mark.
     marks: Vec<bool>,
-    /// The block to look at first: in each block before it, all clauses have a true literal.
+    /// The block to look at first. In the blocks before it, each clause has a true literal.
     first_block: usize,
 }
 
 impl Truths {
-    /// The counts and marks for these values.
+    /// The counts for these values, with a mark at each block.
     pub fn new(alloc: Global, clauses: &[Clause], values: &[bool]) -> Result<Truths, AllocError>
         requires { All (IsClauseInRange (length values.now)) clauses.now }
         ensures counts { IfOk result (λ truths. truths.counts.items ≡ map (true_count values.now) clauses.now) }
@@ -41,7 +41,7 @@ impl Truths {
         })
     }
 
-    /// Counts one more true literal of the clause with this number.
+    /// Counts one more true literal for the clause with this number.
     fn raise_one(&mut self, number: usize)
         requires within { number < length self.old.counts.items }
         requires listed { IsListed self.old.counts.items self.old.marks.items self.old.first_block }
@@ -51,7 +51,7 @@ impl Truths {
         self.counts[number] = self.counts[number].saturating_add(1);
     }
 
-    /// Counts one true literal less of the clause with this number.
+    /// Counts one true literal fewer for the clause with this number. If none is left, the clause's block gets a mark.
     fn lower_one(&mut self, number: usize)
         requires within { number < length self.old.counts.items }
         requires listed { IsListed self.old.counts.items self.old.marks.items self.old.first_block }
@@ -67,7 +67,7 @@ impl Truths {
         }
     }
 
-    /// The number, from 0, of the first clause without a true literal.
+    /// The number, counted from 0, of the first clause without a true literal. `None` if there is no such clause.
     #[tactic(auto, using(crate::proofs::Counting::passed, crate::proofs::Counting::cleared, crate::proofs::Counting::first_of_all, crate::proofs::Counting::none_left, crate::proofs::Counting::none_listed))]
     pub fn first(&mut self) -> Option<usize>
         requires { IsListed self.old.counts.items self.old.marks.items self.old.first_block }
@@ -88,7 +88,7 @@ impl Truths {
         None
     }
 
-    /// Counts a literal that becomes true, in each clause that has it.
+    /// Raises the counts of the clauses that contain this literal, which becomes true.
     pub fn raise(&mut self, chains: &Chains, literal: Literal)
         requires linked { IsLinked chains.now }
         requires chain { HasChain chains.now literal }
@@ -105,7 +105,7 @@ impl Truths {
         }
     }
 
-    /// Counts a literal that becomes false, in each clause that has it.
+    /// Lowers the counts of the clauses that contain this literal, which becomes false.
     pub fn lower(&mut self, chains: &Chains, literal: Literal)
         requires linked { IsLinked chains.now }
         requires chain { HasChain chains.now literal }
@@ -123,7 +123,7 @@ impl Truths {
     }
 }
 
-/// In this block, the number of the first clause whose count is 0.
+/// The number of the first clause in this block whose count is 0. `None` if there is no such clause.
 #[tactic(auto, using(crate::proofs::Counting::some_at))]
 fn first_in_block(counts: &[usize], block: usize) -> Option<usize>
     requires { 32 * block ≤ length counts.now }
@@ -139,7 +139,7 @@ fn first_in_block(counts: &[usize], block: usize) -> Option<usize>
     None
 }
 
-/// How many of the literals the values make true. The contract also says that the list is shorter than 2^64.
+/// How many of the literals are true under the values. The contract also says that there are fewer than 2^64 literals.
 fn count_true(literals: &[Literal], values: &[bool]) -> usize
     requires { IsClauseInRange (length values.now) literals.now }
     ensures value { result ≡ true_count values.now literals.now }

@@ -1,7 +1,7 @@
-//! A walk through assignments, starting with all variables false. Each flip takes the first clause without a true literal,
-//! and makes one of its literals true. A count for each clause says how many of its literals are true. A chain for each
-//! literal lists the clauses that have it. So a flip visits only the clauses of the literal and of its negation. If the walk
-//! has come into a cycle, it ends: no new assignment would follow.
+//! A walk through assignments, starting with all variables false. Each flip takes the first clause without a true literal, and
+//! makes one of its literals true. Each clause has a count of its true literals, and each literal has a chain of the clauses
+//! that contain it. So a flip visits only the clauses that contain the literal or its negation. If the walk is found to be in a
+//! cycle, it ends, as no new assignment would follow.
 ghost use Rattle.std.specs.Prelude.{◌≡◌, ◌+◌, false, length, replicate, IfOk, MatchOption};
 ghost use Rattle.dd_clause.specs.Clauses.{IsLiteralInRange, is_true_under};
 ghost use Rattle.dd_values.specs.Variables.{true_variables};
@@ -17,7 +17,7 @@ use crate::truths::Truths;
 use dd_clause::{Assignment, Clause, Cnf, Literal};
 use std::alloc::{AllocError, Global};
 
-/// Where the walk stands: the values of the variables, how many literals of each clause they make true, and an earlier
+/// The state of the walk: the values of the variables, how many literals of each clause they make true, and an earlier
 /// assignment, by which a cycle is noticed.
 #[derive(Drop)]
 struct Walk {
@@ -53,7 +53,7 @@ impl Walk {
         Assignment::new(values)
     }
 
-    /// The number, from 0, of the first clause without a true literal.
+    /// The number, counted from 0, of the first clause without a true literal. `None` if there is no such clause.
     #[tactic(auto, using(crate::proofs::Walking::looked_walks))]
     fn first(&mut self, clauses: &[Clause]) -> Option<usize>
         requires { Walks clauses.now self.old.values.items self.old.truths.counts.items self.old.truths.marks.items self.old.truths.first_block }
@@ -86,7 +86,8 @@ impl Walk {
     }
 }
 
-/// The first assignment, after at most `flips` flips, that satisfies the clauses. `chains` are those of the clauses.
+/// The first assignment on the walk that satisfies the clauses. `None` if the walk reaches none in `flips` flips. `chains` are
+/// the chains of these clauses.
 pub fn first_found(
     alloc: Global,
     cnf: &Cnf,
@@ -98,7 +99,7 @@ pub fn first_found(
 {
     let clauses = cnf.clauses();
     let mut walk = Walk::new(alloc, cnf)?;
-    // No clause was taken yet, so 1 is a period, as the module `cycle` defines it.
+    // No clause was taken yet, so 1 is a period in the sense of the module `cycle`.
     let mut period = Some(1);
     for k in 0..flips {
         let Some(number) = walk.first(clauses) else {

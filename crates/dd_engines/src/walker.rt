@@ -1,5 +1,5 @@
-//! The engine that walks: it tries the assignments of one walk. A flip takes a clause that is not satisfied and makes one
-//! of its literals true (Papadimitriou 1991, Selman, Kautz and Cohen 1994), here without randomness.
+//! The engine that walks: it tries the assignments of one walk. Each flip takes a clause that is not satisfied, and makes one of
+//! its literals true (Papadimitriou 1991, Selman, Kautz and Cohen 1994). Here nothing is random.
 ghost use Rattle.std.specs.Prelude.{◌≡◌, ◌-◌, ◌^◌, ◌≤◌, true, IfOk, OnErr};
 ghost use Rattle.dd_engines.specs.Proposals.{IsRight, GivenAfter};
 ghost use Rattle.dd_engines.specs.Rounds.{RisesByOne};
@@ -13,20 +13,20 @@ use crate::walk::first_found;
 use dd_clause::Cnf;
 use std::alloc::{AllocError, Global};
 
-/// Proposes the first satisfying assignment on a walk of a limited number of flips, starting with all variables
-/// false. Flip number k, from 0, takes the first clause without a true literal. It makes one literal of this clause true:
-/// the one at place `k % n`, from 0, where n is the length of the clause. If none of these assignments satisfies, or a
-/// clause taken is empty, the engine proposes nothing.
+/// Proposes the first satisfying assignment on a walk that starts with all variables false and makes a limited number of flips.
+/// Flip number k, counted from 0, takes the first clause without a true literal. It makes one literal of this clause true: the
+/// one at place `k % n`, counted from 0, where n is the length of the clause. If no assignment on the walk satisfies the
+/// clauses, or if a flip takes an empty clause, the engine proposes nothing.
 #[derive(Drop)]
 pub struct Walker {
     flips: u32,
     tally: Tally,
-    /// The last chains. Their memory is used again.
+    /// The chains that were made last. Their memory is reused.
     room: Option<Chains>,
 }
 
 impl Walker {
-    /// An engine that makes at most `flips` flips each time it is asked. It was not asked yet.
+    /// An engine that makes at most `flips` flips each time it is asked. It has not been asked yet.
     pub fn new(flips: u32) -> Self
         ensures flips { flips_of result ≡ flips }
         ensures asked { ⟦<Walker as Engine>⟧.asked result ≡ 0 }

@@ -8,7 +8,7 @@ use Rattle.dd_certificate.specs.declared.answer.Listed.{Listed}
 use Rattle.dd_question.specs.Lists.{HasFewPatterns}
 use Rattle.dd_evidence.specs.{NodeLists.IsListedAfter, Lists.listed}
 
--- if the cells that are read have few fillings, there is no fault of size
+-- if the cells that the rule reads have few enough fillings, there is no fault of size
 pub never_large : (r : LocalRule) (a : ℕ) → HasFewPatterns r → a < r.nodes → is_large r a ≡ true → ⊥
 never_large r a few below large =
     let many : 65536 < r.symbols ^ length (cells_at r a) = ltb-true 65536 (r.symbols ^ length (cells_at r a)) large in
@@ -19,7 +19,7 @@ never_large r a few below large =
 abbrev pub pattern_of : ℕ → Filled → Listed
 pattern_of a f = listed a f.symbols
 
--- after all fillings of the node, the list has the node's entries at its end
+-- once all fillings of the node are appended, the list ends with the node's entries
 pub node_done : (x : LocalRule) (a : ℕ) (found all : List Filled) (start new : List Listed) → AreBreakingFillings x a found → all ≡ found →
     new ≡ start ++ map (pattern_of a) all → IsListedAfter (BreakingFillings x) listed a (λ before. before ≡ start) new
 node_done x a found all start new are same is = record {

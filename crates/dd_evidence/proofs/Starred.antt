@@ -1,4 +1,4 @@
--- There is only one list of the minimal patterns, those of a node are its minimal list, and an output can hold the list.
+-- There is only one list of the minimal patterns. The patterns of a node in it are the node's minimal list. An output can hold the list.
 use Rattle.std.proofs.Common.{◌≡◌, ℕ, zero, suc, ◌*◌, ◌≤◌, ◌<◌, inl, inr, Bool, true, false, cond, Option, Some, None, List, [], ◌∷◌, ◌++◌, map, length, nat_eq, refl, ap, sym, subst, ◌∙◌, arith}
 use Rattle.std.proofs.lemmas.List.{map-append, append-nil}
 use Rattle.std.proofs.lemmas.List.Elements.{All-nil, All-cons, All-head, All-tail, All-append, All-weaker, All-contains_itself, All-map, filter-append}
@@ -23,7 +23,7 @@ one_starred one x some others h k = list_one (IsMinimalList x) starred (one x) x
 
 -- ---- an output can hold the list
 
--- the length of a choice between two lists
+-- the list that is chosen has at most n items if both lists do
 either_short : {X : Type 0} (b : Bool) (xs ys : List X) (n : ℕ) → length xs ≤ n → length ys ≤ n → length (cond b xs ys) ≤ n
 either_short true xs ys n h k = h
 either_short false xs ys n h k = k
@@ -42,7 +42,7 @@ listed_short thin before (ss ∷ more) =
     either_short (is_covered before ss) (minimal.listed thin before more) (thin ss ∷ minimal.listed thin (before ++ thin ss ∷ []) more) (suc (length more))
     (omega (arith, others)) (omega (arith, later))
 
--- each pattern is a thinned filling, so what holds of these holds of it
+-- each pattern is a thinned filling, one without its needless cells; so what holds for all thinned fillings holds for each pattern
 listed_fit : (P : List (Option ℕ) → Type 0) (thin : List ℕ → List (Option ℕ)) (before : List (List (Option ℕ))) (lists : List (List ℕ)) →
     All (λ ss. P (thin ss)) lists → All P (minimal.listed thin before lists)
 listed_fit P thin before [] h = All-nil P

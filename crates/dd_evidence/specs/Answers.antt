@@ -1,5 +1,5 @@
--- The answers to questions that have only one right answer: whether a configuration lives in a subshift, which patterns a
--- rule forbids, and which patterns are minimal.
+-- The answers to questions that have only one right answer: whether a configuration lives in a subshift (obeys its rule at every cell), which
+-- patterns a rule forbids, and which patterns are minimal.
 use Rattle.std.specs.Prelude.{ℤ, List}
 use Rattle.dd_pattern.specs.Tile.{Tile}
 use Rattle.dd_formula.specs.{LocalRule.LocalRule, Living.Lives}
@@ -7,7 +7,7 @@ use Rattle.dd_certificate.specs.declared.answer.{Listed.Listed, Starred.Starred,
 use Rattle.dd_evidence.specs.{Cells.IsOutside, Lists.IsForbiddenList, Lists.IsStarredList}
 use Rattle.dd_certificate.specs.declared.answer.Answer.TheVariants as answer
 
--- the answer says that the configuration lives in the rule's subshift, or where the first cell is at which the rule is false
+-- the answer says that the configuration lives in the rule's subshift, or it gives the first cell at which the rule is false
 pub data IsMemberCertificate (x : LocalRule) (t : Tile) : Answer → Type 0 where
   member_inside : Lives x t → IsMemberCertificate x t answer.Inside
   member_outside : {place : List ℤ} → IsOutside x t place → IsMemberCertificate x t (answer.Outside place)

@@ -6,11 +6,11 @@ use Rattle.dd_minimal.specs.Minimal.{IsMinimalList}
 use Rattle.dd_certificate.specs.declared.answer.{Listed.Listed, Starred.Starred}
 use Rattle.dd_evidence.specs.NodeLists.{IsListTo}
 
--- a pattern: the node, and the symbols of the cells that the rule reads there, in cell order
+-- a pattern: the node, and the symbols of the cells that the rule reads there, in cell order (by z, then y, then x, then node)
 abbrev pub listed : ℕ → List ℕ → Listed
 listed a ss = record { node = a; symbols = ss }
 
--- a pattern that may leave cells out: it has a star, None, for each of these
+-- a pattern that may leave cells out: it has a star, None, for each cell that it leaves out
 abbrev pub starred : ℕ → List (Option ℕ) → Starred
 starred a p = record { node = a; symbols = p }
 
@@ -22,6 +22,6 @@ IsForbiddenList x patterns = IsListTo (BreakingFillings x) listed x.nodes patter
 abbrev pub IsStarredList : LocalRule → List Starred → Type 0
 IsStarredList x patterns = IsListTo (IsMinimalList x) starred x.nodes patterns
 
--- the patterns of the node a, without the node
+-- the patterns of the node a, as lists of symbols and stars without the node's number
 abbrev pub patterns_at : ℕ → List Starred → List (List (Option ℕ))
 patterns_at a patterns = map (λ (p : Starred). p.symbols) (filter (λ (p : Starred). nat_eq p.node a) patterns)

@@ -1,4 +1,5 @@
--- Lists that are made node by node. `IsHere a` says which list of items belongs to the node a. Each item has an entry.
+-- Lists that are made node by node. `IsHere a` says which list of items belongs to the node a. `entry a` turns each of these items into an entry of
+-- the whole list.
 use Rattle.std.specs.Prelude.{ℕ, zero, suc, ◌≡◌, List, [], ◌++◌, map}
 
 -- the list is one that satisfies IsBefore, followed by the entries of the node n

@@ -1,9 +1,9 @@
--- Periodic configurations, as answers write them.
+-- Periodic configurations, as answers write them. A tile is such a configuration: its periods, and the symbols of the box that repeats.
 use Rattle.std.specs.Prelude.{ℕ, ◌≡◌, List, [], ◌∷◌, length, take, slice_index_or}
 use Rattle.dd_pattern.specs.{declared.periods.Periods.Periods, Tile.Tile, Tile.tile}
 use Rattle.dd_formula.specs.LocalRule.{LocalRule}
 
--- the periods that are read back from an answer; 1 along an axis for which it writes none
+-- the periods that are read back from an answer: 1 along each axis for which it writes no period
 abbrev pub given_periods : List ℕ → ℕ → Periods
 given_periods along shear =
     record { x = slice_index_or along 0 1; y = slice_index_or along 1 1; z = slice_index_or along 2 1; shear = shear }
@@ -16,7 +16,7 @@ given_tile x along shear symbols = tile x.dimension (given_periods along shear) 
 abbrev pub written_periods : Tile → List ℕ
 written_periods t = take t.dimension (t.periods.x ∷ t.periods.y ∷ t.periods.z ∷ [])
 
--- the configuration can be read back from what an answer writes of it
+-- the configuration can be read back from what an answer writes about it
 pub record IsWrittenBack (x : LocalRule) (t : Tile) : Type 0 where
   pub as_many : length (written_periods t) ≡ x.dimension
   pub same : given_tile x (written_periods t) t.periods.shear t.symbols ≡ t

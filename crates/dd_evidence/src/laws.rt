@@ -1,4 +1,4 @@
-//! Laws of what answers write. Each is the contract of a call that does nothing.
+//! Laws about what answers write. Each law is the contract of a function that does nothing.
 ghost use Rattle.std.specs.Prelude.{◌≡◌, ◌<◌, ◌↔◌, ℕ, ℤ, List, Contains, All};
 ghost use Rattle.dd_pattern.specs.Tile.{Tile, IsTile, IsPeriodic};
 ghost use Rattle.dd_formula.specs.LocalRule.{LocalRule, IsRule};
@@ -31,14 +31,14 @@ pub fn one_list()
     dd_forbidden::one_list();
 }
 
-/// Does nothing. Its contract says that the patterns listed at a node are the fillings that break the rule there.
+/// Does nothing. Its contract says that the patterns listed at a node are exactly the fillings that break the rule there.
 pub fn listed_break()
     ensures { (x : LocalRule) (patterns : List AnyListed) (a : ℕ) (ss : List ℕ) → IsForbiddenList x patterns → a < x.nodes →
         Contains patterns (listed a ss) ↔ IsBreaking x a ss }
 {}
 
 /// Does nothing. Its contract says that an output can hold the list of the patterns that a rule forbids, if at each node the
-/// cells that the rule reads have few fillings.
+/// cells that the rule reads have at most 65,536 fillings.
 pub fn lists_fit()
     ensures { (x : LocalRule) (patterns : List AnyListed) → IsRule x → HasFewPatterns x → IsForbiddenList x patterns → IsWritable (answer.List patterns) }
 {
@@ -53,15 +53,15 @@ pub fn one_starred()
     dd_minimal::one_list();
 }
 
-/// Does nothing. Its contract says that each listed pattern belongs to a node of the rule, and that the patterns of a node
-/// are the minimal list there. So the laws of minimal lists hold of them.
+/// Does nothing. Its contract says that each listed pattern belongs to a node of the rule, and that the patterns of a node are
+/// the minimal list there. So the laws about minimal lists in `dd_minimal` hold for them.
 pub fn starred_are_minimal()
     ensures nodes { (x : LocalRule) (patterns : List AnyStarred) → IsStarredList x patterns → All (λ p. p.node < x.nodes) patterns }
     ensures minimal { (x : LocalRule) (patterns : List AnyStarred) (a : ℕ) → IsStarredList x patterns → a < x.nodes → IsMinimalList x a (patterns_at a patterns) }
 {}
 
 /// Does nothing. Its contract says that an output can hold the list of the minimal patterns, if at each node the cells that the
-/// rule reads have few fillings.
+/// rule reads have at most 65,536 fillings.
 pub fn starred_fit()
     ensures { (x : LocalRule) (patterns : List AnyStarred) → IsRule x → HasFewPatterns x → IsStarredList x patterns → IsWritable (answer.Minimal patterns) }
 {

@@ -1,4 +1,6 @@
-//! How answers write cells, configurations, and the patterns that a rule forbids: all of them, or only the minimal ones.
+//! How answers write cells, configurations, and the patterns that a rule forbids: all of them, or only the minimal ones. A
+//! pattern gives symbols to cells that the rule reads at a node, that is, cells whose symbols its formula asks for there. A rule
+//! forbids a pattern if the rule is false at the node wherever these cells have these symbols.
 #![tactic(auto)]
 
 mod laws;

@@ -12,7 +12,7 @@ use dd_pattern::Filling;
 use dd_values::Items;
 use std::alloc::{AllocError, Global};
 
-/// The pattern of a filling of the cells that the rule reads at the node.
+/// The pattern for the node and a filling of the cells that the rule reads there.
 fn listed(alloc: Global, node: u32, filling: &Filling) -> Result<Listed, AllocError>
     ensures { IfOk result (λ pattern. pattern ≡ listed node filling.now.symbols) }
 {
@@ -27,7 +27,7 @@ fn listed(alloc: Global, node: u32, filling: &Filling) -> Result<Listed, AllocEr
     })
 }
 
-/// All fillings that break the rule at the node. There are few fillings, so `forbidden` doesn't refuse.
+/// All fillings that break the rule at the node. The fillings are few enough that `forbidden` doesn't refuse.
 fn breaking(alloc: Global, rule: &Rule, node: u32) -> Result<Vec<Filling>, AllocError>
     requires node { node < rule.now.nodes }
     requires few { HasFewPatterns rule.now }
@@ -59,9 +59,9 @@ fn push_node(
     Ok(())
 }
 
-/// The patterns that a rule forbids, node by node. At a node these are the fillings of the cells that the rule reads there
-/// under which it is false, in lexicographic order of their symbols. A rule that reads nothing at a node and is false there
-/// forbids the pattern without symbols.
+/// The patterns that a rule forbids, node by node. At a node these are the breaking fillings: the cells that the rule reads there
+/// have allowed symbols, and with these symbols the rule is false. They are in lexicographic order of their symbols. If a rule
+/// reads nothing at a node and is false there, it forbids the pattern without symbols.
 pub fn forbidden_patterns(alloc: Global, rule: &Rule) -> Result<Items<Listed>, AllocError>
     requires { HasFewPatterns rule.now }
     ensures { IfOk result (IsForbiddenList rule.now) }

@@ -1,5 +1,5 @@
-//! The list of the minimal patterns that a rule forbids. A starred pattern has a star, `None`, for each cell that it leaves
-//! out.
+//! The list of the minimal patterns that a rule forbids. They are written as starred patterns. A starred pattern has a star,
+//! `None`, for each cell that it leaves out.
 ghost use Rattle.std.specs.Prelude.{◌≡◌, ◌<◌, IfOk, OnOk};
 ghost use Rattle.dd_question.specs.Lists.{HasFewPatterns};
 ghost use Rattle.dd_minimal.specs.Minimal.{AreMinimal, IsMinimalList};
@@ -23,7 +23,7 @@ fn kept(symbol: Option<u32>) -> Option<u64>
     }
 }
 
-/// The starred pattern of a minimal pattern of the node.
+/// The starred pattern for a minimal pattern at the node.
 fn starred(alloc: Global, node: u32, pattern: &Partial) -> Result<Starred, AllocError>
     ensures { IfOk result (λ p. p ≡ starred node pattern.now.symbols) }
 {
@@ -37,7 +37,7 @@ fn starred(alloc: Global, node: u32, pattern: &Partial) -> Result<Starred, Alloc
     })
 }
 
-/// The minimal patterns of the node. There are few fillings, so `minimal` doesn't refuse.
+/// The minimal patterns at the node. The fillings are few enough that `minimal` doesn't refuse.
 fn minimal_at(alloc: Global, rule: &Rule, node: u32) -> Result<Vec<Partial>, AllocError>
     requires node { node < rule.now.nodes }
     requires few { HasFewPatterns rule.now }
@@ -50,7 +50,7 @@ fn minimal_at(alloc: Global, rule: &Rule, node: u32) -> Result<Vec<Partial>, All
     }
 }
 
-/// Appends the minimal patterns of the node.
+/// Appends the minimal patterns at the node.
 fn push_starred(
     alloc: Global,
     rule: &Rule,
@@ -68,7 +68,7 @@ fn push_starred(
     Ok(())
 }
 
-/// The minimal patterns that a rule forbids, node by node. No cell can be left out of one of them. Together they forbid
+/// The minimal patterns that a rule forbids, node by node. No further cell can be left out of any of them. Together they forbid
 /// exactly what the rule forbids.
 pub fn minimal_patterns(alloc: Global, rule: &Rule) -> Result<Items<Starred>, AllocError>
     requires { HasFewPatterns rule.now }

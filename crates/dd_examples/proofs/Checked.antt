@@ -1,4 +1,4 @@
--- One more right answer.
+-- How `are_right` judges the answers: it goes through them in order, and adds one answer at a time.
 use Rattle.std.proofs.Common.{◌≡◌, inl, inr, ℕ, ◌+◌, ◌-◌, ◌<◌, ◌≤◌, List, length, get_or, Bool, true, false, ◌&&◌, Some, refl, sym, ◌∙◌, ap, subst, arith}
 use Rattle.std.proofs.lemmas.{Bool.cases_lt, Option.slice_get_read}
 use Rattle.std.specs.{Prelude.IsSomeAnd, Prelude.IsTrue, Prelude.◌↔◌, Prelude.◌≢◌, List.slice_get, declared.option.Option.Option}
@@ -28,7 +28,7 @@ right_at s answers done a less at = (
 pub none_yet : (s : Parts) (answers : List Answer) → IsTrue true ↔ AreRightTo s answers 0
 none_yet s answers = (λ yes number low high. absurd (omega (arith, low, high)), λ all. refl)
 
--- the answers so far were checked, and now the next is
+-- if `before` says whether the first answers are right, and `this` whether the next one is, then both together say whether all of these are right
 pub right_next : (s : Parts) (answers : List Answer) (done : ℕ) (a : Answer) (before this : Bool) → done < length answers → a ≡ get_or answers done a
     → (IsTrue before ↔ AreRightTo s answers done) → (IsTrue this ↔ IsRight s (done + 1) a)
     → IsTrue (before && this) ↔ AreRightTo s answers (done + 1)
@@ -45,7 +45,7 @@ right_next s answers done a false this less at so_far one = (
   λ all. so_far.1 (λ number low high. all number low (omega (arith, high))),
 )
 
--- an index of the answers is one of the script's queries too
+-- an index into the answers is also an index into the script's queries
 pub below_queries : (s : Parts) (qs : List Query) (answers : List Answer) (done : ℕ) → qs ≡ s.queries → length answers ≡ length qs → done < length answers
     → done < length s.queries
 below_queries s qs answers done are as_many less = omega (arith, as_many, less, ap length are)
@@ -60,7 +60,7 @@ all_right s qs answers all are as_many each = (
 pub too_many_or_few : (s : Parts) (qs : List Query) (answers : List Answer) → qs ≡ s.queries → length answers ≢ length qs → IsTrue false ↔ AreRight s answers
 too_many_or_few s qs answers are other = (λ yes. absurd (cc yes), λ right. absurd (other (right.as_many ∙ sym (ap length are))))
 
--- from the verdict to whether the answer is right
+-- the verdict tells whether the answer is right
 pub right_as : (s : Parts) (a : Answer) (before number : ℕ) (v : Verdict) (b : Bool) → number ≡ before + 1
     → ((v ≡ Accepted) ↔ IsCertificate s number a) → (v ≡ Accepted → Claim s number a) → ((b ≡ true) ↔ (v ≡ Accepted))
     → IsTrue b ↔ IsRight s (before + 1) a

@@ -1,4 +1,4 @@
--- One more line.
+-- The lines of the first queries, with the line of the next query added.
 use Rattle.std.proofs.Common.{◌≡◌, ℕ, ◌+◌, ◌<◌, List, [], ◌∷◌, ◌++◌, length, take, get_or, refl, sym, ◌∙◌, ap, subst, append-nil, append_assoc, length-take-le, arith}
 use Rattle.std.proofs.lemmas.List.{take_more}
 use Rattle.dd_query.specs.declared.queries.Query.{Query}

@@ -1,4 +1,4 @@
--- Outputs whose answers are certificates, so that what they claim is true.
+-- Outputs whose answers are certificates. A certificate is an answer that the check accepts, and what it claims is true.
 use Rattle.std.specs.Prelude.{◌≡◌, ℕ, ◌-◌, ◌≤◌, List, length, IsSomeAnd, Bool, IsTrue, ◌↔◌}
 use Rattle.std.specs.List.{slice_get}
 use Rattle.dd_certificate.specs.declared.answer.Answer.{Answer}
@@ -8,7 +8,7 @@ use Rattle.dd_checker.specs.{Certificates.IsCertificate, Claims.Claim}
 use Rattle.dd_examples.specs.declared.checking.Unchecked.{Unchecked}
 use Rattle.dd_examples.specs.declared.checking.Unchecked.TheVariants as unchecked
 
--- the answer is a certificate of the query with this number, from 1, and what it claims is true
+-- the answer is a certificate of the query with this number, counted from 1, and what it claims is true
 pub record IsRight (s : Parts) (number : ℕ) (a : Answer) : Type 0 where
   pub certificate : IsCertificate s number a
   pub claim : Claim s number a
@@ -26,7 +26,7 @@ pub record AreRight (s : Parts) (answers : List Answer) : Type 0 where
   pub as_many : length answers ≡ length s.queries
   pub each : AreRightTo s answers (length answers)
 
--- the output has a script, and `accepted` says whether its answers are right
+-- the script of the output spells `script`, and `accepted` says whether the output's answers are right
 pub record IsJudged (o : Output) (accepted : Bool) : Type 0 where
   pub script : Parts
   pub spelled : Spells o.script script

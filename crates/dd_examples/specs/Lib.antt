@@ -1,8 +1,8 @@
--- the lines that answer a script
+-- the first lines of the right answers to a script's queries
 pub mod Lines
--- outputs whose answers are certificates, so that what they claim is true
+-- outputs whose answers are certificates; what a certificate claims is true
 pub mod Checked
 -- a rule and a configuration made without a script
 pub mod Squares
--- a configuration that is a function: 1 at the origin, and 0 everywhere else
+-- a configuration that is given as a function: 1 at the origin, and 0 everywhere else
 pub mod Lone

@@ -11,7 +11,7 @@ pub record IsLine (s : Parts) (number : ℕ) (q : Query) (line : List ℕ) : Typ
   pub right : Right s q answer
   pub written : line ≡ answer_line number answer
 
--- a first line, followed by a text
+-- the text is a line with the property IsFirst, followed by a text with the property IsRest
 pub record IsFollowed (IsFirst IsRest : List ℕ → Type 0) (text : List ℕ) : Type 0 where
   pub line : List ℕ
   pub rest : List ℕ
@@ -19,7 +19,7 @@ pub record IsFollowed (IsFirst IsRest : List ℕ → Type 0) (text : List ℕ) :
   pub others : IsRest rest
   pub whole : text ≡ line ++ rest
 
--- the text is such a line for each query, one after the other; the queries are numbered from `number` on
+-- the text is such a line for each query, in order; the queries are numbered in order too, and the first has the number `number`
 abbrev pub AreLines : Parts → ℕ → List Query → List ℕ → Type 0
 AreLines s number [] text = text ≡ []
 AreLines s number (q ∷ qs) text = IsFollowed (IsLine s number q) (AreLines s (number + 1) qs) text

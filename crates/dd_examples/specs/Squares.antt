@@ -13,7 +13,7 @@ up = 0
 abbrev pub right : ℕ
 right = 2
 
--- the cell at the end of these moves from the origin has the symbol s
+-- the formula that says that the cell at the end of these moves from the origin has the symbol s
 abbrev pub symbol_after : List ℕ → ℕ → Formula
 symbol_after moves s = Symbol (record { variable = 0; moves = moves }) s
 
@@ -24,7 +24,7 @@ hard_formula = Implies (symbol_after [] 1) (And (symbol_after (right ∷ []) 0 �
 abbrev pub hard : LocalRule
 hard = local_rule square (all_symbols 1 2) hard_formula
 
--- the chessboard: the periods 2 and 2, with the rows 1 0 and 0 1
+-- the periods of the chessboard, 2 and 2; its rows are 1 0 and 0 1
 abbrev pub two_by_two : Periods
 two_by_two = record { x = 2; y = 2; z = 1; shear = 0 }
 

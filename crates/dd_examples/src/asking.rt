@@ -50,7 +50,7 @@ impl From<QuestionFault> for Unasked {
     }
 }
 
-/// The rule of a formula over a topology, which has this many labels. There are this many symbols, all allowed at each node.
+/// The rule of a formula over a topology with `labels` labels. There are `symbols` symbols, and each node allows all of them.
 fn rule_of(
     alloc: Global,
     topology: &Topology,
@@ -72,7 +72,7 @@ fn rule_of(
     Ok(Rule::new(alloc, topology, &sets, formula)?)
 }
 
-/// The right answer to a question, which must be well formed and within these limits. The roster has no engine to ask.
+/// The right answer to a question, which must be well formed and within these limits. The roster is empty, so no engine is asked.
 fn answer_to(alloc: Global, question: Question, limits: &Limits) -> Result<Answer, Unasked>
     ensures { IfOk result (λ answer. IsRightTo limits.now (asked_of question.entry) answer) }
 {
@@ -81,7 +81,7 @@ fn answer_to(alloc: Global, question: Question, limits: &Limits) -> Result<Answe
     Ok(respond(alloc, &checked, &mut roster)?)
 }
 
-/// The rule of hard squares, with all its conditions tested.
+/// The rule of hard squares, made with all its conditions tested.
 fn tested_squares(alloc: Global) -> Result<Rule, Unasked>
     ensures { IfOk result (λ rule. rule ≡ hard) }
 {

@@ -1,4 +1,5 @@
-//! Reading an output, and checking whether each of its answers is a certificate.
+//! Reading an output, and checking whether each of its answers is a certificate. A certificate is an answer that the check
+//! accepts, without a search. What it claims is true.
 ghost use Rattle.std.specs.Prelude.{◌+◌, ◌<◌, length, IsTrue, ◌↔◌, IfOk, IfErr};
 ghost use Rattle.dd_output.specs.Outputs.{IsWritableOutput};
 ghost use Rattle.dd_script.specs.Scripts.{IsScriptRefusal};
@@ -19,7 +20,7 @@ pub enum Unchecked {
     Script(ScriptFault),
 }
 
-/// Whether an answer is a certificate of the query that comes after `before` others. If so, what it claims is true.
+/// Whether an answer is a certificate of query number `before + 1`. If so, what it claims is true.
 #[tactic(auto, using(crate::proofs::Checked::has_query_at))]
 fn is_right(
     alloc: Global,
@@ -39,7 +40,7 @@ fn is_right(
     Ok(verdict == Verdict::Accepted)
 }
 
-/// Whether each query of the script has one answer, and each answer is a certificate.
+/// Whether each query of the script has exactly one answer, and each answer is a certificate.
 #[tactic(auto, using(crate::proofs::Checked::none_yet, crate::proofs::Checked::below_queries, crate::proofs::Checked::all_right, crate::proofs::Checked::too_many_or_few))]
 pub fn are_right(alloc: Global, script: &Script, answers: &[Answer]) -> Result<bool, AllocError>
     ensures { IfOk result (λ right. IsTrue right ↔ AreRight script.now answers.now) }

@@ -12,7 +12,7 @@ use dd_query::Query;
 use dd_script::{Script, ScriptFault, ScriptKind, parse};
 use std::alloc::{AllocError, Global};
 
-/// The first line of the right answer to a query of the script. `number` is the query's number.
+/// The first line of the right answer to a query of the script. The query has the number `number`.
 fn line_of(
     alloc: Global,
     script: &Script,
@@ -22,7 +22,7 @@ fn line_of(
     requires { Contains script.now.queries query.now }
     ensures { IfOk result (λ line. IsLine script.now number query.now line.items) }
 {
-    // The roster has no engine to ask.
+    // The roster is empty, so no engine is asked.
     let mut roster: Roster = Roster::new(Vec::new(alloc));
     let found = answer(alloc, script, query, &mut roster)?;
     answer_line(alloc, number, &found)
@@ -45,7 +45,7 @@ pub fn lines_of(alloc: Global, script: &Script) -> Result<Vec<u8>, AllocError>
     Ok(text)
 }
 
-/// The first lines of the answers to the script that the bytes spell, or why the bytes are refused.
+/// The first lines of the right answers to the queries of the script that the bytes spell, or why the bytes are refused.
 pub fn answered(alloc: Global, bytes: &[u8]) -> Result<Vec<u8>, ScriptFault>
     requires { length bytes.now ≤ most_script }
     ensures lines { IfOk result (λ text. (s : Parts) × Spells bytes.now s × AreLines s 1 s.queries text.items) }

@@ -1,4 +1,4 @@
-//! An engine of one's own, which may be wrong, and a roster that asks it.
+//! An engine of our own, which may be wrong, and a roster that asks it.
 ghost use Rattle.std.specs.Prelude.{false, IfOk, IfSome};
 ghost use Rattle.dd_engines.specs.Proposals.{IsRightOutcome};
 
@@ -15,7 +15,7 @@ pub struct Guess {
 }
 
 impl Guess {
-    /// An engine that has not been asked yet.
+    /// An engine that proposes this value for each variable. It has not been asked yet.
     pub fn new(value: bool) -> Self {
         Guess {
             value,
@@ -39,8 +39,8 @@ impl Engine for Guess {
     }
 }
 
-/// An assignment that satisfies the clauses, if they hold with all variables false or with all true. Nothing is proved about the
-/// engines. The outcome is right all the same, since the roster checks what they propose.
+/// An assignment that satisfies the clauses, if they are satisfied with all variables false or with all variables true. Nothing
+/// is proved about the engines. The outcome is right all the same, since the roster checks what they propose.
 pub fn guessed(alloc: Global, cnf: &Cnf) -> Result<Option<Outcome>, AllocError>
     ensures { IfOk result (λ answer. IfSome answer (IsRightOutcome cnf.now)) }
 {

@@ -1,4 +1,4 @@
-//! A configuration that is a function on Z^d and has no period, and what an accepted YES says of it.
+//! A configuration that is given as a function on Z^d and has no period, and what an accepted YES says about it.
 ghost use Rattle.std.specs.Prelude.{◌≡◌, true};
 ghost use Rattle.dd_expansion.specs.Placed.{is_flat};
 ghost use Rattle.dd_checker.specs.Certificates.{IsCertificate};
@@ -30,8 +30,9 @@ impl Configuration for Lone {
     }
 }
 
-/// Does nothing. Its contract says what a YES means for this configuration if it is a certificate of the query with the number `query`,
-/// from 1. If the configuration obeys the premise everywhere, the goal doesn't hold at `place`.
+/// Does nothing. Its contract says what a YES means for this configuration. The YES must be a certificate of the query with the
+/// number `query`, counted from 1. Such a query has a premise, which is a rule, and a goal, such as that another rule is false.
+/// If the configuration obeys the premise everywhere, the goal doesn't hold at `place`.
 pub fn nowhere_in_lone(script: &Script, query: u32, answer: &Answer, place: &Position)
     requires certificate { IsCertificate script.now query answer.now }
     requires yes { is_yes answer.now ≡ true }

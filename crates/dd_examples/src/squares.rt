@@ -15,7 +15,7 @@ const UP: u32 = 0;
 /// The number of the label `rt` in the square topology.
 const RIGHT: u32 = 2;
 
-/// The formula that the cell at the end of these moves from the origin has the symbol.
+/// The formula that says that the cell at the end of these moves from the origin has this symbol.
 fn symbol_after(alloc: Global, moves: &[u32], symbol: u32) -> Result<Formula, AllocError>
     ensures { IfOk result (λ formula. formula ≡ symbol_after moves.now symbol) }
 {
@@ -48,7 +48,7 @@ pub fn hard_squares(alloc: Global) -> Result<Rule, RuleFault>
     Rule::new(alloc, &topology, &sets, formula)
 }
 
-/// The chessboard: the periods 2 and 2, with the rows 1 0 and 0 1.
+/// The chessboard. Its periods are 2 and 2, and its rows are 1 0 and 0 1.
 #[tactic(auto, using(crate::proofs::Board::is_board))]
 pub(crate) fn chessboard(alloc: Global) -> Result<Periodic, AllocError>
     ensures { IfOk result (λ board. board ≡ chessboard) }

@@ -40,7 +40,7 @@ pub enum Fault {
     Words,
     /// The input could not be read, or is too long.
     Input,
-    /// The bytes spell no script, or those that an output gives as its script don't.
+    /// The input spells no script, or it is an output whose script is none.
     Script,
     /// The bytes are no output.
     Output,

@@ -12,7 +12,7 @@ use Rattle.dd_topology.specs.Topology.{extent, are_short, leaves, end_of, step, 
 use Rattle.dd_topology.specs.{Balls.IsInBall, Balls.IsAdjacent, Balls.IsCellListOf, Balls.CellsLeaveRange, lemmas.ExtentLaws.extent_moved}
 use Rattle.dd_expansion.specs.expanding.Near.{AreNear}
 
--- the way back leads no further
+-- moving a position by an offset brings it nearer to the origin by at most the offset's extent
 extent_back : (p by : Place) → extent p ≤ extent (moved p by) + extent by
 extent_back p by = omega (arith, ints)
 
@@ -33,7 +33,7 @@ found_at : {X : Type 0} (q : X → Bool) (t : Bool) (y x : X) (o : Option X) →
 found_at q true y x o h rest f = let same : y ≡ x = cc in subst (λ z. q z ≡ true) same h
 found_at q false y x o h rest f = rest f
 
--- what is found in a list passes each test that all of the list pass
+-- an item that is found in a list passes each test that all items of the list pass
 found_passes : {X : Type 0} (p q : X → Bool) (xs : List X) (x : X) → list_all q xs ≡ true → find p xs ≡ Some x → q x ≡ true
 found_passes p q [] x h f = absurd (cc)
 found_passes p q (y ∷ ys) x h f =
@@ -48,7 +48,7 @@ ends_near : (es : List Edge) (c : Cell) (p : Edge → Bool) → are_short 4 es �
 ends_near es c p short None is = tt
 ends_near es c p short (Some e) is = omega (arith, found_short p es e short is, extent_moved c.position e.offset)
 
--- a move leads at most 4 further
+-- a move leads at most 4 further from the origin
 pub step_near : (es : List Edge) (c : Cell) (label : ℕ) → are_short 4 es ≡ true → IfSome (step es c label) (λ to. extent to.position ≤ extent c.position + 4)
 step_near es c label short = ends_near es c (leaves c label) short (find (leaves c label) es) refl
 
@@ -68,7 +68,7 @@ adjacent_near es a b short (e, there, ways) =
       | inr back ↦ subst (λ d. extent b.position ≤ extent d.position + 4) (sym back.1) (omega (arith, extent_back b.position e.offset, small))
     ]
 
--- a ball reaches at most four times its radius
+-- the cells of a ball lie at most four times its radius further from the origin than its centre
 pub in_ball_near : (es : List Edge) (c : Cell) (r : ℕ) (d : Cell) → are_short 4 es ≡ true → IsInBall es c r d → extent d.position ≤ extent c.position + 4 * r
 in_ball_near es c zero d short is = let same : extent d.position ≡ extent c.position = ap (λ e. extent e.position) is in omega arith
 in_ball_near es c (suc r) d short there =

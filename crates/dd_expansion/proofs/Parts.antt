@@ -1,4 +1,4 @@
--- What holds of a formula, at its parts.
+-- What holds of the parts of a formula, and how the budget pays for them.
 use Rattle.std.proofs.Common.{◌≡◌, ℕ, ◌+◌, ◌*◌, ◌<◌, ◌≤◌, Bool, true, List, [], ◌∷◌, ◌++◌, length, map, take, get_or, Result, Ok, Err, ap, sym, ◌∙◌, subst, arith}
 use Rattle.std.proofs.lemmas.{Bool.and_parts, List.take_more, List.map-append, List.length-append}
 use Rattle.std.proofs.lemmas.List.Sums.{sum_by_more, sum_by_more_le}
@@ -32,7 +32,7 @@ quantified_fits g n bs f scope h =
     let opened = ap (λ x. x scope) (fold-roll-Formula (ℕ → Bool) (formula_fits_step g n) (Formula-F.ForAll bs f)) in
     and_parts _ _ (sym opened ∙ (ap (λ x. formula_fits g n x scope) (formula.rolls-ForAll bs f) ∙ h))
 
--- an environment of near cells stays so with one more variable, whose cell is near
+-- if all cells of an environment are near, and so is the cell of one more variable, all cells of the longer environment are near
 pub near_push : (env : List Cell) (c : Cell) → AreNear (12 * length env) env → extent c.position ≤ 12 * (length env + 1) → AreNear (12 * length (env ++ c ∷ [])) (env ++ c ∷ [])
 near_push env c near here =
     let longer : 12 * (length env + 1) ≡ 12 * length (env ++ c ∷ []) = omega (arith, length-append env (c ∷ [])) in
@@ -44,11 +44,11 @@ near_push env c near here =
 pub map_more : {X Y : Type 0} (f : X → Y) (xs : List X) (i : ℕ) (d : X) → i < length xs → map f (take (i + 1) xs) ≡ map f (take i xs) ++ f (get_or xs i d) ∷ []
 map_more f xs i d within = ap (map f) (take_more xs i d within) ∙ map-append f (take i xs) (get_or xs i d ∷ [])
 
--- a list that is the environment with one more cell is longer by 1
+-- a list that is the environment with one more cell is longer than the environment by 1
 longer : (env inner : List Cell) (c : Cell) → inner ≡ env ++ c ∷ [] → length env + 1 ≡ length inner
 longer env inner c is = sym (ap length is ∙ length-append env (c ∷ []))
 
--- the environment of the body, which was copied, pushed to and borrowed
+-- the environment of a quantifier's body: the environment was copied, the new cell was pushed, and the result was borrowed
 pub inner_is : (env before after now : List Cell) (c : Cell) → before ≡ env → after ≡ before ++ c ∷ [] → now ≡ after → now ≡ env ++ c ∷ []
 inner_is env before after now c same pushed borrowed = borrowed ∙ (pushed ∙ ap (λ l. l ++ c ∷ []) same)
 
@@ -63,22 +63,23 @@ inner_depth body f env inner c h same is = omega (arith, h, ap depth same, longe
 pub inner_near : (env inner : List Cell) (c : Cell) → AreNear (12 * length env) env → extent c.position ≤ 12 * (length env + 1) → inner ≡ env ++ c ∷ [] → AreNear (12 * length inner) inner
 inner_near env inner c near here is = subst (λ l. AreNear (12 * length l) l) (sym is) (near_push env c near here)
 
--- the cell at a place of a list of near cells
+-- each cell of a list of near cells is near
 pub item_near : (n : ℕ) (cells : List Cell) (i : ℕ) (c : Cell) → AreNear n cells → i < length cells → c ≡ get_or cells i c → extent c.position ≤ n
 item_near n cells i c near within is = let here = near i c within in omega (arith, here, ap (λ d. extent d.position) is)
 
--- one more value is made
+-- the list of the values made so far, with one more value
 pub made_more : {X Y : Type 0} (f : X → Y) (xs : List X) (i : ℕ) (x : X) (made now : List Y) (y : Y) → i < length xs → x ≡ get_or xs i x → made ≡ map f (take i xs) → y ≡ f x → now ≡ made ++ y ∷ [] →
     now ≡ map f (take (i + 1) xs)
 made_more f xs i x made now y within is before one joins =
     joins ∙ (ap (λ l. l ++ y ∷ []) before ∙ (ap (λ z. map f (take i xs) ++ z ∷ []) (one ∙ ap f is) ∙ sym (map_more f xs i x within)))
 
--- a budget that has paid for the first values, and now for one more
+-- the budget, which has paid for the first values, after it pays for one more
 pub paid_more : {X : Type 0} (cost : X → ℕ) (xs : List X) (i : ℕ) (x : X) (left now first : ℕ) → i < length xs → x ≡ get_or xs i x → left + sum_by cost (take i xs) ≡ first → now + cost x ≡ left →
     now + sum_by cost (take (i + 1) xs) ≡ first
 paid_more cost xs i x left now first within is before one = omega (arith, sum_by_more cost xs i x within, ap cost is, before, one)
 
--- if the budget doesn't pay for one more value, the whole costs more; also if a gate was paid before
+-- if what is left of the budget doesn't pay for one more value, all values together cost more than the budget before the first. `few_for_all`: the
+-- same where one instance, that of the formula that joins them, was paid before
 pub few_at : {X : Type 0} (cost : X → ℕ) (xs : List X) (i : ℕ) (x : X) (left first : ℕ) → i < length xs → x ≡ get_or xs i x → left + sum_by cost (take i xs) ≡ first → left < cost x → first < sum_by cost xs
 few_at cost xs i x left first within is paid few = omega (arith, sum_by_more_le cost xs i x within, ap cost is, paid, few)
 
@@ -86,13 +87,13 @@ pub few_for_all : {X : Type 0} (cost : X → ℕ) (xs : List X) (i : ℕ) (x : X
     before < 1 + sum_by cost xs
 few_for_all cost xs i x left first before within is paid gate few = omega (arith, sum_by_more_le cost xs i x within, ap cost is, paid, gate, few)
 
--- if f of the value is made in place of the value, the cost is the same
+-- if f of the value is made instead of the value, the cost is the same
 pub paid_as : {S T : Type 0} (f : S → T) (before after cost : ℕ) (value : S) (r : Result S ExpansionFault) (r' : Result T ExpansionFault) → IfOk r (λ x. r' ≡ Ok (f x)) → IfErr r (λ e. r' ≡ Err e) → IsPaid before after value cost r →
     IsPaid before after (f value) cost r'
 paid_as f before after cost value (Ok x) r' made fault paid = subst (IsPaid before after (f value) cost) (sym made) (ap f paid.0, paid.1)
 paid_as f before after cost value (Err e) r' made fault few = subst (IsPaid before after (f value) cost) (sym fault) few
 
--- what was spent before is a part of the cost
+-- what was spent before counts as part of the cost
 pub paid_after : {T : Type 0} (before mid after spent cost : ℕ) (value : T) (r : Result T ExpansionFault) → mid + spent ≡ before → IsPaid mid after value cost r → IsPaid before after value (spent + cost) r
 paid_after before mid after spent cost value (Ok made) h paid = (paid.0, omega (arith, h, paid.1))
 paid_after before mid after spent cost value (Err fault) h few = λ is. omega (arith, h, few is)

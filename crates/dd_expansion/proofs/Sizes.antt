@@ -12,7 +12,7 @@ use Rattle.dd_expansion.specs.lemmas.Layers.{instances_and, instances_or, clause
 pub instances_alike : (es : List Expanded) → instances (expanded.Or es) ≡ instances (expanded.And es)
 instances_alike es = instances_or es ∙ sym (instances_and es)
 
--- the instances of all parts, and one for the formula that joins them
+-- the instances of a conjunction: those of all parts, and one for the conjunction itself
 pub joined : (es : List Expanded) (i n : ℕ) → length es ≤ i → n ≡ 1 + sum_by instances (take i es) → n ≡ instances (expanded.And es)
 joined es i n whole is = is ∙ ap (λ xs. 1 + sum_by instances xs) (take_all i es whole) ∙ sym (instances_and es)
 
@@ -21,7 +21,7 @@ pub ruleset instance_layers = (instances_and, instances_alike)
 abbrev HasFew : Expanded → Type 0
 HasFew e = clause_count e + 1 ≤ 4 * instances e
 
--- a part, with the claim of it
+-- a part, with a proof of the claim about it
 abbrev Known : Type 0
 Known = (e : Expanded) × HasFew e
 
@@ -48,7 +48,7 @@ clauses_few = ind-Expanded HasFew (λ x y is.
 pub clause_count_alike : (es : List Expanded) → clause_count (expanded.Or es) ≡ clause_count (expanded.And es)
 clause_count_alike es = clause_count_or es ∙ sym (clause_count_and es)
 
--- the clauses of all parts and of their gate
+-- the clauses of a conjunction: those of all parts, and those of its own gate
 pub counted : (es : List Expanded) (i n : ℕ) → length es ≤ i → n ≡ sum_by clause_count (take i es) → n + (length es + 1) ≡ clause_count (expanded.And es)
 counted es i n whole is = ap (λ m. m + (length es + 1)) (is ∙ ap (sum_by clause_count) (take_all i es whole)) ∙ sym (clause_count_and es)
 

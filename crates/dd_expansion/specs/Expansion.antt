@@ -26,7 +26,7 @@ any_of es = roll-Expanded (Expanded-F.Or es)
 abbrev pub both_alike : Expanded → Expanded → Expanded
 both_alike e f = roll-Expanded (Expanded-F.Iff e f)
 
--- an atom of a cell, or of two; the constant false where a cell is missing
+-- an atom about one cell, or about two cells; the constant false if a cell is missing
 abbrev pub at_cell : (Cell → Expanded) → Option Cell → Expanded
 at_cell e None = constant false
 at_cell e (Some c) = e c
@@ -35,14 +35,14 @@ abbrev pub at_cells : (Cell → Cell → Expanded) → Option Cell → Option Ce
 at_cells e None d = constant false
 at_cells e (Some c) d = at_cell (e c) d
 
--- both cells have the symbol s; both have the same one of n symbols
+-- `both_have` says that both cells have the symbol s, and `equal_at` that both have the same one of n symbols
 abbrev pub both_have : Cell → Cell → ℕ → Expanded
 both_have c d s = all_of (leaf s c ∷ leaf s d ∷ [])
 
 abbrev pub equal_at : ℕ → Cell → Cell → Expanded
 equal_at n c d = any_of (map (both_have c d) (range_with_len 0 n))
 
--- the expansion, for each environment
+-- an expansion for each environment
 abbrev pub Expansion : Type 0
 Expansion = List Cell → Expanded
 
@@ -62,7 +62,7 @@ expansion_step es n (Formula-F.Iff f g) env = both_alike (f env) (g env)
 expansion_step es n (Formula-F.ForAll bs f) env = all_of (map (λ c. f (env ++ c ∷ [])) (in_order (balls_of es env bs)))
 expansion_step es n (Formula-F.Exists bs f) env = any_of (map (λ c. f (env ++ c ∷ [])) (in_order (balls_of es env bs)))
 
--- the expansion over n symbols. A quantifier has a part for each cell of its balls, in cell order. Constants are kept, not
--- simplified away
+-- the expansion of a formula over n symbols. A quantifier becomes a conjunction or disjunction with one part for each cell of its balls, in cell
+-- order. Constants are kept, not simplified away
 abbrev pub expansion : List Edge → ℕ → Formula → Expansion
 expansion es n = fold-Formula Expansion (expansion_step es n)

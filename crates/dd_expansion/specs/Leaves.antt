@@ -14,7 +14,7 @@ holds_step (Expanded-F.And es) look = list_all (λ e. e look) es
 holds_step (Expanded-F.Or es) look = list_any (λ e. e look) es
 holds_step (Expanded-F.Iff e f) look = beq (e look) (f look)
 
--- the truth of an expansion, with the symbols that the look-up gives
+-- the truth of an expansion, with the symbols that the look-up gives to cells
 abbrev pub holds : Expanded → Look → Bool
 holds = fold-Expanded (Look → Bool) holds_step
 
@@ -34,7 +34,7 @@ leaves_pass_step test (Expanded-F.Iff e f) = e && f
 abbrev pub leaves_pass : LeafTest → Expanded → Bool
 leaves_pass test = fold-Expanded Bool (leaves_pass_step test)
 
--- each cell of a leaf has a symbol
+-- the cell of each leaf has a symbol
 abbrev pub given : Expanded → Look → Bool
 given e look = leaves_pass (λ c s. is_some (look c)) e
 
@@ -46,7 +46,7 @@ leaf_cells_step (Expanded-F.And es) = flat_map (λ e. e) es
 leaf_cells_step (Expanded-F.Or es) = flat_map (λ e. e) es
 leaf_cells_step (Expanded-F.Iff e f) = e ++ f
 
--- the cells of the leaves, in their order
+-- the cells of the leaves, in the order of the leaves
 abbrev pub leaf_cells : Expanded → List Cell
 leaf_cells = fold-Expanded (List Cell) leaf_cells_step
 
@@ -62,7 +62,7 @@ instances_step (Expanded-F.And es) = 1 + total es
 instances_step (Expanded-F.Or es) = 1 + total es
 instances_step (Expanded-F.Iff e f) = 1 + (e + f)
 
--- the number of instances: the expansion itself, its parts, their parts and so on
+-- the number of instances, which are the expansion itself, its parts, their parts, and so on
 abbrev pub instances : Expanded → ℕ
 instances = fold-Expanded ℕ instances_step
 
@@ -74,11 +74,11 @@ clause_count_step (Expanded-F.And es) = total es + (length es + 1)
 clause_count_step (Expanded-F.Or es) = total es + (length es + 1)
 clause_count_step (Expanded-F.Iff e f) = (e + f) + 4
 
--- the number of clauses of its gates. A constant has 1, an `And` or `Or` of k parts has k + 1, and an `Iff` has 4. A `Not`
--- or a leaf has none
+-- the number of clauses of an expansion's gates. Each constant has 1, each `And` or `Or` of k parts has k + 1, and each `Iff` has 4. A `Not` or a
+-- leaf has none of its own
 abbrev pub clause_count : Expanded → ℕ
 clause_count = fold-Expanded ℕ clause_count_step
 
--- the symbols as seen from v: the symbol of c is that of c moved by v, and a moved cell out of range has none
+-- the symbols as seen from v: c gets the symbol of the cell that is c moved by v, or none if the moved cell is out of range
 abbrev pub seen : Look → Place → Look
 seen look v c = cond (is_in_range (moved c.position v)) (look (shifted v c)) None

@@ -1,14 +1,14 @@
 -- terms and balls
 pub mod Terms
--- the truth of a formula, when cells have symbols
+-- the truth of a formula, given the symbols of cells
 pub mod Truth
--- the cells at which a formula looks
+-- the reads of a formula: the cells whose symbols it asks for
 pub mod Reads
 -- the expansion of a formula: a formula without variables
 pub mod Expansion
 -- the truth of expansions, their leaves and their sizes
 pub mod Leaves
--- well-formed formulas
+-- well-formed formulas, and limits on their sizes
 pub mod Limits
 -- cells of Z^d
 pub mod Placed

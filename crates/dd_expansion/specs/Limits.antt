@@ -1,4 +1,4 @@
--- Well-formed formulas: each variable, label, node and symbol that they number exists, and they keep within limits.
+-- Well-formed formulas: each variable, label, node and symbol to which they refer exists, and their sizes are within limits.
 use Rattle.std.specs.Prelude.{ℕ, ◌+◌, ◌≤◌, ◌≡◌, ◌&&◌, Bool, true, List, [], ◌∷◌, cond, max, length, nat_lt, nat_le}
 use Rattle.std.specs.List.{list_all}
 use Rattle.dd_values.specs.Bounds.{widest_radius}
@@ -6,23 +6,24 @@ use Rattle.dd_topology.specs.Grid.{Grid}
 use Rattle.dd_expansion.specs.declared.formulas.{Term.Term, BallOf.BallOf, Formula.Formula}
 use Rattle.dd_expansion.specs.declared.formulas.Formula.{TheFolds.fold-Formula, TheOpen.Formula-F}
 
--- the greatest number of moves of a term
+-- the greatest number of moves that a term may have
 abbrev pub most_moves : ℕ
 most_moves = 16
 
--- the greatest number of balls of a quantifier
+-- the greatest number of balls that a quantifier may have
 abbrev pub most_balls : ℕ
 most_balls = 4
 
--- the greatest depth of a formula
+-- the greatest depth that a formula may have
 abbrev pub most_nested : ℕ
 most_nested = 64
 
--- with `scope` variables in scope, the term's variable is one of them, and the label of each move exists
+-- with `scope` variables in scope, the term's variable is one of them, the term has at most `most_moves` moves, and the label of each move exists
 abbrev pub term_fits : Grid → ℕ → Term → Bool
 term_fits g scope t = nat_lt t.variable scope && nat_le (length t.moves) most_moves && list_all (λ l. nat_lt l (length g.labels)) t.moves
 
--- the ball, and all balls of a quantifier, are round variables in scope and within their limits
+-- `ball_fits`: the ball is round a variable in scope, and its radius is within the limit. `balls_fit`: this holds of each of a quantifier's balls,
+-- and their number is within the limit
 abbrev pub ball_fits : ℕ → BallOf → Bool
 ball_fits scope b = nat_lt b.variable scope && nat_le b.radius widest_radius
 
@@ -54,7 +55,7 @@ abbrev pub greatest : List ℕ → ℕ
 greatest [] = 0
 greatest (n ∷ ns) = max n (greatest ns)
 
--- the depth of a conjunction or disjunction: with two parts or more it is one deeper than its deepest part
+-- the depth of a conjunction or disjunction, from the depths of its parts: the greatest of them, and one more if there are two or more parts
 abbrev pub list_depth : List ℕ → ℕ
 list_depth ns = cond (nat_le 2 (length ns)) (1 + greatest ns) (greatest ns)
 
@@ -74,12 +75,11 @@ depth_step (Formula-F.Iff f g) = 1 + max f g
 depth_step (Formula-F.ForAll bs f) = 1 + f
 depth_step (Formula-F.Exists bs f) = 1 + f
 
--- the greatest number of connectives and quantifiers round an atom, where a conjunction or disjunction of one part counts
--- for none
+-- how deep connectives and quantifiers are nested. A conjunction or disjunction with fewer than two parts doesn't count
 abbrev pub depth : Formula → ℕ
 depth = fold-Formula ℕ depth_step
 
--- a formula with one free variable over a topology and n symbols
+-- a well-formed formula with one free variable, over a topology and n symbols
 pub record IsFormula (g : Grid) (n : ℕ) (f : Formula) : Type 0 where
   pub numbers : formula_fits g n f 1 ≡ true
   pub depth : depth f ≤ most_nested

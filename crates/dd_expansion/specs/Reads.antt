@@ -1,5 +1,4 @@
--- The reads of a formula: the cells at which it looks for a symbol, under every choice of the bound variables' cells in
--- their balls.
+-- The reads of a formula: the cells whose symbols it asks for, for every choice of the bound variables' cells in their balls.
 use Rattle.std.specs.{Prelude.List, Prelude.[], Prelude.◌∷◌, Prelude.◌++◌, Prelude.Option, Prelude.Some, Prelude.None, List.flat_map}
 use Rattle.std.specs.Option.{option_to_list}
 use Rattle.dd_lattice.specs.declared.position.Cell.{Cell}
@@ -7,7 +6,7 @@ use Rattle.dd_topology.specs.declared.edge.Edge.{Edge}
 use Rattle.dd_expansion.specs.declared.formulas.Formula.{Formula, TheFolds.fold-Formula}
 use Rattle.dd_expansion.specs.{declared.formulas.Formula.TheOpen.Formula-F, Terms.cell_of, Terms.balls_of}
 
--- both cells, or none where one is missing
+-- both cells, or no cell if one of them is missing
 abbrev pub both_cells : Option Cell → Option Cell → List Cell
 both_cells None d = []
 both_cells (Some c) None = []
@@ -33,6 +32,6 @@ reads_step es (Formula-F.Iff f g) env = f env ++ g env
 reads_step es (Formula-F.ForAll bs f) env = flat_map (λ c. f (env ++ c ∷ [])) (balls_of es env bs)
 reads_step es (Formula-F.Exists bs f) env = flat_map (λ c. f (env ++ c ∷ [])) (balls_of es env bs)
 
--- the cells of the terms whose symbols are asked for, with repeats
+-- the cells of the terms in atoms that ask for symbols, with repeats
 abbrev pub reads : List Edge → Formula → Reading
 reads es = fold-Formula Reading (reads_step es)

@@ -1,21 +1,21 @@
--- Terms, which name cells, and balls, which are sets of cells. The environment lists the cells of the variables in scope,
--- by the variables' numbers.
+-- Terms, which name cells, and balls, which are sets of cells. The environment lists the cells of the variables in scope, in the order of the
+-- variables' numbers.
 use Rattle.std.specs.Prelude.{ℕ, ◌==◌, ◌&&◌, Bool, false, List, [], ◌∷◌, Option, Some, None, slice_get, pos}
 use Rattle.std.specs.{List.flat_map, Option.option_and_then}
 use Rattle.dd_lattice.specs.{Place.place, Cells.cell, declared.position.Cell.Cell}
 use Rattle.dd_topology.specs.{declared.edge.Edge.Edge, Topology.step, Balls.ball, Balls.same_place}
 use Rattle.dd_expansion.specs.declared.formulas.{Term.Term, BallOf.BallOf}
 
--- the cell at the end of several moves; none where one of them is missing
+-- the cell at the end of several moves, made one after another; none if there is no edge for one of them
 abbrev pub walk : List Edge → Cell → List ℕ → Option Cell
 walk es c [] = Some c
 walk es c (label ∷ labels) = option_and_then (λ d. walk es d labels) (step es c label)
 
--- the cell of a term; none where a move is missing
+-- the cell that a term names; none if its variable is not in scope, or if there is no edge for one of its moves
 abbrev pub cell_of : List Edge → List Cell → Term → Option Cell
 cell_of es env t = option_and_then (λ c. walk es c t.moves) (slice_get env t.variable)
 
--- a test of a cell, or of two cells; false where a cell is missing
+-- a test of one cell, or of two cells; false if a cell is missing
 abbrev pub on_cell : (Cell → Bool) → Option Cell → Bool
 on_cell p None = false
 on_cell p (Some c) = p c
@@ -27,12 +27,12 @@ on_cells p (Some c) d = on_cell (p c) d
 abbrev pub same_cell : Cell → Cell → Bool
 same_cell c d = same_place c.position d.position && c.node == d.node
 
--- the ball round the cell of a variable
+-- the ball of radius r round a cell; empty if the cell is missing
 abbrev pub ball_round : List Edge → ℕ → Option Cell → List Cell
 ball_round es r None = []
 ball_round es r (Some c) = ball es c r
 
--- the cells of several balls, each cell once for each ball that has it
+-- the cells of several balls, one ball after another, with repeats
 abbrev pub balls_of : List Edge → List Cell → List BallOf → List Cell
 balls_of es env bs = flat_map (λ b. ball_round es b.radius (slice_get env b.variable)) bs
 

@@ -1,5 +1,5 @@
--- The truth of a formula, by recursion on the formula (Tarski 1933). A cell may have no symbol: then
--- no symbol is the one at the cell, and it has the same symbol as no cell, not even as itself.
+-- The truth of a formula, by recursion on the formula (Tarski 1933). A cell may have no symbol. Then it doesn't have any given symbol, and it
+-- doesn't have the same symbol as any cell, not even as itself.
 use Rattle.std.specs.Prelude.{ℕ, ◌==◌, ◌||◌, not, Bool, false, List, [], ◌∷◌, ◌++◌, Option, Some, None}
 use Rattle.std.specs.{Bool.beq, List.list_all, List.list_any}
 use Rattle.dd_lattice.specs.declared.position.Cell.{Cell}
@@ -9,17 +9,17 @@ use Rattle.dd_expansion.specs.declared.formulas.Formula.{Formula, TheFolds.fold-
 use Rattle.dd_expansion.specs.declared.formulas.Formula.TheOpen.{Formula-F}
 use Rattle.dd_expansion.specs.Terms.{cell_of, on_cell, on_cells, same_cell, balls_of}
 
--- there is a symbol, and it is s
+-- the symbol exists, and it is s
 abbrev pub is_symbol : ℕ → Option ℕ → Bool
 is_symbol s None = false
 is_symbol s (Some a) = a == s
 
--- there are both symbols, and they are equal
+-- both symbols exist, and they are equal
 abbrev pub are_equal : Option ℕ → Option ℕ → Bool
 are_equal None b = false
 are_equal (Some a) b = is_symbol a b
 
--- a truth value for each environment and each choice of the symbols of cells
+-- a truth value for each environment and each look-up, which gives cells their symbols
 abbrev pub Truth : Type 0
 Truth = List Cell → Look → Bool
 

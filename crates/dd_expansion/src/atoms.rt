@@ -1,4 +1,5 @@
-//! The expansions of atoms. Each takes its instances from a budget: one for itself, and one for each part at any depth.
+//! The expansions of atoms. Each takes its instances from a budget: one for the expansion itself, and one for each of its
+//! parts at any depth.
 ghost use Rattle.std.specs.Prelude.{◌≡◌, ◌+◌, ◌<◌, ◌==◌, IfOk, OnOk, IfErr};
 ghost use Rattle.dd_topology.specs.Balls.{is_adjacent};
 ghost use Rattle.dd_expansion.specs.Terms.{same_cell};
@@ -13,7 +14,7 @@ use dd_topology::Topology;
 use dd_values::{Boxed, Items};
 use std::alloc::{AllocError, Global};
 
-/// Takes instances from the budget. `Instances` if too few are left.
+/// Takes `count` instances from the budget. The fault is `Instances` if fewer are left.
 pub(crate) fn spend(budget: &mut u32, count: u32) -> Result<(), ExpansionFault>
     ensures ok { OnOk result (budget.new + count ≡ budget.old) }
     ensures few { IfErr result (λ fault. budget.old < count) }
@@ -41,7 +42,7 @@ fn leaf(symbol: u32, cell: Cell, budget: &mut u32) -> Result<Expanded, Expansion
     Ok(Expanded::Leaf { cell, symbol })
 }
 
-/// The negation of a part whose instances are already paid.
+/// The negation of a part. It takes one instance from the budget: the instances of the part were taken already.
 pub(crate) fn negated(
     alloc: Global,
     part: Expanded,
@@ -53,7 +54,8 @@ pub(crate) fn negated(
     Ok(Expanded::Not(Boxed::new(alloc, part)?))
 }
 
-/// The symbol at the cell is this one. This atom and those below are the constant false where a cell is missing.
+/// The expansion of the atom that says that the symbol at the cell is this one. This expansion and those of the atoms below
+/// are the constant false if a cell is missing.
 pub(crate) fn symbol_at(
     symbol: u32,
     cell: Option<Cell>,
@@ -79,7 +81,7 @@ fn negated_leaf(
     negated(alloc, part, budget)
 }
 
-/// The symbol at the cell is not this one.
+/// The expansion of the atom that says that the symbol at the cell is not this one.
 pub(crate) fn no_symbol_at(
     alloc: Global,
     symbol: u32,
@@ -95,7 +97,7 @@ pub(crate) fn no_symbol_at(
     }
 }
 
-/// Both cells have the symbol.
+/// The conjunction that says that both cells have the symbol.
 fn both_have(
     alloc: Global,
     first: &Cell,
@@ -116,8 +118,8 @@ fn both_have(
     Ok(Expanded::And(parts))
 }
 
-/// The two cells have the same symbol: a disjunction over all symbols. Each takes three instances, a conjunction and two
-/// leaves.
+/// The disjunction over all symbols that says that the two cells have the same symbol. For each symbol it takes three
+/// instances from the budget: a conjunction and its two leaves.
 fn equal_at(
     alloc: Global,
     symbols: u32,
@@ -137,7 +139,7 @@ fn equal_at(
     Ok(Expanded::Or(parts))
 }
 
-/// The two cells have the same symbol.
+/// The expansion of the atom that says that the two cells have the same symbol.
 pub(crate) fn same_at(
     alloc: Global,
     symbols: u32,
@@ -168,7 +170,7 @@ fn unequal_at(
     negated(alloc, part, budget)
 }
 
-/// The two cells have different symbols.
+/// The expansion of the atom that says that the two cells have different symbols.
 pub(crate) fn not_same_at(
     alloc: Global,
     symbols: u32,
@@ -185,7 +187,7 @@ pub(crate) fn not_same_at(
     }
 }
 
-/// Some edge leads from one of the two cells to the other.
+/// The expansion of the atom that says that some edge leads from one of the two cells to the other.
 pub(crate) fn adjacent_at(
     topology: &Topology,
     first: Option<Cell>,
@@ -207,7 +209,7 @@ fn same_cell(a: &Cell, b: &Cell) -> bool
     a == b
 }
 
-/// The two cells are the same cell.
+/// The expansion of the atom that says that the two cells are the same cell.
 pub(crate) fn place_at(
     first: Option<Cell>,
     second: Option<Cell>,
@@ -222,7 +224,7 @@ pub(crate) fn place_at(
     }
 }
 
-/// The cell has this node.
+/// The expansion of the atom that says that the cell has this node.
 pub(crate) fn node_at(
     node: u32,
     cell: Option<Cell>,

@@ -1,4 +1,4 @@
-//! How many clauses an expansion has once it is written as gates.
+//! How many clauses an expansion takes once it is written as a circuit of gates, and the gates as clauses.
 ghost use Rattle.std.specs.Prelude.{◌≡◌, ◌+◌, ◌^◌, ◌<◌, ◌≤◌, length};
 ghost use Rattle.std.specs.List.{sum_by};
 ghost use Rattle.dd_expansion.specs.Leaves.{instances, clause_count};
@@ -6,8 +6,8 @@ ghost use Rattle.dd_expansion.specs.Leaves.{instances, clause_count};
 use crate::expanded::Expanded;
 
 impl Expanded {
-    /// The number of clauses of the gates of this expansion. A constant has 1, a conjunction or disjunction of k parts
-    /// has k + 1, and an equivalence has 4. A leaf or a negation has none.
+    /// The number of clauses of the gates of this expansion. Each constant has 1, each conjunction or disjunction of k
+    /// parts has k + 1, and each equivalence has 4. A leaf or a negation has none of its own.
     #[tactic(auto, using(crate::proofs::Sizes::clauses_few))]
     pub fn clause_count(&self) -> u64
         requires { instances self.now ≤ 2 ^ 32 }
@@ -17,7 +17,7 @@ impl Expanded {
     }
 }
 
-/// The number of clauses, which fits 64 bits.
+/// The number of clauses, which must fit in 64 bits.
 #[cycle(count)]
 #[tactic(auto, using(std::proofs::lemmas::Grind::common_steps, crate::proofs::Sizes::count_layers))]
 fn count(expanded: &Expanded) -> u64

@@ -1,4 +1,4 @@
-//! The truth of an expansion under the symbols of cells.
+//! The truth of an expansion, given the symbols of cells.
 ghost use Rattle.std.specs.Prelude.{◌≡◌, if◌then◌else◌, Some, None};
 ghost use Rattle.std.specs.List.{list_all, list_any};
 ghost use Rattle.dd_expansion.specs.Leaves.{holds, given, seen};
@@ -8,8 +8,8 @@ use dd_lattice::{Cell, Position, shift};
 use dd_pattern::Reads;
 
 impl Expanded {
-    /// The truth value at the position `at`: each leaf's cell is moved by it, and `read` gives the symbol there. `None` where
-    /// some cell so moved has no symbol or is out of range.
+    /// The truth value at the position `at`. Each leaf's cell is moved by `at`, and `read` gives the symbol of the moved
+    /// cell. `None` if some moved cell has no symbol or is out of range.
     #[cycle(evaluate)]
     #[tactic(auto, using(crate::specs::lemmas::Layers::holds_layers))]
     pub fn evaluate<R: Reads>(&self, at: &Position, read: &R) -> Option<bool>
@@ -37,7 +37,8 @@ impl Expanded {
     }
 }
 
-/// The symbol of the cell, moved by the position `at`. `None` where the moved cell has no symbol or is out of range.
+/// The symbol that `read` gives the cell once it is moved by the position `at`. `None` if the moved cell has no symbol or
+/// is out of range.
 pub fn symbol_near<R: Reads>(cell: &Cell, at: &Position, read: &R) -> Option<u32>
     ensures { result ≡ seen (R.symbols read.now) at.now cell.now }
 {
@@ -67,7 +68,7 @@ fn evaluate_and<R: Reads>(parts: &[Expanded], at: &Position, read: &R) -> Option
     Some(value)
 }
 
-/// Whether some part is true. Every part is evaluated, as for `evaluate_and`.
+/// Whether some part is true. Every part is evaluated, for the same reason as in `evaluate_and`.
 #[cycle(evaluate)]
 fn evaluate_or<R: Reads>(parts: &[Expanded], at: &Position, read: &R) -> Option<bool>
     ensures { let look = seen (R.symbols read.now) at.now in

@@ -6,8 +6,8 @@ use dd_lattice::Cell;
 use dd_values::{Boxed, Items};
 use std::alloc::{AllocError, Global};
 
-/// A formula without variables, as a tree. It has a truth value at each position: the cells of its leaves are relative to
-/// the position.
+/// A formula without variables, as a tree. It has a truth value at each position, since the cells of its leaves are
+/// relative to the position.
 #[derive(Debug, Drop)]
 pub enum Expanded {
     /// True everywhere, or false everywhere.
@@ -16,9 +16,9 @@ pub enum Expanded {
     Leaf { cell: Cell, symbol: u32 },
     /// The part is false.
     Not(Boxed<Expanded>),
-    /// All parts are true. It is true if there is none.
+    /// All parts are true. The expansion is true if it has no parts.
     And(Items<Expanded>),
-    /// Some part is true. It is false if there is none.
+    /// Some part is true. The expansion is false if it has no parts.
     Or(Items<Expanded>),
     /// Both parts are true or both are false.
     Iff(Boxed<Expanded>, Boxed<Expanded>),
@@ -82,7 +82,7 @@ fn copy_all(alloc: Global, parts: &[Expanded]) -> Result<Items<Expanded>, AllocE
     Ok(copies)
 }
 
-/// The instances of the parts, and one for the formula that joins them.
+/// The number of instances of the parts, plus one for the conjunction or disjunction that joins them.
 #[cycle(instances)]
 #[tactic(auto, using(std::proofs::lemmas::Grind::common_steps, crate::proofs::Sizes::instance_layers))]
 fn joined_instances(parts: &[Expanded]) -> u32

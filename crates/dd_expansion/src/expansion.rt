@@ -1,5 +1,5 @@
-//! The expansion of a formula at a cell, within a budget of instances. Quantifiers are written out over the cells of their
-//! balls, and an equality of two symbols over all symbols.
+//! The expansion of a formula at a cell, within a budget of instances. A quantifier is written out with one part for each
+//! cell of its balls, and an equality of two symbols with one part for each symbol.
 ghost use Rattle.std.specs.Prelude.{ℕ, ◌≡◌, ◌+◌, ◌*◌, ◌<◌, ◌≤◌, ◌∷◌, ◌++◌, [], true, length, map, Ok, Err, IfOk, IfErr};
 ghost use Rattle.std.specs.List.{sum_by};
 ghost use Rattle.dd_lattice.specs.InOrder.{in_order};
@@ -24,25 +24,26 @@ use dd_topology::Topology;
 use dd_values::{Boxed, Items};
 use std::alloc::{AllocError, Global};
 
-/// Where a formula is expanded.
+/// The setting in which a formula is expanded.
 ///
-/// At most 65 variables are in scope: the free one, and those of at most 64 nested quantifiers. A bound variable's cell
-/// lies at most 12 further from the origin, along each axis, than that of some variable before it: a ball has a radius of
-/// at most 3, and an edge leads at most 4.
+/// At most 65 variables are in scope: the free one, and those of at most 64 nested quantifiers. The cell of a bound
+/// variable lies at most 12 further from the origin, along each axis, than the cell of some variable before it, because a
+/// ball has a radius of at most 3 and an edge leads at most 4 along an axis.
 #[derive(Clone, Copy)]
 struct Scope<'a> {
     alloc: Global,
     topology: &'a Topology,
-    /// How many symbols there are.
+    /// How many symbols the alphabet has.
     symbols: u32,
-    /// The environment: the cells of the variables in scope, by their numbers.
+    /// The environment: the cells of the variables in scope, in the order of the variables' numbers.
     env: &'a [Cell],
 }
 
-/// The expansion of a formula over an alphabet of `symbols` symbols, at the cell of the node at the origin.
+/// The expansion of a formula over an alphabet of `symbols` symbols, at the cell of the node `node` at the origin.
 ///
 /// # Errors
-/// `Instances` if the expansion has more than `most` instances, and the work stops there; or `Memory`.
+/// `Instances` if the expansion has more than `most` instances; the work stops once they would exceed `most`. `Memory` if
+/// memory ran out.
 pub fn expand(
     alloc: Global,
     topology: &Topology,
@@ -69,7 +70,7 @@ pub fn expand(
 }
 
 impl<'a> Scope<'a> {
-    /// The cell of a term; `None` where a move is missing.
+    /// The cell that a term names. `None` if there is no edge for one of its moves.
     fn cell(&self, term: &Term) -> Option<Cell>
         requires scope { length self.now.env.now ≤ 65 }
         requires near { AreNear (12 * length self.now.env.now) self.now.env.now }
@@ -79,7 +80,7 @@ impl<'a> Scope<'a> {
         cell_of(self.topology, self.env, term)
     }
 
-    /// The expansion of a formula, paid from the budget.
+    /// The expansion of a formula. Its instances are taken from the budget.
     #[cycle(expand)]
     #[tactic(auto, using(std::proofs::lemmas::Grind::common_steps, crate::proofs::Nodes::expansion_layers))]
     fn expand(&self, formula: &Formula, budget: &mut u32) -> Result<Expanded, ExpansionFault>
@@ -128,7 +129,7 @@ impl<'a> Scope<'a> {
         }
     }
 
-    /// The expansion of a part, in a box.
+    /// The expansion of a part, in a `Boxed`. Its instances are taken from the budget.
     #[cycle(expand)]
     fn expand_boxed(
         &self,
@@ -145,7 +146,7 @@ impl<'a> Scope<'a> {
         Ok(Boxed::new(self.alloc, made)?)
     }
 
-    /// The expansion of a negation.
+    /// The expansion of the negation of `part`.
     #[cycle(expand)]
     fn expand_not(
         &self,
@@ -162,7 +163,8 @@ impl<'a> Scope<'a> {
         negated(self.alloc, made, budget)
     }
 
-    /// The expansions of the parts of a conjunction or a disjunction. The instance of the whole is paid too.
+    /// The expansions of the parts of a conjunction or a disjunction. Their instances are taken from the budget, and one
+    /// more for the conjunction or disjunction itself.
     #[cycle(expand)]
     fn expand_all(
         &self,
@@ -185,8 +187,8 @@ impl<'a> Scope<'a> {
         Ok(parts)
     }
 
-    /// The expansions of a quantifier's body, one for each cell of the union of the balls, in cell order. The instance of the
-    /// whole is paid too.
+    /// The expansions of a quantifier's body, one for each cell of the union of the balls, in cell order. Their instances
+    /// are taken from the budget, and one more for the conjunction or disjunction that they will form.
     #[cycle(expand)]
     fn expand_over(
         &self,
@@ -207,7 +209,8 @@ impl<'a> Scope<'a> {
         self.expand_each(&cells, body, budget)
     }
 
-    /// The expansions of a body, one for each of the cells. The cell becomes that of one more variable.
+    /// The expansions of a quantifier's body, one for each of `cells`. In each, one more variable is in scope, and it
+    /// stands for that cell.
     #[cycle(expand)]
     fn expand_each(
         &self,
@@ -239,7 +242,7 @@ impl<'a> Scope<'a> {
     }
 }
 
-/// The conjunction of the parts, or the fault in their place.
+/// The conjunction of the parts, or the fault if they could not be made.
 fn conjunction(parts: Result<Items<Expanded>, ExpansionFault>) -> Result<Expanded, ExpansionFault>
     ensures made { IfOk parts (λ made. result ≡ Ok (Expanded.And made)) }
     ensures fault { IfErr parts (λ fault. result ≡ Err fault) }
@@ -250,7 +253,7 @@ fn conjunction(parts: Result<Items<Expanded>, ExpansionFault>) -> Result<Expande
     }
 }
 
-/// The disjunction of the parts, or the fault in their place.
+/// The disjunction of the parts, or the fault if they could not be made.
 fn disjunction(parts: Result<Items<Expanded>, ExpansionFault>) -> Result<Expanded, ExpansionFault>
     ensures made { IfOk parts (λ made. result ≡ Ok (Expanded.Or made)) }
     ensures fault { IfErr parts (λ fault. result ≡ Err fault) }
@@ -261,7 +264,7 @@ fn disjunction(parts: Result<Items<Expanded>, ExpansionFault>) -> Result<Expande
     }
 }
 
-/// The implication of a premise and a conclusion, or the conclusion's fault.
+/// The implication from a premise to a conclusion, or the fault if the conclusion could not be made.
 fn implication(
     alloc: Global,
     premise: Boxed<Expanded>,
@@ -275,7 +278,7 @@ fn implication(
     }
 }
 
-/// The equivalence of two parts, or the second one's fault.
+/// The equivalence of two parts, or the fault if the second one could not be made.
 fn equivalence(
     first: Boxed<Expanded>,
     second: Result<Boxed<Expanded>, ExpansionFault>,

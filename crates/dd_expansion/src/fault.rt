@@ -1,14 +1,14 @@
-//! The faults of expansions.
+//! The faults that can occur when a formula is expanded.
 ghost use Rattle.std.specs.Prelude.{◌≡◌};
 ghost use Rattle.dd_expansion.specs.declared.fault.ExpansionFault.TheVariants.{Memory};
 
 use std::alloc::{AllocError, AllocFailed};
 use thiserror::Error;
 
-/// Why an expansion is not made.
+/// Why an expansion could not be made.
 #[derive(Clone, Copy, Debug, PartialEq, Eq, Error)]
 pub enum ExpansionFault {
-    /// The expansion would have more instances than are allowed.
+    /// The expansion would have more instances than allowed.
     #[error("the expansion has too many instances")]
     Instances,
     /// Memory ran out.

@@ -5,44 +5,45 @@ ghost use Rattle.dd_expansion.specs.expanding.Atoms.{is_atom};
 use dd_values::{Boxed, Items};
 use std::alloc::{AllocError, Global};
 
-/// A term names a cell: start at the cell of a variable, and make the moves one after the other. The term has no cell if
-/// one of the moves is missing.
+/// A term names a cell: start at the cell of a variable, and make the moves one after another. Each move follows an edge with
+/// a given label. The term has no cell if there is no edge for one of the moves.
 ///
-/// Variables are numbered from the outside in (de Bruijn levels). Number 0 is the free variable, the cell of which the
-/// formula speaks. The number of a bound variable is the number of variables in scope just outside its quantifier.
+/// Variables are numbered from the outside in (de Bruijn levels). Number 0 is the free variable, which stands for the cell
+/// that the formula is about. The number of a bound variable is the number of variables in scope just outside its
+/// quantifier.
 #[derive(Debug, Drop)]
 pub struct Term {
     pub variable: u32,
-    /// The labels of the moves, by their numbers.
+    /// The numbers of the labels of the moves.
     pub moves: Items<u32>,
 }
 
-/// The ball of a radius round the cell of a variable.
+/// The ball of this radius round the cell of this variable.
 #[derive(Debug, Clone, Copy, PartialEq, Eq)]
 pub struct BallOf {
     pub variable: u32,
     pub radius: u32,
 }
 
-/// A formula with one free variable. An atom is false where one of its terms has no cell.
+/// A formula with one free variable. An atom, which is a formula without parts, is false if one of its terms has no cell.
 #[derive(Debug, Drop)]
 pub enum Formula {
-    /// The symbol at the term is this one.
+    /// The symbol at the term's cell is this one.
     Symbol {
         term: Term,
         symbol: u32,
     },
-    /// The symbol at the term is not this one.
+    /// The symbol at the term's cell is not this one.
     NotSymbol {
         term: Term,
         symbol: u32,
     },
-    /// The symbols at the two terms are equal.
+    /// The symbols at the two terms' cells are equal.
     Same {
         left: Term,
         right: Term,
     },
-    /// The symbols at the two terms differ.
+    /// The symbols at the two terms' cells differ.
     NotSame {
         left: Term,
         right: Term,
@@ -64,9 +65,9 @@ pub enum Formula {
     },
     /// The part is false.
     Not(Boxed<Formula>),
-    /// All parts are true. It is true if there is none.
+    /// All parts are true. The formula is true if it has no parts.
     And(Items<Formula>),
-    /// Some part is true. It is false if there is none.
+    /// Some part is true. The formula is false if it has no parts.
     Or(Items<Formula>),
     /// The first part is false, or the second is true.
     Implies(Boxed<Formula>, Boxed<Formula>),
@@ -175,7 +176,7 @@ fn copy_terms(alloc: Global, left: &Term, right: &Term) -> Result<(Term, Term), 
     Ok((left, right))
 }
 
-/// Both boxes, or the fault of the second one.
+/// Both boxes, or the fault if the second one could not be made.
 fn paired(
     left: Boxed<Formula>,
     right: Result<Boxed<Formula>, AllocError>,

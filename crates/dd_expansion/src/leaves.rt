@@ -13,7 +13,7 @@ use std::alloc::{AllocError, Global};
 use std::collections::BTreeSet;
 
 impl Expanded {
-    /// The cells of the leaves, in cell order, each once.
+    /// The cells of the leaves, in cell order, without repeats.
     pub fn cells(&self, alloc: Global) -> Result<Vec<Cell>, AllocError>
         ensures list { IfOk result (λ v. v.items ≡ in_order (leaf_cells self.now)) }
         ensures ascending { IfOk result (λ v. IsStrictlySortedBy cell_cmp v.items) }
@@ -24,7 +24,7 @@ impl Expanded {
     }
 }
 
-/// Adds the cells of the leaves to those found.
+/// Adds the cells of the leaves to `found`.
 #[cycle(add_cells)]
 #[tactic(auto, using(std::proofs::lemmas::Grind::common_steps, crate::specs::lemmas::Layers::leaf_cells_layers))]
 fn add_cells(expanded: &Expanded, found: &mut BTreeSet<Cell>) -> Result<(), AllocError>

@@ -1,5 +1,6 @@
 //! The cells of terms, and the cells of balls round the cells of variables. The environment `env` lists the cells of the
-//! variables in scope. Each lies near enough to the origin that no coordinate here passes 2^20; `Scope` says why.
+//! variables in scope. These cells lie so near the origin that no coordinate here exceeds 2^20 in absolute value. The comment
+//! on `Scope` says why.
 ghost use Rattle.std.specs.Prelude.{◌≡◌, ◌+◌, ◌*◌, ◌≤◌, true, length, slice_get, IfOk, IfErr, IfSome};
 ghost use Rattle.dd_lattice.specs.Place.{most_coordinate};
 ghost use Rattle.dd_lattice.specs.InOrder.{in_order};
@@ -16,7 +17,7 @@ use dd_lattice::{Cell, LatticeFault, in_order};
 use dd_topology::Topology;
 use std::alloc::Global;
 
-/// The cell at the end of one move; `None` where no edge of the cell's node has the label.
+/// The cell at the end of one move. `None` if no edge with this label leaves the cell's node.
 fn step(topology: &Topology, from: &Cell, label: u32) -> Option<Cell>
     requires near { extent from.now.position + 4 ≤ most_coordinate }
     ensures value { result ≡ step topology.now.edges from.now label }
@@ -27,7 +28,7 @@ fn step(topology: &Topology, from: &Cell, label: u32) -> Option<Cell>
     topology.step(from, label)
 }
 
-/// The cell at the end of several moves; `None` where one of them is missing.
+/// The cell at the end of several moves, made one after another. `None` if there is no edge for one of them.
 fn walk(topology: &Topology, from: &Cell, labels: &[u32]) -> Option<Cell>
     requires near { extent from.now.position + 4 * length labels.now ≤ most_coordinate }
     ensures { result ≡ walk topology.now.edges from.now labels.now }
@@ -41,7 +42,7 @@ fn walk(topology: &Topology, from: &Cell, labels: &[u32]) -> Option<Cell>
     }
 }
 
-/// The cell of a term; `None` where a move is missing.
+/// The cell that a term names. `None` if there is no edge for one of its moves.
 pub(crate) fn cell_of(topology: &Topology, env: &[Cell], term: &Term) -> Option<Cell>
     requires scope { length env.now ≤ 65 }
     requires near { AreNear (12 * length env.now) env.now }
@@ -54,7 +55,8 @@ pub(crate) fn cell_of(topology: &Topology, env: &[Cell], term: &Term) -> Option<
     }
 }
 
-/// The ball of a radius round a cell, in cell order. The cell is so far within the range that the ball is in range too.
+/// The ball of this radius round the cell `centre`, in cell order. The centre must lie so near the origin that the whole
+/// ball is in range.
 fn ball_at(
     alloc: Global,
     topology: &Topology,
@@ -95,7 +97,7 @@ fn ball_round(
     }
 }
 
-/// The cells of several balls, in cell order, each once.
+/// The cells of the union of several balls, in cell order, without repeats.
 pub(crate) fn cells_of(
     alloc: Global,
     topology: &Topology,

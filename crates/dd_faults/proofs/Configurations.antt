@@ -1,4 +1,4 @@
--- The symbols of a configuration, checked one after the other. Also: the first period of a box with few cells is not cut off.
+-- The symbols of a configuration are checked one after the other. The first period of a box with few cells is not cut off.
 use Rattle.std.proofs.Common.{◌≡◌, ℕ, ◌+◌, ◌*◌, ◌%◌, ◌≤◌, ◌<◌, List, [], ◌∷◌, ◌++◌, length, Option, true, not, refl, arith, slice_get}
 use Rattle.std.specs.Option.{option_map_or}
 use Rattle.std.proofs.Math.Nat.{le-mul_of_pos_right, mul_assoc}

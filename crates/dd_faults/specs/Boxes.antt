@@ -10,11 +10,11 @@ use Rattle.dd_faults.specs.{Order.when, Order.over, Names.place_of_name, Numbers
 abbrev pub HasSets : Known → Type 0
 HasSets k = (1 ≤ length k.setting.nodes) × (length k.setting.sets.allowed ≡ length k.setting.nodes)
 
--- whether the name names a symbol that the node allows
+-- whether the name is that of a symbol that the node allows
 abbrev pub is_allowed : Context → ℕ → Name → Bool
 is_allowed x a n = option_map_or (λ t. allows x.known.setting.sets a t) (place_of_name x.text x.known.setting.symbols n) false
 
--- the faults of the symbols from the k-th on; those of a position stand together, in the order of its nodes
+-- the faults of a configuration's symbols from the one with the index k on; the symbols of a position are listed together, in the order of its nodes
 abbrev pub symbol_faults : Context → ℕ → List Name → List Fault
 symbol_faults x k [] = []
 symbol_faults x k (n ∷ ns) = when (not (is_allowed x (k % length x.known.setting.nodes) n)) (Fault.Unknown n) ++ symbol_faults x (k + 1) ns
@@ -23,7 +23,7 @@ abbrev pub product : List ℕ → List Entry → ℕ
 product bytes [] = 1
 product bytes (e ∷ es) = entry_value bytes e * product bytes es
 
--- the number of cells of a fundamental box with these periods
+-- the number of cells of a fundamental box, the box that repeats, with these periods
 abbrev pub cells_of : Context → Vector → ℕ
 cells_of x v = product x.text v.entries * length x.known.setting.nodes
 
@@ -45,7 +45,7 @@ abbrev pub box_fits : Context → Vector → Option Vector → ℕ → Bool
 box_fits x periods shear count =
     has_entries (dimension_of x.known) periods && shear_fits (dimension_of x.known) shear && cells_of x periods == count
 
--- If all numbers fit, no period is 0, since there is a symbol for each cell, and at least one symbol.
+-- If the periods, the shear and the number of symbols fit, no period is 0: there are as many cells as symbols, and at least one symbol.
 abbrev pub box_faults : Context → Vector → Option Vector → ℕ → List Fault
 box_faults x periods shear count =
     if box_fits x periods shear count then over (nat_lt most_in_box count || nat_le (period_at x.text periods 0) (shear_of x.text shear)) Limit.Periods

@@ -16,7 +16,7 @@ use Rattle.dd_faults.specs.Repeats.{twice_named, twice_labelled, twice_vectors}
 
 -- ---- the header
 
--- a topology of this kind has the dimension of the script, and as many nodes as the script named, if it named any
+-- the built-in topology of this kind has the script's dimension and, if the script has named its nodes, as many nodes
 abbrev pub kind_fits : Known → Kind → Bool
 kind_fits k t = (grid_of t).dimension == dimension_of k && (not k.nodes_are_given || length k.setting.nodes == (grid_of t).nodes)
 
@@ -33,9 +33,9 @@ is_restricted x n = option_map_or (λ a. list_any (λ b. b == a) x.known.restric
 abbrev pub weight_faults : Context → Number → List Fault
 weight_faults x n = over (nat_lt most_weight (written_value x.text n)) Limit.Weight
 
--- `limits` may not set these numbers: one of them exceeds its limit, or the period is 0
-abbrev pub passes_limits : ℕ → ℕ → ℕ → Bool
-passes_limits radius period pivots = nat_lt greatest_radius radius || nat_lt period 1 || nat_lt greatest_period period || nat_lt most_pivots pivots
+-- the command `limits` must not set these numbers, because one of them exceeds its limit or the period is 0
+abbrev pub exceeds_limits : ℕ → ℕ → ℕ → Bool
+exceeds_limits radius period pivots = nat_lt greatest_radius radius || nat_lt period 1 || nat_lt greatest_period period || nat_lt most_pivots pivots
 
 -- ---- definitions
 
@@ -44,7 +44,7 @@ case_faults x c = formula_faults x c.condition [] ++ missing x.text x.known.sett
 
 -- ---- queries
 
--- the fault of a word that names nothing of its role
+-- the fault of a word that names nothing of its role, which says whether the word must name a rule, an automaton or a configuration
 abbrev pub word_faults : Context → Role × Word → List Fault
 word_faults x w = missing x.text (named x.known w.0) (Name.Word w.1)
 
@@ -56,7 +56,7 @@ radius_faults x n = over (nat_lt widest_radius (written_value x.text n)) Limit.R
 abbrev pub is_no_strip : List ℕ → Entry → Bool
 is_no_strip bytes e = nat_lt (entry_value bytes e) 1 || nat_lt longest_strip (entry_value bytes e)
 
--- the faults of the periods of a strip, of which there is one for each axis but one
+-- the faults of the periods of a strip; there must be one fewer than there are axes
 abbrev pub strip_faults : Context → Vector → List Fault
 strip_faults x v = dimension_unless (length v.entries + 1 == dimension_of x.known) ++ over (list_any (is_no_strip x.text) v.entries) Limit.Periods
 
@@ -101,7 +101,7 @@ faults_of x (Command.Edges es) = flat_map (edge_faults x) es ++ (twice_labelled 
 faults_of x (Command.Only node symbols) =
     missing x.text x.known.setting.nodes node ++ (when (is_restricted x node) (Fault.Twice node) ++ (flat_map (missing x.text x.known.setting.symbols) symbols ++ twice_named x.text symbols))
 faults_of x (Command.Weights ns) = dimension_unless (length ns == length x.known.setting.symbols) ++ flat_map (weight_faults x) ns
-faults_of x (Command.Limits radius period pivots) = over (passes_limits (written_value x.text radius) (written_value x.text period) (written_value x.text pivots)) Limit.Limits
+faults_of x (Command.Limits radius period pivots) = over (exceeds_limits (written_value x.text radius) (written_value x.text period) (written_value x.text pivots)) Limit.Limits
 faults_of x (Command.Rule called f) = named_again x.text x.known called ++ formula_faults x f []
 faults_of x (Command.Automaton called cases symbol) =
     named_again x.text x.known called ++ (flat_map (case_faults x) cases ++ missing x.text x.known.setting.symbols symbol)
@@ -111,6 +111,6 @@ faults_of x (Command.Configuration called periods shear symbols) =
     named_again x.text x.known called ++ (symbol_faults x 0 symbols ++ box_faults x periods shear (length symbols))
 faults_of x (Command.Query r) = request_faults x r
 
--- the faults of a command, first those of its number and of its tokens
+-- the faults of a command: those of its number, then those of its tokens, then all others
 abbrev pub written_faults : Context → Written → List Fault
 written_faults x w = over (nat_lt most_commands x.number) Limit.Commands ++ (flat_map (token_faults x.text) w.tokens ++ faults_of x w.command)

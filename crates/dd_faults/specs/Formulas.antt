@@ -1,4 +1,4 @@
--- The faults of formulas, in the order of the text. A scope is the list of the variables that are bound there, the outermost first.
+-- The faults of formulas, in the order of the text. A scope is the list of the variables that enclosing quantifiers bind, the outermost first.
 use Rattle.std.specs.Prelude.{ℕ, List, [], ◌∷◌, ◌++◌, length, Bool, not, ◌&&◌, ◌==◌, nat_lt, if◌then◌else◌}
 use Rattle.std.specs.List.{flat_map}
 use Rattle.dd_values.specs.Bounds.{widest_radius}
@@ -13,11 +13,11 @@ unknown_label x w = missing x.text x.known.setting.topology.labels (Name.Word w)
 abbrev pub term_faults : Context → List Word → Term → List Fault
 term_faults x scope t = unknown_variable x.text scope t.first ++ (flat_map (unknown_label x) t.moves ++ over (nat_lt most_moves (length t.moves)) Limit.Moves)
 
--- a single word that isn't a variable names a symbol
+-- whether a term names a symbol: it is a single word that isn't a variable
 abbrev pub names_symbol : List ℕ → List Word → Term → Bool
 names_symbol bytes scope t = length t.moves == 0 && not (is_variable bytes scope t.first)
 
--- the right side of `=` or `!=`
+-- the faults of the right side of `=` or `!=`
 abbrev pub side_faults : Context → List Word → Comparand → List Fault
 side_faults x scope (Comparand.Number n) = missing x.text x.known.setting.symbols (Name.Number n)
 side_faults x scope (Comparand.Term t) = if names_symbol x.text scope t then missing x.text x.known.setting.symbols (Name.Word t.first) else term_faults x scope t
@@ -35,7 +35,7 @@ atom_faults x scope a = term_faults x scope a.term ++ relation_faults x scope a.
 abbrev pub ball_faults : Context → List Word → Ball → List Fault
 ball_faults x scope b = unknown_variable x.text scope b.centre ++ over (nat_lt widest_radius (written_value x.text b.radius)) Limit.Radius
 
--- the faults of a variable, which must be new, and of the balls, in which it is not in scope
+-- the faults of a quantifier's variable, which must be new, and of its balls, in which the variable is not yet in scope
 abbrev pub quantifier_faults : Context → List Word → Word → List Ball → List Fault
 quantifier_faults x scope w balls =
     when (is_variable x.text scope w) (Fault.Twice (Name.Word w)) ++ (over (nat_lt most_balls (length balls)) Limit.Balls ++ flat_map (ball_faults x scope) balls)

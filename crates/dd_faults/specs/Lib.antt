@@ -1,12 +1,12 @@
--- the types of syntax trees, of what is known and of faults
+-- the types of syntax trees, of what a script has defined so far, and of faults
 pub mod Tree
--- the order of faults
+-- the ranks of faults, and the fault for which a command is refused
 pub mod Order
 -- names and variables, compared by their texts
 pub mod Names
 -- the faults of formulas
 pub mod Formulas
--- repetitions
+-- items that repeat an earlier one
 pub mod Repeats
 -- the faults of tokens, numbers and vectors
 pub mod Numbers

@@ -5,7 +5,7 @@ use Rattle.dd_known.specs.Limits.{most_letters, greatest_number, farthest}
 use Rattle.dd_faults.specs.{Tree.Number, Tree.Lexeme, Tree.Entry, Tree.Vector, Tree.Limit, Tree.Fault, Order.when, Order.over}
 use Rattle.dd_written.specs.Values.{written_value}
 
--- the fault that some number does not fit, unless it does
+-- the fault `Dimension`, unless `fits` is true
 abbrev pub dimension_unless : Bool → List Fault
 dimension_unless fits = when (not fits) Fault.Dimension
 
@@ -38,6 +38,6 @@ signed_value bytes (Entry.Negative n) = pos 0 -ℤ pos (written_value bytes n)
 abbrev pub has_entries : ℕ → Vector → Bool
 has_entries d v = length v.entries == d
 
--- some entry is too large in absolute value
+-- some entry is over `farthest` in absolute value
 abbrev pub is_far : List ℕ → Vector → Bool
 is_far bytes v = list_any (λ e. nat_lt farthest (entry_value bytes e)) v.entries

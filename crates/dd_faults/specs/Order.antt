@@ -1,4 +1,4 @@
--- The order of faults.
+-- The ranks of faults, and the fault for which a command is refused.
 use Rattle.std.specs.Prelude.{◌≡◌, ℕ, ◌+◌, List, [], ◌∷◌, Bool, Option, Some, None, Result, Ok, Err, nat_lt, if◌then◌else◌}
 use Rattle.dd_faults.specs.Tree.{Limit, Fault, Refusal}
 
@@ -33,39 +33,40 @@ fault_rank Fault.TwiceVector = 1
 fault_rank Fault.Dimension = 2
 fault_rank (Fault.Size l) = 3 + limit_rank l
 
--- a later fault counts only if its rank is lower
+-- the fault found so far, after one more fault: the new one replaces an earlier one only if its rank is lower
 abbrev pub better : Option Fault → Fault → Option Fault
 better None f = Some f
 better (Some g) f = if nat_lt (fault_rank f) (fault_rank g) then Some f else Some g
 
--- the first of the lowest rank, among the fault found before and these after it
+-- the first fault of the lowest rank, among the fault found before, if any, and these faults after it
 abbrev pub noted : Option Fault → List Fault → Option Fault
 noted found [] = found
 noted found (f ∷ fs) = noted (better found f) fs
 
--- the first of the faults of the lowest rank
+-- the first fault of the lowest rank, if there is any
 abbrev pub first_fault : List Fault → Option Fault
 first_fault fs = noted None fs
 
--- this fault alone, if it holds
+-- the list of this fault alone if `holds` is true, otherwise the empty list
 abbrev pub when : Bool → Fault → List Fault
 when holds f = if holds then f ∷ [] else []
 
--- the fault of this limit alone, if it is exceeded
+-- the list of this limit's fault alone if `passed` is true, otherwise the empty list
 abbrev pub over : Bool → Limit → List Fault
 over passed l = when passed (Fault.Size l)
 
--- refused for this fault, or memory ran out
+-- the refusal is right: it is for the fault that was found, or memory ran out
 abbrev pub Refuses : Refusal → Option Fault → Type 0
 Refuses Refusal.Memory found = Unit {0}
 Refuses (Refusal.At f) found = found ≡ Some f
 
--- accepted if there is no fault, otherwise refused for the one found
+-- the result is right: it accepts if no fault was found, otherwise it is a right refusal; it may also say that memory ran out
 abbrev pub Accepts : {X : Type 0} → Result X Refusal → Option Fault → Type 0
 Accepts (Ok x) found = found ≡ None
 Accepts (Err e) found = Refuses e found
 
--- the meaning, if there is no fault; otherwise refused for the first
+-- the result is right: it is the meaning if there is no fault, otherwise the refusal for the first fault of the lowest rank; it may also say that
+-- memory ran out
 abbrev pub Resolves : {X : Type 0} → Result X Refusal → List Fault → X → Type 0
 Resolves (Ok x) faults meaning = (faults ≡ []) × (x ≡ meaning)
 Resolves (Err e) faults meaning = Refuses e (first_fault faults)

@@ -1,4 +1,4 @@
--- Repetitions: the first item that is the same as an earlier one.
+-- Repetitions: the first item that repeats an earlier one.
 use Rattle.std.specs.Prelude.{ℕ, List, [], ◌∷◌, ◌++◌, if◌then◌else◌, nat_lt, bytes_eq, codes}
 use Rattle.std.specs.{List.list_any, List.flat_map, Fmt.signed_decimal}
 use Rattle.dd_known.specs.Limits.{farthest}
@@ -6,7 +6,7 @@ use Rattle.dd_faults.specs.Tree.{Name, Entry, Vector, Edge, Fault}
 use Rattle.dd_written.specs.Values.{word_text, number_text, name_text}
 use Rattle.dd_faults.specs.Numbers.{entry_number, entry_value, signed_value}
 
--- The fault of the first item whose key an earlier item has. `seen` has the keys of the items before these.
+-- The fault of the first item that has the same key as an earlier one. `seen` lists the keys of the items before this list.
 abbrev pub first_repeat : {X : Type 0} → (X → List ℕ) → (X → Fault) → List (List ℕ) → List X → List Fault
 first_repeat key f seen [] = []
 first_repeat key f seen (x ∷ xs) = if list_any (bytes_eq (key x)) seen then f x ∷ [] else first_repeat key f (seen ++ key x ∷ []) xs
@@ -24,8 +24,8 @@ twice_label e = Fault.Twice (Name.Word e.label)
 abbrev pub twice_labelled : List ℕ → List Edge → List Fault
 twice_labelled bytes es = first_repeat (edge_key bytes) twice_label [] es
 
--- An entry of at most `farthest` in absolute value is written as its value, any other by its digits in the text. So two vectors of
--- small entries have the same key exactly if they have the same values.
+-- The key of an entry of at most `farthest` in absolute value is its value. The key of any other entry is its text in the script. A comma follows. So
+-- two vectors of small entries have the same key exactly if they have the same values.
 abbrev pub entry_key : List ℕ → Entry → List ℕ
 entry_key bytes e = (if nat_lt farthest (entry_value bytes e) then number_text bytes (entry_number e) else signed_decimal (signed_value bytes e)) ++ codes ","
 

@@ -1,5 +1,6 @@
-//! The faults of terms, of atoms, and of what stands before the body of a quantifier. A scope is the list of the bound variables,
-//! the outermost first.
+//! The faults of terms, of atoms, and of quantifiers without their bodies. A term is a variable with moves, such as `o.rt`. An
+//! atom is a formula without parts, such as `o.rt=1`. A scope is the list of the variables that enclosing quantifiers bind, the
+//! outermost first.
 ghost use Rattle.std.specs.Prelude.{◌≡◌};
 ghost use Rattle.dd_faults.specs.Order.{noted};
 ghost use Rattle.dd_faults.specs.Formulas.{unknown_label, term_faults, names_symbol, side_faults, atom_faults, ball_faults, quantifier_faults};
@@ -32,7 +33,7 @@ fn term(context: &Context, scope: &[Word], term: &Term, found: &mut Found)
     note_over(found, term.moves.len() > MOST_MOVES, Limit::Moves);
 }
 
-/// Whether a term names a symbol: it is a single word, and no variable.
+/// Whether a term names a symbol: it is a single word that isn't a variable.
 pub fn names_symbol(context: &Context, scope: &[Word], term: &Term) -> bool
     ensures { result ≡ names_symbol context.now.text scope.now term.now }
 {
@@ -67,7 +68,7 @@ pub(crate) fn atom(context: &Context, scope: &[Word], atom: &Atom, found: &mut F
     }
 }
 
-/// The context of a part of a formula: the context of its command, and the variables in scope.
+/// The context of a part of a formula: the context of the command, and the variables in scope.
 #[derive(Clone, Copy)]
 pub(crate) struct Scope<'a>(pub(crate) &'a Context, pub(crate) &'a [Word]);
 
@@ -83,7 +84,7 @@ impl<'a> Notes<Ball> for Scope<'a> {
     }
 }
 
-/// Notes the faults of what stands before the body of a quantifier: its variable, which must be new, and its balls.
+/// Notes the faults of a quantifier without its body: those of its variable, which must be new, and of its balls.
 pub(crate) fn quantifier(scope: Scope, variable: Word, written: &[Ball], found: &mut Found)
     ensures { found.new ≡ noted found.old (quantifier_faults scope.entry.0.now scope.entry.1.now variable written.now) }
 {

@@ -12,7 +12,7 @@ use dd_known::{Context, MOST_IN_BOX, TOO_MANY};
 use dd_written::{Name, Text, name_text};
 use std::alloc::AllocError;
 
-/// Whether a name names a symbol that the node allows.
+/// Whether a name is that of a symbol that the node allows.
 fn is_allowed(context: &Context, node: u32, name: Name) -> bool
     requires { node < length context.now.known.setting.sets.allowed }
     ensures { result ≡ is_allowed context.now node name }
@@ -22,8 +22,8 @@ fn is_allowed(context: &Context, node: u32, name: Name) -> bool
     symbol.is_some_and(|symbol| setting.sets.allows(node, symbol))
 }
 
-/// Notes each name that doesn't name a symbol allowed at its node. The symbols of a position stand together, in the order of its
-/// nodes.
+/// Notes each name that isn't that of a symbol allowed at its node. The symbols of a position are listed together, in the order
+/// of its nodes.
 fn symbols(context: &Context, written: &[Name], found: &mut Found)
     requires { HasSets context.now.known }
     ensures { found.new ≡ noted found.old (symbol_faults context.now 0 written.now) }
@@ -61,7 +61,7 @@ fn has_zero(text: &Text, periods: &Vector) -> bool
     entries.any(|entry| entry_value(text, *entry) < 1)
 }
 
-/// The context in which the periods of a torus have faults.
+/// A context in which a vector gives the periods of a torus.
 #[derive(Clone, Copy)]
 pub(crate) struct Torus<'a>(pub(crate) &'a Context);
 
@@ -97,7 +97,7 @@ pub fn shear_of(text: &Text, shear: &Option<Vector>) -> u32
     entries.get(0).map_or(0, |entry| entry_value(text, *entry))
 }
 
-/// Whether the shear fits: none is given, or it is one number and there are two axes or more.
+/// Whether the shear fits: none is given, or it is a single number and there are at least two axes.
 fn shear_fits(dimension: u32, shear: &Option<Vector>) -> bool
     ensures { result ≡ shear_fits dimension shear.now }
 {
@@ -105,8 +105,9 @@ fn shear_fits(dimension: u32, shear: &Option<Vector>) -> bool
     shear.is_none_or(|entries| dimension >= 2 && has_entries(1, entries))
 }
 
-/// Whether there is a period for each axis, the shear fits, and there is a symbol for each cell of the fundamental box. There are
-/// too few symbols to equal a number of cells that was cut off.
+/// Whether there is exactly one period for each axis, the shear fits, and there is exactly one symbol for each cell of the
+/// fundamental box, the box that repeats. `count` is the number of symbols. It is too small to equal a number of cells that was
+/// cut off.
 fn box_fits(context: &Context, periods: &Vector, shear: &Option<Vector>, count: usize) -> bool
     requires { count < 4294967295 }
     ensures { result ≡ box_fits context.now periods.now shear.now count }
@@ -119,8 +120,8 @@ fn box_fits(context: &Context, periods: &Vector, shear: &Option<Vector>, count: 
     cells_of(context, periods) as usize == count
 }
 
-/// Notes the faults of the symbols, periods and shear of a configuration. If there are more symbols than any script has, it fails
-/// as if memory ran out.
+/// Notes the faults of the symbols, periods and shear of a configuration. If there are more symbols than any script can have, the
+/// call fails as if memory ran out.
 pub(crate) fn configuration(
     context: &Context,
     periods: &Vector,

@@ -10,7 +10,7 @@ use crate::boxes::configuration;
 use crate::each::note_each;
 use crate::fault::{Done, Fault, Found, Limit, Refusal, note_if, note_over};
 use crate::formulas::{cases, formula};
-use crate::header::{is_restricted, kind_fits, passes_limits};
+use crate::header::{exceeds_limits, is_restricted, kind_fits};
 use crate::names::{note_defined, note_missing};
 use crate::numbers::note_dimension_unless;
 use crate::requests::request;
@@ -21,7 +21,7 @@ use dd_values::MOST_COMMANDS;
 use dd_written::{Name, number_value};
 use std::alloc::Global;
 
-/// Notes the faults of a command of the header, which is neither a definition nor a query.
+/// Notes the faults of a header command, that is, a command that is neither a definition nor a query.
 fn note_header(alloc: Global, context: &Context, command: &Command, found: &mut Found) -> Done
     requires { IsHeader command.now }
     ensures { OnOk result (found.new ≡ noted found.old (faults_of context.now command.now)) }
@@ -62,7 +62,7 @@ fn note_header(alloc: Global, context: &Context, command: &Command, found: &mut 
             period,
             pivots,
         } => {
-            let passed = passes_limits(text, *radius, *period, *pivots);
+            let passed = exceeds_limits(text, *radius, *period, *pivots);
             note_over(found, passed, Limit::Limits);
         }
         _ => {}
@@ -111,7 +111,7 @@ fn note_command(alloc: Global, context: &Context, command: &Command, found: &mut
     Ok(())
 }
 
-/// Accepts a command without faults. Any other is refused for the first of its faults of the lowest rank.
+/// Accepts a command that has no faults. Refuses any other command for the first among its faults of the lowest rank.
 pub fn check(alloc: Global, context: &Context, written: &Written) -> Result<(), Refusal>
     requires written { IsWritten context.now.text written.now }
     requires sound { IsSound context.now.known }

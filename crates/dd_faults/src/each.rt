@@ -4,7 +4,7 @@ ghost use Rattle.dd_faults.specs.{declared.fault.Fault.Fault as AnyFault, Order.
 
 use crate::fault::Found;
 
-/// A context in which an item has faults.
+/// A context that says which faults an item has.
 pub(crate) trait Notes<T> {
     /// The faults of an item.
     ghost faults: { Self → T → List AnyFault };

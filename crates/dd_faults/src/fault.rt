@@ -26,8 +26,8 @@ pub enum Limit {
     Offset,
     /// A weight is at most `MOST_WEIGHT`.
     Weight,
-    /// The radius of a search is at most `GREATEST_RADIUS`, a period 1 to `GREATEST_PERIOD`, and a number of pivots at most
-    /// `MOST_PIVOTS`.
+    /// In the limits of searches, the radius is at most `GREATEST_RADIUS`, the period is from 1 to `GREATEST_PERIOD`, and the
+    /// number of pivots is at most `MOST_PIVOTS`.
     Limits,
     /// A term makes at most `MOST_MOVES` moves.
     Moves,
@@ -35,22 +35,27 @@ pub enum Limit {
     Radius,
     /// A quantifier ranges over at most `MOST_BALLS` balls.
     Balls,
-    /// At each node, a rule or an automaton has at most 20,000 instances: the constants, leaves and connectives of its expansions.
+    /// At each node, a rule or an automaton has at most 20,000 instances. These are the constants, leaves and connectives of its
+    /// expansions, in which the quantifiers are written out.
     Instances,
-    /// A rule or an automaton reads at most 16 away along each axis.
+    /// A rule or an automaton reads only cells that are at most 16 away along each axis.
     Reach,
-    /// Compositions are nested at most 64 deep. So is the formula that a query about images or a conjugacy makes of its target.
+    /// Compositions of automata are nested at most 64 deep. So is the formula that a query about images or a conjugacy makes of
+    /// its target, the rule that the images must obey.
     Depth,
     /// A configuration has at most `MOST_IN_BOX` symbols, and its shear is less than its first period. A torus has at most
-    /// `MOST_IN_BOX` cells, and no period 0. A strip's periods are 1 to `LONGEST_STRIP`.
+    /// `MOST_IN_BOX` cells, and none of its periods is 0. A strip's periods are from 1 to `LONGEST_STRIP`.
     Periods,
     /// A discharge has at most `MOST_VECTORS` vectors, with entries of at most `FARTHEST` in absolute value.
     Vectors,
-    /// If a query asks for a rule's forbidden patterns, the rule's reads have at most `MOST_PATTERNS` fillings at each node.
+    /// If a query asks which patterns a rule forbids, then at each node the cells that the rule reads have at most
+    /// `MOST_PATTERNS` fillings.
     Patterns,
-    /// A strip has at most `MOST_STATES` states, and at most `MOST_LONGER_STATES` states with one slice more.
+    /// The transfer graph of a strip has at most `MOST_STATES` states, which are fillings of successive slices. It has at most
+    /// `MOST_LONGER_STATES` windows, which have one more slice.
     States,
-    /// A box question has at most `MOST_CLAUSES` clauses in its largest box or torus.
+    /// A box question takes at most `MOST_CLAUSES` clauses on its largest box or torus. So does a query for the least weight on a
+    /// torus.
     Clauses,
 }
 
@@ -59,7 +64,7 @@ pub enum Limit {
 pub enum Fault {
     /// A name refers to nothing, or to a symbol that its node doesn't allow.
     Unknown(Name),
-    /// A name is given a second time where it may stand only once.
+    /// A name is given a second time where it may be given only once.
     Twice(Name),
     /// A vector of a discharge is given twice.
     TwiceVector,
@@ -69,7 +74,7 @@ pub enum Fault {
     Size(Limit),
 }
 
-/// Of the faults noted so far, the first of the lowest rank.
+/// The first fault of the lowest rank among those noted so far, if there are any.
 pub(crate) type Found = Option<Fault>;
 
 /// The result of noting faults. It fails only if memory ran out.
@@ -108,7 +113,7 @@ impl Fault {
     }
 }
 
-/// Notes the fault if `holds`. Of all faults that are noted, `found` keeps the first of the lowest rank.
+/// Notes the fault if `holds` is true. Of all faults that are noted, `found` keeps the first of the lowest rank.
 pub(crate) fn note_if(found: &mut Found, holds: bool, fault: Fault)
     ensures { found.new ≡ noted found.old (when holds fault) }
 {

@@ -12,7 +12,7 @@ use dd_values::Items;
 use dd_written::{Formula, Word};
 use std::alloc::{AllocError, Global};
 
-/// The scope of the body of a quantifier: the scope of the quantifier, and then its variable.
+/// The scope of the body of a quantifier: the scope of the quantifier, with its variable added at the end.
 pub fn within(alloc: Global, scope: &[Word], variable: Word) -> Result<Items<Word>, AllocError>
     ensures { IfOk result (λ inner. inner ≡ scope.now ++ variable ∷ []) }
 {

@@ -2,7 +2,7 @@
 ghost use Rattle.std.specs.Prelude.{◌≡◌, IfOk};
 ghost use Rattle.dd_written.specs.Values.{written_value};
 ghost use Rattle.dd_faults.specs.Names.{missing};
-ghost use Rattle.dd_faults.specs.Commands.{kind_fits, edge_faults, is_restricted, passes_limits};
+ghost use Rattle.dd_faults.specs.Commands.{kind_fits, edge_faults, is_restricted, exceeds_limits};
 
 use crate::each::Notes;
 use crate::fault::{Found, Limit, note_over};
@@ -15,7 +15,7 @@ use dd_values::{GREATEST_PERIOD, GREATEST_RADIUS, MOST_PIVOTS};
 use dd_written::{Name, Number, Text, name_text, number_value};
 use std::alloc::{AllocError, Global};
 
-/// Whether a kind of topology agrees with the dimension, and with the nodes if the script names them.
+/// Whether the built-in topology of this kind has the script's dimension and, if the script names its nodes, as many nodes.
 pub(crate) fn kind_fits(alloc: Global, known: &Known, kind: Kind) -> Result<bool, AllocError>
     ensures { IfOk result (λ fits. fits ≡ kind_fits known.now kind) }
 {
@@ -39,7 +39,7 @@ impl Notes<Edge> for Context {
     }
 }
 
-/// Notes a name that names no symbol.
+/// Notes a name that isn't that of a symbol.
 impl Notes<Name> for Context {
     ghost faults = { λ x. missing x.text x.known.setting.symbols };
 
@@ -57,9 +57,9 @@ pub(crate) fn is_restricted(context: &Context, node: Name) -> bool
     number.is_some_and(|number| known.restricted.as_slice().contains(&number))
 }
 
-/// Whether `limits` may not set these numbers: one of them exceeds its limit, or the period is 0.
-pub(crate) fn passes_limits(text: &Text, radius: Number, period: Number, pivots: Number) -> bool
-    ensures { result ≡ passes_limits (written_value text.now radius) (written_value text.now period) (written_value text.now pivots) }
+/// Whether the command `limits` must not set these numbers, because one of them exceeds its limit or the period is 0.
+pub(crate) fn exceeds_limits(text: &Text, radius: Number, period: Number, pivots: Number) -> bool
+    ensures { result ≡ exceeds_limits (written_value text.now radius) (written_value text.now period) (written_value text.now pivots) }
 {
     let period = number_value(text, period);
     number_value(text, radius) > GREATEST_RADIUS

@@ -30,7 +30,7 @@ pub(crate) fn note_missing(text: &Text, names: &Names, name: Name, found: &mut F
     note_if(found, !is_named(text, names, name), Fault::Unknown(name));
 }
 
-/// The index of the first word with this text.
+/// The index of the first word with this text, or `None` if there is none.
 pub fn place_among(text: &Text, words: &[Word], wanted: &str) -> Option<usize>
     ensures { result ≡ position (λ v. bytes_eq (word_text text.now v) wanted.now) words.now }
 {
@@ -39,7 +39,7 @@ pub fn place_among(text: &Text, words: &[Word], wanted: &str) -> Option<usize>
         .position(|word| text.part(word.start, word.length) == wanted)
 }
 
-/// Whether a word is a variable: `o`, or one in scope.
+/// Whether a word is a variable: `o`, or a variable in scope.
 pub(crate) fn is_variable(text: &Text, scope: &[Word], word: Word) -> bool
     ensures { result ≡ is_variable text.now scope.now word }
 {

@@ -13,7 +13,7 @@ use dd_known::{Context, FARTHEST, GREATEST_NUMBER, LONGEST_STRIP, MOST_LETTERS};
 use dd_values::{MOST_WEIGHT, WIDEST_RADIUS};
 use dd_written::{Lexeme, Number, Text, number_value};
 
-/// Notes the fault `Dimension`, unless `fits`.
+/// Notes the fault `Dimension`, unless `fits` is true.
 pub(crate) fn note_dimension_unless(found: &mut Found, fits: bool)
     ensures { found.new ≡ noted found.old (dimension_unless fits) }
 {
@@ -71,8 +71,8 @@ pub(crate) fn is_far(text: &Text, vector: &Vector) -> bool
     entries.any(|entry| entry_value(text, *entry) > FARTHEST)
 }
 
-/// The context in which radii, margins and periods of strips have faults. In a plain `Context`, numbers are weights, and vectors
-/// are those of a discharge.
+/// A context in which a number is a radius or a margin, and a vector gives the periods of a strip. In a plain `Context`, a number
+/// is a weight, and a vector is one of a discharge.
 #[derive(Clone, Copy)]
 pub(crate) struct Asked<'a>(pub(crate) &'a Context);
 
@@ -106,7 +106,7 @@ fn is_no_strip(text: &Text, vector: &Vector) -> bool
     })
 }
 
-/// Notes the faults of the periods of a strip: one for each axis but one.
+/// Notes the faults of the periods of a strip. There must be one fewer than there are axes.
 impl<'a> Notes<Vector> for Asked<'a> {
     ghost faults = { λ asked. strip_faults asked.0.now };
 

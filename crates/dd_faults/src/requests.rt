@@ -1,4 +1,4 @@
-//! The faults of queries, each by the row of its kind.
+//! The faults of queries. The row of a query's kind, in the table of queries, says what its words, numbers and vectors must be.
 ghost use Rattle.std.specs.{Prelude.◌≡◌, Prelude.OnOk, List.flat_map, List.zip};
 ghost use Rattle.dd_faults.specs.{Order.noted, Commands.word_faults, Commands.request_faults};
 
@@ -13,7 +13,8 @@ use dd_known::{Context, MOST_VECTORS};
 use dd_written::{Name, Word};
 use std::alloc::Global;
 
-/// Notes each word that names nothing of its role.
+/// Notes each word that names nothing of its role. The role says whether the word must name a rule, an automaton or a
+/// configuration.
 fn words(context: &Context, roles: &[Role], words: &[Word], found: &mut Found)
     ensures { found.new ≡ noted found.old (flat_map (word_faults context.now) (zip roles.now words.now)) }
 {

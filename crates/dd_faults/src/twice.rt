@@ -12,7 +12,7 @@ use dd_topology::{NameFault, Names};
 use dd_written::{Name, Text, name_text};
 use std::alloc::{AllocError, Global};
 
-/// Items that must not repeat in a list. Two items are the same if they have the same key.
+/// Items that must not be repeated in a list. Two items count as the same if they have the same key.
 pub(crate) trait Keyed {
     ghost key: { List ℕ → Self → List ℕ };
     /// The fault if this item repeats an earlier one.
@@ -23,7 +23,8 @@ pub(crate) trait Keyed {
         ensures { IfOk result (λ keyed. (string_bytes keyed.0 ≡ key text.now self.now) × (keyed.1 ≡ repeated self.now)) };
 }
 
-/// Notes the first item that repeats an earlier one. If there are more items than any script has, it fails as if memory ran out.
+/// Notes the first item that repeats an earlier one. If there are more items than any script can have, the call fails as if
+/// memory ran out.
 pub(crate) fn note_twice<T: Keyed>(alloc: Global, text: &Text, all: &[T], found: &mut Found) -> Done
     ensures { OnOk result (found.new ≡ noted found.old (first_repeat (T.key text.now) T.repeated [] all.now)) }
 {
@@ -69,8 +70,8 @@ impl Keyed for Edge {
     }
 }
 
-/// The key of an entry: its value, if that is at most `FARTHEST` in absolute value, and otherwise its digits in the script. A
-/// comma follows.
+/// The key of an entry: its value if that is at most `FARTHEST` in absolute value, otherwise its text in the script. A comma
+/// follows.
 fn entry_key(alloc: Global, text: &Text, entry: Entry) -> Result<String, AllocError>
     ensures { IfOk result (λ key. string_bytes key ≡ entry_key text.now entry) }
 {

@@ -1,4 +1,4 @@
--- The extensions of no symbols are all breaking fillings.
+-- The extensions of the empty list of symbols are all breaking fillings.
 use Rattle.std.proofs.Common.{◌≡◌, ◌<◌, ◌+◌, ℕ, zero, suc, Bool, true, false, cond, List, [], ◌∷◌, ◌++◌, length, get_or, refl, sym, ◌∙◌, ap, subst, inl, inr, arith}
 use Rattle.std.proofs.lemmas.Bool.{and_parts, and_from, false≢true}
 use Rattle.std.proofs.lemmas.List.{append_assoc, append-nil, Elements.All-get_or}
@@ -14,7 +14,7 @@ use Rattle.dd_forbidden.proofs.Lists.{range_from, less_at}
 use Rattle.dd_values.specs.lemmas.Members.{Contains-cons_cases, sorted_append, Contains-first, Contains-nil}
 use Rattle.dd_values.specs.lemmas.Lists.{nothing_past, range_has, of_part}
 
--- the symbols ss of a breaking filling begin with `start`
+-- ss are the symbols of a breaking filling, and begin with `start`
 record Extends (r : LocalRule) (a : ℕ) (cs : List Cell) (start ss : List ℕ) : Type 0 where
   rest : List ℕ
   is : ss ≡ start ++ rest

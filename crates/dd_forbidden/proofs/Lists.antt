@@ -11,7 +11,7 @@ range_from k (suc n) s c = elim (Contains-cons_cases k (range_with_len (k + 1) n
   | inr there ↦ let later = range_from (k + 1) n s there in omega arith
 ]
 
--- of two lists, the one with the smaller number where they first differ is the smaller
+-- of two lists, the smaller is the one with the smaller number at the first place where they differ
 pub less_at : (start : List ℕ) (k s : ℕ) (ks ss : List ℕ) → k < s → slice_cmp nat_cmp (start ++ k ∷ ks) (start ++ s ∷ ss) ≡ Less
 less_at [] k s ks ss less = rw (sym (nat_cmp_is k s Less less)) refl
 less_at (x ∷ start) k s ks ss less = rw (sym (nat_cmp_is x x Equal refl)) (less_at start k s ks ss less)

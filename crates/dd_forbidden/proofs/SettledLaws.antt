@@ -25,7 +25,7 @@ settles_on r a ss s b h more below =
 settled_here : (r : LocalRule) (a : ℕ) (ss : List ℕ) (b : Bool) → AreSymbols r ss → Settles r a ss b → is_true_at_origin r a ss ≡ b
 settled_here r a ss b below h = ap (is_true_at_origin r a) (sym (append-nil ss)) ∙ h [] (subst (AreSymbols r) (sym (append-nil ss)) below)
 
--- functions that agree on a range give the same joined list over it
+-- functions that agree on all numbers of a range give the same concatenated list over it
 agree : (f g : ℕ → List (List ℕ)) (k n most : ℕ) → k + n ≤ most → ((s : ℕ) → s < most → f s ≡ g s) → flat_map f (range_with_len k n) ≡ flat_map g (range_with_len k n)
 agree f g k zero most within same = refl
 agree f g k (suc n) most within same =
@@ -39,7 +39,7 @@ cond_none : (b : Bool) → cond b (let none : List (List ℕ) = [] in none) [] �
 cond_none true = refl
 cond_none false = refl
 
--- where the rule is true nothing is listed
+-- where the symbols settle that the rule is true, nothing is listed
 pub none_broken : (r : LocalRule) (a : ℕ) (cs : List Cell) (ss : List ℕ) → AreSymbols r ss → Settles r a ss true → extensions r a cs ss ≡ []
 none_broken r a [] ss below h = ap (λ b. cond b [] (ss ∷ [])) (settled_here r a ss true below h)
 none_broken r a (c ∷ cs) ss below h =
@@ -47,7 +47,7 @@ none_broken r a (c ∷ cs) ss below h =
     (λ s within. ap (λ xs. cond (rule_allows r c.node s) xs []) (none_broken r a cs (ss ++ s ∷ []) (All-push (λ t. t < r.symbols) ss s below within) (settles_on r a ss s true h)) ∙ cond_none (rule_allows r c.node s))
     ∙ nothing_from 0 r.symbols
 
--- where it is false all fillings are listed
+-- where the symbols settle that the rule is false, all fillings are listed
 pub all_broken : (r : LocalRule) (a : ℕ) (cs : List Cell) (ss : List ℕ) → AreSymbols r ss → Settles r a ss false → extensions r a cs ss ≡ completions r cs ss
 all_broken r a [] ss below h = ap (λ b. cond b [] (ss ∷ [])) (settled_here r a ss false below h)
 all_broken r a (c ∷ cs) ss below h =

@@ -1,11 +1,11 @@
--- A step of the search.
+-- One turn of the search's loops over the symbols.
 use Rattle.std.proofs.Common.{◌≡◌, ◌+◌, ℕ, suc, List, ◌++◌, map, sym, ◌∙◌, ap, arith}
 use Rattle.std.specs.List.{flat_map, range_with_len}
 use Rattle.std.proofs.lemmas.List.{append_assoc, map-append}
 use Rattle.dd_pattern.specs.Filling.{Filled}
 use Rattle.dd_values.specs.lemmas.Lists.{range_more}
 
--- the list after the branch of one more symbol
+-- the list after one more symbol's branch has been searched
 pub one_more : (g : List ℕ → Filled) (f : ℕ → List (List ℕ)) (start found next : List Filled) (new : List (List ℕ)) (n : ℕ) →
     found ≡ start ++ map g (flat_map f (range_with_len 0 n)) → next ≡ found ++ map g new → f n ≡ new → next ≡ start ++ map g (flat_map f (range_with_len 0 (n + 1)))
 one_more g f start found next new n before now is =

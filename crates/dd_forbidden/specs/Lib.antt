@@ -1,6 +1,6 @@
 -- the breaking fillings of a rule
 pub mod Breaking
--- what the search appends to the symbols so far
+-- the fillings that the search lists, and the formula that it evaluates
 pub mod listing
 -- lemmas on these definitions, with their proofs
 pub mod lemmas

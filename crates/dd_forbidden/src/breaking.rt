@@ -11,12 +11,13 @@ use dd_pattern::Filling;
 use dd_values::Items;
 use std::alloc::Global;
 
-/// The breaking fillings of the rule at a node of the origin. A breaking filling gives each cell that the rule reads there a
-/// symbol that the cell's node allows, and the rule is false under these symbols. The fillings are in the lexicographic order of
-/// their symbols, each once. A rule that reads nothing and is false has one, the empty filling.
+/// The breaking fillings of the rule at this node of the origin. A breaking filling gives each cell that the rule reads there a
+/// symbol that the cell's node allows, and the rule is false under these symbols. The fillings are listed in the lexicographic
+/// order of their symbols, each once. A rule that reads no cell and is false has one breaking filling, the empty one.
 ///
 /// # Errors
-/// `Size` where the cells that are read have more than 65,536 fillings with the whole alphabet; else `Memory`.
+/// `Size` if the cells that are read have more than 65,536 fillings over the whole alphabet. Otherwise `Memory`, if memory runs
+/// out.
 pub fn forbidden(alloc: Global, rule: &Rule, node: u32) -> Result<Vec<Filling>, ForbiddenFault>
     requires { node < rule.now.nodes }
     ensures ok { IfOk result (λ found. AreBreakingFillings rule.now node found.items) }

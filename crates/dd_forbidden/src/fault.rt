@@ -7,7 +7,7 @@ use thiserror::Error;
 /// Why the breaking fillings of a rule were not listed.
 #[derive(Debug, Drop, Error)]
 pub enum ForbiddenFault {
-    /// The cells that are read at the node have more than 65,536 fillings with the whole alphabet.
+    /// The cells that are read at the node have more than 65,536 fillings over the whole alphabet.
     #[error("the reads have more than 65536 fillings")]
     Size,
     /// Memory ran out.

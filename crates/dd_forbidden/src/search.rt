@@ -1,5 +1,6 @@
-//! The search for the breaking fillings. Cell by cell it tries each symbol that the cell's node allows, in order. A branch ends
-//! once the symbols so far settle that the rule is true. Once they settle that it is false, all fillings of the branch are listed.
+//! The search for the breaking fillings. It takes the cells one by one, and tries each symbol that the cell's node allows, in
+//! order. If the symbols so far already settle that the rule is true, the branch ends. If they settle that it is false, all
+//! fillings of the branch are listed.
 ghost use Rattle.std.specs.Prelude.{[], ◌∷◌, ◌≡◌, ◌<◌, ◌+◌, ◌++◌, length, map, OnOk};
 ghost use Rattle.std.specs.List.Sorted.{IsStrictlySortedBy};
 ghost use Rattle.dd_lattice.specs.Order.{cell_cmp};
@@ -15,8 +16,9 @@ use dd_pattern::Filling;
 use dd_values::Items;
 use std::alloc::{AllocError, Global};
 
-/// Appends the breaking fillings that begin with `symbols`. `cells` are all cells that the rule reads at the node, and `rest` are
-/// those that have no symbol yet. `formula` is the rule's expansion over the symbols of these cells.
+/// Appends the breaking fillings that begin with `symbols`. `cells` are all cells that the rule reads at the node, and `rest`
+/// are those that have no symbol yet. `formula` is the rule's expansion, which has no variables, over the list of the symbols
+/// of `cells`.
 pub(crate) fn extend(
     alloc: Global,
     rule: &Rule,

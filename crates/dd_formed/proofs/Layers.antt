@@ -1,4 +1,4 @@
--- Whether a formula fits, and its depth, from those of its parts.
+-- Whether a formula fits, and how deep it is, from the same facts about its parts.
 use Rattle.std.proofs.Common.{◌≡◌, ℕ, ◌+◌, ◌<◌, ◌≤◌, Bool, true, false, max, List, [], ◌∷◌, length, map, take, get_or, ap, sym, ◌∙◌, arith}
 use Rattle.std.proofs.lemmas.Bool.{and_from, lt-leb, le-leb, Decides.nat_tests}
 use Rattle.std.proofs.lemmas.List.{length-map, take_all, Folds.list_all_more}

@@ -10,7 +10,7 @@ use Rattle.dd_formula.specs.lemmas.AutomatonLaws.{fits_given, outer_part, inner_
 use Rattle.dd_formed.specs.Formed.{IsCheckedCopy}
 use Rattle.dd_formula.specs.declared.automaton.Automaton.TheVariants as v
 
--- a well-formed automaton has few instances, reads nothing too far away, and isn't too deep
+-- a well-formed automaton is within the limits on instances, reach and depth
 limits_of : (s : CommonNumbers) (f : Automaton) → IsAutomaton s f → (is_few s.nodes (counted f) ≡ true) × (is_short s.nodes (counted f) ≡ true) × (is_shallow (counted f) ≡ true)
 limits_of s f h =
     let all = and_parts (is_few s.nodes (counted f) && is_short s.nodes (counted f)) (is_shallow (counted f)) (within_is s.nodes f h.within) in
@@ -32,7 +32,7 @@ no_outer s f g none h = none (outer_part s f g h)
 pub no_inner : (s : CommonNumbers) (f g : Automaton) → ¬ IsAutomaton s g → ¬ IsAutomaton s (v.Composed f g)
 no_inner s f g none h = none (inner_part s f g h)
 
--- a composition that is refused for another reason than memory
+-- a composition that is refused for a reason other than memory isn't well formed
 refused_composition : (s : CommonNumbers) (f g : Automaton) (e : RuleFault) → IsCompositionFault s.nodes (composition f g) e → e ≢ Memory → ¬ IsAutomaton s (v.Composed f g)
 refused_composition s f g Instances fault other h = false≢true (sym fault ∙ (limits_of s (v.Composed f g) h).0)
 refused_composition s f g Reach fault other h = false≢true (sym fault.1 ∙ (limits_of s (v.Composed f g) h).1)

@@ -1,12 +1,12 @@
--- Copies of automata that are well formed.
+-- Copies of well-formed automata.
 use Rattle.std.specs.Prelude.{◌≡◌, Option, MatchOption}
 use Rattle.dd_formula.specs.{Automata.CommonNumbers, Automata.IsAutomaton, declared.automaton.Automaton.Automaton}
 use Rattle.dd_formed.specs.declared.automata.CommonNumbers.{CommonNumbers as Given}
 
--- the numbers as definitions hold them, from the record of the code
+-- the numbers in the record that the definitions use, from the record that the code uses
 abbrev pub numbers_of : Given → CommonNumbers
 numbers_of n = record { dimension = n.dimension; nodes = n.nodes; symbols = n.symbols }
 
--- a copy of the automaton where it is well formed, and nothing where it isn't
+-- a copy of the automaton if it is well formed, and none if it isn't
 abbrev pub IsCheckedCopy : CommonNumbers → Automaton → Option Automaton → Type 0
 IsCheckedCopy s f o = MatchOption o (¬ IsAutomaton s f) (λ copy. (copy ≡ f) × IsAutomaton s f)

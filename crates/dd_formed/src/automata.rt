@@ -1,6 +1,6 @@
-//! Whether automata are well formed. The test copies the automaton, from its rules upwards. The calls that make the parts of
-//! the copy, `Automaton::given` and `Automaton::composed`, test the limits, and refuse a part that exceeds one. So there is a
-//! copy exactly where the automaton is well formed.
+//! Whether automata are well formed. The test copies the automaton, from its rules upwards. The parts of the copy are made by
+//! `Automaton::given` and `Automaton::composed`, which refuse a part that exceeds a limit. So, unless memory runs out, a copy is
+//! made exactly if the automaton is well formed.
 ghost use Rattle.std.specs.Prelude.{◌≡◌, ◌≢◌, ◌↔◌, ◌&&◌, IsTrue, IfOk, None, nat_lt};
 ghost use Rattle.std.specs.List.{list_all};
 ghost use Rattle.dd_formula.specs.Automata.{IsAutomaton, cases_fit, rule_has};
@@ -43,7 +43,7 @@ fn all_cases_fit(cases: &[(Rule, u32)], numbers: CommonNumbers) -> bool
     cases.iter().all(|case| case_fits(case, numbers))
 }
 
-/// Whether all cases fit, and the default symbol, for cells where no rule is true, is one of the alphabet.
+/// Whether all cases fit, and the default symbol is one of the alphabet. Cells where no rule is true get the default symbol.
 fn cases_fit(cases: &Cases, numbers: CommonNumbers) -> bool
     ensures { result ≡ cases_fit (numbers_of numbers) cases.now.cases cases.now.otherwise }
 {
@@ -63,7 +63,7 @@ fn copy_of(alloc: Global, cases: &Cases) -> Result<Cases, AllocError>
     })
 }
 
-/// The automaton by these cases, or `None` where it isn't well formed.
+/// The automaton with a copy of these cases, or `None` if it isn't well formed.
 #[tactic(auto, using(crate::proofs::Making::no_nodes, crate::proofs::Making::unfit_given, crate::proofs::Making::many_given))]
 fn given(
     alloc: Global,
@@ -78,14 +78,14 @@ fn given(
     if !cases_fit(cases, numbers) {
         return Ok(None);
     }
-    // This call needs no memory. It fails only where there are too many instances.
+    // `Automaton::given` allocates nothing. It fails only if there are too many instances.
     match Automaton::given(copy_of(alloc, cases)?, numbers.nodes) {
         Ok(automaton) => Ok(Some(automaton)),
         Err(_) => Ok(None),
     }
 }
 
-/// What a fault says: the automaton isn't well formed, unless memory ran out.
+/// What a fault means: the automaton isn't well formed (`None`), unless memory ran out (an error).
 fn refused(fault: RuleFault) -> Result<Option<Automaton>, AllocError>
     ensures { IfOk result (λ none. (none ≡ None) × (fault ≢ RuleFault.Memory)) }
 {
@@ -95,7 +95,7 @@ fn refused(fault: RuleFault) -> Result<Option<Automaton>, AllocError>
     }
 }
 
-/// The composition, or `None` where it isn't well formed.
+/// The composition, or `None` if it isn't well formed.
 fn composed(
     alloc: Global,
     outer: Automaton,
@@ -112,7 +112,7 @@ fn composed(
     }
 }
 
-/// A copy of the automaton, or `None` where it isn't well formed.
+/// A copy of the automaton, or `None` if it isn't well formed.
 #[tactic(auto, using(crate::proofs::Making::no_outer, crate::proofs::Making::no_inner))]
 fn checked_copy(
     alloc: Global,
@@ -139,9 +139,9 @@ fn checked_copy(
 /// - There is at least one node. Each rule has these numbers, and each symbol that a case gives, or that is given by default,
 ///   is one of the alphabet.
 /// - Each part has at most 20,000 instances at each node, as `Automaton::instances` counts them.
-/// - Each part reads nothing further than 16 away along an axis, and nests compositions at most 64 deep.
+/// - Each part reads no cell that lies more than 16 away along an axis, and nests compositions at most 64 deep.
 ///
-/// The parts are the automaton itself and, in a composition, the parts of both automata.
+/// The parts are the automaton itself and, if it is a composition, the parts of both its automata.
 ///
 /// # Errors
 /// `AllocError` if memory ran out.

@@ -1,15 +1,15 @@
-//! Whether formulas are within the limit on depth. The depth of a formula is the greatest number of connectives and
-//! quantifiers round an atom, where a conjunction or disjunction of fewer than two parts counts for none.
+//! Whether formulas are within the limit on depth. The depth of a formula is the greatest number of connectives and quantifiers
+//! around an atom. A conjunction or disjunction of fewer than two parts isn't counted.
 ghost use Rattle.std.specs.Prelude.{◌≡◌, ◌≤◌, ◌↔◌, IsTrue, nat_le, map};
 ghost use Rattle.std.specs.List.{list_all};
 ghost use Rattle.dd_expansion.specs.Limits.{depth, list_depth, most_nested};
 
 use dd_expansion::Formula;
 
-/// The greatest depth of a rule's formula.
+/// The greatest depth that the formula of a rule may have.
 const MOST_NESTED: u32 = 64;
 
-/// Whether the formula is at most 64 deep. The formula of each rule is. The test allocates no memory.
+/// Whether the formula is at most 64 deep, as the formula of each rule is. Allocates nothing.
 pub fn keeps_depth(formula: &Formula) -> bool
     ensures { IsTrue result ↔ (depth formula.now ≤ most_nested) }
 {

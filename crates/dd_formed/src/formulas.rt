@@ -1,5 +1,6 @@
-//! Whether the numbers in formulas name what exists, and terms and balls keep within their limits. The depth has a module of
-//! its own. Here `scope` is a count: the variables in scope have the numbers below it, and number 0 is the free one.
+//! Whether the variables, labels, nodes and symbols in a formula exist, and whether its terms and balls are within their limits.
+//! Another module tests its depth. Here `scope` is the number of variables in scope. They are numbered from 0, and number 0 is
+//! the free variable.
 ghost use Rattle.std.specs.Prelude.{◌≡◌, ◌+◌, ◌<◌, ◌^◌, ◌↔◌, ◌&&◌, IsTrue, All, length, nat_lt};
 ghost use Rattle.std.specs.List.{list_all};
 ghost use Rattle.dd_expansion.specs.Limits.{term_fits, ball_fits, balls_fit, formula_fits, depth, IsFormula};
@@ -8,11 +9,11 @@ use crate::depth::keeps_depth;
 use dd_expansion::{BallOf, Formula, Term};
 use dd_topology::Topology;
 
-/// The greatest number of moves of a term. A term names a cell: moves, each by its label, lead there from the cell of a
-/// variable.
+/// The greatest number of moves in a term. A term names a cell by the moves that lead there from the cell of a variable. Each
+/// move is given by its label.
 const MOST_MOVES: usize = 16;
 
-/// The greatest number of balls of a quantifier, which ranges over their union.
+/// The greatest number of balls in a quantifier. The quantifier ranges over the union of its balls.
 const MOST_BALLS: usize = 4;
 
 /// The greatest radius of a ball.
@@ -20,9 +21,9 @@ const WIDEST_RADIUS: u32 = 3;
 
 /// What formulas may name: the labels and nodes of a topology, and symbols.
 #[derive(Drop)]
-struct Language<'a> {
+struct Signature<'a> {
     topology: &'a Topology,
-    /// How many labels the topology has. `Topology` has no method for it.
+    /// How many labels the topology has. `Topology` has no method that returns this.
     labels: u32,
     /// How many symbols the alphabet has.
     symbols: u32,
@@ -35,7 +36,7 @@ fn are_below(numbers: &[u32], limit: u32) -> bool
     numbers.iter().all(|&number| number < limit)
 }
 
-/// Whether the ball is round a variable in scope, and not too wide.
+/// Whether the ball's centre is a variable in scope, and its radius is at most `WIDEST_RADIUS`.
 fn ball_fits(scope: u32, ball: &BallOf) -> bool
     ensures { result ≡ ball_fits scope ball.now }
 {
@@ -54,8 +55,8 @@ fn balls_fit(scope: u32, balls: &[BallOf]) -> bool
     balls.len() <= MOST_BALLS && all_balls_fit(scope, balls)
 }
 
-impl Language<'_> {
-    /// Whether the term's variable is in scope, its moves are few enough, and their labels exist.
+impl Signature<'_> {
+    /// Whether the term's variable is in scope, the term has at most `MOST_MOVES` moves, and their labels exist.
     fn term_fits(&self, scope: u32, term: &Term) -> bool
         ensures { result ≡ term_fits self.now.topology.now scope term.now }
     {
@@ -71,8 +72,8 @@ impl Language<'_> {
     }
 
     /// Whether the formula fits with `scope` variables in scope: each variable, label, node and symbol in it exists, and terms
-    /// and balls are within their limits. The contract says nothing of formulas whose depth, added to `scope`, is 2^32 or more:
-    /// there the count of variables in scope could overflow.
+    /// and balls are within their limits. The contract says nothing about formulas for which `scope` plus the depth is 2^32 or
+    /// more: there the number of variables in scope could overflow.
     #[cycle(fits)]
     #[tactic(auto, using(crate::proofs::Layers::fits_layers, crate::proofs::Layers::depth_layers, crate::proofs::Layers::parts_within))]
     fn fits(&self, scope: u32, formula: &Formula) -> bool
@@ -101,13 +102,13 @@ impl Language<'_> {
         }
     }
 
-    /// Whether the balls of a quantifier fit, and its body with one variable more in scope.
+    /// Whether the balls of a quantifier fit, and its body fits with one more variable in scope.
     #[cycle(fits)]
     fn body_fits(&self, scope: u32, balls: &[BallOf], body: &Formula) -> bool
         ensures { scope + 1 + depth body.now < 2 ^ 32 →
             result ≡ (balls_fit scope balls.now && formula_fits self.now.topology.now self.now.symbols body.now (scope + 1)) }
     {
-        // The count would overflow. The contract says nothing of this case.
+        // The number of variables in scope would overflow. The contract says nothing about this case.
         if scope == u32::MAX {
             return false;
         }
@@ -129,18 +130,18 @@ impl Language<'_> {
     }
 }
 
-/// Whether a rule may be made of the formula, over this topology with `labels` labels and an alphabet of `symbols` symbols:
+/// Whether a rule may be made from the formula, over this topology with `labels` labels and an alphabet of `symbols` symbols:
 /// - It has one free variable, and each variable, label, node and symbol in it exists.
-/// - Its terms have at most 16 moves, and its quantifiers at most 4 balls of a radius of at most 3.
-/// - It is at most 64 deep. A negation, an implication, an equivalence, a quantifier, and a conjunction or disjunction of
-///   two parts or more are one deeper than their deepest part.
+/// - Its terms have at most 16 moves, and its quantifiers at most 4 balls, of radius at most 3.
+/// - It is at most 64 deep. A negation, an implication, an equivalence, a quantifier, or a conjunction or disjunction of two or
+///   more parts is one deeper than its deepest part.
 ///
-/// The test allocates no memory.
+/// Allocates nothing.
 pub fn is_formula(topology: &Topology, labels: u32, symbols: u32, formula: &Formula) -> bool
     requires { length topology.now.labels ≡ labels }
     ensures { IsTrue result ↔ IsFormula topology.now symbols formula.now }
 {
-    let language = Language {
+    let language = Signature {
         topology,
         labels,
         symbols,

@@ -1,5 +1,5 @@
-//! Whether a formula may become a rule, and whether an automaton is well formed: each number of a variable, label, node or
-//! symbol names one that exists, and limits are kept.
+//! Whether a formula may become a rule, and whether an automaton is well formed. Each variable, label, node and symbol in it must
+//! exist, and it must be within the limits.
 #![tactic(auto)]
 
 mod automata;

@@ -1,4 +1,4 @@
--- The counts of an automaton by cases, from the formulas of the cases; and which case has it refused.
+-- The counts of an automaton by cases, from the formulas of the cases; and which case makes it refused.
 use Rattle.std.proofs.Common.{◌≡◌, ◌<◌, ◌≤◌, ◌+◌, ℕ, Bool, true, false, List, length, map, take, get_or, ap, sym, ◌∙◌, arith}
 use Rattle.std.proofs.lemmas.{Bool.and_from, Bool.lt-ltb, List.Elements.All-weaker}
 use Rattle.std.proofs.lemmas.List.Folds.{list_all-map, list_all_at}
@@ -46,6 +46,6 @@ module _ (g : Grid) (s : SymbolSets) where
         ∙ (list_all-map (λ (c : LocalRule × ℕ). list_all is_near (reads_at c.0 a)) (case_over g s) cases
         ∙ list_all_at (near a) cases i case below (ap (near a) (sym is) ∙ h))
 
-    -- where no rule is made of it, the automaton is refused too
+    -- if no rule can be made from the case's formula, then the automaton is refused too
     pub case_refused : (e : RuleFault) → is_few g.nodes (counts_over g s cases) ≡ true → IsRuleRefusal (local_rule g s case.0) e → IsCasesRefusal g.nodes (counts_over g s cases) e
     case_refused e few h = refused (local_rule g s case.0) (counts_over g s cases) large far e (λ _. few) h

@@ -21,14 +21,14 @@ truth_at_base r t ok v a =
     ∙ (ap (is_true r (origin_at a)) (same_look (λ c. tile_look t (shifted v c)) (λ c. tile_look t (shifted (base_of t.periods v) c)) (look_at_base t ok v))
     ∙ sym (truth_moved_back r (base_of t.periods v) a (tile_look t)))
 
--- what holds at each cell of the box holds everywhere
+-- a rule that is true at each cell of the box is true everywhere
 pub lives_from_box : (r : LocalRule) (t : Tile) → Fits r t → IsTile t → ((k : ℕ) → k < length t.symbols → true_in r t k) → Lives r t
 lives_from_box r t fits ok h v a _ below =
     let node : a < t.nodes = omega (arith, below, fits.nodes) in
     truth_at_base r t ok v a
     ∙ (ap (λ c. is_true r c (tile_look t)) (sym (cell_at_index t ok v a node)) ∙ h (tile_index t (cell v a)) (index_below t ok (cell v a) node))
 
--- a cell at which the rule is false, while it is true at those with smaller numbers, is the first such cell in cell order
+-- if the rule is false at a cell and true at those with smaller numbers, then the cell is the first in cell order at which it is false
 pub first_from_box : (r : LocalRule) (t : Tile) → IsTile t → (i : ℕ) → i < length t.symbols → is_true r (cell_in t i) (tile_look t) ≡ false → ((k : ℕ) → k < i → true_in r t k) →
     IsFirstFalse r t (cell_in t i)
 first_from_box r t ok i within here before =

@@ -36,7 +36,7 @@ map-at_nodes h f (suc n) = map-append h (at_nodes f n) (f n ∷ []) ∙ ap (λ x
 list_all-more : {X : Type 0} (p : X → Bool) (f : ℕ → X) (n : ℕ) → list_all p (at_nodes f (suc n)) ≡ (list_all p (at_nodes f n) && p (f n))
 list_all-more p f n = list_all-append p (at_nodes f n) (f n ∷ []) ∙ ap (λ b. list_all p (at_nodes f n) && b) (and_true (p (f n)))
 
--- where all items pass a test, each item does
+-- if all items pass a test, then each item does
 pub all_at_nodes : {X : Type 0} (p : X → Bool) (f : ℕ → X) (n : ℕ) → list_all p (at_nodes f n) ≡ true → (a : ℕ) → a < n → p (f a) ≡ true
 all_at_nodes p f zero h a below = absurd (omega arith)
 all_at_nodes p f (suc n) h a below =
@@ -47,7 +47,7 @@ all_at_nodes p f (suc n) h a below =
       | inr earlier ↦ all_at_nodes p f n both.0 a earlier
     ]
 
--- an item that fails the test
+-- a node whose item fails the test
 pub record FailsAt {X : Type 0} (p : X → Bool) (f : ℕ → X) (n : ℕ) : Type 0 where
   pub node : ℕ
   pub exists : node < n

@@ -1,4 +1,4 @@
--- Fillings of what is read at a cell, and the values on them.
+-- Fillings of the cells that are read at a cell, and the values on these fillings.
 use Rattle.std.proofs.Common.{◌≡◌, ◌<◌, ℕ, zero, suc, ◌+◌, Bool, true, false, List, [], ◌∷◌, ◌++◌, take, Option, Some, None, cond, length, get_or, slice_get, ap, sym, ◌∙◌, refl, subst, arith}
 use Rattle.std.proofs.lemmas.Bool.{and_parts, and_from, leb-true}
 use Rattle.std.proofs.lemmas.List.{length-map, take_more, map-append}
@@ -19,12 +19,12 @@ use Rattle.dd_formula.specs.lemmas.AutomatonLaws.{near_reads}
 use Rattle.dd_formula.specs.lemmas.ValueLaws.{origin, shifted_by_none, moved_by_none, value_by_reads, value_composed, value_below, equal_values, read_by_both}
 use Rattle.dd_formula.specs.declared.automaton.Automaton.TheVariants as v
 
--- a list passes a test if the element at each of its places does
+-- a list passes a test if its element at each index does
 by_places : {X : Type 0} (p : X → Bool) (xs : List X) → ((k : ℕ) (x : X) → k < length xs → p (get_or xs k x) ≡ true) → list_all p xs ≡ true
 by_places p [] h = refl
 by_places p (x ∷ xs) h = and_from (p x) (list_all p xs) (h zero x (omega arith)) (by_places p xs (λ k y below. h (suc k) y (omega arith)))
 
--- a list of cells, and a list of the symbols that the look gives them
+-- a list of cells, and a list of the symbols that the look-up gives them
 module _ (look : Look) where
   read_at : (cs : List Cell) (ss : List ℕ) (k : ℕ) (c : Cell) → map Some ss ≡ map look cs → k < length cs → are_equal (slice_get ss k) (look (get_or cs k c)) ≡ true
   read_at [] ss k c is below = absurd (omega arith)
@@ -52,7 +52,7 @@ module _ (look : Look) where
   pub as_many : (cs : List Cell) (ss : List ℕ) → map Some ss ≡ map look cs → length ss ≡ length cs
   as_many cs ss is = sym (length-map ss Some) ∙ (ap length is ∙ length-map cs look)
 
-  -- the filling of the cells with the symbols gives each cell its symbol back
+  -- the filling of the cells with these symbols gives each cell the symbol that the look-up gives it
   pub read_back : (cs : List Cell) (ss : List ℕ) → IsStrictlySortedBy cell_cmp cs → map Some ss ≡ map look cs →
       list_all (λ d. are_equal (filling_look (filled cs ss) d) (look d)) cs ≡ true
   read_back cs ss up is =
@@ -72,7 +72,7 @@ seen_filling look w cs ss up is = record {
   below = λ n below. filling_below n (filled cs ss) (all_below (seen look w) n (seen_below n look w below) cs ss is);
 }
 
--- a cell near the origin lies in the range of positions, so it is seen from the origin
+-- a cell near the origin lies in the range of positions, so seen from the origin it has the symbol that the look-up gives it
 near_seen : (look : Look) (d : Cell) → is_near d ≡ true → seen look origin d ≡ look d
 near_seen look d near =
     let there : is_in_range d.position ≡ true = in_range d.position (omega (arith, leb-true (extent d.position) 16 near)) in
@@ -95,7 +95,7 @@ equal_seen a b true h = h
 equal_seen None b false h = absurd (cc)
 equal_seen (Some x) b false h = absurd (cc)
 
--- The value on the filling of what is read at a cell is the value there.
+-- The automaton's value on the filling of the cells that it reads at a cell is its value at that cell.
 module _ (f : Automaton) (s : CommonNumbers) (formed : IsAutomaton s f) (look : Look) (c : Cell) (node : c.node < s.nodes) (near : Filled) (h : IsSeen look c.position (cells_of f c.node) near) where
   reads_seen : list_all (λ d. are_equal (filling_look near d) (seen look c.position d)) ((counted f).reads c.node) ≡ true
   reads_seen = sym (list_all-in_order (λ d. are_equal (filling_look near d) (seen look c.position d)) ((counted f).reads c.node)) ∙ h.seen
@@ -172,12 +172,12 @@ module _ (f g : Automaton) (a : ℕ) (look : Look) (h : AreReadable f g a look) 
         (λ d e. ap (λ x. are_equal (near x) (given_by x)) (shifted_by_none d) ∙ e) ((counted f).reads a) reads_back)
         ∙ sym (value_composed f g look (origin_at a))
 
--- the values at a list of cells, with one cell more
+-- the values at a list of cells, with one more cell
 pub values_more : {Y : Type 0} (h : Cell → Y) (cs : List Cell) (i : ℕ) (c : Cell) → i < length cs → c ≡ get_or cs i c → map h (take (i + 1) cs) ≡ map h (take i cs) ++ h c ∷ []
 values_more h cs i c below is =
     ap (map h) (take_more cs i c below) ∙ (map-append h (take i cs) (get_or cs i c ∷ []) ∙ ap (λ d. map h (take i cs) ++ h d ∷ []) (sym is))
 
--- the cells in cell order are given where all reads are
+-- putting the cells that are read in cell order doesn't change whether they all have symbols
 pub cells_given : (f : Automaton) (c : Cell) (look : Look) (cs : List Cell) → cs ≡ cells_of f c.node → are_given look c.position cs ≡ is_read f c look
 cells_given f c look cs is =
     ap (are_given look c.position) is ∙ list_all-in_order (λ d. is_some (seen look c.position d)) ((counted f).reads c.node)
@@ -185,7 +185,7 @@ cells_given f c look cs is =
 pub where_given : (f : Automaton) (c : Cell) (look : Look) (cs : List Cell) → cs ≡ cells_of f c.node → is_read f c look ≡ true → are_given look c.position cs ≡ true
 where_given f c look cs is given = cells_given f c look cs is ∙ given
 
--- what the search for their symbols answers
+-- what the search for the symbols of the cells finds: a filling if each cell has a symbol, and else none
 abbrev pub IsFound : Look → Place → List Cell → Option Filled → Type 0
 IsFound look w cs r = MatchOption r (are_given look w cs ≡ false) (λ f. (are_given look w cs ≡ true) × IsSeen look w cs f)
 

@@ -4,7 +4,7 @@ use Rattle.dd_lattice.specs.declared.position.Cell.{Cell}
 use Rattle.dd_pattern.specs.{Reading.Look, Tile.Tile, Tile.tile_look}
 use Rattle.dd_formula.specs.LocalRule.{LocalRule, rule_allows}
 
--- each symbol that is given is one that the cell's node allows
+-- each symbol that the look-up gives a cell is one that the cell's node allows
 abbrev pub AreAllowed : LocalRule → Look → Type 0
 AreAllowed r look = (c : Cell) → IfSome (look c) (λ s. rule_allows r c.node s ≡ true)
 

@@ -8,12 +8,12 @@ use Rattle.dd_formula.specs.LocalRule.{LocalRule, is_true, reads_at, expansion_a
 use Rattle.dd_formula.specs.declared.automaton.{Automaton.Automaton, Cases.Cases}
 use Rattle.dd_formula.specs.declared.automaton.Automaton.{TheFolds.fold-Automaton, TheOpen.Automaton-F}
 
--- the symbol of the first case whose rule is true at the cell, else the default symbol
+-- the symbol of the first case whose rule is true at the cell, or the default symbol if there is no such case
 abbrev pub first_case : List (LocalRule × ℕ) → ℕ → Look → Cell → ℕ
 first_case [] otherwise look at = otherwise
 first_case (case ∷ cases) otherwise look at = cond (is_true case.0 at look) case.1 (first_case cases otherwise look at)
 
--- for each look and cell, the symbol that the cell gets
+-- for each look-up and each cell, the symbol that the cell gets
 abbrev pub Valuation : Type 0
 Valuation = Look → Cell → ℕ
 
@@ -21,7 +21,7 @@ abbrev pub value_step : Automaton-F Valuation → Valuation
 value_step (Automaton-F.Given c) look at = first_case c.cases c.otherwise look at
 value_step (Automaton-F.Composed f g) look at = f (λ c. Some (g look c)) at
 
--- the symbol that the automaton gives a cell; a composition gives the first automaton's, on the image under the second
+-- the symbol that the automaton gives a cell; for a composition, the first automaton's value on the image under the second
 abbrev pub value : Automaton → Valuation
 value = fold-Automaton Valuation value_step
 
@@ -32,11 +32,11 @@ pub record CommonNumbers : Type 0 where
   -- the size of the alphabet
   pub symbols : ℕ
 
--- what is counted of an automaton
+-- the counts of an automaton
 pub record Counted : Type 0 where
-  -- the cells that it reads at a node of the origin, perhaps some of them more than once
+  -- the cells that it reads at a node of the origin; some may occur more than once
   pub reads : ℕ → List Cell
-  -- its instances at a node: those of each expansion that its value there takes, one for each case and one for each default
+  -- the number of its instances at a node: `counted_step` below says what they are
   pub instances : ℕ → ℕ
   -- how deep compositions are nested
   pub depth : ℕ
@@ -45,11 +45,11 @@ pub record Counted : Type 0 where
 abbrev pub cases_reads : List (LocalRule × ℕ) → ℕ → List Cell
 cases_reads cases a = flat_map (λ case. reads_at case.0 a) cases
 
--- the instances of the cases at a node: those of each rule, and one for each case
+-- the number of instances of the cases at a node: those of each rule's expansion, and one for each case
 abbrev pub case_instances : ℕ → List (LocalRule × ℕ) → ℕ
 case_instances a cases = total (map (λ case. instances (expansion_at case.0 a) + 1) cases)
 
--- what is counted of an automaton, from what is counted of its parts
+-- the counts of an automaton, from the counts of its parts
 abbrev pub counted_step : Automaton-F Counted → Counted
 counted_step (Automaton-F.Given c) =
     record { reads = cases_reads c.cases; instances = λ a. case_instances a c.cases + 1; depth = 0 }
@@ -71,7 +71,8 @@ cells_of f a = in_order ((counted f).reads a)
 abbrev pub rule_has : CommonNumbers → LocalRule → Bool
 rule_has s r = r.dimension == s.dimension && r.nodes == s.nodes && r.symbols == s.symbols
 
--- each rule has the numbers of the setting, and each symbol that is given is one of the alphabet
+-- the cases fit the setting: each rule has the setting's numbers, and each symbol that a case gives, or that is the default, is in the setting's
+-- alphabet
 abbrev pub cases_fit : CommonNumbers → List (LocalRule × ℕ) → ℕ → Bool
 cases_fit s cases otherwise = list_all (λ case. rule_has s case.0 && nat_lt case.1 s.symbols) cases && nat_lt otherwise s.symbols
 
@@ -79,7 +80,7 @@ abbrev pub automaton_fits_step : CommonNumbers → Automaton-F Bool → Bool
 automaton_fits_step s (Automaton-F.Given c) = cases_fit s c.cases c.otherwise
 automaton_fits_step s (Automaton-F.Composed f g) = f && g
 
--- all cases of the automaton's parts fit the setting
+-- the automaton fits the setting: all cases in it and in its parts do
 abbrev pub automaton_fits : CommonNumbers → Automaton → Bool
 automaton_fits s = fold-Automaton Bool (automaton_fits_step s)
 
@@ -87,31 +88,31 @@ abbrev pub has_rules_step : Automaton-F Bool → Bool
 has_rules_step (Automaton-F.Given c) = nat_lt 0 (length c.cases)
 has_rules_step (Automaton-F.Composed f g) = f || g
 
--- whether the automaton has a rule
+-- whether the automaton has at least one rule
 abbrev pub has_rules : Automaton → Bool
 has_rules = fold-Automaton Bool has_rules_step
 
--- the number of nodes of the automaton's rules, or none where it has no rule
+-- the number of nodes of the automaton's rules, or none if it has no rule
 abbrev pub IsNodesOf : Automaton → Option ℕ → Type 0
 IsNodesOf f r = MatchOption r (has_rules f ≡ false) (λ n. (s : CommonNumbers) → automaton_fits s f ≡ true → s.nodes ≡ n)
 
--- the limit of instances is kept at each node below this number
+-- the automaton is within the limit on instances at each of the first `nodes` nodes
 abbrev pub is_few : ℕ → Counted → Bool
 is_few nodes f = list_all (λ a. nat_le (f.instances a) most_instances) (range_with_len 0 nodes)
 
--- the limit of reach is kept at each node below this number
+-- the automaton is within the limit on reach at each of the first `nodes` nodes
 abbrev pub is_short : ℕ → Counted → Bool
 is_short nodes f = list_all (λ a. list_all is_near (f.reads a)) (range_with_len 0 nodes)
 
--- the limit of depth is kept
+-- the automaton is within the limit on depth
 abbrev pub is_shallow : Counted → Bool
 is_shallow f = nat_le f.depth most_depth
 
--- the limits of instances, reach and depth are kept
+-- the automaton is within the limits on instances, reach and depth
 abbrev pub keeps_limits : ℕ → Counted → Bool
 keeps_limits nodes f = is_few nodes f && is_short nodes f && is_shallow f
 
--- what is counted of an automaton, and whether it and all its parts keep the limits
+-- the counts of an automaton, and whether it and all its parts are within the limits
 pub record Checked : Type 0 where
   pub counts : Counted
   pub within : Bool
@@ -123,47 +124,47 @@ abbrev pub limits_step : ℕ → Automaton-F Checked → Checked
 limits_step nodes (Automaton-F.Given c) = checked nodes (counted_step (Automaton-F.Given c)) true
 limits_step nodes (Automaton-F.Composed f g) = checked nodes (counted_step (Automaton-F.Composed f.counts g.counts)) (f.within && g.within)
 
--- the automaton and all its parts keep the limits
+-- the automaton and all its parts are within the limits
 abbrev pub are_within : ℕ → Automaton → Bool
 are_within nodes f = (fold-Automaton Checked (limits_step nodes) f).within
 
--- a well-formed automaton of the setting
+-- the automaton is well formed in the setting: there is a node, the automaton fits, and it and all its parts are within the limits
 pub record IsAutomaton (s : CommonNumbers) (f : Automaton) : Type 0 where
   pub some : 1 ≤ s.nodes
   pub fits : automaton_fits s f ≡ true
   pub within : are_within s.nodes f ≡ true
 
--- in some setting with at least so many nodes, the automaton is well formed
+-- the automaton is well formed in some setting with at least this many nodes
 pub record HasNodes (f : Automaton) (nodes : ℕ) : Type 0 where
   pub setting : CommonNumbers
   pub formed : IsAutomaton setting f
   pub few : nodes ≤ setting.nodes
 
--- in some setting with the node a, the automaton is well formed
+-- the automaton is well formed in some setting that has the node a
 pub record HasNode (f : Automaton) (a : ℕ) : Type 0 where
   pub setting : CommonNumbers
   pub formed : IsAutomaton setting f
   pub below : a < setting.nodes
 
--- in some setting with the node a, both automata are well formed
+-- both automata are well formed in some setting that has the node a
 pub record HaveNode (f g : Automaton) (a : ℕ) : Type 0 where
   pub setting : CommonNumbers
   pub outer : IsAutomaton setting f
   pub inner : IsAutomaton setting g
   pub below : a < setting.nodes
 
--- the cell has a position of the setting's dimension, and one of its nodes
+-- the cell has a position of the setting's dimension, and one of the setting's nodes
 abbrev pub is_cell_of : CommonNumbers → Cell → Bool
 is_cell_of s c = is_cell_in s.dimension s.nodes c
 
--- in some setting with these cells, the automaton is well formed, and each of the cells lies within the limit of reach
+-- the automaton is well formed in some setting that has these cells, and each of the cells lies within the limit on reach
 pub record HasCells (f : Automaton) (cs : List Cell) : Type 0 where
   pub setting : CommonNumbers
   pub formed : IsAutomaton setting f
   pub cells : list_all (is_cell_of setting) cs ≡ true
   pub near : list_all is_near cs ≡ true
 
--- in some setting with the node a, the cases fit
+-- the cases fit some setting that has the node a
 pub record HasCaseNode (c : Cases) (a : ℕ) : Type 0 where
   pub setting : CommonNumbers
   pub fit : cases_fit setting c.cases c.otherwise ≡ true

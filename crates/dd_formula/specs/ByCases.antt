@@ -1,4 +1,4 @@
--- Automata by cases, made of formulas, and why they are refused.
+-- Automata that are given by cases, made from formulas, and why they are refused.
 use Rattle.std.specs.Prelude.{ℕ, ◌<◌, ◌≡◌, false, List, map}
 use Rattle.dd_topology.specs.{Grid.Grid, Sets.SymbolSets}
 use Rattle.dd_expansion.specs.{declared.formulas.Formula.Formula, Limits.IsFormula}
@@ -9,7 +9,7 @@ use Rattle.dd_formula.specs.declared.{automaton.Automaton.TheOpen.Automaton-F, f
 use Rattle.dd_formula.specs.declared.fault.RuleFault.TheVariants.{Reach, Instances, Depth, Memory}
 use Rattle.dd_formula.specs.declared.automaton.Automaton.TheVariants as v
 
--- the setting of a topology and its alphabet
+-- the setting of a topology and an alphabet
 abbrev pub numbers_over : Grid → SymbolSets → CommonNumbers
 numbers_over g s = record { dimension = g.dimension; nodes = g.nodes; symbols = s.symbols }
 
@@ -18,19 +18,19 @@ pub record IsCaseOver (g : Grid) (s : SymbolSets) (case : Formula × ℕ) : Type
   pub formula : IsFormula g s.symbols case.0
   pub symbol : case.1 < s.symbols
 
--- the formula's rule, with the symbol
+-- the case with its formula made into a rule
 abbrev pub case_over : Grid → SymbolSets → Formula × ℕ → LocalRule × ℕ
 case_over g s case = (local_rule g s case.0, case.1)
 
--- the automaton that gives a cell the symbol of the first formula that is true there, else the default symbol
+-- the automaton that gives a cell the symbol of the first formula that is true there, or the default symbol if none is
 abbrev pub by_cases : Grid → SymbolSets → List (Formula × ℕ) → ℕ → Automaton
 by_cases g s cases otherwise = v.Given (record { cases = map (case_over g s) cases; otherwise = otherwise })
 
--- what is counted of it, which doesn't depend on the default symbol
+-- the counts of this automaton, which don't depend on the default symbol
 abbrev pub counts_over : Grid → SymbolSets → List (Formula × ℕ) → Counted
 counts_over g s cases = counted_step (Automaton-F.Given (record { cases = map (case_over g s) cases; otherwise = 0 }))
 
--- which fault is right: too many instances at some node, else a cell that is read too far away; or no memory
+-- whether the fault is right: there are too many instances at some node, or else a cell that is read lies too far away; or memory ran out
 abbrev pub IsCasesRefusal : ℕ → Counted → RuleFault → Type 0
 IsCasesRefusal n f Instances = is_few n f ≡ false
 IsCasesRefusal n f Reach = PassesInstances n f × (is_short n f ≡ false)

@@ -5,58 +5,58 @@ use Rattle.dd_formula.specs.declared.{automaton.Automaton.Automaton, automaton.C
 use Rattle.dd_formula.specs.declared.fault.RuleFault.TheVariants.{Reach, Instances, Depth, Memory}
 use Rattle.dd_formula.specs.declared.automaton.Automaton.TheVariants as v
 
--- both automata are well formed in one setting
+-- both automata are well formed in the same setting
 pub record AreAutomata (f g : Automaton) : Type 0 where
   pub setting : CommonNumbers
   pub outer : IsAutomaton setting f
   pub inner : IsAutomaton setting g
 
--- both are well formed in one setting that has at least so many nodes
+-- both automata are well formed in the same setting, which has at least this many nodes
 pub record HaveNodes (f g : Automaton) (nodes : ℕ) : Type 0 where
   pub both : AreAutomata f g
   pub few : nodes ≤ both.setting.nodes
 
--- P holds of each setting in which both are well formed
+-- P holds of each setting in which both automata are well formed
 abbrev pub OverBoth : Automaton → Automaton → (CommonNumbers → Type 0) → Type 0
 OverBoth f g P = (s : CommonNumbers) → IsAutomaton s f → IsAutomaton s g → P s
 
--- what is counted of the composition
+-- the counts of the composition
 abbrev pub composition : Automaton → Automaton → Counted
 composition f g = counted (v.Composed f g)
 
--- the limits are kept at all nodes of the setting exactly if they are kept at those below this number
+-- to see whether the limits on instances and reach hold at all nodes of the setting, it is enough to test the first `nodes` nodes
 pub record StandFor (s : CommonNumbers) (f : Counted) (nodes : ℕ) : Type 0 where
   pub below : nodes ≤ s.nodes
   pub few : is_few s.nodes f ≡ is_few nodes f
   pub short : is_short s.nodes f ≡ is_short nodes f
 
--- the composition keeps the limit of instances
+-- the composition is within the limit on instances
 abbrev pub PassesInstances : ℕ → Counted → Type 0
 PassesInstances n f = is_few n f ≡ true
 
--- it keeps the limits of instances and of reach
+-- the composition is within the limits on instances and reach
 abbrev pub PassesReach : ℕ → Counted → Type 0
 PassesReach n f = PassesInstances n f × (is_short n f ≡ true)
 
--- it keeps all three limits
+-- the composition is within all three limits
 abbrev pub PassesDepth : ℕ → Counted → Type 0
 PassesDepth n f = PassesReach n f × (is_shallow f ≡ true)
 
--- which fault is right: too many instances at some node, else a cell that is read too far away, else too great a depth; or no
--- memory
+-- whether the fault is right: there are too many instances at some node, or else a cell that is read lies too far away, or else compositions are
+-- nested too deep; or memory ran out
 abbrev pub IsCompositionFault : ℕ → Counted → RuleFault → Type 0
 IsCompositionFault n f Instances = is_few n f ≡ false
 IsCompositionFault n f Reach = PassesInstances n f × (is_short n f ≡ false)
 IsCompositionFault n f Depth = PassesReach n f × (is_shallow f ≡ false)
 IsCompositionFault n f Memory = Unit {0}
 
--- in some setting with exactly so many nodes, the cases fit
+-- the cases fit some setting with exactly this many nodes, and there is at least one node
 pub record HaveNumbers (c : Cases) (nodes : ℕ) : Type 0 where
   pub setting : CommonNumbers
   pub fit : cases_fit setting c.cases c.otherwise ≡ true
   pub all : setting.nodes ≡ nodes
   pub some : 1 ≤ nodes
 
--- the automaton by these cases is well formed in each such setting
+-- the automaton that these cases give is well formed in each setting that they fit and that has exactly this many nodes
 abbrev pub IsGivenByCases : Cases → ℕ → Type 0
 IsGivenByCases c nodes = (s : CommonNumbers) → cases_fit s c.cases c.otherwise ≡ true → s.nodes ≡ nodes → IsAutomaton s (v.Given c)

@@ -1,10 +1,10 @@
--- How many clauses a question about a rule takes, and how counts are cut off.
+-- How many clauses encode a question about a rule, and counts that are cut off at a limit.
 use Rattle.std.specs.Prelude.{ℕ, ◌+◌, ◌-◌, ◌*◌, ◌/◌, ◌^◌, min, max, not, List, map, length}
 use Rattle.std.specs.List.{filter, range_with_len}
 use Rattle.dd_expansion.specs.Leaves.{clause_count, total}
 use Rattle.dd_formula.specs.LocalRule.{LocalRule, rule_allows, expansion_at}
 
--- the count, cut off: limit + 1 stands for each count greater than the limit
+-- the count, cut off: a count that is greater than the limit is replaced by limit + 1
 abbrev pub cut : ℕ → ℕ → ℕ
 cut limit n = min n (limit + 1)
 
@@ -12,7 +12,7 @@ cut limit n = min n (limit + 1)
 abbrev pub over_nodes : (ℕ → ℕ) → ℕ → ℕ
 over_nodes f n = total (map f (range_with_len 0 n))
 
--- the clauses of the gates of a rule at all its nodes
+-- the number of clauses that encode the gates of a rule at all its nodes
 abbrev pub rule_clauses : LocalRule → ℕ
 rule_clauses r = over_nodes (λ a. clause_count (expansion_at r a)) r.nodes
 
@@ -24,28 +24,29 @@ disallowed r a = filter (λ s. not (rule_allows r a s)) (range_with_len 0 r.symb
 abbrev pub disallowed_pairs : LocalRule → ℕ
 disallowed_pairs r = over_nodes (λ a. length (disallowed r a)) r.nodes
 
--- The clauses of a cell over s symbols. One says that it has a symbol, and one that the rule is true there. For each pair of
--- symbols, one says that it doesn't have both.
+-- The number of clauses of a cell over s symbols. One clause says that the cell has at least one symbol, and one that the rule is true there. For
+-- each pair of symbols, one clause says that the cell doesn't have both.
 abbrev pub cell_clause_count : ℕ → ℕ
 cell_clause_count s = 2 + s * (s - 1) / 2
 
--- the clauses of a position: those of its cells, one for each symbol that one of its nodes doesn't allow, and those of the
+-- the number of clauses of a position: those of its cells, one for each pair of a node and a symbol that the node doesn't allow, and those of the
 -- rule's gates
 abbrev pub place_clauses : LocalRule → ℕ
 place_clauses r = r.nodes * cell_clause_count r.symbols + disallowed_pairs r + rule_clauses r
 
--- the clauses that say that some node of a position breaks the rule
+-- the number of clauses that say that the rule is false at some node of a position
 abbrev pub broken_clauses : LocalRule → ℕ
 broken_clauses r = rule_clauses r + 1
 
--- the clauses of a question on a region of so many positions; `goal` is the number of clauses of its goal
+-- The number of clauses of a question on a region of this many positions. The question asks about fillings of the region that obey the rule and have
+-- some property, the goal. `goal` is the number of clauses that say that the goal holds.
 abbrev pub region_clauses : LocalRule → ℕ → ℕ → ℕ
 region_clauses r goal positions = positions * place_clauses r + goal
 
--- in d dimensions, the number of positions of the box of this radius or of the torus of this period, whichever is greater
+-- in d dimensions, the number of positions of the box of this radius or of the torus with this period along each axis, whichever is greater
 abbrev pub largest_region : ℕ → ℕ → ℕ → ℕ
 largest_region d radius period = max ((2 * radius + 1) ^ d) (period ^ d)
 
--- the clauses of a question on the larger of that box and that torus
+-- the number of clauses of a question on the larger of that box and that torus
 abbrev pub largest_clauses : LocalRule → ℕ → ℕ → ℕ → ℕ
 largest_clauses r goal radius period = region_clauses r goal (largest_region r.dimension radius period)

@@ -2,25 +2,25 @@
 pub mod LocalRule
 -- symbols that the nodes of a rule allow
 pub mod Allowed
--- how far rules and automata read
+-- how far away rules and automata read cells
 pub mod Reach
--- which periodic configurations live in a rule's subshift
+-- which periodic configurations live in a rule's subshift: the rule is true at each of their cells
 pub mod Living
 -- why a formula is refused as a rule
 pub mod Refusals
 -- automata and their values
 pub mod Automata
--- what it takes to evaluate an automaton at a cell
+-- what is needed to evaluate an automaton at a cell
 pub mod Values
 -- compositions of automata, and why they are refused
 pub mod Compositions
--- automata by cases, made of formulas, and why they are refused
+-- automata that are given by cases, made from formulas, and why they are refused
 pub mod ByCases
--- how many clauses a question about a rule takes
+-- how many clauses encode a question about a rule
 pub mod Counts
--- how many clauses the value of an automaton takes
+-- how many clauses encode the value of an automaton
 pub mod ValueCounts
--- what each step of the evaluation of a composition needs
+-- what each step in evaluating a composition needs
 pub mod valuing
 -- lemmas on these definitions, with their proofs
 pub mod lemmas

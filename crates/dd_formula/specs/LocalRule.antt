@@ -1,4 +1,5 @@
--- Local rules: a formula over a topology and the alphabets of its nodes. A look-up (`Look`) gives symbols to cells, perhaps not to all.
+-- Local rules. A rule is a formula over a topology and the alphabets of its nodes. It is evaluated under a look-up (`Look`), which gives symbols to
+-- cells, perhaps not to all.
 use Rattle.std.specs.Prelude.{ℕ, zero, suc, Bool, ◌<◌, ◌≤◌, ◌≡◌, true, false, is_some, nat_le, nat_lt, List, [], ◌∷◌, ◌++◌}
 use Rattle.std.specs.List.{list_all}
 use Rattle.dd_lattice.specs.{InOrder.in_order, declared.position.Cell.Cell}
@@ -22,7 +23,7 @@ pub record LocalRule : Type 0 where
 abbrev pub kept_rule : ℕ → ℕ → SymbolSets → List Edge → Formula → LocalRule
 kept_rule d nodes s edges f = record { dimension = d; nodes = nodes; symbols = s.symbols; allowed = s.allowed; edges = edges; formula = f }
 
--- the rule of a formula over a topology and the symbols that its nodes allow
+-- the rule with this formula, over the topology and the symbols that its nodes allow
 abbrev pub local_rule : Grid → SymbolSets → Formula → LocalRule
 local_rule g s f = kept_rule g.dimension g.nodes s g.edges f
 
@@ -34,19 +35,19 @@ sets_of r = symbol_sets r.symbols r.allowed
 abbrev pub rule_allows : LocalRule → ℕ → ℕ → Bool
 rule_allows r a s = row_allows r.allowed a s
 
--- whether the rule's formula is true at a cell, under the symbols that the look gives
+-- whether the rule's formula is true at a cell, under the symbols that the look-up gives
 abbrev pub is_true : LocalRule → Cell → Look → Bool
 is_true r c look = truth r.edges r.formula (c ∷ []) look
 
--- the cells that the rule reads at a node of the origin, perhaps some of them more than once
+-- the cells that the rule reads at a node of the origin: those whose symbols it looks up. Some may occur more than once
 abbrev pub reads_at : LocalRule → ℕ → List Cell
 reads_at r a = reads r.edges r.formula (origin_at a ∷ [])
 
--- each cell that the rule reads at this cell lies in the range of positions and has a symbol
+-- each cell that the rule reads, when it is evaluated at the cell c, lies in the range of positions and has a symbol
 abbrev pub is_given : LocalRule → Cell → Look → Bool
 is_given r c look = list_all (λ d. is_some (seen look c.position d)) (reads_at r c.node)
 
--- the rule's formula at a node of the origin, without variables
+-- the rule's expansion at a node: its formula at this node of the origin, without variables
 abbrev pub expansion_at : LocalRule → ℕ → Expanded
 expansion_at r a = expansion r.edges r.symbols r.formula (origin_at a ∷ [])
 
@@ -59,19 +60,19 @@ at_nodes f (suc n) = at_nodes f n ++ f n ∷ []
 abbrev pub cells_at : LocalRule → ℕ → List Cell
 cells_at r a = in_order (reads_at r a)
 
--- the limits of rules and automata: at most so many instances at a node
+-- the limits on rules and automata: at each node they have at most this many instances
 abbrev pub most_instances : ℕ
 most_instances = 20000
 
--- each cell that is read at the origin lies at most so far away, along each axis
+-- each cell that rules and automata read at the origin lies at most this far away, along each axis
 abbrev pub most_reach : ℕ
 most_reach = 16
 
--- compositions are nested at most so deep
+-- compositions are nested at most this deep
 abbrev pub most_depth : ℕ
 most_depth = 64
 
--- the cell lies within the limit of reach
+-- the cell lies within the limit on reach
 abbrev pub is_near : Cell → Bool
 is_near c = nat_le (extent c.position) most_reach
 
@@ -79,15 +80,15 @@ is_near c = nat_le (extent c.position) most_reach
 abbrev pub is_of : LocalRule → Cell → Bool
 is_of r c = is_cell_in r.dimension r.nodes c
 
--- the rule keeps the limit of instances at each node
+-- the rule is within the limit on instances at each node
 abbrev pub IsSmall : LocalRule → Type 0
 IsSmall r = (a : ℕ) → a < r.nodes → instances (expansion_at r a) ≤ most_instances
 
--- the rule keeps the limit of reach at each node
+-- the rule is within the limit on reach at each node
 abbrev pub ReadsNear : LocalRule → Type 0
 ReadsNear r = (a : ℕ) → a < r.nodes → list_all is_near (reads_at r a) ≡ true
 
--- what holds of every rule
+-- a well-formed rule: what holds of the value of every `Rule`
 pub record IsRule (r : LocalRule) : Type 0 where
   pub dimension : (1 ≤ r.dimension) × (r.dimension ≤ 3)
   pub nodes : (1 ≤ r.nodes) × (r.nodes ≤ 4)
@@ -95,12 +96,12 @@ pub record IsRule (r : LocalRule) : Type 0 where
   pub allowed : IsSets r.nodes (sets_of r)
   pub small : IsSmall r
   pub short : ReadsNear r
-  -- it reads cells with positions in Z^d and with its nodes
+  -- each cell that the rule reads has a position in Z^d and one of the rule's nodes
   pub placed : (a : ℕ) → a < r.nodes → list_all (is_of r) (reads_at r a) ≡ true
-  -- each leaf of its expansions has a symbol of the alphabet
+  -- each leaf of the rule's expansions has a symbol of the alphabet
   pub known : (a : ℕ) → a < r.nodes → leaves_pass (λ c s. nat_lt s r.symbols) (expansion_at r a) ≡ true
 
--- a rule with its expansion and its reads at each node
+-- a well-formed rule, with its expansion and the cells that it reads at each node
 pub record IsExpanded (r : LocalRule) (es : List Expanded) (cells : List (List Cell)) : Type 0 where
   pub rule : IsRule r
   pub expansions : es ≡ at_nodes (expansion_at r) r.nodes
@@ -112,7 +113,7 @@ pub record IsLarge (r : LocalRule) : Type 0 where
   pub exists : node < r.nodes
   pub many : most_instances < instances (expansion_at r node)
 
--- at some node the rule reads too far
+-- at some node the rule reads a cell that lies too far away
 pub record IsFar (r : LocalRule) : Type 0 where
   pub node : ℕ
   pub exists : node < r.nodes

@@ -2,7 +2,7 @@
 use Rattle.dd_formula.specs.{LocalRule.LocalRule, LocalRule.IsSmall, LocalRule.IsLarge, LocalRule.IsFar, declared.fault.RuleFault.RuleFault}
 use Rattle.dd_formula.specs.declared.fault.RuleFault.TheVariants.{Reach, Instances, Depth, Memory}
 
--- which fault is right: too many instances at some node, else a cell that is read too far away; or no memory
+-- whether the fault is right: there are too many instances at some node, or else a cell that is read lies too far away; or memory ran out
 abbrev pub IsRuleRefusal : LocalRule → RuleFault → Type 0
 IsRuleRefusal r Instances = IsLarge r
 IsRuleRefusal r Reach = IsSmall r × IsFar r

@@ -1,4 +1,4 @@
--- How many clauses the value of an automaton takes.
+-- How many clauses encode the value of an automaton.
 use Rattle.std.specs.{Prelude.ℕ, Prelude.◌+◌, Prelude.◌*◌, Prelude.List, Prelude.map, Prelude.length, List.range_with_len}
 use Rattle.dd_lattice.specs.InOrder.{in_order}
 use Rattle.dd_expansion.specs.Leaves.{clause_count, total}
@@ -10,28 +10,28 @@ use Rattle.dd_formula.specs.declared.automaton.Automaton.{TheFolds.fold-Automato
 abbrev pub gate_clause_count : ℕ → ℕ
 gate_clause_count k = k + 1
 
--- The clauses that choose among m cases. For each case there is a gate over it and the cases before it. For the default there
--- is a gate over all cases.
+-- The number of clauses of the gates that choose among m cases. Each case has a gate over itself and the cases before it, which says that the case's
+-- rule is true and no earlier rule is. The default symbol has a gate over all cases, which says that no rule is true.
 abbrev pub choice_clauses : ℕ → ℕ
 choice_clauses m = total (map (λ i. gate_clause_count (i + 1)) (range_with_len 0 m)) + gate_clause_count m
 
--- The clauses of the symbols. For each of n symbols there is a gate over the cases that give it. Each of the m cases, and the
--- default, gives one symbol, so these gates have m + 1 signals together.
+-- The number of clauses of the gates of the symbols. Each of n symbols has a gate over the cases that give it. Each of the m cases gives one symbol,
+-- and so does the default, so together these gates are over m + 1 signals.
 abbrev pub giving_clauses : ℕ → ℕ → ℕ
 giving_clauses n m = (m + 1) + n
 
--- the clauses of the rules of the cases at a node
+-- the number of clauses of the rules of the cases at a node
 abbrev pub case_clauses : List (LocalRule × ℕ) → ℕ → ℕ
 case_clauses cases a = total (map (λ case. clause_count (expansion_at case.0 a)) cases)
 
--- the clauses of the value of an automaton by cases over n symbols, at a node
+-- the number of clauses of the value, at a node, of an automaton that is given by cases, over n symbols
 abbrev pub given_clauses : ℕ → Cases → ℕ → ℕ
 given_clauses n c a = case_clauses c.cases a + choice_clauses (length c.cases) + giving_clauses n (length c.cases)
 
--- what is counted of an automaton, and the clauses of its value
+-- the counts of an automaton (the cells that it reads, its instances and its depth), and the number of clauses of its value
 pub record Valued : Type 0 where
   pub counts : Counted
-  -- the clauses of its value at a node
+  -- the number of clauses of its value at a node
   pub clauses : ℕ → ℕ
 
 abbrev pub valued_step : ℕ → Automaton-F Valued → Valued
@@ -40,19 +40,20 @@ valued_step n (Automaton-F.Given c) =
 valued_step n (Automaton-F.Composed f g) =
     record {
       counts = counted_step (Automaton-F.Composed f.counts g.counts);
-      -- the second automaton's value at each cell that the first reads, then the first's
+      -- the clauses of the second automaton's value at each cell that the first reads, and then those of the first automaton's value
       clauses = λ a. total (map (λ c. g.clauses c.node) (in_order (f.counts.reads a))) + f.clauses a;
     }
 
--- the clauses of an automaton's value over n symbols, at a node
+-- the number of clauses of an automaton's value at a node, over n symbols
 abbrev pub value_clauses : ℕ → Automaton → ℕ → ℕ
 value_clauses n f = (fold-Automaton Valued (valued_step n) f).clauses
 
--- the clauses that say that two automata differ at a node: those of their values, a gate over two signals for each
--- symbol, and a gate over these
+-- the number of clauses that say that two automata differ at a node: those of both values, those of a gate over two signals for each symbol, and
+-- those of a gate over all these gates
 abbrev pub differ_at : ℕ → Automaton → Automaton → ℕ → ℕ
 differ_at n f g a = value_clauses n f a + value_clauses n g a + n * gate_clause_count 2 + gate_clause_count n
 
--- the clauses that say that they differ at one of the first nodes: those for each node, and one that says that one node differs
+-- the number of clauses that say that two automata differ at one of the first nodes: those for each node, and one that says that they differ at some
+-- node
 abbrev pub differ_clauses : ℕ → ℕ → Automaton → Automaton → ℕ
 differ_clauses n nodes f g = total (map (differ_at n f g) (range_with_len 0 nodes)) + 1

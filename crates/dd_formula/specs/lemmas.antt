@@ -1,5 +1,6 @@
 pub mod RuleLaws
 pub mod AllowedLaws
+pub mod AllowedTiles
 pub mod Reached
 pub mod Cuts
 pub mod Ranges

@@ -1,4 +1,4 @@
-//! Cellular automata, by cases or composed: the cells that they read, their instances and their depth.
+//! Cellular automata, given by cases or composed: the cells that they read, their instances and their depth.
 ghost use Rattle.std.specs.Prelude.{◌≡◌, ◌+◌, ◌<◌, true, length, IfOk, MatchOption, map};
 ghost use Rattle.std.specs.List.{list_all, flat_map};
 ghost use Rattle.std.specs.List.Sorted.{IsStrictlySortedBy};
@@ -15,7 +15,8 @@ use dd_lattice::{Cell, in_order};
 use dd_values::{Boxed, Items};
 use std::alloc::{AllocError, Global};
 
-/// An automaton that gives each cell the symbol of its first case whose rule is true there, else a default symbol.
+/// An automaton that is given by cases. It gives each cell the symbol of the first case whose rule is true there, or a default
+/// symbol if there is no such case.
 #[derive(Debug, Drop)]
 pub struct Cases {
     /// The cases: each is a rule with the symbol that it gives.
@@ -77,7 +78,8 @@ impl Cases {
         }
     }
 
-    /// The number of instances at a node, cut off past the limit. The contract also says that no rule reads too far.
+    /// The number of instances at a node, or `MOST_INSTANCES + 1` if there are more than `MOST_INSTANCES`. The contract also says
+    /// that the rules read only cells within the limit on reach.
     pub(crate) fn instances(&self, node: u32) -> u32
         requires { HasCaseNode self.now node }
         ensures count { result ≡ cut most_instances (case_instances node self.now.cases + 1) }
@@ -127,7 +129,7 @@ impl Automaton {
         }
     }
 
-    /// The cells that the composition reads at this node of the origin, in cell order, each once.
+    /// The cells that the composition of the two automata reads at this node of the origin, in cell order, each once.
     #[cycle(reads)]
     pub(crate) fn composed_reads(
         alloc: Global,
@@ -162,10 +164,10 @@ impl Automaton {
         in_order(alloc, &found)
     }
 
-    /// The number of instances at a node, or 20,001 if there are more than 20,000. An automaton by cases has the instances of
-    /// each rule's expansion, one more for each case, and one for the default symbol. A composition has the instances of the
-    /// outer automaton, those of the inner one at the same node, and those of the inner one at each cell that the outer one
-    /// reads.
+    /// The number of instances at a node, or 20,001 if there are more than 20,000. An automaton that is given by cases has the
+    /// instances of each rule's expansion, one more for each case, and one for the default symbol. A composition has the
+    /// instances of the outer automaton, those of the inner one at the same node, and those of the inner one at each cell that
+    /// the outer one reads.
     #[cycle(instances)]
     #[tactic(auto, using(std::proofs::lemmas::Grind::common_steps, crate::specs::lemmas::AutomatonLaws::layers))]
     pub fn instances(&self, alloc: Global, node: u32) -> Result<u32, AllocError>
@@ -180,7 +182,7 @@ impl Automaton {
         }
     }
 
-    /// The number of instances of the composition at a node, cut off past the limit.
+    /// The number of instances of the composition at a node, or `MOST_INSTANCES + 1` if there are more than `MOST_INSTANCES`.
     #[cycle(instances)]
     pub(crate) fn composed_instances(
         alloc: Global,
@@ -198,7 +200,8 @@ impl Automaton {
         Ok(plus(MOST_INSTANCES, plus(MOST_INSTANCES, first, second), rest))
     }
 
-    /// The sum, over the cells, of the numbers of instances at their nodes; cut off past the limit.
+    /// The sum, over the cells, of the automaton's number of instances at the cell's node; or `MOST_INSTANCES + 1` if the sum is
+    /// greater than `MOST_INSTANCES`.
     #[cycle(instances)]
     pub(crate) fn instances_from(&self, alloc: Global, cells: &[Cell]) -> Result<u32, AllocError>
         requires { HasCells self.now cells.now }
@@ -214,7 +217,7 @@ impl Automaton {
         Ok(sum)
     }
 
-    /// The number of nodes of the automaton's rules, or `None` where it has no rule.
+    /// The number of nodes of the automaton's rules, or `None` if it has no rule.
     pub fn nodes(&self) -> Option<u32>
         ensures { IsNodesOf self.now result }
     {

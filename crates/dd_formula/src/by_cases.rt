@@ -1,5 +1,6 @@
-//! Automata by cases, made of formulas. The instances of all cases are counted before any rule is made. So a fault of
-//! too many instances comes before a fault of a cell that is read too far away.
+//! Automata that are given by cases, made from formulas. The instances of all cases are counted before any rule is made. So if
+//! an automaton has too many instances and also reads a cell that lies too far away, the fault is that it has too many
+//! instances.
 ghost use Rattle.std.specs.Prelude.{◌≡◌, ◌+◌, ◌<◌, ◌≤◌, length, map, true, IfOk, IfErr, OnOk};
 ghost use Rattle.std.specs.List.{All};
 ghost use Rattle.dd_expansion.specs.Leaves.{instances};
@@ -20,11 +21,12 @@ use dd_values::Items;
 use std::alloc::{AllocError, Global};
 
 impl Automaton {
-    /// The automaton that gives each cell the symbol of the first of these formulas that is true there, else `otherwise`.
+    /// The automaton that gives each cell the symbol of the first of these formulas that is true there, or `otherwise` if none
+    /// is.
     ///
     /// # Errors
-    /// `Instances` where it has more than 20,000 instances at some node; else `Reach` where a case reads a cell that lies more
-    /// than 16 away along an axis; or `Memory`.
+    /// `Instances` if the automaton has more than 20,000 instances at some node; else `Reach` if a case reads a cell that lies
+    /// more than 16 away along an axis. `Memory` if memory ran out.
     pub fn by_cases(
         alloc: Global,
         topology: &Topology,
@@ -52,7 +54,7 @@ impl Automaton {
     }
 }
 
-/// The number of instances of a formula's expansion at a node, cut off past the limit.
+/// The number of instances of the formula's expansion at a node, or `MOST_INSTANCES + 1` if there are more than `MOST_INSTANCES`.
 fn size_at(
     alloc: Global,
     topology: &Topology,
@@ -71,7 +73,8 @@ fn size_at(
     }
 }
 
-/// The number of instances of the automaton at a node, cut off past the limit. Past it, no further case is expanded.
+/// The number of instances at a node of the automaton with these cases, or `MOST_INSTANCES + 1` if there are more than
+/// `MOST_INSTANCES`. Once there are more, no further case is expanded.
 fn instances_at(
     alloc: Global,
     topology: &Topology,
@@ -92,7 +95,7 @@ fn instances_at(
     Ok(sum)
 }
 
-/// Whether the automaton has at most `MOST_INSTANCES` instances at each node.
+/// Whether the automaton with these cases has at most `MOST_INSTANCES` instances at each node.
 fn has_few(
     alloc: Global,
     topology: &Topology,
@@ -110,7 +113,7 @@ fn has_few(
     Ok(true)
 }
 
-/// The rules of the cases, each with its symbol.
+/// The rules made from the formulas of the cases, each with the symbol of its case.
 fn rules_of(
     alloc: Global,
     topology: &Topology,

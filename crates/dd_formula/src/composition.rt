@@ -1,4 +1,5 @@
-//! Compositions of automata, and the tests of their limits: instances, reach and depth.
+//! Compositions of two automata, and tests of their limits: on the number of instances (see `Automaton::instances`), on the reach
+//! (how far away a composition reads cells), and on the depth (how deep compositions are nested).
 ghost use Rattle.std.specs.Prelude.{◌≡◌, true, IfOk, IfErr, OnOk};
 ghost use Rattle.dd_formula.specs.Automata.{CommonNumbers, IsAutomaton, is_few, is_short, is_shallow};
 ghost use Rattle.dd_formula.specs.Compositions.{AreAutomata, HaveNodes, OverBoth, StandFor, PassesDepth, IsCompositionFault, composition};
@@ -13,12 +14,12 @@ use std::alloc::{AllocError, Global};
 const MOST_DEPTH: u32 = 64;
 
 impl Automaton {
-    /// The automaton that gives each cell the value of `outer` on the configuration of `inner`'s values.
+    /// The automaton that applies `inner` to a configuration, and then `outer` to the result.
     ///
     /// # Errors
-    /// `Instances` where at some node the composition has more than 20,000 instances; else `Reach` where it reads a cell that
-    /// lies more than 16 away along an axis; else `Depth` where compositions are nested more than 64 deep; or `Memory`. Both
-    /// automata come back with the error.
+    /// `Instances` if the composition has more than 20,000 instances at some node; else `Reach` if it reads a cell that lies more
+    /// than 16 away along an axis; else `Depth` if compositions are nested more than 64 deep. `Memory` if memory ran out. Each
+    /// error also returns both automata.
     pub fn composed(
         alloc: Global,
         outer: Automaton,
@@ -37,7 +38,7 @@ impl Automaton {
     }
 }
 
-/// The composition. If memory for it runs out, both automata come back.
+/// The composition of the two automata. If memory runs out, the error returns both of them.
 fn joined(
     alloc: Global,
     outer: Automaton,
@@ -56,7 +57,7 @@ fn joined(
     }
 }
 
-/// Tests the limits of the composition one after the other: instances, reach, depth.
+/// Tests whether the composition is within its limits, one limit after the other: instances, reach, depth.
 fn tested(alloc: Global, outer: &Automaton, inner: &Automaton) -> Result<(), RuleFault>
     requires { AreAutomata outer.now inner.now }
     ensures ok { OnOk result (OverBoth outer.now inner.now (λ s. PassesDepth s.nodes (composition outer.now inner.now))) }
@@ -75,7 +76,8 @@ fn tested(alloc: Global, outer: &Automaton, inner: &Automaton) -> Result<(), Rul
     Ok(())
 }
 
-/// How many nodes need a test: as many as the rules have. Without any rule all nodes are alike, and one is enough.
+/// How many nodes have to be tested: as many as the rules have. If there is no rule, all nodes are alike, and it is enough to
+/// test one.
 fn node_count(outer: &Automaton, inner: &Automaton) -> u32
     ensures { OverBoth outer.now inner.now (λ s. StandFor s (composition outer.now inner.now) result) }
 {
@@ -88,7 +90,7 @@ fn node_count(outer: &Automaton, inner: &Automaton) -> u32
     }
 }
 
-/// Whether the composition has at most `MOST_INSTANCES` instances at each of these nodes.
+/// Whether the composition has at most `MOST_INSTANCES` instances at each of the first `nodes` nodes.
 fn has_few(
     alloc: Global,
     outer: &Automaton,
@@ -106,7 +108,7 @@ fn has_few(
     Ok(true)
 }
 
-/// Whether the composition reads no cell beyond the limit of reach, at each of these nodes.
+/// Whether the composition, at each of the first `nodes` nodes, reads only cells that lie within the limit on reach.
 fn has_short(
     alloc: Global,
     outer: &Automaton,

@@ -1,16 +1,17 @@
-//! Why no rule or automaton is made.
+//! Why a rule or an automaton could not be made.
 ghost use Rattle.std.specs.Prelude.{◌≡◌};
 
 use std::alloc::AllocError;
 use thiserror::Error;
 
-/// Why no rule or automaton was made.
+/// Why a rule or an automaton could not be made.
 #[derive(Debug, Drop, Error)]
 pub enum RuleFault {
-    /// A cell is read that lies more than 16 away along an axis.
+    /// The rule or the automaton reads a cell that lies more than 16 away along an axis.
     #[error("a cell is read that lies more than 16 away")]
     Reach,
-    /// At some node the rule or the automaton has more than 20,000 instances. `Rule` and `Automaton::instances` say what they are.
+    /// The rule or the automaton has more than 20,000 instances at some node. `Rule` and `Automaton::instances` say what
+    /// instances are.
     #[error("the expansion has more than 20000 parts")]
     Instances,
     /// Compositions are nested more than 64 deep.

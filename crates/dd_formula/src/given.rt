@@ -7,10 +7,10 @@ use crate::automaton::{Automaton, Cases};
 use crate::making::MOST_INSTANCES;
 
 impl Automaton {
-    /// The automaton with these cases, whose rules have `nodes` nodes. It allocates nothing.
+    /// The automaton with these cases, whose rules have `nodes` nodes. Allocates nothing.
     ///
     /// # Errors
-    /// Gives the cases back if the automaton has more than 20,000 instances at some node.
+    /// Returns the cases if the automaton has more than 20,000 instances at some node.
     pub fn given(cases: Cases, nodes: u32) -> Result<Automaton, Cases>
         requires { HaveNumbers cases nodes }
         ensures ok { IfOk result (λ f. f ≡ Automaton.Given cases) }

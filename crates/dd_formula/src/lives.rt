@@ -1,4 +1,4 @@
-//! Whether a periodic configuration lives in a rule's subshift.
+//! Whether a periodic configuration lives in a rule's subshift, that is, whether the rule is true at each of its cells.
 ghost use Rattle.dd_formula.specs.Living.{Fits, IsMembership};
 
 use crate::rule::Rule;
@@ -10,13 +10,13 @@ use dd_pattern::Periodic;
 pub enum Membership {
     /// The rule is true at each cell.
     Inside,
-    /// The rule is false at this cell of the fundamental box, and at no cell of the box before it in cell order.
+    /// The rule is false at this cell of the fundamental box. It is the first such cell in cell order.
     Outside(Cell),
 }
 
 impl Rule {
-    /// Whether the configuration is inside the rule's subshift: whether the rule is true at each cell. The cells of its
-    /// fundamental box are tested in cell order. It allocates nothing.
+    /// Whether the configuration is inside the rule's subshift, that is, whether the rule is true at each cell. Tests the cells
+    /// of the configuration's fundamental box in cell order. Allocates nothing.
     pub fn member(&self, periodic: &Periodic) -> Membership
         requires { Fits self.now periodic.now }
         ensures { IsMembership self.now periodic.now result }

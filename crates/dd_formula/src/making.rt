@@ -1,4 +1,4 @@
-//! What a rule keeps for each node: the expansion, and the cells that it reads.
+//! What a rule stores for each node: the expansion, and the cells that the rule reads.
 ghost use Rattle.std.specs.Prelude.{◌≡◌, ◌<◌, ◌≤◌, ◌⊎◌, length, true, false, map, IfOk, IfErr, OnOk, IsTrue, ◌↔◌};
 ghost use Rattle.std.specs.List.{list_all};
 ghost use Rattle.dd_lattice.specs.InOrder.{in_order};
@@ -16,13 +16,13 @@ use dd_topology::{Edge, Sets, Topology};
 use dd_values::Items;
 use std::alloc::{AllocError, Global};
 
-/// How many instances a rule or an automaton may have at a node. The instances of an expansion are its constants, its leaves
-/// and its connectives.
+/// The greatest number of instances that a rule or an automaton may have at a node. The instances of an expansion are its
+/// constants, its leaves and its connectives.
 pub(crate) const MOST_INSTANCES: u32 = 20_000;
-/// How far from the origin a cell that is read may lie, along each axis.
+/// How far away a cell that is read at the origin may lie, along each axis.
 const MOST_REACH: u32 = 16;
 
-/// What a rule keeps beside its formula, its dimension and its number of nodes.
+/// What a rule stores besides its formula, its dimension and its number of nodes.
 #[derive(Drop)]
 pub(crate) struct Parts {
     pub(crate) sets: Sets,
@@ -31,7 +31,7 @@ pub(crate) struct Parts {
     pub(crate) reads: Items<Items<Cell>>,
 }
 
-/// The parts of the rule of a formula, unless the rule passes a limit.
+/// The parts of the rule with this formula, or why there is no such rule: it exceeds a limit, or memory ran out.
 pub(crate) fn parts_of(
     alloc: Global,
     topology: &Topology,
@@ -61,7 +61,7 @@ pub(crate) fn parts_of(
     }
 }
 
-/// The expansion at each node.
+/// The formula's expansion at each node.
 fn expand_at_nodes(
     alloc: Global,
     topology: &Topology,
@@ -85,14 +85,14 @@ fn expand_at_nodes(
     Ok(expansions)
 }
 
-/// Whether the cell lies within the limit of reach.
+/// Whether the cell lies at most `MOST_REACH` away from the origin, along each axis.
 fn is_near(cell: &Cell) -> bool
     ensures { result ≡ is_near cell.now }
 {
     extent(&cell.position) <= MOST_REACH
 }
 
-/// Whether each of the cells lies within the limit of reach.
+/// Whether each of the cells lies at most `MOST_REACH` away from the origin, along each axis.
 pub(crate) fn are_near(cells: &[Cell]) -> bool
     ensures { result ≡ list_all is_near cells.now }
 {
@@ -112,7 +112,7 @@ fn reads_of(alloc: Global, expansion: &Expanded) -> Result<Items<Cell>, RuleFaul
     Ok(Items::from_vec(cells))
 }
 
-/// The cells that each of the expansions reads, in cell order.
+/// For each of the expansions, the cells that it reads, in cell order.
 fn reads_at_nodes(alloc: Global, expansions: &[Expanded]) -> Result<Items<Items<Cell>>, RuleFault>
     ensures ok { IfOk result (λ reads. reads ≡ map (λ e. in_order (leaf_cells e)) expansions.now) }
     ensures near { OnOk result (list_all (λ e. list_all is_near (leaf_cells e)) expansions.now ≡ true) }

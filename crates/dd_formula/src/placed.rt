@@ -4,19 +4,21 @@ ghost use Rattle.dd_formula.specs.Values.{CasesArePlaced, IsPlaced};
 use crate::automaton::{Automaton, Cases};
 
 impl Cases {
-    /// Does nothing. Its contract says that each cell that a rule reads has a position in Z^d and one of the nodes.
+    /// Does nothing. Its contract says that each cell that the rules of the cases read has a position in Z^d and one of the
+    /// rules' nodes.
     pub fn reads_are_placed(&self)
         ensures { CasesArePlaced self.now }
     {
         for (rule, _) in self.cases.as_slice() {
-            // This call brings in a fact: the rule reads cells with its nodes.
+            // This call tells the proof that the rule reads only cells with a position in Z^d and one of the rule's nodes.
             let _nodes = rule.nodes();
         }
     }
 }
 
 impl Automaton {
-    /// Does nothing. Its contract says that each cell that the automaton reads has a position in Z^d and one of the nodes.
+    /// Does nothing. Its contract says that each cell that the automaton reads has a position in Z^d and one of the nodes of its
+    /// rules.
     pub fn reads_are_placed(&self)
         ensures { IsPlaced self.now }
     {

@@ -18,7 +18,7 @@ pub(crate) fn extent(position: &Position) -> u32
     position.x.unsigned_abs().max(along_y_and_z)
 }
 
-/// The greatest distance of any of the cells from the origin, along any axis; 0 if there is no cell.
+/// How far the farthest of the cells lies from the origin: the greatest distance along any axis. 0 if there is no cell.
 pub fn farthest(cells: &[Cell]) -> u32
     ensures { result ≡ farthest cells.now }
 {
@@ -30,7 +30,8 @@ pub fn farthest(cells: &[Cell]) -> u32
 }
 
 impl Rule {
-    /// How far the rule reads from the origin: the greatest distance along any axis, over all nodes. It allocates nothing.
+    /// How far away the rule reads cells when it is evaluated at the origin: the greatest distance along any axis, over all
+    /// nodes. Allocates nothing.
     pub fn reach(&self) -> u32
         ensures value { result ≡ reach self.now }
         ensures near { result ≤ 16 }
@@ -45,7 +46,8 @@ impl Rule {
 }
 
 impl Automaton {
-    /// How far the automaton reads from the origin: the greatest distance along any axis, over the first `nodes` nodes.
+    /// How far away the automaton reads cells when it is evaluated at the origin: the greatest distance along any axis, over the
+    /// first `nodes` nodes.
     pub fn reach_at(&self, alloc: Global, nodes: u32) -> Result<u32, AllocError>
         requires { HasNodes self.now nodes }
         ensures value { IfOk result (λ n. n ≡ automaton_reach nodes self.now) }
@@ -58,7 +60,8 @@ impl Automaton {
         Ok(radius)
     }
 
-    /// How far the automaton reads from the origin: the greatest distance along any axis, over all nodes; 0 if it has no rule.
+    /// How far away the automaton reads cells when it is evaluated at the origin: the greatest distance along any axis, over all
+    /// nodes. 0 if the automaton has no rule.
     pub fn reach(&self, alloc: Global) -> Result<u32, AllocError>
         requires { (s : CommonNumbers) × IsAutomaton s self.now }
         ensures value { IfOk result (λ n. (s : CommonNumbers) → IsAutomaton s self.now → n ≡ automaton_reach s.nodes self.now) }

@@ -1,4 +1,5 @@
-//! Rules. A rule has a formula over a topology and an alphabet. For each node it keeps the expansion and the cells that it reads.
+//! Rules. A rule has a formula over a topology and an alphabet. For each node it stores the formula's expansion, which is the
+//! formula without variables, and the cells that the rule reads.
 ghost use Rattle.std.specs.Prelude.{◌≡◌, ◌<◌, ◌≤◌, length, IfOk, IfErr, OnOk, if◌then◌else◌, Some, None};
 ghost use Rattle.dd_lattice.specs.Place.{Place};
 ghost use Rattle.dd_lattice.specs.Cells.{shifted, cell as at_node};
@@ -20,10 +21,10 @@ use dd_values::Items;
 use std::alloc::{AllocError, Global};
 use std::marker::Model;
 
-/// A local rule: a configuration satisfies it if the rule's formula is true at every cell. A cell is a position with one of 1 to
-/// 4 nodes, and has one of 1 to 16 symbols. At each node the rule has an expansion: its formula without variables. This is a tree
-/// of at most 20,000 constants, leaves and connectives, which are called instances. The rule reads no cell that lies more than 16
-/// away along an axis.
+/// A local rule. A configuration obeys it if the rule's formula is true at every cell. A cell is a position together with one of
+/// 1 to 4 nodes, and it has one of 1 to 16 symbols. At each node the rule has an expansion: its formula without variables. The
+/// expansion is a tree of constants, leaves and connectives. These are called its instances, and there are at most 20,000 of
+/// them. The rule reads no cell that lies more than 16 away along an axis.
 #[derive(Debug, Drop)]
 pub struct Rule {
     dim: u32,
@@ -50,11 +51,11 @@ impl Model for Rule {
 }
 
 impl Rule {
-    /// The rule of a formula over a topology and the symbols that its nodes allow.
+    /// The rule with this formula, over the topology and the symbols that its nodes allow.
     ///
     /// # Errors
-    /// `Instances` where its expansion at some node has more than 20,000 instances; else `Reach` where a cell is read that
-    /// lies more than 16 away along an axis; or `Memory`.
+    /// `Instances` if the expansion at some node has more than 20,000 instances; else `Reach` if the rule reads a cell that lies
+    /// more than 16 away along an axis. `Memory` if memory ran out.
     pub fn new(
         alloc: Global,
         topology: &Topology,
@@ -121,7 +122,7 @@ impl Rule {
         self.nodes
     }
 
-    /// The size of the alphabet, 1 to 16. The nodes allow only symbols below it.
+    /// The size of the alphabet, 1 to 16. Each symbol that a node allows is less than this size.
     pub fn symbols(&self) -> u32
         ensures value { result ≡ self.now.symbols }
         ensures kept { IsRule self.now }
@@ -139,14 +140,15 @@ impl Rule {
         self.sets.allows(node, symbol)
     }
 
-    /// The formula that the rule was made of.
+    /// The formula that the rule was made from.
     pub fn formula(&self) -> &Formula
         ensures { result.now ≡ self.now.formula }
     {
         &self.formula
     }
 
-    /// The rule's formula at a cell with this node, without variables. Its leaves give cells relative to that cell's position.
+    /// The rule's expansion at this node: its formula at a cell with this node, without variables. The cells in the expansion's
+    /// leaves are relative to that cell's position.
     pub fn expansion(&self, node: u32) -> &Expanded
         requires { node < self.now.nodes }
         ensures value { result.now ≡ expansion_at self.now node }
@@ -177,7 +179,8 @@ impl Rule {
 }
 
 impl Rule {
-    /// The truth of the expansion at a cell; `None` where some cell of its leaves has no symbol or lies out of range.
+    /// Whether the expansion is true at a cell. `None` if a cell in one of its leaves has no symbol or lies outside the range of
+    /// positions.
     fn truth_of_expansion<R: Reads>(&self, at: &Cell, read: &R) -> Option<bool>
         requires { at.now.node < self.now.nodes }
         ensures value { let look = seen (R.symbols read.now) at.now.position in
@@ -188,8 +191,8 @@ impl Rule {
         self.expansion(at.node).evaluate(&at.position, read)
     }
 
-    /// Whether the formula is true at a cell; `None` where some cell that the rule reads there has no symbol or lies
-    /// outside the range of positions. It allocates nothing.
+    /// Whether the formula is true at a cell. `None` if some cell that the rule reads there has no symbol or lies outside the
+    /// range of positions. Allocates nothing.
     pub fn truth<R: Reads>(&self, at: &Cell, read: &R) -> Option<bool>
         requires node { at.now.node < self.now.nodes }
         requires symbols { HasSymbolsBelow self.now.symbols (R.symbols read.now) }

@@ -9,7 +9,7 @@ ghost use Rattle.dd_formula.specs.LocalRule.{is_near};
 use dd_lattice::{Cell, Position, shift};
 use std::alloc::AllocError;
 
-/// The sum of two positions that lie near the origin. It is in range.
+/// The sum of two positions near the origin. It lies within the range of positions.
 fn sum_of(p: &Position, by: &Position) -> Position
     requires near { extent p.now ≤ 16 }
     requires by { extent by.now ≤ 16 }

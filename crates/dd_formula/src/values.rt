@@ -15,7 +15,8 @@ use dd_pattern::{Filling, Reads};
 use std::alloc::{AllocError, Global};
 
 impl Cases {
-    /// The symbol of the first case whose rule is true at the cell, else the default symbol. It allocates nothing.
+    /// The symbol of the first case whose rule is true at the cell, or the default symbol if there is no such case. Allocates
+    /// nothing.
     pub fn value<R: Reads>(&self, at: &Cell, read: &R) -> u32
         requires { HasCasesLook self.now at.now (R.symbols read.now) }
         ensures { result ≡ first_case self.now.cases self.now.otherwise (R.symbols read.now) at.now }
@@ -32,8 +33,8 @@ impl Cases {
 }
 
 impl Automaton {
-    /// The symbol that the automaton gives a cell; `None` where some cell that it reads there has no symbol or lies outside
-    /// the range of positions.
+    /// The symbol that the automaton gives a cell. `None` if some cell that it reads there has no symbol or lies outside the
+    /// range of positions.
     pub fn value<R: Reads>(
         &self,
         alloc: Global,
@@ -52,7 +53,7 @@ impl Automaton {
         Ok(Some(symbol))
     }
 
-    /// The value at this node of the origin. `near` has a symbol for each cell that is read there.
+    /// The automaton's value at this node of the origin. `near` must have a symbol for each cell that the automaton reads there.
     #[cycle(value)]
     pub(crate) fn value_near(
         &self,
@@ -71,8 +72,8 @@ impl Automaton {
         }
     }
 
-    /// The composition's value there: the outer automaton's value on the inner one's values at the cells that the outer one
-    /// reads.
+    /// The value of the composition at this node of the origin. First come the inner automaton's values at the cells that the
+    /// outer one reads, and then the outer one's value on these.
     #[cycle(value)]
     pub(crate) fn composed_value(
         alloc: Global,
@@ -90,7 +91,7 @@ impl Automaton {
         outer.value_near(alloc, node, &values)
     }
 
-    /// The values at several cells. `near` has a symbol for each cell that is read for them.
+    /// The automaton's values at the cells. `near` must have a symbol for each cell that the automaton reads at any of them.
     #[cycle(value)]
     pub(crate) fn values_near(
         &self,
@@ -113,7 +114,7 @@ impl Automaton {
     }
 }
 
-/// The cell of the origin with this node.
+/// The cell at the origin with this node.
 fn origin(node: u32) -> Cell
     ensures { result ≡ origin_at node }
 {
@@ -123,8 +124,8 @@ fn origin(node: u32) -> Cell
     }
 }
 
-/// The filling that gives each of these cells the symbol that `read` has there, where the cells are relative to the position
-/// `at`. `None` if one of them has no symbol or lies outside the range of positions.
+/// The filling that gives each of these cells the symbol that `read` has at the cell moved by `at`. `None` if one of the moved
+/// cells has no symbol or lies outside the range of positions.
 fn filling_near<R: Reads>(
     alloc: Global,
     cells: Vec<Cell>,

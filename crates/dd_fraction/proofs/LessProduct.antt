@@ -1,4 +1,4 @@
--- Differences a - q · b: a product and then a sum, or both at once where the numbers fit 16 bits.
+-- Differences a - q · b. They are computed as a product and then a sum, or in one step if the numbers fit 16 bits.
 use Rattle.std.proofs.Common.{◌≡◌, ℕ, ◌+◌, ◌*◌, ◌^◌, ◌<◌, ◌≤◌, refl, sym, ap, subst, ◌∙◌, arith, Some, None, Bool, true, false, cond}
 use Rattle.std.proofs.lemmas.Int.{ints, unsigned_abs-mul, fits_signed_from_abs}
 use Rattle.std.proofs.Math.Nat.{mul-le-mul_right, div-le_self}
@@ -121,7 +121,7 @@ small_words a q b s t u =
       difference = fits_signed_from_abs w64 _ (omega (arith, both, left, right));
     }
 
--- ---- both at once
+-- ---- product and difference in one step
 opposite_product : Exact → Exact → Exact
 opposite_product q b = record { num = neg_ℤ (q.num *ℤ b.num); den = q.den * b.den }
 

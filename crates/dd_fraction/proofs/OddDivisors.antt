@@ -1,4 +1,4 @@
--- If one of two numbers is odd, no factor of 2 in the other is in a common divisor.
+-- If one of two numbers is odd, factors of 2 in the other don't affect their greatest common divisor.
 use Rattle.std.proofs.Common.{◌≡◌, ℕ, zero, suc, ◌+◌, ◌-◌, ◌*◌, ◌/◌, ◌%◌, ◌^◌, ◌<◌, ◌≤◌, sym, ap, subst, ◌∙◌, arith}
 use Rattle.std.proofs.lemmas.Nat.Bits.{bit_at-trailing_zeros, bit_at-suc, bit_at_lowest}
 use Rattle.std.proofs.lemmas.Nat.Gcd.{IsGcd-swap, IsGcd-from_sub, same_from_IsGcd}
@@ -9,13 +9,13 @@ use Rattle.dd_fraction.specs.{Divisor.greatest_common, lemmas.Divisors.greatest_
 pub greatest_common-swap : (a b : ℕ) → greatest_common a b ≡ greatest_common b a
 greatest_common-swap a b = same_from_IsGcd a b _ _ (greatest_common-is a b) (IsGcd-swap b a _ (greatest_common-is b a))
 
--- subtracting the smaller number from the greater keeps the greatest common divisor
+-- subtracting the smaller number from the greater one doesn't change the greatest common divisor
 pub greatest_common-less : (x y : ℕ) → x ≤ y → greatest_common x (y - x) ≡ greatest_common x y
 greatest_common-less x y p =
     let less : IsGcd (y - x) x (greatest_common x (y - x)) = IsGcd-swap x (y - x) _ (greatest_common-is x (y - x)) in
     same_from_IsGcd x y _ _ (IsGcd-swap y x _ (IsGcd-from_sub y x _ p less)) (greatest_common-is x y)
 
--- an odd multiple of m, less the even multiple just below it, is m
+-- an odd multiple of m minus the even multiple just below it is m
 odd_times : (h m : ℕ) → (2 * h + 1) * m - h * (m * 2) ≡ m
 odd_times h m = let e : (2 * h + 1) * m ≡ h * (m * 2) + m = omega arith in omega (arith, e)
 

@@ -1,4 +1,4 @@
--- Sums and products that need no greatest common divisor, or only that of smaller numbers.
+-- Sums and products that are computed without a greatest common divisor, or with that of smaller numbers.
 use Rattle.std.proofs.Common.{◌≡◌, ℕ, suc, ◌+◌, ◌*◌, ◌^◌, ◌<◌, ◌≤◌, ◌-◌, ◌⊎◌, inl, inr, sym, ap, subst, ◌∙◌, arith, Some, true}
 use Rattle.std.proofs.lemmas.{Bool.lt-ltb, Bool.ltb-true, Int.ints, Int.by_lt_z, Int.unsigned_abs-mul}
 use Rattle.std.proofs.lemmas.Nat.Gcd.{same_from_IsGcd}
@@ -79,7 +79,7 @@ less k x y z e p q = subst (λ (n : ℕ). k ∣ n) e (dvd-sub k q p)
 more : (k x y z : ℕ) → y + x ≡ z → k ∣ x → k ∣ y → k ∣ z
 more k x y z e p q = subst (λ (n : ℕ). k ∣ n) e (dvd-add k q p)
 
--- what divides a sum and one part of it divides the other part
+-- a number that divides a sum of two numbers and one of them also divides the other
 part : (k : ℕ) (s t : ℤ) → k ∣ unsigned_abs s → k ∣ unsigned_abs (s +ℤ t) → k ∣ unsigned_abs t
 part k (pos a) (pos b) p q = less k a (unsigned_abs (pos a +ℤ pos b)) b (omega (arith, ints)) p q
 part k (negsuc a) (negsuc b) p q =

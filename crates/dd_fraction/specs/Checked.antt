@@ -1,18 +1,19 @@
--- Sums, products and quotients, if each intermediate number fits: if it is at most 2^127 - 1 in absolute value.
+-- Sums, products and quotients whose intermediate numbers all fit. A number fits, or is bounded, if it is at most 2^127 - 1 in absolute value. A
+-- cross product of two fractions is the numerator of one times the denominator of the other.
 use Rattle.std.specs.Prelude.{◌≡◌, ℕ, suc, ◌*◌, ◌<◌, ◌≤◌, ◌^◌, Bool, not, ◌&&◌, Option, Some, None, cond}
 use Rattle.std.specs.{Bool.nat_eq, Bool.nat_lt, Int.RustNames.unsigned_abs}
 use lib.IntN.{ℤ, pos, negsuc, neg_ℤ, ◌+ℤ◌, ◌*ℤ◌}
 use Rattle.dd_fraction.specs.{Divisor.greatest_common, Exact.Exact, Exact.plus, Exact.times, Exact.minus, Exact.inverse, Exact.lowest}
 
--- at most 2^127 - 1 in absolute value
+-- whether a number is at most 2^127 - 1 in absolute value
 abbrev pub is_bounded : ℤ → Bool
 is_bounded z = nat_lt (unsigned_abs z) (2 ^ 127)
 
--- a number, if it is bounded
+-- the number, if it is bounded
 abbrev pub bounded : ℤ → Option ℤ
 bounded z = cond (is_bounded z) (Some z) None
 
--- a number without sign, if it is bounded
+-- the natural number, if it is bounded
 abbrev pub bounded_size : ℕ → Option ℕ
 bounded_size n = cond (nat_lt n (2 ^ 127)) (Some n) None
 
@@ -29,7 +30,7 @@ pub record IsSmall (a : Exact) : Type 0 where
   pub below : a.den < 2 ^ 16
   pub bounded : unsigned_abs a.num ≤ 2 ^ 15
 
--- whether the products of the numerators and of the denominators fit, before the result is brought to lowest terms
+-- whether the product of the numerators and that of the denominators fit, before the result is brought to lowest terms
 abbrev pub does_product_fit : Exact → Exact → Bool
 does_product_fit a b = is_bounded (a.num *ℤ b.num) && is_bounded (pos (a.den * b.den))
 
@@ -37,7 +38,7 @@ does_product_fit a b = is_bounded (a.num *ℤ b.num) && is_bounded (pos (a.den *
 abbrev pub checked_product : Exact → Exact → Option Exact
 checked_product a b = cond (does_product_fit a b) (Some (times a b)) None
 
--- a over b, as the product of a and 1 over b
+-- the quotient of a and b, as the product of a and 1 / b, if its intermediate numbers fit
 abbrev pub checked_quotient : Exact → Exact → Option Exact
 checked_quotient a b = checked_product a (inverse b)
 

@@ -1,7 +1,7 @@
 -- The greatest common divisor of two natural numbers.
 use Rattle.std.specs.Prelude.{ℕ, zero, suc, ◌%◌}
 
--- at most n steps of Euclid's algorithm (Elements, book VII)
+-- the result of at most n steps of Euclid's algorithm (Elements, book VII)
 abbrev pub common_within : ℕ → ℕ → ℕ → ℕ
 common_within zero a b = a
 common_within (suc n) a zero = a

@@ -1,4 +1,4 @@
--- Exact fractions: a whole number over a whole number of at least 1, both without bound.
+-- Exact fractions: a whole number over a positive whole number, both of any size.
 use Rattle.std.specs.Prelude.{◌≡◌, ℕ, ◌*◌, ◌/◌, ◌<◌, max, suc}
 use Rattle.std.specs.Int.RustNames.{unsigned_abs, int_div}
 use lib.IntN.{ℤ, pos, negsuc, neg_ℤ, ◌+ℤ◌, ◌*ℤ◌}
@@ -8,7 +8,7 @@ pub record Exact : Type 0 where
   pub num : ℤ
   pub den : ℕ
 
--- The denominator. No fraction has the denominator 0; here it counts as 1, so that the laws need no premise.
+-- The denominator, with 1 in place of 0. No fraction has the denominator 0, but with this convention the laws need no premise that excludes it.
 abbrev pub den_of : Exact → ℕ
 den_of a = max 1 a.den
 
@@ -44,7 +44,7 @@ minus a = record { num = neg_ℤ a.num; den = a.den }
 unfoldable pub times : Exact → Exact → Exact
 times a b = lowest (a.num *ℤ b.num) (den_of a * den_of b)
 
--- d over n, where n is not 0; the sign goes to the numerator
+-- d over n, where n is not 0; the numerator gets the sign of n
 abbrev pub one_over : ℤ → ℕ → Exact
 one_over (pos n) d = record { num = pos d; den = n }
 one_over (negsuc n) d = record { num = neg_ℤ (pos d); den = suc n }

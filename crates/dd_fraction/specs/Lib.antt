@@ -1,6 +1,6 @@
 -- exact fractions
 pub mod Exact
--- sums, products and quotients, if their intermediate numbers fit
+-- sums, products and quotients whose intermediate numbers fit
 pub mod Checked
 -- the order of exact fractions
 pub mod Order

@@ -1,5 +1,5 @@
-//! Sums and products of at most 2^127 - 1 in absolute value. Since -2^127 is left out, each number has an opposite. A size
-//! is a number without sign.
+//! Sums and products that are at most 2^127 - 1 in absolute value. Since -2^127 is left out, each number has an opposite. Here
+//! a size is an unsigned number.
 ghost use Rattle.std.specs.Prelude.{◌≡◌, ◌*◌, ◌^◌, ◌≤◌, IfSome, true};
 ghost use Rattle.std.specs.Int.RustNames.{unsigned_abs};
 ghost use lib.IntN.{◌*ℤ◌, ◌+ℤ◌};
@@ -16,7 +16,7 @@ pub fn product(a: i128, b: i128) -> Option<i128>
     }
 }
 
-/// The product of two machine words with a sign, which is never too large.
+/// The product of two signed machine words, which is never too large.
 #[inline(always)]
 fn word_product(a: i64, b: i64) -> i128
     ensures value { result ≡ a *ℤ b }
@@ -46,7 +46,8 @@ pub fn sum(a: i128, b: i128) -> Option<i128>
     }
 }
 
-/// The sum of two machine words with a sign, which is never too large. `None` if one of the two is not such a word.
+/// The sum of two signed machine words, which is never too large. `None` if one of the two numbers is not a signed machine
+/// word.
 #[inline(always)]
 pub fn word_sum(a: i128, b: i128) -> Option<i128>
     ensures value { IfSome result (λ s. s ≡ a +ℤ b) }
@@ -81,7 +82,7 @@ fn wide_size_product(a: u128, b: u128) -> Option<u128>
     }
 }
 
-/// The size, or `None` if it is greater than 2^127 - 1.
+/// Returns the size itself, or `None` if it is greater than 2^127 - 1.
 #[inline(always)]
 fn if_bounded(size: u128) -> Option<u128>
     ensures { result ≡ bounded_size size }

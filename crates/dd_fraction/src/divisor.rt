@@ -1,13 +1,13 @@
-//! The greatest common divisor, by Euclid's algorithm. Once both numbers fit 64 bits, it works in machine words.
+//! The greatest common divisor, by Euclid's algorithm. Once both numbers fit 64 bits, it is computed in machine words.
 ghost use Rattle.std.specs.Prelude.{◌≡◌, ℕ, ◌%◌, ◌<◌, ◌≤◌, ◌/◌, ◌^◌};
 ghost use Rattle.std.specs.Int.RustNames.{unsigned_abs, int_div};
 ghost use lib.IntN.{pos};
 ghost use Rattle.dd_fraction.specs.Divisor.{greatest_common};
 
-/// The greatest machine word.
+/// The greatest unsigned machine word.
 const GREATEST_WORD: u128 = 18_446_744_073_709_551_615;
 
-/// The greatest number that divides both. If one of the two is 0, the result is the other.
+/// The greatest number that divides both. If one of the two is 0, this is the other one.
 #[inline(always)]
 pub fn greatest_common_divisor(a: u128, b: u128) -> u128
     ensures { result ≡ greatest_common a b }
@@ -28,8 +28,8 @@ pub fn greatest_common_divisor(a: u128, b: u128) -> u128
     word_divisor(y as u64, (x % y) as u64) as u128
 }
 
-/// The greatest common divisor of two machine words. Each round makes a step of Euclid's algorithm, and takes out a common
-/// factor of 2 if both numbers are then even. Once one of them is odd, the binary algorithm takes over.
+/// The greatest common divisor of two machine words. Each round makes one step of Euclid's algorithm. If both numbers are even
+/// after it, it also takes out a common factor of 2. Once one of them is odd, the binary algorithm takes over.
 fn word_divisor(a: u64, b: u64) -> u64
     ensures { result ≡ greatest_common a b }
 {
@@ -49,7 +49,8 @@ fn word_divisor(a: u64, b: u64) -> u64
     word_divisor(b / 2, rest / 2) * 2
 }
 
-/// The greatest common divisor of an odd number and another one, by the binary algorithm, which does not divide (Stein 1967).
+/// The greatest common divisor of an odd number and any number, by the binary algorithm, which needs no divisions (Stein
+/// 1967).
 #[inline(always)]
 fn odd_divisor(a: u64, b: u64) -> u64
     requires { a % 2 ≡ 1 }
@@ -91,7 +92,7 @@ pub fn common_divisor(num: i128, den: u128) -> u128
     greatest_common_divisor(num.unsigned_abs(), den)
 }
 
-/// The quotient of a number and a divisor from 1 to 2^127 - 1, rounded toward 0.
+/// The quotient of a number and a divisor, rounded toward 0. The divisor is from 1 to 2^127 - 1.
 #[inline(always)]
 pub fn quotient(num: i128, divisor: u128) -> i128
     requires above { 0 < divisor }
@@ -105,7 +106,7 @@ pub fn quotient(num: i128, divisor: u128) -> i128
     }
 }
 
-/// The quotient of a number without sign and a divisor that is not 0, rounded down.
+/// The quotient of an unsigned number and a divisor other than 0, rounded down.
 #[inline(always)]
 pub fn size_quotient(size: u128, divisor: u128) -> u128
     requires { 0 < divisor }

@@ -1,19 +1,19 @@
 //! Laws of exact fractions, as contracts of calls that do nothing.
 ghost use Rattle.dd_fraction.specs.Laws.{AreSumLaws, AreProductLaws, AreOppositeLaws, AreOrderLaws, AreOrderedFieldLaws};
 
-/// Does nothing; its contract says that addition is commutative and associative, that 0 is neutral, and that a summand may
-/// be cancelled.
+/// Does nothing; its contract says that addition is commutative and associative, that adding 0 changes nothing, and that a
+/// summand common to both sides cancels.
 pub fn sum_laws()
     ensures { AreSumLaws }
 {}
 
-/// Does nothing; its contract says that multiplication is commutative and associative, that 1 is neutral, that each fraction
-/// other than 0 has an inverse, and that multiplication distributes over addition.
+/// Does nothing; its contract says that multiplication is commutative and associative, that multiplying by 1 changes nothing,
+/// that each fraction other than 0 has an inverse, and that multiplication distributes over addition.
 pub fn product_laws()
     ensures { AreProductLaws }
 {}
 
-/// Does nothing; its contract says what the opposite of a sum and of a product is.
+/// Does nothing; its contract says what the opposite of a sum is, and what the opposite of a product is.
 pub fn opposite_laws()
     ensures { AreOppositeLaws }
 {}
@@ -23,8 +23,8 @@ pub fn order_laws()
     ensures { AreOrderLaws }
 {}
 
-/// Does nothing; its contract says that adding, and multiplying by a factor of at least 0, keep the order, and that opposites
-/// reverse it.
+/// Does nothing; its contract says that the order is preserved by adding, and by multiplying by a factor of at least 0, and
+/// that taking opposites reverses it.
 pub fn ordered_field_laws()
     ensures { AreOrderedFieldLaws }
 {}

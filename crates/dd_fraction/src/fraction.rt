@@ -1,4 +1,4 @@
-//! A fraction in lowest terms, and its arithmetic. Contracts see the exact fraction.
+//! Fractions in lowest terms, and their arithmetic. Contracts see the exact fraction.
 ghost use Rattle.std.specs.Prelude.{◌≡◌, ◌≢◌, ◌<◌, ◌^◌, ◌↔◌, Some, IsTrue, IfSome};
 ghost use Rattle.std.specs.Int.RustNames.{unsigned_abs};
 ghost use lib.IntN.{pos};
@@ -13,10 +13,10 @@ use crate::small::Small;
 use std::cmp::Ordering;
 use std::marker::Model;
 
-/// The greatest machine word with a sign.
+/// The greatest signed machine word.
 const GREATEST_SIGNED_WORD: u128 = 9_223_372_036_854_775_807;
 
-/// A fraction in lowest terms. Its denominator is from 1 to 2^127 - 1, and its numerator at most 2^127 - 1 in absolute
+/// A fraction in lowest terms. Its denominator is from 1 to 2^127 - 1, and its numerator is at most 2^127 - 1 in absolute
 /// value. No call allocates memory.
 #[derive(Clone, Copy, Debug, PartialEq, Eq)]
 pub struct Fraction {
@@ -38,7 +38,7 @@ impl Model for Fraction {
 }
 
 impl Fraction {
-    /// `num / den` in lowest terms. `None` if `den` is 0, or one of the two is -2^127.
+    /// `num / den` in lowest terms. `None` if `den` is 0, or if `num` or `den` is -2^127.
     pub fn new(num: i128, den: i128) -> Option<Fraction>
         ensures { result ≡ fraction_of num den }
     {
@@ -51,7 +51,7 @@ impl Fraction {
         Some(reduced(num, den.unsigned_abs()))
     }
 
-    /// A whole number.
+    /// The fraction `num / 1`.
     pub fn whole(num: i64) -> Fraction
         ensures { result ≡ whole_of num }
     {
@@ -70,7 +70,7 @@ impl Fraction {
         self.num
     }
 
-    /// The denominator, at least 1.
+    /// The denominator, which is at least 1.
     pub fn den(&self) -> i128
         ensures value { result ≡ pos self.now.den }
         ensures fraction { IsFraction self.now }
@@ -89,16 +89,16 @@ impl Fraction {
         }
     }
 
-    /// The sum. `None` if a cross product, the sum of the cross products, or the product of the denominators is greater than
-    /// 2^127 - 1 in absolute value, even if the sum in lowest terms would fit. A cross product is a numerator times the other
-    /// denominator.
+    /// The sum. A cross product is the numerator of one summand times the denominator of the other. The result is `None` if a
+    /// cross product, the sum of the two cross products, or the product of the denominators is greater than 2^127 - 1 in
+    /// absolute value. This is so even if the sum in lowest terms would fit.
     #[inline(always)]
     pub fn add(&self, other: &Fraction) -> Option<Fraction>
         ensures { result ≡ checked_sum self.now other.now }
     {
-        // This call tells the proof what the type guarantees.
+        // This read tells the proof what the type guarantees.
         let _ = &other.num;
-        // Adding 0/1 changes nothing: the cross products are 0 and the other's numerator.
+        // Adding 0/1 changes nothing: one cross product is 0, and the other is the other summand's numerator.
         if self.num == 0 && self.den == 1 {
             return Some(*other);
         }
@@ -108,8 +108,8 @@ impl Fraction {
         }
     }
 
-    /// The sum of two fractions with the same denominator, without cross products. `None` if the denominators differ, or one
-    /// of the numbers is not a machine word with a sign. Cross products of such words are never too large.
+    /// The sum of two fractions with the same denominator, without cross products. `None` if the denominators differ, or if
+    /// one of the numbers is not a signed machine word. For such words, cross products are never too large.
     #[inline(always)]
     fn alike_sum(&self, other: &Fraction) -> Option<Fraction>
         ensures { IfSome result (λ s. Some s ≡ checked_sum self.now other.now) }
@@ -121,7 +121,7 @@ impl Fraction {
         Some(reduced(num, self.den))
     }
 
-    /// The sum by cross products.
+    /// The sum, computed by cross products.
     #[inline(never)]
     fn cross_sum(&self, other: &Fraction) -> Option<Fraction>
         ensures { result ≡ checked_sum self.now other.now }
@@ -130,15 +130,15 @@ impl Fraction {
         let right = product(other.num, self.den as i128)?;
         let num = sum(left, right)?;
         let den = size_product(self.den, other.den)?;
-        // One of the two is a whole number. A common divisor of `num` and `den` then divides both the numerator and the
-        // denominator of the other, so it is 1.
+        // One of the two fractions is a whole number. A common divisor of `num` and `den` then divides both the numerator and
+        // the denominator of the other fraction, so it is 1.
         if self.den == 1 || other.den == 1 {
             return Some(in_lowest_terms(num, den));
         }
         Some(reduced(num, den))
     }
 
-    /// The difference. `None` if the sum with the opposite of `other` is `None`.
+    /// The difference, as the sum of `self` and the opposite of `other`. `None` if this sum is `None`.
     #[inline(always)]
     pub fn sub(&self, other: &Fraction) -> Option<Fraction>
         ensures { result ≡ checked_sum self.now (minus other.now) }
@@ -146,22 +146,22 @@ impl Fraction {
         self.add(&other.negate())
     }
 
-    /// The product. `None` if the product of the numerators or of the denominators is greater than 2^127 - 1 in absolute
-    /// value, even if the product in lowest terms would fit.
+    /// The product. `None` if the product of the numerators, or that of the denominators, is greater than 2^127 - 1 in
+    /// absolute value. This is so even if the product in lowest terms would fit.
     #[inline(always)]
     pub fn mul(&self, other: &Fraction) -> Option<Fraction>
         ensures { result ≡ checked_product self.now other.now }
     {
         let num = product(self.num, other.num)?;
         let den = size_product(self.den, other.den)?;
-        // A factor 1 or -1 leaves the other's numerator and denominator as they are, up to the sign.
+        // If one factor is 1 or -1, the product has the numerator and the denominator of the other factor, up to the sign.
         if self.is_unit() || other.is_unit() {
             return Some(in_lowest_terms(num, den));
         }
         Some(reduced(num, den))
     }
 
-    /// `self - factor * other`. `None` if the product is `None`, or the difference after it.
+    /// `self - factor * other`. `None` if the product is `None`, or if its difference from `self` is.
     #[inline(always)]
     pub fn sub_product(&self, factor: &Fraction, other: &Fraction) -> Option<Fraction>
         ensures { result ≡ checked_less_product self.now factor.now other.now }
@@ -192,7 +192,7 @@ impl Fraction {
         self.sub(&product)
     }
 
-    /// Whether it is 1 or -1.
+    /// Whether the fraction is 1 or -1.
     #[inline(always)]
     fn is_unit(&self) -> bool
         ensures { IsTrue result ↔ ((self.now.den ≡ 1) × (unsigned_abs self.now.num ≡ 1)) }
@@ -200,7 +200,7 @@ impl Fraction {
         self.den == 1 && self.num.unsigned_abs() == 1
     }
 
-    /// The quotient by a fraction other than 0. `None` if the product with `1 / other` is `None`.
+    /// The quotient by a fraction other than 0. `None` if the product of `self` and `1 / other` is `None`.
     pub fn div(&self, other: &Fraction) -> Option<Fraction>
         requires { other.now.num ≢ pos 0 }
         ensures { result ≡ checked_quotient self.now other.now }
@@ -208,7 +208,7 @@ impl Fraction {
         self.mul(&other.invert())
     }
 
-    /// 1 over a fraction other than 0.
+    /// The inverse of a fraction other than 0.
     fn invert(&self) -> Fraction
         requires { self.now.num ≢ pos 0 }
         ensures { result ≡ inverse self.now }
@@ -220,7 +220,7 @@ impl Fraction {
         }
     }
 
-    /// How the two fractions compare. No product is computed, so no number is too large.
+    /// Compares the two fractions. No product is computed, so no number is too large.
     pub fn compare(&self, other: &Fraction) -> Ordering
         ensures { result ≡ exact_cmp self.now other.now }
     {

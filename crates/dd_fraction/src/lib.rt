@@ -1,5 +1,5 @@
-//! Exact fractions of two 128-bit numbers. A call returns the exact result, or `None` if an intermediate number is greater
-//! than 2^127 - 1 in absolute value. A machine word is a number of 64 bits, with or without a sign.
+//! Exact fractions whose numerator and denominator are 128-bit numbers. A call returns the exact result, or `None` if an
+//! intermediate number is greater than 2^127 - 1 in absolute value. A machine word is a 64-bit number, with or without a sign.
 #![tactic(auto)]
 
 mod bounded;

@@ -1,11 +1,11 @@
-//! The order of two ratios, without a product. The whole parts are compared first. If they are equal, the inverses of what
-//! remains are compared, as in continued fractions.
+//! Compares two ratios without computing a product. The whole parts are compared first. If they are equal, the inverses of the
+//! remaining fractional parts are compared, as in continued fractions.
 ghost use Rattle.std.specs.Prelude.{◌≡◌, ◌<◌, ◌*◌};
 ghost use Rattle.std.specs.Ordering.{nat_cmp};
 
 use std::cmp::Ordering;
 
-/// The order of `a / b` and `c / d`.
+/// Compares `a / b` with `c / d`.
 pub fn compare_ratios(a: u128, b: u128, c: u128, d: u128) -> Ordering
     requires left { 0 < b }
     requires right { 0 < d }
@@ -19,7 +19,7 @@ pub fn compare_ratios(a: u128, b: u128, c: u128, d: u128) -> Ordering
         (0, 0) => Ordering::Equal,
         (0, _) => Ordering::Less,
         (_, 0) => Ordering::Greater,
-        // Taking inverses reverses the order, so the two change sides.
+        // Taking inverses reverses the order, so the two ratios are swapped.
         (rest, other_rest) => compare_ratios(d, other_rest, b, rest),
     }
 }

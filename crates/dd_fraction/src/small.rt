@@ -1,4 +1,5 @@
-//! Fractions of 16-bit numbers. For them each intermediate number of `a - q * b` is a machine word, so none is too large.
+//! Fractions whose numerator and denominator fit 16 bits. When `a - q * b` is computed for such fractions, each intermediate
+//! number is a machine word, so none is too large.
 ghost use Rattle.std.specs.Prelude.{◌≡◌, ◌<◌, Some, IfSome};
 ghost use Rattle.dd_fraction.specs.Checked.{checked_less_product};
 

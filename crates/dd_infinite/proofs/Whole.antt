@@ -1,5 +1,5 @@
--- Which functions are configurations of a script: the spike and the checkerboard, if its one node allows the symbols 0 and 1; and
--- those that the script defines.
+-- Which functions are configurations with the script's nodes and allowed symbols: the spike and the checkerboard, if the script has one node, which
+-- allows the symbols 0 and 1; and the configurations that the script defines.
 use Rattle.std.proofs.Common.{◌≡◌, ℕ, zero, suc, ◌<◌, ◌+◌, ◌-◌, ◌*◌, ◌%◌, pos, Bool, true, false, length, refl, sym, subst, arith, inl, inr, Contains}
 use Rattle.std.proofs.lemmas.{Bool.and_from, Int.ints, Nat.mod_below, Nat.mod-mul-add}
 use Rattle.std.proofs.lemmas.List.Elements.{All-contains}
@@ -73,13 +73,13 @@ inversion s number a v query asks position is certificate =
 pub has_rows : (s : Parts) → IsScriptOf s → s.known.setting.topology.nodes ≡ 1 → 0 < length s.known.setting.sets.allowed
 has_rows s ok one = let n = ok.known.setting.sets.nodes in let m = ok.known.setting.topology.nodes in omega (arith, n, m, one)
 
--- the node varies fastest in the index of a cell
+-- in the index of a cell the node varies fastest
 node_of : (t : Tile) (c : Cell) → c.node < t.nodes → tile_index t c % t.nodes ≡ c.node
 node_of t c below =
     let p = t.periods in
     mod-mul-add ((residue c.position.z p.z * p.y + residue c.position.y p.y) * p.x + residue (unsheared p c.position) p.x) t.nodes c.node below
 
--- a position reduced by the periods lies in the fundamental box, so the index of a cell's symbol is within the list
+-- a position reduced by the periods lies in the fundamental box, so the index of a cell is below the number of symbols
 number_below : (t : Tile) → IsTile t → IsReadModulo t → (c : Cell) → c.node < t.nodes → tile_index t c < length t.symbols
 number_below t ok read c below =
     let p = t.periods in

@@ -1,5 +1,5 @@
--- Configurations as functions on all cells of Z^d. When an accepted answer excludes a goal from them, or shows that an automaton maps
--- their images back.
+-- Configurations as functions on all cells of Z^d, and what it takes for an accepted answer to exclude a goal from them, or to show that one
+-- automaton maps their images under another back.
 use Rattle.std.specs.Prelude.{ℕ, ◌≡◌, ◌+◌, ◌%◌, true, pos, cond, unsigned_abs, slice_index}
 use Rattle.dd_lattice.specs.{Place.Place, Place.place, declared.position.Cell.Cell}
 use Rattle.dd_topology.specs.Balls.{same_place}
@@ -22,19 +22,20 @@ checkerboard c = (unsigned_abs c.position.x + unsigned_abs c.position.y + unsign
 abbrev pub tiled : Tile → Cell → ℕ
 tiled t c = slice_index t.symbols (tile_index t c)
 
--- the script has one node, which allows all symbols of the spike and of the checkerboard
+-- the script has one node at each position, and it allows all symbols of the spike and of the checkerboard
 pub record IsForBoth (s : Parts) : Type 0 where
   pub spike : IsWhole s 1 spike
   pub checkerboard : IsWhole s 1 checkerboard
 
--- there is a query with this number, from 1; the answer is YES and a certificate of it; v is a position of Z^d
+-- The script has a query with this number, counted from 1. The answer is YES, and it is a certificate for the query. v is a position of Z^d.
 pub record IsExclusion (s : Parts) (number : ℕ) (a : Answer) (v : Place) : Type 0 where
   pub query : HasQuery s number
   pub position : is_flat s.known.setting.topology.dimension v ≡ true
   pub yes : is_yes a ≡ true
   pub certificate : IsCertificate s number a
 
--- The query with this number, from 1, asks about a conjugacy. The answer is CONJUGATE and a certificate of it. v is a position of Z^d.
+-- The script has a query with this number, counted from 1, and it asks about a conjugacy. The answer is CONJUGATE, and it is a certificate for the
+-- query. v is a position of Z^d.
 pub record IsInversion (s : Parts) (number : ℕ) (a : Answer) (v : Place) : Type 0 where
   pub query : HasQuery s number
   pub conjugacy : IsConjugacyAt s number

@@ -1,2 +1,2 @@
--- configurations as functions, and when an accepted answer excludes a goal from them, or shows that their images are mapped back
+-- configurations as functions, and what it takes for an accepted answer to exclude a goal from them, or to show that their images are mapped back
 pub mod Functions

@@ -1,4 +1,4 @@
-//! What an accepted YES says of any configuration.
+//! What an accepted YES says about any configuration.
 ghost use Rattle.std.specs.Prelude.{◌≡◌, ◌↔◌, true, IsTrue, IfOk};
 ghost use Rattle.dd_expansion.specs.Placed.{is_flat};
 ghost use Rattle.dd_checker.specs.Certificates.{HasQuery};
@@ -12,7 +12,7 @@ use dd_pattern::Configuration;
 use dd_script::Script;
 use std::alloc::{AllocError, Global};
 
-/// Whether the script has a query with this number, from 1.
+/// Whether the script has a query with this number, counted from 1.
 pub(crate) fn has_query(script: &Script, query: u32) -> bool
     ensures { IsTrue result ↔ HasQuery script.now query }
 {
@@ -34,12 +34,12 @@ fn is_yes(answer: &Answer) -> bool
 }
 
 /// Whether the answer excludes the query's goal at the position `place` of this configuration. This is so exactly if:
-/// - the script has a query with the number `query`, from 1;
+/// - the script has a query with the number `query`, counted from 1;
 /// - `place` is a position of Z^d;
 /// - the answer is YES, and the check accepts it for this query.
 ///
-/// Then, if the configuration obeys the premise everywhere, the goal does not hold at `place`. For an equality this holds of both
-/// its box questions. `Ok(false)` says nothing of the configuration.
+/// Then, if the configuration obeys the query's premise everywhere, the goal doesn't hold at `place`. If the query asks about an
+/// equality, this is so for both its box questions. `Ok(false)` says nothing about the configuration.
 ///
 /// # Errors
 /// `AllocError` if memory ran out.

@@ -1,4 +1,4 @@
-//! Two configurations that are functions on all cells, and the configurations of a script.
+//! Configurations as functions on all cells: the spike, the checkerboard, and the configurations of a script.
 ghost use Rattle.std.specs.Prelude.{◌≡◌, ◌↔◌, IsTrue, IfSome, slice_get};
 ghost use Rattle.std.specs.Option.{option_copied};
 ghost use Rattle.dd_checker.specs.Lifted.{IsWhole};
@@ -29,7 +29,8 @@ impl Configuration for Spike {
     }
 }
 
-/// The symbol 1 at positions an odd number of steps from the origin, and 0 at all others. A step goes 1 along an axis.
+/// The symbol 1 at the positions that are an odd number of steps from the origin, and 0 at all others. A step changes one
+/// coordinate by 1.
 #[derive(Debug, Clone, Copy)]
 pub struct Checkerboard;
 
@@ -62,7 +63,8 @@ pub fn allows_both(script: &Script) -> bool
     sets.allows(0, 1)
 }
 
-/// The script's configuration with this number, from 0, if there is one. At each cell it has a symbol that the node allows.
+/// The script's configuration with this number, counted from 0, if there is one. At each cell it has a symbol that the cell's node
+/// allows.
 pub fn configuration(script: &Script, number: usize) -> Option<&Periodic>
     ensures value { option_copied result ≡ slice_get script.now.configurations number }
     ensures whole { IfSome result (λ p. IsWhole script.now p.now.nodes (tiled p.now)) }

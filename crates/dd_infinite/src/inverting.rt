@@ -1,4 +1,4 @@
-//! What an accepted CONJUGATE says of any configuration.
+//! What an accepted CONJUGATE says about any configuration.
 ghost use Rattle.std.specs.Prelude.{◌≡◌, ◌↔◌, true, IsTrue, IfOk};
 ghost use Rattle.dd_checker.specs.Lifted.{whole_look, IsWhole};
 ghost use Rattle.dd_checker.specs.Inverses.{is_conjugate, IsConjugacy, IsConjugacyAt, AreInverseIn};
@@ -20,7 +20,7 @@ fn is_conjugacy(query: &Query) -> bool
     matches!(query, Query::Conjugate { .. })
 }
 
-/// Whether the query with this number, from 1, asks about a conjugacy. The number 0 stands for 1.
+/// Whether the query with this number, counted from 1, asks about a conjugacy. The number 0 is taken as 1.
 fn asks_conjugacy(script: &Script, query: u32) -> bool
     ensures { IsTrue result ↔ IsConjugacyAt script.now query }
 {
@@ -39,13 +39,13 @@ fn is_conjugate(answer: &Answer) -> bool
 
 /// Whether the answer shows that the query's automata are inverse maps at the position `place` of this configuration. This is so
 /// exactly if:
-/// - the script has a query with the number `query`, from 1, and it asks about a conjugacy;
+/// - the script has a query with the number `query`, counted from 1, and it asks about a conjugacy;
 /// - `place` is a position of Z^d;
 /// - the answer is CONJUGATE, and the check accepts it for this query.
 ///
-/// Then, if the configuration obeys the first rule everywhere, its image under the first automaton has allowed symbols and obeys the
-/// second rule at `place`; the second automaton takes the image back to the configuration's symbols there. The same holds with rules
-/// and automata exchanged. `Ok(false)` says nothing of the configuration.
+/// Then, if the configuration obeys the first rule everywhere, its image under the first automaton has allowed symbols and obeys
+/// the second rule at `place`, and the second automaton takes the image back to the configuration's symbols there. The same holds
+/// with the two rules exchanged and the two automata exchanged. `Ok(false)` says nothing about the configuration.
 ///
 /// # Errors
 /// `AllocError` if memory ran out.

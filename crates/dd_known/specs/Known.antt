@@ -1,4 +1,4 @@
--- The dimension of what is known, and the names that a word of a query may be.
+-- The dimension of a script's lattice, and the names that a word of a query may be.
 use Rattle.std.specs.Prelude.{ℕ, List}
 use Rattle.dd_known.specs.Tree.{Role, Known}
 

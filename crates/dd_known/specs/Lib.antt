@@ -1,8 +1,8 @@
--- the types of what is known
+-- the types of what a script has defined so far
 pub mod Tree
 -- the limits on what a script may write
 pub mod Limits
--- the dimension of what is known, and the names that a word of a query may be
+-- the dimension of a script's lattice, and the names that a word of a query may be
 pub mod Known
 -- what always holds of what a script has defined
 pub mod Sound

@@ -33,7 +33,7 @@ most_moves = 16
 abbrev pub most_balls : ℕ
 most_balls = 4
 
--- the greatest number of cells in the box of a configuration
+-- the greatest number of cells in the fundamental box of a configuration, the box that repeats
 abbrev pub most_in_box : ℕ
 most_in_box = 65536
 

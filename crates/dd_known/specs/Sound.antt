@@ -9,7 +9,7 @@ pub record IsGridOf (n : ℕ) (g : Grid) : Type 0 where
   pub grid : IsGrid g
   pub nodes : g.nodes ≡ n
 
--- the nodes, symbols, topology and sets fit together, and the numbers of nodes and of symbols are within their limits
+-- the nodes, the symbols, the topology and the sets of allowed symbols fit together, and the numbers of nodes and of symbols are within their limits
 pub record IsSetting (s : Setting) : Type 0 where
   pub topology : IsGridOf (length s.nodes) s.topology
   pub nodes : (1 ≤ length s.nodes) × (length s.nodes ≤ most_nodes)

@@ -4,7 +4,7 @@ use dd_topology::{Names, Sets, Topology};
 use dd_values::{Items, Limits};
 use dd_written::Text;
 
-/// What formulas may refer to. The topology also gives the labels of moves.
+/// What formulas may refer to: nodes, symbols, and moves, whose labels come from the topology.
 #[derive(Drop)]
 pub struct Setting {
     /// The names of the nodes, in the order of their numbers.
@@ -28,7 +28,7 @@ pub struct Known {
     pub weights: Items<u32>,
     /// The limits of the searches.
     pub limits: Limits,
-    /// The names of the rules. Rules, automata and configurations have no name in common.
+    /// The names of the rules. Rules, automata and configurations never share a name.
     pub rules: Names,
     /// The names of the automata.
     pub automata: Names,

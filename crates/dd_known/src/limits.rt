@@ -24,7 +24,7 @@ pub const MOST_MOVES: usize = 16;
 /// The greatest number of balls of a quantifier.
 pub const MOST_BALLS: usize = 4;
 
-/// The greatest number of cells in the box of a configuration.
+/// The greatest number of cells in the fundamental box of a configuration, the box that repeats.
 pub const MOST_IN_BOX: usize = 65_536;
 
 /// The greatest number of vectors of a discharge.
@@ -36,5 +36,5 @@ pub const FARTHEST: u32 = 4;
 /// The greatest period of a strip.
 pub const LONGEST_STRIP: u32 = 64;
 
-/// More names, edges, vectors or symbols than any script has.
+/// More names, edges, vectors or symbols than any script can have.
 pub const TOO_MANY: usize = 4_000_000;

@@ -1,4 +1,4 @@
--- Runs of copies of a region along an axis, and the three runs that make its growth.
+-- Runs of copies of a region along an axis, and how a run along each of the first axes makes the region grow.
 use Rattle.std.proofs.Common.{◌≡◌, ◌⊎◌, inl, inr, ℕ, ◌<◌, ◌≤◌, Bool, true, false, ℤ, pos, negsuc, ◌+ℤ◌, ◌-ℤ◌, ◌≤ℤ◌, List, [], ◌∷◌, ap, sym, refl, ◌∙◌, arith}
 use Rattle.std.proofs.lemmas.{Int.ints, Bool.Decides.nat_tests, List.Elements.All-nil}
 use Rattle.std.specs.{Prelude.◌<ℤ◌, List.Contains, List.Sorted.IsStrictlySortedBy, Cmp.int_ranks, Ordering.int_cmp, Ordering.MatchOrdering}
@@ -63,7 +63,7 @@ run_weaker axis low high last ps more p h =
     let most = h.most in
     record { origin = h.origin; member = h.member; steps = h.steps; least = h.least; most = omega (arith, ints); is = h.is }
 
--- a run and its copy moved by at most its length are a longer run
+-- the union of a run and a copy of it, moved by at most the run's length, is a longer run
 pub longer_run : (axis : Axis) (low high s : ℤ) (ps run : List Place) → pos 0 ≤ℤ s → IsRegionOf (IsStretched axis low high ps) run →
     (p : Place) → IsExtended axis s run p → IsStretched axis low (high +ℤ s) ps p
 longer_run axis low high s ps run some region p (inl c) =
@@ -112,7 +112,7 @@ run_extended axis low high s ps run some short region p h =
           inr (q, member, h.is ∙ (ap (λ c. moved h.origin (along axis c)) (sym steps_are) ∙ sym (moved_twice axis h.origin (h.steps -ℤ s) s))))
     ]
 
--- the run along the first axis
+-- the run along the first axis has exactly the positions near the list on this axis
 pub near_from_x : (n : ℕ) (ps : List Place) (p : Place) → IsStretched X (pos 0 -ℤ pos n) (pos n +ℤ pos 1) ps p → IsNearby 1 n ps p
 near_from_x n ps p h =
     let least = h.least in
@@ -138,7 +138,7 @@ x_from_near n ps p h =
       is = same_place _ _ (omega (arith, ints)) (omega (arith, ints)) (omega (arith, ints));
     }
 
--- the run along the second axis of what is near on the first
+-- the run along the second axis, applied to what is near the list on the first axis, has exactly the positions near the list on the first two
 pub near_from_y : (n : ℕ) (ps mid : List Place) → IsRegionOf (IsNearby 1 n ps) mid → (p : Place) → IsStretched Y (pos 0 -ℤ pos n) (pos n +ℤ pos 1) mid p → IsNearby 2 n ps p
 near_from_y n ps mid region p h =
     let before = (region.members h.origin).0 h.member in
@@ -176,7 +176,7 @@ y_from_near n ps mid region p h =
       is = same_place _ _ (omega (arith, ints)) (omega (arith, ints)) (omega (arith, ints));
     }
 
--- the run along the third axis of what is near on the first two
+-- the run along the third axis, applied to what is near the list on the first two axes, has exactly the positions near the list on all three
 pub near_from_z : (n : ℕ) (ps mid : List Place) → IsRegionOf (IsNearby 2 n ps) mid → (p : Place) → IsStretched Z (pos 0 -ℤ pos n) (pos n +ℤ pos 1) mid p → IsNearby 3 n ps p
 near_from_z n ps mid region p h =
     let before = (region.members h.origin).0 h.member in
@@ -223,7 +223,7 @@ axis_more n false false c up h = h
 active_more : (d e axis : ℕ) → d ≤ e → is_active d axis ≡ true → is_active e axis ≡ true
 active_more d e axis h a = grind (arith, nat_tests)
 
--- a position near the list on the first d axes, and at distance 0 on the others, is near it on more axes
+-- a position that is near the list on the first d axes, and at distance 0 on the others, is also near it on the first e axes, if e is at least d
 pub near_more : (d e n : ℕ) (ps : List Place) → d ≤ e → (p : Place) → IsNearby d n ps p → IsNearby e n ps p
 near_more d e n ps more p h =
     let v = seen_from h.0 p in (
@@ -259,7 +259,7 @@ far_leaves n (q ∷ ps) some far =
       outside = λ near. c.2 near.0;
     }
 
--- the regions after the runs along each axis, and their faults, for a growth on at least that many axes
+-- the region after the run along each axis, and the faults of that run in a growth along at least that many axes
 pub grown_x : (n : ℕ) (ps run : List Place) → IsRegionOf (IsStretched X (pos 0 -ℤ pos n) (pos n +ℤ pos 1) ps) run → IsRegionOf (IsNearby 1 n ps) run
 grown_x n ps run = region_same _ _ run (near_from_x n ps) (x_from_near n ps)
 

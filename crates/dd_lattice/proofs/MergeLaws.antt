@@ -1,4 +1,4 @@
--- A walk through two ascending lists that takes the lesser of the next positions gives their union.
+-- A walk through two ascending lists that always takes the lesser of their next positions gives the union of the lists.
 use Rattle.std.proofs.Common.{◌≡◌, ◌↔◌, inl, inr, ℕ, ◌+◌, ◌<◌, ◌≤◌, List, [], ◌∷◌, ◌++◌, get_or, length, take, drop, sym, ap, subst, refl, ◌∙◌, arith}
 use Rattle.std.proofs.Math.Seq.{take-add}
 use Rattle.std.proofs.lemmas.List.{append-nil, drop-drop, drop_more, take-append-drop, drop_all, take_all}
@@ -10,7 +10,7 @@ use Rattle.dd_lattice.specs.listing.Merge.{next_position, from_left, from_right}
 use Rattle.dd_lattice.specs.lemmas.InOrderLaws.{places_equal, place_total}
 use Rattle.dd_values.specs.lemmas.Members.{All-from_contains, Contains-first, Contains-later, Contains-cons_cases, Contains-nil, sorted_append, sorted_push, sorted_first, sorted_rest}
 
--- the walk has merged the parts of both lists that it took; they come before what is left of either list
+-- `made` is the union of `left` and `right`, the parts of the two lists that the walk has taken; its positions come before the rest of either list
 pub record IsMerged (left left_rest right right_rest made : List Place) : Type 0 where
   pub ascending : IsStrictlySortedBy place_cmp made
   pub left_ascending : IsStrictlySortedBy place_cmp left_rest
@@ -34,7 +34,7 @@ swap_either : (left right : List Place) (p : Place) → IsInEither left right p 
 swap_either left right p (inl c) = inr c
 swap_either left right p (inr c) = inl c
 
--- the same with the two lists exchanged
+-- the same, with the two lists exchanged
 merged_swap : (l lr r rr made : List Place) → IsMerged l lr r rr made → IsMerged r rr l lr made
 merged_swap l lr r rr made m = record {
   ascending = m.ascending;
@@ -45,7 +45,7 @@ merged_swap l lr r rr made m = record {
   before_right = m.before_left;
 }
 
--- the members, after one position is added to the left list and to the merged one
+-- the members are still right after one position is appended to the left part and to the merged list
 members_push : (l r made : List Place) (x : Place) → ((p : Place) → Contains made p ↔ IsInEither l r p) →
     (p : Place) → Contains (made ++ x ∷ []) p ↔ IsInEither (l ++ x ∷ []) r p
 members_push l r made x same p = (
@@ -65,7 +65,7 @@ members_push l r made x same p = (
   ],
 )
 
--- if a list and one more position come before q, the list with that position does too
+-- if all positions of a list and one more position come before q, then so do all positions of the list with that position appended
 before_push : (made : List Place) (x q : Place) → ((p : Place) → Contains made p → place_cmp p q ≡ Less) → place_cmp x q ≡ Less →
     (p : Place) → Contains (made ++ x ∷ []) p → place_cmp p q ≡ Less
 before_push made x q old new p c = elim (Contains-push_cases made x p c) [
@@ -73,7 +73,7 @@ before_push made x q old new p c = elim (Contains-push_cases made x p c) [
   | inr is ↦ subst (λ z. place_cmp z q ≡ Less) is new
 ]
 
--- the walk takes the next position on the left, which comes before all that is left on the right
+-- the walk takes the next position of the left list, which comes before the rest of the right list
 take_left : (l lr r rr made : List Place) (x : Place) → IsMerged l (x ∷ lr) r rr made → ((q : Place) → Contains rr q → place_cmp x q ≡ Less) →
     IsMerged (l ++ x ∷ []) lr r rr (made ++ x ∷ [])
 take_left l lr r rr made x m first = record {
@@ -85,7 +85,7 @@ take_left l lr r rr made x m first = record {
   before_right = λ p q c d. before_push made x q (λ z e. m.before_right z q e d) (first q d) p c;
 }
 
--- the members, after a position that the left list has too is added to the right list
+-- the members are still right after a position that the left part already has is appended to the right part
 members_both : (l r made : List Place) (x : Place) → Contains l x → ((p : Place) → Contains made p ↔ IsInEither l r p) →
     (p : Place) → Contains made p ↔ IsInEither l (r ++ x ∷ []) p
 members_both l r made x has same p = (
@@ -99,7 +99,7 @@ members_both l r made x has same p = (
   ],
 )
 
--- the walk takes the next position of both
+-- the walk takes the next position of both lists, which is the same
 take_both : (l lr r rr made : List Place) (x : Place) → IsMerged l (x ∷ lr) r (x ∷ rr) made →
     IsMerged (l ++ x ∷ []) lr (r ++ x ∷ []) rr (made ++ x ∷ [])
 take_both l lr r rr made x m =
@@ -120,7 +120,7 @@ take_both l lr r rr made x m =
       before_right = taken.before_right;
     }
 
--- a position before the first of an ascending list comes before all of it
+-- a position that comes before the first position of an ascending list comes before all of the list
 before_all : (x y : Place) (ys : List Place) → IsStrictlySortedBy place_cmp (y ∷ ys) → place_cmp x y ≡ Less → (q : Place) → Contains (y ∷ ys) q → place_cmp x q ≡ Less
 before_all x y ys up less q c = elim (Contains-cons_cases y ys q c) [
   | inl is ↦ subst (λ z. place_cmp x z ≡ Less) is less
@@ -146,7 +146,7 @@ one_step l lr r rr made x y Greater h m =
 next_on : (xs : List Place) (i : ℕ) (x : Place) → i < length xs → x ≡ get_or xs i x → drop i xs ≡ x ∷ drop (i + 1) xs
 next_on xs i x below is = drop_more xs i x below ∙ ap (λ z. z ∷ drop (i + 1) xs) (sym is)
 
--- one step of the walk, by the numbers of positions taken
+-- one step of the walk, where i and j positions have been taken from the two lists
 pub merged_step : (xs ys made : List Place) (i j : ℕ) (x y : Place) → i < length xs → j < length ys → x ≡ get_or xs i x → y ≡ get_or ys j y →
     IsMerged (take i xs) (drop i xs) (take j ys) (drop j ys) made →
     IsMerged (take (i + from_left (place_cmp x y)) xs) (drop (i + from_left (place_cmp x y)) xs) (take (j + from_right (place_cmp x y)) ys) (drop (j + from_right (place_cmp x y)) ys) (made ++ next_position (place_cmp x y) x y ∷ [])

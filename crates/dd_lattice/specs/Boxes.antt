@@ -1,4 +1,4 @@
--- Boxes of positions, and the numbers of a box's positions in cell order.
+-- Boxes of positions. The positions of a box are numbered from 0 in cell order.
 use Rattle.std.specs.Prelude.{ℕ, zero, suc, ◌+◌, ◌*◌, ◌/◌, ◌%◌, ◌≡◌, Bool, true, false, cond, nat_lt, ℤ, pos, ◌+ℤ◌, ◌-ℤ◌, ◌≤ℤ◌, ◌<ℤ◌, unsigned_abs, List, [], ◌∷◌, ◌++◌}
 use Rattle.dd_lattice.specs.Place.{Place, place, most_coordinate, IsInRange}
 
@@ -8,7 +8,7 @@ pub record IsAtMostOnEachAxis (p q : Place) : Type 0 where
   pub on_y : p.y ≤ℤ q.y
   pub on_z : p.z ≤ℤ q.z
 
--- the least and the greatest coordinates of a box
+-- the two corners of a box: its least and its greatest coordinate on each axis
 pub record Bounds : Type 0 where
   pub low : Place
   pub high : Place
@@ -27,7 +27,7 @@ IsWithin b p = IsAtMostOnEachAxis b.low p × IsAtMostOnEachAxis p b.high
 abbrev pub is_active : ℕ → ℕ → Bool
 is_active d axis = nat_lt axis d
 
--- the coordinate satisfies P if its axis is active, and else is 0
+-- on an active axis the coordinate satisfies P, and on any other axis it is 0
 abbrev pub OnAxis : Bool → (ℤ → Type 0) → ℤ → Type 0
 OnAxis true P c = P c
 OnAxis false P c = c ≡ pos 0
@@ -54,7 +54,7 @@ pub record IsInSide (d n : ℕ) (p : Place) : Type 0 where
   pub on_y : OnAxis (is_active d 1) (IsAmong n) p.y
   pub on_z : OnAxis (is_active d 2) (IsAmong n) p.z
 
--- the greatest coordinate of B(n) on an axis, which is active or not
+-- the greatest coordinate of B(n) on an axis: n if the axis is active, else 0
 abbrev pub spread : Bool → ℕ → ℕ
 spread active n = cond active n 0
 
@@ -66,11 +66,11 @@ centred d n =
     let z = spread (is_active d 2) n in
     record { low = place (pos 0 -ℤ pos x) (pos 0 -ℤ pos y) (pos 0 -ℤ pos z); high = place (pos x) (pos y) (pos z) }
 
--- the distance of a and b
+-- the distance between a and b
 abbrev pub gap : ℤ → ℤ → ℕ
 gap a b = unsigned_abs (b -ℤ a)
 
--- the greatest gap of two coordinates in range
+-- the greatest gap between two coordinates in range
 abbrev pub most_gap : ℕ
 most_gap = 2 * most_coordinate
 
@@ -86,7 +86,7 @@ volume b = span b.low.x b.high.x * (span b.low.y b.high.y * span b.low.z b.high.
 abbrev pub index_in : Bounds → Place → ℕ
 index_in b p = (gap b.low.z p.z * span b.low.y b.high.y + gap b.low.y p.y) * span b.low.x b.high.x + gap b.low.x p.x
 
--- the position that has the number i in the box
+-- the position with the number i in the box
 abbrev pub place_in : Bounds → ℕ → Place
 place_in b i =
     let w = span b.low.x b.high.x in

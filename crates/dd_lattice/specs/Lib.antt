@@ -1,8 +1,8 @@
--- positions, and the range of those that code can hold
+-- positions, and which of them are in range, so that code can hold them
 pub mod Place
--- cells: a position and a node
+-- cells: a cell is a position and the number of a node
 pub mod Cells
--- cell order
+-- cell order: by z, then y, then x, then the node
 pub mod Order
 -- the cells of a list in cell order, each once
 pub mod InOrder
@@ -10,7 +10,7 @@ pub mod InOrder
 pub mod Boxes
 -- finite sets of positions in range
 pub mod Regions
--- definitions for the loops that merge regions and that let them grow
+-- definitions for the loops that merge and grow regions
 pub mod listing
 -- lemmas on these definitions, with their proofs
 pub mod lemmas

@@ -1,4 +1,4 @@
--- Positions of Z^3, and the range of those that code can hold.
+-- Positions of Z^3. A position is in range if each coordinate is at most 2^20 in absolute value. Code can hold exactly the positions in range.
 use Rattle.std.specs.Prelude.{ℕ, ℤ, pos, negsuc, ◌+ℤ◌, ◌≤ℤ◌, int_le, Bool, ◌&&◌}
 
 -- a position of Z^3, in range or not
@@ -18,14 +18,14 @@ moved p by = place (p.x +ℤ by.x) (p.y +ℤ by.y) (p.z +ℤ by.z)
 abbrev pub most_coordinate : ℕ
 most_coordinate = 1048576
 
--- from -most_coordinate, which is the negative successor of 1048575, to most_coordinate
+-- c is from -most_coordinate, which is written negsuc 1048575, to most_coordinate
 abbrev pub IsCoordinateInRange : ℤ → Type 0
 IsCoordinateInRange c = (negsuc 1048575 ≤ℤ c) × (c ≤ℤ pos most_coordinate)
 
 abbrev pub IsInRange : Place → Type 0
 IsInRange p = IsCoordinateInRange p.x × IsCoordinateInRange p.y × IsCoordinateInRange p.z
 
--- the two properties above as tests
+-- the two properties above, as tests
 abbrev pub is_coordinate_in_range : ℤ → Bool
 is_coordinate_in_range c = int_le (negsuc 1048575) c && int_le c (pos most_coordinate)
 

@@ -19,13 +19,13 @@ pub record IsRegionOf (S : PlaceSet) (ps : List Place) : Type 0 where
   pub region : IsRegion ps
   pub members : (p : Place) → Contains ps p ↔ S p
 
--- some member of S, a set of things that have positions, has its position out of range
+-- S is a set of things that have positions, and some member of S has a position out of range
 pub record LeavesRangeAt {X : Type 0} (position : X → Place) (S : X → Type 0) : Type 0 where
   pub at : X
   pub member : S at
   pub outside : IsInRange (position at) → ⊥
 
--- the fault is a reason why the list of a set isn't made: `Range` only if some member's position is out of range
+-- the fault is a valid reason for not listing the set S: `Range` is one only if some member's position is out of range, and `Memory` always is
 abbrev pub IsFaultAt : {X : Type 0} → (X → Place) → (X → Type 0) → LatticeFault → Type 0
 IsFaultAt position S Range = LeavesRangeAt position S
 IsFaultAt position S Memory = Unit {0}
@@ -34,11 +34,11 @@ IsFaultAt position S Memory = Unit {0}
 abbrev pub LeavesRange : PlaceSet → Type 0
 LeavesRange S = LeavesRangeAt (λ (p : Place). p) S
 
--- as IsFaultAt, for a set of positions
+-- IsFaultAt for a set of positions
 abbrev pub IsFaultOf : PlaceSet → LatticeFault → Type 0
 IsFaultOf S = IsFaultAt (λ (p : Place). p) S
 
--- p is in one of the two lists, or in both
+-- p is in at least one of the two lists
 abbrev pub IsInEither : List Place → List Place → PlaceSet
 IsInEither ps qs p = Contains ps p ⊎ Contains qs p
 
@@ -50,6 +50,6 @@ IsMoved ps v p = (q : Place) × Contains ps q × (p ≡ moved q v)
 abbrev pub seen_from : Place → Place → Place
 seen_from q p = place (p.x -ℤ q.x) (p.y -ℤ q.y) (p.z -ℤ q.z)
 
--- p is at a distance of at most n from some position of the list on each of the first d axes, and of 0 on the others
+-- for some position of the list, the distance from p is at most n on each of the first d axes, and 0 on the others
 abbrev pub IsNearby : ℕ → ℕ → List Place → PlaceSet
 IsNearby d n ps p = (q : Place) × Contains ps q × IsCentred d n (seen_from q p)

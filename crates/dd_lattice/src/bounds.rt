@@ -1,4 +1,4 @@
-//! Boxes of positions. A box's positions are numbered from 0 in cell order: by z, then y, then x.
+//! Boxes of positions. The positions of a box are numbered from 0 in cell order: by z, then y, then x.
 ghost use Rattle.std.specs.Prelude.{◌≡◌, ℕ, ◌+◌, ◌*◌, ◌<◌, ◌≤◌, ℤ, pos, ◌+ℤ◌, ◌-ℤ◌, ◌≤ℤ◌, IsTrue, ◌↔◌, MatchOption, IfSome, unsigned_abs, nat_le, nat_lt, if◌then◌else◌};
 ghost use Rattle.dd_lattice.specs.Place.{Place, IsCoordinateInRange, IsInRange, place, most_coordinate};
 ghost use Rattle.dd_lattice.specs.Boxes.{IsAtMostOnEachAxis, IsBox, IsWithin, IsCentred, centred, spread, gap, most_gap, volume, index_in, place_in};
@@ -25,7 +25,7 @@ impl Model for Box3 {
     ghost inverse = { λ b. record { low = b.low; high = b.high } };
 }
 
-/// The greatest coordinate of a centred box on an axis. The axes are numbered from 0.
+/// The greatest coordinate of the centred box of this radius on this axis. The axes are numbered from 0.
 fn spread(axis: u32, dim: u32, radius: i32) -> i32
     requires { pos 0 ≤ℤ radius }
     ensures value { result ≡ pos (spread (nat_lt axis dim) (unsigned_abs radius)) }
@@ -35,7 +35,7 @@ fn spread(axis: u32, dim: u32, radius: i32) -> i32
     if axis < dim { radius } else { 0 }
 }
 
-/// The centred box of a radius that is at most 2^20. See `centred_box`.
+/// The centred box of this radius, which is at most 2^20. See `centred_box`.
 fn around_origin(dim: u32, radius: u32) -> Box3
     requires { radius ≤ most_coordinate }
     ensures { result ≡ centred dim radius }
@@ -53,8 +53,8 @@ fn around_origin(dim: u32, radius: u32) -> Box3
     }
 }
 
-/// The centred box of a radius: all positions whose first `dim` coordinates are at most `radius` in absolute value
-/// and whose other coordinates are 0. `None` if the radius is over 2^20.
+/// The centred box of this radius: all positions whose first `dim` coordinates are at most `radius` in absolute value and whose
+/// other coordinates are 0. `None` if the radius exceeds 2^20.
 pub fn centred_box(dim: u32, radius: u32) -> Option<Box3>
     requires least { 1 ≤ dim }
     requires most { dim ≤ 3 }
@@ -85,7 +85,7 @@ fn is_at_most(p: &Position, q: &Position) -> bool
     true
 }
 
-/// How many steps lead from `from` up to `to` on each axis.
+/// The number of steps from `from` up to `to` on each axis.
 fn steps_between(from: &Position, to: &Position) -> Steps
     requires { IsAtMostOnEachAxis from.now to.now }
     ensures x { result.x ≡ gap from.now.x to.now.x }
@@ -121,7 +121,7 @@ impl Box3 {
         is_at_most(&self.low, p) && is_at_most(p, &self.high)
     }
 
-    /// The number of a position of the box.
+    /// The number that the position has in the box. See `index_of`.
     fn number(&self, p: &Position) -> u64
         requires { IsWithin self.now p.now }
         ensures value { result ≡ index_in self.now p.now }
@@ -132,7 +132,7 @@ impl Box3 {
         (there.z * (all.y + 1) + there.y) * (all.x + 1) + there.x
     }
 
-    /// The position with this number, which is below the volume.
+    /// The position with this number in the box. The number is below the volume.
     fn place(&self, index: u64) -> Position
         requires { index < volume self.now }
         ensures { result ≡ place_in self.now index }
@@ -150,7 +150,8 @@ impl Box3 {
         )
     }
 
-    /// The number of `p` in the box: how many of its positions come before `p` in cell order. `None` if `p` is outside.
+    /// The number of `p` in the box: how many positions of the box come before `p` in cell order. `None` if `p` is outside the
+    /// box.
     pub fn index_of(&self, p: &Position) -> Option<u64>
         ensures value { MatchOption result (IsWithin self.now p.now → ⊥) (λ i. (i < volume self.now) × (i ≡ index_in self.now p.now)) }
         ensures undone { IfSome result (λ i. place_in self.now i ≡ p.now) }
@@ -162,7 +163,7 @@ impl Box3 {
         }
     }
 
-    /// The position that has this number in the box. `None` if the number is not below the volume.
+    /// The position with this number in the box. `None` if the number isn't below the volume.
     pub fn position_at(&self, index: u64) -> Option<Position>
         ensures value { MatchOption result (volume self.now ≤ index) (λ p. p ≡ place_in self.now index) }
         ensures within { IfSome result (IsWithin self.now) }
@@ -176,7 +177,7 @@ impl Box3 {
     }
 }
 
-/// The position that is `x`, `y` and `z` steps above `low` on the three axes, and not above `high`.
+/// The position that is `x`, `y` and `z` steps above `low` on the three axes. It isn't above `high` on any axis.
 fn raised(low: &Position, high: &Position, x: u64, y: u64, z: u64) -> Position
     requires { IsAtMostOnEachAxis (place (low.now.x +ℤ pos x) (low.now.y +ℤ pos y) (low.now.z +ℤ pos z)) high.now }
     ensures { result ≡ place (low.now.x +ℤ pos x) (low.now.y +ℤ pos y) (low.now.z +ℤ pos z) }
@@ -188,7 +189,7 @@ fn raised(low: &Position, high: &Position, x: u64, y: u64, z: u64) -> Position
     }
 }
 
-/// The coordinate that is `by` steps above `low`, and not above `high`.
+/// The coordinate that is `by` steps above `low`. It isn't above `high`.
 fn coordinate(low: i32, high: i32, by: u64) -> i32
     requires low_near { IsCoordinateInRange low }
     requires high_near { IsCoordinateInRange high }

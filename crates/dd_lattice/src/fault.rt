@@ -8,7 +8,7 @@ use thiserror::Error;
 /// Why a region could not be made.
 #[derive(Clone, Copy, Debug, PartialEq, Eq, Error)]
 pub enum LatticeFault {
-    /// A coordinate would pass 2^20 in absolute value.
+    /// A coordinate would exceed 2^20 in absolute value.
     #[error("a coordinate would pass 2^20")]
     Range,
     /// Memory ran out.

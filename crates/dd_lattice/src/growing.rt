@@ -1,6 +1,6 @@
-//! The growth of a region, axis by axis. A run of n copies is the region's copies at n successive steps along an axis. A
-//! run of n copies and its own copy n steps on make a run of 2n copies. So growth by n takes about log n unions on each
-//! axis.
+//! The growth of a region, axis by axis. A run of n copies is the union of n copies of the region, each moved one step further
+//! along an axis than the one before. The union of such a run and the same run moved by n steps is a run of 2n copies. So
+//! growth by n takes about log n unions on each axis.
 ghost use Rattle.std.specs.Prelude.{◌≡◌, ◌+◌, ◌*◌, ◌≤◌, ℤ, pos, ◌-ℤ◌, ◌+ℤ◌, ◌≤ℤ◌, MatchResult};
 ghost use Rattle.dd_lattice.specs.Place.{most_coordinate};
 ghost use Rattle.dd_lattice.specs.Regions.{IsRegionOf, IsFaultOf, IsNearby};
@@ -43,7 +43,7 @@ fn along(axis: Axis, steps: i32) -> Position
     }
 }
 
-/// The union of the region's copies that are moved along an axis by each number of steps from `-by` to `by`.
+/// The union of the region's copies, moved along an axis by every number of steps from `-by` to `by`.
 fn stretched(alloc: Global, region: &Region, axis: Axis, by: u32) -> Result<Region, LatticeFault>
     requires { by ≤ most_coordinate }
     ensures { let stretched = IsStretched axis (pos 0 -ℤ pos by) (pos by +ℤ pos 1) region.now in
@@ -60,7 +60,7 @@ fn stretched(alloc: Global, region: &Region, axis: Axis, by: u32) -> Result<Regi
     Ok(run)
 }
 
-/// The union of the region and its copy that is moved by `by` steps along an axis.
+/// The union of the region and a copy of it that is moved by `by` steps along an axis.
 fn extended(alloc: Global, region: &Region, axis: Axis, by: u32) -> Result<Region, LatticeFault>
     requires { by ≤ most_coordinate }
     ensures { let extended = IsExtended axis (pos by) region.now in
@@ -92,8 +92,8 @@ fn grown(alloc: Global, region: &Region, dim: u32, by: u32) -> Result<Region, La
 }
 
 impl Region {
-    /// All positions whose distance to some member is at most `by` on each of the first `dim` axes, and 0 on the
-    /// others. `Range` if a coordinate would pass 2^20.
+    /// All positions whose distance from some member of the region is at most `by` on each of the first `dim` axes, and 0 on
+    /// the others. The fault is `Range` if a coordinate would exceed 2^20 in absolute value.
     pub fn grow(&self, alloc: Global, dim: u32, by: u32) -> Result<Region, LatticeFault>
         requires least { 1 ≤ dim }
         requires most { dim ≤ 3 }

@@ -8,7 +8,8 @@ use crate::position::Position;
 use std::alloc::{AllocError, Global};
 use std::cmp::Ordering;
 
-/// The lesser of the two next positions, and how many positions the walk takes from each list for it: 0 or 1.
+/// One step of the walk: the lesser of the next positions of the two lists, and how many positions the step takes from each
+/// list, 0 or 1.
 #[derive(Clone, Copy)]
 struct Step {
     position: Position,
@@ -16,7 +17,7 @@ struct Step {
     from_right: usize,
 }
 
-/// The step of the walk whose next positions are these.
+/// The step of the walk when `left` and `right` are the next positions of the two lists.
 fn next_of(left: &Position, right: &Position) -> Step
     ensures position { result.position ≡ next_position (place_cmp left.now right.now) left.now right.now }
     ensures left { result.from_left ≡ from_left (place_cmp left.now right.now) }

@@ -13,8 +13,8 @@ use std::marker::Model;
 /// The greatest absolute value of a coordinate, 2^20.
 pub const MOST_COORDINATE: i32 = 1_048_576;
 
-/// A position of Z^3. Each coordinate is at most 2^20 in absolute value. In one or two dimensions the coordinates
-/// past the dimension are 0.
+/// A position of Z^3. Each coordinate is at most 2^20 in absolute value. In one dimension `y` and `z` are 0, and in two
+/// dimensions `z` is 0.
 #[derive(Debug, Clone, Copy, PartialEq, Eq)]
 pub struct Position {
     pub x: i32,
@@ -35,7 +35,7 @@ impl Model for Position {
 }
 
 impl Position {
-    /// The position with these coordinates. `None` if one passes 2^20 in absolute value.
+    /// The position with these coordinates. `None` if one of them exceeds 2^20 in absolute value.
     pub fn new(x: i32, y: i32, z: i32) -> Option<Position>
         ensures { result ≡ (if is_in_range (place x y z) then Some (place x y z) else None) }
     {
@@ -53,7 +53,7 @@ impl Position {
     }
 }
 
-/// The sum of two positions. `None` if one of its coordinates passes 2^20 in absolute value.
+/// The sum of two positions. `None` if a coordinate of the sum exceeds 2^20 in absolute value.
 pub fn shift(p: &Position, by: &Position) -> Option<Position>
     ensures { result ≡ (if is_in_range (moved p.now by.now) then Some (moved p.now by.now) else None) }
 {
@@ -87,7 +87,7 @@ impl PartialOrd for Position {
     }
 }
 
-/// A cell of the lattice: a position and one of its nodes, which are numbered from 0.
+/// A cell of the lattice: a position and one of its nodes. The nodes of a position are numbered from 0.
 #[derive(Debug, Clone, Copy, PartialEq, Eq)]
 pub struct Cell {
     pub position: Position,

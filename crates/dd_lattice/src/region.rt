@@ -55,7 +55,7 @@ impl Region {
         }
     }
 
-    /// The positions, in cell order.
+    /// The positions of the region, in cell order.
     pub fn list(&self) -> &[Position]
         ensures value { result.now ≡ self.now }
         ensures region { IsRegion self.now }
@@ -73,7 +73,8 @@ impl Region {
         }
     }
 
-    /// The region moved by a position. `Range` if a coordinate would pass 2^20.
+    /// The region moved by `by`: `by` is added to each position. The fault is `Range` if a coordinate would exceed 2^20 in
+    /// absolute value.
     pub fn shifted(&self, alloc: Global, by: &Position) -> Result<Region, LatticeFault>
         ensures list { IfOk result (λ r. r ≡ map (λ p. moved p by.now) self.now) }
         ensures members { MatchResult result (IsRegionOf (IsMoved self.now by.now)) (IsFaultOf (IsMoved self.now by.now)) }
@@ -91,7 +92,7 @@ impl Region {
     }
 }
 
-/// The positions of a region, moved by a position. `Range` if a coordinate would pass 2^20.
+/// The positions of a region, each moved by `by`. The fault is `Range` if a coordinate would exceed 2^20 in absolute value.
 fn all_moved(alloc: Global, list: &[Position], by: &Position) -> Result<Vec<Position>, LatticeFault>
     requires { IsRegion list.now }
     ensures list { IfOk result (λ v. v.items ≡ map (λ p. moved p by.now) list.now) }

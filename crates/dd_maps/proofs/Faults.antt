@@ -1,4 +1,4 @@
--- Why the automata are refused.
+-- Why the marked automaton and the automata of a pair are refused.
 use Rattle.std.proofs.Common.{◌≡◌, ℕ, true, false, refl, sym, ◌∙◌, subst, inl, inr, Result, Ok, Err}
 use Rattle.std.specs.Prelude.{IfErr}
 use Rattle.dd_topology.specs.{Grid.Grid, Sets.SymbolSets}
@@ -9,7 +9,7 @@ use Rattle.dd_formula.specs.declared.fault.RuleFault.TheVariants.{Reach, Instanc
 use Rattle.dd_maps.specs.{Pairs.IsRuleOver, Pairs.marked, Refusals.PassesGuard, Refusals.IsMarkedFault, Refusals.IsImageFault}
 use Rattle.dd_maps.proofs.{Near.marked_short, Sizes.many_outer}
 
--- within the limits only memory can run out
+-- if an automaton is within the limits on instances and reach, the only possible fault is that memory ran out
 pub only_memory : (n : ℕ) (f : Counted) → is_few n f ≡ true → is_short n f ≡ true → (e : RuleFault) → IsCasesRefusal n f e → e ≡ Memory
 only_memory n f few short Instances h = absurd (let both : true ≡ false = sym few ∙ h in cc)
 only_memory n f few short Reach h = absurd (let both : true ≡ false = sym short ∙ h.1 in cc)
@@ -19,7 +19,7 @@ only_memory n f few short Memory h = refl
 pub never_far : (n : ℕ) (f : Counted) → is_short n f ≡ true → IsCasesRefusal n f Reach → ⊥
 never_far n f short h = absurd (let both : true ≡ false = sym short ∙ h.1 in cc)
 
--- Q holds of a fault if P does and Q follows from P
+-- if P holds of the error, and Q follows from P, then Q holds of the error
 pub err_says : {T E : Type 0} (r : Result T E) (P Q : E → Type 0) → ((e : E) → P e → Q e) → IfErr r P → IfErr r Q
 err_says (Ok x) P Q more h = tt
 err_says (Err e) P Q more h = more e h

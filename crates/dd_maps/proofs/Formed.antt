@@ -1,4 +1,4 @@
--- The guarded formula is a formula over its topology and symbols, where it isn't too deep.
+-- The guarded formula is a formula over its topology and symbols, if it isn't too deep.
 use Rattle.std.proofs.Common.{◌≡◌, ◌<◌, ℕ, Bool, true, List, [], ◌∷◌, map, ap, sym, ◌∙◌, arith}
 use Rattle.std.proofs.lemmas.{Bool.and_from, Bool.lt-ltb, List.Folds.list_all-map}
 use Rattle.std.specs.{Prelude.◌||◌, Prelude.not, Prelude.nat_lt, List.list_all, List.filter, List.range_with_len}
@@ -21,7 +21,7 @@ kept_all p q n each =
     all_kept p q (range_with_len 0 n)
     ∙ list_all-weaker p (λ a. not (q a) || p a) (λ a h. ap (λ b. not (q a) || b) h ∙ or_true (not (q a))) (range_with_len 0 n) (range_all p n each)
 
--- its numbers
+-- the numbers of symbols and nodes in the guarded formula are in range
 module _ (g : Grid) (s : SymbolSets) where
   pub fits_symbol : (t : ℕ) → formula_fits g s.symbols (symbol_is t) 1 ≡ nat_lt t s.symbols
   fits_symbol t =
@@ -56,6 +56,6 @@ module _ (g : Grid) (s : SymbolSets) where
       (list_all-map (λ h. formula_fits g s.symbols h 1) (guard s) (guarded_nodes s g.nodes)
       ∙ kept_all (λ a. formula_fits g s.symbols (guard s a) 1) (λ a. not (allows_all s a)) g.nodes guard_fits)
 
--- the formula of a symbol has no parts
+-- the formula that the cell has a symbol has no parts, so its depth is 0
 pub depth_symbol : (t : ℕ) → depth (symbol_is t) ≡ 0
 depth_symbol t = ap depth (sym (v.rolls-Symbol here t)) ∙ fold-roll-Formula ℕ depth_step (Formula-F.Symbol here t)

@@ -1,4 +1,4 @@
--- What the automata read is never too far away.
+-- The cells that the marked automaton, the zero automaton and the identity read are never too far away.
 use Rattle.std.proofs.Common.{◌≡◌, ◌<◌, ℕ, ◌-◌, Bool, true, List, [], ◌∷◌, map, refl, ap, sym, ◌∙◌, subst}
 use Rattle.std.proofs.lemmas.Bool.{and_from}
 use Rattle.std.proofs.lemmas.List.Folds.{list_all-map, list_all-append, flat_map-map}
@@ -16,7 +16,7 @@ use Rattle.dd_maps.specs.Pairs.{guarded_of, marked, own_symbol, identity, always
 use Rattle.dd_maps.proofs.Formed.{range_all}
 use Rattle.dd_expansion.specs.declared.formulas.Formula.TheVariants as v
 
--- a formula at a cell that is near: an atom reads that cell or nothing
+-- what formulas read at a cell that is near: each atom of a guard reads that cell or nothing
 module _ (es : List Edge) (c : Cell) (close : is_near c ≡ true) where
   abbrev near : Formula → Bool
   near f = list_all is_near (reads es f (c ∷ []))
@@ -59,7 +59,7 @@ module _ (es : List Edge) (c : Cell) (close : is_near c ≡ true) where
       near_with f (map (guard s) (guarded_nodes s n)) one
       (list_all-map near (guard s) (guarded_nodes s n) ∙ all_pass (λ a. near (guard s a)) (near_guard s) (guarded_nodes s n))
 
--- the same at the origin
+-- the cells of the origin are near
 near_origin : (a : ℕ) → is_near (origin_at a) ≡ true
 near_origin a = refl
 
@@ -67,7 +67,7 @@ module _ (g : Grid) (s : SymbolSets) where
   one_short : (r : LocalRule) (t a : ℕ) → list_all is_near (reads_at r a) ≡ true → list_all is_near (cases_reads ((r, t) ∷ []) a) ≡ true
   one_short r t a h = list_all-append is_near (reads_at r a) [] ∙ and_from _ _ h refl
 
-  -- the marked automaton reads what the rule reads and the cell itself
+  -- the marked automaton reads only what the rule reads and the cell itself
   pub marked_short : (y : LocalRule) → y ≡ local_rule g s y.formula → ReadsNear y → is_short g.nodes (counted (marked g s y)) ≡ true
   marked_short y same short =
       ap (is_short g.nodes) (counted_given _)
@@ -79,7 +79,7 @@ module _ (g : Grid) (s : SymbolSets) where
   pub zero_short : (n : ℕ) → is_short n (counted (always_zero g s)) ≡ true
   zero_short n = ap (is_short n) (counted_given _) ∙ all_pass _ (λ a. refl) (range_with_len 0 n)
 
-  -- a case of the identity reads the cell itself
+  -- each case of the identity reads only the cell itself
   own_short : (ts : List ℕ) (a : ℕ) → list_all is_near (cases_reads (map (case_over g s) (map own_symbol ts)) a) ≡ true
   own_short [] a = refl
   own_short (t ∷ ts) a =

@@ -14,7 +14,7 @@ use Rattle.dd_formula.specs.lemmas.AutomatonLaws.{counted_given, instances_compo
 use Rattle.dd_maps.specs.{Guarded.here, Guarded.symbol_is, Pairs.own_symbol, Pairs.identity, Pairs.always_zero}
 use Rattle.dd_expansion.specs.declared.formulas.Formula.TheVariants as v
 
--- the composition has at least the instances of its parts
+-- a composition has at least as many instances as its outer automaton; so if those of the composition are few, those of the outer one are
 pub few_outer : (n : ℕ) (f h : Automaton) → is_few n (composition f h) ≡ true → is_few n (counted f) ≡ true
 few_outer n f h few =
     list_all-weaker (λ a. nat_le ((composition f h).instances a) most_instances) (λ a. nat_le ((counted f).instances a) most_instances)
@@ -31,7 +31,7 @@ module _ (g : Grid) (s : SymbolSets) where
   pub zero_few : (n : ℕ) → is_few n (counted (always_zero g s)) ≡ true
   zero_few n = ap (is_few n) (counted_given _) ∙ all_pass _ (λ a. refl) (range_with_len 0 n)
 
-  -- each case of the identity has one leaf
+  -- the expansion of each case of the identity (its formula without variables) is a single leaf
   symbol_expansion : (t a : ℕ) → expansion_at (local_rule g s (symbol_is t)) a ≡ leaf t (origin_at a)
   symbol_expansion t a =
       ap (λ f. expansion g.edges s.symbols f (origin_at a ∷ [])) (sym (v.rolls-Symbol here t))

@@ -1,10 +1,10 @@
--- Loops over numbers that push something for each number that passes a test.
+-- Loops over the numbers from 0 on, which push an item for each number that passes a test.
 use Rattle.std.proofs.Common.{◌≡◌, ℕ, ◌+◌, Bool, true, false, List, [], ◌∷◌, ◌++◌, map, ap, sym, ◌∙◌}
 use Rattle.std.specs.List.{filter, range_with_len}
 use Rattle.std.proofs.lemmas.List.{map-append, append-nil, append_assoc}
 use Rattle.dd_formula.specs.lemmas.Ranges.{filter_push}
 
--- one step: the list so far has the items of `front`, and then one for each number below n that passes
+-- one step: the list so far has the items of `front`, and then one item for each number below n that passes
 module _ {X : Type 0} (front : List X) (g : ℕ → X) (q : ℕ → Bool) (n : ℕ) (old : List X) (so_far : old ≡ front ++ map g (filter q (range_with_len 0 n))) where
   pub passed : (new : List X) (x : X) → q n ≡ true → x ≡ g n → new ≡ old ++ x ∷ [] → new ≡ front ++ map g (filter q (range_with_len 0 (n + 1)))
   passed new x here made is =

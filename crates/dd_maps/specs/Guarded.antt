@@ -5,7 +5,7 @@ use Rattle.dd_topology.specs.Sets.{SymbolSets, allows}
 use Rattle.dd_expansion.specs.declared.formulas.{Term.Term, Formula.Formula}
 use Rattle.dd_expansion.specs.declared.formulas.Formula.TheVariants as v
 
--- the term that names the cell of which the formula speaks
+-- the term that names the cell at which a formula is evaluated
 abbrev pub here : Term
 here = record { variable = 0; moves = [] }
 
@@ -17,7 +17,7 @@ symbol_is t = v.Symbol here t
 abbrev pub allowed_symbols : SymbolSets → ℕ → List ℕ
 allowed_symbols s a = filter (allows s a) (range_with_len 0 s.symbols)
 
--- the guard of a node: the cell doesn't have this node, or its symbol is one that the node allows
+-- the guard of a node: the cell isn't at this node, or has a symbol that the node allows
 abbrev pub guard : SymbolSets → ℕ → Formula
 guard s a = v.Or (v.Not (v.Node here a) ∷ map symbol_is (allowed_symbols s a))
 

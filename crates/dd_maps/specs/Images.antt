@@ -1,11 +1,12 @@
--- Where an image breaks a rule, and where one automaton after another changes a symbol.
+-- Where an image breaks a rule, and where two automata, applied one after the other, change a symbol. A look-up gives the symbol of each cell, if it
+-- has one.
 use Rattle.std.specs.Prelude.{ℕ, ◌<◌, ◌≡◌, ◌⊎◌, true, false, Some}
 use Rattle.dd_lattice.specs.{Place.Place, Cells.cell, declared.position.Cell.Cell}
 use Rattle.dd_pattern.specs.Reading.{Look}
 use Rattle.dd_formula.specs.{LocalRule.LocalRule, LocalRule.is_true, LocalRule.rule_allows, Automata.value}
 use Rattle.dd_formula.specs.declared.automaton.Automaton.{Automaton}
 
--- the image of a look-up: the automaton's value at every cell
+-- the image of a look-up under an automaton: it gives each cell the automaton's value there
 abbrev pub image : Automaton → Look → Look
 image f look c = Some (value f look c)
 
@@ -21,11 +22,11 @@ KeepsAt f y look c = (rule_allows y c.node (value f look c) ≡ true) × (is_tru
 abbrev pub BreaksAt : Automaton → LocalRule → Look → Cell → Type 0
 BreaksAt f y look c = (rule_allows y c.node (value f look c) ≡ false) ⊎ (is_true y c (image f look) ≡ false)
 
--- the image under f of the image under g has the cell's own symbol
+-- the image under f of the image under g gives the cell its own symbol
 abbrev pub GivesBackAt : Automaton → Automaton → Look → Cell → Type 0
 GivesBackAt f g look c = image f (image g look) c ≡ look c
 
--- that image has another symbol there, or the cell has no symbol
+-- the image under f of the image under g gives the cell another symbol than its own, or the cell has no symbol
 abbrev pub ChangesAt : Automaton → Automaton → Look → Cell → Type 0
 ChangesAt f g look c = GivesBackAt f g look c → ⊥
 
@@ -33,11 +34,11 @@ ChangesAt f g look c = GivesBackAt f g look c → ⊥
 abbrev pub HasSymbolAt : ℕ → Look → Cell → Type 0
 HasSymbolAt k look c = (t : ℕ) × (t < k) × (look c ≡ Some t)
 
--- P holds at some of the n nodes of a position
+-- P holds at one or more of the n nodes of a position
 abbrev pub AtSomeNode : ℕ → (Cell → Type 0) → Place → Type 0
 AtSomeNode n P v = (a : ℕ) × (a < n) × P (cell v a)
 
--- P holds at each of them
+-- P holds at each of the n nodes of a position
 abbrev pub AtEachNode : ℕ → (Cell → Type 0) → Place → Type 0
 AtEachNode n P v = (a : ℕ) → a < n → P (cell v a)
 
@@ -49,7 +50,7 @@ Differ n f g look v = AtSomeNode n (DifferAt f g look) v
 abbrev pub ImageBreaks : Automaton → LocalRule → Look → Place → Type 0
 ImageBreaks f y look v = AtSomeNode y.nodes (BreaksAt f y look) v
 
--- g and after it f change a symbol of the position
+-- applying g and then f changes the symbol of some cell of the position
 abbrev pub Changes : ℕ → Automaton → Automaton → Look → Place → Type 0
 Changes n f g look v = AtSomeNode n (ChangesAt f g look) v
 

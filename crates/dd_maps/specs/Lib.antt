@@ -1,10 +1,10 @@
--- the formula that says that a rule is true and the symbol is allowed
+-- the guarded formula of a rule: the rule is true at a cell, and the cell's node (one of the cells at each position) allows its symbol
 pub mod Guarded
 -- the automata of the pairs
 pub mod Pairs
 -- where an image breaks a rule, and where one automaton after another changes a symbol
 pub mod Images
--- why no pair is made
+-- why a pair of automata is refused
 pub mod Refusals
 -- lemmas on these definitions, with their proofs
 pub mod lemmas

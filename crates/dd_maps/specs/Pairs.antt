@@ -5,7 +5,7 @@ use Rattle.dd_expansion.specs.{declared.formulas.Formula.Formula, Limits.IsFormu
 use Rattle.dd_formula.specs.{LocalRule.LocalRule, LocalRule.local_rule, ByCases.by_cases, declared.automaton.Automaton.Automaton}
 use Rattle.dd_maps.specs.Guarded.{symbol_is, guarded}
 
--- the rule was made of a formula over this topology and these sets
+-- the rule was made from a formula over this topology and these sets of allowed symbols
 pub record IsRuleOver (g : Grid) (s : SymbolSets) (y : LocalRule) : Type 0 where
   pub same : y ≡ local_rule g s y.formula
   pub formula : IsFormula g s.symbols y.formula
@@ -14,11 +14,11 @@ pub record IsRuleOver (g : Grid) (s : SymbolSets) (y : LocalRule) : Type 0 where
 abbrev pub guarded_of : SymbolSets → LocalRule → Formula
 guarded_of s y = guarded s y.nodes y.formula
 
--- its depth
+-- the depth of the guarded formula of the rule
 abbrev pub guarded_depth : SymbolSets → LocalRule → ℕ
 guarded_depth s y = depth (guarded_of s y)
 
--- the automaton that gives 0 where the rule is true and the symbol is allowed, else 1
+-- the automaton that gives 0 where the rule is true and the cell's node allows its symbol, else 1
 abbrev pub marked : Grid → SymbolSets → LocalRule → Automaton
 marked g s y = by_cases g s ((guarded_of s y, 0) ∷ []) 1
 

@@ -17,17 +17,18 @@ use dd_formula::{Automaton, Formula, Rule, RuleFault};
 use dd_topology::{Sets, Topology};
 use std::alloc::{AllocError, Global};
 
-/// The automaton that marks with 1 the cells that break the rule. It gives 0 where the rule is true and the symbol is allowed,
-/// else 1. It has one case, the guarded formula, which is the conjunction of:
+/// The automaton that marks with 1 the cells that break the rule. It gives 0 where the rule is true and the cell's node allows
+/// its symbol, else 1. It has a single case: it gives 0 where the guarded formula is true. The guarded formula is the
+/// conjunction of:
 /// - the rule's formula; and
-/// - for each node that doesn't allow some symbol, a guard: the cell doesn't have this node, or it has one of the symbols
-///   that the node allows.
+/// - for each node that doesn't allow every symbol, a guard: the cell isn't at this node, or has a symbol that the node
+///   allows.
 ///
 /// If every node allows all symbols, the guarded formula is the rule's own.
 ///
 /// # Errors
-/// `Depth` where the guarded formula is more than 64 deep; else `Instances` where the automaton has more than 20,000
-/// instances at some node; or `Memory`.
+/// `Depth` if the guarded formula is more than 64 deep. Else `Instances` if the automaton has more than 20,000 instances at
+/// some node, as `Automaton::instances` counts them. `Memory` if memory ran out.
 pub fn marked(
     alloc: Global,
     topology: &Topology,
@@ -63,7 +64,7 @@ fn always_zero(alloc: Global, topology: &Topology, sets: &Sets) -> Result<Automa
     Automaton::by_cases(alloc, topology, sets, &[], 0)
 }
 
-/// The cases of the identity. Symbol 0 needs none, because it is the default symbol.
+/// The cases of the identity, one for each symbol but 0. Symbol 0 needs no case, because it is the default symbol.
 fn own_symbols(alloc: Global, symbols: u32) -> Result<Vec<(Formula, u32)>, AllocError>
     requires { 1 ≤ symbols }
     ensures { IfOk result (λ cases. cases.items ≡ map own_symbol (range_with_len 1 (symbols - 1))) }
@@ -88,7 +89,7 @@ fn identity(alloc: Global, topology: &Topology, sets: &Sets) -> Result<Automaton
     Automaton::by_cases(alloc, topology, sets, cases.as_slice(), 0)
 }
 
-/// The composition of `outer` after a copy of `inner`.
+/// The composition that applies a copy of `inner`, then `outer`.
 fn composed_with(alloc: Global, outer: Automaton, inner: &Automaton) -> Result<Automaton, RuleFault>
     requires { AreAutomata outer inner.now }
     ensures ok { IfOk result (λ h. h ≡ Automaton.Composed outer inner.now) }
@@ -104,13 +105,13 @@ fn composed_with(alloc: Global, outer: Automaton, inner: &Automaton) -> Result<A
 
 /// Two automata, which differ at some node of a position exactly if the image under `map` breaks the target there.
 ///
-/// The first is a composition: `map`, and after it the automaton that `marked` makes of the target. The second gives 0
+/// The first is a composition: it applies `map`, and then the automaton that `marked` makes of the target. The second gives 0
 /// everywhere. They give a cell different symbols exactly if, in the image under `map`, the cell has a symbol that its node
-/// doesn't allow, or the target is false there.
+/// doesn't allow, or the target is false at the cell.
 ///
 /// # Errors
-/// `Depth` where the target's guarded formula is more than 64 deep; else `Instances`, `Reach` and `Depth` at the limits
-/// of the composition, in this order; or `Memory`.
+/// `Depth` if the target's guarded formula is more than 64 deep. Else `Instances`, `Reach` or `Depth` if the composition
+/// exceeds that limit; they are tested in this order. `Memory` if memory ran out.
 pub fn image_pair(
     alloc: Global,
     topology: &Topology,
@@ -138,11 +139,12 @@ pub fn image_pair(
     Ok((composed, zero))
 }
 
-/// Two automata: the composition of `outer` after `inner`, and the identity. At a cell that has a symbol they differ exactly
-/// if the composition changes the symbol.
+/// Two automata: the composition that applies `inner` and then `outer`, and the identity. At a cell that has a symbol, the two
+/// differ exactly if the composition changes the symbol.
 ///
 /// # Errors
-/// `Instances`, `Reach` and `Depth` at the limits of the composition, in this order; or `Memory`.
+/// `Instances`, `Reach` or `Depth` if the composition exceeds that limit; they are tested in this order. `Memory` if memory
+/// ran out.
 pub fn identity_pair(
     alloc: Global,
     topology: &Topology,

@@ -1,4 +1,4 @@
--- The parts of `least_mean` together.
+-- The parts of `least_mean`, put together.
 use Rattle.std.proofs.Common.{◌≡◌, ℕ, zero, suc, ◌+◌, ◌-◌, ◌*◌, ◌<◌, ◌≤◌, Bool, true, List, [], ◌∷◌, ◌++◌, length, get_or, Option, Some, None, arith, refl, sym, ap, ◌∙◌, subst, inl, inr, is_some}
 use Rattle.std.proofs.{lemmas.Bool.cases_lt, lemmas.List.Elements.All-contains, Math.Nat.mul-le-mul_right, Math.Nat.le_of_mul-le-mul_right}
 use Rattle.std.specs.{Prelude.◌⊎◌, List.Contains, List.All}
@@ -36,7 +36,7 @@ rises_of edges n m l v end levels rows len h =
     let s : h.0 < length levels = omega (arith, h.2) in
     (h.0, h.1, h.2, sym (weight_row edges n levels h.0 v rows s) ∙ h.3, h.4)
 
--- weight / length ≤ M / L = m / l
+-- if w / c is at most M / L, and this equals m / l, then w / c is at most m / l
 scaled : (w c M L m l : ℕ) → 0 < L → M * l ≡ m * L → w * L ≤ M * c → w * l ≤ m * c
 scaled w c M L m l pos e h =
     le_of_mul-le-mul_right

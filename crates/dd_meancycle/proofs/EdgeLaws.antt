@@ -17,7 +17,7 @@ use Rattle.dd_meancycle.specs.table.LeastMean.{IsMean, IsLeastMean, IsSmallMean}
 use Rattle.dd_meancycle.specs.lemmas.StepLaws.{step, last_slice, below_states, weight_small}
 use Rattle.dd_meancycle.specs.declared.table.EdgeMean.TheVariants as edge_mean
 
--- the list of edges, with one window more
+-- the list of edges, after one more window
 pub edges_more : (g : Transfer) (n : ℕ) (edges : List Edge) (o : Option Edge) → AreEdgesTo g n edges → o ≡ edge_at g n → AreEdgesTo g (n + 1) (edges ++ option_to_list o)
 edges_more g n edges None so_far is = record {
   each = λ e c. elim (Contains-append_cases edges [] e c) [
@@ -68,7 +68,7 @@ parts_at g number e (Some v) t h =
 pub edge_parts : (g : Transfer) (number : ℕ) (e : Edge) → edge_at g number ≡ Some e → EdgeParts g number e
 edge_parts g number e h = parts_at g number e (next_of g (number / g.slices) (number % g.slices)) refl h
 
--- an edge of the list is one of the graph, by the last slice of the state to which it leads
+-- an edge of the list is an edge of the graph, by the last slice of the state to which it leads
 pub record Edged (g : Transfer) (e : Edge) : Type 0 where
   pub next_is : next_of g e.from (e.to % g.slices) ≡ Some e.to
   pub weight_is : e.weight ≡ weight_at g (e.to % g.slices)
@@ -148,7 +148,7 @@ walk_light n edges (e ∷ es) all among =
     let rest = walk_light n edges es all among.1 in
     omega (arith, first, rest)
 
--- m * n is at most l * 2^25
+-- m * n is at most l * 2^25, and so at most 2^40
 numerator_small : (n w m l c : ℕ) → 0 < c → w * l ≡ m * c → n * w ≤ c * 2 ^ 25 → l ≤ n → n ≤ 4096 → m * n ≤ 2 ^ 40
 numerator_small n w m l c some mean light short few =
     let a : (n * w) * l ≤ (c * 2 ^ 25) * l = mul-le-mul_right l light in
@@ -164,7 +164,7 @@ pub most_small : (g : Transfer) (edges : List Edge) (m l : ℕ) (cycle : List Ed
 most_small g edges m l cycle ps well are is =
     numerator_small g.states (edges_weight cycle) m l (length cycle) is.turns is.mean (walk_light g.states edges cycle (all_fit g edges well are) is.among) is.length_most well.few
 
--- a potential is at most 2^40
+-- each potential is at most 2^40
 pub small_mean : (g : Transfer) (edges : List Edge) (m : EdgeMean) → IsTransfer g → AreEdges g edges → IsMean edges g.states m → IsSmallMean m
 small_mean g edges (edge_mean.Least m l cycle ps) well are is = λ k d lt.
     let small : natural ps.items k ≤ m * g.states = is.bounded k (omega (arith, is.len)) in
@@ -173,7 +173,7 @@ small_mean g edges (edge_mean.Least m l cycle ps) well are is = λ k d lt.
     omega (arith, same, small, most)
 small_mean g edges (edge_mean.NoCycle rs) well are is = tt
 
--- natural potentials as numbers with a sign
+-- natural potentials as signed numbers
 signed_at : (ps : List ℕ) (v : ℕ) → potential_of (map pos ps) v ≡ pos (natural ps v)
 signed_at [] v = refl
 signed_at (p ∷ ps) zero = refl

@@ -1,4 +1,4 @@
--- The state whose greatest mean of a rise is least.
+-- The state for which the greatest mean of a rise is least.
 use Rattle.std.proofs.Common.{◌≡◌, ℕ, zero, suc, ◌+◌, ◌-◌, ◌*◌, ◌<◌, ◌≤◌, ◌^◌, ◌/◌, ◌%◌, List, [], ◌∷◌, ◌++◌, length, get_or, Option, Some, None, arith, refl, sym, ap, ◌∙◌, subst, inl, inr}
 use Rattle.std.proofs.lemmas.{Bool.cases_lt, Nat.Gcd.dvd_refl, Nat.Gcd.le_of_dvd, Nat.Gcd.mod-eq-zero_of_dvd}
 use Rattle.std.proofs.Math.Nat.{mul-le-mul_right, le_of_mul-le-mul_right, mul-dvd-mul_left, dvd_of_mul-dvd-mul_left, dvd-mul_right}
@@ -7,7 +7,7 @@ use Prim.Native.Nat.{◌∣◌}
 use Rattle.dd_meancycle.specs.{declared.rises.Ratio.Ratio, declared.rises.Steep.Steep, table.Levels.level_weight_at}
 use Rattle.dd_meancycle.specs.table.Rises.{IsSteepest, IsGentler, HasRiseIn, IsGentlest, LeastSoFar, IsReduced}
 
--- a rise whose mean is at least m / l has a mean of at least w / r, if w / r ≤ m / l
+-- if w / r ≤ m / l, a rise whose mean is at least m / l has a mean of at least w / r
 gentle : (before end m l w r d : ℕ) → 0 < l → w * l ≤ m * r → before * l + m * d ≤ end * l → before * r + w * d ≤ end * r
 gentle before end m l w r d pos a b =
     le_of_mul-le-mul_right
@@ -29,7 +29,7 @@ rise_down levels last v m l w r end pos a h = (h.0, h.1, h.2, h.3, gentle h.1 en
 positive : (levels : List (List (Option ℕ))) (last v w r : ℕ) → IsSteepest levels last v w r → 0 < r
 positive levels last v w r s = omega (arith, s.run_is, s.shorter)
 
--- one more state, with the result of `steepest` for it
+-- the choice after one more state, for which `steepest` has the result `here`
 pub gentlest_more : (levels : List (List (Option ℕ))) (last i : ℕ) (best : Option Steep) (here : Option Ratio) (r : Option Steep) →
     LeastSoFar levels last i best →
     MatchOption here (level_weight_at levels last i ≡ None) (λ h. IsSteepest levels last i h.weight h.length) →
@@ -83,7 +83,7 @@ gentlest_more levels last i (Some o) (Some h) r old steep small is = elim is [
       })
 ]
 
--- a mean is reduced by the greatest common divisor of its numbers
+-- dividing both numbers of a mean by their greatest common divisor gives the mean in lowest terms
 pub is_reduced : (w l g : ℕ) → IsGcd w l g → 0 < l → 0 < g → IsReduced (record { weight = w; length = l }) (record { weight = w / g; length = l / g })
 is_reduced w l g is pos g_pos =
     let wm : w % g ≡ 0 = mod-eq-zero_of_dvd g is.0 in

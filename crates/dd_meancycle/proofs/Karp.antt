@@ -20,7 +20,7 @@ at_most : (o : Option ℕ) (x y : ℕ) → o ≡ Some y → y ≤ x → IsAtMost
 at_most None x y e h = absurd (cc)
 at_most (Some z) x y e h = let f : z ≡ y = cc in omega arith
 
--- the table's weight at a walk's end is at most that at its start plus the walk's own weight
+-- the table's entry for a walk's end is at most its entry for the walk's start plus the weight of the walk
 pub walk_upper : (edges : List Edge) (n k : ℕ) (es : List Edge) (u v a : ℕ) → All (IsEdgeOf n) edges → AreAmong edges es → IsWalk u es v → least edges n k u ≡ Some a → IsAtMost (least edges n (k + length es) v) (a + edges_weight es)
 walk_upper edges n k [] u v a all among walk is =
     let e : k + 0 ≡ k = omega arith in

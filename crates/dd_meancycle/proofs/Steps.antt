@@ -28,7 +28,7 @@ find_more p (x ∷ xs) (suc i) d lt n h = elim (cases_Bool (p x)) [
 pub split_product : (end b run : ℕ) → b ≤ end → end * run ≡ b * run + (end - b) * run
 split_product end b run h = let e : end ≡ b + (end - b) = omega arith in ap (λ (x : ℕ). x * run) e ∙ omega arith
 
--- a greater mean stays above
+-- an upper bound for the mean of a rise stays one if it is replaced by a greater mean
 pub better : (end before weight run rise d length : ℕ) → 0 < length → end * length ≤ before * length + weight * d → weight * run < rise * length → end * run ≤ before * run + rise * d
 better end before weight run rise d length pos a b =
     le_of_mul-le-mul_right
@@ -65,7 +65,7 @@ row_up edges n k v all pos most = up_from (2 ^ 31) (least edges n k v) (λ b e.
     let few : b ≤ 2 ^ 25 = le_of_mul-le-mul_right turned pos in
     omega arith)
 
--- a step of `steepest`
+-- one step of the loop of `steepest`
 steep_at : (W : ℕ → Option ℕ) (best r : Ratio) (end last k : ℕ) (o : Option ℕ) → W k ≡ o → 0 < best.length → IsSteeper best end o (last - k) r →
     ((j b : ℕ) → j < k → W j ≡ Some b → end * best.length ≤ b * best.length + best.weight * (last - j)) →
     (j b : ℕ) → j < k + 1 → W j ≡ Some b → end * r.length ≤ b * r.length + r.weight * (last - j)

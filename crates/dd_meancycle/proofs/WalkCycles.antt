@@ -1,4 +1,4 @@
--- Walking back along a lightest walk until a state comes again.
+-- Walking back along a lightest walk until it comes to some state for the second time.
 use Rattle.std.proofs.Common.{◌≡◌, ℕ, zero, suc, ◌+◌, ◌-◌, ◌*◌, ◌<◌, ◌≤◌, Bool, true, false, cond, List, [], ◌∷◌, ◌++◌, length, reverse, take, drop, get_or, set, replicate, Option, Some, None, arith, refl, sym, ap, ◌∙◌, subst, inl, inr, take-append-drop, add-one, eqb, ◌≢◌}
 use Rattle.std.proofs.lemmas.Bool.{cases_Bool, cases_lt, cases_eq, eqb-true, eq-eqb, and_parts}
 use Rattle.std.proofs.lemmas.List.{reverse-append, length-reverse, length-append, length-set, length-take, length-drop, take-append-le, take_all, get_or_past, get_or-replicate, length-replicate}
@@ -138,7 +138,7 @@ marks_at edges n v end step here weight path seen marks t m y r e = elim (cases_
   | inr other ↦ t.marks y r (sym (at_set_other seen here y (Some (length path)) other) ∙ (ap (λ (x : List (Option ℕ)). at x y) (sym m) ∙ e))
 ]
 
--- one edge more, after the state is marked
+-- the trail with one more edge, after the state `here` is marked as seen
 pub trail_push : (edges : List Edge) (n v end step here weight : ℕ) (path : List Edge) (seen marks : List (Option ℕ)) (e : Edge) →
     All (IsEdgeOf n) edges → Trail edges n v end step here weight path seen → step < n → marks ≡ set seen here (Some (length path)) →
     IsBack edges (row edges n (n - 1 - step)) here weight e → at marks e.from ≡ None →

@@ -1,28 +1,29 @@
--- The cycles of a transfer graph, and what shows that none has a smaller mean. A cycle is a closed walk, given by its states.
+-- The cycles of a transfer graph, and what shows that the mean of a cycle is the least one. A cycle is a closed walk, given by its states. Its mean
+-- is its weight divided by its number of edges.
 use Rattle.std.specs.Prelude.{◌≡◌, ℕ, ◌+◌, ◌*◌, ◌%◌, ◌<◌, ◌≤◌, ℤ, pos, ◌-ℤ◌, ◌≤ℤ◌, unsigned_abs, List, [], ◌∷◌, length, slice_index, Some}
 use Rattle.std.specs.Int.{IsGcd}
 use Rattle.dd_values.specs.Bounds.{most_number}
 use Rattle.dd_transfer.specs.{Graphs.Transfer, Graphs.next_of, Graphs.weight_at, Certificates.potential_of}
 use Rattle.dd_meancycle.specs.declared.least.Mean.{Mean, TheVariants.Least, TheVariants.NoCycle}
 
--- each state has an edge to the next: from u through the states to v
+-- a path from u through these states, the last of which is v: each state has an edge to the next
 abbrev pub IsPath : Transfer → ℕ → List ℕ → ℕ → Type 0
 IsPath g u [] v = u ≡ v
 IsPath g u (s ∷ ss) v = (next_of g u (s % g.slices) ≡ Some s) × IsPath g s ss v
 
--- the weight of the edges to these states. The slice of each edge is the last slice of its state, whose number is that of
--- the state modulo the number of slices.
+-- the total weight of the edges that lead to these states. The slice of each edge is the last slice of the state to which it leads. The number of a
+-- state's last slice is the state's number modulo the number of slices.
 abbrev pub weight_of : Transfer → List ℕ → ℕ
 weight_of g [] = 0
 weight_of g (s ∷ ss) = weight_at g (s % g.slices) + weight_of g ss
 
--- there is a state, each has an edge to the next one, and the last has an edge to the first
+-- a cycle: there is at least one state, each state has an edge to the next, and the last has an edge to the first
 pub record IsCycle (g : Transfer) (states : List ℕ) : Type 0 where
   pub last : ℕ
   pub closed : IsPath g last states last
   pub turns : 0 < length states
 
--- along an edge of weight w the potential rises by at most l * w - m
+-- along each edge of weight w the potential rises by at most l * w - m
 abbrev pub ArePotentials : Transfer → ℕ → ℕ → List ℤ → Type 0
 ArePotentials g m l ps = (u t v : ℕ) → next_of g u t ≡ Some v → (potential_of ps v -ℤ potential_of ps u) ≤ℤ (pos (l * weight_at g t) -ℤ pos m)
 

@@ -25,7 +25,7 @@ fn leads(graph: &Graph, from: u32, to: u32) -> bool
     }
 }
 
-/// The weight of the cycle through these states in this order, or `None` if it is not a cycle.
+/// The weight of the cycle through these states in this order, or `None` if they don't form a cycle.
 fn cycle_weight(graph: &Graph, cycle: &[u32]) -> Option<u64>
     requires { length cycle.now ≤ 4096 }
     ensures { IfSome result (λ w. IsCycle graph.now cycle.now × (w ≡ weight_of graph.now cycle.now)) }
@@ -43,7 +43,7 @@ fn cycle_weight(graph: &Graph, cycle: &[u32]) -> Option<u64>
     Some(weight)
 }
 
-/// Whether the rise between two potentials is at most `length * weight - mean_weight`.
+/// Whether the rise from one potential to another is at most `length * weight - mean_weight`.
 fn is_small_rise(from: i64, to: i64, length: u64, weight: u32, mean_weight: u64) -> bool
     ensures { IsTrue result ↔ ((to -ℤ from) ≤ℤ (pos (length * weight) -ℤ pos mean_weight)) }
 {
@@ -56,7 +56,8 @@ fn is_small_rise(from: i64, to: i64, length: u64, weight: u32, mean_weight: u64)
     true
 }
 
-/// Whether the potential rises along the edge by at most `mean.length * weight - mean.weight`, where `weight` is the edge's.
+/// Whether the potential rises along the edge by at most `mean.length * weight - mean.weight`, where `weight` is the weight
+/// of the edge.
 fn is_potential_along(edge: &Edge, potentials: &[i64], mean: Ratio) -> bool
     requires { IsEdgeOf (length potentials.now) edge.now }
     ensures { IsTrue result → (potential_of potentials.now edge.now.to -ℤ potential_of potentials.now edge.now.from) ≤ℤ (pos (mean.length * edge.now.weight) -ℤ pos mean.weight) }
@@ -66,7 +67,8 @@ fn is_potential_along(edge: &Edge, potentials: &[i64], mean: Ratio) -> bool
     is_small_rise(from, to, mean.length, edge.weight, mean.weight)
 }
 
-/// Whether the potential rises by at most that much along each edge of the list.
+/// Whether the potential rises along each edge of the list by at most `mean.length * weight - mean.weight`, where `weight`
+/// is the weight of the edge.
 fn are_potentials_along(edges: &[Edge], potentials: &[i64], mean: Ratio) -> bool
     requires { All (IsEdgeOf (length potentials.now)) edges.now }
     ensures { IsTrue result → ArePotentialsAlong mean.weight mean.length potentials.now edges.now }
@@ -79,14 +81,14 @@ fn are_potentials_along(edges: &[Edge], potentials: &[i64], mean: Ratio) -> bool
     true
 }
 
-/// Whether an output can hold the potential.
+/// Whether the potential is small enough for an output: at most 2^40 in absolute value.
 fn is_bounded(potential: &i64) -> bool
     ensures { result ≡ nat_le (unsigned_abs potential.now) most_number }
 {
     potential.unsigned_abs() <= MOST_NUMBER
 }
 
-/// Whether an output can hold each potential.
+/// Whether each potential is small enough for an output.
 fn are_bounded(potentials: &[i64]) -> bool
     ensures { result ≡ list_all (λ p. nat_le (unsigned_abs p) most_number) potentials.now }
 {

@@ -15,7 +15,7 @@ pub(crate) struct Edge {
     pub weight: u32,
 }
 
-/// The window of this number as an edge, or `None` if it is not an edge.
+/// The window with this number as an edge, or `None` if it is not an edge.
 fn edge_at(graph: &Graph, number: u32) -> Option<Edge>
     requires { number < graph.now.states * graph.now.slices }
     ensures { result ≡ edge_at graph.now number }
@@ -37,7 +37,7 @@ fn push_some(edges: &mut Vec<Edge>, edge: Option<Edge>) -> Result<(), AllocError
     Ok(())
 }
 
-/// All edges, in the order of their windows.
+/// All edges, in the order of their windows' numbers.
 pub(crate) fn edges(alloc: Global, graph: &Graph) -> Result<Vec<Edge>, AllocError>
     ensures { IfOk result (λ es. AreEdges graph.now es.items) }
 {

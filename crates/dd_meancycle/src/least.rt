@@ -16,13 +16,13 @@ use dd_transfer::Graph;
 use dd_values::Items;
 use std::alloc::{AllocError, Global};
 
-/// A cycle of least mean, with potentials that show that it is least; or ranks that fall along each edge, so that there is no
-/// cycle.
+/// A cycle of least mean, with potentials that show that no cycle has a smaller mean; or ranks that fall along each edge,
+/// which show that there is no cycle.
 #[derive(Debug, Drop)]
 pub enum Mean {
     /// The mean is `numerator / denominator` in lowest terms. The cycle is given by its states, at most as many as the graph
     /// has. Each state has a potential of at most 2^40 in absolute value. Along each edge the potential rises by at most
-    /// `denominator * weight - numerator`, where `weight` is that of the edge.
+    /// `denominator * weight - numerator`, where `weight` is the weight of the edge.
     Least {
         numerator: u64,
         denominator: u64,
@@ -42,7 +42,7 @@ fn targets(alloc: Global, cycle: &[Edge]) -> Result<Vec<u32>, AllocError>
     cycle.iter().map(|e| e.to).collect(alloc)
 }
 
-/// The potentials as numbers with a sign.
+/// The potentials as signed numbers.
 fn signed(alloc: Global, potentials: &[u64]) -> Result<Vec<i64>, AllocError>
     requires { All (λ p. p ≤ most_number) potentials.now }
     ensures { IfOk result (λ v. v.items ≡ map pos potentials.now) }
@@ -54,7 +54,7 @@ fn signed(alloc: Global, potentials: &[u64]) -> Result<Vec<i64>, AllocError>
     Ok(numbers)
 }
 
-/// The same mean, with the cycle given by its states, and potentials with a sign.
+/// The same mean, with the cycle given by its states, and with signed potentials.
 fn in_states(alloc: Global, mean: EdgeMean) -> Result<Mean, AllocError>
     requires { IsSmallMean mean }
     ensures { IfOk result (λ m. IsInStates mean m) }
@@ -136,7 +136,7 @@ fn confirmed_mean(graph: &Graph, edges: &[Edge], found: Found) -> Option<Mean>
     })
 }
 
-/// The mean by the table of least weights, which is slower and needs no check.
+/// The least mean, found from the table of least weights. This is slower than the searches, but needs no check.
 fn mean_over(alloc: Global, graph: &Graph, edges: &[Edge]) -> Result<Mean, AllocError>
     requires edges { AreEdges graph.now edges.now }
     ensures { IfOk result (IsMeanOf graph.now) }

@@ -1,4 +1,5 @@
-//! The table of Karp (1978): the least weights of walks of each length. The walks start at any state.
+//! The table of Karp (1978): for each length and each state, the least weight of a walk of this length to this state. The
+//! walks may start at any state.
 ghost use Rattle.std.specs.Prelude.{◌≡◌, ℕ, ◌+◌, ◌<◌, ◌^◌, length, IfOk, slice_index_or, replicate, vec_len, Some, None, []};
 ghost use Rattle.std.specs.List.{fold, All};
 ghost use Rattle.dd_meancycle.specs.table.Levels.{level, relaxed, lowered, IsRowUpTo, IsEdgeOf, AreRows, level_weight_at};
@@ -7,7 +8,8 @@ use crate::edges::Edge;
 use std::alloc::{AllocError, Global};
 use std::marker::Model;
 
-/// A row of the table: for each state, the least weight of a walk of one length to it, or `None` if there is no walk.
+/// A row of the table, for one length: for each state, the least weight of a walk of this length to the state, or `None` if
+/// there is no such walk.
 #[derive(Drop)]
 pub(crate) struct Level {
     least: Vec<Option<u32>>,
@@ -32,7 +34,7 @@ fn lower(best: Option<u32>, here: u32) -> u32
 }
 
 /// Relaxes the edge. The lightest walk of the previous level to the edge's source, followed by the edge, is a walk to the
-/// edge's target. Its weight replaces the target's entry in `row`, if there is none or it is greater.
+/// edge's target. Its weight becomes the target's entry in `row` if there is no entry yet, or if the entry is greater.
 fn relax(previous: &[Option<u32>], row: &mut [Option<u32>], edge: &Edge)
     requires from { edge.now.from < length previous.now }
     requires to { edge.now.to < length row.old }

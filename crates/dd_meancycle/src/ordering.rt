@@ -16,14 +16,14 @@ fn degrees(alloc: Global, states: u32, edges: &[Edge]) -> Result<Vec<u32>, Alloc
     Ok(degrees)
 }
 
-/// The edges from a state. The list must be ascending in the states from which its edges lead.
+/// The edges that lead from a state. The list must be sorted by the states from which its edges lead.
 fn edges_from(edges: &[Edge], state: u32) -> &[Edge] {
     let start = edges.partition_point(|e| e.from < state);
     let end = edges.partition_point(|e| e.from <= state);
     edges.get(start..end).unwrap_or(&[])
 }
 
-/// Counts an edge as removed. True if no edge to the same state is left.
+/// Counts an edge as removed. Returns whether no edge to the same state is left.
 fn is_last_to(edge: &Edge, degrees: &mut [u32]) -> bool {
     let Some(degree) = degrees.get_mut(edge.to as usize) else {
         return false
@@ -53,7 +53,8 @@ fn sources(alloc: Global, states: u32, degrees: &[u32]) -> Result<Vec<u32>, Allo
     Ok(order)
 }
 
-/// The states, each after all states with an edge to it. States that can be reached from a cycle are left out.
+/// The states, in an order in which each comes after all states with an edge to it. States that can be reached from a cycle
+/// are left out.
 fn in_order(alloc: Global, states: u32, edges: &[Edge]) -> Result<Vec<u32>, AllocError> {
     let mut degrees = degrees(alloc, states, edges)?;
     let mut order = sources(alloc, states, degrees.as_slice())?;

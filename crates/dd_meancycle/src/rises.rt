@@ -1,6 +1,8 @@
-//! What is read off the table of least weights: the least mean, potentials and ranks. A rise of a state goes from its entry in
-//! some level `k` below `last` to its entry in the level `last`. Its mean is the difference of the two, divided by
-//! `last - k`. Each state has a greatest mean of a rise. The least of these is the least mean of a cycle (Karp 1978).
+//! What is read off the table of least weights: the least mean, potentials and ranks. The level `k` of the table is its row
+//! for walks of `k` edges, and `last` is its last level. A rise of a state goes from its entry in some level `k` below
+//! `last` to its entry in the level `last`. The mean of the rise is the second entry less the first, divided by `last - k`.
+//! Take the greatest mean of a rise for each state to which a walk of `last` edges leads. The least of these is the least
+//! mean of a cycle (Karp 1978).
 ghost use Rattle.std.specs.Prelude.{◌≡◌, ℕ, ◌-◌, ◌*◌, ◌<◌, ◌≤◌, ◌^◌, length, IfOk, slice_index_or, MatchOption, ⊤, Option, None};
 ghost use Rattle.std.specs.Int.{IsGcd};
 ghost use Rattle.dd_meancycle.specs.table.Levels.{level_weight_at};
@@ -35,7 +37,7 @@ fn steepest(levels: &[Level], last: usize, state: u32) -> Option<Ratio>
     Some(best)
 }
 
-/// The greater of two means: `best`, and that of the rise from `before` to `end` over `run` edges.
+/// The greater of two means: `best`, and the mean of the rise from `before` to `end` over `run` edges.
 fn steeper(best: Ratio, end: u32, before: Option<u32>, run: u64) -> Ratio
     requires run { run < 2 ^ 31 }
     requires weight { best.weight < 2 ^ 32 }
@@ -57,8 +59,8 @@ fn steeper(best: Ratio, end: u32, before: Option<u32>, run: u64) -> Ratio
     }
 }
 
-/// The potential of the state: the least of `mean.length * weight + mean.weight * (last - k)`, where `weight` is its entry in
-/// a level `k` below `last`.
+/// The potential of the state: the least value of `mean.length * weight + mean.weight * (last - k)`, where `k` is a level
+/// below `last`, and `weight` is the state's entry in it.
 fn potential(levels: &[Level], last: usize, state: u32, mean: Ratio) -> u64
     requires last { 0 < last }
     requires few { last < 2 ^ 31 }
@@ -92,7 +94,8 @@ pub(crate) struct Steep {
     pub mean: Ratio,
 }
 
-/// Of `best` and the state `state`, the one with the smaller greatest mean of a rise. That of `state` is `here`.
+/// Compares the state in `best` with `state`, for which the greatest mean of a rise is `here`. Returns the one for which
+/// this greatest mean is smaller.
 fn gentler(best: Option<Steep>, state: u32, here: Option<Ratio>) -> Option<Steep>
     requires best { MatchOption best ⊤ (λ b. (b.mean.weight < 2 ^ 32) × (b.mean.length < 2 ^ 31)) }
     requires here { MatchOption here ⊤ (λ h. (h.weight < 2 ^ 32) × (h.length < 2 ^ 31)) }
@@ -109,7 +112,7 @@ fn gentler(best: Option<Steep>, state: u32, here: Option<Ratio>) -> Option<Steep
     }
 }
 
-/// The state whose greatest mean of a rise is the smallest, or `None` if no walk has `last` edges.
+/// The state for which the greatest mean of a rise is the smallest, or `None` if no walk has `last` edges.
 pub(crate) fn gentlest(levels: &[Level], last: usize, states: u32) -> Option<Steep>
     requires last { 0 < last }
     requires few { last < 2 ^ 31 }
@@ -175,7 +178,7 @@ pub(crate) fn potentials(
     Ok(potentials)
 }
 
-/// The height of the state: the greatest number of edges below `last` that a walk to it has.
+/// The height of the state: the greatest number of edges, below `last`, of a walk to the state.
 fn height(levels: &[Level], last: usize, state: u32) -> usize
     requires last { 0 < last }
     requires tabulated { IsTabulated levels.now last state }

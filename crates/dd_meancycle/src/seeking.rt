@@ -1,6 +1,6 @@
-//! The search for a cycle of least mean and for potentials (after E. Lawler, 1976). With the mean of the last cycle found,
-//! potentials are lowered along the edges until none can be lowered. If that does not end, there is a cycle with a smaller
-//! mean, and the search goes on with that cycle. The result is checked afterwards, so no contract says what it is.
+//! The search for a cycle of least mean and for potentials (after E. Lawler, 1976). It takes the mean of the last cycle that
+//! it found, and lowers potentials along the edges until none can be lowered. If this does not end, there is a cycle with a
+//! smaller mean, and the search goes on with that cycle. The result is checked afterwards, so no contract says what it is.
 
 use crate::edges::Edge;
 use crate::rises::{Ratio, reduced};
@@ -17,7 +17,7 @@ pub(crate) struct Found {
 /// How many rounds over all edges the search makes before it gives up.
 const MOST_ROUNDS: u32 = 4096;
 
-/// The mean with which potentials are lowered: a weight over a number of edges.
+/// The mean for which potentials are lowered: a weight divided by a number of edges.
 #[derive(Clone, Copy)]
 struct Slope {
     weight: i64,
@@ -30,8 +30,8 @@ const STEEPEST: Slope = Slope {
     length: 1,
 };
 
-/// Lowers potentials along the edges, and marks for each state the last edge by which its potential was lowered. True if some
-/// potential was lowered.
+/// Lowers potentials along the edges. For each state, `parents` marks the last edge along which the state's potential was
+/// lowered. Returns whether some potential was lowered.
 fn lower_all(
     edges: &[Edge],
     slope: Slope,
@@ -45,7 +45,7 @@ fn lower_all(
     lowered
 }
 
-/// Lowers the potential of the edge's target, if it rises too much along the edge. True if it was lowered.
+/// Lowers the potential of the edge's target if the potential rises too much along the edge. Returns whether it was lowered.
 fn lower_along(
     edge: &Edge,
     slope: Slope,
@@ -70,7 +70,7 @@ fn lower_along(
     true
 }
 
-/// The marked edge to a state.
+/// The marked edge that leads to a state, or `None` if there is none.
 fn parent(parents: &[Option<Edge>], state: u32) -> Option<Edge> {
     let place = state as usize;
     if place < parents.len() {
@@ -80,7 +80,8 @@ fn parent(parents: &[Option<Edge>], state: u32) -> Option<Edge> {
     }
 }
 
-/// A state on a cycle of marked edges, if there is one. `seen` holds the number of the walk that passed each state.
+/// A state on a cycle of marked edges, if there is one. `seen` holds, for each state, the number of the walk that passed it,
+/// or 0.
 fn state_on_cycle(alloc: Global, parents: &[Option<Edge>]) -> Result<Option<u32>, AllocError> {
     let mut seen = vec![in alloc; 0u32; parents.len()]?;
     let mut mark = 0;
@@ -98,8 +99,9 @@ fn state_on_cycle(alloc: Global, parents: &[Option<Edge>]) -> Result<Option<u32>
     Ok(None)
 }
 
-/// Walks back along marked edges from a state until it comes to a state that this walk, of the number `mark`, has passed.
-/// `None` if it comes to a state without a marked edge, or to one that an earlier walk has passed.
+/// Walks back along marked edges from a state. `mark` is the number of this walk. Returns the first state to which the walk
+/// comes for the second time. `None` if, before that, it comes to a state without a marked edge or to one that an earlier
+/// walk has passed.
 fn follow(parents: &[Option<Edge>], seen: &mut [u32], state: u32, mark: u32) -> Option<u32> {
     let mut at = state;
     for _ in 0..parents.len() + 1 {
@@ -156,7 +158,7 @@ fn slope_of(weight: u64, length: u64) -> Slope {
     }
 }
 
-/// The number as one with a sign. The weight and the length of a cycle always fit.
+/// The number as a signed number. The weight and the length of a cycle always fit.
 fn signed(number: u64) -> i64 {
     i64::try_from(number).unwrap_or(i64::MAX)
 }
@@ -167,7 +169,7 @@ fn reversed(alloc: Global, states: &[u32]) -> Result<Items<u32>, AllocError> {
     Ok(Items::from_vec(states))
 }
 
-/// A cycle and potentials that should show the least mean. If the search gave up, they need not.
+/// A cycle and potentials that should show the least mean. If the search gave up, they may not show it.
 pub(crate) fn sought(alloc: Global, states: u32, edges: &[Edge]) -> Result<Found, AllocError> {
     let count = states as usize;
     let mut potentials = vec![in alloc; 0i64; count]?;

@@ -10,7 +10,8 @@ use crate::rises::{gentlest, potentials, ranks, reduced};
 use crate::walk_cycle::cycle_on_walk;
 use std::alloc::{AllocError, Global};
 
-/// A cycle of least mean, by its edges, with potentials; or ranks that fall along each edge, so that there is no cycle.
+/// A cycle of least mean, given by its edges, with potentials; or ranks that fall along each edge, which show that there is
+/// no cycle.
 #[derive(Drop)]
 pub(crate) enum EdgeMean {
     Least {

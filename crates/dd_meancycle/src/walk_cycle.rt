@@ -1,5 +1,5 @@
 //! A cycle on a lightest walk of the table's greatest length. Such a walk has as many edges as there are states, so it comes
-//! to some state twice.
+//! to some state at least twice.
 ghost use Rattle.std.specs.Prelude.{◌≡◌, ℕ, ◌+◌, ◌<◌, ◌≤◌, ◌^◌, length, IfOk, replicate, reverse, Some, None, drop};
 ghost use Rattle.std.specs.List.{All, find};
 ghost use Rattle.dd_meancycle.specs.table.Levels.{IsEdgeOf, AreRows, level_weight_at};
@@ -23,7 +23,8 @@ fn is_back(before: &[Option<u32>], state: u32, weight: u32, edge: &Edge) -> bool
     }
 }
 
-/// An edge that, after a lightest walk of the level `before`, leads to the state with the weight `weight`.
+/// An edge that extends a lightest walk of the level `before` to a walk of the weight `weight` to the state, or `None` if
+/// there is no such edge.
 fn back_edge(edges: &[Edge], before: &[Option<u32>], state: u32, weight: u32) -> Option<Edge>
     requires edges { All (IsEdgeOf (length before.now)) edges.now }
     ensures { result ≡ find (is_back before.now state weight) edges.now }
@@ -43,7 +44,8 @@ fn reversed(alloc: Global, path: &[Edge]) -> Result<Vec<Edge>, AllocError>
     path.iter().rev().copied().collect(alloc)
 }
 
-/// The edges of the backward path from `start` on, as a forward walk.
+/// The edges of the path from the place `start` on, in the opposite order. The path runs backwards, so they are a forward
+/// walk.
 fn cycle_from(alloc: Global, path: &[Edge], start: usize) -> Result<Vec<Edge>, AllocError>
     requires { start ≤ length path.now }
     ensures { IfOk result (λ v. v.items ≡ reverse (drop start path.now)) }
@@ -51,8 +53,8 @@ fn cycle_from(alloc: Global, path: &[Edge], start: usize) -> Result<Vec<Edge>, A
     reversed(alloc, &path[start..])
 }
 
-/// A cycle on a lightest walk of `last` edges to the state. The walk is followed back from the state, up to the first state
-/// that comes again. `seen` holds the place on the path at which each state came.
+/// A cycle on a lightest walk of `last` edges to the state. The walk is followed back from the state until it comes to some
+/// state for the second time. `seen` holds, for each state that the path has passed, its place on the path.
 pub(crate) fn cycle_on_walk(
     alloc: Global,
     edges: &[Edge],
@@ -90,7 +92,7 @@ pub(crate) fn cycle_on_walk(
     Ok(path)
 }
 
-/// The list `seen` before any state has come.
+/// The list `seen` before the path has passed any state.
 fn unseen(alloc: Global, states: usize) -> Result<Vec<Option<usize>>, AllocError>
     ensures { IfOk result (λ r. r.items ≡ replicate states None) }
 {

@@ -1,4 +1,4 @@
--- Automata by cases and compositions, if they have no fault, are well formed over the script.
+-- Automata by cases and compositions that have no fault are well formed, and fit the script's dimension, nodes and symbols.
 use Rattle.std.proofs.Common.{◌≡◌, ◌<◌, ◌≤◌, List, [], length, map, slice_index_or, refl, ap, subst, arith}
 use Rattle.std.proofs.lemmas.{List.Elements.All-map, List.Elements.All-get_or, Option.unwrap_or-slice_get}
 use Rattle.std.specs.List.{All, flat_map}
@@ -21,7 +21,7 @@ use Rattle.dd_formula.specs.declared.automaton.Automaton.TheVariants as automato
 same_numbers : (k : Known) → IsSound k → numbers_over k.setting.topology k.setting.sets ≡ script_numbers k.setting
 same_numbers k sound = rw sound.setting.alphabet refl
 
--- the automaton that was made is the one that is meant, and is well formed over the script
+-- the automaton that was made is the one that is meant, and it is well formed and fits the script
 abbrev pub IsDefined : Context → Word → Automaton → Automaton → Type 0
 IsDefined x called made whole =
     ((automaton_faults x whole ≡ []) × (Meaning.Automaton called made ≡ Meaning.Automaton called whole)) × (IsNew x called × IsAutomatonOf x.known.setting whole)

@@ -20,7 +20,7 @@ use Rattle.dd_meanings.proofs.{Nothing.parts, Nothing.none_at, NameLaws.is_found
 
 -- ---- labels in order of first occurrence
 
--- a name that was seen, or comes later, is in the list of names in order of first occurrence
+-- a name that is in `seen`, or among the names that come later, is in the list of names in order of first occurrence
 seen_all : (seen ns : List (List ℕ)) (m : List ℕ) → (list_any (bytes_eq m) seen || list_any (bytes_eq m) ns) ≡ true → list_any (bytes_eq m) (first_seen_names seen ns) ≡ true
 seen_all seen [] m h = grind (arith, common_steps)
 seen_all seen (n ∷ ns) m h = grind (arith, common_steps, nat_tests, bytes_eq-Decides, seen_all (if list_any (bytes_eq n) seen then seen else seen ++ n ∷ []) ns m)

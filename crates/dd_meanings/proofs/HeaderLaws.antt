@@ -16,7 +16,7 @@ use Rattle.dd_meanings.proofs.Nothing.{parts}
 pub dimension_is : (x : Context) (n : Number) (d : ℕ) → faults_of x (Command.Dimension n) ≡ [] → d ≡ min (written_value x.text n) 4294967295 → d ≡ written_value x.text n
 dimension_is x n d h is = grind (arith, common_steps)
 
--- the default topology has as many nodes as were asked for
+-- the default topology is well formed and has n nodes
 pub default_sound : (d n : ℕ) (g : Grid) → IsGrid g → g ≡ default_grid d n → IsGridOf n (default_grid d n)
 default_sound d n g sound is = record { grid = subst IsGrid is sound; nodes = grind (arith, parts) }
 
@@ -43,7 +43,7 @@ restriction_is x node symbols some h =
 
 -- ---- weights and limits
 
--- a weight without a fault is not cut off
+-- the value of a weight without a fault is not cut off at the greatest 32-bit number
 pub uncut : (x : Context) (ns : List Number) → flat_map (weight_faults x) ns ≡ [] → map (λ n. min (written_value x.text n) 4294967295) ns ≡ map (written_value x.text) ns
 uncut x [] none = refl
 uncut x (n ∷ ns) none = grind (arith, parts, uncut x ns)

@@ -1,4 +1,4 @@
--- The rules in an automaton have the script's topology and alphabets, as those in its parts do.
+-- The rules in an automaton are made over the script's topology and the symbols that its nodes allow, if those in its parts are.
 use Rattle.std.proofs.Common.{◌≡◌, ℕ, List, ◌++◌, map, refl, ap, sym, ◌∙◌}
 use Rattle.std.proofs.lemmas.List.Elements.{All-map, All-append}
 use Rattle.std.specs.List.{All}

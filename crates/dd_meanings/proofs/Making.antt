@@ -1,4 +1,4 @@
--- What a loop has made from a list, after one more element.
+-- What a loop over a list has made, after one more element.
 use Rattle.std.proofs.Common.{◌≡◌, ℕ, ◌+◌, ◌<◌, List, [], ◌∷◌, ◌++◌, length, map, take, slice_index_or, arith}
 use Rattle.std.proofs.lemmas.Grind.{common_steps}
 

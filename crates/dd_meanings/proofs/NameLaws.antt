@@ -1,4 +1,4 @@
--- Names and their numbers, and names that do not repeat.
+-- Names and their numbers, and names that are new.
 use Rattle.std.proofs.Common.{◌≡◌, ℕ, ◌<◌, ◌+◌, true, false, List, [], ◌∷◌, length, Some, Contains, refl, sym, ◌∙◌, arith, true≢false, bytes_eq, unwrap_or, is_some}
 use Rattle.std.proofs.lemmas.{Bool.Decides.nat_tests, Grind.common_steps}
 use Rattle.std.specs.List.{list_any}
@@ -19,7 +19,7 @@ same_name names a b there there' same =
     let other = slice_get-number_of names b (unwrap_or (number_of names b) 0) (grind (arith, common_steps)) in
     let is : Some a ≡ Some b = cc in (cc)
 
--- a word that is a variable has one of the numbers in scope
+-- the number of a word that is a variable is 0 or that of a variable in scope
 pub variable_below : (bytes : List ℕ) (scope : List Word) (w : Word) → unknown_variable bytes scope w ≡ [] → variable_number bytes scope w < length scope + 1
 variable_below bytes scope w none = grind (arith, common_steps)
 

@@ -4,7 +4,7 @@ use Rattle.std.specs.List.{flat_map}
 use Rattle.std.proofs.lemmas.{Bool.Decides.nat_tests, List.length-map}
 use Rattle.dd_faults.specs.lemmas.Nothing.{all_where, parts as apart}
 
--- what `grind` needs for taking apart a list without faults
+-- what `grind` needs to split an empty list of faults into its parts
 pub ruleset parts = (apart, nat_tests, length-map)
 
 -- if the elements from i on have no fault, neither has element i nor those after it

@@ -9,7 +9,7 @@ use Rattle.dd_formula.specs.{declared.fault.RuleFault.RuleFault, lemmas.CasesLaw
 use Rattle.dd_faults.specs.Order.{first_fault, Refuses}
 use Rattle.dd_meanings.specs.Definitions.{rule_counts, count_faults, rule_faults, refusal_of}
 
--- why a composition is refused
+-- a composition is refused for the first limit that its counts exceed, or because memory ran out
 pub fault_refuses : (n : ℕ) (f : Counted) (e : RuleFault) → IsCompositionFault n f e → Refuses (refusal_of e) (first_fault (count_faults n f))
 fault_refuses n f RuleFault.Instances h = grind (arith, common_steps)
 fault_refuses n f RuleFault.Reach h = grind (arith, common_steps)
@@ -26,7 +26,7 @@ module _ (r : LocalRule) where
   small_is_few : IsSmall r → is_few r.nodes (rule_counts r) ≡ true
   small_is_few h = range_from (λ a. nat_le (instances (expansion_at r a)) most_instances) 0 r.nodes (λ a low high. le-leb _ _ (h a (omega arith)))
 
-  -- why a formula is refused as a rule
+  -- a rule is refused for the first limit that its counts exceed, or because memory ran out
   pub rule_refuses : (e : RuleFault) → IsRuleRefusal r e → Refuses (refusal_of e) (first_fault (rule_faults r))
   rule_refuses e h = fault_refuses r.nodes (rule_counts r) e (passes_one r.nodes (rule_counts r) e (refused r (rule_counts r) (λ a. omega arith) (λ a far. far) e small_is_few h))
 

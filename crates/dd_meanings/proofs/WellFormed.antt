@@ -22,14 +22,14 @@ all_without : {X Y F : Type 0} (p : Y → Bool) (h : X → Y) (g : X → List F)
 all_without p h g each xs none = list_all-map p h xs ∙ list_all-from_AllPass (λ x. p (h x)) xs (all_where (λ x. p (h x) ≡ true) g each xs none)
 
 module _ (x : Context) (same : x.known.setting.topology.nodes ≡ length x.known.setting.nodes) (alphabet : x.known.setting.sets.symbols ≡ length x.known.setting.symbols) where
-  -- the formula's numbers are in range, with this many variables in scope
+  -- whether the formula's numbers are in range, if this many variables are in scope
   abbrev its_fits : Formula → ℕ → Bool
   its_fits = formula_fits x.known.setting.topology x.known.setting.sets.symbols
 
   abbrev symbol : ℕ → Bool
   symbol n = nat_lt n x.known.setting.sets.symbols
 
-  -- the formula's numbers are in range, with k variables in scope, and it is at most d deep
+  -- the formula's numbers are in range, if k variables are in scope, and the formula is at most d deep
   abbrev Fine : Formula → ℕ → ℕ → Type 0
   Fine f k d = (its_fits f k ≡ true) × (depth f ≤ d)
 
@@ -54,7 +54,7 @@ module _ (x : Context) (same : x.known.setting.topology.nodes ≡ length x.known
     abbrev TermFits : Term → Type 0
     TermFits t = term_fits x.known.setting.topology (length scope + 1) t ≡ true
 
-    -- the right side is in range, be it a symbol or a term
+    -- the numbers of the right side are in range, whether it is a symbol or a term
     abbrev SideFits : Operand → Type 0
     SideFits (Operand.Symbol n) = symbol n ≡ true
     SideFits (Operand.Term u) = TermFits u
@@ -95,7 +95,7 @@ module _ (x : Context) (same : x.known.setting.topology.nodes ≡ length x.known
     quantified_is Quantifier.All bs f d fit body = rolled (Formula-F.ForAll bs f) (length scope + 1) (1 + d) (and_from _ _ fit body.0) (omega (arith, body.1))
     quantified_is Quantifier.Exists bs f d fit body = rolled (Formula-F.Exists bs f) (length scope + 1) (1 + d) (and_from _ _ fit body.0) (omega (arith, body.1))
 
-  -- in each scope in which the written formula has no fault, its meaning has its numbers in range and is no deeper than itself
+  -- in each scope in which the written formula has no fault, the numbers of its meaning are in range, and its meaning is no deeper than the formula
   abbrev IsFine : Written → Type 0
   IsFine f = (scope : List Word) → formula_faults x f scope ≡ [] → Fine (formula_of x f scope) (length scope + 1) (written_depth f)
 
@@ -117,7 +117,7 @@ module _ (x : Context) (same : x.known.setting.topology.nodes ≡ length x.known
     abbrev faults : List Known → List Fault
     faults fs = flat_map (λ (f : List Word → List Fault). f scope) (map (formula_faults x) (map (λ f. f.0) fs))
 
-    -- chains of `&` or `|`, in which one sign stands above each part
+    -- chains of `&` or `|`, in which each part has one sign above it in the tree
     list_is : (j : Join) → ((n i : ℕ) → signs_over j n i ≡ 1) → (n i : ℕ) (fs : List Known) → faults fs ≡ []
         → (list_all (λ (f : ℕ → Bool). f (length scope + 1)) (map its_fits (meant fs)) ≡ true) × (1 + greatest (map depth (meant fs)) ≤ max 1 (chain_depth j n i (depths fs)))
     list_is j one n i [] none = (refl, omega arith)
@@ -131,7 +131,7 @@ module _ (x : Context) (same : x.known.setting.topology.nodes ≡ length x.known
     list_no_deeper j n [] le one = omega arith
     list_no_deeper j n (f ∷ fs) le one = grind (arith, le, one n 0)
 
-    -- chains of `->`: the parts from part i of n on, which stand below the i signs before them
+    -- chains of `->`: the parts from part i of n on, which are below the i signs before them in the tree
     implied_is : (n i : ℕ) (f : Known) (fs : List Known) → n ≡ i + (1 + length fs) → faults (f ∷ fs) ≡ []
         → (its_fits (implied_of (meant (f ∷ fs))) (length scope + 1) ≡ true) × (i + depth (implied_of (meant (f ∷ fs))) ≤ chain_depth Join.Implies n i (depths (f ∷ fs)))
     implied_is n i f [] count none =

@@ -6,7 +6,7 @@ use Rattle.dd_meanings.specs.Tree.{Lexeme, Case, Command, Written}
 use Rattle.dd_written.specs.{Formulas.tree_depth, reading.Readers.ReadsAll}
 use Rattle.dd_commands.specs.{Commands.IsCase, Commands.IsBody, Scripts.IsWritten}
 
--- the tokens of its body
+-- the tokens of the command's body
 pub body : (bytes : List ℕ) (w : Written) (c : Command) → w.command ≡ c → IsWritten bytes w → (tokens : List Lexeme) × IsBody bytes c tokens
 body bytes w c is h = (h.is.0, subst (λ (d : Command). IsBody bytes d h.is.0) is h.is.2)
 

@@ -1,4 +1,5 @@
--- What definitions mean, and the limits that counts exceed.
+-- What definitions mean, and which limits the counts of rules and automata exceed. x is the context of the command: its text, and what the script
+-- has said before it.
 use Rattle.std.specs.Prelude.{ℕ, List, [], ◌∷◌, ◌++◌, map, not, Option, unwrap_or}
 use Rattle.std.specs.List.{slice_get}
 use Rattle.dd_pattern.specs.{Periods.periods_of as with_shear, Tile.Tile, Tile.tile}
@@ -14,7 +15,7 @@ use Rattle.dd_meanings.specs.Formulas.{formula_of}
 
 -- ---- what is defined
 
--- the rule of a formula, over the script's topology and the symbols that its nodes allow
+-- the rule made from a formula, over the script's topology and the symbols that its nodes allow
 abbrev pub rule_of : Context → Formula → LocalRule
 rule_of x f = local_rule x.known.setting.topology x.known.setting.sets (formula_of x f [])
 
@@ -27,7 +28,7 @@ case_of x c = (formula_of x c.condition [], symbol_of x c.symbol)
 abbrev pub automaton_of : Context → List Case → Name → Automaton
 automaton_of x cases symbol = by_cases x.known.setting.topology x.known.setting.sets (map (case_of x) cases) (symbol_of x symbol)
 
--- the automaton with this name; one without cases if there is none
+-- the automaton with this name; an automaton without cases if there is none
 abbrev pub automaton_named : Context → List Automaton → Word → Automaton
 automaton_named x automata w = unwrap_or (slice_get automata (number_in x.text x.known.automata (Name.Word w))) (automaton.Given (record { cases = []; otherwise = 0 }))
 
@@ -35,18 +36,18 @@ automaton_named x automata w = unwrap_or (slice_get automata (number_in x.text x
 abbrev pub composition_of : Context → List Automaton → Word → Word → Automaton
 composition_of x automata outer inner = automaton.Composed (automaton_named x automata outer) (automaton_named x automata inner)
 
--- the periods of a configuration; 1 along a missing axis
+-- the periods of a configuration, with 1 for each axis that the vector doesn't have
 abbrev pub configuration_periods : List ℕ → Vector → List ℕ
 configuration_periods bytes v = period_at bytes v 0 ∷ period_at bytes v 1 ∷ period_at bytes v 2 ∷ []
 
--- a configuration, with its symbols in cell order; if no shear is given, it is 0
+-- a configuration, with its symbols in cell order; the shear is 0 if none is given
 abbrev pub tile_of : Context → Vector → Option Vector → List Name → Tile
 tile_of x periods shear symbols =
     tile (dimension_of x.known) (with_shear (configuration_periods x.text periods) (shear_of x.text shear)) x.known.setting.topology.nodes (map (symbol_of x) symbols)
 
 -- ---- counts
 
--- the counts of a rule
+-- the counts of a rule; its depth, which says how deep compositions are nested, is 0
 abbrev pub rule_counts : LocalRule → Counted
 rule_counts r = record { reads = reads_at r; instances = λ a. instances (expansion_at r a); depth = 0 }
 
@@ -60,7 +61,7 @@ rule_faults r = count_faults r.nodes (rule_counts r)
 abbrev pub automaton_faults : Context → Automaton → List Fault
 automaton_faults x f = count_faults x.known.setting.topology.nodes (counted f)
 
--- why a command is refused if its rule or automaton could not be made
+-- the refusal of a command whose rule or automaton could not be made because of this fault
 abbrev pub refusal_of : RuleFault → Refusal
 refusal_of RuleFault.Reach = Refusal.At (Fault.Size Limit.Reach)
 refusal_of RuleFault.Instances = Refusal.At (Fault.Size Limit.Instances)

@@ -1,4 +1,5 @@
--- Formulas, with numbers in place of names. A scope is the list of the bound variables, the outermost first.
+-- Formulas, with numbers in place of names. A term names a cell, by a variable and moves along edges. A ball has a variable as its centre, and a
+-- radius. A scope is the list of the bound variables, the outermost first.
 use Rattle.std.specs.Prelude.{ℕ, List, [], ◌∷◌, ◌++◌, map, unwrap_or, if◌then◌else◌}
 use Rattle.dd_meanings.specs.Tree.{Word, Name, Term as WrittenTerm, Comparand, Relation, Atom, Ball, Quantifier, Join, Formula as Written, Formula-F as Written-F, fold-Formula, Context}
 use Rattle.dd_written.specs.Values.{written_value}
@@ -8,7 +9,7 @@ use Rattle.dd_expansion.specs.declared.formulas.Formula.TheOpen.{Formula-F}
 use Rattle.dd_faults.specs.{Names.number_in, Names.variable_of, Formulas.names_symbol}
 use Rattle.dd_meanings.specs.declared.atoms.Operand.{Operand}
 
--- the number of a variable; 0 if the word is no variable
+-- the number of a variable, or 0 if the word is no variable
 abbrev pub variable_number : List ℕ → List Word → Word → ℕ
 variable_number bytes scope w = unwrap_or (variable_of bytes scope w) 0
 
@@ -31,7 +32,7 @@ abbrev pub not_equal_of : Term → Operand → Formula
 not_equal_of t (Operand.Symbol n) = roll-Formula (Formula-F.NotSymbol t n)
 not_equal_of t (Operand.Term u) = roll-Formula (Formula-F.NotSame t u)
 
--- what an atom says of its term; `@` gives `Place`, for `Same` compares symbols
+-- what an atom says of its term t; `@` says that two terms name the same cell, so it becomes `Place`, while `Same` compares symbols
 abbrev pub said_of : Context → List Word → Term → Relation → Formula
 said_of x scope t (Relation.Equal r) = equal_of t (side_of x scope r)
 said_of x scope t (Relation.NotEqual r) = not_equal_of t (side_of x scope r)
@@ -51,7 +52,7 @@ implied_of [] = roll-Formula (Formula-F.And [])
 implied_of (f ∷ []) = f
 implied_of (f ∷ g ∷ gs) = roll-Formula (Formula-F.Implies f (implied_of (g ∷ gs)))
 
--- joins what is joined so far with the parts after it, since `<->` groups to the left
+-- joins f, the part of a chain that is already joined, with the parts after it; `<->` groups to the left
 abbrev pub iff_behind : Formula → List Formula → Formula
 iff_behind f [] = f
 iff_behind f (g ∷ gs) = iff_behind (roll-Formula (Formula-F.Iff f g)) gs
@@ -70,8 +71,8 @@ abbrev pub quantified_of : Quantifier → List BallOf → Formula → Formula
 quantified_of Quantifier.All balls f = roll-Formula (Formula-F.ForAll balls f)
 quantified_of Quantifier.Exists balls f = roll-Formula (Formula-F.Exists balls f)
 
--- What a formula means in a scope, from what its parts mean. The variable of a quantifier is in scope in its body, but not in its
--- balls. Parentheses disappear.
+-- What a formula means in a scope, given what its parts mean. The variable of a quantifier is in scope in the quantifier's body, but not in its
+-- balls. Parentheses leave no trace.
 abbrev pub formula_step : Context → Written-F (List Word → Formula) → List Word → Formula
 formula_step x (Written-F.Atom a) scope = atom_of x scope a
 formula_step x (Written-F.Not f) scope = roll-Formula (Formula-F.Not (f scope))

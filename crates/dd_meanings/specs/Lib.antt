@@ -1,16 +1,16 @@
--- the types of syntax trees, of what is known and of faults
+-- the types of syntax trees, of what a script has said before a command, and of faults
 pub mod Tree
--- what each command means, and the limits that a rule or an automaton exceeds by its counts
+-- what each command means, and the limits that the counts of a rule or an automaton exceed
 pub mod Meanings
--- rules and automata over the topology and the alphabets of a script
+-- rules and automata over a script's topology, its symbols, and the symbols that each node allows
 pub mod Made
 -- what always holds of a meaning
 pub mod Sound
--- what definitions mean, and the limits that counts exceed
+-- what definitions mean, and which limits the counts of rules and automata exceed
 pub mod Definitions
 -- formulas, with numbers in place of names
 pub mod Formulas
--- topologies
+-- the topologies that commands give
 pub mod Topologies
 -- lemmas on these definitions, for other crates
 pub mod lemmas

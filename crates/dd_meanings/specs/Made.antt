@@ -1,4 +1,4 @@
--- Rules and automata over the topology and the alphabets of a script.
+-- Rules and automata over a script's topology, its symbols, and the symbols that each node allows.
 use Rattle.std.specs.{Prelude.ℕ, Prelude.◌≡◌, Prelude.List, Prelude.◌++◌, Prelude.length, Prelude.map, List.All}
 use Rattle.dd_expansion.specs.Limits.{IsFormula}
 use Rattle.dd_formula.specs.LocalRule.{LocalRule, local_rule, IsRule}
@@ -10,7 +10,7 @@ use Rattle.dd_meanings.specs.Tree.{Setting}
 abbrev pub script_numbers : Setting → Numbers
 script_numbers s = record { dimension = s.topology.dimension; nodes = s.topology.nodes; symbols = length s.symbols }
 
--- a well-formed rule over the script's topology, symbols and sets
+-- a well-formed rule over the script's topology, its symbols, and the sets of symbols that its nodes allow
 pub record IsRuleOf (s : Setting) (r : LocalRule) : Type 0 where
   pub rule : IsRule r
   pub dimension : r.dimension ≡ s.topology.dimension
@@ -33,7 +33,8 @@ pub record IsMadeOver (s : Setting) (r : LocalRule) : Type 0 where
   pub same : r ≡ local_rule s.topology s.sets r.formula
   pub formula : IsFormula s.topology s.sets.symbols r.formula
 
--- a well-formed automaton over the script's numbers; each rule in it is made over the script's topology and alphabets
+-- a well-formed automaton with the script's dimension, nodes and symbols; each rule in it is made over the script's topology and the symbols that
+-- its nodes allow
 pub record IsAutomatonOf (s : Setting) (f : Automaton) : Type 0 where
   pub automaton : IsAutomaton (script_numbers s) f
   pub rules : All (IsMadeOver s) (rules_in f)

@@ -1,4 +1,4 @@
--- What each command means, and the limits that a rule or an automaton exceeds by its counts.
+-- What each command means, and the limits that the counts of a rule or an automaton exceed.
 use Rattle.std.specs.Prelude.{List, [], length, map, true, false, if◌then◌else◌}
 use Rattle.dd_meanings.specs.Tree.{Kind, Command, Fault, Context}
 use Rattle.dd_topology.specs.Builtin.{grid_of}
@@ -10,7 +10,7 @@ use Rattle.dd_query.specs.Queries.{query_of}
 use Rattle.dd_meanings.specs.{declared.meaning.Meaning.Meaning, Topologies.default_grid, Topologies.kind_names, Topologies.grid_by}
 use Rattle.dd_meanings.specs.Definitions.{symbol_of, rule_of, automaton_of, composition_of, tile_of, rule_faults, automaton_faults}
 
--- a built-in topology, which brings its own nodes if no command has named any
+-- what the command that gives a built-in topology means; it also gives the names of the nodes, if no command has named any
 abbrev pub kind_meaning : Context → Kind → Meaning
 kind_meaning x k = if x.known.nodes_are_given then Meaning.Topology (grid_of k) else Meaning.Nodes (kind_names k) false (grid_of k)
 
@@ -30,7 +30,7 @@ meaning x automata (Command.Composition name outer inner) = Meaning.Automaton na
 meaning x automata (Command.Configuration name periods shear symbols) = Meaning.Configuration name (tile_of x periods shear symbols)
 meaning x automata (Command.Query r) = Meaning.Query (query_of x r)
 
--- the limits that a rule or an automaton exceeds by its counts, which are known once it is made
+-- the limits that the counts of a command's rule or automaton exceed; these counts are known once the rule or automaton is made
 abbrev pub counted_sizes : Context → List Automaton → Command → List Fault
 counted_sizes x automata (Command.Dimension n) = []
 counted_sizes x automata (Command.Nodes names) = []

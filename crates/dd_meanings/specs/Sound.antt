@@ -12,13 +12,13 @@ use Rattle.dd_meanings.specs.Tree.{Word, Command, Refusal, Setting, Context}
 use Rattle.dd_meanings.specs.{Made.IsRuleOf, Made.IsAutomatonOf, declared.meaning.Meaning.Meaning, Meanings.meaning, Meanings.counted_sizes}
 use Rattle.dd_query.specs.Queries.{IsQueryWithin}
 
--- one name or more, at most `most`, and none twice
+-- at least one name and at most `most` of them, and no name twice
 pub record AreNames (most : ℕ) (names : List (List ℕ)) : Type 0 where
   pub some : 1 ≤ length names
   pub few : length names ≤ most
   pub distinct : AreDistinct names
 
--- the number of a node, and the numbers of one symbol or more
+-- the number of a node, and the numbers of at least one symbol
 pub record IsSymbolRestriction (s : Setting) (node : ℕ) (symbols : List ℕ) : Type 0 where
   pub exists : node < length s.nodes
   pub some : 1 ≤ length symbols
@@ -30,13 +30,13 @@ pub record IsNew (x : Context) (w : Word) : Type 0 where
   pub automata : ¬ Contains x.known.automata (word_text x.text w)
   pub configurations : ¬ Contains x.known.configurations (word_text x.text w)
 
--- a configuration with the script's dimension and nodes, each cell with a symbol that its node allows
+-- a configuration with the script's dimension and nodes, in which each cell has a symbol that its node allows
 pub record IsConfigurationOf (s : Setting) (t : Tile) : Type 0 where
   pub tile : IsTile t
   pub dimension : t.dimension ≡ s.topology.dimension
   pub nodes : t.nodes ≡ s.topology.nodes
   pub symbols : All (λ symbol. symbol < length s.symbols) t.symbols
-  -- in the order of the cells the node varies fastest, so cell i has the node i % t.nodes
+  -- in cell order the node varies fastest, so cell i is at the node i % t.nodes
   pub allowed : (i : ℕ) → i < length t.symbols → allows s.sets (i % t.nodes) (slice_index t.symbols i) ≡ true
 
 abbrev pub IsSoundMeaning : Context → Meaning → Type 0
@@ -51,6 +51,7 @@ IsSoundMeaning x (Meaning.Automaton name f) = IsNew x name × IsAutomatonOf x.kn
 IsSoundMeaning x (Meaning.Configuration name t) = IsNew x name × IsConfigurationOf x.known.setting t
 IsSoundMeaning x (Meaning.Query q) = IsQueryWithin x.known q
 
--- The result is what the command means, and is sound; or the command is refused for the first limit that its counts exceed.
+-- The result is what the command means, and is sound; or the command is refused for the first limit that its counts exceed, or because memory ran
+-- out.
 abbrev pub Means : Result Meaning Refusal → Context → List Automaton → Command → Type 0
 Means result x automata c = Resolves result (counted_sizes x automata c) (meaning x automata c) × OnOk result (IsSoundMeaning x (meaning x automata c))

@@ -11,11 +11,11 @@ use Rattle.dd_query.specs.Vectors.{place_of}
 abbrev pub plain_kind : ℕ → Kind
 plain_kind d = if d == 1 then Kind.Line else (if d == 3 then Kind.Cube else Kind.Square)
 
--- The topology if the script gives none. One node has the built-in topology of the dimension. More nodes have no edges.
+-- The topology of a script that gives none. With one node it is the built-in topology of the dimension, with more nodes it has no edges.
 abbrev pub default_grid : ℕ → ℕ → Grid
 default_grid d nodes = if nodes == 1 then grid_of (plain_kind d) else grid d nodes [] []
 
--- the names of the nodes of a built-in topology, if the script names none
+-- the names that the nodes of a built-in topology have if the script gives none
 abbrev pub kind_names : Kind → List (List ℕ)
 kind_names Kind.Line = codes "0" ∷ []
 kind_names Kind.Square = codes "0" ∷ []
@@ -26,7 +26,7 @@ kind_names Kind.Cube = codes "0" ∷ []
 
 -- ---- edges
 
--- the names in `seen`, and then all others, each once, in order of first occurrence
+-- the names in `seen`, and then all other names of the list, each once, in order of first occurrence
 abbrev pub first_seen_names : List (List ℕ) → List (List ℕ) → List (List ℕ)
 first_seen_names seen [] = seen
 first_seen_names seen (n ∷ ns) = first_seen_names (if list_any (bytes_eq n) seen then seen else seen ++ n ∷ []) ns

@@ -1,4 +1,6 @@
-//! Terms, atoms and balls, with numbers in place of names. A scope is the list of the bound variables, the outermost first.
+//! Terms, atoms and balls, with numbers in place of names. A term names a cell, by a variable and moves along edges. An atom is a
+//! formula about one or two terms. A ball has a variable as its centre, and a radius. A scope is the list of the bound variables,
+//! the outermost first.
 ghost use Rattle.std.specs.Prelude.{◌≡◌, ◌≤◌, [], length, map, IfOk};
 ghost use Rattle.std.specs.List.{flat_map};
 ghost use Rattle.dd_faults.specs.{Names.number_in, Formulas.names_symbol, Formulas.ball_faults};
@@ -14,7 +16,8 @@ use dd_written::{
 };
 use std::alloc::Global;
 
-/// The number of a variable: 0 for `o`, and then from 1 in the order of the scope. It is 0 if the word is no variable.
+/// The number of a variable: 0 for `o`, and 1, 2, .. for the variables in scope, in their order. It is also 0 if the word is no
+/// variable.
 fn variable(text: &Text, scope: &[Word], word: Word) -> u32
     requires { length scope.now ≤ 64 }
     ensures { result ≡ variable_number text.now scope.now word }
@@ -29,7 +32,7 @@ fn variable(text: &Text, scope: &[Word], word: Word) -> u32
     }
 }
 
-/// The number of a label; 0 if no edge has it.
+/// The number of a label, or 0 if no edge has the label.
 fn label(context: &Context, word: Word) -> u32
     ensures { result ≡ label_of context.now word }
 {
@@ -37,7 +40,7 @@ fn label(context: &Context, word: Word) -> u32
     context.known.setting.topology.label(text).unwrap_or(0)
 }
 
-/// The numbers of labels.
+/// The numbers of the labels of these moves.
 fn labels(alloc: Global, context: &Context, moves: &[Word]) -> Made<Items<u32>>
     ensures { IfOk result (λ labels. labels ≡ map (label_of context.now) moves.now) }
 {
@@ -58,7 +61,7 @@ fn term(alloc: Global, context: &Context, scope: &[Word], term: &Written) -> Mad
     Ok(Term { variable, moves })
 }
 
-/// The number of the symbol with this name; 0 if there is none.
+/// The number of the symbol with this name, or 0 if there is no such symbol.
 fn symbol(context: &Context, name: Name) -> u32
     ensures { result ≡ number_in context.now.text context.now.known.setting.symbols name }
 {
@@ -88,7 +91,7 @@ fn side(alloc: Global, context: &Context, scope: &[Word], side: &Comparand) -> M
     }
 }
 
-/// The formula that the cell of a term has the symbol on the right, or the same symbol as the cell of the term on the right.
+/// The formula that the term's cell has the symbol on the right side; or if that side is a term, the same symbol as its cell.
 fn equal(term: Term, side: Operand) -> Formula
     ensures { result ≡ equal_of term side }
 {
@@ -98,7 +101,8 @@ fn equal(term: Term, side: Operand) -> Formula
     }
 }
 
-/// The formula that the cell of a term has another symbol than the one on the right, or than the cell of the term on the right.
+/// The formula that the term's cell doesn't have the symbol on the right side; or if that side is a term, has another symbol than
+/// its cell.
 fn not_equal(term: Term, side: Operand) -> Formula
     ensures { result ≡ not_equal_of term side }
 {
@@ -108,7 +112,8 @@ fn not_equal(term: Term, side: Operand) -> Formula
     }
 }
 
-/// What an atom means in a scope. `@` gives `Formula::Place`, for `Formula::Same` compares symbols.
+/// What an atom means in a scope. `@` says that two terms name the same cell. It becomes `Formula::Place`, because
+/// `Formula::Same` compares symbols.
 pub(crate) fn atom(alloc: Global, context: &Context, scope: &[Word], atom: &Atom) -> Made<Formula>
     requires { length scope.now ≤ 64 }
     ensures { IfOk result (λ f. f ≡ atom_of context.now scope.now atom.now) }

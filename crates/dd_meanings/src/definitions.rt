@@ -20,7 +20,7 @@ use dd_values::Items;
 use dd_written::{Formula, Name, Word};
 use std::alloc::Global;
 
-/// Why a command is refused if its rule or automaton could not be made.
+/// The refusal of a command whose rule or automaton could not be made because of this fault.
 pub fn refusal_of(fault: RuleFault) -> Refusal
     ensures { result ≡ refusal_of fault }
 {
@@ -32,7 +32,8 @@ pub fn refusal_of(fault: RuleFault) -> Refusal
     }
 }
 
-/// What a definition of a rule means: the rule of its formula, over the script's topology and the symbols that the nodes allow.
+/// What a definition of a rule means: the rule made from its formula, over the script's topology and the symbols that the nodes
+/// allow.
 pub(crate) fn rule(alloc: Global, context: &Context, name: Word, formula: &Formula) -> Resolved
     requires sound { IsSound context.now.known }
     requires shallow { tree_depth formula.now ≤ 64 }
@@ -47,7 +48,7 @@ pub(crate) fn rule(alloc: Global, context: &Context, name: Word, formula: &Formu
     }
 }
 
-/// What cases without faults mean: for each, its formula and the number of its symbol.
+/// What cases without faults mean: for each case, its formula and the number of its symbol.
 fn cases_of(alloc: Global, context: &Context, cases: &[Case]) -> Made<Items<(Meant, u32)>>
     requires shallow { All (λ c. tree_depth c.condition ≤ 64) cases.now }
     requires faultless { flat_map (case_faults context.now) cases.now ≡ [] }
@@ -62,7 +63,7 @@ fn cases_of(alloc: Global, context: &Context, cases: &[Case]) -> Made<Items<(Mea
     Ok(made)
 }
 
-/// What a definition of an automaton means: it has these cases, and a default symbol for cells at which no case is true.
+/// What a definition of an automaton means: an automaton with these cases, and a default symbol for cells at which no case is true.
 pub(crate) fn automaton(
     alloc: Global,
     context: &Context,
@@ -95,7 +96,8 @@ fn named(alloc: Global, context: &Context, automata: &[Automaton], word: Word) -
     automata[number as usize].copy(alloc)
 }
 
-/// What a composition means: `inner` is applied first, then `outer`. Both are given by their names.
+/// What a definition of a composition means: the automaton that applies `inner` first, and then `outer`. Both are given by their
+/// names.
 pub(crate) fn composition(
     alloc: Global,
     context: &Context,
@@ -117,7 +119,7 @@ pub(crate) fn composition(
     }
 }
 
-/// What a definition of a configuration means: it has these periods, this shear and these symbols.
+/// What a definition of a configuration means: the configuration with these periods, this shear and these symbols.
 pub(crate) fn configuration(
     alloc: Global,
     context: &Context,

@@ -1,4 +1,5 @@
-//! Formulas, with numbers in place of names.
+//! Formulas, with numbers in place of names. A scope is the list of the bound variables, the outermost first. The variable of a
+//! quantifier ranges over the cells of its balls. A ball has a variable as its centre, and a radius.
 ghost use Rattle.std.specs.Prelude.{◌≡◌, ◌+◌, ◌≤◌, [], length, IfOk};
 ghost use Rattle.dd_written.specs.Formulas.{tree_depth};
 ghost use Rattle.dd_faults.specs.Formulas.{formula_faults};
@@ -13,7 +14,8 @@ use dd_values::{Boxed, Items};
 use dd_written::{Formula as Written, Join, Quantifier, Word};
 use std::alloc::Global;
 
-/// A chain of `->`. It groups to the right, so it is joined from the last part backwards. No parts give an empty `And`.
+/// Joins the parts of a chain of `->`. It groups to the right, so the parts are joined from the last one backwards. If there are
+/// no parts, the result is an empty `And`.
 #[tactic(auto, using(crate::proofs::Layers::implied_last))]
 fn implied(alloc: Global, parts: Items<Formula>) -> Made<Formula>
     ensures { IfOk result (λ f. f ≡ implied_of parts) }
@@ -30,7 +32,8 @@ fn implied(alloc: Global, parts: Items<Formula>) -> Made<Formula>
     Ok(whole)
 }
 
-/// A chain of `<->`. It groups to the left, so it is joined from the first part onwards. No parts give an empty `And`.
+/// Joins the parts of a chain of `<->`. It groups to the left, so the parts are joined from the first one onwards. If there are
+/// no parts, the result is an empty `And`.
 fn equivalent(alloc: Global, parts: Items<Formula>) -> Made<Formula>
     ensures { IfOk result (λ f. f ≡ iff_of parts) }
 {
@@ -48,7 +51,7 @@ fn equivalent(alloc: Global, parts: Items<Formula>) -> Made<Formula>
     Ok(whole)
 }
 
-/// A chain of these parts, with this sign between them.
+/// Joins the parts of a chain that has this connective between them.
 fn joined(alloc: Global, join: Join, parts: Items<Formula>) -> Made<Formula>
     ensures { IfOk result (λ f. f ≡ joined_of join parts) }
 {

@@ -1,5 +1,5 @@
-//! What the commands of the header mean, if they have no fault. Each has its function; `kind` is that of a built-in topology. For a
-//! topology given by edges, see `topologies`.
+//! What the commands of the header mean, if they have no fault. Each command has its own function; `kind` is for the command that
+//! gives a built-in topology. The command that gives a topology by its edges is in `topologies`.
 ghost use Rattle.std.specs.Prelude.{◌≡◌, ◌≤◌, [], length, map, IfOk};
 ghost use Rattle.dd_commands.specs.declared.command.Command.TheVariants as command;
 ghost use Rattle.dd_known.specs.Sound.{IsSound};

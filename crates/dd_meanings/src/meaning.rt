@@ -13,7 +13,7 @@ use std::alloc::AllocError;
 pub enum Meaning {
     /// A topology for the nodes that the script has so far.
     Topology(Topology),
-    /// The names of nodes with a topology for them, and whether a command `nodes` gave the names.
+    /// The names of the nodes, a topology for them, and whether the names were given by a `nodes` command.
     Nodes {
         nodes: Names,
         given: bool,
@@ -28,7 +28,7 @@ pub enum Meaning {
     },
     /// The weight of each symbol.
     Weights(Items<u32>),
-    /// The limits of the searches, for all queries from here on.
+    /// The limits of the searches, for all queries that follow.
     Limits(Limits),
     /// A rule with its name.
     Rule {
@@ -52,5 +52,5 @@ pub enum Meaning {
 /// What a command means, or why it is refused.
 pub(crate) type Resolved = Result<Meaning, Refusal>;
 
-/// A part of what a command means, unless memory ran out.
+/// A part of what a command means, or the error that memory ran out.
 pub(crate) type Made<T> = Result<T, AllocError>;

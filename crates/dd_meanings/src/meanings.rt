@@ -15,8 +15,8 @@ use dd_known::Context;
 use dd_query::ask;
 use std::alloc::Global;
 
-/// What a command without faults means. `automata` are those that were defined before it. A command that defines a rule or an
-/// automaton is refused if that has too many instances, reads too far or is too deep.
+/// What a command without faults means. `automata` are the automata that were defined before it. A command that defines a rule or
+/// an automaton is refused if the rule or automaton has too many instances, reads a cell that is too far away, or is too deep.
 pub fn mean(
     alloc: Global,
     context: &Context,

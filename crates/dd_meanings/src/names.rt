@@ -8,7 +8,7 @@ use dd_topology::{NameFault, Names};
 use dd_written::{Name, Text, name_text};
 use std::alloc::{AllocError, Global};
 
-/// Adds a name, which is not yet in the list.
+/// Adds a name that is not yet in the list.
 #[tactic(auto, using(dd_faults::specs::lemmas::Repeats::not_among))]
 pub fn add_new(alloc: Global, names: &mut Names, text: &str) -> Result<(), AllocError>
     requires few { length names.old < 2 ^ 32 - 1 }
@@ -18,7 +18,7 @@ pub fn add_new(alloc: Global, names: &mut Names, text: &str) -> Result<(), Alloc
     add_once(alloc, names, text)
 }
 
-/// Adds a name, unless it is in the list.
+/// Adds a name, unless it is already in the list.
 pub(crate) fn add_once(alloc: Global, names: &mut Names, text: &str) -> Result<(), AllocError>
     requires { length names.old < 2 ^ 32 - 1 }
     ensures { OnOk result (names.new ≡ (if list_any (bytes_eq text.now) names.old then names.old else names.old ++ text.now ∷ [])) }
@@ -30,7 +30,7 @@ pub(crate) fn add_once(alloc: Global, names: &mut Names, text: &str) -> Result<(
     }
 }
 
-/// The list of the one name `0`.
+/// The list that has only the name `0`.
 pub fn zero(alloc: Global) -> Result<Names, AllocError>
     ensures { IfOk result (λ names. names ≡ codes "0" ∷ []) }
 {
@@ -48,7 +48,7 @@ pub fn zero_and_one(alloc: Global) -> Result<Names, AllocError>
     Ok(names)
 }
 
-/// The texts of these names, which do not repeat.
+/// The list of the texts of these names, no two of which are the same.
 pub(crate) fn names_of(alloc: Global, text: &Text, written: &[Name]) -> Result<Names, AllocError>
     requires few { length written.now ≤ 16 }
     requires distinct { twice_named text.now written.now ≡ [] }

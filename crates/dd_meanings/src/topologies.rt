@@ -30,7 +30,8 @@ fn plain_kind(dimension: u32) -> Kind
     }
 }
 
-/// The topology if the script gives none. One node has the built-in topology of the dimension. More nodes have no edges.
+/// The topology of a script that gives none. With one node it is the built-in topology of the dimension, with more nodes it has no
+/// edges.
 pub(crate) fn default_topology(alloc: Global, dimension: u32, nodes: u32) -> Made<Topology>
     requires dimension { (1 ≤ dimension) × (dimension ≤ 3) }
     requires nodes { 1 ≤ nodes }
@@ -46,7 +47,7 @@ pub(crate) fn default_topology(alloc: Global, dimension: u32, nodes: u32) -> Mad
     }
 }
 
-/// The names of the nodes of a built-in topology, if the script names none.
+/// The names that the nodes of a built-in topology have if the script gives none.
 pub(crate) fn kind_names(alloc: Global, kind: Kind) -> Made<Names>
     ensures { IfOk result (λ names. names ≡ kind_names kind) }
 {
@@ -100,7 +101,7 @@ fn edges_of(
     Ok(edges)
 }
 
-/// What a topology given by edges means. Its labels are numbered in order of first occurrence.
+/// What the command that gives a topology by its edges means. The labels are numbered in order of first occurrence.
 pub(crate) fn edges(alloc: Global, context: &Context, edges: &[Written]) -> Resolved
     requires sound { IsSound context.now.known }
     requires faultless { faults_of context.now (command.Edges edges.now) ≡ [] }

@@ -34,7 +34,7 @@ one_more f start found next new n before now is =
     ap (λ m. flat_map f (range_with_len 0 m)) index ∙ (range_more f 0 n ∙ (ap (λ i. old ++ f i) (let none : 0 + n ≡ n = omega arith in none) ∙ ap (λ xs. old ++ xs) is)) in
     now ∙ (ap (λ xs. xs ++ new) before ∙ (append_assoc start old new ∙ ap (λ xs. start ++ xs) (sym more)))
 
--- ---- outcomes behind a symbol
+-- ---- the outcomes of the fillings that begin with given symbols
 
 behind_at : (r : LocalRule) (a : ℕ) (start : List ℕ) (s : ℕ) (ss : List ℕ) (al : Bool) (rest : Bool) → al ≡ true →
     cond (al && rest) (of_truth (is_true_at_origin r a (start ++ s ∷ ss))) Barred ≡ cond rest (of_truth (is_true_at_origin r a ((start ++ s ∷ []) ++ ss))) Barred
@@ -72,7 +72,7 @@ part_known r c cs rest o m n s split =
     ∙ map_agree (λ ss. known_outcome r (c ∷ cs) o (s ∷ ss)) (known_outcome r cs (cond (rule_allows r c.node s) o Barred)) (words m n)
     (λ ss at. known_at (rule_allows r c.node s) (are_allowed r cs ss) o)
 
--- ---- what the first symbols settle of the formula
+-- ---- the first symbols settle the truth of the formula
 
 pub all_settled : (r : LocalRule) (a : ℕ) (e : Numbered) (rest : List Cell) (start begun : List ℕ) (truth value : Bool) → SaysRule r a e → AreSymbols r start → begun ≡ start → value ≡ truth → IsSettled e begun value →
     map (known_outcome r rest (of_truth truth)) (words r.symbols (length rest)) ≡ map (outcome_behind r a rest start) (words r.symbols (length rest))
@@ -94,4 +94,4 @@ pub known_leaf : (r : LocalRule) (m : ℕ) (rest : List Cell) (o : Outcome) → 
 known_leaf r m [] o none = refl
 known_leaf r m (c ∷ cs) o none = absurd (omega (arith, none))
 
--- ---- a symbol that was put at the end is taken off
+-- ---- a symbol that was appended is removed again

@@ -1,4 +1,4 @@
--- What a minimal list says.
+-- What holds of a minimal list.
 use Rattle.std.proofs.Common.{◌≡◌, ◌&&◌, ℕ, Bool, true, false, not, cond, Option, List, [], ◌∷◌, ◌++◌, length, refl, sym, ◌∙◌, ap, subst, inl, inr, ◌⊎◌}
 use Rattle.std.proofs.lemmas.{Bool.false≢true, List.append_assoc, List.Folds.list_any-append}
 use Rattle.std.proofs.lemmas.List.Elements.{All-nil, All-cons, All-contains}
@@ -68,7 +68,7 @@ all_listed P thin before (ss ∷ more) each =
     let later : (qs : List ℕ) → Contains more qs → P (thin qs) = λ qs c. each qs (Contains-later ss more qs c) in
     all_at P thin before ss more (is_covered before ss) (each ss (Contains-first ss more)) (all_listed P thin before more later) (all_listed P thin (before ++ thin ss ∷ []) more later)
 
--- ---- each filling agrees with a listed pattern
+-- ---- each filling that is taken agrees with a listed pattern
 
 in_first : (ss : List ℕ) (ps qs : Patterns) → is_covered ps ss ≡ true → is_covered (ps ++ qs) ss ≡ true
 in_first ss ps qs h = list_any-append (λ p. agrees p ss) ps qs ∙ or_left (is_covered ps ss) (is_covered qs ss) h
@@ -102,7 +102,7 @@ listed_covers thin fits before [] qs c = absurd (Contains-nil qs c)
 listed_covers thin fits before (ss ∷ more) qs c =
     covers_at thin fits before ss qs more (is_covered before ss) refl (listed_covers thin fits before more qs) (listed_covers thin fits (before ++ thin ss ∷ []) more qs) (Contains-cons_cases ss more qs c)
 
--- ---- each listed pattern has a breaking filling that agrees with none before
+-- ---- each listed pattern agrees with a breaking filling that agrees with no pattern listed before
 
 new_at : (r : LocalRule) (a : ℕ) (thin : List ℕ → List (Option ℕ)) → ((ss : List ℕ) → agrees (thin ss) ss ≡ true) → (before : Patterns) (ss : List ℕ) (more : List (List ℕ)) (b : Bool) →
     is_covered before ss ≡ b → IsBreaking r a ss → AreNew r a before (listed thin before more) → AreNew r a (before ++ thin ss ∷ []) (listed thin (before ++ thin ss ∷ []) more) →
@@ -147,7 +147,7 @@ needs_each r a ps ok m =
 pub all_new : (r : LocalRule) (a : ℕ) (ps : Patterns) → IsMinimalList r a ps → AreNew r a [] ps
 all_new r a ps m = subst (AreNew r a []) (sym m.list) (listed_new r a (thinned (all_break r a)) (thinned_agrees (all_break r a)) [] m.breaking m.fillings.only)
 
--- there is one list of breaking fillings, and so one minimal list
+-- there is only one list of all breaking fillings, and so only one minimal list
 abbrev OneList : Type 0
 OneList = (r : LocalRule) (a : ℕ) (xs ys : List (List ℕ)) → BreakingFillings r a xs → BreakingFillings r a ys → xs ≡ ys
 

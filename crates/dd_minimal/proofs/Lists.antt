@@ -6,9 +6,9 @@ use Rattle.std.specs.List.{Contains, filter, range_with_len, list_all, list_any,
 use Rattle.std.specs.declared.cmp.Ordering.{Ordering, TheVariants.Less}
 use Rattle.dd_values.specs.lemmas.Members.{Contains-later, Contains-cons_cases, All-from_contains, Contains-first, Contains-nil}
 
--- ---- members
+-- ---- members of mapped lists
 
--- members of a list with each item changed
+-- y is f of some item of the list
 
 pub record IsImage {X Y : Type 0} (f : X → Y) (xs : List X) (y : Y) : Type 0 where
   pub of : X
@@ -22,9 +22,9 @@ of_map f (x ∷ xs) y c = elim (Contains-cons_cases (f x) (map f xs) y c) [
   | inr there ↦ let o = of_map f xs y there in record { of = o.of; listed = Contains-later x xs o.of o.listed; is = o.is }
 ]
 
--- members of a joined list
+-- ---- members of ranges and of filtered lists
 
--- members of a range of numbers from k on
+-- s is in the range of n numbers that begins at k
 
 pub record IsWithin (k n s : ℕ) : Type 0 where
   pub from : k ≤ s
@@ -37,7 +37,7 @@ range_within k (suc n) s c = elim (Contains-cons_cases k (range_with_len (k + 1)
   | inr there ↦ let later = range_within (k + 1) n s there in record { from = omega (arith, later.from); below = omega (arith, later.below) }
 ]
 
--- members of a filtered list
+-- the members of a filtered list are the members that pass the test
 
 pub of_filter : {X : Type 0} (p : X → Bool) (xs : List X) (x : X) → Contains (filter p xs) x → Contains xs x × (p x ≡ true)
 of_filter p xs x c = (
@@ -47,7 +47,7 @@ of_filter p xs x c = (
 
 -- ---- tests
 
--- some member gives this answer
+-- for some member of the list, f gives b
 pub record Gives {X : Type 0} (f : X → Bool) (b : Bool) (xs : List X) : Type 0 where
   pub at : X
   pub listed : Contains xs at
@@ -77,7 +77,7 @@ has f (x ∷ xs) h = has_at f x xs (f x) refl (has f xs) h
 
 -- ---- lists that ascend strictly
 
--- a list with each item changed by a map that keeps the order
+-- a map that keeps the order, applied to each item, keeps a list strictly ascending
 pub sorted_map : {K L : Type 0} (R : K → K → Ordering) (S : L → L → Ordering) (f : K → L) → ((p q : K) → R p q ≡ Less → S (f p) (f q) ≡ Less) →
     (xs : List K) → IsStrictlySortedBy R xs → IsStrictlySortedBy S (map f xs)
 unfolding IsStrictlySortedBy

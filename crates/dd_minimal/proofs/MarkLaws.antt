@@ -1,4 +1,4 @@
--- What is marked: the fillings that agree with the pattern, and no others.
+-- A walk marks the fillings that agree with the pattern, and no others.
 use Rattle.std.proofs.Common.{◌≡◌, ◌<◌, ◌≤◌, ◌+◌, ◌*◌, ◌^◌, ◌||◌, ℕ, suc, Bool, true, false, Option, Some, None, List, [], ◌∷◌, ◌++◌, length, set, get_or, nat_eq, refl, sym, ◌∙◌, ap, subst, inl, inr, ◌⊎◌, arith}
 use Rattle.std.proofs.Math.Nat.{pow-zero, pow-succ'}
 use Rattle.std.proofs.lemmas.Bool.{and_parts, and_from, cases_eq, false≢true, eq-eqb, eqb-true}
@@ -16,12 +16,12 @@ use Rattle.dd_values.specs.lemmas.{Booleans.same_bool, Lists.nothing_past, Lists
 
 -- ---- folds
 
--- what each step keeps, the fold keeps
+-- a property that each step keeps is kept by the whole fold
 fold_keeps : {X : Type 0} (step : X → ℕ → X) (Q : X → Type 0) → ((now : X) (s : ℕ) → Q now → Q (step now s)) → (xs : List ℕ) (x : X) → Q x → Q (fold step x xs)
 fold_keeps step Q keeps [] x q = q
 fold_keeps step Q keeps (s ∷ xs) x q = fold_keeps step Q keeps xs (step x s) (keeps x s q)
 
--- what one step establishes and the others keep, the fold establishes; L holds before each step
+-- if each step keeps L and Q, L holds at the start, and one step of the fold brings about Q where L holds, then Q holds after the fold
 fold_brings : {X : Type 0} (step : X → ℕ → X) (L Q : X → Type 0) → ((now : X) (s : ℕ) → L now → L (step now s)) → ((now : X) (s : ℕ) → Q now → Q (step now s)) →
     (t : ℕ) → ((now : X) → L now → Q (step now t)) → (xs : List ℕ) (x : X) → Contains xs t → L x → Q (fold step x xs)
 fold_brings step L Q stands keeps t brings [] x c l = absurd (Contains-nil t c)
@@ -151,7 +151,7 @@ marked_only m (Some t ∷ ps) b marks k keeps h =
       | inr one ↦ inr (one_behind m (Some t) ps b k t small (λ ss ag. and_from (nat_eq t t) (agrees ps ss) (eq-eqb t t refl) ag) one)
     ]
 
--- ---- so the marks are right for one pattern more
+-- ---- so the marks are right for one more pattern
 
 covered_more : (ps : List (List (Option ℕ))) (p : List (Option ℕ)) (ss : List ℕ) → is_covered (ps ++ p ∷ []) ss ≡ (is_covered ps ss || (agrees p ss || false))
 covered_more ps p ss = list_any-append (λ q. agrees q ss) ps (p ∷ [])

@@ -1,4 +1,4 @@
--- Words by their numbers.
+-- Words and their numbers.
 use Rattle.std.proofs.Common.{◌≡◌, ◌<◌, ◌+◌, ◌-◌, ◌*◌, ◌/◌, ◌%◌, ◌^◌, ℕ, zero, suc, List, [], ◌∷◌, ◌++◌, length, map, drop, get_or, refl, sym, ◌∙◌, ap, arith}
 use Rattle.std.proofs.Math.{Nat.pow-zero, Nat.pow-succ', Nat.mod-eq_of_lt, Seq.drop-cons}
 use Rattle.std.proofs.lemmas.Nat.{div-mul-add, mul-add-lt, mod_below}
@@ -29,7 +29,7 @@ words_length m zero = sym (pow-zero m)
 words_length m (suc n) =
     joined_length (λ s. map (λ ss. s ∷ ss) (words m n)) (m ^ n) (begun_length m n (words_length m n)) 0 m ∙ sym (pow-succ' m n)
 
--- ---- the number of a word is its place
+-- ---- the number of a word is its index in the list of all words
 
 pub number_cons : (m n s : ℕ) (ss : List ℕ) → length ss ≡ n → number m (s ∷ ss) ≡ s * m ^ n + number m ss
 number_cons m n s ss many = ap (λ k. s * m ^ k + number m ss) many
@@ -45,7 +45,7 @@ number_below m (suc n) (s ∷ ss) w =
     let row = mul-add-lt s (m ^ n) (number m ss) m (word_first m (suc n) s ss w) (number_below m n ss rest) in
     omega (arith, is, power, row)
 
--- the item at an index of a list that joins parts of one length
+-- the item at an index of a concatenation of lists that all have the same length
 flat_at : {X : Type 0} (g : ℕ → List X) (d : ℕ) → ((s : ℕ) → length (g s) ≡ d) → (a c s x : ℕ) (e : X) → s < c → x < d →
     get_or (flat_map g (range_with_len a c)) (s * d + x) e ≡ get_or (g (a + s)) x e
 flat_at g d each a zero s x e within below = absurd (omega (arith, within))
@@ -85,7 +85,7 @@ table_at f m n ss d w =
 pub number_only : (m n : ℕ) (ss qs : List ℕ) → IsWord m n ss → IsWord m n qs → number m ss ≡ number m qs → ss ≡ qs
 number_only m n ss qs w v same = sym (words_at m n ss [] w) ∙ (ap (λ i. get_or (words m n) i []) same ∙ words_at m n qs [] v)
 
--- ---- the word with a number
+-- ---- the word that has a given number
 
 pub strides_length : (m n : ℕ) → length (strides_of m n) ≡ n
 strides_length m zero = refl
@@ -108,7 +108,7 @@ digits_number m (suc n) at some =
 pub number_of_digits : (m n at : ℕ) → 0 < m → at < m ^ n → number m (digits m (strides_of m n) at) ≡ at
 number_of_digits m n at some below = digits_number m n at some ∙ mod-eq_of_lt below
 
--- the state of the loop over the strides: each is the number of all words divided once more by the number of symbols
+-- the state of the loop over the strides: each turn divides by the number of symbols once more, starting from the number of all words
 pub record AreStrides (m n i : ℕ) (now : List ℕ) (stride : ℕ) : Type 0 where
   pub list : now ++ strides_of m (n - i) ≡ strides_of m n
   pub power : stride ≡ m ^ (n - i)

@@ -1,4 +1,4 @@
--- What thinning leaves of a filling.
+-- What thinning leaves of a filling. A pattern is called enough if it passes the test `enough`.
 use Rattle.std.proofs.Common.{◌≡◌, ◌<◌, ℕ, zero, suc, Bool, true, false, cond, Option, Some, None, List, [], ◌∷◌, slice_get, length, nat_eq, refl, sym, ◌∙◌, ap}
 use Rattle.std.proofs.lemmas.Bool.{and_parts, and_from, false≢true, eq-eqb, eqb-true}
 use Rattle.std.proofs.lemmas.List.Elements.{All-nil, All-cons, All-head, All-tail}
@@ -10,7 +10,7 @@ use Rattle.dd_minimal.specs.finding.Numbers.{KeepsBelow}
 abbrev pub Weaker : List (Option ℕ) → List (Option ℕ) → Type 0
 Weaker p q = (ss : List ℕ) → agrees q ss ≡ true → agrees p ss ≡ true
 
--- if a pattern is enough, so is each pattern that fewer fillings agree with
+-- if p is enough, then so is each pattern q such that every filling that agrees with q agrees with p
 abbrev pub Rises : (List (Option ℕ) → Bool) → Type 0
 Rises enough = (p q : List (Option ℕ)) → Weaker p q → enough p ≡ true → enough q ≡ true
 
@@ -45,7 +45,7 @@ whole_only (s ∷ ss) (q ∷ qs) h =
 pub thinned_agrees : (enough : List (Option ℕ) → Bool) (ss : List ℕ) → agrees (thinned enough ss) ss ≡ true
 thinned_agrees enough ss = thinned_weaker enough ss ss (whole_agrees ss)
 
--- a filling that is enough still is after it is thinned
+-- a filling that is enough is still enough after it is thinned
 
 enough_first : (enough : List (Option ℕ) → Bool) (s : ℕ) (ss : List ℕ) (b : Bool) → enough (None ∷ whole ss) ≡ b → enough (Some s ∷ whole ss) ≡ true → enough (cond b None (Some s) ∷ whole ss) ≡ true
 enough_first enough s ss true is h = is
@@ -57,8 +57,8 @@ thinned_enough enough (s ∷ ss) h =
     let first = cond (enough (None ∷ whole ss)) None (Some s) in
     thinned_enough (λ p. enough (first ∷ p)) ss (enough_first enough s ss (enough (None ∷ whole ss)) refl h)
 
--- A cell was kept because the pattern without it, with all later cells kept, wasn't enough. Leaving out later cells makes
--- more fillings agree, so it still isn't.
+-- A cell was kept because the pattern without it, with all later cells kept, wasn't enough. If later cells are left out, more fillings agree with
+-- that pattern. So it still isn't enough.
 
 rises_behind : (enough : List (Option ℕ) → Bool) (x : Option ℕ) → Rises enough → Rises (λ p. enough (x ∷ p))
 rises_behind enough x up p q weaker h = up (x ∷ p) (x ∷ q) (weaker_cons x x p q (λ t same. same) weaker) h

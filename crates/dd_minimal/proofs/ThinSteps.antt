@@ -63,7 +63,7 @@ least_less m (Some t ∷ p) s rest =
     let behind = least_less m p s rest in
     omega (arith, long, behind)
 
--- ---- walks with one stride more at the end
+-- ---- walks with one more stride at the end
 
 open_left : (x : ℕ) (y : ℕ) (z : ℕ) → x + y + z ≡ x + z + y
 open_left x y z = omega arith
@@ -173,7 +173,7 @@ step_at m table n at k stride symbol p ds from some within is digit so =
     (All-head (λ t. t < m) symbol rest (subst (All (λ t. t < m)) here (All-drop (λ t. t < m) k ss w.below)))
     (is ∙ (stride_at m n k within ∙ ap (λ i. m ^ i) (sym dropped)))
 
--- the step, with the strides as the code has them
+-- the step, with the stride and the symbol that the code uses
 pub step_in : (m : ℕ) (table : List Outcome) (all : List ℕ) (at k symbol : ℕ) (p : List (Option ℕ)) (ds : List ℕ) (from : ℕ) → 0 < m → all ≡ strides_of m (length all) → k < length all → symbol ≡ at / get_or all k 0 % m →
     IsThinnedTo m table (digits m all at) k p ds from → IsStep m table (digits m all at) k p ds from (get_or all k 0) symbol
 step_in m table all at k symbol p ds from some is within digit so =

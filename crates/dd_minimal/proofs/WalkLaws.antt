@@ -16,7 +16,7 @@ use Rattle.dd_minimal.proofs.AllWords.{word_rest, word_first, word_cons, allowed
 use Rattle.dd_minimal.proofs.{ListLaws.breaking_all, ListLaws.all_break_from, NumberLaws.number_cons, NumberLaws.table_at}
 use Rattle.dd_values.specs.lemmas.{Booleans.not_true, Booleans.not_false, Lists.passes, Lists.range_has}
 
--- from the index b on, the table has the entries f of all words
+-- from the index b on, the table has the entry f ss for each word ss, in the order of the words
 abbrev pub IsAt : List Outcome → ℕ → ℕ → ℕ → (List ℕ → Outcome) → Type 0
 IsAt table b m n f = (ss : List ℕ) → IsWord m n ss → get_or table (b + number m ss) Barred ≡ f ss
 
@@ -26,7 +26,7 @@ turned x y z = omega arith
 pub joined : (x y z : ℕ) → x + (y + z) ≡ (x + y) + z
 joined x y z = omega arith
 
--- the part of the table for the words with the first symbol s
+-- the part of the table for the words whose first symbol is s
 pub at_behind : (table : List Outcome) (b m n : ℕ) (f : List ℕ → Outcome) (s : ℕ) → s < m → IsAt table b m (suc n) f → IsAt table (b + s * m ^ n) m n (λ ss. f (s ∷ ss))
 at_behind table b m n f s below at ss w =
     ap (λ i. get_or table i Barred) (sym (joined b (s * m ^ n) (number m ss)) ∙ ap (λ k. b + k) (sym (number_cons m n s ss w.as_many)))
@@ -55,7 +55,7 @@ none_holds_all table m (Some t ∷ ps) b f at h (s ∷ ss) w ag =
     (ap (none_holds m (open_strides m ps) table) (ap (λ k. b + k * m ^ n + least_number m ps) (sym same) ∙ sym (joined b (t * m ^ n) (least_number m ps))) ∙ h)
     ss (word_rest m n s ss w) both.1
 
--- a filling that agrees with the pattern, and under which the rule is true
+-- some filling agrees with the pattern, and its outcome is `Holds`
 pub record IsHeld (m : ℕ) (f : List ℕ → Outcome) (p : List (Option ℕ)) : Type 0 where
   pub filling : List ℕ
   pub word : IsWord m (length p) filling
@@ -91,7 +91,7 @@ some_holds table m (Some t ∷ ps) b f keeps at h =
       holds = rest.holds;
     }
 
--- ---- in the table of a rule, a pattern is enough exactly if all fillings that agree with it break the rule
+-- ---- by the table of a rule, a pattern is enough exactly if all fillings with allowed symbols that agree with it break the rule
 
 false_of : (al t : Bool) → al ≡ true → does_hold (cond al (of_truth t) Barred) ≡ false → t ≡ false
 false_of true true is h = absurd (false≢true (sym h))

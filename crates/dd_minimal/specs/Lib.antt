@@ -1,8 +1,8 @@
--- patterns: which cells of a filling they keep, and what agrees with them
+-- patterns, which keep some cells of a filling, and the fillings that agree with them
 pub mod Patterns
 -- the minimal list of a rule at a node
 pub mod Minimal
--- what each pattern of a minimal list says
+-- what holds of each pattern of a minimal list
 pub mod Claims
 -- definitions for the search: numbers of fillings, tables of outcomes, and walks
 pub mod finding

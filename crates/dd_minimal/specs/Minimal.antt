@@ -1,4 +1,4 @@
--- The minimal list: the list of the minimal patterns of a rule at a node.
+-- The minimal list, which has the minimal patterns of a rule at a node.
 use Rattle.std.specs.Prelude.{ℕ, zero, suc, ◌≡◌, ◌++◌, ◌&&◌, not, cond, Bool, false, Option, Some, None, List, [], ◌∷◌, length, map}
 use Rattle.std.specs.List.{All, flat_map, range_with_len, list_all}
 use Rattle.dd_formula.specs.LocalRule.{LocalRule, cells_at}
@@ -6,7 +6,7 @@ use Rattle.dd_forbidden.specs.Breaking.{are_allowed, is_true_at_origin, is_large
 use Rattle.dd_minimal.specs.declared.partial.Partial.{Partial}
 use Rattle.dd_minimal.specs.Patterns.{agrees, is_covered, whole, pattern_of, IsPartialOf}
 
--- all lists of n of the first m symbols, in lexicographic order
+-- all lists of n symbols, each among the first m, in lexicographic order
 abbrev pub words : ℕ → ℕ → List (List ℕ)
 words m zero = [] ∷ []
 words m (suc n) = flat_map (λ s. map (λ ss. s ∷ ss) (words m n)) (range_with_len 0 m)
@@ -15,20 +15,19 @@ words m (suc n) = flat_map (λ s. map (λ ss. s ∷ ss) (words m n)) (range_with
 abbrev pub is_spared : LocalRule → ℕ → List ℕ → Bool
 is_spared r a ss = are_allowed r (cells_at r a) ss && is_true_at_origin r a ss
 
--- each filling of the reads with allowed symbols that agrees with the pattern breaks the rule
+-- every filling with allowed symbols, of the cells that are read, breaks the rule if it agrees with the pattern
 abbrev pub all_break : LocalRule → ℕ → List (Option ℕ) → Bool
 all_break r a p = list_all (λ ss. not (agrees p ss && is_spared r a ss)) (words r.symbols (length (cells_at r a)))
 
--- The cells of a filling are taken in order. A cell is left out if the pattern that then remains, with all later cells
--- kept, still satisfies the test `enough`. For the later cells the test is made with this cell's entry in front.
+-- The cells of a filling are taken in order. A cell is left out if the pattern without it, with all later cells kept, still satisfies the test
+-- `enough`. For the later cells, this cell's entry is put in front of each pattern that is tested.
 abbrev pub thinned : (List (Option ℕ) → Bool) → List ℕ → List (Option ℕ)
 thinned enough [] = []
 thinned enough (s ∷ ss) =
     let first = cond (enough (None ∷ whole ss)) None (Some s) in
     first ∷ thinned (λ p. enough (first ∷ p)) ss
 
--- Fillings are taken in order. One that agrees with a pattern listed before is skipped. Every other one is thinned and
--- listed.
+-- Fillings are taken in order. One that agrees with an already listed pattern is skipped. Every other one is thinned to a pattern, which is listed.
 abbrev pub listed : (List ℕ → List (Option ℕ)) → List (List (Option ℕ)) → List (List ℕ) → List (List (Option ℕ))
 listed thin before [] = []
 listed thin before (ss ∷ more) =
@@ -36,17 +35,17 @@ listed thin before (ss ∷ more) =
     (listed thin before more)
     (thin ss ∷ listed thin (before ++ thin ss ∷ []) more)
 
--- The breaking fillings are taken in lexicographic order. In thinning, a cell is left out if every filling with allowed symbols
--- that agrees with the rest of the pattern breaks the rule.
+-- ps is the minimal list. The breaking fillings are taken in lexicographic order. In thinning, a cell is left out if every filling with allowed
+-- symbols that agrees with the rest of the pattern breaks the rule.
 pub record IsMinimalList (r : LocalRule) (a : ℕ) (ps : List (List (Option ℕ))) : Type 0 where
   pub breaking : List (List ℕ)
   pub fillings : BreakingFillings r a breaking
   pub list : ps ≡ listed (thinned (all_break r a)) [] breaking
 
--- these patterns of the node are the minimal list
+-- these patterns belong to the node, and are its minimal list
 pub record AreMinimal (r : LocalRule) (a : ℕ) (ps : List Partial) : Type 0 where
   pub nodes : All (λ p. p.node ≡ a) ps
   pub fitting : All (IsPartialOf r) ps
   pub list : IsMinimalList r a (map pattern_of ps)
-  -- there are few enough fillings
+  -- the number of fillings is within the limit
   pub few : is_large r a ≡ false

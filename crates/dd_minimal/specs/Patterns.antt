@@ -1,23 +1,23 @@
--- Patterns: for each cell that a rule reads, in cell order, the symbol that is kept, or none if the cell is left out.
+-- Patterns. A pattern has an entry for each cell that a rule reads, in cell order: the symbol that is kept, or none if the cell is left out.
 use Rattle.std.specs.Prelude.{ℕ, zero, suc, ◌≡◌, ◌<◌, ◌&&◌, Bool, true, false, Option, Some, None, List, [], ◌∷◌, length, map, nat_eq}
 use Rattle.std.specs.List.{list_any}
 use Rattle.dd_pattern.specs.Filling.{Filled}
 use Rattle.dd_formula.specs.LocalRule.{LocalRule, cells_at}
 use Rattle.dd_minimal.specs.declared.partial.Partial.{Partial}
 
--- the symbol is the one that is kept, if one is
+-- the symbol is the kept one, or none is kept
 abbrev pub is_kept : Option ℕ → ℕ → Bool
 is_kept None s = true
 is_kept (Some t) s = nat_eq t s
 
--- there are as many symbols as entries, and each is the one that is kept, if one is
+-- there are as many symbols as entries, and each symbol equals the one that its entry keeps, if the entry keeps one
 abbrev pub agrees : List (Option ℕ) → List ℕ → Bool
 agrees [] [] = true
 agrees [] (s ∷ ss) = false
 agrees (p ∷ ps) [] = false
 agrees (p ∷ ps) (s ∷ ss) = is_kept p s && agrees ps ss
 
--- the symbols agree with some of the patterns
+-- the symbols agree with at least one of the patterns
 abbrev pub is_covered : List (List (Option ℕ)) → List ℕ → Bool
 is_covered ps ss = list_any (λ p. agrees p ss) ps
 

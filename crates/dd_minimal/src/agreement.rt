@@ -6,9 +6,9 @@ use crate::partial::Partial;
 use dd_formula::Rule;
 use dd_pattern::Filling;
 
-/// Whether the filling agrees with the pattern: whether it has each symbol that the pattern keeps. If the pattern is a
-/// minimal one, its symbols then force the rule to be false. The filling's domain is the cells that the rule reads at the
-/// pattern's node. Only the contract needs the rule. The call allocates nothing.
+/// Whether the filling agrees with the pattern, which means that it has each symbol that the pattern keeps. If the pattern is
+/// minimal, the rule is false under every filling with allowed symbols that agrees with it. The filling's domain must be the
+/// cells that the rule reads at the pattern's node. Only the contract needs the rule. The call allocates nothing.
 pub fn forces(_rule: &Rule, partial: &Partial, filling: &Filling) -> bool
     requires partial { IsPartialOf _rule.now partial.now }
     requires filling { FillsReads _rule.now partial.now filling.now }
@@ -17,7 +17,7 @@ pub fn forces(_rule: &Rule, partial: &Partial, filling: &Filling) -> bool
     agrees(partial.symbols.as_slice(), filling.symbols())
 }
 
-/// Whether there are as many symbols as entries, and each symbol is the one that is kept, if one is.
+/// Whether there are as many symbols as entries, and each symbol equals the one that its entry keeps, if the entry keeps one.
 fn agrees(pattern: &[Option<u32>], symbols: &[u32]) -> bool
     ensures { result ≡ agrees pattern.now symbols.now }
 {
@@ -30,7 +30,7 @@ fn agrees(pattern: &[Option<u32>], symbols: &[u32]) -> bool
     is_kept(*first, *symbol) && agrees(later, rest)
 }
 
-/// Whether the symbol is the one that is kept, if one is.
+/// Whether the symbol is the kept one, or none is kept.
 fn is_kept(kept: Option<u32>, symbol: u32) -> bool
     ensures { result ≡ is_kept kept symbol }
 {

@@ -1,6 +1,6 @@
-//! The table of outcomes, with an entry for each filling over the whole alphabet, in lexicographic order. The cells get
-//! their symbols one after another. Once the symbols so far settle the rule's truth, or one of them isn't allowed, the
-//! formula isn't tested on the fillings that begin with them.
+//! The table of outcomes, with an entry for each filling over the whole alphabet, in lexicographic order. The cells get their
+//! symbols one after another. If the symbols so far settle the rule's truth, or one of them isn't allowed, then the formula
+//! isn't evaluated for the fillings that begin with them.
 ghost use Rattle.std.specs.Prelude.{◌≡◌, ◌<◌, ◌++◌, length, map, IfOk, OnOk};
 ghost use Rattle.dd_formula.specs.LocalRule.{cells_at};
 ghost use Rattle.dd_forbidden.specs.listing.Extensions.{AreOf, AreSymbols};
@@ -63,8 +63,8 @@ fn fill(
     Ok(())
 }
 
-/// Appends an outcome for each filling of the cells of `rest`: the given one, or `Barred` if one of its symbols isn't
-/// allowed.
+/// Appends an outcome for each filling of the cells of `rest`: the given outcome, or `Barred` if one of the filling's symbols
+/// isn't allowed.
 fn fill_known(
     rule: &Rule,
     rest: &[Cell],

@@ -1,4 +1,4 @@
-//! Laws of the minimal list. Each is the contract of a call that does nothing.
+//! Laws of the minimal list. Each law is the contract of a function that does nothing.
 ghost use Rattle.std.specs.Prelude.{◌≡◌, ◌↔◌, ℕ, List, Option, true, false, []};
 ghost use Rattle.std.specs.List.{All};
 ghost use Rattle.dd_formula.specs.LocalRule.{LocalRule, IsRule, cells_at};
@@ -7,14 +7,14 @@ ghost use Rattle.dd_minimal.specs.Patterns.{is_covered};
 ghost use Rattle.dd_minimal.specs.Minimal.{IsMinimalList};
 ghost use Rattle.dd_minimal.specs.Claims.{NeedsEach, AreNew};
 
-/// Does nothing. Its contract says of each filling of the reads with allowed symbols: the rule is false under it exactly
-/// if it agrees with a listed pattern.
+/// Does nothing. Its contract is about each filling, with allowed symbols, of the cells that the rule reads. The rule is false
+/// under the filling exactly if the filling agrees with a listed pattern.
 pub fn exact()
     ensures { (r : LocalRule) (a : ℕ) (ps : List (List (Option ℕ))) (ss : List ℕ) → IsRule r → IsMinimalList r a ps →
         are_allowed r (cells_at r a) ss ≡ true → (is_true_at_origin r a ss ≡ false) ↔ (is_covered ps ss ≡ true) }
 {}
 
-/// Does nothing. Its contract says that no cell can be left out of a listed pattern: the rule is true under some filling
+/// Does nothing. Its contract says that a listed pattern needs each cell that it keeps: the rule is true under some filling
 /// with allowed symbols that agrees with the pattern except perhaps at that cell.
 pub fn needs_each()
     ensures { (r : LocalRule) (a : ℕ) (ps : List (List (Option ℕ))) → IsRule r → IsMinimalList r a ps → All (NeedsEach r a) ps }

@@ -1,5 +1,6 @@
-//! The minimal forbidden patterns of a rule. No cell can be left out of one of them, and together they forbid exactly
-//! what the rule forbids.
+//! The minimal forbidden patterns of a rule at a node. A pattern gives symbols to some of the cells that the rule reads there,
+//! and leaves the others out. No further cell can be left out of a minimal pattern, and together the minimal patterns forbid
+//! exactly what the rule forbids. The cells that are read are listed in cell order: by z, then y, then x, then the node.
 #![tactic(auto)]
 
 mod agreement;

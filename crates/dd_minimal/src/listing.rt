@@ -1,5 +1,6 @@
-//! The minimal list. The fillings that break the rule are taken in lexicographic order. A marked one is skipped. Every
-//! other one is thinned and listed, and all fillings that agree with its pattern are marked.
+//! The minimal list. The fillings that break the rule are taken in lexicographic order. A marked one is skipped. Every other
+//! one is thinned to a pattern: the cells that can be left out are left out. The pattern is listed, and all fillings that agree
+//! with it are marked.
 ghost use Rattle.std.specs.Prelude.{◌≡◌, ◌<◌, ◌^◌, length, map, IfOk};
 ghost use Rattle.std.specs.List.{All};
 ghost use Rattle.dd_formula.specs.LocalRule.{cells_at};
@@ -16,8 +17,8 @@ use dd_formula::Rule;
 use dd_values::Items;
 use std::alloc::{AllocError, Global};
 
-/// The stride of each cell: how much the number of a filling rises if the cell's symbol rises by 1. There are `fillings`
-/// fillings.
+/// The stride of each cell: how much the number of a filling rises if the cell's symbol rises by 1. Fillings are numbered from
+/// 0 in lexicographic order, and `fillings` is how many there are.
 pub(crate) fn strides_of(
     alloc: Global,
     rule: &Rule,
@@ -37,7 +38,7 @@ pub(crate) fn strides_of(
     Ok(list)
 }
 
-/// The minimal patterns, from the outcome of each filling.
+/// The minimal patterns. `table` has the outcome of each filling.
 pub(crate) fn list(
     alloc: Global,
     rule: &Rule,

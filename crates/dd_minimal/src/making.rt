@@ -13,12 +13,13 @@ use std::alloc::Global;
 
 /// The minimal patterns of the rule at the node. A breaking filling gives each cell that the rule reads there a symbol that
 /// the cell's node allows, and the rule is false under these symbols. The breaking fillings are taken in the lexicographic
-/// order of their symbols. One that agrees with a pattern listed before is skipped. Every other one is thinned and listed.
-/// Thinning goes through the cells in cell order. It leaves a cell out if every filling with allowed symbols that agrees with
-/// the rest of the pattern breaks the rule.
+/// order of their symbols. One that agrees with an already listed pattern is skipped. Every other one is thinned to a pattern,
+/// which is listed. Thinning goes through the cells in cell order (by z, then y, then x, then the node). It leaves a cell out
+/// if every filling with allowed symbols that agrees with the rest of the pattern breaks the rule.
 ///
 /// # Errors
-/// `Size` if the cells that are read have more than 65,536 fillings with the whole alphabet. Else `Memory`, if memory runs out.
+/// `Size` if the cells that are read have more than 65,536 fillings over the whole alphabet. Otherwise `Memory`, if memory runs
+/// out.
 pub fn minimal(alloc: Global, rule: &Rule, node: u32) -> Result<Vec<Partial>, ForbiddenFault>
     requires { node < rule.now.nodes }
     ensures ok { IfOk result (λ found. AreMinimal rule.now node found.items) }

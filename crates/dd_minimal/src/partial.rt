@@ -1,4 +1,4 @@
-//! Patterns that leave cells out.
+//! Patterns, which may leave cells out.
 
 use dd_values::Items;
 

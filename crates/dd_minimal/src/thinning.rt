@@ -10,14 +10,14 @@ use crate::walking::can_spare;
 use dd_values::Items;
 use std::alloc::{AllocError, Global};
 
-/// A pattern, with the number `from` of the filling that agrees with it and has the symbol 0 in the cells left out.
+/// A pattern, and the number `from` of the filling that agrees with it and has the symbol 0 at each cell that is left out.
 pub(crate) struct Thinned {
     pub pattern: Items<Option<u32>>,
     pub from: usize,
 }
 
-/// Thins the breaking filling with the number `at`: in cell order, each cell that can be left out is left out. `left_out`
-/// is cleared, and then gets the strides of the cells left out.
+/// Thins the breaking filling with the number `at`: goes through its cells in cell order, and leaves out each one that can be
+/// left out. The call clears `left_out`, and then puts the strides of the cells that are left out into it.
 pub(crate) fn thin(
     alloc: Global,
     symbols: u32,
@@ -57,7 +57,7 @@ pub(crate) fn thin(
     Ok(Thinned { pattern, from })
 }
 
-/// The symbol that the filling with the number `at` has in the cell with this stride.
+/// The symbol that the filling with the number `at` has at the cell with this stride.
 fn digit(at: usize, stride: usize, symbols: u32) -> u32
     requires stride { 0 < stride }
     requires symbols { 0 < symbols }

@@ -1,13 +1,15 @@
-//! Walks over the fillings that agree with a pattern. Fillings are numbered from 0 in lexicographic order. The stride of a
-//! cell is how much the number rises if the cell's symbol rises by 1. A walk begins at `from`, the number of the filling
-//! that has the symbol 0 in all cells that the pattern leaves out. It goes along the strides of these cells.
+//! Walks over the fillings that agree with a pattern. Fillings are numbered from 0 in lexicographic order. The stride of a cell
+//! is how much the number rises if the cell's symbol rises by 1. A walk begins at `from`, the number of the filling that agrees
+//! with the pattern and has the symbol 0 at every cell that the pattern leaves out. It goes on along the strides of these
+//! cells, so that they take all symbols.
 ghost use Rattle.std.specs.Prelude.{◌≡◌, ◌<◌, ◌≤◌, ◌+◌, ◌*◌, ◌-◌, ◌++◌, ◌∷◌, [], true, length};
 ghost use Rattle.dd_minimal.specs.finding.Numbers.{reach};
 ghost use Rattle.dd_minimal.specs.finding.Walks.{marked, none_holds};
 
 use crate::outcome::Outcome;
 
-/// Whether the rule is true under none of the fillings of the walk. The walk stops at the first under which it is true.
+/// Whether the rule is true under none of the walk's fillings with allowed symbols. The walk stops at the first of them under
+/// which the rule is true.
 pub(crate) fn none_holds(symbols: u32, strides: &[usize], table: &[Outcome], from: usize) -> bool
     requires { from + reach symbols strides.now < length table.now }
     ensures { result ≡ none_holds symbols strides.now table.now from }
@@ -23,8 +25,9 @@ pub(crate) fn none_holds(symbols: u32, strides: &[usize], table: &[Outcome], fro
     true
 }
 
-/// The same for a walk along one stride more: that of a further cell, which is left out if the answer is yes. The walk
-/// passes over fillings in which this cell has the symbol `kept`, because the rule is known to be true under none of them.
+/// The answer of `none_holds` for a walk along one more stride, that of a further cell. The cell is left out if the answer is
+/// yes. The walk skips the fillings in which this cell has the symbol `kept`: it is known that the rule is true under none of
+/// those with allowed symbols.
 pub(crate) fn can_spare(
     symbols: u32,
     kept: u32,

@@ -1,4 +1,4 @@
--- A definition by a fold, for conjunctions and disjunctions: it is applied to each part.
+-- What a definition by a fold says of conjunctions and disjunctions: it is applied to each part.
 use Rattle.std.proofs.Common.{◌≡◌, ℕ, Bool, List, map, ap, sym, ◌∙◌}
 use Rattle.std.proofs.lemmas.List.Folds.{list_all-map}
 use Rattle.std.specs.List.{list_all, list_any}

@@ -7,7 +7,7 @@ use Rattle.dd_numbered.specs.settling.Parts.{AreAllSettled, IsAnySettled, IsLeaf
 use Rattle.dd_numbered.proofs.Layers.{holds_and, holds_or}
 use Rattle.dd_numbered.specs.declared.numbered.Numbered.TheVariants as formula
 
--- a property of an option's value gives a weaker one
+-- if the value of an option has a property, then it has each weaker property
 if_some : {P Q : Bool → Type 0} (o : Option Bool) → ((b : Bool) → P b → Q b) → IfSome o P → IfSome o Q
 if_some None f h = tt
 if_some (Some b) f h = f b h
@@ -18,7 +18,7 @@ settled_and es e ss o is = if_some o (λ b h more. ap (λ x. holds_in x (ss ++ m
 pub settled_or : (es : List Numbered) (e : Numbered) (ss : List ℕ) (o : Option Bool) → e ≡ formula.Or es → IfSome o (IsAnySettled es ss) → IfSome o (IsSettled e ss)
 settled_or es e ss o is = if_some o (λ b h more. ap (λ x. holds_in x (ss ++ more)) is ∙ (holds_or es (ss ++ more) ∙ h more))
 
--- a symbol of a list keeps its number when more symbols follow
+-- a symbol of a list keeps its index when more symbols follow
 pub still_there : (ss more : List ℕ) (i s : ℕ) → slice_get ss i ≡ Some s → slice_get (ss ++ more) i ≡ Some s
 still_there [] more i s h = absurd (cc)
 still_there (x ∷ ss) more zero s h = h

@@ -2,5 +2,5 @@
 pub mod Numbering
 -- Formulas over a list of symbols: their truth, and how expansions become such formulas.
 pub mod Numbered
--- What the first symbols of a list settle of a leaf, and of a list of formulas.
+-- When the first symbols of a list settle the truth of a leaf, or of all or some of several formulas.
 pub mod settling

@@ -4,11 +4,11 @@ use Rattle.std.specs.Ordering.{is_eq}
 use Rattle.dd_lattice.specs.{Order.cell_cmp, declared.position.Cell.Cell}
 use Rattle.dd_pattern.specs.Reading.{Look}
 
--- the number of each cell, or none
+-- for each cell its number, or none
 abbrev pub Numbering : Type 0
 Numbering = Cell → Option ℕ
 
--- the symbol of the list at a number, if there is one
+-- the symbol of the list at the given number, or none if there is no number or it is past the end of the list
 abbrev pub symbol_with : List ℕ → Option ℕ → Option ℕ
 symbol_with ss None = None
 symbol_with ss (Some k) = slice_get ss k
@@ -17,10 +17,10 @@ symbol_with ss (Some k) = slice_get ss k
 abbrev pub read_by : Numbering → List ℕ → Look
 read_by number ss c = symbol_with ss (number c)
 
--- the place of the cell among the cells, or their count if it is none of them
+-- the index of the cell in the list, or the length of the list if the cell isn't in it
 abbrev pub rank : List Cell → Cell → ℕ
 rank cs c = position_or_len (λ d. is_eq (cell_cmp d c)) cs
 
--- the number of each cell is its place among these cells, or their count
+-- the numbering that gives each cell its index in the list, or the length of the list if the cell isn't in it
 abbrev pub by_rank : List Cell → Numbering
 by_rank cs c = Some (rank cs c)

@@ -1,5 +1,5 @@
-//! Formulas over a list of symbols. Such a formula is an expansion with a number in place of each cell. It is made once,
-//! and then tested on many lists.
+//! Formulas over a list of symbols. Such a formula is made from an expansion, which is a formula without variables that speaks of
+//! cells. Each cell is replaced by the index of its symbol in the list. The formula is made once, and then tested on many lists.
 #![tactic(auto)]
 
 mod making;

@@ -11,8 +11,9 @@ use dd_values::{Boxed, Items};
 use std::alloc::{AllocError, Global};
 
 impl Numbered {
-    /// The expansion with a number in place of each cell. The result is true of a list of symbols exactly if the expansion
-    /// is true when each cell has the symbol at its number. A leaf whose cell has no number becomes the constant false.
+    /// The expansion with a number in place of each cell. The resulting formula is true of a list of symbols exactly if the
+    /// expansion is true when each cell has the symbol that the list has at the cell's number. A leaf whose cell has no number
+    /// becomes the constant false.
     pub fn new<N: Numbers>(
         alloc: Global,
         expanded: &Expanded,
@@ -25,7 +26,7 @@ impl Numbered {
     }
 }
 
-/// The formula of an expansion.
+/// The formula made from the expansion, as `Numbered::new` returns it.
 #[cycle(numbered)]
 #[tactic(auto, using(crate::proofs::Layers::numbered_layers))]
 fn numbered<N: Numbers>(
@@ -48,7 +49,7 @@ fn numbered<N: Numbers>(
     }
 }
 
-/// The leaf for a number, or the constant false if there is no number.
+/// The leaf that says that the list has `symbol` at the index `number`, or the constant false if there is no number.
 fn leaf_with(symbol: u32, number: Option<usize>) -> Numbered
     ensures { result ≡ leaf_with symbol number }
 {
@@ -58,7 +59,7 @@ fn leaf_with(symbol: u32, number: Option<usize>) -> Numbered
     }
 }
 
-/// The formula of a boxed expansion, in a box.
+/// The formula made from a boxed expansion, boxed as well.
 #[cycle(numbered)]
 fn numbered_boxed<N: Numbers>(
     alloc: Global,
@@ -70,7 +71,7 @@ fn numbered_boxed<N: Numbers>(
     Boxed::new(alloc, numbered(alloc, inner.get(), numbers)?)
 }
 
-/// The formulas of several expansions.
+/// The formulas made from the expansions, one for each.
 #[cycle(numbered)]
 fn all_numbered<N: Numbers>(
     alloc: Global,

@@ -2,7 +2,7 @@
 
 use dd_values::{Boxed, Items};
 
-/// A formula over a list of symbols. It speaks of indices of the list as an expansion speaks of cells.
+/// A formula over a list of symbols. It is like an expansion, but has indices of the list in place of cells.
 #[derive(Debug, Drop)]
 pub enum Numbered {
     /// True or false.

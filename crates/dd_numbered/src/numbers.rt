@@ -6,10 +6,10 @@ use dd_lattice;
 
 /// A numbering of some cells, possibly of all.
 pub trait Numbers {
-    /// The number of each cell of Z^3, or none.
+    /// For each cell of Z^3, its number, or none.
     ghost numbering: { Self → Cell → Option ℕ };
 
-    /// The index, from 0, of the cell's symbol in a list. `None` if the cell has no number.
+    /// The number of the cell: the index, from 0, of its symbol in a list. `None` if the cell has no number.
     fn number(&self, cell: &dd_lattice::Cell) -> Option<usize>
         ensures { result ≡ numbering self.now cell.now };
 }

@@ -1,4 +1,4 @@
-//! Cells numbered by their places in a list that is in cell order.
+//! Cells numbered by their indices in a list. The list is in cell order.
 ghost use Rattle.std.specs.Prelude.{◌≡◌, ◌≤◌, length};
 ghost use Rattle.std.specs.List.Sorted.{IsStrictlySortedBy, IsStrictlySortedBy-prop};
 ghost use Rattle.dd_lattice.specs.Order.{cell_cmp};
@@ -7,8 +7,9 @@ ghost use Rattle.dd_numbered.specs.Numbering.{rank};
 use crate::numbers::Numbers;
 use dd_lattice::Cell;
 
-/// Cells in cell order. The number of each is its place among them. Every other cell has their count as its number. A list
-/// with one symbol for each of them ends before that index.
+/// A numbering by a list of cells in cell order. Each cell of the list has its index there as its number. Every other cell has
+/// the length of the list as its number. So in a list that has one symbol for each of the listed cells, every other cell's number
+/// is past the end.
 #[derive(Drop)]
 pub struct Ranks<'a> {
     /// The cells, strictly ascending in cell order.
@@ -17,7 +18,7 @@ pub struct Ranks<'a> {
 }
 
 impl<'a> Ranks<'a> {
-    /// Numbers these cells. They must ascend strictly in cell order.
+    /// Numbers these cells. They must be strictly ascending in cell order.
     pub fn new(cells: &'a [Cell]) -> Ranks<'a>
         requires { IsStrictlySortedBy cell_cmp cells.now }
         ensures { result.cells.now ≡ cells.now }
@@ -26,7 +27,7 @@ impl<'a> Ranks<'a> {
     }
 }
 
-/// The place, from 0, of a cell among the cells, or their count if it is none of them.
+/// The index, from 0, of a cell in a list of cells, or the length of the list if the cell isn't in it.
 pub fn rank(cells: &[Cell], cell: &Cell) -> usize
     requires { IsStrictlySortedBy cell_cmp cells.now }
     ensures value { result ≡ rank cells.now cell.now }

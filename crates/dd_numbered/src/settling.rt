@@ -1,4 +1,4 @@
-//! The truth of a formula where only the first symbols of a list are known, by the three-valued logic of Kleene (1938).
+//! The truth of a formula when only the first symbols of a list are known, by the three-valued logic of Kleene (1938).
 ghost use Rattle.std.specs.Prelude.{IfSome};
 ghost use Rattle.dd_numbered.specs.Numbered.{IsSettled};
 ghost use Rattle.dd_numbered.specs.settling.Parts.{AreAllSettled, IsAnySettled, IsLeafSettled};
@@ -6,8 +6,8 @@ ghost use Rattle.dd_numbered.specs.settling.Parts.{AreAllSettled, IsAnySettled, 
 use crate::numbered::Numbered;
 
 impl Numbered {
-    /// The formula's truth whatever symbols follow these, if Kleene's truth tables settle it. Else `None`, perhaps although
-    /// no further symbols could change the truth. It allocates nothing.
+    /// The truth value that the formula has for every list that begins with these symbols, if Kleene's truth tables settle it, or
+    /// else `None`. The result may be `None` even if the formula has the same truth value for all these lists. Allocates nothing.
     #[cycle(settled)]
     pub fn settled(&self, symbols: &[u32]) -> Option<bool>
         ensures { IfSome result (IsSettled self.now symbols.now) }
@@ -30,8 +30,8 @@ impl Numbered {
     }
 }
 
-/// Whether a list that begins with these symbols has `symbol` at the index `number`. `None` if the index is past their
-/// end.
+/// Whether a list that begins with these symbols has `symbol` at the index `number`. `None` if the index is past the end of these
+/// symbols.
 fn leaf_settled(symbols: &[u32], number: usize, symbol: u32) -> Option<bool>
     ensures { IfSome result (IsLeafSettled symbol number symbols.now) }
 {
@@ -42,7 +42,7 @@ fn leaf_settled(symbols: &[u32], number: usize, symbol: u32) -> Option<bool>
     }
 }
 
-/// Whether all parts are true. It is settled if one part is settled as false, or if all parts are settled.
+/// Whether all parts are true, if this is settled: either one part is settled as false, or all parts are settled. Else `None`.
 #[cycle(settled)]
 fn all_settled(parts: &[Numbered], symbols: &[u32]) -> Option<bool>
     ensures { IfSome result (AreAllSettled parts.now symbols.now) }
@@ -58,7 +58,7 @@ fn all_settled(parts: &[Numbered], symbols: &[u32]) -> Option<bool>
     if known { Some(true) } else { None }
 }
 
-/// Whether some part is true. It is settled if one part is settled as true, or if all parts are settled.
+/// Whether some part is true, if this is settled: either one part is settled as true, or all parts are settled. Else `None`.
 #[cycle(settled)]
 fn some_settled(parts: &[Numbered], symbols: &[u32]) -> Option<bool>
     ensures { IfSome result (IsAnySettled parts.now symbols.now) }

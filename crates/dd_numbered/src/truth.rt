@@ -1,4 +1,4 @@
-//! The truth of a formula for a list of symbols.
+//! Whether a formula is true of a list of symbols.
 ghost use Rattle.std.specs.Prelude.{◌≡◌, slice_get};
 ghost use Rattle.std.specs.List.{list_all, list_any};
 ghost use Rattle.dd_expansion.specs.Truth.{is_symbol};
@@ -7,7 +7,7 @@ ghost use Rattle.dd_numbered.specs.Numbered.{holds_in};
 use crate::numbered::Numbered;
 
 impl Numbered {
-    /// Whether the formula is true of the symbols. A leaf whose number is past their end is false. It allocates nothing.
+    /// Whether the formula is true of the symbols. A leaf whose number is past the end of the list is false. Allocates nothing.
     #[cycle(truth)]
     #[tactic(auto, using(crate::proofs::Layers::holds_layers))]
     pub fn truth(&self, symbols: &[u32]) -> bool
@@ -35,7 +35,7 @@ fn is_there(symbols: &[u32], number: usize, symbol: u32) -> bool
     }
 }
 
-/// Whether all of the formulas are true of the symbols. It allocates nothing.
+/// Whether all of the formulas are true of the symbols. Allocates nothing.
 #[cycle(truth)]
 pub fn all_true(parts: &[Numbered], symbols: &[u32]) -> bool
     ensures { result ≡ list_all (λ e. holds_in e symbols.now) parts.now }

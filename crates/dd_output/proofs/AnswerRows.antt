@@ -1,4 +1,4 @@
--- The law of each row of the table of answers, and of the table.
+-- The law of each row of the table of answers, and of the whole table.
 use Rattle.std.proofs.Common.{◌≡◌, ℕ, ◌≤◌, List, [], ◌∷◌, ◌++◌, length, drop, Some, None, true, inl, inr, refl, sym, ap, ◌∙◌, append_assoc, arith}
 use Rattle.std.proofs.lemmas.List.{append-nil}
 use Rattle.std.specs.{Prelude.ℤ, Prelude.codes, Prelude.All, Fmt.decimal, Fmt.signed_decimal}

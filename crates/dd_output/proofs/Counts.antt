@@ -1,4 +1,5 @@
--- The value that is read, and where reading stops, don't depend on the text that has to follow. Then, loops over a count.
+-- The value that is read, and the place where reading stops, don't depend on the text that has to follow. Then, loops that read a given number of
+-- values.
 use Rattle.std.proofs.Common.{◌≡◌, ℕ, suc, ◌+◌, ◌-◌, ◌*◌, ◌<◌, List, [], ◌∷◌, ◌++◌, length, Result, Ok, Err, Bool, true, false, cond, refl, sym, ap, ◌∙◌, append_assoc, arith}
 use Rattle.std.specs.Prelude.{◌==◌, ◌||◌, ℤ, Option}
 use Rattle.dd_certificate.specs.Bounds.{most_number}
@@ -90,12 +91,12 @@ pub symbol_or_star_any : {X : Type 0} (view : X → (Option ℕ × ℕ) × List 
     → Gives view result (symbol_or_star_at end other [] bytes) → Gives view result (symbol_or_star_at end other rest bytes)
 symbol_or_star_any view result end other rest bytes = gives_alike view result _ _ (symbol_or_star_alike end other [] rest bytes)
 
--- ---- loops over a count
+-- ---- loops that read a given number of values
 
 abbrev pub with_all : {A : Type 0} → List A → Read (List A) → Read (List A)
 with_all front read = read >>= λ x. Ok (front ++ x.0, x.1)
 
--- the value, and those after it
+-- a value, and the values after it
 abbrev beside : {A : Type 0} → A → List A × List ℕ → Read (A × List A)
 beside x b = Ok ((x, b.0), b.1)
 

@@ -1,4 +1,4 @@
--- The laws of the lists of a step, each ended by a 0.
+-- The laws of the lists of a step. Each of these lists ends with a 0.
 use Rattle.std.proofs.Common.{◌≡◌, ℕ, suc, ◌^◌, ◌<◌, ◌≤◌, List, [], ◌∷◌, ◌++◌, length, length-append, Bool, true, false, ◌⊎◌, inl, inr, refl, sym, ap, ◌∙◌, append_assoc, arith}
 use Rattle.std.proofs.lemmas.{Bool.ne_eqb, Fmt.decimal_digit, List.Concat.flat_map-cons}
 use Rattle.std.proofs.lemmas.List.Elements.{All-from_recursion, recursion_from_All}
@@ -18,7 +18,7 @@ use Rattle.dd_output.proofs.{Loops.Unrolls, Signs.FirstDigit, Signs.first_digit,
 the_end : (end other : ℕ) → IsEnd end other end
 the_end end other = inl refl
 
--- completions of a list: items, and its end
+-- the texts that complete a list: some items, and the end of the list
 abbrev pub IsList : {A B : Type 0} → (ℕ → A → Type 0) → (ℕ → A → List ℕ) → (ℕ → B → Type 0) → (ℕ → B → List ℕ) → ℕ → List ℕ → Type 0
 IsList {A} {B} F t G u k text = (xs : List A) × (y : B) × AllFrom F G k xs y × (text ≡ entries_text t u k xs y)
 
@@ -39,7 +39,7 @@ pub flat_fits : {A : Type 0} (F : A → Type 0) (k : ℕ) (xs : List A) (y : Uni
 flat_fits F k [] y good = tt
 flat_fits F k (x ∷ xs) y good = (good.0, flat_fits F (suc k) xs y good.1)
 
--- a variable or a hint, and a space: what completes it
+-- the law of a variable or a hint with the space after it; each completion is such a number and a space
 number_list : (low bound : ℕ) → low ≤ 1 → low ≤ bound → bound < 2 ^ 64
     → Reads (λ p. (low ≤ p.0) × (p.0 ≤ bound) × IsEnd 32 32 p.1) (λ p. decimal p.0 ++ p.1 ∷ [])
     (λ text. (n : ℕ) × (low ≤ n) × (n ≤ bound) × (text ≡ decimal n ++ 32 ∷ [])) (number_at low bound 32 32 nothing)

@@ -14,7 +14,7 @@ abbrev pub AllFrom : {A B : Type 0} → (ℕ → A → Type 0) → (ℕ → B �
 AllFrom F G k [] y = G k y
 AllFrom F G k (x ∷ xs) y = F k x × AllFrom F G (suc k) xs y
 
--- what fits at an index, and its text
+-- which entry fits at an index, and the text of an entry
 abbrev pub entry_fits : {A B : Type 0} → (ℕ → A → Type 0) → (ℕ → B → Type 0) → ℕ → Entry A B → Type 0
 entry_fits F G k (item x) = F k x
 entry_fits F G k (last y) = G k y
@@ -79,7 +79,7 @@ module _ {A B : Type 0} (F : ℕ → A → Type 0) (t : ℕ → A → List ℕ) 
       ∙ (unrolled_item k (t k x ++ (tail ++ rest)) x (tail ++ rest) ((law k).again (item x) (tail ++ rest) good.0)
       ∙ rw (entries_again xs (suc k) y rest good.1) refl)
 
-  -- what an entry and the rest give
+  -- the bytes are the text of the entries and then what is left, and each entry fits
   Taken : ℕ → List ℕ → (List A × B) × List ℕ → Type 0
   Taken k bytes o = (bytes ≡ entries_text t u k o.0.0 o.0.1 ++ o.1) × AllFrom F G k o.0.0 o.0.1
 

@@ -6,11 +6,11 @@ use Rattle.dd_output.specs.reading.Forms.{Form, after, either}
 use Rattle.dd_output.proofs.{Tables.Keyed, Forms.Good, Forms.good_same, Forms.good_after, Forms.good_either}
 use Rattle.dd_certificate.specs.declared.answer.Answer.TheVariants as answer
 
--- all lines of an answer, without the query's number
+-- all lines of an answer, without the word `query` and the query's number
 abbrev pub body_text : Answer → List ℕ
 body_text a = verdict_text a ++ further_lines a
 
--- the byte with which they begin
+-- the byte with which these lines begin
 abbrev pub first_of : Answer → ℕ
 first_of answer.Inside = 73
 first_of (answer.Outside place) = 79
@@ -50,7 +50,7 @@ Row = Keyed IsWritable first_of
 
 -- ---- kinds whose texts begin alike
 
--- the byte after the part that a kind's text shares with another's
+-- the byte after the part that the texts of two kinds share
 abbrev pub second_of : Answer → ℕ
 second_of (answer.No side periods shear symbols) = 32
 second_of (answer.Nothing steps) = 78
@@ -74,7 +74,7 @@ either_first : (first one two : ℕ) (a : Answer) → Either first one two a →
 either_first first one two a (inl good) = good.0
 either_first first one two a (inr good) = good.0
 
--- two kinds whose texts share a word; the next byte tells them apart
+-- two kinds whose texts begin alike: the next byte tells them apart
 pub good_front : (w : List ℕ) (n first one two : ℕ) (f g : Form Answer) → (two == one) ≡ false → Good (Second first one) (tail_text n) f → Good (Second first two) (tail_text n) g
     → ((a : Answer) → Row first a → (body_text a ≡ w ++ tail_text n a) × Either first one two a)
     → ((a : Answer) → Row first a → (more : List ℕ) × (tail_text n a ≡ second_of a ∷ more))

@@ -1,5 +1,5 @@
--- Good forms. A good form reads exactly the texts of the values that fit, and each text is that of one value. Where
--- reading stops, some text completes what was read. A form made of good ones is good.
+-- Good forms. A good form reads exactly the texts of the values that fit, and each such text has only one value. Where reading stops, some text
+-- completes what was read. A form that is made of good forms is good.
 use Rattle.std.proofs.Common.{◌≡◌, ℕ, zero, suc, ◌+◌, ◌<◌, ◌≤◌, ◌^◌, List, [], ◌∷◌, ◌++◌, length, Bool, true, false, cond, inl, inr, ◌⊎◌, refl, sym, ap, subst, ◌∙◌, append_assoc, arith}
 use Rattle.std.proofs.lemmas.{Bool.eqb-true, Bool.eq-eqb, Bool.false≢true, Fmt.decimal_digit}
 use Rattle.std.proofs.lemmas.List.{length-replicate, Concat.flat_map-cons}
@@ -23,7 +23,7 @@ pub record Good {A : Type 0} (F : A → Type 0) (t : A → List ℕ) (f : Form A
   pub fits : F value
   pub is : f.least ≡ t value
 
--- a reader, with the texts of more values as completions
+-- the same reader, with the texts of more values as completions
 pub wider : {A : Type 0} (F G : A → Type 0) (t : A → List ℕ) (r : List ℕ → Read A) → ReadsText F t r → ((x : A) → F x → G x) → Reads F t (IsText G t) r
 wider F G t r law more = same_reads F t (IsText F t) r F t (IsText G t) law (λ x good. (refl, good)) (λ x good. (refl, good)) (λ text a. (a.0, more a.0 a.1, a.2))
 
@@ -39,7 +39,7 @@ good_word w = record {
   is = refl;
 }
 
--- another value for each text
+-- the same texts, each with another value
 pub text_map : {A B : Type 0} (F : A → Type 0) (t : A → List ℕ) (r : List ℕ → Read A) (G : B → Type 0) (u : B → List ℕ) (f : A → B) → ReadsText F t r
     → ((x : A) → F x → (u (f x) ≡ t x) × G (f x)) → ((y : B) → G y → (x : A) × (u y ≡ t x) × F x × (f x ≡ y)) → ReadsText G u (map_at f r)
 text_map F t r G u f law to from =
@@ -72,7 +72,7 @@ InBounds low bound end other p = (low ≤ p.0) × (p.0 ≤ bound) × IsEnd end o
 abbrev pub number_text : ℕ × ℕ → List ℕ
 number_text p = decimal p.0 ++ p.1 ∷ []
 
--- the end, if there is only one
+-- the byte that ends a number, if only one byte can
 pub only : (end e : ℕ) → IsEnd end end e → e ≡ end
 only end e (inl p) = p
 only end e (inr p) = p
@@ -147,7 +147,7 @@ copies_fit F x good (suc n) = (good, copies_fit F x good n)
 abbrev Counted : {A : Type 0} → (A → Type 0) → ℕ → List A → Type 0
 Counted F n xs = (length xs ≡ n) × AllByRecursion F xs
 
--- a number of values, each with its text
+-- n values, one after another
 many_text : {A : Type 0} (F : A → Type 0) (t : A → List ℕ) (one : List ℕ → Read A) (x : A) → ReadsText F t one → F x → (n : ℕ)
     → ReadsText (Counted F n) (flat_map t) (many_at one (t x) n)
 many_text {A} F t one x law good =
@@ -238,7 +238,7 @@ abbrev pub fork_text : {A B : Type 0} → (B → List ℕ) → (A → List ℕ) 
 fork_text t u (n, last x) = decimal n ++ 10 ∷ t x
 fork_text t u (n, item y) = decimal n ++ 32 ∷ u y
 
--- what follows, by the byte after a number
+-- what may follow, depending on the byte after the number
 abbrev WayFits : {A B : Type 0} → (B → Type 0) → (A → Type 0) → ℕ → Entry A B → Type 0
 WayFits F G e (last x) = (e ≡ 10) × F x
 WayFits F G e (item y) = (e ≡ 32) × G y

@@ -13,7 +13,7 @@ use Rattle.dd_output.proofs.Entries.{entries_text, AllFrom, entry_fits, entry_te
 use Rattle.dd_output.proofs.{Loops.Unrolls, EndedLists.IsList, EndedLists.list_more}
 use Rattle.dd_output.proofs.Forms.{IsText, ReadsText, Good, text_map}
 
--- ---- how many
+-- ---- how many numbers a line has
 
 not_last : (most : Option ℕ) (k : ℕ) → is_last most k ≡ false → AtMost most (suc (suc k))
 not_last None k is = tt
@@ -83,7 +83,7 @@ line_rest show xs = drop 1 (flat_map (after_shown show) xs ++ 10 ∷ [])
 abbrev pub LineFits : {A : Type 0} → (A → Type 0) → ℕ → Option ℕ → List A → Type 0
 LineFits F least most xs = (least ≤ length xs) × AtMost most (length xs) × All F xs
 
--- ---- lists of numbers that are shown and read in one way
+-- ---- lists of values, all of which are shown and read in the same way
 
 module _ {A : Type 0} (F : A → Type 0) (show : A → List ℕ) (nil : A) (nil_fits : F nil) (nil_is : show nil ≡ 48 ∷ [])
     (one : ℕ → ℕ → List ℕ → List ℕ → Read (A × ℕ))
@@ -186,7 +186,7 @@ module _ {A : Type 0} (F : A → Type 0) (show : A → List ℕ) (nil : A) (nil_
       let tail : length (xs ++ y ∷ []) ≡ length xs + 1 = length-append xs (y ∷ []) in
       ((good.0, is_not_last most k n few (omega (arith, long, tail))), fits_from (suc k) xs y n (omega (arith, long)) enough few good.1)
 
-  -- all but the last, and the last
+  -- a list, split into all items but the last, and the last one
   record Split (xs : List A) : Type 0 where
     front : List A
     y : A
@@ -248,7 +248,7 @@ module _ {A : Type 0} (F : A → Type 0) (show : A → List ℕ) (nil : A) (nil_
       let line = line_to (c.0, c.1) c.2 in
       (c.0 ++ c.1 ∷ [], line.1, c.3 ∙ sym line.0)
 
-  -- the least line, with the space or the line feed after its first number
+  -- the least line is the line of some list that fits
   least_line : (d : ℕ) → least ≡ suc d → (x : List A) × (LineFits F least most) x × (zeros least ≡ (line_rest show) x)
   least_line d is =
       let l = a_line (show nil ++ end_at least 0 ∷ zeros d) (filled d 0 (omega (arith, is)) nil nil_fits) in

@@ -1,10 +1,10 @@
--- Loops that read one entry after the other.
+-- Loops that read one entry after another.
 use Rattle.std.proofs.Common.{◌≡◌, ℕ, suc, ◌<◌, List, [], ◌∷◌, ◌++◌, length, length-append, Result, Ok, Err, refl, sym, ap, append_assoc, arith}
 use Rattle.dd_output.specs.declared.fault.ReadFault.{ReadFault}
 use Rattle.dd_output.specs.declared.fault.ReadFault.TheVariants as faults
 use Rattle.dd_output.specs.reading.Stops.{Stop, Read, ◌>>=◌, Fails, Entry, item, entries_at, before}
 
--- what was read before, and what is still to be read
+-- the items that were read before, and then what is still to be read
 abbrev pub with_front : {A B : Type 0} → List A → Read (List A × B) → Read (List A × B)
 with_front front read = read >>= λ o. Ok ((front ++ o.0.0, o.0.1), o.1)
 
@@ -13,7 +13,7 @@ regroup : {A B : Type 0} (front : List A) (x : A) (read : Read (List A × B))
 regroup {A} {B} front x (Ok o) = ap (λ (l : List A). Ok ((l, o.0.1), o.1)) (sym (append_assoc front (x ∷ []) o.0.0))
 regroup front x (Err s) = refl
 
--- one entry more
+-- once an item is read, fewer bytes are left, and the list is this item and then the rest of the list
 pub record Unrolls {A B : Type 0} (entry : ℕ → List ℕ → Read (Entry A B)) : Type 0 where
   pub shorter : (k : ℕ) (bytes : List ℕ) (x : A) (rest : List ℕ) → entry k bytes ≡ Ok (item x, rest) → length rest < length bytes
   pub unrolled : (k : ℕ) (bytes : List ℕ) (x : A) (rest : List ℕ) → entry k bytes ≡ Ok (item x, rest)

@@ -1,4 +1,4 @@
--- The law of numbers: decimal, without a leading zero, within bounds, and the byte after.
+-- The law of numbers: they are decimal, without a leading zero and within bounds, and a byte ends each of them.
 use Rattle.std.proofs.Common.{◌≡◌, ℕ, ◌+◌, ◌-◌, ◌*◌, ◌/◌, ◌%◌, ◌^◌, ◌<◌, ◌≤◌, List, [], ◌∷◌, ◌++◌, Result, Ok, Err, Bool, true, false, cond, ◌⊎◌, inl, inr, refl, sym, ap, subst, ◌∙◌, append_assoc, arith}
 use Rattle.std.proofs.lemmas.Bool.{eqb-true, eq-eqb, ne_eqb, leb-true, le-leb, lt-ltb, ltb-true, and_parts, and_from, or_from, or_left, or_right, or_cases, both_ways}
 use Rattle.std.proofs.lemmas.{Fmt.decimal_digit, Fmt.decimal_step, Fmt.decimal_by_steps, List.append-nil}
@@ -14,7 +14,7 @@ digit_bounds b is =
 is_digit_from : (b : ℕ) → 48 ≤ b → b ≤ 57 → is_digit b ≡ true
 is_digit_from b low high = and_from (nat_le 48 b) (nat_le b 57) (le-leb 48 b low) (le-leb b 57 high)
 
--- one more digit
+-- the text of a number with one more digit
 decimal_more : (n d : ℕ) → 0 < n → d < 10 → n * 10 + d < 2 ^ 64 → decimal (n * 10 + d) ≡ decimal n ++ (48 + d) ∷ []
 decimal_more n d some digit fits =
     let quotient : (n * 10 + d) / 10 ≡ n = omega arith in
@@ -38,14 +38,14 @@ IsEnd_from end other e p = elim (or_cases (e == end) (e == other) p) [
 not_digit : (b end : ℕ) → is_digit b ≡ true → is_digit end ≡ false → (b == end) ≡ false
 not_digit b end is other = ne_eqb b end (λ e. both_ways (is_digit b) (rw e other) is)
 
--- the text of a number and one more digit is that of the number with this digit
+-- the text of a number, followed by a digit, is the text of the number with this digit appended
 digit_read : (n b : ℕ) (bytes : List ℕ) → is_digit b ≡ true → 0 < n → n * 10 + (b - 48) < 2 ^ 64 → decimal n ++ b ∷ bytes ≡ decimal (n * 10 + (b - 48)) ++ bytes
 digit_read n b bytes is some fits =
     let bounds = digit_bounds b is in
     let cell : 48 + (b - 48) ≡ b = omega (arith, bounds.0) in
     rw (decimal_more n (b - 48) some (omega (arith, bounds.1)) fits, cell) (sym (append_assoc (decimal n) (b ∷ []) bytes))
 
--- where an end or a digit may stand: which of the two was read
+-- if an end or a digit may come: which of the two was read
 either_ok : {A : Type 0} (b c : Bool) (z : A) (r : Result A Stop) (d : Stop) (y : A) → cond b (Ok z) (cond c r (Err d)) ≡ Ok y
     → ((b ≡ true) × (z ≡ y)) ⊎ ((b ≡ false) × (c ≡ true) × (r ≡ Ok y))
 either_ok true c z r d y e = inl (refl, cc)

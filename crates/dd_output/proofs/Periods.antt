@@ -102,7 +102,7 @@ period_first k (item p) good = number_first p 32 good
 period_first k (last (ends n)) good = number_first n 10 good
 period_first k (last (shears n)) good = elim good [ ]
 
--- ---- at each index
+-- ---- the entry at each index
 
 few_to : (k : ℕ) → k < 2 → (e : Entry ℕ PeriodsEnd) → IsPeriod e → Fits k e
 few_to k few (item p) good = (good, omega (arith, few))
@@ -170,7 +170,7 @@ periods_unroll =
 
 -- ---- all periods
 
--- the periods and the shear, without the space before the first period
+-- which periods and shear fit, and their text without the space before the first period
 abbrev pub PeriodsFit : List ℕ × ℕ → Type 0
 PeriodsFit x = (length x.0 ≤ 3) × ((1 ≤ length x.0) × All IsWritableNumber x.0) × IsWritableNumber x.1 × IsShearFor x.0 x.1
 

@@ -5,20 +5,20 @@ use Rattle.std.proofs.lemmas.Bool.{cases_Bool, cond-true, cond-false, eq-eqb}
 use Rattle.std.specs.{Prelude.◌==◌, List.flat_map, List.AllByRecursion}
 use Rattle.dd_output.specs.reading.Stops.{Stop, stop, Read, ◌>>=◌, before, then_at, map_at, copies, many_at, begins, choice_at}
 
--- Where a reader stopped: a prefix was read, the missing text completes it, and after the next byte no text does.
+-- Where a reader stopped: a prefix was read, the missing text completes it, and no text completes it once the next byte is appended.
 pub record Halts {A : Type 0} (C : List ℕ → Type 0) (r : List ℕ → Read A) (bytes : List ℕ) (s : Stop) : Type 0 where
   pub front : List ℕ
   pub whole : bytes ≡ front ++ s.left
   pub completed : C (front ++ s.missing)
   pub no_more : (b : ℕ) (more after : List ℕ) → s.left ≡ b ∷ more → r (front ++ b ∷ after) ≡ Err (stop (b ∷ after) s.missing)
 
--- A reader that reads the texts t x of the values that fit, each as its one value, and stops where no such text continues.
+-- A reader that reads the texts t x of the values x that fit. It reads each of them as x, and stops where no such text goes on.
 pub record Reads {A : Type 0} (F : A → Type 0) (t : A → List ℕ) (C : List ℕ → Type 0) (r : List ℕ → Read A) : Type 0 where
   pub takes : (bytes : List ℕ) (x : A) (rest : List ℕ) → r bytes ≡ Ok (x, rest) → (bytes ≡ t x ++ rest) × F x
   pub again : (x : A) (rest : List ℕ) → F x → r (t x ++ rest) ≡ Ok (x, rest)
   pub stops : (bytes : List ℕ) (s : Stop) → r bytes ≡ Err s → Halts C r bytes s
 
--- ---- steps
+-- ---- readers in sequence
 
 pub bind_ok : {A B : Type 0} (r : Result A Stop) (f : A → Result B Stop) (y : B) → (r >>= f) ≡ Ok y → (x : A) × (r ≡ Ok x) × (f x ≡ Ok y)
 bind_ok (Ok x) f y e = (x, refl, e)
@@ -150,7 +150,7 @@ same_reads F t C r G u D law to from done = record {
       record { front = h.front; whole = h.whole; completed = done (h.front ++ s.missing) h.completed; no_more = h.no_more };
 }
 
--- ---- n values, one after the other
+-- ---- n values, one after another
 
 split : {A : Type 0} (F : A → Type 0) (t : A → List ℕ) (n : ℕ) (xs : List A) → (length xs ≡ suc n) × AllByRecursion F xs
     → (p : A × List A) × (flat_map t xs ≡ t p.0 ++ flat_map t p.1) × (F p.0 × ((length p.1 ≡ n) × AllByRecursion F p.1)) × (p.0 ∷ p.1 ≡ xs)
@@ -178,7 +178,7 @@ many_reads {A} F t C one least D law short more (suc n) =
     (λ p good. (flat_map-cons t p.0 p.1, (ap suc good.1.0, (good.0, good.1.1))))
     (split F t n)
 
--- ---- by the first byte
+-- ---- a choice by the first byte
 
 begins_same : (c : ℕ) (front : List ℕ) (b : ℕ) (more after : List ℕ) → begins c (front ++ b ∷ more) ≡ begins c (front ++ b ∷ after)
 begins_same c [] b more after = refl

@@ -110,7 +110,7 @@ module _ (end other : ℕ) (rest : List ℕ) (end_is : is_digit end ≡ false) (
       star_first symbol_first)
       (λ y good. (refl, to_one y good)) (λ y good. (refl, from_one y good)) (λ text good. good)
 
--- ---- a line of them
+-- ---- a line of symbols and stars
 
 abbrev pub SymbolsAndStarsFit : List (Option ℕ) → Type 0
 SymbolsAndStarsFit = LineFits IsWritableSymbolOrStar 1 None

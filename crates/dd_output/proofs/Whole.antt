@@ -1,4 +1,4 @@
--- Reading all of the bytes: the one value of a text, and where a text is malformed.
+-- Reading all of the bytes: a text has at most one value, and a malformed text is refused at its offset.
 use Rattle.std.proofs.Common.{◌≡◌, ℕ, suc, ◌+◌, ◌-◌, ◌<◌, ◌≤◌, List, [], ◌∷◌, ◌++◌, length, length-append, take, Result, Ok, Err, Bool, true, false, cond, ◌⊎◌, inl, inr, refl, sym, ap, subst, ◌∙◌, append_assoc, arith}
 use Rattle.std.proofs.lemmas.Bool.{eqb-true, Decides.leb_tells}
 use Rattle.std.proofs.{lemmas.List.append-nil, lemmas.List.nil_from_length, lemmas.List.take_at, lemmas.List.drop_at, Math.Seq.take-add}
@@ -110,7 +110,7 @@ refused bytes s e left count =
       },
     )
 
--- reading that stopped gives a stop, with as many bytes left
+-- if reading stopped, its result is a stop with this many bytes left
 stop_of : (bytes : List ℕ) (left : ℕ) (r : Result Output Stop) → StoppedAt left r → (s : Stop) × (r ≡ Err s) × (length s.left ≡ left)
 stop_of bytes left (Ok o) is = elim is [ ]
 stop_of bytes left (Err s) is = (s, refl, is)
@@ -126,7 +126,7 @@ refused_at bytes left is =
     let a = stop_of bytes left (all_at bytes) is in
     refused bytes a.0 a.1 left a.2
 
--- each prefix of a well-formed text is completed
+-- each prefix of a well-formed text is completed by the text that is missing
 completed_from : (front more : List ℕ) (good : IsWellFormed (front ++ more)) (s : Stop) → all_at front ≡ Err s → (rest : List ℕ) → s.left ≡ rest → IsWellFormed (front ++ s.missing)
 completed_from front more good s e [] is =
     let h = whole_stops front s e in
@@ -153,7 +153,7 @@ le_or_lt n m = elim (leb_tells n m) [
   | inr other ↦ inr other.1
 ]
 
--- of two offsets of the same bytes, the greater one would give a longer prefix
+-- of two different offsets of the same bytes, the greater one would give a longer prefix
 no_less : (bytes : List ℕ) (m n : ℕ) → IsOffset bytes m → IsOffset bytes n → n ≤ m
 no_less bytes m n one two = elim (le_or_lt n m) [
   | inl le ↦ le

@@ -4,7 +4,7 @@ use Rattle.std.proofs.lemmas.List.{append_assoc, append-nil, take_more, length-t
 use Rattle.dd_certificate.specs.{declared.answer.Answer.Answer, Text.answer_text}
 use Rattle.dd_output.specs.Outputs.{answers_text}
 
--- the text of answers and then one more
+-- the text of some answers and one more
 answers_and_one : (first : ℕ) (some : List Answer) (a : Answer) → answers_text first (some ++ a ∷ []) ≡ answers_text first some ++ answer_text (first + length some) a
 answers_and_one first [] a = append-nil (answer_text first a) ∙ ap (λ n. answer_text n a) (omega arith)
 answers_and_one first (b ∷ some) a =

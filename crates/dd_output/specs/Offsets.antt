@@ -1,5 +1,5 @@
--- The output whose text the bytes are, or their offset if there is none. The offset is the length of their longest prefix with
--- which an output begins.
+-- The output whose text the bytes are. If there is none, the bytes have an offset: the length of their longest prefix with which some output
+-- begins.
 use Rattle.std.specs.Prelude.{◌≡◌, ℕ, ◌<◌, ◌≤◌, List, ◌++◌, length, take, Result, Ok, Err}
 use Rattle.dd_output.specs.declared.{output.Output.Output, fault.CertificateFault.CertificateFault}
 use Rattle.dd_output.specs.{Outputs.output_text, Outputs.IsWritableOutput, Outputs.IsWellFormed, reading.Whole.completion}
@@ -11,13 +11,13 @@ pub record IsOffset (bytes : List ℕ) (offset : ℕ) : Type 0 where
   pub begins : IsWellFormed (take offset bytes ++ completion bytes)
   pub no_longer : (n : ℕ) (more : List ℕ) → offset < n → n ≤ length bytes → IsWellFormed (take n bytes ++ more) → ⊥
 
--- the bytes are no output, and this is their offset; or memory ran out
+-- the bytes aren't the text of an output, and this is their offset; or memory ran out
 abbrev pub IsOutputFault : List ℕ → CertificateFault → Type 0
 IsOutputFault bytes faults.Memory = Unit {0}
 IsOutputFault bytes (faults.Malformed offset) = (IsWellFormed bytes → ⊥) × IsOffset bytes offset
 
--- What reading the bytes gives: the only output with this text, or a fault. A fault is the offset of the bytes if there is no
--- output, or that memory ran out.
+-- What reading the bytes gives: the only output with this text, or a fault. If there is no such output, the fault gives the offset of the bytes.
+-- Otherwise it says that memory ran out.
 abbrev pub ReadsOutput : List ℕ → Result Output CertificateFault → Type 0
 ReadsOutput bytes (Ok o) = IsWritableOutput o × (bytes ≡ output_text o)
 ReadsOutput bytes (Err fault) = IsOutputFault bytes fault

@@ -1,4 +1,4 @@
--- The readers as functions. Wherever one stops, it has a text that completes what was read.
+-- The readers as functions. Wherever a reader stops, it gives a text that completes what was read.
 pub mod Stops
 pub mod Forms
 pub mod Lists

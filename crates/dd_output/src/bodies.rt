@@ -1,5 +1,5 @@
-//! Reads the lines of an answer, without the query's number. A `YES` is an answer whose text begins with this word, and so for the
-//! other kinds.
+//! Reads the lines of an answer, without the word `query` and the query's number. Here a `YES` is an answer that begins with this
+//! word. The other kinds of answers are named in the same way.
 ghost use Rattle.std.specs.Prelude.{◌≡◌, ◌≤◌, IfOk};
 ghost use Rattle.dd_certificate.specs.Bounds.{most_number};
 ghost use Rattle.dd_output.specs.reading.Stops.{Gives, number_at, many_at, copies};
@@ -21,7 +21,7 @@ use std::alloc::Global;
 
 // ---- YES
 
-/// A radius, and the byte that ends it: a line feed where one refutation follows, a space where a second radius does.
+/// A radius, and the byte that ends it: a line feed if one refutation follows, or a space if a second radius follows.
 #[tactic(auto, using(crate::proofs::Counts::number_any))]
 fn radius_of(bytes: &[u8]) -> Result<(u64, u8, &[u8]), ReadFault>
     ensures { Gives (λ x. ((x.0, x.1), x.2.now)) result (number_at 0 most_number 10 32 (λ _. grammar.refutation.least) bytes.now) }
@@ -69,7 +69,7 @@ fn yes_of(alloc: Global, bytes: &[u8]) -> Result<(Answer, &[u8]), ReadFault>
 
 // ---- NO and UNKNOWN
 
-/// A `NO`, after these two letters.
+/// A `NO` whose two letters were already read.
 #[tactic(auto, unfolding(crate::specs::reading::Grammar::no_row))]
 fn no_of(alloc: Global, bytes: &[u8]) -> Result<(Answer, &[u8]), ReadFault>
     ensures { Gives (λ x. (x.0, x.1.now)) result (grammar.no_row.read bytes.now) }
@@ -89,7 +89,7 @@ fn no_of(alloc: Global, bytes: &[u8]) -> Result<(Answer, &[u8]), ReadFault>
     ))
 }
 
-/// The word of a reason.
+/// The word for a reason, and the line feed after it.
 #[tactic(auto, unfolding(crate::specs::reading::Grammar::reason_word))]
 fn reason_of(bytes: &[u8]) -> Result<(Reason, &[u8]), ReadFault>
     ensures { Gives (λ x. (x.0, x.1.now)) result (grammar.reason_word.read bytes.now) }
@@ -148,7 +148,7 @@ fn count_of_patterns(bytes: &[u8]) -> Result<(u64, u8, &[u8]), ReadFault>
     number_at(bytes, 0, MOST_NUMBER, b'\n', b'\n')
 }
 
-/// This many patterns.
+/// `count` patterns.
 fn patterns_of(alloc: Global, count: u64, bytes: &[u8]) -> Result<(Items<Listed>, &[u8]), ReadFault>
     ensures { Gives (λ x. (x.0, x.1.now)) result (many_at grammar.pattern.read grammar.pattern.least count bytes.now) }
 {
@@ -162,7 +162,7 @@ fn patterns_of(alloc: Global, count: u64, bytes: &[u8]) -> Result<(Items<Listed>
     Ok((patterns, rest))
 }
 
-/// A `LIST`, after its `L`.
+/// A `LIST` whose `L` was already read.
 #[tactic(auto, unfolding(crate::specs::reading::Grammar::list_row))]
 fn list_of(alloc: Global, bytes: &[u8]) -> Result<(Answer, &[u8]), ReadFault>
     ensures { Gives (λ x. (x.0, x.1.now)) result (grammar.list_row.read bytes.now) }
@@ -277,7 +277,7 @@ fn amounts_and_duals_of(
     Ok((amounts, duals, rest))
 }
 
-/// A `BOUND`, after its `B`.
+/// A `BOUND` whose `B` was already read.
 #[tactic(auto, unfolding(crate::specs::reading::Grammar::bound_row))]
 fn bound_of(alloc: Global, bytes: &[u8]) -> Result<(Answer, &[u8]), ReadFault>
     ensures { Gives (λ x. (x.0, x.1.now)) result (grammar.bound_row.read bytes.now) }
@@ -359,7 +359,7 @@ fn bound_or_broken_of(alloc: Global, bytes: &[u8]) -> Result<(Answer, &[u8]), Re
     }
 }
 
-/// An answer of any kind. Its first bytes tell which.
+/// An answer of any kind. Its first bytes tell which kind it is.
 #[tactic(auto, unfolding(crate::specs::reading::Grammar::answer_form))]
 pub(crate) fn answer_of(alloc: Global, bytes: &[u8]) -> Result<(Answer, &[u8]), ReadFault>
     ensures { Gives (λ x. (x.0, x.1.now)) result (grammar.answer_form.read bytes.now) }

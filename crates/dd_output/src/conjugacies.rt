@@ -1,5 +1,5 @@
-//! Reads answers about conjugacies. A conjugacy asks four questions. `CONJUGATE` has a radius and a refutation for each of them.
-//! `BROKEN` has a configuration that answers one of them with no.
+//! Reads answers about conjugacies. A conjugacy query asks four questions. `CONJUGATE` has a radius and a refutation for each
+//! question. `BROKEN` has a configuration which shows that the answer to one question is no.
 ghost use Rattle.std.specs.Prelude.{◌≡◌};
 ghost use Rattle.dd_output.specs.reading.Stops.{Gives, many_at};
 ghost use Rattle.dd_output.specs.reading.Grammar as grammar;
@@ -14,7 +14,7 @@ use dd_derivation::Step;
 use dd_values::Items;
 use std::alloc::Global;
 
-/// This many refutations.
+/// `count` refutations.
 fn refutations_of(
     alloc: Global,
     count: u64,
@@ -43,7 +43,7 @@ pub(crate) fn conjugate_of(alloc: Global, bytes: &[u8]) -> Result<(Answer, &[u8]
     Ok((Answer::Conjugate { radii, steps }, rest))
 }
 
-/// A `BROKEN` answer, after its `B`. The part is the number of the question, from 1.
+/// A `BROKEN` answer whose `B` was already read. Its part is the number of the question, from 1.
 #[tactic(auto, unfolding(crate::specs::reading::Grammar::broken_row))]
 pub(crate) fn broken_of(alloc: Global, bytes: &[u8]) -> Result<(Answer, &[u8]), ReadFault>
     ensures { Gives (λ x. (x.0, x.1.now)) result (grammar.broken_row.read bytes.now) }

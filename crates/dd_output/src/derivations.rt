@@ -50,7 +50,7 @@ fn count_of_steps(bytes: &[u8]) -> Result<(u64, u8, &[u8]), ReadFault>
     number_at(bytes, 1, u64::MAX, b'\n', b'\n')
 }
 
-/// This many steps.
+/// `count` steps.
 fn steps_of(alloc: Global, count: u64, bytes: &[u8]) -> Result<(Items<Step>, &[u8]), ReadFault>
     ensures { Gives (λ x. (x.0, x.1.now)) result (many_at step.read step.least count bytes.now) }
 {
@@ -68,7 +68,7 @@ fn steps_of(alloc: Global, count: u64, bytes: &[u8]) -> Result<(Items<Step>, &[u
     Ok((steps, rest))
 }
 
-/// A refutation: the number of its steps, and then the steps.
+/// A refutation: a line with the number of its steps, and then the steps.
 #[tactic(auto, unfolding(crate::specs::reading::Grammar::refutation))]
 pub(crate) fn refutation_of(alloc: Global, bytes: &[u8]) -> Result<(Items<Step>, &[u8]), ReadFault>
     ensures { Gives (λ x. (x.0, x.1.now)) result (refutation.read bytes.now) }

@@ -17,12 +17,13 @@ pub fn read_again()
     ensures { (o : Output) (read : Result Output CertificateFault) → IsWritableOutput o → ReadsOutput (output_text o) read → (read ≡ Ok o) ⊎ (read ≡ Err faults.Memory) }
 {}
 
-/// Does nothing. Its contract says that at most one offset fits the bytes, so they determine that of `Malformed`.
+/// Does nothing. Its contract says that at most one offset fits the bytes, so the bytes determine the offset in `Malformed`.
 pub fn one_offset()
     ensures { (bytes : List ℕ) (m n : ℕ) → IsOffset bytes m → IsOffset bytes n → m ≡ n }
 {}
 
-/// Does nothing. Its contract says that a prefix of an output, followed by its `completion`, is an output.
+/// Does nothing. Its contract says that a prefix of an output's text, followed by the prefix's `completion`, is the text of an
+/// output.
 pub fn completes()
     ensures { (front more : List ℕ) → IsWellFormed (front ++ more) → IsWellFormed (front ++ completion front) }
 {}

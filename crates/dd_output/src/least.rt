@@ -1,4 +1,5 @@
-//! Reads the least weight of a configuration with given periods, or that there is no such configuration.
+//! Reads answers about the least weight of a configuration with given periods: `LEAST` with this weight, or `NONE` if there is no
+//! such configuration.
 ghost use Rattle.std.specs.Prelude.{◌≡◌};
 ghost use Rattle.dd_output.specs.reading.Stops.{Gives, choice_at};
 ghost use Rattle.dd_output.specs.reading.Grammar as grammar;
@@ -12,7 +13,7 @@ use dd_derivation::Step;
 use dd_values::{Items, MOST_NUMBER};
 use std::alloc::Global;
 
-/// The weight 0, and a configuration that has it. No weight is smaller, so there are no steps of a refutation.
+/// The weight 0, and a configuration of this weight. No weight is smaller, so there is no refutation, and the steps are empty.
 #[tactic(auto, unfolding(crate::specs::reading::Grammar::zero_weight))]
 fn zero_weight_of(
     alloc: Global,
@@ -25,7 +26,7 @@ fn zero_weight_of(
     Ok((0, symbols, Items::new(alloc), rest))
 }
 
-/// A weight of at least 1, a configuration that has it, and the steps of a refutation of all smaller weights.
+/// A weight of at least 1, a configuration of this weight, and the steps that refute all smaller weights.
 #[tactic(auto, unfolding(crate::specs::reading::Grammar::some_weight))]
 fn some_weight_of(
     alloc: Global,
@@ -40,7 +41,7 @@ fn some_weight_of(
     Ok((weight, symbols, steps, rest))
 }
 
-/// A weight, a configuration that has it, and the steps that refute all smaller weights.
+/// A weight, a configuration of this weight, and the steps that refute all smaller weights.
 fn weight_of(
     alloc: Global,
     bytes: &[u8],
@@ -54,7 +55,7 @@ fn weight_of(
     }
 }
 
-/// A `LEAST` answer, after its `L`.
+/// A `LEAST` answer whose `L` was already read.
 #[tactic(auto, unfolding(crate::specs::reading::Grammar::least_row))]
 pub(crate) fn least_of(alloc: Global, bytes: &[u8]) -> Result<(Answer, &[u8]), ReadFault>
     ensures { Gives (λ x. (x.0, x.1.now)) result (grammar.least_row.read bytes.now) }
@@ -71,7 +72,7 @@ pub(crate) fn least_of(alloc: Global, bytes: &[u8]) -> Result<(Answer, &[u8]), R
     ))
 }
 
-/// A `NONE` answer, after its `NO`.
+/// A `NONE` answer whose `NO` was already read.
 #[tactic(auto, unfolding(crate::specs::reading::Grammar::nothing_row))]
 pub(crate) fn nothing_of(alloc: Global, bytes: &[u8]) -> Result<(Answer, &[u8]), ReadFault>
     ensures { Gives (λ x. (x.0, x.1.now)) result (grammar.nothing_row.read bytes.now) }

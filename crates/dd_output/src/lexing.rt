@@ -1,13 +1,14 @@
-//! Reads words, numbers and raw bytes. A number has a byte that ends it, so no number's text is a prefix of another's.
+//! Reads words, numbers and raw bytes. Each number is read together with the byte that ends it, so no number's text is a prefix
+//! of another's.
 ghost use Rattle.std.specs.Prelude.{◌≡◌, ◌<◌, ◌≤◌, ◌^◌, ◌-◌, ◌*◌, ◌+◌, true, length, [], IfOk, nat_le};
 ghost use Rattle.dd_output.specs.reading.Stops.{Gives, is_digit, goes_on, starts, word_at, digits_at, number_at, bytes_at, begins};
 
 use crate::fault::ReadFault;
 
-/// A number below this one still fits in 64 bits with one more digit.
+/// A number below this still fits in 64 bits when one more digit is appended.
 const SHORT: u64 = 1 << 60;
 
-/// Whether the first of the bytes is this one.
+/// Whether the bytes begin with the byte `first`.
 pub(crate) fn begins(bytes: &[u8], first: u8) -> bool
     ensures { result ≡ begins first bytes.now }
 {
@@ -17,7 +18,7 @@ pub(crate) fn begins(bytes: &[u8], first: u8) -> bool
     }
 }
 
-/// The bytes after this word.
+/// Reads the word `word`, and returns the bytes after it.
 #[inline]
 pub(crate) fn word_at<'a>(bytes: &'a [u8], word: &[u8]) -> Result<&'a [u8], ReadFault>
     ensures { Gives (λ rest. (tt, rest.now)) result (word_at word.now bytes.now) }
@@ -39,7 +40,7 @@ fn is_digit(byte: u8) -> bool
     b'0' <= byte && byte <= b'9'
 }
 
-/// The number with one more digit.
+/// The number with this digit appended.
 fn next(number: u64, digit: u8) -> u128
     requires { is_digit digit ≡ true }
     ensures { result ≡ number * 10 + (digit - 48) }
@@ -47,7 +48,7 @@ fn next(number: u64, digit: u8) -> u128
     u128::from(number) * 10 + u128::from(digit - b'0')
 }
 
-/// Whether the number with one more digit is at most the bound. Most numbers are below `SHORT`, and need no 128 bits.
+/// Whether the number with this digit appended is at most the bound. Most numbers are below `SHORT`, so that 64 bits suffice.
 fn has_room(bound: u64, number: u64, digit: u8) -> bool
     requires { is_digit digit ≡ true }
     ensures { result ≡ nat_le (number * 10 + (digit - 48)) bound }
@@ -59,7 +60,8 @@ fn has_room(bound: u64, number: u64, digit: u8) -> bool
     }
 }
 
-/// Whether the byte can be one more digit of the number: no digit follows a leading 0, and the bound holds.
+/// Whether the byte can be the next digit of the number. After a leading 0 there is none, and the longer number has to be at most
+/// the bound.
 fn goes_on(bound: u64, number: u64, byte: u8) -> bool
     ensures { result ≡ goes_on bound number byte }
 {
@@ -73,8 +75,8 @@ fn starts(low: u64, bound: u64, byte: u8) -> bool
     is_digit(byte) && (low <= u64::from(byte - b'0') && u64::from(byte - b'0') <= bound)
 }
 
-/// The rest of a number whose first digit was read before. Returns the whole number, the byte that ends it, and the bytes after
-/// that. `end` and `other` are the bytes that can end it.
+/// The rest of a number whose first digit, `first`, was already read. Returns the whole number, the byte that ends it, and the
+/// bytes after that. The byte that ends it is `end` or `other`.
 fn digits_at(
     bytes: &[u8],
     bound: u64,
@@ -106,8 +108,8 @@ fn digits_at(
     }
 }
 
-/// A number from `low`, which is 0 or 1, to `bound`, the byte that ends it, and the bytes after that. `end` and `other` are the
-/// bytes that can end it.
+/// A number from `low`, which is 0 or 1, to `bound`. Returns the number, the byte that ends it, and the bytes after that. The
+/// byte that ends it is `end` or `other`.
 pub(crate) fn number_at(
     bytes: &[u8],
     low: u64,
@@ -131,7 +133,7 @@ pub(crate) fn number_at(
     }
 }
 
-/// The first `count` bytes, and those after them.
+/// The first `count` bytes. Returns these and the bytes after them.
 pub(crate) fn bytes_at(bytes: &[u8], count: usize) -> Result<(&[u8], &[u8]), ReadFault>
     ensures { Gives (λ x. (x.0.now, x.1.now)) result (bytes_at count bytes.now) }
 {

@@ -1,9 +1,10 @@
-//! Reads whole outputs back, and writes them. Bytes that are no output are refused at their first wrong byte: some output begins
-//! with the bytes before it, and none with one more. The grammar is a table with a row for each kind of answer. Wherever reading
-//! stops, the grammar has a text that completes what was read. So no byte before the stop is wrong.
+//! Writes whole outputs, and reads them back. Bytes that aren't the text of an output are refused at their first wrong byte, or
+//! at their end if they stop too early. Some output begins with the bytes before that point, and none begins with one byte more.
+//! The grammar of answers is a table. Each row is for one kind of answer, or for two kinds whose texts begin alike. Wherever
+//! reading stops, the grammar gives a text that completes what was read. So no byte before that point is wrong.
 //!
-//! Most functions of bytes are readers. A reader reads the value with which the bytes begin, and returns it with the bytes that are
-//! left. It stops at the first wrong byte. Its doc comment names what it reads.
+//! Most functions that take bytes are readers. A reader reads the value with which the bytes begin, and returns it with the bytes
+//! that are left. It stops at the first wrong byte. Its doc comment names what it reads.
 #![tactic(auto)]
 
 mod bodies;

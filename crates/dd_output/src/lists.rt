@@ -1,4 +1,4 @@
-//! Reads lists: those that a 0 ends, and the numbers that a line ends with.
+//! Reads lists of two sorts: those that end with a 0, and the numbers at the end of a line.
 ghost use Rattle.std.specs.Prelude.{◌≡◌, ◌≤◌, ◌-◌, [], suc};
 ghost use Rattle.dd_certificate.specs.Bounds.{most_number};
 ghost use Rattle.dd_output.specs.reading.Stops.{Gives, number_at, map_at};
@@ -26,7 +26,7 @@ use dd_clause::{Clause, Literal};
 use dd_values::{Items, MOST_NUMBER, MOST_VARIABLES};
 use std::alloc::Global;
 
-/// A literal, or nothing at the end of a list.
+/// A literal, or `None` for the 0 that ends a list.
 fn literal_entry(bytes: &[u8]) -> Result<(Option<Literal>, &[u8]), ReadFault>
     ensures { Gives (λ x. (literal_seen x.0, x.1.now)) result (literal_entry bytes.now) }
 {
@@ -55,7 +55,7 @@ fn literal_entry(bytes: &[u8]) -> Result<(Option<Literal>, &[u8]), ReadFault>
     }
 }
 
-/// The number of a clause, or nothing at the end of a list.
+/// A clause number, or `None` for the 0 that ends a list and the byte `end` after it.
 fn number_entry(bytes: &[u8], end: u8) -> Result<(Option<u64>, &[u8]), ReadFault>
     ensures { Gives (λ x. (number_seen x.0, x.1.now)) result (number_entry end bytes.now) }
 {
@@ -68,7 +68,7 @@ fn number_entry(bytes: &[u8], end: u8) -> Result<(Option<u64>, &[u8]), ReadFault
     }
 }
 
-/// A clause: literals up to the 0 that ends them. They are gathered in the buffer, which is emptied first.
+/// A clause: its literals, up to the 0 that ends them. They are gathered in the buffer, which is emptied first.
 pub(crate) fn clause_of<'a>(
     alloc: Global,
     buffer: &mut Vec<Literal>,
@@ -88,7 +88,7 @@ pub(crate) fn clause_of<'a>(
     }
 }
 
-/// Numbers of clauses up to the 0 that ends them and the byte `end` after it. They are gathered in the buffer, which is emptied
+/// Clause numbers, up to the 0 that ends them and the byte `end` after it. They are gathered in the buffer, which is emptied
 /// first.
 pub(crate) fn numbers_until<'a>(
     alloc: Global,
@@ -110,8 +110,8 @@ pub(crate) fn numbers_until<'a>(
     }
 }
 
-/// The byte that ends the number with this index, from 0, in the shortest line allowed. That line has `least` numbers. The byte is a
-/// space, or a line feed after the last one.
+/// The byte that ends the number with this index, from 0, in the shortest line allowed. That line has `least` numbers. The byte
+/// is a line feed after the last number, and a space after each number before it.
 pub(crate) fn end_at(least: u64, index: u64) -> u8
     ensures { result ≡ end_at least index }
 {
@@ -122,8 +122,8 @@ pub(crate) fn end_at(least: u64, index: u64) -> u8
     }
 }
 
-/// The byte that ends the number with this index, from 0, in the longest line allowed. That line has `most` numbers, or has no end if
-/// `most` is `None`. The byte is a space, or a line feed after the last one.
+/// The byte that ends the number with this index, from 0, in the longest line allowed. That line has `most` numbers, or never
+/// ends if `most` is `None`. The byte is a line feed after the last number, and a space after each number before it.
 pub(crate) fn other_at(most: Option<u64>, index: u64) -> u8
     ensures { result ≡ other_at most index }
 {
@@ -166,7 +166,7 @@ fn line_entry(
     Ok((number, end == b'\n', rest))
 }
 
-/// The numbers that a line ends with: at least `least`, and at most `most` if there is such a bound.
+/// The numbers at the end of a line: at least `least` of them, and at most `most` unless it is `None`.
 #[tactic(auto, unfolding(crate::specs::reading::Lists::numbers))]
 pub(crate) fn numbers_of(
     alloc: Global,

@@ -23,7 +23,7 @@ use dd_certificate::{Answer, push_decimal};
 use dd_values::{Items, MOST_COMMANDS, MOST_SCRIPT};
 use std::alloc::Global;
 
-/// The greatest length of an output that is read, in bytes.
+/// The greatest length, in bytes, of an output that a check reads. `read_output` itself has no such limit.
 pub const MOST_OUTPUT: usize = 268_435_456;
 
 /// The text before an answer: `query`, a space, the query's number, and a space. The number is the index plus 1.
@@ -39,8 +39,8 @@ fn query_word(alloc: Global, index: u64) -> Result<Vec<u8>, ReadFault>
     Ok(word)
 }
 
-/// The answer to the query with this index, from 0, or `None` for the end. The index is below the most queries that an output may
-/// have.
+/// The answer to the query with this index, from 0, or `None` for the end. The index is less than the number of queries that an
+/// output may have.
 #[tactic(auto, unfolding(crate::specs::reading::Whole::open_entry))]
 fn open_entry(alloc: Global, index: u64, bytes: &[u8]) -> Result<(Option<Answer>, &[u8]), ReadFault>
     requires { index < most_commands }
@@ -57,7 +57,7 @@ fn open_entry(alloc: Global, index: u64, bytes: &[u8]) -> Result<(Option<Answer>
     }
 }
 
-/// The same for any index. After the last query that an output may have, only the end can follow.
+/// Like `open_entry`, but for any index. After as many answers as an output may have, only the end can follow.
 #[tactic(auto, unfolding(crate::specs::reading::Whole::answer_entry))]
 fn answer_entry(
     alloc: Global,
@@ -98,7 +98,7 @@ fn size_of_script(bytes: &[u8]) -> Result<(u64, u8, &[u8]), ReadFault>
     number_at(bytes, 0, MOST_SCRIPT as u64, b'\n', b'\n')
 }
 
-/// The script, with its length before it.
+/// The length of the script, and then the script.
 #[tactic(auto, unfolding(crate::specs::reading::Whole::script_at))]
 fn script_of(alloc: Global, bytes: &[u8]) -> Result<(Items<u8>, &[u8]), ReadFault>
     ensures { Gives (λ x. (x.0, x.1.now)) result (script_at bytes.now) }
@@ -109,7 +109,7 @@ fn script_of(alloc: Global, bytes: &[u8]) -> Result<(Items<u8>, &[u8]), ReadFaul
     Ok((Items::from_slice(alloc, script)?, rest))
 }
 
-/// An output, and the bytes after it.
+/// An output. Bytes may be left after it.
 #[tactic(auto, unfolding(crate::specs::reading::Whole::output_at))]
 fn output_of(alloc: Global, bytes: &[u8]) -> Result<(Output, &[u8]), ReadFault>
     ensures { Gives (λ x. (x.0, x.1.now)) result (output_at bytes.now) }
@@ -132,12 +132,12 @@ fn all_of(alloc: Global, bytes: &[u8]) -> Result<Output, ReadFault>
     Ok(output)
 }
 
-/// The only output with this text.
+/// Reads a whole output: the only one whose text is `bytes`.
 ///
 /// # Errors
 ///
-/// `Malformed` if there is none, with the length of the longest prefix of the bytes that some output begins with. `Memory` if memory
-/// runs out.
+/// `Malformed` if there is no such output. It holds the length of the longest prefix of the bytes with which some output begins.
+/// `Memory` if memory runs out.
 #[tactic(auto, using(crate::proofs::Whole::whole_takes, crate::proofs::Whole::refused_at, crate::proofs::Whole::left_fits))]
 pub fn read_output(alloc: Global, bytes: &[u8]) -> Result<Output, CertificateFault>
     ensures { ReadsOutput bytes.now result }

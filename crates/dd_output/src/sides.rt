@@ -1,5 +1,5 @@
-//! Reads the periods of a configuration, the shear that may follow two or three of them, and the side that may come before them.
-//! The side says which of the two rules of an equality the configuration obeys.
+//! Reads the periods of a configuration, the shear that may follow two or three periods, and the side that may come before the
+//! periods. The side says which of the two rules of an equality query the configuration obeys.
 ghost use Rattle.std.specs.Prelude.{◌≡◌};
 ghost use Rattle.dd_output.specs.reading.Stops.{Gives};
 ghost use Rattle.dd_output.specs.reading.Periods.{period_at, shear_at, period_entry, periods};

@@ -14,7 +14,7 @@ use dd_certificate::{Answer, Starred};
 use dd_values::{Items, MOST_NUMBER};
 use std::alloc::Global;
 
-/// One of the bytes `end` and `other`.
+/// A byte, which has to be `end` or `other`.
 fn end_byte_at(bytes: &[u8], end: u8, other: u8) -> Result<(u8, &[u8]), ReadFault>
     ensures { Gives (λ x. (x.0, x.1.now)) result (end_byte_at end other [] bytes.now) }
 {
@@ -66,7 +66,7 @@ fn symbol_or_star_entry(bytes: &[u8], index: u64) -> Result<(Option<u64>, bool, 
     Ok((symbol, end == b'\n', rest))
 }
 
-/// The symbols and stars that a line ends with.
+/// The symbols and stars at the end of a line.
 #[tactic(auto, unfolding(crate::specs::reading::Stars::symbols_and_stars))]
 fn symbols_and_stars_of(
     alloc: Global,
@@ -110,7 +110,7 @@ fn count_of_patterns(bytes: &[u8]) -> Result<(u64, u8, &[u8]), ReadFault>
     number_at(bytes, 0, MOST_NUMBER, b'\n', b'\n')
 }
 
-/// This many patterns.
+/// `count` patterns.
 fn patterns_of(
     alloc: Global,
     count: u64,

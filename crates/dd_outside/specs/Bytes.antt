@@ -1,10 +1,10 @@
--- What reads and writes do to the bytes left in a source and held by a sink, where these bytes are known. `old` are the
--- known bytes before, `new` those after.
+-- What reads and writes do to the bytes left in a source or held by a sink, where these bytes are known. `old` holds the bytes
+-- before the reads or writes, and `new` those after, if they are known.
 use Rattle.std.specs.Prelude.{◌≡◌, ℕ, ◌-◌, ◌^◌, ◌≤◌, ◌<◌, List, ◌++◌, length, min}
 use Rattle.std.specs.{declared.option.Option.Option, Io.KnownBytes.Appends, Io.KnownBytes.Consumes, Io.KnownBytes.IsAtEnd}
 use Rattle.std.proofs.Common.{arith}
 
--- A prefix of the text was written: `gained`. The rest is `missing`.
+-- A prefix of the text was written, namely `gained`. The rest of the text is `missing`.
 pub record GainsFront (old new : Option (List ℕ)) (text : List ℕ) : Type 0 where
   pub gained : List ℕ
   pub missing : List ℕ
@@ -36,7 +36,7 @@ pub record ReadsOn (old new : Option (List ℕ)) (before after : List ℕ) (coun
   pub counted : length given ≡ count
   pub ends : count ≡ 0 → IsAtEnd new
 
--- A count that stops at the greatest number of 64 bits.
+-- The count, but at most 2^64 - 1, the greatest number of 64 bits.
 abbrev pub capped : ℕ → ℕ
 capped count = min count (2 ^ 64 - 1)
 

@@ -2,7 +2,7 @@
 use Rattle.std.specs.Prelude.{ℕ, ◌+◌, ◌-◌, List, length, take, drop}
 use Rattle.dd_outside.specs.{Bytes.capped, declared.memory.MemorySource.MemorySource, declared.memory.MemorySink.MemorySink}
 
--- The number of the next call. The first call is number 1, and the count stops at the greatest number of 64 bits.
+-- The number of the next call, after this many calls. The first call is number 1, and the count stops at 2^64 - 1.
 abbrev pub next_call : ℕ → ℕ
 next_call calls = capped (calls + 1)
 

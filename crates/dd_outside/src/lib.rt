@@ -1,5 +1,5 @@
-//! Sources and sinks of bytes. Each counts its faults, which are its calls that failed. A source can be read to its end, and
-//! a slice can be written whole to a sink.
+//! Sources, from which bytes are read, and sinks, to which bytes are written. Each counts its faults: the calls that failed.
+//! `read_all` reads a source to its end, and `write_whole` writes a whole slice to a sink.
 #![tactic(auto)]
 
 mod faults;

@@ -1,4 +1,4 @@
-//! A source and a sink in memory. Their calls are numbered from 1, and those that the caller lists fail.
+//! A source and a sink in memory. Their calls are numbered from 1. Those whose numbers the caller lists fail.
 ghost use Rattle.std.specs.Prelude.{◌≡◌, ◌+◌, ◌-◌, ◌^◌, ◌<◌, ◌≤◌, ◌↔◌, [], ◌++◌, Some, length, take, drop, min, ◌⊎◌, Contains, IfOk, IsTrue, IsErr};
 
 use crate::faults::Failed;
@@ -52,7 +52,7 @@ impl Plan {
     }
 }
 
-/// A source of bytes in memory. A call reads at most `step` bytes. Calls are numbered from 1, and the listed ones fail.
+/// A source of bytes in memory. A call reads at most `step` bytes. Calls are numbered from 1, and those listed in `failing` fail.
 #[derive(Drop)]
 pub struct MemorySource {
     bytes: Vec<u8>,
@@ -85,8 +85,8 @@ impl MemorySource {
     }
 }
 
-// Copies the bytes from `at` on, at most `step` of them, to the start of `into`. Moves `at` past them, and returns how many
-// they are.
+// Copies the bytes from `at` on, at most `step` of them, to the start of `into`. Moves `at` past the copied bytes, and returns
+// their number.
 pub(crate) fn give(bytes: &[u8], at: &mut usize, step: usize, into: &mut [u8]) -> usize
     requires in_range { at.old ≤ length bytes.now }
     requires moves { 0 < step }
@@ -132,8 +132,8 @@ impl Source for MemorySource {
     }
 }
 
-/// A sink in memory. A call writes at most `step` bytes. Calls are numbered from 1, and the listed ones fail. A write of
-/// at least one byte also fails if the sink is full.
+/// A sink in memory. A call writes at most `step` bytes. Calls are numbered from 1, and those listed in `failing` fail. A
+/// write of at least one byte also fails if the sink is full.
 #[derive(Drop)]
 pub struct MemorySink {
     room: Vec<u8>,
@@ -183,8 +183,8 @@ impl MemorySink {
     }
 }
 
-// Copies a prefix of the piece, at most `step` bytes, to `room` after the first `taken` bytes. Adds its length to `taken`, and
-// returns it.
+// Copies a prefix of the piece, at most `step` bytes, to `room`, after the first `taken` bytes. Adds the length of this prefix
+// to `taken`, and returns the length.
 fn take_in(room: &mut [u8], taken: &mut usize, step: usize, piece: &[u8]) -> usize
     requires { taken.old ≤ length room.old }
     ensures count { result ≡ min step (min (length piece.now) (length room.old - taken.old)) }

@@ -30,10 +30,10 @@ pub trait Sink {
     ghost fits: { (sink : Self) → faults sink ≤ 2 ^ 64 - 1 };
 }
 
-/// Writes a whole piece, in as many writes as it takes. An empty piece makes no write.
+/// Writes a whole piece, in as many writes as it takes. If the piece is empty, it makes no write.
 ///
 /// # Errors
-/// `WriteFault` if a write failed. By then a prefix of the piece was written, which may be empty.
+/// `WriteFault` if a write failed. A prefix of the piece, which may be empty, was written before that.
 pub fn write_whole<K: Sink>(sink: &mut K, piece: &[u8]) -> Result<(), WriteFault>
     ensures whole { OnOk result (Appends (K.held sink.old) (K.held sink.new) piece.now) }
     ensures front { OnErr result (GainsFront (K.held sink.old) (K.held sink.new) piece.now) }

@@ -43,8 +43,8 @@ impl<R: Read> Source for StdSource<R> {
     }
 }
 
-/// A sink over a writer of std. Each error of the writer counts as a fault, and so does a write of no byte of a piece that
-/// is not empty.
+/// A sink over a writer of std. Each error of the writer counts as a fault. So does a write of 0 bytes, unless the piece is
+/// empty.
 #[derive(Drop)]
 pub struct StdSink<W> {
     writer: W,

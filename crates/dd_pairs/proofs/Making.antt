@@ -1,4 +1,4 @@
--- The pairs of comparisons, one after the other, and the first fault.
+-- The pairs of comparisons, made one after the other, and the first fault.
 use Rattle.std.proofs.Common.{◌≡◌, ◌<◌, ℕ, ◌+◌, List, [], ◌∷◌, ◌++◌, length, map, take, drop, get_or, Some, refl, sym, ap, subst, ◌∙◌, arith}
 use Rattle.std.proofs.lemmas.{Grind.common_steps, Grind.flat_map-append, List.Elements.All-nil, List.Elements.All-push}
 use Rattle.std.proofs.lemmas.List.{drop_more, take-append-drop, map-append}
@@ -11,7 +11,7 @@ earliest_front : (xs ys : List Fault) (f : Fault) → earliest xs ≡ Some f →
 earliest_front [] ys f is = absurd cc
 earliest_front (x ∷ xs) ys f is = is
 
--- what is refused for its first fault is refused for that one even if others follow
+-- a refusal for the first fault of a list stays right if further faults follow in the list
 pub refuses_front : (e : Refusal) (xs ys : List Fault) → Refuses e (earliest xs) → Refuses e (earliest (xs ++ ys))
 refuses_front Refusal.Memory xs ys h = tt
 refuses_front (Refusal.At f) xs ys h = earliest_front xs ys f h
@@ -20,7 +20,7 @@ module _ (k : Known) where
   pub none : ArePairs k [] []
   none = record { are = refl; sound = record { formed = All-nil (λ c. IsPair k.setting (pair_of k.setting c)); faultless = refl } }
 
-  -- one more comparison
+  -- after one more comparison
   more_sound : (cs : List ComparisonOf) (c : ComparisonOf) (pair : Pair) → HavePairs k cs → IsMade k.setting c (comparison_faults k c) pair → HavePairs k (cs ++ c ∷ [])
   more_sound cs c pair before made = record {
     formed = All-push (λ c. IsPair k.setting (pair_of k.setting c)) cs c before.formed made.formed;

@@ -1,4 +1,4 @@
--- The pairs made from comparisons are the right ones, and within their limits.
+-- The pairs made from comparisons are the right ones, and they are within the limits.
 use Rattle.std.proofs.{Common.◌≡◌, Common.[], Common.refl, Common.ap, Common.subst, lemmas.Bool.le-ltb}
 use Rattle.dd_known.specs.declared.known.Setting.{Setting}
 use Rattle.dd_formula.specs.{LocalRule.LocalRule, Automata.CommonNumbers, Automata.IsAutomaton, ByCases.numbers_over}

@@ -1,4 +1,4 @@
--- Comparisons: what a query about an image or a conjugacy consists of. Each becomes a question about one pair of automata.
+-- Comparisons: the parts of a query about an image or a conjugacy. Each becomes a question about one pair of automata.
 use Rattle.dd_boxes.specs.{Goals.GoalOf, Goals.differ, Views.numbers_of}
 use Rattle.dd_known.specs.declared.known.Setting.{Setting}
 use Rattle.dd_formula.specs.{LocalRule.LocalRule, Automata.IsAutomaton, ByCases.numbers_over, Values.IsPlaced, declared.automaton.Automaton.Automaton}
@@ -12,7 +12,7 @@ use Rattle.dd_pairs.specs.declared.pair.Pair.{Pair}
 pub data ComparisonOf : Type 0 where
   -- can the image of a configuration under the automaton break the second rule?
   image : LocalRule → Automaton → LocalRule → ComparisonOf
-  -- can the first automaton after the second change a configuration?
+  -- can a configuration change if the second automaton is applied to it, and then the first?
   change : LocalRule → Automaton → Automaton → ComparisonOf
 
 -- the rule that the configurations obey
@@ -25,9 +25,9 @@ abbrev pub IsComparisonOf : Setting → ComparisonOf → Type 0
 IsComparisonOf s (image x f y) = IsRuleOf s x × IsAutomatonOf s f × IsRuleOf s y
 IsComparisonOf s (change x f g) = IsRuleOf s x × IsAutomatonOf s f × IsAutomatonOf s g
 
--- The two automata differ at a cell exactly if the answer there is yes. For an image, the left one is `marked` of the second rule
--- after the automaton: it gives 0 where the image is allowed and obeys the rule, else 1. For a change, the left one is the first
--- automaton after the second.
+-- The pair of a comparison. Its two automata differ at a cell exactly if the comparison's answer at this cell is yes. For an image, the left one
+-- applies the comparison's automaton, and then `marked` of the second rule. It gives 0 where the image has an allowed symbol and obeys the rule,
+-- else 1. For a change, the left one applies the second automaton and then the first.
 abbrev pub pair_of : Setting → ComparisonOf → Pair
 pair_of s (image x f y) = record { left = Composed (marked s.topology s.sets y) f; right = always_zero s.topology s.sets }
 pair_of s (change x f g) = record { left = Composed f g; right = identity s.topology s.sets }
@@ -37,18 +37,18 @@ pub record HasGates (f : Automaton) : Type 0 where
   pub placed : IsPlaced f
   pub says : SaysItsValue f
 
--- `HasGates` of both automata of a pair
+-- `HasGates` holds for both automata of the pair
 pub record HaveGates (p : Pair) : Type 0 where
   pub left : HasGates p.left
   pub right : HasGates p.right
 
--- both automata are well formed, with the script's dimension and numbers of nodes and symbols, and have gates as above
+-- both automata are well formed, have the script's dimension and its numbers of nodes and symbols, and have gates as in `HasGates`
 pub record IsPair (s : Setting) (p : Pair) : Type 0 where
   pub left : IsAutomaton (numbers_over s.topology s.sets) p.left
   pub right : IsAutomaton (numbers_over s.topology s.sets) p.right
   pub gates : HaveGates p
 
--- the goal that the two automata differ, in a question about a rule
+-- the goal that the two automata differ, for a question whose premise is x
 abbrev pub difference : LocalRule → Pair → GoalOf
 difference x p = differ (numbers_of x) p.left p.right
 

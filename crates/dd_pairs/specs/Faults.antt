@@ -1,4 +1,4 @@
--- Which limits pairs, and the questions about them, exceed, in the order in which they are tested.
+-- The limits that pairs and the questions about them exceed, in the order in which these limits are tested.
 use Rattle.std.specs.Prelude.{List, [], ◌∷◌, ◌++◌, Option, Some, None, nat_lt}
 use Rattle.std.specs.List.{flat_map}
 use Rattle.dd_expansion.specs.Limits.{most_nested}
@@ -10,22 +10,22 @@ use Rattle.dd_meanings.specs.Definitions.{count_faults}
 use Rattle.dd_question.specs.{Boxes.is_long, declared.excess.Excess.Excess}
 use Rattle.dd_pairs.specs.Comparisons.{ComparisonOf, image, change, premise, pair_of, goal_of}
 
--- the limit that a question exceeds, as one of the limits on scripts
+-- the limit on scripts that corresponds to this limit, which a question exceeds
 abbrev pub limit_of : Excess → Limit
 limit_of Excess.Clauses = Limit.Clauses
 limit_of Excess.Patterns = Limit.Patterns
 limit_of Excess.States = Limit.States
 
--- for an image: the formula that the second rule holds and the symbol is allowed may be too deep
+-- for an image: the limit on depth, if the formula that says that the second rule is true and the symbol is allowed exceeds it
 abbrev pub guard_faults : Setting → ComparisonOf → List Fault
 guard_faults s (image x f y) = over (nat_lt most_nested (guarded_depth s.sets y)) Limit.Depth
 guard_faults s (change x f g) = []
 
--- then the counts of the left automaton, a composition, may exceed their limits
+-- that fault; and then the limits that the counts of the left automaton, which is a composition, exceed
 abbrev pub pair_faults : Setting → ComparisonOf → List Fault
 pair_faults s c = guard_faults s c ++ count_faults s.topology.nodes (counted (pair_of s c).left)
 
--- then the question may take too many clauses
+-- those faults; and then the limit on clauses, if the question exceeds it
 abbrev pub comparison_faults : Known → ComparisonOf → List Fault
 comparison_faults k c = pair_faults k.setting c ++ over (is_long k.limits (premise c) (goal_of k.setting c)) Limit.Clauses
 
@@ -33,7 +33,7 @@ comparison_faults k c = pair_faults k.setting c ++ over (is_long k.limits (premi
 abbrev pub faults_in_order : Known → List ComparisonOf → List Fault
 faults_in_order k cs = flat_map (comparison_faults k) cs
 
--- the first of these faults
+-- the first fault of the list, if there is one
 abbrev pub earliest : List Fault → Option Fault
 earliest [] = None
 earliest (f ∷ fs) = Some f

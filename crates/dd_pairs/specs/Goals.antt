@@ -5,11 +5,11 @@ use Rattle.dd_formula.specs.LocalRule.{LocalRule}
 use Rattle.dd_question.specs.{Conjugacies.ConjugacyOf, Conjugacies.conjugacy_of, declared.conjugacy.Conjugacy.Conjugacy}
 use Rattle.dd_pairs.specs.{declared.pair.Pair.Pair, Comparisons.difference}
 
--- the goal says that the automata of the pair differ, whatever rule the question is about
+-- the goal says that the automata of the pair differ, whatever the premise of the question is
 abbrev pub IsDifferenceOf : Pair → Goal → Type 0
 IsDifferenceOf p g = (x : LocalRule) → goal_of x g ≡ difference x p
 
--- the goals of a conjugacy of two rules are that its four pairs differ, in this order
+-- the conjugacy of two rules whose four goals are that the automata of these four pairs differ
 abbrev pub conjugacy_by : LocalRule → LocalRule → Pair → Pair → Pair → Pair → ConjugacyOf
 conjugacy_by x y image image_back round round_back =
     record { from = x; to = y; image = difference x image; image_back = difference y image_back; round = difference x round; round_back = difference y round_back }

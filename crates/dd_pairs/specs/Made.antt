@@ -11,13 +11,13 @@ abbrev pub comparison_of : Comparison → ComparisonOf
 comparison_of (comparison.Image premise map target) = image premise.now map.now target.now
 comparison_of (comparison.Change premise outer inner) = change premise.now outer.now inner.now
 
--- this is the pair of the comparison; it is well formed, and there are no faults
+-- `made` is the pair of the comparison, this pair is well formed, and there are no faults
 pub record IsMade (s : Setting) (c : ComparisonOf) (faults : List Fault) (made : Pair) : Type 0 where
   pub is : made ≡ pair_of s c
   pub formed : IsPair s (pair_of s c)
   pub faultless : faults ≡ []
 
--- the pair is made, or refused for the first of these faults
+-- the pair is made, or it is refused for the first of these faults
 abbrev pub Makes : Setting → ComparisonOf → List Fault → Result Pair Refusal → Type 0
 Makes s c faults result = MatchResult result (IsMade s c faults) (λ e. Refuses e (earliest faults))
 
@@ -26,11 +26,11 @@ pub record HavePairs (k : Known) (cs : List ComparisonOf) : Type 0 where
   pub formed : All (λ c. IsPair k.setting (pair_of k.setting c)) cs
   pub faultless : faults_in_order k cs ≡ []
 
--- these are the pairs of the comparisons, and none exceeds a limit
+-- `made` are the pairs of the comparisons, and `HavePairs` holds
 pub record ArePairs (k : Known) (cs : List ComparisonOf) (made : List Pair) : Type 0 where
   pub are : made ≡ map (pair_of k.setting) cs
   pub sound : HavePairs k cs
 
--- the pairs are made, or refused for the first limit that is exceeded
+-- the pairs are made, or they are refused for the first limit that is exceeded
 abbrev pub MakesAll : Known → List ComparisonOf → Result (List Pair) Refusal → Type 0
 MakesAll k cs result = MatchResult result (ArePairs k cs) (λ e. Refuses e (earliest (faults_in_order k cs)))

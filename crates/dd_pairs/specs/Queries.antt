@@ -1,4 +1,4 @@
--- Which comparisons and pairs the queries of a script ask for.
+-- Which comparisons a query of a script consists of, and which pairs it asks about.
 use Rattle.std.specs.Prelude.{List, [], ◌∷◌, map, Bool, true, false, Option, Some, None, option_map, unwrap_or}
 use Rattle.std.specs.List.{slice_get}
 use Rattle.dd_known.specs.declared.known.Setting.{Setting}
@@ -6,30 +6,30 @@ use Rattle.dd_formula.specs.{LocalRule.LocalRule, declared.automaton.Automaton.A
 use Rattle.dd_query.specs.declared.queries.Query.{Query}
 use Rattle.dd_pairs.specs.{declared.pair.Pair.Pair, Comparisons.ComparisonOf, Comparisons.image, Comparisons.change, Comparisons.pair_of}
 
--- f of two items, if both are there
+-- f of two items, if both exist
 abbrev pub of_both : {X Y Z : Type 0} → (X → Y → Z) → Option X → Option Y → Option Z
 of_both f (Some x) y = option_map (f x) y
 of_both f None y = None
 
--- f of three items
+-- f of three items, if all exist
 abbrev pub of_three : {X Y Z W : Type 0} → (X → Y → Z → W) → Option X → Option Y → Option Z → Option W
 of_three f (Some x) y z = of_both (f x) y z
 of_three f None y z = None
 
--- f of four items
+-- f of four items, if all exist
 abbrev pub of_four : {X Y Z W V : Type 0} → (X → Y → Z → W → V) → Option X → Option Y → Option Z → Option W → Option V
 of_four f (Some x) y z w = of_three (f x) y z w
 of_four f None y z w = None
 
--- whether the automaton maps configurations of the first rule to configurations of the second
+-- the comparisons of this question: does the automaton map configurations of the first rule to configurations of the second?
 abbrev pub map_comparisons : LocalRule → LocalRule → Automaton → List ComparisonOf
 map_comparisons x y f = image x f y ∷ []
 
--- whether two automata map the rules' configurations to each other, and each undoes the other
+-- the comparisons of this question: does f map configurations of x to those of y, does g map those of y to those of x, and does each undo the other?
 abbrev pub conjugate_comparisons : LocalRule → LocalRule → Automaton → Automaton → List ComparisonOf
 conjugate_comparisons x y f g = image x f y ∷ image y g x ∷ change x g f ∷ change y f g ∷ []
 
--- the comparisons that a query about these rules and automata consists of
+-- the comparisons that a query consists of; the query's numbers are indices into these rules and automata
 abbrev pub comparisons_asked : List LocalRule → List Automaton → Query → List ComparisonOf
 comparisons_asked rs fs (Query.Maps f x y) = unwrap_or (of_three map_comparisons (slice_get rs x) (slice_get rs y) (slice_get fs f)) []
 comparisons_asked rs fs (Query.Conjugate f g x y) = unwrap_or (of_four conjugate_comparisons (slice_get rs x) (slice_get rs y) (slice_get fs f) (slice_get fs g)) []

@@ -1,4 +1,4 @@
-//! Comparisons. A query about an image or a conjugacy consists of them, and each becomes a question about one pair of automata.
+//! Comparisons: the parts of a query about an image or a conjugacy. Each becomes a question about one pair of automata.
 use dd_formula::{Automaton, Rule};
 
 /// A question about the configurations that obey a rule, the premise.
@@ -10,7 +10,7 @@ pub(crate) enum Comparison<'a> {
         map: &'a Automaton,
         target: &'a Rule,
     },
-    /// Can `outer` after `inner` change a configuration?
+    /// Can a configuration change if `inner` is applied to it, and then `outer`?
     Change {
         premise: &'a Rule,
         outer: &'a Automaton,

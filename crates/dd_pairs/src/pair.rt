@@ -8,7 +8,7 @@ use dd_faults::Limit;
 use dd_formula::{Automaton, Rule};
 use dd_question::{Conjugacy, Excess, Question};
 
-/// Two automata. The question is whether they can differ.
+/// Two automata. The question about them is whether they can differ.
 #[derive(Debug, Drop)]
 pub struct Pair {
     pub left: Automaton,
@@ -29,25 +29,25 @@ impl Pair {
     ghost use Rattle.dd_question.specs.Questions.{asked_of, box};
     ghost use Rattle.dd_pairs.specs.{Comparisons.difference, Comparisons.HaveGates, Goals.IsDifferenceOf};
 
-    /// The pair of two automata.
+    /// The pair of these two automata.
     pub(crate) fn new(left: Automaton, right: Automaton) -> Pair
         ensures value { result ≡ record { left = left; right = right } }
         ensures gates { HaveGates result }
     {
-        // Both calls bring in laws of the automata.
+        // These calls are made for their contracts, which give the proof laws about the automata.
         has_gates(&left);
         has_gates(&right);
         Pair { left, right }
     }
 
-    /// The goal that the two automata give a cell different symbols.
+    /// The goal of the question: that the two automata give some cell of a position different symbols.
     fn difference(&self) -> Goal<'_>
         ensures { IsDifferenceOf self.now result }
     {
         Goal::Differ(&self.left, &self.right)
     }
 
-    /// The question whether the two automata can differ on a configuration that obeys a rule.
+    /// The question whether the two automata can differ on a configuration that obeys the premise.
     pub fn question<'a>(&'a self, premise: &'a Rule) -> Question<'a>
         ensures { asked_of result ≡ box premise.now (difference premise.now self.now) }
     {
@@ -56,7 +56,8 @@ impl Pair {
     }
 }
 
-/// The conjugacy of two rules, by its four pairs in the order of its questions.
+/// The conjugacy of two rules, from its four pairs. They come in this order: for the image, for the image back, for the way there
+/// and back, and for the way back and there.
 pub fn conjugacy<'a>(from: &'a Rule, to: &'a Rule, pairs: &'a [Pair]) -> Conjugacy<'a>
     requires { length pairs.now ≡ 4 }
     ensures { IsConjugacyBy from.now to.now pairs.now result }
@@ -75,7 +76,7 @@ pub fn conjugacy<'a>(from: &'a Rule, to: &'a Rule, pairs: &'a [Pair]) -> Conjuga
     }
 }
 
-/// The limit that a question exceeds, as one of the limits on scripts.
+/// The limit on scripts that corresponds to this limit, which a question exceeds.
 pub fn limit_of(excess: Excess) -> Limit
     ensures { result ≡ limit_of excess }
 {

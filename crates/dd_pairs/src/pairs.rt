@@ -1,4 +1,4 @@
-//! The pairs that a query asks about.
+//! The pairs of automata that a query asks about.
 ghost use Rattle.std.specs.Prelude.{◌≡◌, ◌≤◌, length, map};
 ghost use Rattle.std.specs.List.{All};
 ghost use Rattle.dd_known.specs.Sound.{IsSetting, IsSound};
@@ -45,8 +45,8 @@ fn pair(alloc: Global, setting: &Setting, comparison: Comparison) -> Result<Pair
     }
 }
 
-/// The pair that a comparison asks about. Otherwise the first limit that its automata exceed; if they exceed none, the limit on
-/// clauses, which the question exceeds.
+/// The pair that a comparison asks about, if neither its automata nor the question about it exceeds a limit. Otherwise the first
+/// limit that the automata exceed; or if they exceed none, the limit on clauses, which the question exceeds.
 fn tested(alloc: Global, known: &Known, comparison: Comparison) -> Result<Pair, Refusal>
     requires sound { IsSound known.now }
     requires two { 2 ≤ length known.now.setting.symbols }
@@ -79,8 +79,8 @@ fn made(alloc: Global, known: &Known, comparisons: &[Comparison]) -> Result<Item
 /// The query's numbers are indices into `rules` and `automata`.
 ///
 /// # Errors
-/// The first limit that is exceeded, question by question: first the limits on the question's pair, then the limit on clauses. Or
-/// memory ran out.
+/// The first limit that is exceeded, or that memory ran out. The questions are tested in order, each first for the limits on its
+/// pair and then for the limit on clauses.
 pub fn pairs_of(
     alloc: Global,
     known: &Known,
@@ -129,7 +129,7 @@ pub fn pairs_of(
     }
 }
 
-/// Whether a query asks about pairs: whether `pairs_of` gives any.
+/// Whether a query asks about pairs, that is, whether `pairs_of` returns any.
 pub fn asks_pairs(query: &Query) -> bool
     ensures { result ≡ asks_pairs query.now }
 {

@@ -10,7 +10,7 @@ use Rattle.dd_pattern.specs.{declared.periods.Periods.Periods, Periods.periods_c
 use Rattle.dd_pattern.specs.listing.Adding.{IsAdded, HasShear, IsPeriodUpTo, HasBox, most_along}
 use Rattle.dd_pattern.specs.lemmas.PeriodsLaws.{made_periods, periods_same, periods_equal}
 
--- if one step adds all of P, the next all of Q, and R is P or Q, then both add all of R
+-- if one step adds the periods of P, the next step adds those of Q, and R is the union of P and Q, then the two steps together add those of R
 pub added_more : (a b c : List Periods) (P Q R : Periods → Type 0) → IsAdded a b P → IsAdded b c Q → ((q : Periods) → R q → P q ⊎ Q q) →
     ((q : Periods) → P q → R q) → ((q : Periods) → Q q → R q) → IsAdded a c R
 added_more a b c P Q R first second split from_first from_second q = (
@@ -78,12 +78,12 @@ insert_step k x xs rest ih Greater same q = (
   ],
 )
 
--- an insertion adds these periods, and keeps those that were there
+-- after an insertion the list has the new periods and those that it had before, and no others
 insert_members : (ks : List Periods) (k q : Periods) → Contains (insert_key periods_cmp ks k) q ↔ ((k ≡ q) ⊎ Contains ks q)
 insert_members [] k q = (Contains-cons_cases k [] q, λ h. elim h [ inl is ↦ subst (Contains (k ∷ [])) is (Contains-first k []) | inr none ↦ absurd (Contains-nil q none) ])
 insert_members (x ∷ xs) k q = insert_step k x xs (insert_key periods_cmp xs k) (insert_members xs k) (periods_cmp k x) (periods_equal k x) q
 
--- the step of the loop over the shear
+-- one turn of the loop over the shear
 pub shear_more : (a b c : List Periods) (i x y z : ℕ) → IsAdded a b (HasShear i x y z) → c ≡ insert_key periods_cmp b (made_periods x y z i) → IsAdded a c (HasShear (i + 1) x y z)
 shear_more a b c i x y z before is =
     let one : IsAdded b c (HasOnly x y z i) = λ q. (
@@ -98,7 +98,7 @@ up_to_split F f i q h = elim (last_or_before (f q) i h.most) [
   | inr last ↦ inr (subst (λ k. F k q) last h.rest)
 ]
 
--- the step of a loop over one of the periods
+-- one turn of a loop over x, y or z
 pub level_more : (F : ℕ → Periods → Type 0) (f : Periods → ℕ) → ((k : ℕ) (q : Periods) → F k q → f q ≡ k) → (a b c : List Periods) (i : ℕ) →
     IsAdded a b (IsPeriodUpTo F f i) → IsAdded b c (F (i + 1)) → IsAdded a c (IsPeriodUpTo F f (i + 1))
 level_more F f at a b c i before one =
@@ -106,7 +106,7 @@ level_more F f at a b c i before one =
     (λ q h. record { rest = h.rest; some = h.some; most = (let low = h.most in omega arith) })
     (λ q h. (let is = at (i + 1) q h in record { rest = subst (λ k. F k q) (sym is) h; some = omega (arith, is); most = omega (arith, is) }))
 
--- a period k that is at most most_along is 1 on an unused axis, and at most n
+-- a period k from 1 to most_along is 1 on an unused axis, and is at most n if n is at least 1
 pub along_bound : (d axis n k : ℕ) → 1 ≤ k → k ≤ most_along d axis n → (d ≤ axis → k ≡ 1) × (1 ≤ n → k ≤ n)
 along_bound d axis n k some most =
     cond_both (is_active d axis) n 1 (λ m. k ≤ m → (d ≤ axis → k ≡ 1) × (1 ≤ n → k ≤ n)) (λ used low. (λ idle. absurd (let active = ltb-true axis d used in omega arith), λ _. low))
@@ -158,7 +158,7 @@ box_from_within d n q h =
       most = h.x_most;
     }
 
--- what was added to the empty list is the whole list
+-- a list that the loops make from the empty list has exactly the valid periods that are at most n
 pub all_within : (d n : ℕ) (ps : List Periods) → IsAdded [] ps (HasBox d n n) → AreAllWithin d n ps
 all_within d n ps h q = (
   λ c. elim ((h q).0 c) [ inl none ↦ absurd (Contains-nil q none) | inr box ↦ within_from_box d n q box ],

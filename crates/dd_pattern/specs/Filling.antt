@@ -4,7 +4,7 @@ use Rattle.std.specs.{List.All, List.Contains, List.position_or_len, List.Sorted
 use Rattle.dd_lattice.specs.{declared.position.Cell.Cell, Order.cell_cmp}
 use Rattle.dd_pattern.specs.Reading.{Look, HasSymbolsBelow}
 
--- cells, and the symbol of each in the same order
+-- a list of cells, and the list of their symbols in the same order
 pub record Filled : Type 0 where
   pub cells : List Cell
   pub symbols : List ℕ
@@ -17,11 +17,11 @@ pub record IsFilling (f : Filled) : Type 0 where
   pub ascending : IsStrictlySortedBy cell_cmp f.cells
   pub as_many : length f.symbols ≡ length f.cells
 
--- the symbol of a cell of the domain: it has the same number among the symbols as the cell has among the cells
+-- the look-up of a filling: a cell's symbol has the same index in the list of symbols as the cell has in the list of cells
 abbrev pub filling_look : Filled → Look
 filling_look f c = slice_get f.symbols (position_or_len (λ d. is_eq (cell_cmp d c)) f.cells)
 
--- each cell of the domain has its symbol, and no other cell has one
+-- the cell with the index k in the domain has the symbol with the index k, and a cell outside the domain has none
 pub record IsReadByPlace (f : Filled) : Type 0 where
   pub at : (k : ℕ) (d : Cell) → k < length f.cells → filling_look f (slice_index_or f.cells k d) ≡ slice_get f.symbols k
   pub elsewhere : (c : Cell) → (Contains f.cells c → ⊥) → filling_look f c ≡ None
@@ -30,12 +30,12 @@ pub record IsReadByPlace (f : Filled) : Type 0 where
 abbrev pub IsReadBelow : Filled → Type 0
 IsReadBelow f = (n : ℕ) → All (λ s. s < n) f.symbols → HasSymbolsBelow n (filling_look f)
 
--- g has exactly these cells, and at each the symbol of f
+-- g has exactly the cells cs, and at each of them the same symbol as f
 pub record IsRestriction (f : Filled) (cs : List Cell) (g : Filled) : Type 0 where
   pub cells : g.cells ≡ cs
   pub symbols : map Some g.symbols ≡ map (filling_look f) cs
 
--- one of these cells isn't in the domain
+-- one of the cells cs isn't in the domain of f
 pub record IsWanting (f : Filled) (cs : List Cell) : Type 0 where
   pub at : Cell
   pub asked : Contains cs at

@@ -1,4 +1,4 @@
--- what is read at a cell
+-- look-ups: which symbol is read at each cell
 pub mod Reading
 -- fillings: finitely many cells, with a symbol for each
 pub mod Filling

@@ -5,7 +5,7 @@ use Rattle.std.specs.declared.cmp.Ordering.{Ordering, TheVariants.Less}
 use Rattle.dd_lattice.specs.Place.{Place, place}
 use Rattle.dd_pattern.specs.declared.periods.Periods.{Periods}
 
--- the periods with this list of x, y and z, and this shear
+-- the periods with this shear, whose x, y and z are the items of a list
 abbrev pub periods_of : List ℕ → ℕ → Periods
 periods_of along shear = record { x = slice_index along 0; y = slice_index along 1; z = slice_index along 2; shear = shear }
 
@@ -13,12 +13,12 @@ periods_of along shear = record { x = slice_index along 0; y = slice_index along
 abbrev pub periods_volume : Periods → ℕ
 periods_volume p = p.z * p.y * p.x
 
--- these are periods in d dimensions
+-- these are valid periods in d dimensions
 pub record ArePeriodsIn (d : ℕ) (p : Periods) : Type 0 where
   pub x_some : 0 < p.x
   pub y_some : 0 < p.y
   pub z_some : 0 < p.z
-  -- the periods of unused axes
+  -- the periods of unused axes are 1
   pub y_unused : d < 2 → p.y ≡ 1
   pub z_unused : d < 3 → p.z ≡ 1
   pub shear_small : p.shear < p.x
@@ -32,7 +32,7 @@ residue x n = unsigned_abs (int_rem_euclid x (pos n))
 abbrev pub quotient : ℤ → ℕ → ℤ
 quotient x n = int_div_euclid x (pos n)
 
--- the x of a position, after the second period vector has been subtracted until y is from 0 to p.y - 1
+-- the x of a position after subtracting the multiple of the second period vector that brings y into the range from 0 to p.y - 1
 abbrev pub unsheared : Periods → Place → ℤ
 unsheared p v = v.x -ℤ quotient v.y p.y *ℤ pos p.shear
 
@@ -50,13 +50,13 @@ periods_cmp =
 abbrev pub IsBefore : Periods → Periods → Type 0
 IsBefore q p = periods_cmp q p ≡ Less
 
--- these are periods in d dimensions that are at most n along each axis
+-- these are valid periods in d dimensions, and each of x, y and z is at most n
 pub record AreWithin (d n : ℕ) (p : Periods) : Type 0 where
   pub periods : ArePeriodsIn d p
   pub x_most : p.x ≤ n
   pub y_most : p.y ≤ n
   pub z_most : p.z ≤ n
 
--- the list has exactly the periods in d dimensions that are at most n along each axis
+-- the list has exactly the valid periods in d dimensions whose x, y and z are at most n
 abbrev pub AreAllWithin : ℕ → ℕ → List Periods → Type 0
 AreAllWithin d n ps = (p : Periods) → Contains ps p ↔ AreWithin d n p

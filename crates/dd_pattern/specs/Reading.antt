@@ -1,4 +1,4 @@
--- Symbols that are given to cells.
+-- Look-ups, which give symbols to cells.
 use Rattle.std.specs.Prelude.{ℕ, ◌<◌, Option, IfSome}
 use Rattle.dd_lattice.specs.declared.position.Cell.{Cell}
 

@@ -29,7 +29,7 @@ impl Model for Filling {
 }
 
 impl Filling {
-    /// The filling of these cells with these symbols, in the same order. It allocates nothing.
+    /// The filling of these cells with these symbols, in the same order. The call allocates nothing.
     pub fn new(cells: Vec<Cell>, symbols: Vec<u32>) -> Filling
         requires ascending { IsStrictlySortedBy cell_cmp cells.items }
         requires as_many { length symbols.items ≡ length cells.items }
@@ -38,7 +38,7 @@ impl Filling {
         Filling { cells, symbols }
     }
 
-    /// The domain, in cell order.
+    /// The cells of the domain, in cell order.
     pub fn cells(&self) -> &[Cell]
         ensures value { result.now ≡ self.now.cells }
         ensures filling { IsFilling self.now }
@@ -61,7 +61,7 @@ impl Filling {
         requires { IsStrictlySortedBy cell_cmp cells.now }
         ensures { IfOk result (λ found. MatchOption found (IsWanting self.now cells.now) (IsRestriction self.now cells.now)) }
     {
-        // This call tells the proof what the type guarantees: the domain ascends, and each cell has one symbol.
+        // This line tells the proof what the type guarantees: the domain ascends, and each cell has one symbol.
         let _domain = &self.cells;
         let mut symbols = Vec::with_capacity(alloc, cells.len())?;
         for cell in cells {
@@ -74,7 +74,7 @@ impl Filling {
         Ok(Some(Filling { cells, symbols }))
     }
 
-    /// The sum of the symbols' weights, where the symbol `s` has the weight `weights[s]`. There are at most 2^32 cells.
+    /// The sum of the symbols' weights, where the symbol `s` has the weight `weights[s]`. The filling has at most 2^32 cells.
     pub fn weight(&self, weights: &[u32]) -> u64
         requires weights { AreWeights weights.now self.now.symbols }
         requires few { length self.now.cells ≤ 4294967296 }

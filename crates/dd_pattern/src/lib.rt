@@ -1,4 +1,5 @@
-//! Fillings and periodic configurations, their weights, and what it means to read them.
+//! Fillings and periodic configurations, their weights, and what it means to read them. A filling gives a symbol to each of
+//! finitely many cells. A periodic configuration gives a symbol to every cell of Z^d, and repeats along its period vectors.
 #![tactic(auto)]
 
 mod filling;

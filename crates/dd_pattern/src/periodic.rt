@@ -1,4 +1,4 @@
-//! Periodic configurations: the symbols of one fundamental box give every cell of Z^d its symbol.
+//! Periodic configurations. The symbols in one box, the fundamental box, determine the symbol of every cell of Z^d.
 ghost use Rattle.std.specs.Prelude.{◌≡◌, ◌<◌, ◌≤◌, ◌+◌, ◌*◌, ◌^◌, [], ◌∷◌, length, slice_index, pos, IsTrue, ◌↔◌, MatchResult};
 ghost use Rattle.dd_lattice.specs.Place.{place};
 ghost use Rattle.dd_pattern.specs.Periods.{ArePeriodsIn, periods_of, periods_volume, residue, unsheared};
@@ -11,11 +11,11 @@ use crate::weight::weight_of;
 use dd_lattice::{Cell, Position};
 use std::marker::Model;
 
-/// The greatest number of symbols of a fundamental box.
+/// The greatest number of symbols in a fundamental box.
 const MOST_SYMBOLS: usize = 65_536;
 
-/// A configuration that repeats along its period vectors. The coordinates of the fundamental box run from 0 to the
-/// period less 1 on each axis. Its symbols are listed in cell order. Contracts see the value as a `Tile`.
+/// A configuration that repeats along its period vectors. In its fundamental box the coordinates run from 0 to the period minus
+/// 1 on each axis. The symbols of this box are listed in cell order. Contracts see the value as a `Tile`.
 #[derive(Debug, Drop)]
 pub struct Periodic {
     dim: u32,
@@ -66,7 +66,7 @@ fn has_size(periods: &Periods, nodes: u32, count: usize) -> bool
     table_size(periods, nodes) == count as u128
 }
 
-/// Whether the periods of unused axes are 1, the shear is less than the first period, and it is 0 in one dimension.
+/// Whether the periods of unused axes are 1, the shear is less than the first period, and the shear is 0 in one dimension.
 fn fit_dimension(dim: u32, periods: &Periods) -> bool
     ensures { IsTrue result ↔ ((dim < 2 → periods.now.y ≡ 1) × (dim < 3 → periods.now.z ≡ 1)
         × (periods.now.shear < periods.now.x) × (dim < 2 → periods.now.shear ≡ 0)) }
@@ -80,7 +80,7 @@ fn fit_dimension(dim: u32, periods: &Periods) -> bool
     periods.shear < periods.x
 }
 
-/// Whether these are periods in `dim` dimensions.
+/// Whether these are valid periods in `dim` dimensions.
 fn are_periods(dim: u32, periods: &Periods) -> bool
     ensures { IsTrue result ↔ ArePeriodsIn dim periods.now }
 {
@@ -88,12 +88,12 @@ fn are_periods(dim: u32, periods: &Periods) -> bool
 }
 
 impl Periodic {
-    /// The configuration with these symbols of its fundamental box, in cell order. It allocates nothing. The symbols are
-    /// given back in these cases:
-    /// - `dim` isn't 1, 2 or 3, or there is no node.
-    /// - A period is 0, or that of an unused axis isn't 1.
+    /// The configuration whose fundamental box has these symbols, in cell order. The call allocates nothing. It gives the symbols
+    /// back in these cases:
+    /// - `dim` isn't 1, 2 or 3, or `nodes` is 0.
+    /// - A period is 0, or the period of an unused axis isn't 1.
     /// - The shear isn't less than the first period, or isn't 0 in one dimension.
-    /// - The number of symbols isn't the product of `nodes` and the three periods, or passes 65,536.
+    /// - The number of symbols isn't the product of `nodes` and the three periods, or exceeds 65,536.
     pub fn new(
         dim: u32,
         periods: [u32; 3],
@@ -127,7 +127,7 @@ impl Periodic {
         self.dim
     }
 
-    /// The periods, 1 on unused axes.
+    /// The periods. The period of an unused axis is 1.
     pub fn periods(&self) -> [u32; 3]
         ensures { result ≡ self.now.periods.x ∷ self.now.periods.y ∷ self.now.periods.z ∷ [] }
     {
@@ -169,7 +169,7 @@ impl Periodic {
 }
 
 impl Periodic {
-    /// The base of a position: the position of the fundamental box that is congruent to it.
+    /// The base of a position: the position of the fundamental box that is congruent to it modulo the periods.
     fn base(&self, position: &Position) -> Base
         ensures x { result.x ≡ residue (unsheared self.now.periods position.now) self.now.periods.x }
         ensures y { result.y ≡ residue position.now.y self.now.periods.y }

@@ -1,4 +1,4 @@
-//! Periods: they give the vectors along which a configuration repeats.
+//! Periods, which give the vectors along which a configuration repeats.
 ghost use Rattle.std.specs.Prelude.{◌≡◌, ◌<◌, ◌≤◌, ◌+◌, ◌*◌, pos, unsigned_abs, ◌*ℤ◌, ◌-ℤ◌, IfOk, OnOk};
 ghost use Rattle.std.proofs.Common.{rules};
 ghost use Rattle.std.specs.Cmp.{partial_order_from_own_ties};
@@ -26,7 +26,8 @@ pub struct Periods {
 }
 
 impl Periods {
-    /// All periods in `dim` dimensions whose `x`, `y` and `z` are at most `most`, with every shear, in their order.
+    /// All periods in `dim` dimensions whose `x`, `y` and `z` are at most `most`, each with every possible shear, in the order
+    /// of periods.
     pub fn within(alloc: Global, dim: u32, most: u32) -> Result<Vec<Periods>, AllocError>
         ensures ascending { IfOk result (λ v. IsStrictlySortedBy periods_cmp v.items) }
         ensures members { IfOk result (λ v. AreAllWithin dim most v.items) }
@@ -76,14 +77,14 @@ impl PartialOrd for Periods {
     }
 }
 
-/// The greatest period along an axis: `most` on an active axis, 1 on another.
+/// The greatest period along an axis: `most` if the axis is one of the first `dim`, else 1.
 fn most_along(dim: u32, axis: u32, most: u32) -> u32
     ensures { result ≡ most_along dim axis most }
 {
     if axis < dim { most } else { 1 }
 }
 
-/// Adds the periods with these `x`, `y` and `z`, and every shear.
+/// Adds to the set the periods with these `x`, `y` and `z`, and every possible shear.
 fn add_shears(
     found: &mut BTreeSet<Periods>,
     dim: u32,
@@ -99,7 +100,7 @@ fn add_shears(
     Ok(())
 }
 
-/// Adds the periods with these `x` and `y`, every `z` from 1 to `high`, and every shear.
+/// Adds to the set the periods with these `x` and `y`, every `z` from 1 to `high`, and every possible shear.
 fn add_row(
     found: &mut BTreeSet<Periods>,
     dim: u32,
@@ -115,7 +116,8 @@ fn add_row(
     Ok(())
 }
 
-/// Adds the periods with this `x`, every `y` and `z` from 1 to `most` on active axes, and every shear.
+/// Adds to the set the periods with this `x` and every possible shear. On active axes `y` and `z` take every value from 1 to
+/// `most`, on unused axes only 1.
 fn add_plane(found: &mut BTreeSet<Periods>, dim: u32, most: u32, x: u32) -> Result<(), AllocError>
     ensures { OnOk result (IsAdded found.old.keys found.new.keys (HasPlane dim most x)) }
 {
@@ -126,7 +128,7 @@ fn add_plane(found: &mut BTreeSet<Periods>, dim: u32, most: u32, x: u32) -> Resu
     Ok(())
 }
 
-/// The periods of the set, in their order.
+/// The periods of the set, in the order of periods.
 fn listed(alloc: Global, found: &BTreeSet<Periods>) -> Result<Vec<Periods>, AllocError>
     ensures list { IfOk result (λ v. v.items ≡ found.now.keys) }
     ensures ascending { IfOk result (λ v. IsStrictlySortedBy periods_cmp v.items) }
@@ -134,7 +136,7 @@ fn listed(alloc: Global, found: &BTreeSet<Periods>) -> Result<Vec<Periods>, Allo
     found.iter().copied().collect(alloc)
 }
 
-/// A whole number modulo `n`, from 0 to `n - 1`.
+/// The whole number `x` modulo `n`, from 0 to `n - 1`.
 pub(crate) fn residue(x: i64, n: u32) -> u32
     requires some { 0 < n }
     ensures value { result ≡ residue x n }

@@ -1,4 +1,4 @@
-//! What can be read at a cell: a symbol at some cells, or at every cell.
+//! What can be asked for the symbol of a cell. Some values have symbols only for some cells, others for every cell.
 ghost use Rattle.std.specs.Prelude.{◌≡◌, ◌<◌, ℕ, Option};
 ghost use Rattle.dd_lattice.specs.declared.position.Cell.{Cell};
 
@@ -9,7 +9,7 @@ pub trait Reads {
     /// The symbol of each cell of Z^3, or none.
     ghost symbols: { Self → Cell → Option ℕ };
 
-    /// The number of the cell's symbol, from 0. `None` if the cell has no symbol.
+    /// The number of the cell's symbol, where symbols are numbered from 0. `None` if the cell has no symbol.
     fn symbol(&self, cell: &dd_lattice::Cell) -> Option<u32>
         ensures { result ≡ symbols self.now cell.now };
 }
@@ -19,11 +19,11 @@ pub trait Configuration {
     /// The number of nodes of each position.
     ghost nodes: { Self → ℕ };
 
-    /// The symbol of each cell of Z^3, even at a position that code can't hold. It has a meaning only where the node is
+    /// The symbol of each cell of Z^3, even at a position that code can't hold. It is meaningful only if the cell's node is
     /// below `nodes`.
     ghost symbol_of: { Self → Cell → ℕ };
 
-    /// The number of the cell's symbol, from 0. The cell's node must be below the number of nodes.
+    /// The number of the cell's symbol, where symbols are numbered from 0. The cell's node must be below the number of nodes.
     fn symbol_at(&self, cell: &dd_lattice::Cell) -> u32
         requires { cell.now.node < nodes self.now }
         ensures { result ≡ symbol_of self.now cell.now };

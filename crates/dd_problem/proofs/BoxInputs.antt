@@ -35,7 +35,7 @@ box_in_range d n p small h =
     let u = h.1 in
     ((omega (arith, ints, x, l, u), omega (arith, ints, x, l, u)), (omega (arith, ints, y, l, u), omega (arith, ints, y, l, u)), (omega (arith, ints, z, l, u), omega (arith, ints, z, l, u)))
 
--- the question's count keeps the radius small
+-- the bound on the count of the question's clauses keeps the radius small
 pub volume_wide : (d n : ℕ) → 1 ≤ d → 2 * n + 1 ≤ volume (centred d n)
 volume_wide d n some =
     let b = centred d n in

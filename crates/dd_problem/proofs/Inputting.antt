@@ -37,7 +37,7 @@ pub numbered_whole : (m : ℕ) (cells : List Cell) (numbers : List ℕ) (i : ℕ
 numbered_whole m cells numbers i now h same so_far =
     so_far ∙ (ap (λ cs. numbered_wiring m cs (take i numbers)) (take_all i cells h) ∙ ap (λ ns. numbered_wiring m cells ns) (take_all i numbers (omega arith)))
 
--- the next cell comes after all before it
+-- in cell order the next cell comes after all that are already there
 pub before_next : (m : ℕ) (cells : List Cell) (numbers : List ℕ) (i : ℕ) (d : Cell) (now : Wiring) → IsStrictlySortedBy cell_cmp cells → i < length cells → d ≡ get_or cells i d →
     now ≡ first_numbered m cells numbers i → All (λ c. cell_cmp c d ≡ Less) now.cells
 before_next m cells numbers i d now up h here so_far = rw (ap (λ (w : Wiring). w.cells) so_far) (λ k e below.

@@ -1,4 +1,4 @@
--- If wires give each cell of a layout the inputs of its number, the clauses over them are those of the layout.
+-- If wires give each cell of a layout the inputs of its number, the clauses over these wires are those of the layout.
 use Rattle.std.proofs.Common.{◌≡◌, ℕ, zero, suc, ◌+◌, ◌*◌, ◌<◌, Bool, true, false, List, [], ◌∷◌, ◌++◌, map, length, refl, ap, sym, ◌∙◌, arith, Some, None}
 use Rattle.std.proofs.lemmas.Bool.{and_parts, and_from, ltb-true, le-leb}
 use Rattle.std.specs.Prelude.{cond, ◌&&◌, Option, nat_lt, slice_get}
@@ -20,7 +20,7 @@ use Rattle.dd_problem.specs.pushing.Pushed.{are_both_wired, is_wired_at, is_goal
 use Rattle.dd_problem.specs.lemmas.{RangesLeft.row_within, Reading.IsLayout, Wiring.HasReads}
 use Rattle.dd_values.specs.lemmas.Booleans.{same_bool}
 
--- at the cells that pass p, relative to v, the wires are the layout's inputs
+-- at the cells that pass the test p, relative to v, the wires are the layout's inputs
 abbrev pub Gives : Wiring → Layout → ℕ → (Cell → Bool) → Place → Type 0
 Gives w l m p v = (c : Cell) (s : ℕ) → p c ≡ true → s < m → wires_near w v c s ≡ cond (l.has (shifted v c)) (Some (wire l m v c s)) None
 
@@ -87,7 +87,7 @@ asks r m p a ok same node reads =
 reads_there : (l : Layout) (r : LocalRule) (d : Cell) → IsRule r → leaves_pass (λ c s. l.has (shifted d.position c)) (expansion_at r d.node) ≡ list_all (λ c. l.has (shifted d.position c)) (reads_at r d.node)
 reads_there l r d ok = leaves_are_reads r.edges r.symbols ok.symbols.0 r.formula (origin_at d.node ∷ []) (λ c. l.has (shifted d.position c))
 
--- a rule whose reads pass p, at a place around which the wires are the layout's
+-- the cells that the rule reads at d pass the test p, and the wires around d of cells that pass it are the layout's
 pub record Matches (w : Wiring) (l : Layout) (m : ℕ) (p : Cell → Bool) (r : LocalRule) (d : Cell) : Type 0 where
   pub node : d.node < r.nodes
   pub gives : Gives w l m p d.position

@@ -21,7 +21,7 @@ sum_there p v o near wide is = is ∙ ap (λ b. if b then Some (moved p v) else 
 pub is_there : {X : Type 0} (o : Option X) (x : X) → o ≡ Some x → IsSome o
 is_there o x is = subst IsSome (sym is) (search rules)
 
--- one cell more is moved
+-- one more cell is moved
 pub moved_more : (v : Place) (before now new : List Cell) (cells : List Cell) (i : ℕ) (c d : Cell) → i < length cells → c ≡ get_or cells i c → d ≡ shifted v c →
     now ≡ before ++ map (shifted v) (take i cells) → new ≡ now ++ d ∷ [] → new ≡ before ++ map (shifted v) (take (i + 1) cells)
 moved_more v before now new cells i c d below is made so_far pushed =
@@ -34,7 +34,7 @@ moved_more v before now new cells i c d below is made so_far pushed =
 pub moved_all : (v : Place) (before now : List Cell) (cells : List Cell) (i : ℕ) → length cells ≤ i → now ≡ before ++ map (shifted v) (take i cells) → now ≡ before ++ map (shifted v) cells
 moved_all v before now cells i past so_far = so_far ∙ ap (λ cs. before ++ map (shifted v) cs) (take_all i cells past)
 
--- the least box of a goal
+-- the box of a goal's least radius
 spread_few : (b : Bool) (n : ℕ) → n ≤ 16 → spread b n ≤ 16
 spread_few true n small = small
 spread_few false n small = omega arith
@@ -82,7 +82,7 @@ module _ (x : LocalRule) (g : GoalOf) (rule : IsRule x) (told : HasGoalFacts x g
     pub box_is : cells_in b nodes ≡ box_cells x (goal_reach g)
     box_is = ap (cells_in b) same ∙ (ap (λ c. cells_in c x.nodes) bounds ∙ (ap (λ k. cells_in (centred k least) x.nodes) dim ∙ ap (λ k. cells_in (centred x.dimension k) x.nodes) far))
 
--- what the premise reads at one cell more
+-- what the premise reads at one more cell
 pub reads_near : (x : LocalRule) (a : ℕ) (cs : List Cell) → IsRule x → a < x.nodes → cs ≡ cells_at x a → list_all is_near cs ≡ true
 reads_near x a cs rule node read = ap (list_all is_near) read ∙ (list_all-in_order is_near (reads_at x a) ∙ rule.short a node)
 

@@ -1,4 +1,4 @@
--- The cells that are read at some cells are among those that are listed as near.
+-- The cells that are read at given cells are among those that are listed as near these.
 use Rattle.std.proofs.Common.{◌≡◌, ◌<◌, Bool, true, List, [], ◌∷◌, ◌++◌, ap, sym, subst, ◌∙◌, inl, inr}
 use Rattle.std.proofs.lemmas.Bool.{and_parts, and_from, ltb-true, or_left, or_right}
 use Rattle.std.proofs.lemmas.List.Elements.{All-contains, Contains-append_left, Contains-append_right}
@@ -18,7 +18,7 @@ use Rattle.dd_problem.specs.{Layouts.box_index, pushing.Near.read_cells, pushing
 use Rattle.dd_problem.specs.lemmas.{ValueWires.passes_member, TorusShows.reads_nodes}
 use Rattle.dd_problem.proofs.BoxInputs.{member_is_box_cell}
 
--- one of the cells, as a test
+-- whether a cell is one of the cells in a list
 abbrev pub is_one_of : List Cell → Cell → Bool
 is_one_of cs c = list_any (λ e. is_eq (cell_cmp c e)) cs
 

@@ -123,7 +123,7 @@ false_in_range n s o l ok positive negated =
 pub true_in_range : (n : ℕ) (s : Signal) (l : Literal) → IsSignal n s → l ≡ literal_of s → IsLiteralInRange n l
 true_in_range n s l ok positive = let var : l.variable ≡ s.variable = ap (λ (k : Literal). k.variable) positive in rw var ok
 
--- when all nodes are there, one clause of the literals is left
+-- after all nodes, only the clause of their literals is left to be added
 pub nodes_done : (maker : ℕ → Maker) (count : ℕ) (turn : Signal → Literal) (node : ℕ) (start now last : Encoding) (literals seen : List Literal) →
     NodesLeft maker count turn node start now literals → count ≤ node → seen ≡ literals → last ≡ with_clause now seen →
     last ≡ with_parts start (turned_part maker count turn ∷ [])

@@ -1,4 +1,4 @@
--- Sorted cells, without those that are the same as the one before.
+-- Sorted cells without repeats: each cell that equals the one before it is dropped.
 use Rattle.std.proofs.Common.{◌≡◌, Bool, true, false, List, refl, ap, sym, subst, ◌∙◌}
 use Rattle.std.proofs.lemmas.List.Kept.{Contains-dedup, Contains-from_dedup, IsStrictlySortedBy-dedup}
 use Rattle.std.proofs.lemmas.List.Sorted.{Contains-permutation, IsPermutation-sym}

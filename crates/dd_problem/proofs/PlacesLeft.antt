@@ -64,7 +64,7 @@ pub next_parts : (w : Wiring) (n : ℕ) (x : LocalRule) (cells : List Cell) (i :
     parts_from w n x cells i ≡ wired_parts w n x (d ∷ []) ++ parts_from w n x cells (i + 1)
 next_parts w n x cells i d h here = ap (wired_parts w n x) (next_cell cells i d h here) ∙ parts_split w n x d (drop (i + 1) cells)
 
--- The loop over cells: the parts of all cells give what is already there and what the parts of the other cells give.
+-- The loop over cells: what the parts of all cells give is what is already there, and then what the parts of the cells left give.
 pub record PlacesLeft (w : Wiring) (x : LocalRule) (cells : List Cell) (i : ℕ) (start now : Encoding) : Type 0 where
   pub inputs : now.circuit.inputs ≡ start.circuit.inputs
   pub left : with_parts start (wired_parts w start.circuit.inputs x cells) ≡ with_parts now (parts_from w start.circuit.inputs x cells i)
@@ -103,7 +103,7 @@ places_done w x cells i start now p h =
 pub nothing_added : (w : Wiring) (x : LocalRule) (now : Encoding) (d : Cell) → is_wired_at w now.circuit.inputs x d ≡ false → now ≡ with_parts now (wired_parts w now.circuit.inputs x (d ∷ []))
 nothing_added w x now d none = sym (ap (with_parts now) (skipped w now.circuit.inputs x d none) ∙ extended_by_none now)
 
--- the gates of a place with their clauses, and the clause that its signal is true
+-- the gates of a place with their clauses, and the clause that says that its signal is true
 pub place_done : (w : Wiring) (x : LocalRule) (d : Cell) (start now last : Encoding) (s : Signal) (l : Literal) → now ≡ with_made start (compiled w d.position (expansion_at x d.node)) →
     s ≡ (compiled w d.position (expansion_at x d.node) (size start.circuit)).signal → l ≡ literal_of s → last ≡ with_clause now (l ∷ []) → last ≡ with_parts start (wired_part w x d ∷ [])
 place_done w x d start now last s l made signal literal pushed =

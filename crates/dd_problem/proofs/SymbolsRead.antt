@@ -22,7 +22,7 @@ equal_itself a = grind arith
 pub input_value : (values : List Bool) (m k t at : ℕ) → at ≡ k * m + t → true_variables values (input m k t) ≡ slice_index_or values at false
 input_value values m k t at is = let e : suc (k * m + t) - 1 ≡ at = omega arith in ap (λ j. slice_index_or values j false) e
 
--- the first true input is that of the symbol
+-- a true input of a cell is that of the cell's symbol
 pub here_read : (set : ℕ → Bool) (m k t : ℕ) → (s : ℕ) × IsSymbolRead set m k s → t < m → set (input m k t) ≡ true → IsSymbolRead set m k t
 here_read set m k t one below h =
     let same : one.0 ≡ t = equal_from one.0 t (sym (one.1.1 t below) ∙ h) in

@@ -34,7 +34,7 @@ all_signals n m (s ∷ ss) more h =
     (and_from (nat_le 1 s.variable) (nat_le s.variable m) (le-leb 1 s.variable one.0) (le-leb s.variable m (omega (arith, one.1, more))))
     (all_signals n m ss more (λ i signal is. h (suc i) signal is))
 
--- a cell that has the wire of one symbol has that of each
+-- a cell that has a wire for one symbol has a wire for each symbol
 row_full : (n m k : ℕ) (b : Bool) (o : Option (List Signal)) (s : ℕ) → n ≤ m → ((ss : List Signal) → o ≡ Some ss → length ss ≡ k) →
     ((i : ℕ) (signal : Signal) → signal_for o i ≡ Some signal → IsSignal n signal) → is_wire m (if b then signal_for o s else None) ≡ true → are_signals m k o ≡ true
 row_full n m k false o s more full fit h = absurd (cc)
@@ -42,7 +42,7 @@ row_full n m k true None s more full fit h = absurd (cc)
 row_full n m k true (Some ss) s more full fit h =
     and_from (length ss == k) (list_all (is_signal m) ss) (eq-eqb (length ss) k (full ss refl)) (all_signals n m ss more fit)
 
--- what a rule reads has all its signals exactly if each leaf has its wire
+-- the cells that a rule reads have all their signals exactly if each leaf of the rule has its wire
 pub same_reads : (n m : ℕ) (w : Wiring) (x : LocalRule) (d : Cell) → IsRule x → d.node < x.nodes → extent d.position ≤ 1048560 → AreInputs n w → HasAllSymbols x.symbols w → n ≤ m →
     are_reads_wired m w x d ≡ is_wired_at w m x d
 same_reads n m w x d rule node near ok full more =
@@ -55,7 +55,7 @@ same_reads n m w x d rule node near ok full more =
     row_full n m x.symbols (is_in_range (moved c.position v)) (signals_of w (shifted v c)) s more (full (shifted v c)) (ok (shifted v c)))
     h)
 
--- what the test of the cells that are read answers
+-- the test of the cells that are read tells whether each leaf has its wire
 pub reads_tell : (n m : ℕ) (w : Wiring) (x : LocalRule) (d : Cell) (b r : Bool) → IsRule x → d.node < x.nodes → extent d.position ≤ 1048560 → AreInputs n w → HasAllSymbols x.symbols w → n ≤ m →
     r ≡ are_reads_wired m w x d → r ≡ b → is_wired_at w n x d ≡ b
 reads_tell n m w x d b r rule node near ok full more said told =
@@ -68,7 +68,7 @@ template_at x ts k t are below is = is ∙ (ap (λ (us : List RuleAt). get_or us
 template_count : (x : LocalRule) (ts : List RuleAt) → ts ≡ map (rule_at x) (range_with_len 0 x.nodes) → length ts ≡ x.nodes
 template_count x ts are = ap length are ∙ length-map-range_with_len (rule_at x) 0 x.nodes
 
--- there is one for each cell's node
+-- there is a template for each cell's node
 node_below : (x : LocalRule) (cells : List Cell) (i : ℕ) (d : Cell) → All (λ (c : Cell). c.node < x.nodes) cells → i < length cells → d ≡ get_or cells i d → d.node < x.nodes
 node_below x cells i d nodes h here =
     subst (λ (c : Cell). c.node < x.nodes) (sym here) (All-get_or (λ (c : Cell). c.node < x.nodes) cells i d h nodes)
@@ -81,7 +81,7 @@ pub node_template : (x : LocalRule) (ts : List RuleAt) (cells : List Cell) (i : 
     All (λ (c : Cell). c.node < x.nodes) cells → i < length cells → d ≡ get_or cells i d → t ≡ get_or ts d.node t → t ≡ rule_at x d.node
 node_template x ts cells i d t are nodes h here is = template_at x ts d.node t are (node_below x cells i d nodes h here) is
 
--- inputs by number have one signal for each symbol
+-- inputs that are made by number have one signal for each symbol
 turn_full : (m : ℕ) (o : Option ℕ) (ss : List Signal) → option_map (symbol_signals m) o ≡ Some ss → length ss ≡ m
 turn_full m None ss h = absurd (cc)
 turn_full m (Some k) ss h = ap length (some_same ss (symbol_signals m k) (sym h)) ∙ length-map-range_with_len (λ s. signal_of (input m k s)) 0 m

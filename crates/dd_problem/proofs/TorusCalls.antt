@@ -21,7 +21,7 @@ use Rattle.dd_problem.specs.lemmas.TorusShows.{torus_shows}
 use Rattle.dd_problem.proofs.NearCells.{near_ascends, near_nodes as near_nodes_of}
 use Rattle.dd_problem.proofs.TorusInputs.{numbers_tile, number_is, torus_values, torus_is_problem, torus_goal_wired}
 
--- the question's count is at most two million
+-- the count of the question's clauses is at most two million
 abbrev pub IsFew : LocalRule → GoalOf → Periods → Type 0
 IsFew x g periods = question_clauses x g (periods_volume periods) ≤ most_clauses
 
@@ -34,7 +34,7 @@ module _ (x : LocalRule) (periods : Periods) (rule : IsRule x) (ok : AreTorusPer
   pub size_small : torus_size x periods ≤ 65536
   size_small = ok.few
 
-  -- the configuration of the numbers
+  -- the configuration that has numbers in place of symbols
   numbering_is : (d nodes : ℕ) (items : List ℕ) → d ≡ x.dimension → nodes ≡ x.nodes →
       items ≡ range_with_len 0 (periods_volume periods * nodes) → tile d periods nodes items ≡ numbered_tile x periods
   numbering_is d nodes items dim same is =

@@ -1,4 +1,4 @@
--- The inputs of the cells that are read from a fundamental box are those of the torus.
+-- The inputs of the cells that are read at a fundamental box's cells are those of the torus.
 use Rattle.std.proofs.Common.{◌≡◌, ℕ, ◌<◌, ◌≤◌, ◌*◌, Bool, true, List, map, length, refl, ap, sym, subst, ◌∙◌, arith, Some, None, ℤ, ◌+ℤ◌, if◌then◌else◌, option_map}
 use Rattle.std.proofs.lemmas.{Int.ints, Bool.and_parts, Bool.ltb-true, Bool.lt-ltb, Bool.leb-true}
 use Rattle.std.proofs.lemmas.List.{length-map, Elements.All-contains}
@@ -30,7 +30,7 @@ use Rattle.dd_problem.proofs.BoxInputs.{box_in_range}
 use Rattle.dd_problem.proofs.NearCells.{is_one_of, contained_one_of, all_are_some, near_ascends, near_has_read, near_has_box}
 use Rattle.dd_problem.proofs.{Templating.torus_near, TorusReach.facts_near, TorusReach.facts_reach}
 
--- what lies near a place in range is in range
+-- what lies near a position well within the range is in range
 axis_in_range : (a b : ℤ) → unsigned_abs a ≤ 16 → unsigned_abs b ≤ 1048560 → IsCoordinateInRange (a +ℤ b)
 axis_in_range a b near wide = (omega (arith, ints), omega (arith, ints))
 
@@ -82,7 +82,7 @@ module _ (x : LocalRule) (periods : Periods) (rule : IsRule x) (ok : AreTorusPer
       ap (λ b. if b then wire else None) (test_from_in_range d.position is.in_range)
       ∙ (near_wire d s is below ∙ sym (ap (λ b. cond b (Some (signal_of (input x.symbols (tile_index (torus x periods) d) s))) None) (lt-ltb d.node x.nodes is.node)))
 
-  -- what the premise reads at a cell of the box
+  -- what the premise reads at a cell of the fundamental box
   read_is_near : (d c : Cell) → Contains (torus_cells x periods) d → d.node < x.nodes → is_one_of (reads_at x d.node) c ≡ true → IsNear (shifted d.position c)
   read_is_near d c there node h =
       let read = contained_one_of (reads_at x d.node) c h in
@@ -134,7 +134,7 @@ module _ (x : LocalRule) (periods : Periods) (rule : IsRule x) (ok : AreTorusPer
     goal_of (differ s f h) fits reach = refl
     goal_of always fits reach = tt
 
-  -- and what automata read there
+  -- what automata read at the origin
   near_signals : (c : Cell) → IsNear c → signals_of (numbered_by x.symbols numbers near) c ≡ Some (symbol_signals x.symbols (tile_index (torus x periods) c))
   near_signals c is =
       let at = listed_at c is.listed in

@@ -22,7 +22,7 @@ facts_near x g told = goal_near x g (facts_is_goal x g told) (facts_keep x g tol
 pub radius_is : (x : LocalRule) (g : GoalOf) (least : ℕ) → IsRule x → HasGoalFacts x g → IsLeastRadius g least → least ≡ goal_reach g
 radius_is x g least rule told is = least_is_goal_reach x g least rule (facts_is_goal x g told) (facts_keep x g told) is
 
--- the box of that radius reaches
+-- the box of radius `goal_reach g` holds all that the goal reads at the origin
 pub facts_reach : (x : LocalRule) (g : GoalOf) → IsRule x → HasGoalFacts x g → Reaches g (goal_reach g)
 facts_reach x (breaks y) rule told = (reach_is_least y told.0).reaches
 facts_reach x (differ s f g) rule told =

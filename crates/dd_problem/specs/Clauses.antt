@@ -37,7 +37,7 @@ symbol_clauses x k node = one_hot (inputs_of x.symbols k) ++ none_of x.symbols k
 abbrev pub clauses_from : LocalRule → ℕ → List Cell → List (List Literal)
 clauses_from x first cells = flat_map (λ numbered. symbol_clauses x numbered.0 numbered.1.node) (enumerate_from first cells)
 
--- the same for all cells
+-- the same, numbered from 0
 abbrev pub cell_clauses : LocalRule → List Cell → List (List Literal)
 cell_clauses x cells = clauses_from x 0 cells
 
@@ -46,16 +46,16 @@ pub record Part : Type 0 where
   pub makers : List Maker
   pub tail : List Signal → List (List Literal)
 
--- the gates of a part after n variables
+-- the gates of a part, made after n variables, and their signals
 abbrev pub made_by : Part → ℕ → AllMade
 made_by p n = all_made p.makers n
 
--- the gates of all parts after n variables, one part after the other
+-- the gates of all parts, made after n variables, one part after the other
 abbrev pub part_gates : ℕ → List Part → List Gate
 part_gates n [] = []
 part_gates n (p ∷ ps) = (made_by p n).gates ++ part_gates (n + length (made_by p n).gates) ps
 
--- for each part the clauses of its gates, and then those over their signals
+-- for each part, the clauses of its gates, and then the clauses over the signals of these gates
 abbrev pub part_clauses : ℕ → List Part → List (List Literal)
 part_clauses n [] = []
 part_clauses n (p ∷ ps) =

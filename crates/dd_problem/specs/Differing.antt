@@ -6,14 +6,13 @@ use Rattle.dd_circuit.specs.declared.gates.{Signal.Signal, Gate.Gate}
 use Rattle.dd_circuit.specs.{declared.gates.Gate.TheVariants.And, declared.gates.Gate.TheVariants.Or, Circuits.opposite}
 use Rattle.dd_compile.specs.{Wiring.Wiring, Compiling.Maker, Compiling.then_gate, ValueGates.fresh, ValueGates.value_made}
 
--- for each symbol a gate that says that it is the first value and not the second
+-- for each symbol, a gate that says that this symbol is the first value and not the second
 abbrev pub apart : List Signal → List Signal → List Gate
 apart [] ys = []
 apart (x ∷ xs) [] = []
 apart (x ∷ xs) (y ∷ ys) = And (x ∷ opposite y ∷ []) ∷ apart xs ys
 
--- the gates of the first value, those of the second, a gate for each of k symbols, and a gate that says that one of these is
--- true
+-- the gates of the first value, those of the second, the gate above for each of k symbols, and a gate that says that some of these k gates is true
 abbrev pub differ_made : ℕ → Automaton → Automaton → Wiring → Cell → Maker
 differ_made k f g w at n =
     let left = value_made k f w at n in

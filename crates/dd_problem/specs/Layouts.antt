@@ -12,22 +12,22 @@ use Rattle.dd_problem.specs.pushing.Numbered.{in_turn}
 pub record Layout : Type 0 where
   -- whether a cell has inputs
   pub has : Cell → Bool
-  -- the number of a cell with inputs, from 0; on a torus, cells that are equal modulo the periods have one number
+  -- the number of a cell with inputs, from 0; on a torus, cells that are equal modulo the periods share one number
   pub index : Cell → ℕ
-  -- the cells of the box, or of the fundamental box, in the order of their numbers
+  -- the places: the cells of the box, or of the fundamental box, in the order of their numbers
   pub places : List Cell
-  -- each cell that is read, with its inputs as signals
+  -- the cells that may be read, each with its inputs as signals
   pub inputs : Wiring
 
--- the cells of a box of positions in cell order: the nodes of a position stand together
+-- the cells of a box of positions in cell order, in which the nodes of a position stand together
 abbrev pub cells_in : Bounds → ℕ → List Cell
 cells_in b nodes = cells_on nodes (positions_of b)
 
--- the cell with the number k, from 0 in cell order
+-- the cell with the number k; the cells are numbered from 0 in cell order
 abbrev pub nth_cell : Bounds → ℕ → ℕ → Cell
 nth_cell b nodes k = cell (place_in b (k / nodes)) (k % nodes)
 
--- the number of a cell of B(n), from 0 in cell order
+-- the number of a cell of B(n), the box of radius n round the origin, from 0 in cell order
 abbrev pub box_index : LocalRule → ℕ → Cell → ℕ
 box_index x n c = index_in (centred x.dimension n) c.position * x.nodes + c.node
 
@@ -43,6 +43,6 @@ torus x periods = tile x.dimension periods x.nodes []
 abbrev pub torus_cells : LocalRule → Periods → List Cell
 torus_cells x periods = cells_in (fundamental periods) x.nodes
 
--- each cell that the rule reads at the cell has inputs
+-- each cell that the rule reads at the cell d has inputs
 abbrev pub fits_in : Layout → LocalRule → Cell → Bool
 fits_in l x d = list_all (λ c. l.has (shifted d.position c)) (reads_at x d.node)

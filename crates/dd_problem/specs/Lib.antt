@@ -1,4 +1,4 @@
--- which cells have inputs, and in which order
+-- which cells have inputs (variables that say which symbols cells have), and in which order
 pub mod Layouts
 -- the clauses over inputs and over the signals of gates
 pub mod Clauses
@@ -10,9 +10,9 @@ pub mod Encodings
 pub mod Problems
 -- the symbols of cells, and their inputs in an assignment
 pub mod Symbols
--- when clauses say what a question asks
+-- when clauses express what a question asks
 pub mod Shows
--- the same clauses over the inputs that the code keeps, and the facts about goals that proofs need
+-- the clauses of `Problems` over the inputs that the code keeps, and the facts about goals that proofs need
 pub mod pushing
 -- lemmas on these definitions, with their proofs
 pub mod lemmas

@@ -30,7 +30,7 @@ goal_part l m (differ s f g) =
     record { makers = map (λ a. differ_made s.symbols f g l.inputs (cell origin a)) (range_with_len 0 s.nodes); tail = some_true }
 goal_part l m always = record { makers = []; tail = λ _. [] }
 
--- the premise at each cell where all that it reads has inputs, in the order of the cells, and then the goal
+-- the premise at each cell where all that the premise reads has inputs, in the order of the cells, and then the goal
 abbrev pub problem_parts : Layout → LocalRule → GoalOf → List Part
 problem_parts l x g = map (premise_part l x) (filter (fits_in l x) l.places) ++ goal_part l x.symbols g ∷ []
 
@@ -49,10 +49,10 @@ problem l x g = record {
   clauses = problem_clauses l x g;
 }
 
--- on the box of radius n
+-- the clause list of the question on the box of radius n
 abbrev pub box_problem : LocalRule → GoalOf → ℕ → ClauseList
 box_problem x g n = problem (box_layout x n) x g
 
--- on the torus of these periods
+-- the clause list of the question on the torus of these periods
 abbrev pub torus_problem : LocalRule → GoalOf → Periods → ClauseList
 torus_problem x g periods = problem (torus_layout x g periods) x g

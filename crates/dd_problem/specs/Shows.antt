@@ -1,4 +1,4 @@
--- When clauses say what a box question asks. `set` is an assignment.
+-- When clauses express what a box question asks. `set` is an assignment.
 use Rattle.std.specs.Prelude.{◌≡◌, ◌<◌, ℕ, Bool, true, List}
 use Rattle.dd_lattice.specs.declared.position.Cell.{Cell}
 use Rattle.dd_pattern.specs.{declared.periods.Periods.Periods, Reading.Look, Tile.Tile}
@@ -9,7 +9,7 @@ use Rattle.dd_boxes.specs.{Goals.GoalOf, Fillings.is_box_cell, Boxes.Suffices}
 use Rattle.dd_boxes.specs.Witnesses.{IsBoxWitness, IsWitness, HasPeriods}
 use Rattle.dd_problem.specs.{Layouts.box_index, Clauses.input, Symbols.AreRead}
 
--- of the inputs of each cell of B(n), exactly that of the cell's symbol is true
+-- for each cell of B(n), the box of radius n round the origin, the input of the cell's symbol is true, and the cell's other inputs are false
 abbrev pub IsReadFrom : (ℕ → Bool) → LocalRule → ℕ → Look → Type 0
 IsReadFrom set x n look = (c : Cell) (s : ℕ) → is_box_cell x n c ≡ true → s < x.symbols → set (input x.symbols (box_index x n c) s) ≡ is_symbol s (look c)
 
@@ -23,13 +23,13 @@ pub record Shows (clauses : List (List Literal)) (x : LocalRule) (g : GoalOf) (n
 abbrev pub AreRefuted : List (List Literal) → Type 0
 AreRefuted clauses = (set : ℕ → Bool) → Satisfies set clauses → ⊥
 
--- the clauses are refuted exactly if the box suffices
+-- the clauses are refuted exactly if B(n) suffices: no admissible filling of it has the goal at the origin
 pub record DecidesBox (clauses : List (List Literal)) (x : LocalRule) (g : GoalOf) (n : ℕ) : Type 0 where
   pub suffices : AreRefuted clauses → Suffices x g n
   pub refuted : Suffices x g n → AreRefuted clauses
 
--- The same for periodic configurations: they have these periods and this shear, live in the premise's subshift, and have the
--- goal at the origin.
+-- The same as `Shows`, for the periodic configurations that have these periods and this shear, live in the premise's subshift (obey the premise at
+-- every cell), and have the goal at the origin.
 pub record ShowsTorus (clauses : List (List Literal)) (x : LocalRule) (g : GoalOf) (periods : Periods) : Type 0 where
   pub each : (set : ℕ → Bool) → Satisfies set clauses → (t : Tile) × HasPeriods periods t × IsWitness x g t × AreRead set x.symbols t.symbols
   pub every : (t : Tile) → HasPeriods periods t → IsWitness x g t → (set : ℕ → Bool) × Satisfies set clauses × AreRead set x.symbols t.symbols

@@ -17,9 +17,10 @@ use dd_formula::Rule;
 use dd_lattice::centred_box;
 use std::alloc::{AllocError, Global};
 
-/// The clauses that ask for an admissible filling of the box with the goal at the origin. The radius is at least the
-/// goal's least radius. The variable `1 + k * symbols + s` says that the cell with the number `k` has the symbol `s`. The
-/// cells of the box are numbered from 0 in cell order. The variables of the gates follow.
+/// The clauses that ask for an admissible filling of the box of this radius, with the goal at the origin. `radius` must be at
+/// least the goal's least radius, so that the box holds all that the goal reads at the origin. The variable
+/// `1 + k * symbols + s` says that the cell with the number `k` has the symbol `s`. The cells of the box are numbered from 0 in
+/// cell order. The variables of the gates follow.
 ///
 /// # Errors
 /// `AllocError` if memory ran out.
@@ -36,7 +37,7 @@ pub fn box_clauses(
     ensures shows { IfOk result (λ cnf. Shows cnf.clauses premise.now (goal_of premise.now goal.now) radius) }
     ensures decides { IfOk result (λ cnf. DecidesBox cnf.clauses premise.now (goal_of premise.now goal.now) radius) }
 {
-    // This call brings in facts: what the goal reads, and what the gates of its values say.
+    // This call tells the proof what the goal reads, and what the gates of its automata's values say.
     goal_facts(premise, goal);
     let symbols = premise.symbols();
     let bounds = centred_box(premise.dim(), radius).unwrap();

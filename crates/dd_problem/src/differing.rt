@@ -17,8 +17,9 @@ use dd_formula::{Automaton, Rule};
 use dd_lattice::{Cell, Position};
 use std::alloc::{AllocError, Global};
 
-/// Adds for each symbol a gate that says that it is the first value and not the second. Returns the gates' signals. `first` and
-/// `second` hold, for each symbol, the signal that says that it is this value.
+/// For each symbol, adds a gate that says that this symbol is the first value and not the second. Returns the gates' signals.
+/// `first` holds, for each symbol, the signal that says that this symbol is the first value, and `second` likewise for the
+/// second value.
 fn compile_apart(
     circuit: &mut Circuit,
     alloc: Global,
@@ -41,7 +42,7 @@ fn compile_apart(
     Ok(signals)
 }
 
-/// Adds the gates of both automata's values at a node of the origin. Returns the signal that says whether the values are
+/// Adds the gates of both automata's values at this node of the origin. Returns the signal that says whether the values are
 /// different.
 pub(crate) fn compile_differ(
     circuit: &mut Circuit,

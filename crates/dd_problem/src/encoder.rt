@@ -47,8 +47,8 @@ impl Model for Encoder {
     ghost invariant = { λ e. e.cnf.variables ≡ size_of e.circuit.inputs e.circuit.gates };
 }
 
-/// Gives the clause list as many variables as the circuit has. If `made` is a signal, also adds the clauses of all gates but the
-/// first `before`, and returns the signal.
+/// Gives the clause list as many variables as the circuit has. If `made` is a signal, also adds the clauses of all gates except
+/// the first `before` gates, and returns the signal.
 fn push_made(
     alloc: Global,
     cnf: &mut Cnf,
@@ -148,8 +148,8 @@ impl Encoder {
         push_made(self.alloc, &mut self.cnf, &self.circuit, before, made)
     }
 
-    /// Adds the gates of the values of two automata at a node of the origin, and the clauses of these gates. Returns the signal
-    /// that says whether the values are different. If memory runs out, some gates and clauses may have been added.
+    /// Adds the gates of the values of two automata at this node of the origin, and the clauses of these gates. Returns the
+    /// signal that says whether the values are different. If memory runs out, some gates and clauses may have been added.
     pub(crate) fn push_apart(
         &mut self,
         premise: &Rule,

@@ -1,4 +1,4 @@
-//! Rules and goals as gates and clauses, at the cells where all that they read has inputs.
+//! Rules and goals as gates and clauses, at the cells where all that the rule or the goal reads has inputs.
 ghost use Rattle.std.specs.Prelude.{◌≡◌, ◌≤◌, ◌<◌, ◌+◌, ◌-◌, ◌∷◌, ℕ, [], true, map, All, IfOk, OnOk};
 ghost use Rattle.std.specs.List.{range_with_len};
 ghost use Rattle.dd_values.specs.Bounds.{most_variables};
@@ -42,7 +42,7 @@ fn push_place(
     encoder.push_clause(&[literal_of(signal)])
 }
 
-/// Does what `push_place` does, if each cell that the rule reads at the cell has inputs; else does nothing.
+/// Does what `push_place` does if each cell that the rule reads at `cell` has inputs. Otherwise does nothing.
 fn push_if_wired(
     encoder: &mut Encoder,
     rule: &Rule,
@@ -59,7 +59,7 @@ fn push_if_wired(
     ensures inputs { encoder.new.circuit.inputs ≡ encoder.old.circuit.inputs }
     ensures ok { OnOk result (encoder.new ≡ with_parts encoder.old (wired_parts inputs.now encoder.old.circuit.inputs rule.now (cell.now ∷ []))) }
 {
-    // This call brings in a fact: the rule's invariant.
+    // This call tells the proof the rule's invariant.
     let _nodes = rule.nodes();
     if !reads_are_wired(encoder.circuit(), rule, cell, inputs) {
         return Ok(());
@@ -79,8 +79,8 @@ fn templates_of(alloc: Global, rule: &Rule) -> Result<Vec<Template>, AllocError>
     Ok(templates)
 }
 
-/// Adds the gates and clauses that say that the rule is true at each of the cells where all that it reads has inputs. The
-/// rule is compiled once for each node. If memory runs out, some gates and clauses may have been added.
+/// Adds the gates and clauses that say that the rule is true at each of the cells where all that the rule reads has inputs.
+/// The rule is compiled once for each node. If memory runs out, some gates and clauses may have been added.
 pub(crate) fn push_places(
     alloc: Global,
     encoder: &mut Encoder,
@@ -104,7 +104,7 @@ pub(crate) fn push_places(
     Ok(())
 }
 
-/// Adds the gates of the rule at each node of a position, and the clause that says that the rule is false at some node.
+/// Adds the gates of the rule at each node of the position `at`, and the clause that says that the rule is false at some node.
 fn push_some_false(
     alloc: Global,
     encoder: &mut Encoder,

@@ -12,7 +12,7 @@ use dd_compile::Inputs;
 use dd_lattice::{Box3, Cell};
 use std::alloc::{AllocError, Global};
 
-/// The cell of the box with this number, from 0 in cell order.
+/// The box's cell with this number. The cells are numbered from 0 in cell order.
 fn nth_cell(bounds: &Box3, nodes: u32, number: u64) -> Cell
     requires { number < volume bounds.now * nodes }
     ensures { result ≡ nth_cell bounds.now nodes number }
@@ -24,7 +24,7 @@ fn nth_cell(bounds: &Box3, nodes: u32, number: u64) -> Cell
     }
 }
 
-/// The cells of a box in cell order: the nodes of a position stand together.
+/// The cells of a box in cell order, in which the nodes of a position stand together.
 pub(crate) fn cells_of(alloc: Global, bounds: &Box3, nodes: u32) -> Result<Vec<Cell>, AllocError>
     requires { volume bounds.now * nodes ≤ most_variables }
     ensures { IfOk result (λ v. v.items ≡ cells_in bounds.now nodes) }
@@ -37,7 +37,7 @@ pub(crate) fn cells_of(alloc: Global, bounds: &Box3, nodes: u32) -> Result<Vec<C
     Ok(cells)
 }
 
-/// The signals of the cell with this number: for each of `symbols` symbols, one that says that the cell has it.
+/// The signals of the cell with this number: for each of `symbols` symbols, one that says that the cell has this symbol.
 pub(crate) fn symbol_signals(
     alloc: Global,
     number: u32,

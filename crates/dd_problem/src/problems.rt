@@ -17,8 +17,8 @@ use dd_formula::Rule;
 use dd_lattice::Cell;
 use std::alloc::{AllocError, Global};
 
-/// The clauses that say three things. Each of the cells has one symbol, which its node allows. The premise is true at
-/// each cell where all that it reads has inputs. The goal holds at the origin.
+/// The clauses that say three things: each of the cells has one symbol, which its node allows; the premise is true at each
+/// cell where all that the premise reads has inputs; and the goal holds at the origin.
 pub(crate) fn problem(
     alloc: Global,
     premise: &Rule,

@@ -51,7 +51,7 @@ fn fundamental(periods: &Periods) -> Box3
     }
 }
 
-/// The cells of the box whose radius is the goal's least one. They include all that the goal reads at the origin.
+/// The cells of the box of the goal's least radius. They include all that the goal reads at the origin.
 fn goal_cells(alloc: Global, premise: &Rule, goal: &Goal) -> Result<Vec<Cell>, AllocError>
     requires { HasGoalFacts premise.now (goal_of premise.now goal.now) }
     ensures { IfOk result (λ v. v.items ≡ box_cells premise.now (goal_reach (goal_of premise.now goal.now))) }
@@ -62,7 +62,7 @@ fn goal_cells(alloc: Global, premise: &Rule, goal: &Goal) -> Result<Vec<Cell>, A
     cells_of(alloc, &bounds, nodes)
 }
 
-/// The cell, moved by a position.
+/// The cell, moved by the position `by`.
 fn shifted(cell: &Cell, by: &Position) -> Cell
     requires near { is_near cell.now ≡ true }
     requires by { extent by.now ≤ most_coordinate - 16 }
@@ -74,7 +74,7 @@ fn shifted(cell: &Cell, by: &Position) -> Cell
     }
 }
 
-/// Appends the cells, moved by a position.
+/// Appends the cells, moved by the position `by`.
 fn push_shifted(found: &mut Vec<Cell>, by: &Position, cells: &[Cell]) -> Result<(), AllocError>
     requires near { list_all is_near cells.now ≡ true }
     requires by { extent by.now ≤ most_coordinate - 16 }
@@ -86,7 +86,7 @@ fn push_shifted(found: &mut Vec<Cell>, by: &Position, cells: &[Cell]) -> Result<
     Ok(())
 }
 
-/// The cells in cell order, each once. Many come more than once, so they are sorted in place.
+/// The cells in cell order, each once. Many occur more than once, so they are sorted in place and repeats are dropped.
 fn once_each(cells: Vec<Cell>) -> Vec<Cell>
     ensures { result.items ≡ in_order cells.items }
 {
@@ -163,8 +163,8 @@ fn numbering(alloc: Global, premise: &Rule, periods: &Periods) -> Result<Periodi
     )
 }
 
-/// Inputs for what the premise reads at the cells of the fundamental box, and for what the goal reads at the origin. Each cell
-/// has the inputs of the cell of the fundamental box that it equals modulo the periods.
+/// Inputs for the cells that the premise reads at the cells of the fundamental box, and for those of the box of the goal's least
+/// radius. Each cell has the inputs of the cell of the fundamental box that it equals modulo the periods.
 fn torus_inputs(
     alloc: Global,
     premise: &Rule,
@@ -202,7 +202,7 @@ pub fn torus_clauses(
     ensures exact { IfOk result (λ cnf. cnf ≡ torus_problem premise.now (goal_of premise.now goal.now) (periods_of periods shear)) }
     ensures shows { IfOk result (λ cnf. ShowsTorus cnf.clauses premise.now (goal_of premise.now goal.now) (periods_of periods shear)) }
 {
-    // This call brings in facts: what the goal reads, and what the gates of its values say.
+    // This call tells the proof what the goal reads, and what the gates of its automata's values say.
     goal_facts(premise, goal);
     let [x, y, z] = periods;
     let torus = Periods { x, y, z, shear };

@@ -1,4 +1,5 @@
-//! The program: its arguments, standard input and output, engines and exit code.
+//! The program: its arguments, standard input and output, engines and exit code. An engine is a value that is asked before a
+//! search, and may propose its result.
 #![tactic(auto)]
 
 use dd_engines::{Engine, Propagator, Roster, Walker};
@@ -11,7 +12,7 @@ use std::{env, io};
 /// The exit code if the arguments can't be read. The codes 0 to 7 are those of `Status`.
 const NO_WORDS: u8 = 8;
 
-/// The most variables that the walker flips each time it is asked.
+/// The most flips that the walker makes each time it is asked. A flip changes the value of one variable.
 const FLIPS: u32 = 10_000;
 
 /// Why the arguments could not be read.
@@ -43,7 +44,7 @@ fn words_of(rt: &HostRuntime) -> Result<Vec<String>, WordsFault> {
     Ok(words)
 }
 
-// Does what the arguments ask for. The roster asks the propagator first, then the walker.
+// Does what the arguments ask for. The roster is the list of engines: the propagator is asked first, then the walker.
 fn run(rt: &HostRuntime, words: &[String]) -> Result<Status, AllocError> {
     let alloc = rt.alloc();
     let mut engines: Vec<Box<dyn Engine>> = Vec::new(alloc);

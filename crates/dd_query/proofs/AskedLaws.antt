@@ -1,4 +1,4 @@
--- A query without a fault is within its bounds.
+-- The numbers and vectors of a query without faults are within their bounds.
 use Rattle.std.proofs.Common.{◌≡◌, ◌<◌, ◌≤◌, ℕ, suc, false, List, [], ◌∷◌, length, map, subst, slice_index, arith, leb-true}
 use Rattle.std.specs.List.{flat_map, list_any, zip}
 use Rattle.dd_query.specs.Tree.{Word, Role, Lists, QueryKind, Request, Context}
@@ -9,7 +9,7 @@ use Rattle.dd_faults.specs.lemmas.Nothing.{both_nil, fits, parts}
 use Rattle.dd_query.specs.{Parts.number_of_word, Parts.word_at, Queries.query_of, Queries.IsQueryWithin}
 use Rattle.dd_query.proofs.{ShapeLaws.value_small, ShapeLaws.strip_is, ShapeLaws.all_close, ShapeLaws.vectors_are, TorusLaws.torus_is}
 
--- each number belongs to something of the role at its index
+-- the number at each index is that of something known that has the role at this index
 abbrev AreThere : Context → List Role → (ℕ → ℕ) → Type 0
 AreThere x [] number = Unit {0}
 AreThere x (r ∷ rs) number = (number 0 < length (named x.known r)) × AreThere x rs (λ i. number (suc i))
@@ -20,7 +20,7 @@ words_there x (r ∷ rs) [] long none = absurd (omega (arith, long))
 words_there x (r ∷ rs) (w ∷ ws) long none = (grind (arith, parts), words_there x rs ws (omega (arith, long)) (both_nil _ _ none).1)
 
 module _ (x : Context) (r : Request) where
-  -- the request r, but of this kind
+  -- the request r with this kind in place of its own
   abbrev asks : QueryKind → Request
   asks k = record r { kind = k }
 

@@ -16,7 +16,7 @@ some_at bytes [] j h = omega arith
 some_at bytes (e ∷ es) zero h = ltb-false (entry_value bytes e) 1 (or_parts _ _ h).0
 some_at bytes (e ∷ es) (suc j) h = some_at bytes es j (or_parts _ _ h).1
 
--- if at most three periods are given, their product is that of the periods along all three axes: the others are 1
+-- if at most three periods are given, their product is that of the periods along all three axes, since those that aren't given are 1
 volume_is : (bytes : List ℕ) (es : List Entry) → length es ≤ 3 → entry_at bytes es 2 * entry_at bytes es 1 * entry_at bytes es 0 ≡ product bytes es
 volume_is bytes [] h = refl
 volume_is bytes (e ∷ []) h = grind (arith, mul_comm)
@@ -47,7 +47,7 @@ torus_is x (v ∷ vs) small nodes none =
       few = rw (volume_is x.text v.entries (omega (arith, all, small))) (ltb-false most_in_box (cells_of x v) short.1);
     }
 
--- no period of a torus is over the limit on its cells
+-- no period of a torus is greater than the limit on the number of its cells
 pub periods_small : (d nodes : ℕ) (along : List ℕ) → 1 ≤ nodes → AreTorusPeriods d nodes (periods_of along 0)
     → (slice_index along 0 ≤ most_in_box) × (slice_index along 1 ≤ most_in_box) × (slice_index along 2 ≤ most_in_box)
 periods_small d nodes along some are =

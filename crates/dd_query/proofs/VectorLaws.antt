@@ -1,4 +1,4 @@
--- If no vector of a discharge repeats, all have different positions.
+-- If no vector of a discharge is given twice, all of them stand for different positions.
 use Rattle.std.proofs.Common.{◌≡◌, ◌≢◌, ◌<◌, ◌≤◌, ℕ, zero, suc, true, false, List, [], ◌∷◌, ◌++◌, length, map, take, get_or, refl, ap, arith, ℤ, AllPairs, codes, nat_lt}
 use Rattle.std.proofs.lemmas.Bool.{or_parts, eqb-true}
 use Rattle.std.proofs.lemmas.List.{get_or-map, get_or-take, length-map, length-take-le}
@@ -30,7 +30,7 @@ same_at bytes u v is (suc zero) below = ap (λ (p : Place). p.y) is
 same_at bytes u v is (suc (suc zero)) below = ap (λ (p : Place). p.z) is
 same_at bytes u v is (suc (suc (suc axis))) below = absurd (omega (arith, below))
 
--- the vector has an entry for each axis, and none is far
+-- the vector has an entry for each axis, and no entry is over 4 in absolute value
 abbrev pub IsGiven : List ℕ → ℕ → Vector → Type 0
 IsGiven bytes d v = (has_entries d v ≡ true) × (is_far bytes v ≡ false)
 

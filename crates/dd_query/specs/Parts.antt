@@ -7,11 +7,11 @@ use Rattle.dd_commands.specs.Table.{row}
 use Rattle.dd_known.specs.{Known.named, Limits.longest_strip}
 use Rattle.dd_faults.specs.{Names.number_in, Commands.period_at}
 
--- a word names a rule, an automaton or a configuration, as its role says: the number of that one among its kind
+-- the number of the rule, automaton or configuration that the word names; the role says which of the three it names
 abbrev pub number_of_word : Context → Role × Word → ℕ
 number_of_word x w = number_in x.text (named x.known w.0) (Name.Word w.1)
 
--- the same for the word at this index; its role stands in the table of queries
+-- the number of what the word at this index names; the table of queries gives the word's role
 abbrev pub word_at : Context → Request → ℕ → ℕ
 word_at x r place = slice_index (map (number_of_word x) (zip (row r.kind).names r.words)) place
 
@@ -19,17 +19,17 @@ word_at x r place = slice_index (map (number_of_word x) (zip (row r.kind).names 
 abbrev pub value_at : Context → Request → ℕ → ℕ
 value_at x r place = option_map_or (written_value x.text) (slice_get r.numbers place) 0
 
--- the periods of a strip along the second and the third axis; 1 for a missing axis
+-- the periods of a strip along the second and the third axis; 1 along an axis for which none is given
 abbrev pub strip_periods : List ℕ → List Vector → List ℕ
 strip_periods bytes [] = 1 ∷ 1 ∷ []
 strip_periods bytes (v ∷ vs) = period_at bytes v 0 ∷ period_at bytes v 1 ∷ []
 
--- the periods of a torus along the three axes; 1 for a missing axis
+-- the periods of a torus along the three axes; 1 along an axis for which none is given
 abbrev pub torus_periods : List ℕ → List Vector → List ℕ
 torus_periods bytes [] = 1 ∷ 1 ∷ 1 ∷ []
 torus_periods bytes (v ∷ vs) = period_at bytes v 0 ∷ period_at bytes v 1 ∷ period_at bytes v 2 ∷ []
 
--- the periods of a strip in d dimensions: each is 1 to `longest_strip`, and along a missing axis it is 1
+-- these may be the periods of a strip in d dimensions: each is from 1 to `longest_strip`, and along an axis past the dimension it is 1
 pub record AreStripPeriods (d : ℕ) (strip : List ℕ) : Type 0 where
   pub second : (1 ≤ slice_index strip 0) × (slice_index strip 0 ≤ longest_strip)
   pub third : (1 ≤ slice_index strip 1) × (slice_index strip 1 ≤ longest_strip)

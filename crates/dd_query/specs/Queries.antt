@@ -26,8 +26,8 @@ query_asked QueryKind.Discharge x r = Query.Discharge (word_at x r 0) (value_at 
 abbrev pub query_of : Context → Request → Query
 query_of x r = query_asked r.kind x r
 
--- Each number of the query is that of a known rule, automaton or configuration. Its periods, radius, margin and vectors are within
--- their bounds. If it asks about images or a conjugacy, there are at least two symbols.
+-- Each rule, automaton and configuration that the query refers to by number is one that the script has defined. The query's periods, radius, margin
+-- and vectors are within their bounds. If the query asks about images or a conjugacy, there are at least two symbols.
 abbrev pub IsQueryWithin : Known → Query → Type 0
 IsQueryWithin k (Query.Member configuration rule) = (configuration < length k.configurations) × (rule < length k.rules)
 IsQueryWithin k (Query.Contains outer inner) = (outer < length k.rules) × (inner < length k.rules)

@@ -1,4 +1,5 @@
-//! The queries of scripts, with numbers in place of the names of rules, automata and configurations.
+//! The queries of scripts, with numbers in place of the names of rules, automata and configurations. A rule's subshift is the set
+//! of the configurations that obey the rule at every cell.
 #![tactic(auto)]
 
 mod parts;

@@ -16,8 +16,7 @@ use dd_values::Items;
 use dd_written::{Name, Text, number_value};
 use std::alloc::{AllocError, Global};
 
-/// The word at the index `place` names a rule, an automaton or a configuration. This is the number of that one among its kind; 0
-/// if there is no such word.
+/// The number of the rule, automaton or configuration that the word at the index `place` names; 0 if there is no such word.
 pub(crate) fn word_at(context: &Context, request: &Request, place: usize) -> u32
     ensures { result ≡ word_at context.now request.now place }
 {
@@ -36,7 +35,7 @@ pub(crate) fn value_at(context: &Context, request: &Request, place: usize) -> u3
     number.map_or(0, |number| number_value(&context.text, *number))
 }
 
-/// The periods of a strip along the second and the third axis; 1 for a missing axis.
+/// The periods of a strip along the second and the third axis; 1 along an axis for which none is given.
 pub(crate) fn strip_of(context: &Context, vectors: &[Vector]) -> [u32; 2]
     requires { AreStripPeriods context.now.known.setting.topology.dimension (strip_periods context.now.text vectors.now) }
     ensures { result ≡ strip_periods context.now.text vectors.now }
@@ -48,7 +47,7 @@ pub(crate) fn strip_of(context: &Context, vectors: &[Vector]) -> [u32; 2]
     }
 }
 
-/// The periods of a torus along the three axes; 1 for a missing axis.
+/// The periods of a torus along the three axes; 1 along an axis for which none is given.
 pub(crate) fn torus_of(context: &Context, vectors: &[Vector]) -> [u32; 3]
     requires nodes { 1 ≤ length context.now.known.setting.nodes }
     requires periods { AreTorusPeriods context.now.known.setting.topology.dimension (length context.now.known.setting.nodes)

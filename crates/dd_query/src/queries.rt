@@ -15,8 +15,8 @@ use dd_lattice::Position;
 use dd_values::Items;
 use std::alloc::{AllocError, Global};
 
-/// A query of a script. Rules are given by their numbers: they are counted from 0, in the order of their definitions. Automata are
-/// counted likewise, and so are configurations.
+/// A query of a script. It refers to rules, automata and configurations by their numbers. Each of these three kinds is numbered
+/// separately, from 0, in the order of the definitions.
 #[derive(Debug, Drop)]
 pub enum Query {
     /// Whether the configuration is in the rule's subshift.
@@ -65,19 +65,19 @@ pub enum Query {
     Minimal {
         rule: u32,
     },
-    /// The least density that the rule allows on a strip. `strip` has its periods along the second and the third axis; along a
-    /// missing axis the period is 1.
+    /// The least density, or weight per position, that the rule allows on a strip. `strip` holds the strip's periods along the
+    /// second and the third axis. Along an axis past the dimension the period is 1.
     Density {
         rule: u32,
         strip: [u32; 2],
     },
-    /// The least weight of a fundamental box, over the configurations of the rule's subshift that have these periods. Along a
-    /// missing axis the period is 1.
+    /// The least weight of a fundamental box, the box that repeats, over the configurations of the rule's subshift that have
+    /// these periods. Along an axis past the dimension the period is 1.
     Least {
         rule: u32,
         periods: [u32; 3],
     },
-    /// The best lower bound on the rule's density by discharging along these vectors, with a radius and a margin.
+    /// The best lower bound on the rule's density that discharging along these vectors gives, with this radius and this margin.
     Discharge {
         rule: u32,
         radius: u32,
@@ -163,7 +163,7 @@ fn asked(alloc: Global, context: &Context, request: &Request) -> Result<Query, A
     })
 }
 
-/// The query with this syntax tree, which has no fault.
+/// The query with this syntax tree, which has no faults.
 pub fn ask(alloc: Global, context: &Context, request: &Request) -> Result<Query, AllocError>
     requires sound { IsSound context.now.known }
     requires written { IsRequest request.now }

@@ -1,4 +1,4 @@
--- A question that is well formed and passes no limit is sound.
+-- A question whose parts fit together and that exceeds no limit is sound.
 use Rattle.std.proofs.Common.{◌≡◌, ℕ, ◌≤◌, Bool, true, false, List, max, refl, ap, sym, subst, ◌∙◌, None}
 use Rattle.std.proofs.lemmas.Bool.{or_parts, ltb-false, false≢true}
 use Rattle.std.specs.Prelude.{◌||◌, nat_lt}

@@ -1,28 +1,29 @@
--- Box questions: how many clauses they take, and when they are sound.
+-- Box questions: how many clauses they take, and when they are sound. A box question has a rule, the premise, and a goal. It asks whether no
+-- configuration that obeys the premise has the goal at any position.
 use Rattle.std.specs.Prelude.{ℕ, Bool, max, nat_lt}
 use Rattle.dd_values.specs.declared.limits.Limits.{Limits}
 use Rattle.dd_formula.specs.{LocalRule.LocalRule, LocalRule.IsRule, Counts.largest_clauses}
 use Rattle.dd_boxes.specs.{Goals.GoalOf, Goals.IsGoalFor, Goals.KeepsRule, Boxes.goal_reach}
 use Rattle.dd_boxes.specs.Counts.{goal_clauses, most_clauses, IsSmallQuestion}
 
--- the clauses of a box question, in the largest box or torus that may be tried
+-- the number of clauses of a box question, on the largest box or torus that a search may try
 abbrev pub clauses_of : Limits → LocalRule → GoalOf → ℕ
 clauses_of l x g = largest_clauses x (goal_clauses g) (max l.radius (goal_reach g)) l.period
 
--- there are too many of them
+-- the box question takes too many clauses
 abbrev pub is_long : Limits → LocalRule → GoalOf → Bool
 is_long l x g = nat_lt most_clauses (clauses_of l x g)
 
--- the parts fit together: the premise is a rule, and the goal fits it
+-- the parts of the box question fit together: the premise is a rule, and the goal fits it
 abbrev pub IsFormedBox : LocalRule → GoalOf → Type 0
 IsFormedBox x g = IsRule x × IsGoalFor x g × KeepsRule g
 
--- the goal fits the premise, and the question takes at most 2,000,000 clauses on the largest box and torus that may be tried
+-- the goal fits the premise, and the question takes at most 2,000,000 clauses on the largest box and torus that a search may try
 pub record IsAskable (l : Limits) (x : LocalRule) (g : GoalOf) : Type 0 where
   pub goal : IsGoalFor x g
   pub rule : KeepsRule g
   pub small : IsSmallQuestion x g l.radius l.period
 
--- a sound box question: its parts fit together, and it passes no limit
+-- the box question is sound: its parts fit together, and it exceeds no limit
 abbrev pub IsSoundBox : Limits → LocalRule → GoalOf → Type 0
 IsSoundBox l x g = IsRule x × IsAskable l x g

@@ -6,36 +6,36 @@ use Rattle.dd_formula.specs.LocalRule.{LocalRule}
 use Rattle.dd_boxes.specs.{Goals.GoalOf, Views.goal_of}
 use Rattle.dd_question.specs.{Boxes.is_long, declared.conjugacy.Conjugacy.Conjugacy}
 
--- Two subshifts, and the goals of four box questions about them. The maps are inverse to each other exactly if no goal holds
--- anywhere.
+-- Two subshifts, and the goals of four box questions about a map from the first to the second and a map back. The maps are inverse to each other
+-- exactly if no goal holds anywhere.
 pub record ConjugacyOf : Type 0 where
   pub from : LocalRule
   pub to : LocalRule
-  -- the goal for the first: the map leads out of the second
+  -- the goal of question 1, whose premise is `from`: the map leads out of the second subshift
   pub image : GoalOf
-  -- the goal for the second: the map back leads out of the first
+  -- the goal of question 2, whose premise is `to`: the map back leads out of the first subshift
   pub image_back : GoalOf
-  -- the goal for the first: the map and then the map back change something
+  -- the goal of question 3, whose premise is `from`: the map, followed by the map back, changes something
   pub round : GoalOf
-  -- the goal for the second: the map back and then the map change something
+  -- the goal of question 4, whose premise is `to`: the map back, followed by the map, changes something
   pub round_back : GoalOf
 
--- the four box questions in order, each by its premise and its goal
+-- the four box questions in order, each as its premise and its goal
 abbrev pub parts : ConjugacyOf → List (LocalRule × GoalOf)
 parts c = (c.from, c.image) ∷ (c.to, c.image_back) ∷ (c.from, c.round) ∷ (c.to, c.round_back) ∷ []
 
--- the question with this number, from 1 on, has this premise and this goal
+-- the question with this number has this premise and this goal; the four questions are numbered from 1
 abbrev pub IsPart : ConjugacyOf → ℕ → LocalRule → GoalOf → Type 0
 IsPart c k x g = (1 ≤ k) × (slice_get (parts c) (k - 1) ≡ Some (x, g))
 
--- a claim about box questions, IsSaid, holds of all four
+-- the claim IsSaid about box questions holds for all four
 pub record EachPart (IsSaid : LocalRule → GoalOf → Type 0) (c : ConjugacyOf) : Type 0 where
   pub image : IsSaid c.from c.image
   pub image_back : IsSaid c.to c.image_back
   pub round : IsSaid c.from c.round
   pub round_back : IsSaid c.to c.round_back
 
--- one of them takes too many clauses
+-- one of the four box questions takes too many clauses
 abbrev pub is_some_long : Limits → ConjugacyOf → Bool
 is_some_long l c = list_any (λ (p : LocalRule × GoalOf). is_long l p.0 p.1) (parts c)
 

@@ -1,10 +1,11 @@
--- Questions for the least density of a strip: how many states and windows its transfer graph has.
+-- Questions for the least density of a strip: how many states and windows its transfer graph has. A state is a filling of successive slices of the
+-- strip. A window has one more slice.
 use Rattle.std.specs.Prelude.{ℕ, ◌*◌, ◌||◌, List, Bool, nat_lt, slice_index}
 use Rattle.dd_formula.specs.LocalRule.{LocalRule}
 use Rattle.dd_counts.specs.Rules.{states, longer_states, most_states, most_longer_states}
 use Rattle.dd_strip.specs.Strips.{IsStrip, HasWeights, IsFew, strip_for}
 
--- a strip whose slices have this many positions has too many states or windows
+-- the transfer graph of a strip whose slices have this many positions has too many states or windows
 abbrev pub has_many_states : LocalRule → ℕ → Bool
 has_many_states x volume = nat_lt most_states (states x volume) || nat_lt most_longer_states (longer_states x volume)
 
@@ -12,7 +13,7 @@ has_many_states x volume = nat_lt most_states (states x volume) || nat_lt most_l
 abbrev pub strip_volume : List ℕ → ℕ
 strip_volume strip = slice_index strip 0 * slice_index strip 1
 
--- a sound question: the strip's transfer graph has few enough states and windows, and each symbol has a weight
+-- the question is sound: these may be the periods of a strip, its transfer graph has few enough states and windows, and each symbol has a weight
 pub record IsNarrow (x : LocalRule) (periods ws : List ℕ) : Type 0 where
   pub strip : IsStrip x periods
   pub weights : HasWeights x ws

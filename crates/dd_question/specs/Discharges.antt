@@ -1,4 +1,5 @@
--- Questions about discharges: which radius, margin, vectors and weights they may have.
+-- Questions about discharges: which radius, margin, vectors and weights they may have. In a discharge, each position first holds its weight, and then
+-- sends an amount along each vector.
 use Rattle.std.specs.Prelude.{ℕ, ◌≤◌, List}
 use Rattle.dd_values.specs.Bounds.{widest_radius}
 use Rattle.dd_lattice.specs.Place.{Place}
@@ -7,14 +8,14 @@ use Rattle.dd_boxes.specs.Discharges.{AreVectors, AreWeightsFor}
 use Rattle.dd_question.specs.declared.fault.QuestionFault.{QuestionFault}
 use Rattle.dd_question.specs.declared.fault.QuestionFault.TheVariants as fault
 
--- The radius, called reach here, the margin, called growth, and the vectors keep their limits, and each symbol has a weight.
+-- The radius, here called `reach`, the margin, here called `growth`, and the vectors are within their limits, and each symbol has a weight.
 pub record IsDischargeable (x : LocalRule) (reach growth : ℕ) (vs : List Place) (ws : List ℕ) : Type 0 where
   pub radius : reach ≤ widest_radius
   pub margin : growth ≤ widest_radius
   pub vectors : AreVectors x.dimension vs
   pub weights : AreWeightsFor x ws
 
--- the fault of the first of these, in this order, that doesn't hold
+-- the fault of the first of these four conditions, in this order, that doesn't hold
 pub data IsDischargeFault (x : LocalRule) (reach growth : ℕ) (vs : List Place) (ws : List ℕ) : QuestionFault → Type 0 where
   radius_fault : ¬ (reach ≤ widest_radius) → IsDischargeFault x reach growth vs ws fault.Radius
   margin_fault : reach ≤ widest_radius → ¬ (growth ≤ widest_radius) → IsDischargeFault x reach growth vs ws fault.Margin

@@ -1,4 +1,5 @@
--- questions about rules: when their parts fit together, which limit they pass, and when they are sound
+-- questions about rules: when their parts fit together, which limit on their work they exceed, and when they are sound (the parts fit together, and
+-- no limit is exceeded)
 pub mod Questions
 -- questions with the limits of their search, and how they are checked
 pub mod Checked
@@ -6,11 +7,11 @@ pub mod Checked
 pub mod Boxes
 -- the four box questions of a conjugacy
 pub mod Conjugacies
--- lists of forbidden patterns
+-- questions for lists of forbidden patterns
 pub mod Lists
--- least densities of strips
+-- questions for the least density of a strip
 pub mod Densities
--- least weights on tori
+-- questions for the least weight on a torus
 pub mod Tori
 -- discharges
 pub mod Discharges

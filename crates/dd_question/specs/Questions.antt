@@ -1,4 +1,4 @@
--- Questions about rules: when their parts fit together, which limit on their work they pass, and when they are sound.
+-- Questions about rules: when their parts fit together, which limit on their work they exceed, and when they are sound.
 use Rattle.std.specs.Prelude.{ℕ, List, Bool, true, false, ◌||◌, Option, Some, None, if◌then◌else◌}
 use Rattle.dd_values.specs.declared.limits.Limits.{Limits}
 use Rattle.dd_lattice.specs.Place.{Place}
@@ -18,27 +18,28 @@ use Rattle.dd_question.specs.declared.question.Question.TheVariants as question
 
 -- A question, as contracts see it. `ws` lists the weights of the symbols, and `vs` the vectors of a discharge.
 pub data Asked : Type 0 where
-  -- does the configuration live in the rule's subshift?
+  -- does the configuration live in the rule's subshift, that is, does it obey the rule at every cell?
   membership : LocalRule → Tile → Asked
-  -- the box question: does no configuration that obeys the rule have the goal at any position?
+  -- The box question: is it true that no configuration that obeys the rule has the goal at any position? A goal is something that may hold at a
+  -- position, such as that another rule is broken there.
   box : LocalRule → GoalOf → Asked
-  -- do the rules allow the same configurations?
+  -- do the same configurations obey both rules?
   equality : LocalRule → LocalRule → Asked
-  -- Which patterns does the rule forbid? A pattern gives symbols to the cells that the rule reads at a node, and the rule is
-  -- false there.
+  -- Which patterns does the rule forbid? Such a pattern gives a symbol to each cell that the rule reads at a node, and makes the rule false there.
   listing : LocalRule → Asked
-  -- Which minimal patterns forbid what the rule forbids? A minimal pattern gives symbols to some of the cells that the rule
-  -- reads at a node. None of them can be left out.
+  -- Which minimal patterns forbid what the rule forbids? A minimal pattern gives symbols to some of the cells that the rule reads at a node. No cell
+  -- can be left out of it.
   smallest : LocalRule → Asked
   -- are two maps between the subshifts of two rules inverse to each other?
   conjugacy : ConjugacyOf → Asked
-  -- what is the least weight per position of a configuration with these periods along the axes after the first?
+  -- what is the least weight per position of a configuration that obeys the rule and has these periods along the axes after the first?
   density : LocalRule → List ℕ → List ℕ → Asked
-  -- what is the least weight of the fundamental box, over the configurations with these periods and no shear?
+  -- what is the least weight of the fundamental box, the box that repeats, over the configurations that obey the rule and have these periods and no
+  -- shear?
   least : LocalRule → List ℕ → List ℕ → Asked
-  -- How much does each position hold at least, after each has sent amounts along these vectors? The pattern around
-  -- a position determines what it sends; the first number is its radius. The second number is the margin: the fillings that
-  -- are looked at reach farther by it.
+  -- What is the best lower bound that a discharge gives? Each position first holds its weight, and then sends an amount along each of the vectors. A
+  -- bound is an amount that each position holds at least after that. The first number is the radius: the pattern within this radius around a position
+  -- determines what it sends. The second number is the margin: the region whose fillings are examined is larger by the margin in every direction.
   discharge : LocalRule → ℕ → ℕ → List Place → List ℕ → Asked
 
 -- the question that a value of the code stands for
@@ -53,7 +54,7 @@ asked_of (question.Density rule strip weights) = density rule.now strip weights.
 asked_of (question.Least rule periods weights) = least rule.now periods weights.now
 asked_of (question.Discharge rule radius margin vectors weights) = discharge rule.now radius margin vectors.now weights.now
 
--- whether the question is one or more box questions, which engines search
+-- whether the question comes down to one or more box questions; for these, engines are asked to propose the outcome of a search
 abbrev pub is_box_question : Asked → Bool
 is_box_question (membership x t) = false
 is_box_question (box x g) = true
@@ -65,7 +66,7 @@ is_box_question (density x strip ws) = false
 is_box_question (least x along ws) = false
 is_box_question (discharge x radius margin vs ws) = false
 
--- its parts fit together
+-- the parts of the question fit together
 abbrev pub IsFormed : Asked → Type 0
 IsFormed (membership x t) = IsRule x × IsTile t × Fits x t × HasAllowed x t
 IsFormed (box x g) = IsFormedBox x g
@@ -77,7 +78,7 @@ IsFormed (density x strip ws) = IsRule x × IsStrip x strip × HasWeights x ws
 IsFormed (least x along ws) = IsRule x × AreTorusPeriods x.dimension x.nodes (periods_of along 0) × HasWeights x ws
 IsFormed (discharge x radius margin vs ws) = IsRule x × IsDischargeable x radius margin vs ws
 
--- the fault of the first of its parts, in this order, that doesn't fit those before it; memory may run out at any of them
+-- the fault of the first part of the question, in this order, that doesn't fit those before it; memory may run out at any part
 pub data IsPartFault : Asked → QuestionFault → Type 0 where
   configuration_fault : {x : LocalRule} {t : Tile} → ¬ Fits x t → IsPartFault (membership x t) fault.Configuration
   symbols_fault : {x : LocalRule} {t : Tile} → Fits x t → ¬ HasAllowed x t → IsPartFault (membership x t) fault.Symbols
@@ -93,11 +94,11 @@ pub data IsPartFault : Asked → QuestionFault → Type 0 where
       IsPartFault (discharge x radius margin vs ws) f
   memory_fault : {a : Asked} → IsPartFault a fault.Memory
 
--- the limit e, if b says that it is passed
+-- the limit e if b is true, which says that the limit is exceeded; otherwise none
 abbrev pub passed : Bool → Excess → Option Excess
 passed b e = if b then Some e else None
 
--- the limit on its work that the question passes, if any
+-- the limit on its work that the question exceeds, if any
 abbrev pub excess_of : Limits → Asked → Option Excess
 excess_of l (membership x t) = None
 excess_of l (box x g) = passed (is_long l x g) excess.Clauses
@@ -109,7 +110,7 @@ excess_of l (density x strip ws) = passed (has_many_states x (strip_volume strip
 excess_of l (least x along ws) = passed (is_heavy x along ws) excess.Clauses
 excess_of l (discharge x radius margin vs ws) = None
 
--- a sound question: its parts fit together, and it passes no limit
+-- the question is sound: its parts fit together, and it exceeds no limit
 abbrev pub IsSoundAsked : Limits → Asked → Type 0
 IsSoundAsked l (membership x t) = IsRule x × IsTile t × Fits x t × HasAllowed x t
 IsSoundAsked l (box x g) = IsSoundBox l x g

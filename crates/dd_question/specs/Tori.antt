@@ -1,4 +1,4 @@
--- Questions for a least weight on a torus: how many clauses they take, and when they are sound. `along` lists the periods.
+-- Questions for a least weight on a torus: how many clauses they take, and when they are sound. `along` lists the periods along the axes.
 use Rattle.std.specs.Prelude.{ℕ, suc, ◌+◌, ◌*◌, ◌≤◌, Bool, List, length, nat_lt}
 use Rattle.dd_pattern.specs.Periods.{periods_of, periods_volume}
 use Rattle.dd_expansion.specs.Limits.{greatest}
@@ -6,26 +6,26 @@ use Rattle.dd_formula.specs.LocalRule.{LocalRule}
 use Rattle.dd_strip.specs.Strips.{HasWeights}
 use Rattle.dd_boxes.specs.{Goals.always, Counts.question_clauses, Counts.most_clauses, TorusPeriods.AreTorusPeriods}
 
--- the number of positions of the fundamental box with these periods and no shear
+-- the number of positions of the fundamental box, the box that repeats, with these periods and no shear
 abbrev pub positions_in : List ℕ → ℕ
 positions_in along = periods_volume (periods_of along 0)
 
--- the number of its cells
+-- the number of cells of the fundamental box
 abbrev pub cells_in : LocalRule → List ℕ → ℕ
 cells_in x along = positions_in along * x.nodes
 
--- How many clauses it takes to ask for a weight. There are the clauses of the torus, and one more. Then there are the
--- clauses of some gates. For each cell, and each weight below the greatest that the fundamental box can have, these are an And
--- gate of two members for each symbol, and an Or gate over all of these.
+-- The number of clauses that ask for a fundamental box of less than the greatest weight that it can have. They are the clauses of the torus, one more
+-- clause, and the clauses of gates. For each cell, and for each weight below that greatest weight, there are an And gate of two members for each
+-- symbol, and an Or gate over all these And gates.
 abbrev pub weight_clauses : LocalRule → List ℕ → List ℕ → ℕ
 weight_clauses x along ws =
     question_clauses x always (positions_in along) + cells_in x along * (cells_in x along * greatest ws * suc (4 * length ws)) + 1
 
--- there are too many of them
+-- the question takes too many clauses
 abbrev pub is_heavy : LocalRule → List ℕ → List ℕ → Bool
 is_heavy x along ws = nat_lt most_clauses (weight_clauses x along ws)
 
--- a sound question: these are periods of a torus, each symbol has a weight, and it takes at most 2,000,000 clauses
+-- the question is sound: these may be the periods of a torus, each symbol has a weight, and it takes at most 2,000,000 clauses
 pub record IsWeighable (x : LocalRule) (along ws : List ℕ) : Type 0 where
   pub torus : AreTorusPeriods x.dimension x.nodes (periods_of along 0)
   pub weights : HasWeights x ws

@@ -1,2 +1,1 @@
-pub mod AllowedLaws
 pub mod PartLaws

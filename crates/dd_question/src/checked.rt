@@ -3,7 +3,7 @@ use crate::question::Question;
 use dd_values::Limits;
 use std::marker::Model;
 
-/// A question whose parts fit together and that passes no limit on its work, with the limits of its search.
+/// A question whose parts fit together and that exceeds no limit on its work, with the limits of its search.
 #[derive(Drop)]
 pub struct CheckedQuestion<'a> {
     question: Question<'a>,
@@ -32,7 +32,8 @@ impl<'a> CheckedQuestion<'a> {
     ghost use Rattle.dd_question.specs.Questions.{asked_of, IsSoundAsked};
     ghost use Rattle.dd_question.specs.Checked.{asked_within, IsChecked};
 
-    /// A question that is known to be sound: its parts fit together, and it passes no limit. It takes no memory.
+    /// Returns the checked question for a question that is known to be sound: its parts fit together, and it exceeds no limit.
+    /// The call takes no memory.
     pub fn known(question: Question<'a>, limits: Limits) -> CheckedQuestion<'a>
         requires limits { AreLimits limits }
         requires sound { IsSoundAsked limits (asked_of question) }

@@ -1,4 +1,5 @@
-//! The check of a question: whether the limits are in range, whether its parts fit together, and whether it asks for too much work.
+//! The check of a question: whether the limits are in range, whether the parts of the question fit together, and whether it asks
+//! for too much work.
 ghost use Rattle.std.specs.Prelude.{◌≡◌, IfOk, IfErr, OnOk};
 ghost use Rattle.dd_question.specs.Questions.{asked_of, IsFormed, IsPartFault};
 ghost use Rattle.dd_question.specs.Checked.{asked_within, IsFaultWithin};
@@ -56,8 +57,8 @@ impl<'a> Question<'a> {
     /// The question, checked within these limits.
     ///
     /// # Errors
-    /// `Limits` if the limits are out of range; else the fault of the first part that doesn't fit those before it;
-    /// else `Excess` if it passes a limit on its work; or `Memory`.
+    /// `Limits` if the limits are out of range; else the fault of the first part that doesn't fit those before it; else `Excess`
+    /// if the question exceeds a limit on its work; or `Memory`.
     #[tactic(auto, using(crate::specs::Checked::limits_fault, crate::specs::Checked::part_fault, crate::specs::Checked::excess_fault, crate::specs::Questions::memory_fault))]
     pub fn check(self, alloc: Global, limits: &Limits) -> Result<CheckedQuestion<'a>, QuestionFault>
         ensures ok { IfOk result (λ question. question ≡ asked_within limits.now (asked_of self.entry)) }
@@ -70,7 +71,7 @@ impl<'a> Question<'a> {
         if let Some(excess) = self.excess(alloc, limits)? {
             return Err(QuestionFault::Excess(excess));
         }
-        // Law: a question whose parts fit together and that passes no limit is sound.
+        // Law: a question whose parts fit together and that exceeds no limit is sound.
         sound_questions();
         Ok(CheckedQuestion::known(self, *limits))
     }

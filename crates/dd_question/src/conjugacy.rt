@@ -8,27 +8,27 @@ ghost use Rattle.dd_question.specs.Conjugacies.{conjugacy_of, IsPart};
 use dd_boxes::Goal;
 use dd_formula::Rule;
 
-/// Two subshifts, and the goals of four box questions about them. The maps are inverse to each other exactly if no goal holds
-/// anywhere.
+/// Two subshifts, and the goals of four box questions about a map from the first to the second and a map back. The maps are
+/// inverse to each other exactly if no goal holds anywhere.
 #[derive(Clone, Copy)]
 pub struct Conjugacy<'a> {
     /// The rule of the first subshift.
     pub from: &'a Rule,
     /// The rule of the second subshift.
     pub to: &'a Rule,
-    /// The goal for the first: the map leads out of the second.
+    /// The goal of question 1, whose premise is `from`: the map leads out of the second subshift.
     pub image: Goal<'a>,
-    /// The goal for the second: the map back leads out of the first.
+    /// The goal of question 2, whose premise is `to`: the map back leads out of the first subshift.
     pub image_back: Goal<'a>,
-    /// The goal for the first: the map and then the map back change something.
+    /// The goal of question 3, whose premise is `from`: the map, followed by the map back, changes something.
     pub round: Goal<'a>,
-    /// The goal for the second: the map back and then the map change something.
+    /// The goal of question 4, whose premise is `to`: the map back, followed by the map, changes something.
     pub round_back: Goal<'a>,
 }
 
 impl<'a> Conjugacy<'a> {
-    /// The premise and the goal of the box question with this number, or `None` where there is none. Question 1 is about
-    /// `image`, 2 about `image_back`, 3 about `round`, and 4 about `round_back`.
+    /// The premise and the goal of the box question with this number, or `None` if there is none. Question 1 is about `image`, 2
+    /// about `image_back`, 3 about `round`, and 4 about `round_back`.
     pub fn part(&self, number: u64) -> Option<(&'a Rule, Goal<'a>)>
         ensures part { IfSome result (λ p. IsPart (conjugacy_of self.now) number p.0.now (goal_of p.0.now p.1)) }
         ensures none { result ≡ None → (x : LocalRule) (g : GoalOf) → ¬ IsPart (conjugacy_of self.now) number x g }

@@ -1,13 +1,14 @@
 //! The limits on the work of a question.
 
-/// The limit on its work that a question passes.
+/// A limit on its work that a question exceeds.
 #[derive(Clone, Copy, Debug, PartialEq, Eq)]
 pub enum Excess {
-    /// More than 2,000,000 clauses. They are counted for the largest box or torus that a search may try; for a least weight, for
-    /// the greatest weight that the fundamental box can have.
+    /// The search needs more than 2,000,000 clauses. For a box question, they are counted for the largest box or torus that a
+    /// search may try. For a least weight, they are counted for the greatest weight that the fundamental box can have.
     Clauses,
-    /// More than 65,536 fillings of the cells that the rule reads at a node. Each may be a pattern.
+    /// At some node, the cells that the rule reads have more than 65,536 fillings. Each of them may be a forbidden pattern.
     Patterns,
-    /// More than 4,096 states of a strip's transfer graph, or more than 131,072 windows, which are one slice longer.
+    /// A strip's transfer graph has more than 4,096 states or more than 131,072 windows. A state is a filling of successive
+    /// slices of the strip, and a window has one more slice.
     States,
 }

@@ -8,8 +8,8 @@ use thiserror::Error;
 /// Why a question does not pass its check.
 #[derive(Debug, Drop, Error)]
 pub enum QuestionFault {
-    /// The limits of the search are out of range: the radius is over 8, the period isn't 1 to 8, or the number of pivots is over
-    /// 100,000.
+    /// The limits of the search are out of range: the radius is over 8, the period is not in the range 1 to 8, or the number of
+    /// pivots is over 100,000.
     #[error("the limits are out of range")]
     Limits,
     /// The configuration has another dimension or another number of nodes than the rule, or a symbol outside the rule's alphabet.
@@ -18,32 +18,34 @@ pub enum QuestionFault {
     /// The configuration has a symbol that its node doesn't allow.
     #[error("the configuration has a symbol that its node doesn't allow")]
     Symbols,
-    /// The goal's rule differs from the premise in its dimension, its number of nodes or its alphabet. Or one of the goal's automata
-    /// isn't well formed over those of the premise.
+    /// The goal's rule differs from the premise in its dimension, its number of nodes or its alphabet. Or one of the goal's
+    /// automata isn't well formed over the dimension, the nodes and the alphabet of the premise.
     #[error("the goal doesn't fit the premise")]
     Goal,
     /// The two rules differ in their dimension, their number of nodes or their alphabet.
     #[error("the rules have not the same dimension, nodes and alphabet")]
     Rules,
-    /// A period of the strip isn't 1 to 64, or isn't 1 past the rule's dimension.
+    /// A period of the strip is not in the range 1 to 64, or it is not 1 along an axis past the rule's dimension.
     #[error("a period of the strip is out of range")]
     Strip,
     /// There isn't one weight of at most 1,000 for each symbol.
     #[error("there isn't one weight of at most 1000 for each symbol")]
     Weights,
-    /// A period of the torus is 0, or isn't 1 past the rule's dimension, or the fundamental box has more than 65,536 cells.
+    /// A period of the torus is 0, or it is not 1 along an axis past the rule's dimension. Or the fundamental box has more than
+    /// 65,536 cells.
     #[error("a period of the torus is out of range")]
     Periods,
-    /// The radius of the patterns is over 3.
+    /// The radius of a discharge is over 3.
     #[error("the radius is over 3")]
     Radius,
-    /// The margin is over 3.
+    /// The margin of a discharge is over 3.
     #[error("the margin is over 3")]
     Margin,
-    /// There aren't 1 to 16 different vectors, each at most 4 along each axis and 0 past the rule's dimension.
+    /// A discharge has no vectors or more than 16, or two of them are equal. Or one of them is over 4 long along an axis, or is
+    /// not 0 along an axis past the rule's dimension.
     #[error("there aren't 1 to 16 different vectors of at most 4 along each axis")]
     Vectors,
-    /// The question passes a limit on its work.
+    /// The question exceeds a limit on its work.
     #[error("the question passes a limit on its work")]
     Excess(Excess),
     /// Memory ran out.

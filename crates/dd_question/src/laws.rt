@@ -1,9 +1,9 @@
-//! A law of questions that pass no limit.
+//! A law of questions that exceed no limit.
 ghost use Rattle.std.specs.Prelude.{◌≡◌, None};
 ghost use Rattle.dd_values.specs.declared.limits.Limits.{Limits};
 ghost use Rattle.dd_question.specs.Questions.{Asked, IsFormed, excess_of, IsSoundAsked};
 
-/// Does nothing; its contract says that a question is sound if its parts fit together and it passes no limit.
+/// Does nothing. Its contract says that a question is sound if its parts fit together and it exceeds no limit.
 pub fn sound_questions()
     ensures { (l : Limits) (a : Asked) → IsFormed a → excess_of l a ≡ None → IsSoundAsked l a }
 {}

@@ -1,5 +1,6 @@
-//! Questions about rules, one variant of `Question` for each kind. `Question::check` tests whether the parts of a question fit
-//! together, and whether it asks for too much work. What passes is a `CheckedQuestion`.
+//! Questions about rules, one variant of `Question` for each kind. A rule is a formula about a cell and the cells near it. Its
+//! subshift is the set of the configurations that obey it at every cell. `Question::check` tests whether the parts of a question
+//! fit together, and whether the question asks for too much work. A question that passes both tests becomes a `CheckedQuestion`.
 #![tactic(auto)]
 
 mod checked;
@@ -16,9 +17,9 @@ mod tori;
 
 pub use checked::CheckedQuestion;
 pub use conjugacy::Conjugacy;
+pub use dd_formula::has_allowed;
 pub use excess::Excess;
 pub use fault::QuestionFault;
 pub use laws::sound_questions;
 pub use measures::MOST_CLAUSES;
-pub use parts::has_allowed;
 pub use question::Question;

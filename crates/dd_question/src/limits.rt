@@ -1,4 +1,4 @@
-//! Which limit on its work a question passes.
+//! Which limit on its work a question exceeds.
 ghost use Rattle.std.specs.Prelude.{◌≡◌, ◌≤◌, IfOk, slice_index};
 ghost use Rattle.dd_boxes.specs.Goals.{IsGoalFor};
 ghost use Rattle.dd_boxes.specs.Views.{goal_of};
@@ -23,7 +23,8 @@ use dd_formula::Rule;
 use dd_values::Limits;
 use std::alloc::{AllocError, Global};
 
-/// Whether the box question of this premise and this goal has too many clauses, in the largest box or torus that may be tried.
+/// Whether the box question with this premise and this goal takes too many clauses, on the largest box or torus that a search may
+/// try.
 fn is_long(alloc: Global, limits: &Limits, premise: &Rule, goal: &Goal) -> Result<bool, AllocError>
     requires limits { AreLimits limits.now }
     requires goal { IsGoalFor premise.now (goal_of premise.now goal.now) }
@@ -41,7 +42,7 @@ fn is_long(alloc: Global, limits: &Limits, premise: &Rule, goal: &Goal) -> Resul
     Ok(clauses > MOST_CLAUSES)
 }
 
-/// Whether one of the four box questions of a conjugacy has too many clauses.
+/// Whether one of the four box questions of a conjugacy takes too many clauses.
 fn is_some_long(alloc: Global, limits: &Limits, c: &Conjugacy) -> Result<bool, AllocError>
     requires limits { AreLimits limits.now }
     requires formed { EachPart IsFormedBox (conjugacy_of c.now) }
@@ -66,7 +67,7 @@ fn has_many_patterns(rule: &Rule) -> bool
     false
 }
 
-/// Whether the transfer graph over a strip has too many states or windows, where each slice has `volume` positions.
+/// Whether the rule's transfer graph over a strip has too many states or windows. Each slice of the strip has `volume` positions.
 fn has_many_states(rule: &Rule, volume: u32) -> bool
     ensures { result ≡ has_many_states rule.now volume }
 {
@@ -84,7 +85,7 @@ fn strip_volume(strip: [u32; 2]) -> u32
 }
 
 impl Question<'_> {
-    /// The limit on its work that the question passes, if any. Box questions are searched within the given limits.
+    /// The limit on its work that the question exceeds, if any. Box questions are searched within the given limits.
     ///
     /// # Errors
     /// `AllocError` if memory runs out.

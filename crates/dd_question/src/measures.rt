@@ -1,4 +1,4 @@
-//! The measure of a goal: how far it reads, and how many clauses it takes.
+//! The measure of a goal: how far it reads, and how many clauses it takes to say that it holds.
 ghost use Rattle.std.specs.Prelude.{IfOk};
 ghost use Rattle.dd_formula.specs.Compositions.{HaveNodes};
 ghost use Rattle.dd_boxes.specs.Goals.{breaks, differ, always, IsGoalFor};
@@ -10,15 +10,15 @@ use dd_counts::{broken_clauses, differ_clauses};
 use dd_formula::{Automaton, Rule};
 use std::alloc::{AllocError, Global};
 
-/// How many clauses a question may take.
+/// The greatest number of clauses that a question may take.
 pub const MOST_CLAUSES: u32 = 2_000_000;
 
 /// The measure of a goal.
 #[derive(Clone, Copy)]
 pub(crate) struct Measure {
-    /// How far the goal reads from the origin, along an axis.
+    /// How far from the origin the goal reads, along any axis.
     pub(crate) radius: u32,
-    /// How many clauses the goal takes, cut off past the limit.
+    /// How many clauses it takes to say that the goal holds, or `MOST_CLAUSES + 1` if there are more than `MOST_CLAUSES`.
     pub(crate) clauses: u32,
 }
 

@@ -4,7 +4,6 @@ ghost use Rattle.dd_values.specs.Bounds.{most_weight};
 ghost use Rattle.dd_expansion.specs.Placed.{is_flat};
 ghost use Rattle.dd_formula.specs.LocalRule.{IsRule};
 ghost use Rattle.dd_formula.specs.Living.{Fits};
-ghost use Rattle.dd_formula.specs.Allowed.{HasAllowed};
 ghost use Rattle.dd_strip.specs.Strips.{IsStrip, HasWeights};
 ghost use Rattle.dd_boxes.specs.Goals.{AreAlike, AreOver, IsGoalFor, KeepsRule};
 ghost use Rattle.dd_boxes.specs.Discharges.{IsVector, AreVectors, AreWeightsFor};
@@ -18,7 +17,7 @@ use crate::conjugacy::Conjugacy;
 use crate::fault::QuestionFault;
 use dd_boxes::Goal;
 use dd_formed::{CommonNumbers, is_automaton};
-use dd_formula::{Automaton, Rule};
+use dd_formula::{Automaton, Rule, fits, has_allowed};
 use dd_lattice::Position;
 use dd_pattern::Periodic;
 use dd_values::{MOST_WEIGHT, WIDEST_RADIUS};
@@ -32,37 +31,6 @@ const MOST_VECTORS: usize = 16;
 
 /// How long a vector of a discharge may be along each axis.
 const FARTHEST: u32 = 4;
-
-/// Whether each symbol is below the limit.
-fn are_below(symbols: &[u32], limit: u32) -> bool
-    ensures { IsTrue result ↔ All (λ s. s < limit) symbols.now }
-{
-    symbols.iter().all(|&symbol| symbol < limit)
-}
-
-/// Whether the configuration has the rule's dimension, its number of nodes, and symbols of its alphabet.
-fn fits(rule: &Rule, configuration: &Periodic) -> bool
-    ensures { IsTrue result ↔ Fits rule.now configuration.now }
-{
-    configuration.dim() == rule.dim()
-        && configuration.nodes() == rule.nodes()
-        && are_below(configuration.symbols(), rule.symbols())
-}
-
-/// Whether each symbol of the configuration is one that its node allows.
-pub fn has_allowed(rule: &Rule, configuration: &Periodic) -> bool
-    requires { Fits rule.now configuration.now }
-    ensures { IsTrue result ↔ HasAllowed rule.now configuration.now }
-{
-    let symbols = configuration.symbols();
-    for number in 0..symbols.len() {
-        let cell = configuration.cell_at(number);
-        if !rule.allows(cell.node, symbols[number]) {
-            return false;
-        }
-    }
-    true
-}
 
 /// Tests the parts of a membership question.
 #[tactic(auto, using(crate::specs::Questions::configuration_fault, crate::specs::Questions::symbols_fault))]
@@ -163,7 +131,7 @@ pub(crate) fn check_equality(left: &Rule, right: &Rule) -> Result<(), QuestionFa
     Ok(())
 }
 
-/// Whether these are periods of a strip of the rule's dimension.
+/// Whether these may be the periods of a strip of the rule's dimension.
 fn is_strip(rule: &Rule, periods: [u32; 2]) -> bool
     ensures { IsTrue result ↔ IsStrip rule.now periods }
 {
@@ -243,7 +211,7 @@ fn is_among(vector: &Position, others: &[Position]) -> bool
     others.iter().any(|other| vector.cmp(other).is_eq())
 }
 
-/// Whether no vector comes again later in the list.
+/// Whether no vector occurs twice in the list.
 fn are_apart(vectors: &[Position]) -> bool
     ensures { result ≡ are_apart vectors.now }
 {
@@ -253,7 +221,7 @@ fn are_apart(vectors: &[Position]) -> bool
     }
 }
 
-/// Whether each of the vectors is one along which amounts may be sent.
+/// Whether amounts may be sent along each of the vectors.
 fn are_short(dimension: u32, vectors: &[Position]) -> bool
     ensures { IsTrue result ↔ All (IsVector dimension) vectors.now }
 {

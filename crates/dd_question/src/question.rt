@@ -5,31 +5,32 @@ use dd_formula::Rule;
 use dd_lattice::Position;
 use dd_pattern::Periodic;
 
-/// A question about rules. In its `weights`, the symbol `s` weighs `weights[s]`.
+/// A question about rules. If it has `weights`, the symbol `s` weighs `weights[s]`.
 #[derive(Clone, Copy)]
 pub enum Question<'a> {
-    /// Does the configuration live in the rule's subshift?
+    /// Does the configuration live in the rule's subshift, that is, does it obey the rule at every cell?
     Membership {
         rule: &'a Rule,
         configuration: &'a Periodic,
     },
-    /// The box question: does no configuration that obeys the premise have the goal at any position?
+    /// The box question: is it true that no configuration that obeys the rule `premise` has the goal at any position? A goal is
+    /// something that may hold at a position, such as that another rule is broken there.
     Box {
         premise: &'a Rule,
         goal: Goal<'a>,
     },
-    /// Do the rules allow the same configurations? Then no configuration of either rule breaks the other.
+    /// Do the same configurations obey both rules? If so, no configuration that obeys one of the rules breaks the other.
     Equality {
         left: &'a Rule,
         right: &'a Rule,
     },
-    /// Which patterns does the rule forbid? A pattern gives symbols to the cells that the rule reads at a node, and the rule is
-    /// false there.
+    /// Which patterns does the rule forbid? Such a pattern gives a symbol to each cell that the rule reads at a node, and makes
+    /// the rule false there.
     Listing {
         rule: &'a Rule,
     },
     /// Which minimal patterns forbid what the rule forbids? A minimal pattern gives symbols to some of the cells that the rule
-    /// reads at a node. None of them can be left out. `dd_minimal` says which list of them is the answer.
+    /// reads at a node. No cell can be left out of it. `dd_minimal` says which list of minimal patterns is the answer.
     Smallest {
         rule: &'a Rule,
     },
@@ -37,22 +38,24 @@ pub enum Question<'a> {
     Conjugacy {
         conjugacy: Conjugacy<'a>,
     },
-    /// What is the least density: the least weight per position of a configuration on the strip? `strip` holds its periods along
-    /// the second and the third axis.
+    /// What is the least density, that is, the least weight per position of a configuration on the strip that obeys the rule? A
+    /// configuration on the strip repeats along the second and the third axis. `strip` holds these two periods.
     Density {
         rule: &'a Rule,
         strip: [u32; 2],
         weights: &'a [u32],
     },
-    /// What is the least weight of the fundamental box, over the configurations with these periods and no shear?
+    /// What is the least weight of the fundamental box, the box that repeats, over the configurations that obey the rule and
+    /// repeat with these periods along the axes, without a shear?
     Least {
         rule: &'a Rule,
         periods: [u32; 3],
         weights: &'a [u32],
     },
-    /// What is the best bound of a discharge: how much does each position hold at least, after each has sent amounts along these
-    /// vectors? The pattern within `radius` around a position determines what it sends. The fillings that are looked at reach
-    /// farther by `margin`.
+    /// What is the best lower bound that a discharge gives? In a discharge, each position first holds its weight, and then sends
+    /// an amount along each of the vectors. The pattern within `radius` around a position determines what it sends. A bound is an
+    /// amount that each position holds at least after that. The region whose fillings are examined is larger by `margin` in every
+    /// direction.
     Discharge {
         rule: &'a Rule,
         radius: u32,

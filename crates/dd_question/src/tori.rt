@@ -19,7 +19,7 @@ use dd_formula::{Rule, plus, times};
 /// How many cells a fundamental box may have.
 const MOST_CELLS: u32 = 65_536;
 
-/// The number of positions of the fundamental box, or `limit + 1` where it is greater than the limit. The limit is below 2^31.
+/// The number of positions of the fundamental box, or `limit + 1` if it is greater than `limit`. The limit is below 2^31.
 fn positions_in(limit: u32, periods: [u32; 3]) -> u32
     requires { limit < 2 ^ 31 }
     ensures { result ≡ cut limit (positions_in periods) }
@@ -28,7 +28,7 @@ fn positions_in(limit: u32, periods: [u32; 3]) -> u32
     times(limit, times(limit, z, y), x)
 }
 
-/// The number of cells of the fundamental box, or `limit + 1` where it is greater than the limit.
+/// The number of cells of the fundamental box, or `limit + 1` if it is greater than `limit`.
 fn cells_in(limit: u32, rule: &Rule, periods: [u32; 3]) -> u32
     requires { limit < 2 ^ 31 }
     ensures { result ≡ cut limit (cells_in rule.now periods) }
@@ -36,7 +36,7 @@ fn cells_in(limit: u32, rule: &Rule, periods: [u32; 3]) -> u32
     times(limit, positions_in(limit, periods), rule.nodes())
 }
 
-/// Whether these are periods of a torus of this dimension.
+/// Whether these may be the periods of a torus of this dimension.
 fn are_periods(dimension: u32, periods: [u32; 3]) -> bool
     ensures { IsTrue result ↔ ArePeriodsIn dimension (periods_of periods 0) }
 {
@@ -44,7 +44,7 @@ fn are_periods(dimension: u32, periods: [u32; 3]) -> bool
     1 <= x && 1 <= y && 1 <= z && (2 <= dimension || y == 1) && (3 <= dimension || z == 1)
 }
 
-/// Whether these are periods of a torus for the rule: the fundamental box has few enough cells.
+/// Whether a question about the rule may name a torus with these periods. The fundamental box must have few enough cells.
 fn is_torus(rule: &Rule, periods: [u32; 3]) -> bool
     ensures { IsTrue result ↔ AreTorusPeriods rule.now.dimension rule.now.nodes (periods_of periods 0) }
 {
@@ -72,7 +72,7 @@ pub(crate) fn check_least(
     Ok(())
 }
 
-/// The greatest weight; 0 where there is none.
+/// The greatest weight, or 0 if there are no weights.
 fn greatest(weights: &[u32]) -> u32
     ensures { result ≡ greatest weights.now }
 {
@@ -82,7 +82,8 @@ fn greatest(weights: &[u32]) -> u32
     }
 }
 
-/// How many clauses it takes to ask for a weight below the greatest that the fundamental box can have; cut off past 2,000,000.
+/// The number of clauses that ask for a fundamental box of less than the greatest weight that it can have; or 2,000,001 if there
+/// are more than 2,000,000.
 fn weight_clauses(rule: &Rule, periods: [u32; 3], weights: &[u32]) -> u32
     requires { length weights.now ≡ rule.now.symbols }
     ensures { result ≡ cut most_clauses (weight_clauses rule.now periods weights.now) }

@@ -1,5 +1,4 @@
--- Two right answers to a question differ only in their evidence: there is one least radius, and the first periods and the
--- first cell are unique.
+-- Two right answers to a question differ only in their evidence: the least radius, the first periods and the first cell are unique.
 use Rattle.std.proofs.Common.{◌≡◌, ℕ, ◌≤◌, List, [], ◌∷◌, refl, ap, sym, subst, ◌∙◌, arith, inl, inr}
 use Rattle.std.proofs.lemmas.{Bool.cases_order, Cmp.nat_cmp_total, Cmp.on_total, Cmp.then_total}
 use Rattle.std.specs.{Prelude.◌⊎◌, Prelude.max, declared.cmp.Ordering.Ordering}
@@ -32,7 +31,7 @@ use Rattle.dd_certificate.specs.declared.answer.Reason.TheVariants as reason
 use Rattle.dd_contain.specs.declared.decision.Decision.TheVariants as decision
 use Rattle.dd_question.specs.Questions as asked
 
--- ---- there is only one least number and only one first period
+-- ---- the least number and the first periods are unique
 
 least_one : (S : ℕ → Type 0) (low high n m : ℕ) → IsLeast S low high n → IsLeast S low high m → n ≡ m
 least_one S low high n m one other = elim (cases_order n m) [
@@ -51,7 +50,7 @@ periods_total =
     (on_total (λ (p : Periods). p.z) nat_cmp_total))
     (on_total (λ (p : Periods). p.shear) nat_cmp_total)
 
--- of two periods one comes before the other, or they are the same
+-- one of p and q comes before the other, or they are the same
 in_order : (p q : Periods) → IsBefore p q ⊎ (IsBefore q p ⊎ (p ≡ q))
 in_order p q = cases (periods_cmp p q) refl where
   cases : (o : Ordering) → periods_cmp p q ≡ o → IsBefore p q ⊎ (IsBefore q p ⊎ (p ≡ q))
@@ -109,7 +108,7 @@ decided_alike x g n p d e h k =
     one_decision x g h.0 (max n h.0) p d e h.2
     (subst (λ l. IsDecidedBy (Suffices x g) (λ k steps. IsRefuting (box_problem x g k) steps) (ShowsAt x g) (Displays x g) l (max n l) x.dimension p e) same k.2)
 
--- ---- the answers of box questions
+-- ---- the answers to box questions
 
 decision_line : (number : ℕ) (d : Decision) → answer_line number (written_decision d) ≡ answer_line number (written_decision (bare d))
 decision_line number (decision.Yes n steps) = refl
@@ -135,7 +134,7 @@ box_agree l x g a b h k =
           ∙ (sym (decision_unknown k.decision) ∙ sym (ap is_unknown k.written))));
     }
 
--- ---- the answers of questions of equality
+-- ---- the answers to questions about equality
 
 joined_line : (number : ℕ) (l r : Decision) → answer_line number (written_equality (joined l r)) ≡ answer_line number (written_equality (joined (bare l) (bare r)))
 joined_line number (decision.No t) r = refl
@@ -201,10 +200,10 @@ equal_agree l x y a b h k =
           ∙ (sym (joined_unknown other.left other.right) ∙ sym (ap is_unknown b_is))));
     }
 
--- ---- the answers of conjugacies
+-- ---- the answers to questions about conjugacies
 
 module _ (l : Limits) (c : ConjugacyOf) where
-  -- two decisions of a question are of the same kind, with the same radius or the same periods
+  -- two right decisions of a question are of the same kind, with the same radius or the same periods
   comes_alike : (k : ℕ) (d e : Decision) → ComesTo l c k d → ComesTo l c k e → bare d ≡ bare e
   comes_alike k d e h m =
       let same : ◌≡◌ {A = LocalRule × GoalOf} (m.premise, m.goal) (h.premise, h.goal) = cc (h.is_part.1, m.is_part.1) in
@@ -223,7 +222,7 @@ module _ (l : Limits) (c : ConjugacyOf) where
   one_radius : (k n m : ℕ) (s t : List Step) → ComesTo l c k (decision.Yes n s) → ComesTo l c k (decision.Yes m t) → n ≡ m
   one_radius k n m s t h i = let same : decision.Yes n [] ≡ decision.Yes m [] = comes_alike k _ _ h i in cc same
 
-  -- the answer if a question is answered NO
+  -- the answer BROKEN if the decision of the question with the number k is NO; any other decision gives UNKNOWN
   abbrev broken_by : ℕ → Decision → Answer
   broken_by k (decision.Yes n s) = answer.Unknown reason.Limits
   broken_by k (decision.No t) = written_broken k t

@@ -1,4 +1,4 @@
--- What follows for any answer, and which questions ask no engine.
+-- How a call changes the roster, if the engines are asked and if none are.
 use Rattle.std.proofs.{Common.List, Common.true, Common.false, Common.refl, lemmas.Bool.false≢true}
 use Rattle.std.specs.Prelude.{IsTrue}
 use Rattle.dd_engines.specs.Rounds.{Seen, FirstAsked}

@@ -1,4 +1,4 @@
--- From the answers of the four questions of a conjugacy to its answer.
+-- The answers to the four questions of a conjugacy give the answer about the conjugacy.
 use Rattle.std.proofs.Common.{◌≡◌, ℕ, ◌+◌, ◌≤◌, ◌<◌, Bool, true, false, List, [], ◌∷◌, ◌++◌, length, All, refl, sym, subst, ◌∙◌, arith, add-one, inl, inr}
 use Rattle.std.proofs.lemmas.Bool.{cases_lt, false≢true}
 use Rattle.std.proofs.lemmas.List.Elements.{All-nil, All-cons, All-append}
@@ -13,11 +13,11 @@ use Rattle.dd_respond.specs.joining.Findings.{AreYes, none_yet, one_more, AreFou
 use Rattle.dd_respond.proofs.AgreeLaws.{yes_not_no, unknown_not_no}
 use Rattle.dd_contain.specs.declared.decision.Decision.TheVariants as decision
 
--- if all items have a property, and one more has it, so have all of the longer list
+-- if all items of a list have a property, and one more item has it, then all items of the longer list have it
 all_more : {A : Type 0} (P : A → Type 0) (xs : List A) (x : A) → All P xs → P x → All P (xs ++ x ∷ [])
 all_more P xs x all one = All-append P xs (x ∷ []) all (All-cons P x [] one (All-nil P))
 
--- if no number below k has a property, and k doesn't have it, no number below k + 1 has it
+-- if none of the numbers 1 to `number` - 1 has a property, and `number` doesn't have it, then none of the numbers 1 to `number` has it
 none_more : (P : ℕ → Type 0) (number : ℕ) → ((k : ℕ) → 1 ≤ k → k < number → P k → ⊥) → (P number → ⊥) → (k : ℕ) → 1 ≤ k → k < number + 1 → P k → ⊥
 none_more P number none never k low below holds = elim (cases_lt k number) [
   | inl before ↦ none k low before holds
@@ -58,7 +58,7 @@ module _ (l : Limits) (c : ConjugacyOf) where
       IsFailed l c (record { number = number; periodic = t })
   no_failed number f t low high found is = record { first = record { low = low; high = high; holds = (t, is); first = found.none }; no = is }
 
-  -- ---- the answer
+  -- ---- the answer about the conjugacy
 
   yes_right : (f : Findings) (ns : List ℕ) (ss : List (List Step)) → AreYes l c 5 ns ss → f.radii ≡ ns → f.steps ≡ ss → f.is_open ≡ false →
       IsRightConjugacy l c (written_findings f)

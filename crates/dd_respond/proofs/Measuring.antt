@@ -1,4 +1,4 @@
--- Answers about least densities and discharging: they are right, an output can hold them, and they have one first line.
+-- The answers about least densities and discharging are right, and an output can hold them. All right answers to a question have the same first line.
 use Rattle.std.proofs.Common.{◌≡◌, ℕ, ◌+◌, ◌*◌, ◌≤◌, List, refl, ap, arith, ℤ, inl, inr}
 use Rattle.std.proofs.Math.Nat.{one-le-pow}
 use Rattle.std.specs.Int.{IsGcd}
@@ -36,7 +36,7 @@ density_right least empty x strip ws rule narrow (density.Least p q walk potenti
 density_right least empty x strip ws rule narrow (density.Empty ranks) h =
     right_empty (empty x strip ranks rule narrow h).nowhere h
 
--- a transfer graph has a state
+-- a transfer graph has at least one state
 some_state : (x : LocalRule) (s : Strip) → IsRule x → 1 ≤ states x (positions s)
 some_state x s rule =
     one-le-pow (state_length x) (slices x (positions s)) (one-le-pow (x.nodes * positions s) x.symbols rule.symbols.0)
@@ -91,7 +91,7 @@ module _ (x : LocalRule) (radius margin : ℕ) (vs : List Place) (ws : List ℕ)
   reason_right f r h for_pivots = used_up h
 
   module _ (one : HasOneOutcome x ws radius margin vs pivots) where
-    -- there is only one right answer
+    -- a question about discharging has only one right answer
     one_answer : (a b : Answer) → IsRightDischarge x radius margin vs ws pivots a → IsRightDischarge x radius margin vs ws pivots b → a ≡ b
     one_answer a b (right_bound h c) (right_bound k d) = ap written_bound (one.one_bound _ _ h k)
     one_answer a b (right_bound h c) (is_large k) = absurd (one.not_large _ h k)

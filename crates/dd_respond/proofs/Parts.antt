@@ -4,7 +4,7 @@ use Rattle.dd_formula.specs.LocalRule.{LocalRule}
 use Rattle.dd_boxes.specs.Goals.{GoalOf}
 use Rattle.dd_question.specs.{Conjugacies.ConjugacyOf, Conjugacies.IsPart, Conjugacies.EachPart, lemmas.PartLaws.part_within}
 
--- what holds of 1, 2, 3 and 4 holds of the number k of a question
+-- what holds of 1, 2, 3 and 4 holds of each k from 1 to 4
 pub at_each : (P : ℕ → Type 0) (k : ℕ) → 1 ≤ k → k ≤ 4 → P 1 → P 2 → P 3 → P 4 → P k
 at_each P zero low high one two three four = absurd (omega (arith, low))
 at_each P (suc zero) low high one two three four = one

@@ -1,4 +1,5 @@
--- Answers about the least weight of a fundamental box: they are right, an output can hold them, and they have one first line.
+-- The answers about the least weight of a fundamental box are right, and an output can hold them. All right answers to a question have the same first
+-- line.
 use Rattle.std.proofs.Common.{◌≡◌, ℕ, suc, ◌+◌, ◌*◌, ◌≤◌, true, List, length, refl, ap, arith, inl, inr}
 use Rattle.std.proofs.lemmas.{Nat.mul-le, Bool.cases_lt}
 use Rattle.dd_values.specs.Bounds.{most_variables}
@@ -42,13 +43,13 @@ least_right x along ws (least.Nothing steps) h = has_none h.0 h.1.refuting
 
 -- ---- an output can hold the answer
 
--- an output can hold the steps of refutations with few variables
+-- an output can hold the steps of a refutation, if its variables, clauses and steps are few enough
 abbrev RefutationsFit : Type 0
 RefutationsFit =
     (n : ℕ) (clauses : List (List Literal)) (steps : List Step) → refutes n clauses steps ≡ true → n ≤ most_variables →
     length clauses + length steps ≤ most_count → IsWritableRefutation steps
 
--- the size of a torus's clauses bounds the greatest weight of its configurations
+-- the limit on the number of a torus's clauses bounds the greatest weight of its configurations
 weight_small : (cells weight rest : ℕ) → 1 ≤ cells → cells * (weight * suc rest) ≤ 2000000 → weight ≤ 2000000
 weight_small cells weight rest some few =
     let one = mul-le 1 (weight * suc rest) cells (weight * suc rest) some (omega arith) in

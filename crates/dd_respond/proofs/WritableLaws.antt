@@ -1,4 +1,4 @@
--- An output can hold each right answer to a box question: its steps are those of a refutation.
+-- An output can hold each decision of a box question and each decision about an equality: the steps of a YES are a refutation.
 use Rattle.std.proofs.Common.{◌≡◌, ℕ, ◌+◌, ◌≤◌, true, List, length, sym, subst}
 use Rattle.dd_values.specs.Bounds.{most_variables}
 use Rattle.dd_clause.specs.declared.clause.Literal.{Literal}
@@ -13,7 +13,7 @@ use Rattle.dd_contain.specs.Equal.{joined, UnlessNo, IsEqualDecided, HasBothNumb
 use Rattle.dd_respond.specs.Writable.{IsWritableDecision, IsWritableEquality}
 use Rattle.dd_contain.specs.declared.decision.Decision.TheVariants as decision
 
--- an output can hold the steps of refutations with few variables
+-- an output can hold the steps of a refutation, if its variables, clauses and steps are few enough
 abbrev RefutationsFit : Type 0
 RefutationsFit =
     (n : ℕ) (clauses : List (List Literal)) (steps : List Step) → refutes n clauses steps ≡ true → n ≤ most_variables →

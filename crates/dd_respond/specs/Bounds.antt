@@ -16,12 +16,12 @@ use Rattle.dd_certificate.specs.declared.answer.Answer.TheVariants as answer
 
 -- ---- least densities
 
--- the answer that a least density gives, or the one that says that no configuration lives on the strip
+-- the answer that the outcome gives: a least density, or that no configuration lives on the strip
 abbrev pub written_density : Density → Answer
 written_density (density.Least p q walk potentials) = answer.Density p q walk potentials
 written_density (density.Empty ranks) = answer.Empty ranks
 
--- The right answer is the least density, or that no configuration lives on the strip, with its evidence. It is never UNKNOWN.
+-- A right answer gives the least density, or says that no configuration lives on the strip. Both come with evidence. It is never UNKNOWN.
 pub data IsRightDensity (x : LocalRule) (strip ws : List ℕ) : Answer → Type 0 where
   right_least : {p q : ℕ} {cycle : List ℕ} {potentials : List ℤ} → IsLeastDensity x (strip_for x strip) ws p q →
       IsDensityCertificate x (strip_for x strip) ws p q cycle potentials → IsRightDensity x strip ws (answer.Density p q cycle potentials)
@@ -33,14 +33,14 @@ pub data IsRightDensity (x : LocalRule) (strip ws : List ℕ) : Answer → Type 
 abbrev pub written_bound : Bound → Answer
 written_bound b = answer.Bound b.numerator b.denominator b.common b.amounts b.duals
 
--- the reason that the answer gives for each fault of a discharge, except when memory ran out
+-- the reason that UNKNOWN gives for each fault of a discharge; lack of memory has none
 pub data IsReasonOf : DischargeFault → Reason → Type 0 where
   for_large : IsReasonOf fault.Large reason.Large
   for_overflow : IsReasonOf fault.Overflow reason.Overflow
   for_pivots : IsReasonOf fault.Pivots reason.Pivots
 
--- The right answer is the bound with which the run of the linear program ends, with evidence that it is the best. If there is
--- none, it is UNKNOWN with the reason.
+-- If the run of the linear program ends with a bound, a right answer gives this bound, with evidence that it is the best. Otherwise a right answer is
+-- UNKNOWN with the reason.
 pub data IsRightDischarge (x : LocalRule) (radius margin : ℕ) (vs : List Place) (ws : List ℕ) (pivots : ℕ) : Answer → Type 0 where
   right_bound : {p q n : ℕ} {amounts duals : List ℕ} → IsBoundOf x ws radius margin vs pivots (bound_claimed p q n amounts duals) →
       IsBoundCertificate x ws radius margin vs (bound_claimed p q n amounts duals) → IsRightDischarge x radius margin vs ws pivots (answer.Bound p q n amounts duals)

@@ -1,4 +1,4 @@
--- Which answers about conjugacies are right. A conjugacy comes down to four questions, which are numbered from 1.
+-- Which answers about conjugacies are right. A conjugacy comes down to four box questions, which are numbered from 1.
 use Rattle.std.specs.Prelude.{ℕ, List, [], ◌∷◌}
 use Rattle.dd_derivation.specs.declared.step.Step.{Step}
 use Rattle.dd_pattern.specs.Tile.{Tile}
@@ -20,7 +20,7 @@ pub record ComesTo (l : Limits) (c : ConjugacyOf) (k : ℕ) (d : Decision) : Typ
   pub is_part : IsPart c k premise goal
   pub decided : IsDecided premise goal l.radius l.period d
 
--- the question is answered NO, with some configuration
+-- the question with the number k is answered NO, with some configuration
 abbrev pub IsNoAt : Limits → ConjugacyOf → ℕ → Type 0
 IsNoAt l c k = (t : Tile) × ComesTo l c k (decision.No t)
 
@@ -28,8 +28,8 @@ IsNoAt l c k = (t : Tile) × ComesTo l c k (decision.No t)
 abbrev pub written_broken : ℕ → Tile → Answer
 written_broken k t = answer.Broken k (written_periods t) t.periods.shear t.symbols
 
--- The right answer is BROKEN, by the first of the four questions that is answered NO. Questions after it don't count. If none is
--- answered NO, the right answer is CONJUGATE if all are answered YES, and else UNKNOWN.
+-- If one of the four questions is answered NO, a right answer is BROKEN. It has the number of the first such question, and a configuration that shows
+-- this NO. The questions after it don't matter. If all four are answered YES, a right answer is CONJUGATE. Otherwise it is UNKNOWN.
 pub data IsRightConjugacy (l : Limits) (c : ConjugacyOf) : Answer → Type 0 where
   first_no : {k : ℕ} {t : Tile} → IsLeast (IsNoAt l c) 1 4 k → ComesTo l c k (decision.No t) →
       IsRightConjugacy l c (written_broken k t)

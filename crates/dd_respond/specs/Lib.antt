@@ -1,4 +1,4 @@
--- which answers are right
+-- which answers to questions are right
 pub mod Right
 -- which answers about least densities and discharging are right
 pub mod Bounds
@@ -12,5 +12,5 @@ pub mod joining
 pub mod Laws
 -- which decisions an output can hold
 pub mod Writable
--- which questions ask engines, and what this does to the roster
+-- for which questions engines are asked, and how this changes the roster, the list of engines
 pub mod Asking

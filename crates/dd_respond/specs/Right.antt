@@ -1,4 +1,5 @@
--- Which answers are right.
+-- Which answers to questions are right. A box question has a rule, the premise, and a goal: a property of a position, such as that another rule is
+-- broken there. It asks whether the goal holds nowhere in any configuration that obeys the premise.
 use Rattle.std.specs.{Prelude.◌≡◌, Prelude.Bool, Prelude.nat_eq, Prelude.codes, List.starts_with}
 use Rattle.dd_pattern.specs.Tile.{Tile}
 use Rattle.dd_formula.specs.LocalRule.{LocalRule}
@@ -30,24 +31,24 @@ written_decision (decision.Yes n steps) = answer.Yes n steps
 written_decision (decision.No t) = written_no side.Whole t
 written_decision decision.Unknown = answer.Unknown reason.Limits
 
--- the side in the answer about an equality
+-- the side that an answer names for this half of an equality
 abbrev pub side_of : Half → Side
 side_of half.Left = side.Left
 side_of half.Right = side.Right
 
--- the answer that the decision of an equality gives
+-- the answer that the decision about an equality gives
 abbrev pub written_equality : Equality → Answer
 written_equality (equal.Yes left right) = answer.YesBoth left.radius right.radius left.steps right.steps
 written_equality (equal.No h t) = written_no (side_of h) t
 written_equality equal.Unknown = answer.Unknown reason.Limits
 
--- the right answer to the box question with this premise and this goal, within the limits
+-- the answer is a right one to the box question with the premise x and the goal g, within the limits
 pub record IsRightBox (l : Limits) (x : LocalRule) (g : GoalOf) (a : Answer) : Type 0 where
   pub decision : Decision
   pub decided : IsDecided x g l.radius l.period decision
   pub written : a ≡ written_decision decision
 
--- the right answer to a question of equality, within the limits
+-- the answer is a right one to the question whether x and y allow the same configurations, within the limits
 pub record IsRightEqual (l : Limits) (x y : LocalRule) (a : Answer) : Type 0 where
   pub decision : Equality
   pub decided : IsEqualDecided x y l.radius l.period decision
@@ -55,7 +56,7 @@ pub record IsRightEqual (l : Limits) (x y : LocalRule) (a : Answer) : Type 0 whe
 
 -- ---- all questions
 
--- the answer is right within these limits
+-- the answer is a right one to the question, within these limits
 abbrev pub IsRightTo : Limits → Asked → Answer → Type 0
 IsRightTo l (asked.membership x t) a = IsMemberCertificate x t a
 IsRightTo l (asked.box x g) a = IsRightBox l x g a
@@ -67,12 +68,12 @@ IsRightTo l (asked.smallest x) a = IsMinimalCertificate x a
 IsRightTo l (asked.conjugacy c) a = IsRightConjugacy l c a
 IsRightTo l (asked.least x along ws) a = IsRightLeast x along ws a
 
--- the response to a question within these limits
+-- a response to the question within these limits: a right answer that an output can hold
 pub record IsResponse (l : Limits) (k : Asked) (a : Answer) : Type 0 where
   pub right : IsRightTo l k a
   -- an output can hold the answer: each number and each list is within its bounds
   pub writable : IsWritable a
 
--- the answer is UNKNOWN: its first line gives the reason
+-- whether the answer is UNKNOWN, with a reason after this word in its first line
 abbrev pub is_unknown : Answer → Bool
 is_unknown a = starts_with nat_eq (verdict_text a) (codes "UNKNOWN ")

@@ -1,4 +1,4 @@
--- Which answers about the least weight of a fundamental box are right.
+-- Which answers about the least weight of a fundamental box, the box that repeats in a periodic configuration, are right.
 use Rattle.std.specs.Prelude.{ℕ, ◌≡◌, ◌<◌, List}
 use Rattle.dd_pattern.specs.{Periods.periods_of, Tile.Tile, Weight.total_weight}
 use Rattle.dd_formula.specs.LocalRule.{LocalRule}
@@ -8,18 +8,18 @@ use Rattle.dd_certificate.specs.declared.answer.Answer.{Answer}
 use Rattle.dd_counter.specs.declared.least.LeastWeight.TheVariants as least
 use Rattle.dd_certificate.specs.declared.answer.Answer.TheVariants as answer
 
--- the answer that a least weight gives, or the one that says that no configuration lives in the rule's subshift
+-- the answer that the outcome gives: a least weight, or that no configuration lives in the rule's subshift
 abbrev pub written_weight : LeastWeight → Answer
 written_weight (least.Least w t steps) = answer.Least w t.symbols steps
 written_weight (least.Nothing steps) = answer.Nothing steps
 
--- the configuration has these periods, lives in the rule's subshift and has this weight
+-- the configuration has these periods and no shear, lives in the rule's subshift and has this weight
 abbrev pub LivesWith : LocalRule → List ℕ → List ℕ → ℕ → Tile → Type 0
 LivesWith x along ws w t = IsLiving x (periods_of along 0) t × (total_weight ws t.symbols ≡ w)
 
--- The right answer is the least weight of the configurations with these periods and no shear that live in the rule's subshift. It
--- has a configuration of this weight, and, unless the weight is 0, steps that refute every smaller weight. If none lives, the right
--- answer has steps that refute that any does. It is never UNKNOWN.
+-- A right answer gives the least weight of the configurations with these periods and no shear that live in the rule's subshift. It has a
+-- configuration of this weight and, unless the weight is 0, steps that refute every smaller weight. If no configuration with these periods and no
+-- shear lives in the rule's subshift, a right answer says so, with steps that refute that there is one. It is never UNKNOWN.
 pub data IsRightLeast (x : LocalRule) (along ws : List ℕ) : Answer → Type 0 where
   has_least : {w : ℕ} {t : Tile} {steps : List Step} → LeastOn x (periods_of along 0) ws w → LivesWith x along ws w t →
       (0 < w → IsRefuting (weight_problem x (periods_of along 0) ws w) steps) → IsRightLeast x along ws (answer.Least w t.symbols steps)

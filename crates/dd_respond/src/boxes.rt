@@ -1,4 +1,4 @@
-//! Answers to box questions.
+//! Answers to box questions, and to the question whether two rules allow the same configurations.
 ghost use Rattle.std.specs.Prelude.{◌≡◌, All, IfOk};
 ghost use Rattle.dd_boxes.specs.Goals.{breaks};
 ghost use Rattle.dd_boxes.specs.Views.{goal_of};
@@ -62,7 +62,7 @@ fn written_decision(alloc: Global, decision: Decision) -> Result<Answer, AllocEr
     }
 }
 
-/// The side, in an answer, of one half of an equality.
+/// The side that an answer names for this half of an equality.
 fn side_of(half: Half) -> Side
     ensures { result ≡ side_of half }
 {
@@ -72,7 +72,7 @@ fn side_of(half: Half) -> Side
     }
 }
 
-/// The answer that the decision of an equality gives.
+/// The answer that the decision about an equality gives.
 fn written_equality(alloc: Global, equality: Equality) -> Result<Answer, AllocError>
     requires { IsWritableEquality equality }
     ensures same { IfOk result (λ answer. answer ≡ written_equality equality) }

@@ -1,5 +1,5 @@
-//! Answers to questions about conjugacies. A conjugacy comes down to four box questions, its parts, numbered from 1. They are
-//! decided in turn, until one is answered NO.
+//! Answers to questions about conjugacies: whether two maps between two subshifts are inverse to each other. Such a question comes
+//! down to four box questions, its parts, which are numbered from 1. They are decided in turn, until one is answered NO.
 ghost use Rattle.std.specs.Prelude.{◌≡◌, ◌≤◌, ◌∷◌, ◌++◌, [], false, IfOk, OnOk, MatchOption};
 ghost use Rattle.dd_certificate.specs.Bounds.{IsWritable, IsWritableNumber, IsWritablePart};
 ghost use Rattle.dd_engines.specs.Rosters.{roster_seen};
@@ -32,7 +32,7 @@ struct Findings {
     is_open: bool,
 }
 
-/// The number of a question that was answered NO, with a configuration that shows it.
+/// The number of a question that was answered NO, and a configuration that shows this.
 #[derive(Drop)]
 struct Failed {
     number: u64,
@@ -87,8 +87,8 @@ fn part_decided<E: Engine>(
     }
 }
 
-/// The first of the four questions that is answered NO. Later ones are not asked. If there is none, `findings` has the
-/// answers of all four.
+/// The first of the four questions that is answered NO; later ones are not decided. `None` if there is no such question; then
+/// `findings` has the answers to all four.
 fn first_failed<E: Engine>(
     alloc: Global,
     conjugacy: &Conjugacy,
@@ -148,8 +148,8 @@ fn written_findings(findings: Findings) -> Answer
     }
 }
 
-/// The answer to the question whether two maps between two subshifts are inverse to each other, within the limits. The
-/// roster is asked first.
+/// The answer to the question whether two maps between two subshifts are inverse to each other, within the limits. The engines of
+/// the roster are asked first.
 pub(crate) fn conjugate<E: Engine>(
     alloc: Global,
     conjugacy: &Conjugacy,

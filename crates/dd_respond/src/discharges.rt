@@ -1,4 +1,5 @@
-//! Answers to questions about discharging.
+//! Answers to questions about discharging: how much does each position hold at least, after each has sent amounts along given
+//! vectors?
 ghost use Rattle.std.specs.Prelude.{◌≡◌, IfOk};
 ghost use Rattle.dd_certificate.specs.Bounds.{IsWritable};
 ghost use Rattle.dd_discharge.specs.Printed.{IsSmallBound};

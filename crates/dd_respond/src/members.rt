@@ -29,8 +29,8 @@ fn written_cell(alloc: Global, dim: u32, cell: &Cell) -> Result<Items<i64>, Allo
     Ok(place)
 }
 
-/// The answer whether a configuration lives in a rule's subshift. If it doesn't, the answer has the first cell at which the rule
-/// is false.
+/// The answer to the question whether a configuration lives in a rule's subshift: whether it obeys the rule at every cell. If it
+/// doesn't, the answer names the first cell at which the rule is false.
 #[tactic(auto, using(dd_evidence::specs::Answers::member_inside, dd_evidence::specs::Answers::member_outside))]
 pub(crate) fn member(alloc: Global, rule: &Rule, periodic: &Periodic) -> Result<Answer, AllocError>
     requires { Fits rule.now periodic.now }

@@ -19,7 +19,7 @@ use dd_engines::{Engine, Roster, kept_is_reflexive};
 use dd_question::{CheckedQuestion, Question};
 use std::alloc::{AllocError, Global};
 
-/// The right answer to a question, by its kind.
+/// A right answer to a question, by its kind.
 fn by_kind<E: Engine>(
     alloc: Global,
     question: &CheckedQuestion,
@@ -30,7 +30,7 @@ fn by_kind<E: Engine>(
     ensures kept { Kept (roster_seen E.asked E.given E.sound roster.old) (roster_seen E.asked E.given E.sound roster.new) }
     ensures asked { OnOk result (Engages (IsBoxQuestion question.now.question) (roster_seen E.asked E.given E.sound roster.old) (roster_seen E.asked E.given E.sound roster.new)) }
 {
-    // A law: a roster that is not asked stays as it is.
+    // Law: a roster whose engines are not asked keeps all of them.
     kept_is_reflexive();
     let limits = question.limits();
     match question.question() {
@@ -63,10 +63,11 @@ fn by_kind<E: Engine>(
     }
 }
 
-/// The right answer to a question within its limits. An output can hold each of its numbers and lists.
+/// A right answer to a question, within the question's limits. It is one that an output can hold: each of its numbers and lists is
+/// within its bounds.
 ///
-/// A question that comes down to box questions asks the roster, as in `decide`. No other question asks an engine. The sound
-/// engines stay in the roster.
+/// If the question comes down to box questions, the engines of the roster are asked, as in `decide` of `dd_contain`. For other
+/// questions no engine is asked. The sound engines stay in the roster.
 pub fn respond<E: Engine>(
     alloc: Global,
     question: &CheckedQuestion,

@@ -1,4 +1,4 @@
-//! Answers to questions about the least weight of a fundamental box.
+//! Answers to questions about the least weight of a fundamental box, the box that repeats in a periodic configuration.
 ghost use Rattle.std.specs.Prelude.{◌≡◌, IfOk};
 ghost use Rattle.dd_certificate.specs.Bounds.{IsWritable};
 ghost use Rattle.dd_counter.specs.Least.{IsLeast};
@@ -13,7 +13,7 @@ use dd_formula::Rule;
 use std::alloc::{AllocError, Global};
 
 /// The answer that a least weight gives. It has a configuration of this weight, and steps that refute smaller weights. If no
-/// configuration lives in the rule's subshift, the answer has steps that refute that any does.
+/// configuration lives in the rule's subshift, the answer has steps that refute that there is one.
 fn written_weight(alloc: Global, found: LeastWeight) -> Result<Answer, AllocError>
     ensures { IfOk result (λ answer. answer ≡ written_weight found) }
 {

@@ -46,7 +46,7 @@ kept_if : (b : Bool) (xs : List Cell) (c : Cell) → b ≡ false → xs ≡ xs +
 kept_if true xs c h = absurd (false≢true (sym h))
 kept_if false xs c h = sym (append-nil xs)
 
--- the list of each other number stays as it is
+-- the lists of the other numbers stay as they are
 pub chosen_left : (ns : List ℕ) (cs : List Cell) (k i : ℕ) → i < length ns → i < length cs → (get_or ns i 0 ≡ k → ⊥) →
     chosen (take i ns) (take i cs) k ≡ chosen (take (i + 1) ns) (take (i + 1) cs) k
 chosen_left ns cs k i h h' other =
@@ -55,7 +55,7 @@ chosen_left ns cs k i h h' other =
     kept_if (nat_eq (get_or ns i 0) k) (chosen (take i ns) (take i cs) k) (get_or cs i d) (ne_eqb (get_or ns i 0) k other)
     ∙ (sym (chosen_more ns cs k i d h h') ∙ ap (λ j. chosen (take j ns) (take j cs) k) next)
 
--- the list of a cell's own number gets this cell
+-- the cell is appended to the list of its own number
 pub chosen_kept : (ns : List ℕ) (cs : List Cell) (k i : ℕ) (d : Cell) → i < length ns → i < length cs → get_or ns i 0 ≡ k →
     chosen (take i ns) (take i cs) k ++ get_or cs i d ∷ [] ≡ chosen (take (i + 1) ns) (take (i + 1) cs) k
 chosen_kept ns cs k i d h h' is =

@@ -51,7 +51,7 @@ module _ {A Y : Type 0} (g : List Y → A → List Y) (grows : (ys : List Y) (a 
       let rest = fold_grows (fold g start front) back in
       omega (arith, all, rest)
 
-  -- too many so far are too many in the end
+  -- if there are too many items so far, there are too many in the end
   pub folded_large : {X : Type 0} (most : ℕ) (start : List Y) (f : X → A) (xs : List X) (n : ℕ) (old : List Y) → old ≡ fold g start (map f (take n xs)) → most < length old →
       most < length (fold g start (map f xs))
   folded_large most start f xs n old is many =

@@ -1,4 +1,4 @@
--- The domain with one vector more.
+-- The domain with one more vector.
 use Rattle.std.proofs.Common.{◌≡◌, ◌<◌, ◌+◌, ℕ, List, [], ◌∷◌, ◌++◌, length, get_or, take, sym, ◌∙◌, ap, subst, inl, inr, ◌⊎◌, arith, ℤ, pos, ◌+ℤ◌}
 use Rattle.std.proofs.lemmas.{Int.ints, List.take_more}
 use Rattle.std.proofs.lemmas.List.Elements.{Contains-append_left, Contains-push, Contains-push_cases}
@@ -15,12 +15,12 @@ forth a b = omega (arith, ints)
 moved_forth : (p v : Place) → p ≡ moved (moved p v) (reversed v)
 moved_forth p v = place_same p.x p.y p.z _ _ _ (forth p.x v.x) (forth p.y v.y) (forth p.z v.z)
 
--- the first box
+-- without vectors, the domain is the centred box
 centred_from : (d radius : ℕ) (p : Place) → IsInDomain d radius [] p → IsCentred d radius p
 centred_from d radius p (inl here) = here
 centred_from d radius p (inr there) = absurd (Contains-nil there.0 there.1)
 
--- the domain of the vectors so far, with the box that is moved by the next one
+-- the domain of the vectors so far, together with the box moved by the opposite of the next one
 to_next : (d radius : ℕ) (vs : List Place) (v : Place) (around moved_box all : List Place) → IsRegionOf (IsInDomain d radius []) around →
     IsRegionOf (IsMoved around (reversed v)) moved_box → IsRegionOf (IsInDomain d radius vs) all → (p : Place) →
     Contains all p ⊎ Contains moved_box p → IsInDomain d radius (vs ++ v ∷ []) p

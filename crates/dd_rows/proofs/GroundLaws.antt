@@ -11,7 +11,7 @@ use Rattle.dd_formula.specs.LocalRule.{LocalRule}
 use Rattle.dd_boxes.specs.Cells.{cells_on}
 use Rattle.dd_rows.specs.{Domains.IsInDomain, Domains.IsGround, listing.Levels.AreOf, listing.Levels.AreInRange, lemmas.Growing.range_below}
 
--- a cell of the list has one of the positions
+-- the position of the cell c is in the list
 record IsAt (ps : List Place) (c : Cell) : Type 0 where
   at : Contains ps c.position
 
@@ -80,7 +80,7 @@ pub cells_in_range : (n : ℕ) (ps : List Place) → All IsInRange ps → AreInR
 cells_in_range n ps near = all_flat_map (λ c. IsInRange c.position) IsInRange (λ p. map (cell p) (range_with_len 0 n))
     (λ p h. all_map (λ c. IsInRange c.position) (λ a. Unit {0}) (cell p) (λ a _. h) (range_with_len 0 n) (λ k d w. tt)) ps near
 
--- the grown domain
+-- the cells of the grown domain are the ground
 pub ground_from : (x : LocalRule) (radius margin : ℕ) (vs domain region : List Place) (cs : List Cell) → IsRegionOf (IsInDomain x.dimension radius vs) domain →
     IsRegionOf (IsNearby x.dimension margin domain) region → cs ≡ cells_on x.nodes region → IsGround x radius margin vs cs
 ground_from x radius margin vs domain region cs inner outer is = record {

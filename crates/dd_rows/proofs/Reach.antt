@@ -1,4 +1,4 @@
--- The regions of a discharge lie near the origin, so that they stay in range.
+-- The regions of a discharge lie near the origin, so they are in range.
 use Rattle.std.proofs.Common.{◌≡◌, ◌≤◌, ◌+◌, ℕ, Bool, true, false, List, [], ℤ, pos, ◌+ℤ◌, ◌≤ℤ◌, inl, inr, arith}
 use Rattle.std.proofs.lemmas.{Int.ints, List.Elements.All-contains}
 use Rattle.std.specs.{Prelude.◌-ℤ◌, Prelude.unsigned_abs, List.All, List.Contains}
@@ -30,7 +30,7 @@ centred_reach d n p h = record {
 vector_reach : (d : ℕ) (v : Place) → IsVector d v → IsWithinReach 4 v
 vector_reach d v h = record { x = h.on_x; y = h.on_y; z = h.on_z }
 
--- a sum and a difference reach no farther than both together
+-- if a is within m of 0, and b within n of a, then b is within m + n of 0
 far_sum : (a b : ℤ) (m n : ℕ) → unsigned_abs a ≤ m → unsigned_abs (b -ℤ a) ≤ n → unsigned_abs b ≤ m + n
 far_sum a b m n h k = omega (arith, ints)
 

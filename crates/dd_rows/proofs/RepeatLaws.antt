@@ -1,4 +1,4 @@
--- If the views show the same in a filling as in the last one, it shows no new pattern and requires no new row.
+-- If the views show the same symbols in a filling as in the one before, the filling shows no new pattern and requires no new row.
 use Rattle.std.proofs.Common.{◌≡◌, ◌<◌, ◌+◌, ℕ, zero, suc, Bool, true, false, cond, List, [], ◌∷◌, ◌++◌, length, get_or, map, take, refl, sym, ◌∙◌, ap, subst, inl, inr, arith}
 use Rattle.std.proofs.lemmas.Bool.{and_from, eq-eqb}
 use Rattle.std.proofs.lemmas.List.{append-nil, map-append, map_more, take_more}
@@ -29,7 +29,7 @@ take_past (x ∷ xs) (suc i) past = ap (λ ys. x ∷ ys) (take_past xs i (omega 
 -- ---- keys that are inserted twice
 
 module _ {K : Type 0} {R : K → K → Ordering} (o : IsTotalOrder R) where
-  -- an equal key stands in the list
+  -- the list has a key equal to k
   abbrev Ties : List K → K → Type 0
   Ties ks k = (i : ℕ) × ((i < length ks) × (R (get_or ks i k) k ≡ Equal))
 
@@ -95,7 +95,7 @@ row_by rs r false h = ap (λ c. cond c (rs ++ r ∷ []) ((rs ++ r ∷ []) ++ r �
 row_twice : (rs : List Row) (r : Row) → add_row (add_row rs r) r ≡ add_row rs r
 row_twice rs r = row_by rs r (list_any (is_same_row r) rs) refl
 
--- ---- one filling more
+-- ---- one more filling
 
 module _ (v : Views) where
   patterns_push : (lists : List (List ℕ)) (ss : List ℕ) → patterns_shown v (lists ++ ss ∷ []) ≡ with_patterns (patterns_shown v lists) (patterns_seen v ss)
@@ -132,7 +132,7 @@ module _ (v : Views) where
     rows = λ ps ws most. rows_push ps ws most shown ss ∙ (ap (λ rs. add_row rs (required_row ps v ws ss)) (same.rows ps ws most) ∙ sym (rows_push ps ws most lists ss));
   }
 
-  -- what the last filling shows is there already
+  -- the patterns that the last filling shows are there already
   patterns_there : (front : List (List ℕ)) (last ss : List ℕ) → ShowAlike v last ss →
       with_patterns (patterns_shown v (front ++ last ∷ [])) (patterns_seen v ss) ≡ patterns_shown v (front ++ last ∷ [])
   patterns_there front last ss alike =

@@ -1,4 +1,4 @@
--- The views of a filling show its patterns and the row that it requires.
+-- The views of a filling show the filling's patterns and the row that the filling requires.
 use Rattle.std.proofs.Common.{◌≡◌, ◌<◌, ◌≤◌, ◌+◌, ◌*◌, ◌-◌, ◌^◌, min, mul-le-mul_left, ℕ, List, [], ◌∷◌, ◌++◌, length, get_or, map, take, drop, sym, ◌∙◌, ap, arith}
 use Rattle.std.proofs.lemmas.{List.take-append-drop, List.Concat.flat_map-append, List.Sums.fold-append, Simd.map-map}
 use Rattle.std.specs.{Prelude.unwrap_or, Prelude.slice_get, List.flat_map, List.range_with_len, Ordering.nat_cmp}
@@ -52,7 +52,7 @@ module _ (x : LocalRule) (radius : ℕ) (vs : List Place) (cs : List Cell) (v : 
   pub all_required : (ps : List (List ℕ)) (ws : List ℕ) (fillings : List (List ℕ)) → map (required_row ps v ws) fillings ≡ map (λ ss. row_of x ws radius vs ps (look_of cs ss)) fillings
   all_required ps ws fillings = map_alike (required_row ps v ws) (λ ss. row_of x ws radius vs ps (look_of cs ss)) (required_is ps ws) fillings
 
--- the patterns of one filling more
+-- the patterns of one more filling
 pub patterns_next : (f : List ℕ → List (List ℕ)) (lists : List (List ℕ)) (i : ℕ) (d : List ℕ) (old new : List (List ℕ)) → i < length lists →
     old ≡ in_lexicographic_order (flat_map f (take i lists)) → d ≡ get_or lists i d → new ≡ with_patterns old (f d) → new ≡ in_lexicographic_order (flat_map f (take (i + 1) lists))
 patterns_next f lists i d old new below before at is =
@@ -69,7 +69,7 @@ patterns_grow f lists n =
     let front = front_folded (insert_key (slice_cmp nat_cmp)) (insert_grows (slice_cmp nat_cmp)) [] (flat_map f (take n lists)) (flat_map f (drop n lists)) in
     omega (arith, sizes, front)
 
--- too many columns so far are too many in the end
+-- if there are too many columns so far, there are too many in the end
 pub columns_large : (v now all product : ℕ) → product ≡ min (v * now) (2 ^ 64 - 1) → 256 ≤ product → now ≤ all → most_columns < column_count v all
 columns_large v now all product is many more =
     let times = mul-le-mul_left v more in

@@ -14,7 +14,7 @@ module _ {K : Type 0} {R : K → K → Ordering} (o : IsTotalOrder R) where
   turned : (x y : K) (r : Ordering) → R x y ≡ r → R y x ≡ ordering_reverse r
   turned x y r h = o.antisymm y x ∙ ap ordering_reverse h
 
-  -- before an equal key stand lesser ones
+  -- a key that is less than a key equal to k is less than k
   before_equal : (x y k : K) → R x y ≡ Less → R y k ≡ Equal → R x k ≡ Less
   before_equal x y k less tie = turned k x Greater (sym (o.congr y k x tie) ∙ turned x y Less less)
 
@@ -23,7 +23,7 @@ module _ {K : Type 0} {R : K → K → Ordering} (o : IsTotalOrder R) where
       let less = Less-from_sorted R ks k (suc k) d up (omega arith) (omega arith) in
       rw add-one (ap is_lt (turned (get_or ks k d) (get_or ks (suc k) d) Less less))
 
-  -- the number of a key, from a search for it
+  -- a binary search for a key finds the key's index, or shows that the key isn't in the list
   pub number_searched : (ks : List K) (k : K) (r : Result ℕ ℕ) → IsStrictlySortedBy R ks → IsSearchInRange r (length ks) → IsBinarySearchResult (λ y. R y k) ks r →
       MatchResult r (λ i. position_or_len (λ y. is_eq (R y k)) ks ≡ i) (λ _. position_or_len (λ y. is_eq (R y k)) ks ≡ length ks)
   number_searched ks k (Ok i) up within h =
@@ -39,7 +39,7 @@ module _ {K : Type 0} {R : K → K → Ordering} (o : IsTotalOrder R) where
       ])
       (λ past. absurd (omega (arith, past)))
 
-  -- a key that is there changes nothing
+  -- inserting a key that is already there changes nothing
   pub insert_present : (ks : List K) (i : ℕ) (k : K) → IsStrictlySortedBy R ks → i < length ks → R (get_or ks i k) k ≡ Equal → insert_key R ks k ≡ ks
   unfolding IsStrictlySortedBy
   insert_present [] i k up within h = absurd (omega (arith, within))
@@ -50,7 +50,7 @@ module _ {K : Type 0} {R : K → K → Ordering} (o : IsTotalOrder R) where
       ap (λ r. match_ordering r (k ∷ x ∷ ks) (x ∷ ks) (x ∷ insert_key R ks k)) (turned x k Less less)
       ∙ ap (λ (ys : List K). x ∷ ys) (insert_present ks i k up.1 inside h)
 
-  -- a new key goes where the lesser ones end
+  -- a new key is inserted right after the lesser ones
   insert_absent : (ks : List K) (i : ℕ) (k : K) → i ≤ length ks → AllWithin (λ y. R y k ≡ Less) ks 0 i → AllWithin (λ y. R y k ≡ Greater) ks i (length ks) →
       insert_key R ks k ≡ take i ks ++ k ∷ drop i ks
   insert_absent [] zero k within below above = refl
@@ -115,7 +115,7 @@ module _ {K : Type 0} {R : K → K → Ordering} (o : IsTotalOrder R) (ks slice 
   pub ascends_still : (k : K) (new : List K) → new ≡ insert_key R now k → IsStrictlySortedBy R new
   ascends_still k new is = subst (IsStrictlySortedBy R) (sym is) (insert_ascends o now k (subst (IsStrictlySortedBy R) view up))
 
--- no key is lost
+-- an insertion loses no key
 longer_from : {K : Type 0} (x k : K) (ks more : List K) (r : Ordering) → length ks ≤ length more → length (x ∷ ks) ≤ length (match_ordering r (k ∷ x ∷ ks) (x ∷ ks) (x ∷ more))
 longer_from x k ks more Less h = omega arith
 longer_from x k ks more Equal h = omega arith

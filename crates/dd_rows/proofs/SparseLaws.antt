@@ -1,4 +1,4 @@
--- Rows of one program are the same if their exchanges along each vector and their right sides are.
+-- Two rows of one program are the same if they have the same bound and the same exchange along each vector.
 use Rattle.std.proofs.Common.{◌≡◌, ◌<◌, ◌≤◌, ◌+◌, ◌*◌, ℕ, zero, suc, Bool, true, false, cond, List, [], ◌∷◌, ◌++◌, length, get_or, map, take, drop, refl, sym, ◌∙◌, ap, subst, inl, inr, arith, ℤ, pos, Option, Some, None, replicate}
 use Rattle.std.proofs.lemmas.Option.{same_Some}
 use Rattle.std.proofs.lemmas.Bool.{false≢true, and_parts, and_from, cases_lt, cases_eq, eq-eqb, eqb-true}
@@ -26,11 +26,11 @@ use Rattle.dd_values.specs.lemmas.Lists.{flat_map_agree, map_alike, all_first, a
 one_here : (k : ℕ) → one_at k k ≡ pos 1
 one_here k = ap (λ b. pos (cond b 1 0)) (eq-eqb k k refl)
 
--- two differences agree at each of the places below p
+-- two differences agree at each number below p
 record Agree (p a b c d : ℕ) : Type 0 where
   at : (k : ℕ) → k < p → (one_at k a -ℤ one_at k b) ≡ (one_at k c -ℤ one_at k d)
 
--- where one difference is 1, so is the other
+-- where one difference is 1, the other is too
 same_one : (p a b c d : ℕ) → Agree p a b c d → a < p → (a ≡ b → ⊥) → a ≡ c
 same_one p a b c d agree below apart = elim (cases_eq a c) [
   | inl same ↦ same
@@ -115,7 +115,7 @@ same_exchanges p (x ∷ xs) (y ∷ ys) size all all' same =
     ap (λ e. e ∷ xs) (same_exchange p x y (all_first (IsExchange p) x xs all) (all_first (IsExchange p) y ys all') (entry_at p x y parts.front))
     ∙ ap (λ (es : List (Option Exchange)). y ∷ es) (same_exchanges p xs ys (omega (arith, size)) (all_rest (IsExchange p) x xs all) (all_rest (IsExchange p) y ys all') parts.back)
 
--- the same exchanges and right sides
+-- the two rows have the same exchanges and the same bound
 abbrev pub AreAlike : SparseRow → SparseRow → Type 0
 AreAlike a b = (a.exchanges.items ≡ b.exchanges.items) × (a.bound ≡ b.bound)
 
@@ -137,7 +137,7 @@ list_any_in P f p q same [] all = refl
 list_any_in P f p q same (x ∷ xs) all =
     ap (λ b. b || list_any p (map f xs)) (same x (all_first P x xs all)) ∙ ap (λ b. q x || b) (list_any_in P f p q same xs (all_rest P x xs all))
 
--- one row more
+-- one more row
 module _ (v p : ℕ) (eq : SparseRow → SparseRow → Bool) (tells : (a b : SparseRow) → Decides (eq a b) (AreAlike a b)) where
   found_alike : (r : SparseRow) (rs : List SparseRow) → IsSparse v p r → AreSparse v p rs → list_any (is_same_row (dense p r)) (map (dense p) rs) ≡ list_any (eq r) rs
   found_alike r rs one all =
@@ -162,7 +162,7 @@ module _ (v p : ℕ) (eq : SparseRow → SparseRow → Bool) (tells : (a b : Spa
   pub with_row : (r : SparseRow) (rs new : List SparseRow) → IsSparse v p r → AreSparse v p rs → new ≡ insert_key eq rs r → IsWithRow v p rs r new
   with_row r rs new one all is = put (list_any (eq r) rs) r rs new one all (found_alike r rs one all) is
 
--- what a filling exchanges stands for its row
+-- the exchanges of a filling stand for its row
 is_exchange : (p n m : ℕ) → n ≤ p → m ≤ p → (b : Bool) → nat_eq n m ≡ b → IsExchange p (cond b None (Some (record { gives = n; receives = m })))
 is_exchange p n m low low' true e = tt
 is_exchange p n m low low' false e = (low, low', λ same. absurd (let yes = eq-eqb n m same in false≢true (sym e ∙ yes)))
@@ -234,7 +234,7 @@ row_stands ps v ws ss r is bound =
     ap (λ es. pos 1 ∷ flat_map (entries (length ps)) es) is ∙ exchanges_stand ps v ss in
     λ i. record { coefficients = sides i; bound = bound i }
 
--- the symbols that are seen have weights
+-- the symbols that a view shows have weights
 known_at : (n : ℕ) (ss : List ℕ) → All (λ s. s < n) ss → 1 ≤ n → (i : ℕ) → unwrap_or (slice_get ss i) 0 < n
 known_at n [] all some i = some
 known_at n (s ∷ ss) all some zero = all_first (λ t. t < n) s ss all
@@ -282,7 +282,7 @@ module _ (ps : List (List ℕ)) (v : Views) (ws : List ℕ) (most : ℕ) where
       (folded_next add_row begun (required_row ps v ws) lists i d (map (dense (length ps)) old) new below before at (ap (add_row (map (dense (length ps)) old)) stands))
       many
 
--- what the test of two sparse rows tells
+-- two sparse rows pass the test exactly if they are the same
 abbrev pub same_exchange_test : Exchange → Exchange → Bool
 same_exchange_test e f = nat_eq e.gives f.gives && nat_eq e.receives f.receives
 

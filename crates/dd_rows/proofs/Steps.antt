@@ -17,7 +17,7 @@ kept_one : {X : Type 0} (p : X → Bool) (b : Bool) (x : X) → filter p (cond b
 kept_one p true x = refl
 kept_one p false x = refl
 
--- the lists that one more symbol gives
+-- the lists that one more symbol adds
 pub extended_one : (x : LocalRule) (q : List ℕ → Bool) (a : ℕ) (ss : List ℕ) (n : ℕ) →
     extended_below x q a ss (suc n)
     ≡ extended_below x q a ss n ++ cond (rule_allows x a n) (cond (q (ss ++ n ∷ [])) ((ss ++ n ∷ []) ∷ []) []) []
@@ -47,7 +47,7 @@ extended_grows x q a ss n (suc k) =
     let split = length-append (extended_below x q a ss (n + k)) (cond (rule_allows x a (n + k)) (cond (q (ss ++ (n + k) ∷ [])) ((ss ++ (n + k) ∷ []) ∷ []) []) []) in
     omega (arith, even, before, more, split)
 
--- one more symbol that is allowed and keeps the rule true
+-- one more symbol that is allowed and with which the rule is true
 pub extended_kept : (x : LocalRule) (q : List ℕ → Bool) (a : ℕ) (ss new : List ℕ) (n m : ℕ) → m ≡ suc n → rule_allows x a n ≡ true → new ≡ ss ++ n ∷ [] →
     q new ≡ true → extended_below x q a ss m ≡ extended_below x q a ss n ++ new ∷ []
 extended_kept x q a ss new n m next allowed is kept =
@@ -75,7 +75,7 @@ extended_barred x q a ss n m next barred =
     ∙ (extended_one x q a ss n
     ∙ (ap (λ b. extended_below x q a ss n ++ cond b (cond (q (ss ++ n ∷ [])) ((ss ++ n ∷ []) ∷ []) []) []) barred ∙ append-nil (extended_below x q a ss n)))
 
--- the items of a list up to one of them give no more than all of them
+-- the first items of a list, up to and including one of them, give no more results than all of its items
 pub flat_map_grows : {X Y : Type 0} (f : X → List Y) (xs : List X) (i : ℕ) (d : X) → i < length xs → length (flat_map f (take i xs) ++ f (get_or xs i d)) ≤ length (flat_map f xs)
 flat_map_grows f xs i d below =
     let first = take (i + 1) xs in

@@ -1,4 +1,4 @@
--- What a fault says.
+-- What a fault means.
 use Rattle.dd_rows.specs.declared.fault.RowsFault.{RowsFault}
 use Rattle.dd_rows.specs.declared.fault.RowsFault.TheVariants.{Large, Memory}
 

@@ -19,11 +19,11 @@ abbrev pub words : LocalRule → List Cell → List (List ℕ)
 words x [] = [] ∷ []
 words x (c ∷ cs) = flat_map (λ s. map (λ ss. s ∷ ss) (words x cs)) (allowed_symbols x c.node)
 
--- whether the rule is true at the cell c, if c and all cells that the rule reads there have symbols
+-- whether the rule is true at the cell c, or doesn't fit there: c, or a cell that the rule reads there, has no symbol
 abbrev pub is_true_if_it_fits : LocalRule → Look → Cell → Bool
 is_true_if_it_fits x look c = not (place_fits x look c) || is_true x c look
 
--- Whether this holds at each of the cells. It holds at any other cell, since that cell has no symbol itself.
+-- Whether `is_true_if_it_fits` holds at each of the cells. At any other cell it holds as well, since that cell has no symbol.
 abbrev pub is_admissible : LocalRule → List Cell → List ℕ → Bool
 is_admissible x cs ss = list_all (is_true_if_it_fits x (look_of cs ss)) cs
 
@@ -34,11 +34,11 @@ fillings x cs = filter (is_admissible x cs) (words x cs)
 abbrev pub most_fillings : ℕ
 most_fillings = 65536
 
--- some prefix of the cells has too many fillings
+-- some prefix of the cells has too many admissible fillings
 pub record HasManyFillings (x : LocalRule) (cs : List Cell) : Type 0 where
   pub cells : ℕ
   pub many : most_fillings < length (fillings x (take cells cs))
 
--- no prefix of the cells has too many fillings
+-- no prefix of the cells has too many admissible fillings
 abbrev pub HasFewFillings : LocalRule → List Cell → Type 0
 HasFewFillings x cs = (k : ℕ) → k ≤ length cs → length (fillings x (take k cs)) ≤ most_fillings

@@ -1,16 +1,17 @@
--- the domains of a discharge along some vectors
+-- where a discharge along some vectors looks: the domain, and the ground, which is the domain grown by the margin
 pub mod Domains
--- the admissible fillings of a list of cells, in the lexicographic order of their symbols
+-- The admissible fillings of a list of cells, in the lexicographic order of their symbols. A filling is admissible if the rule
+-- is true at each cell where the rule fits: where the cell, and each cell that the rule reads there, has a symbol.
 pub mod Fillings
--- the patterns around a position that gives, and around those that give to it
+-- the patterns (the symbols of a box) around the origin, and around the positions that give to it
 pub mod Patterns
--- the program of a rule along some vectors: how much each position holds at least
+-- the program of a rule along some vectors: rows that bound from below what each position holds
 pub mod Programs
--- why there is no program of a rule
+-- why a rule has no program
 pub mod Faults
 -- the law that the listed fillings are the admissible ones
 pub mod Laws
--- how the code lists fillings, patterns and rows, with cells by their numbers
+-- how the code lists fillings, patterns and rows; it names a cell by its number, which is its index in a list of cells
 pub mod listing
 -- lemmas on these definitions, with their proofs, for other crates to cite
 pub mod lemmas

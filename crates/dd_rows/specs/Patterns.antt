@@ -1,4 +1,4 @@
--- The patterns around a position that gives along some vectors, and around those that give to it.
+-- In a discharge along some vectors, the patterns around the origin and around the positions that give to it.
 use Rattle.std.specs.Prelude.{ℕ, List, [], ◌∷◌, map, unwrap_or}
 use Rattle.std.specs.{List.fold, List.flat_map, List.position_or_len, Ordering.nat_cmp, Ordering.is_eq, Cmp.Lexicographic.slice_cmp}
 use Rattle.std.specs.BTreeSet.{insert_key}
@@ -30,6 +30,6 @@ in_lexicographic_order lists = fold (insert_key (slice_cmp nat_cmp)) [] lists
 abbrev pub patterns : LocalRule → ℕ → List Place → List Cell → List (List ℕ)
 patterns x radius vs cs = in_lexicographic_order (flat_map (λ ss. patterns_in (box_cells x radius) vs (look_of cs ss)) (fillings x cs))
 
--- the index of the pattern q in the list
+-- the index of the pattern q in the list, or the list's length if it isn't there
 abbrev pub pattern_number : List (List ℕ) → List ℕ → ℕ
 pattern_number ps q = position_or_len (λ p. is_eq (slice_cmp nat_cmp p q)) ps

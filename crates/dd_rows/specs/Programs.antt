@@ -1,6 +1,6 @@
--- The program of a rule along some vectors. Each position gives along each vector an amount that its pattern determines.
--- Column 0 is how much each position then holds at least. After it there is a column for each vector and each pattern: the
--- amount that is given along this vector by this pattern.
+-- The program of a rule along some vectors. Along each vector, each position gives an amount that the pattern around it
+-- determines. Column 0 is a lower bound for what each position then holds. After it there is a column for each vector and each
+-- pattern: the amount that a position with this pattern gives along this vector.
 use Rattle.std.specs.Prelude.{ℕ, ◌+◌, ◌*◌, ◌<◌, ◌≤◌, ◌≡◌, ◌⊎◌, Bool, ◌&&◌, cond, pos, ◌-ℤ◌, ℤ, List, [], ◌∷◌, ◌++◌, map, length, replicate, unwrap_or}
 use Rattle.std.specs.{Bool.nat_eq, Ordering.int_eq, List.fold, List.flat_map, List.list_any, List.range_with_len}
 use Rattle.std.specs.Cmp.Lexicographic.{pointwise}
@@ -17,8 +17,10 @@ use Rattle.dd_boxes.specs.{Cells.box_cells, Boxes.origin}
 abbrev pub one_at : ℕ → ℕ → ℤ
 one_at k n = pos (cond (nat_eq k n) 1 0)
 
--- 1 for column 0. Then, for each vector and pattern, 1 if the origin gives by this pattern, less 1 if it receives by it. The
--- origin gives by the pattern `out` along every vector. `ins` has, for each vector, the pattern by which it receives.
+-- The coefficients of a row: 1 for column 0. Then, for each vector and pattern, the sum of two numbers: 1 if this is the
+-- pattern around the origin, else 0; and -1 if it is the pattern around the position that gives to the origin along the vector,
+-- else 0. `out` is the pattern around the origin. `ins` has, for each vector, the pattern around the position that gives to the
+-- origin along it.
 abbrev pub coefficients : List (List ℕ) → List ℕ → List (List ℕ) → List ℤ
 coefficients ps out ins =
     pos 1 ∷ flat_map (λ q. map (λ k. one_at k (pattern_number ps out) -ℤ one_at k (pattern_number ps q)) (range_with_len 0 (length ps))) ins
@@ -27,20 +29,21 @@ coefficients ps out ins =
 abbrev pub origin_weight : LocalRule → List ℕ → Look → ℕ
 origin_weight x ws look = total_weight ws (map (λ a. unwrap_or (look (cell origin a)) 0) (range_with_len 0 x.nodes))
 
--- what a filling requires: column 0 is at most the origin's weight, less what the origin gives, plus what it receives
+-- The row that a filling requires. It says that column 0 is at most the origin's weight, less what the origin gives, plus what
+-- the origin receives.
 abbrev pub row_of : LocalRule → List ℕ → ℕ → List Place → List (List ℕ) → Look → Row
 row_of x ws radius vs ps look =
     let box = box_cells x radius in
     record { coefficients = coefficients ps (pattern_at box look origin) (givers box vs look); bound = origin_weight x ws look }
 
--- the first row: column 0 is at most the greatest weight that a position can have
+-- the first row; it says that column 0 is at most the greatest weight that a position can have
 abbrev pub greatest_weight_row : LocalRule → List ℕ → List Place → List (List ℕ) → Row
 greatest_weight_row x ws vs ps = record { coefficients = pos 1 ∷ replicate (length vs * length ps) (pos 0); bound = x.nodes * greatest ws }
 
 abbrev pub is_same_row : Row → Row → Bool
 is_same_row r s = pointwise int_eq r.coefficients s.coefficients && nat_eq r.bound s.bound
 
--- appends a row, unless it is among the rows
+-- appends a row, unless it is already there
 abbrev pub add_row : List Row → Row → List Row
 add_row rows r = cond (list_any (is_same_row r) rows) rows (rows ++ r ∷ [])
 
@@ -48,7 +51,7 @@ add_row rows r = cond (list_any (is_same_row r) rows) rows (rows ++ r ∷ [])
 abbrev pub first_seen : List Row → List Row
 first_seen rows = fold add_row [] rows
 
--- the first row, and those that the fillings of the cells require
+-- the first row, and those that the fillings of the cells require, each once
 abbrev pub rows : LocalRule → List ℕ → ℕ → List Place → List Cell → List Row
 rows x ws radius vs cs =
     let ps = patterns x radius vs cs in
@@ -64,7 +67,7 @@ most_columns = 256
 abbrev pub most_rows : ℕ
 most_rows = 2048
 
--- the program, within its limits
+-- p is the program, and it is within the limits
 pub record IsProgramOf (x : LocalRule) (ws : List ℕ) (radius margin : ℕ) (vs : List Place) (p : Rows) : Type 0 where
   pub ground : List Cell
   pub is_ground : IsGround x radius margin vs ground
@@ -74,12 +77,12 @@ pub record IsProgramOf (x : LocalRule) (ws : List ℕ) (radius margin : ℕ) (vs
   pub few_columns : column_count (length vs) (length p.patterns) ≤ most_columns
   pub few_rows : length p.rows ≤ most_rows
 
--- the program would pass some limit
+-- the program would exceed some limit
 pub record IsLargeProgram (x : LocalRule) (ws : List ℕ) (radius margin : ℕ) (vs : List Place) : Type 0 where
   pub ground : List Cell
   pub is_ground : IsGround x radius margin vs ground
   pub many : HasManyFillings x ground ⊎ ((most_columns < column_count (length vs) (length (patterns x radius vs ground))) ⊎ (most_rows < length (rows x ws radius vs ground)))
 
--- the fault is right: if it is `Large`, the program would pass some limit
+-- the fault is right: if it is `Large`, the program would exceed some limit
 abbrev pub IsRowsFault : LocalRule → List ℕ → ℕ → ℕ → List Place → RowsFault → Type 0
 IsRowsFault x ws radius margin vs fault = OnLarge fault (IsLargeProgram x ws radius margin vs)

@@ -1,4 +1,6 @@
-//! The cells whose fillings a discharge looks at. They are its ground: its domain, grown by its margin.
+//! The ground of a discharge: the cells whose fillings it looks at. The ground is the domain grown by the margin: its
+//! positions are those that are, along each axis, at most the margin away from a position of the domain. The domain is made of
+//! the boxes around the origin and around the positions that give to it.
 ghost use Rattle.std.specs.Prelude.{◌≡◌, ◌<◌, ◌≤◌, IfOk, IfErr, [], All};
 ghost use Rattle.std.specs.List.Sorted.{IsStrictlySortedBy};
 ghost use Rattle.dd_values.specs.Bounds.{widest_radius};
@@ -17,7 +19,7 @@ use dd_topology::reversed;
 use dd_values::Items;
 use std::alloc::{AllocError, Global};
 
-/// The positions of the centred box of the radius. It fails only if memory runs out.
+/// The positions of the box of this radius centred at the origin. Fails only if memory runs out.
 fn box_region(alloc: Global, dim: u32, radius: u32) -> Result<Region, RowsFault>
     requires least { 1 ≤ dim }
     requires most { dim ≤ 3 }
@@ -27,15 +29,15 @@ fn box_region(alloc: Global, dim: u32, radius: u32) -> Result<Region, RowsFault>
     ensures memory { IfErr result (λ fault. fault ≡ RowsFault.Memory) }
 {
     let Some(bounds) = centred_box(dim, radius) else {
-        // Never taken: the radius is at most 3.
+        // Never reached: the radius is at most 3.
         return Err(RowsFault::Memory);
     };
     let region = positions(alloc, &bounds)?;
     Ok(region)
 }
 
-/// The domain: the centred box of the radius, and this box moved by the opposite of each vector. It fails only if memory
-/// runs out.
+/// The domain: the box of this radius centred at the origin, and this box moved by the opposite of each vector. Fails only if
+/// memory runs out.
 fn domain(alloc: Global, dim: u32, radius: u32, vectors: &[Position]) -> Result<Region, RowsFault>
     requires least { 1 ≤ dim }
     requires most { dim ≤ 3 }
@@ -50,7 +52,7 @@ fn domain(alloc: Global, dim: u32, radius: u32, vectors: &[Position]) -> Result<
         let moved = match around.shifted(alloc, &reversed(vector)) {
             Ok(moved) => moved,
             Err(LatticeFault::Memory) => return Err(RowsFault::Memory),
-            // On each axis, positions of the box lie within 3 of the origin, and vectors reach at most 4.
+            // Along each axis, positions of the box lie within 3 of the origin, and a vector moves them by at most 4.
             Err(LatticeFault::Range) => unreachable!(),
         };
         all = all.union(alloc, &moved)?;
@@ -74,7 +76,7 @@ fn cells_on(alloc: Global, nodes: u32, positions: &[Position]) -> Result<Items<C
     Ok(cells)
 }
 
-/// The cells of the centred box of the radius, in cell order. It fails only if memory runs out.
+/// The cells of the box of this radius centred at the origin, in cell order. Fails only if memory runs out.
 pub(crate) fn box_cells(alloc: Global, rule: &Rule, radius: u32) -> Result<Items<Cell>, RowsFault>
     requires { radius ≤ widest_radius }
     ensures cells { IfOk result (λ cells. cells ≡ box_cells rule.now radius) }
@@ -87,7 +89,7 @@ pub(crate) fn box_cells(alloc: Global, rule: &Rule, radius: u32) -> Result<Items
     Ok(cells)
 }
 
-/// The ground: the cells of the domain grown by the margin, in cell order. It fails only if memory runs out.
+/// The cells of the ground, which is the domain grown by the margin, in cell order. Fails only if memory runs out.
 pub fn ground(
     alloc: Global,
     rule: &Rule,
@@ -110,7 +112,7 @@ pub fn ground(
     let region = match near.grow(alloc, dim, margin) {
         Ok(region) => region,
         Err(LatticeFault::Memory) => return Err(RowsFault::Memory),
-        // On each axis, positions of the domain lie within 7 of the origin, and the margin is at most 3.
+        // Along each axis, positions of the domain lie within 7 of the origin, and the margin is at most 3.
         Err(LatticeFault::Range) => unreachable!(),
     };
     let positions = region.list();

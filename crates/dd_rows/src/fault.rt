@@ -1,4 +1,4 @@
-//! Why there is no program of a rule along some vectors.
+//! The reasons why a rule's program along some vectors was not made.
 ghost use Rattle.std.specs.Prelude.{◌≡◌};
 
 use std::alloc::AllocError;
@@ -7,7 +7,8 @@ use thiserror::Error;
 /// Why the program of a rule was not made.
 #[derive(Clone, Copy, Debug, PartialEq, Eq, Error)]
 pub enum RowsFault {
-    /// A prefix of the cells has more than 65,536 admissible fillings, or there are more than 2,048 rows or 256 columns.
+    /// A prefix of the list of cells has more than 65,536 admissible fillings, or the program has more than 2,048 rows or 256
+    /// columns.
     #[error("the program of the discharge is too large")]
     Large,
     /// Memory ran out.

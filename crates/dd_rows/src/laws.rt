@@ -1,4 +1,4 @@
-//! The law of the fillings from which a program is made.
+//! A law about the fillings from which a program is made.
 ghost use Rattle.std.specs.Prelude.{List};
 ghost use Rattle.dd_lattice.specs.declared.position.Cell.{Cell};
 ghost use Rattle.dd_rows.specs.Laws.{AreCellsOf, AreTheAdmissible};

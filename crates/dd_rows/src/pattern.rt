@@ -1,4 +1,5 @@
-//! Patterns: the symbols of a box around a position; and lists of distinct patterns in lexicographic order.
+//! Patterns, and lists of distinct patterns in lexicographic order. A pattern consists of the symbols of a box around a
+//! position.
 ghost use Rattle.std.specs.Prelude.{◌≡◌, ◌≤◌, ◌∷◌, [], Some, length, nat_eq, IfOk, OnOk};
 ghost use Rattle.std.specs.Ordering.{nat_cmp};
 ghost use Rattle.std.specs.Cmp as comparisons;
@@ -66,7 +67,7 @@ impl Ord for Pattern {
 }
 
 impl Pattern {
-    /// The pattern without symbols. It allocates nothing.
+    /// The pattern without symbols. Allocates nothing.
     pub(crate) fn new(alloc: Global) -> Pattern
         ensures { result ≡ [] }
     {
@@ -75,20 +76,20 @@ impl Pattern {
         }
     }
 
-    /// Replaces the pattern's symbols by those of the cells with these numbers. Its memory is used again.
+    /// Replaces the pattern's symbols by those of the cells with these numbers. Reuses the pattern's memory.
     pub(crate) fn read(&mut self, symbols: &[u32], numbers: &[usize]) -> Result<(), AllocError>
         ensures { OnOk result (self.new ≡ symbols_at symbols.now numbers.now) }
     {
         self.symbols.clear();
         for number in numbers {
-            // Each of these cells has a symbol, so the 0 is never taken.
+            // Each of these cells has a symbol, so the default 0 is never used.
             self.symbols
                 .push(symbols.get(*number).copied().unwrap_or(0))?;
         }
         Ok(())
     }
 
-    /// Its symbols, in cell order.
+    /// The pattern's symbols, in cell order.
     pub(crate) fn symbols(&self) -> &[u32]
         ensures { result.now ≡ self.now }
     {
@@ -116,7 +117,7 @@ impl Model for Patterns {
 }
 
 impl Patterns {
-    /// The empty list. It allocates nothing.
+    /// The empty list. Allocates nothing.
     pub(crate) fn new(alloc: Global) -> Patterns
         ensures { result ≡ [] }
     {
@@ -125,14 +126,14 @@ impl Patterns {
         }
     }
 
-    /// How many patterns there are.
+    /// The number of patterns.
     pub(crate) fn len(&self) -> usize
         ensures { result ≡ length self.now }
     {
         self.list.len()
     }
 
-    /// Inserts the pattern at its place, unless it is in the list.
+    /// Inserts the pattern at its place in the order, unless it is already in the list.
     pub(crate) fn insert(&mut self, alloc: Global, pattern: &Pattern) -> Result<(), AllocError>
         ensures { OnOk result (self.new ≡ insert_key (slice_cmp nat_cmp) self.old pattern.now) }
     {
@@ -146,7 +147,7 @@ impl Patterns {
         }
     }
 
-    /// The index of the pattern in the list, or the list's length if it is not in it.
+    /// The index of the pattern in the list, or the list's length if the pattern is not there.
     pub(crate) fn number(&self, pattern: &Pattern) -> usize
         ensures { result ≡ pattern_number self.now pattern.now }
     {

@@ -1,5 +1,5 @@
-//! The rule at some places, as formulas over the symbols of a list of cells. A place is one of the cells; a cell's number is
-//! its index in the list.
+//! Formulas over the symbols of a list of cells. Each formula says that the rule is true at a given place. A place is one of
+//! the cells. A cell's number is its index in the list.
 ghost use Rattle.std.specs.Prelude.{◌≡◌, ◌<◌, IfOk};
 ghost use Rattle.std.specs.List.Sorted.{IsStrictlySortedBy, IsStrictlySortedBy-prop};
 ghost use Rattle.dd_lattice.specs.Order.{cell_cmp};
@@ -12,7 +12,8 @@ use dd_numbered::{Numbered, Numbers, rank};
 use dd_values::Items;
 use std::alloc::{AllocError, Global};
 
-/// Gives numbers to cells that are named relative to the position `at`: their indices in `cells`, which is in cell order.
+/// Assigns numbers to cells that are given relative to the position `at`. A cell's number is its index in `cells`, which is in
+/// cell order.
 #[derive(Drop)]
 struct Near<'a> {
     cells: &'a [Cell],
@@ -42,7 +43,7 @@ impl Numbers for Near<'_> {
     }
 }
 
-/// The rule at the place, over the symbols of the cells.
+/// The formula over the symbols of `cells` which says that the rule is true at `place`.
 fn formula_at(
     alloc: Global,
     rule: &Rule,
@@ -58,7 +59,7 @@ fn formula_at(
     Numbered::new(alloc, rule.expansion(place.node), &near)
 }
 
-/// The rule at each of the places, over the symbols of the cells.
+/// For each place, the formula over the symbols of `cells` which says that the rule is true there.
 pub(crate) fn formulas(
     alloc: Global,
     rule: &Rule,

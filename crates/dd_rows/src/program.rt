@@ -32,7 +32,7 @@ const MOST_COLUMNS: usize = 256;
 /// The greatest number of rows of a program.
 const MOST_ROWS: usize = 2_048;
 
-/// Inserts the patterns that one filling shows. Each is first written to `seen`.
+/// Inserts the patterns that one filling shows. Each of them is first read into `seen`.
 fn add_patterns(
     alloc: Global,
     symbols: &[u32],
@@ -51,7 +51,7 @@ fn add_patterns(
     Ok(())
 }
 
-/// The patterns that the fillings show. The call stops once there are too many columns.
+/// The patterns that the fillings show. Stops as soon as there are too many columns.
 fn all_patterns(
     alloc: Global,
     fillings: &[Items<u32>],
@@ -74,7 +74,7 @@ fn all_patterns(
     Ok(patterns)
 }
 
-/// The row that a filling requires. Each of its patterns is first written to `seen`.
+/// The row that the filling requires. Each pattern that the filling shows is first read into `seen`.
 fn required_row(
     alloc: Global,
     symbols: &[u32],
@@ -95,7 +95,7 @@ fn required_row(
     Ok(SparseRow::new(list, weight_of(seen.symbols(), weights)))
 }
 
-/// Appends a row, unless it is among the rows.
+/// Appends the row, unless it is already there.
 fn add_row(rows: &mut IndexSet<SparseRow>, row: SparseRow) -> Result<(), RowsFault>
     ensures ok { (vectors : ℕ) → (patterns : ℕ) → AreSparse vectors patterns rows.old.keys → IsSparse vectors patterns row →
         OnOk result (IsWithRow vectors patterns rows.old.keys row rows.new.keys) }
@@ -113,8 +113,8 @@ fn add_row(rows: &mut IndexSet<SparseRow>, row: SparseRow) -> Result<(), RowsFau
     Ok(())
 }
 
-/// The distinct rows that the fillings require, after a first row. This says that column 0 is at most `heaviest`, the greatest
-/// weight that a position can have. The call stops once there are too many rows.
+/// A first row, and then the distinct rows that the fillings require. The first row says that column 0 is at most `heaviest`,
+/// the greatest weight that a position can have. Stops as soon as there are too many rows.
 fn distinct_rows(
     alloc: Global,
     fillings: &[Items<u32>],
@@ -151,7 +151,7 @@ fn distinct_rows(
     Ok(rows)
 }
 
-/// The rows with all their coefficients.
+/// The rows with all their coefficients written out.
 fn dense_rows(
     alloc: Global,
     rows: &IndexSet<SparseRow>,
@@ -166,7 +166,7 @@ fn dense_rows(
     Ok(list)
 }
 
-/// The greatest of the weights, or 0 if there is none.
+/// The greatest of the weights, or 0 if there are none.
 fn greatest_weight(weights: &[u32]) -> u32
     ensures { result ≡ greatest weights.now }
 {
@@ -200,7 +200,7 @@ fn program_listed(
     })
 }
 
-/// The same program, made faster: repeated fillings are left out first.
+/// The same program as that of `program_listed`, made faster: fillings in which the views show nothing new are left out first.
 fn program_shown(
     alloc: Global,
     fillings: &[Items<u32>],
@@ -219,12 +219,12 @@ fn program_shown(
     program_listed(alloc, shown.as_slice(), views, weights, heaviest)
 }
 
-/// The program of a rule along the vectors, for the domain of the radius, grown by the margin. There is one weight for each
-/// symbol.
+/// The program of a rule along the vectors. Its cells are those of the domain of this radius, grown by the margin. `weights`
+/// has one weight for each symbol.
 ///
 /// # Errors
-/// - `Large` if a prefix of the cells of the grown domain has more than 65,536 admissible fillings, or the program has more
-///   than 256 columns or 2,048 rows. There is no program then.
+/// - `Large` if a prefix of the cells of the grown domain has more than 65,536 admissible fillings, or if the program would
+///   have more than 256 columns or 2,048 rows. Then there is no program.
 /// - `Memory` if memory ran out.
 pub fn program_of(
     alloc: Global,

@@ -1,5 +1,5 @@
-//! Leaves out fillings whose views show nothing new. In lexicographic order, many neighbouring fillings differ only where no
-//! view reads them.
+//! Leaves out fillings in which the views show nothing new. In lexicographic order, many consecutive fillings differ only at
+//! cells that are in no view.
 ghost use Rattle.std.specs.Prelude.{◌≡◌, ℕ, map, unwrap_or, slice_get, IfOk, IsTrue};
 ghost use Rattle.dd_rows.specs.listing.Views.{symbols_at};
 ghost use Rattle.dd_rows.specs.listing.Repeats.{ShowAlike, EndsAlike, ShowsSame, HasKnown};
@@ -33,7 +33,7 @@ fn are_same(one: &[u32], other: &[u32], numbers: &[usize]) -> bool
     true
 }
 
-/// Whether the two fillings have the same symbols at the cells with the numbers of each list.
+/// Whether, for each list of numbers, the two fillings have the same symbols at the cells with these numbers.
 fn are_all_same(one: &[u32], other: &[u32], lists: &[Items<usize>]) -> bool
     ensures { IsTrue result → map (symbols_at one.now) lists.now ≡ map (symbols_at other.now) lists.now }
 {
@@ -45,7 +45,7 @@ fn are_all_same(one: &[u32], other: &[u32], lists: &[Items<usize>]) -> bool
     true
 }
 
-/// Whether the views show the same in both fillings.
+/// Whether the views show the same symbols in both fillings.
 fn show_alike(one: &[u32], other: &[u32], views: &Views) -> bool
     ensures { IsTrue result → ShowAlike views.now one.now other.now }
 {
@@ -58,7 +58,7 @@ fn show_alike(one: &[u32], other: &[u32], views: &Views) -> bool
     are_all_same(one, other, views.givers.as_slice())
 }
 
-/// Whether the views show the same in the last of the fillings `shown` as in the filling `symbols`.
+/// Whether the views show the same symbols in the last filling of `shown` as in the filling `symbols`.
 fn ends_alike(shown: &[Items<u32>], symbols: &[u32], views: &Views) -> bool
     ensures { IsTrue result → EndsAlike views.now shown.now symbols.now }
 {
@@ -68,8 +68,8 @@ fn ends_alike(shown: &[Items<u32>], symbols: &[u32], views: &Views) -> bool
     }
 }
 
-/// The fillings without those in which the views show the same as in the filling before. They show the same patterns and
-/// require the same rows.
+/// The fillings, except those in which the views show the same symbols as in the filling before. The fillings that remain show
+/// the same patterns as all the fillings, and require the same rows.
 pub(crate) fn without_repeats(
     alloc: Global,
     fillings: &[Items<u32>],

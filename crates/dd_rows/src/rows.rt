@@ -1,17 +1,17 @@
 //! The program of a rule along some vectors: its patterns and its distinct rows.
 use dd_values::Items;
 
-/// A row: the sum of coefficient times column is at most the bound. Column 0 is how much each position holds at least. Then
-/// there is a column for each vector and pattern: the amount that a position with this pattern around it gives along the
-/// vector. These columns are listed vector by vector.
+/// Each column stands for a number. A row says that the sum of these numbers, each times its coefficient, is at most the
+/// bound. Column 0 is a lower bound for what each position holds. After it there is a column for each vector and pattern: the
+/// amount that a position with this pattern around it gives along the vector. These columns are listed vector by vector.
 #[derive(Debug, Drop)]
 pub struct Row {
     pub coefficients: Items<i64>,
     pub bound: u64,
 }
 
-/// The patterns in lexicographic order, each as its symbols in cell order; and the rows, each once, in the order in which
-/// they are first seen.
+/// The patterns in lexicographic order, each given by its symbols in cell order (by z, then y, then x, then the node), and the
+/// rows. Each row is listed once, where it is first seen.
 #[derive(Debug, Drop)]
 pub struct Rows {
     pub patterns: Items<Items<u32>>,

@@ -1,5 +1,6 @@
-//! The search for fillings. Level by level, it finds all admissible fillings of the first cells, with one cell more in each
-//! level. A cell's number is its index in the list of cells.
+//! The search for admissible fillings of a list of cells. It goes level by level. Level k has all admissible fillings of the
+//! first k cells, and the next level fills one more cell. A cell's number is its index in the list. The rule reads a cell if
+//! its formula looks at the cell's symbol.
 ghost use Rattle.std.specs.Prelude.{◌≡◌, ◌<◌, ◌≤◌, ◌+◌, ◌++◌, [], ◌∷◌, length, map, IfOk, OnOk, IfErr};
 ghost use Rattle.std.specs.List.{flat_map, range_with_len};
 ghost use Rattle.std.specs.List.Sorted.{IsStrictlySortedBy};
@@ -31,8 +32,8 @@ fn write_symbol(longer: &mut Vec<u32>, symbol: u32) -> Result<(), AllocError>
     Ok(())
 }
 
-/// Appends to `next` the list `symbols` with one more symbol at its end, for each such symbol that the node allows and with
-/// which the formulas are true. Each list is first written to `longer`.
+/// Appends to `next` the list `symbols` with one more symbol at its end, once for each symbol that the node allows and with
+/// which the formulas are true. Each of these lists is first built in `longer`.
 fn extend(
     alloc: Global,
     rule: &Rule,
@@ -66,7 +67,7 @@ fn extend(
     Ok(())
 }
 
-/// The next level, with one more cell, whose node is `node`.
+/// The next level, which fills one more cell. The cell's node is `node`.
 fn next_level(
     alloc: Global,
     rule: &Rule,
@@ -95,8 +96,8 @@ fn next_level(
     Ok(next)
 }
 
-/// For each cell, its last number: the greatest among its own number and those of the cells that the rule reads there. The
-/// rule can be tested at the cell once the cell with this number has a symbol.
+/// For each cell, its last number. This is the greatest among the cell's own number and the numbers of the cells that the rule
+/// reads there. The rule can be tested at the cell once the cell with the last number has a symbol.
 fn last_numbers(alloc: Global, rule: &Rule, cells: &[Cell]) -> Result<Vec<usize>, AllocError>
     requires ascending { IsStrictlySortedBy cell_cmp cells.now }
     requires nodes { AreOf rule.now cells.now }
@@ -124,8 +125,8 @@ fn last_number(rule: &Rule, cells: &[Cell], cell: &Cell) -> usize
     last
 }
 
-/// The number of a cell that the rule reads at a cell, where `read` is relative to the cell's position. If it is not one of
-/// the cells, the result is the length of their list.
+/// The number of the cell `read`, which the rule reads at `cell`. The cell `read` is given relative to the position of `cell`.
+/// If it is not in `cells`, the result is the length of this list.
 pub(crate) fn number_of_read(cells: &[Cell], cell: &Cell, read: &Cell) -> usize
     requires ascending { IsStrictlySortedBy cell_cmp cells.now }
     requires near { AreInRange cells.now }
@@ -154,7 +155,7 @@ fn empty_lists(alloc: Global, count: usize) -> Result<Vec<Items<Cell>>, AllocErr
     Ok(lists)
 }
 
-/// For each number `k` below the length of the list, the cells `cells[i]` with `numbers[i] == k`.
+/// For each `k` below the length of `cells`, the list of the cells `cells[i]` with `numbers[i] == k`.
 fn places_by_number(
     alloc: Global,
     numbers: &[usize],
@@ -174,8 +175,8 @@ fn places_by_number(
     Ok(places)
 }
 
-/// All admissible fillings of the cells, in the lexicographic order of their symbols. Each symbol is allowed by its node, and
-/// the rule is true at each of the cells where all cells that it reads have symbols.
+/// All admissible fillings of the cells, in the lexicographic order of their symbols. In such a filling each cell has a symbol
+/// that its node allows. The rule is true at each of the cells where all cells that it reads have symbols.
 ///
 /// # Errors
 /// - `Large` if a prefix of the cells has more than 65,536 admissible fillings.

@@ -1,5 +1,4 @@
-//! Rows in a sparse form. Along each vector at most two of a row's coefficients are not 0, so a few numbers
-//! describe a row.
+//! Rows in a sparse form. For each vector, at most two of a row's coefficients are not 0, so a few numbers describe a row.
 ghost use Rattle.std.specs.Prelude.{◌≡◌, ◌++◌, ◌∷◌, [], pos, None, replicate, length, map, IfOk, OnOk};
 ghost use Rattle.dd_pattern.specs.Weight.{total_weight};
 ghost use Rattle.dd_rows.specs.Patterns.{pattern_number};
@@ -12,21 +11,23 @@ use crate::views::Views;
 use dd_values::Items;
 use std::alloc::{AllocError, Global};
 
-/// The numbers of two different patterns: the one by which the origin gives along a vector, and the one by which it receives.
+/// What the origin exchanges along a vector, as the numbers of two different patterns. The first pattern determines the amount
+/// that the origin gives, and the second the amount that it receives.
 #[derive(Clone, Copy, PartialEq, Eq, Hash)]
 pub(crate) struct Exchange {
     gives: usize,
     receives: usize,
 }
 
-/// A row: for each vector what the origin exchanges along it, and the bound. `None` stands for two equal patterns.
+/// A row: what the origin exchanges along each vector, and the bound. `None` means that the two patterns are equal.
 #[derive(PartialEq, Eq, Hash, Drop)]
 pub(crate) struct SparseRow {
     exchanges: Vec<Option<Exchange>>,
     bound: u64,
 }
 
-/// The exchange of two patterns. If they are equal, the amounts that are given and received cancel.
+/// The exchange with these two patterns. If the patterns are equal, there is no exchange, since the amounts given and received
+/// cancel.
 fn exchange_between(gives: usize, receives: usize) -> Option<Exchange>
     ensures { result ≡ exchange_of gives receives }
 {
@@ -37,7 +38,8 @@ fn exchange_between(gives: usize, receives: usize) -> Option<Exchange>
     }
 }
 
-/// The number of the pattern that the filling shows at the cells with these numbers. The pattern is written to `seen`.
+/// The number of the pattern that the filling shows at the cells with these numbers. A pattern's number is its index in
+/// `patterns`. The pattern itself is left in `seen`.
 fn number_seen(
     symbols: &[u32],
     numbers: &[usize],
@@ -50,7 +52,7 @@ fn number_seen(
     Ok(patterns.number(seen))
 }
 
-/// What the origin exchanges along each vector in a filling.
+/// What the origin exchanges along each vector, in a filling.
 pub(crate) fn exchanges(
     alloc: Global,
     symbols: &[u32],
@@ -69,7 +71,7 @@ pub(crate) fn exchanges(
     Ok(list)
 }
 
-/// The coefficient of the pattern with the number `pattern`, along the vector of the exchange.
+/// The coefficient in the column for the exchange's vector and the pattern with the number `pattern`.
 fn entry(exchange: &Option<Exchange>, pattern: usize) -> i64
     ensures { result ≡ entry exchange.now pattern }
 {
@@ -81,7 +83,7 @@ fn entry(exchange: &Option<Exchange>, pattern: usize) -> i64
     }
 }
 
-/// Appends the coefficients along the vector, for `patterns` patterns.
+/// Appends the coefficients in the columns for the exchange's vector, one for each of the `patterns` patterns.
 fn push_entries(
     coefficients: &mut Items<i64>,
     exchange: &Option<Exchange>,
@@ -104,7 +106,7 @@ impl SparseRow {
         SparseRow { exchanges, bound }
     }
 
-    /// The row along `vectors` vectors that says "column 0 is at most the bound".
+    /// The row, for `vectors` vectors, that says "column 0 is at most the bound".
     pub(crate) fn cap(alloc: Global, vectors: usize, bound: u64) -> Result<SparseRow, AllocError>
         ensures exchanges { IfOk result (λ row. row.exchanges.items ≡ replicate vectors None) }
         ensures bound { IfOk result (λ row. row.bound ≡ bound) }
@@ -113,7 +115,7 @@ impl SparseRow {
         Ok(SparseRow { exchanges, bound })
     }
 
-    /// The same row with all its coefficients, for `patterns` patterns.
+    /// The same row with all its coefficients written out, for `patterns` patterns.
     pub(crate) fn dense(&self, alloc: Global, patterns: usize) -> Result<Row, AllocError>
         ensures { IfOk result (λ row. row ≡ dense patterns self.now) }
     {

@@ -1,4 +1,5 @@
-//! The cells that a row of the program reads, by their numbers. A cell's number is its index among the cells of the fillings.
+//! Views: the cells of a filling that determine its row, given by their numbers. A cell's number is its index in the list of
+//! cells that are filled.
 ghost use Rattle.std.specs.Prelude.{◌≡◌, ◌<◌, ◌≤◌, ◌*◌, pos, map, length, IfOk, IfErr};
 ghost use Rattle.std.specs.List.{All, range_with_len};
 ghost use Rattle.std.specs.List.Sorted.{IsStrictlySortedBy};
@@ -22,14 +23,15 @@ use std::alloc::{AllocError, Global};
 
 const ORIGIN: Position = Position { x: 0, y: 0, z: 0 };
 
-/// The numbers of the cells that a row reads. A list of such numbers is a view: it shows a part of a filling.
+/// The views on which a row depends. A view is a list of cell numbers. It shows a part of a filling: the symbols of these
+/// cells.
 #[derive(Drop)]
 pub(crate) struct Views {
     /// The cells at the origin, one for each node.
     pub(crate) centre: Items<usize>,
     /// The cells of the box around the origin.
     pub(crate) origin: Items<usize>,
-    /// For each vector, the cells of the box around its opposite. From there the origin receives along the vector.
+    /// For each vector v, the cells of the box around -v. The position -v is the one that gives to the origin along v.
     pub(crate) givers: Items<Items<usize>>,
 }
 
@@ -55,7 +57,7 @@ fn view(
     Ok(numbers)
 }
 
-/// The numbers of the cells of the box around the opposite of each vector.
+/// For each vector, the numbers of the cells of the box around the vector's opposite.
 fn givers(
     alloc: Global,
     cells: &[Cell],
@@ -92,7 +94,7 @@ fn centre(alloc: Global, cells: &[Cell], nodes: u32) -> Result<Items<usize>, All
 }
 
 impl Views {
-    /// The views of a rule's discharge along the vectors. It fails only if memory runs out.
+    /// The views of a rule's discharge along the vectors. Fails only if memory runs out.
     pub(crate) fn new(
         alloc: Global,
         rule: &Rule,

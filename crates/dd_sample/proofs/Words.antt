@@ -1,4 +1,4 @@
--- Which number a word gives, by its first character and what `parse` read.
+-- Which number a word gives, told from the word's first character and from what `parse` reads.
 use Rattle.std.proofs.Common.{◌≡◌, ◌⊎◌, inl, inr, ℕ, zero, suc, ◌≤◌, List, slice_index, Result, Ok, sym, ◌∙◌, ap, subst, arith, decimal}
 use Rattle.std.specs.Str.Parse.{IsNumeral, digits_value, without_leading_plus, ParsesUnsigned}
 use Rattle.std.proofs.lemmas.Str.Parse.{numerals_by_value, tells_digits, without_leading_plus_none}

@@ -2,11 +2,11 @@
 use Rattle.std.specs.Prelude.{◌≡◌, ℕ, ◌*◌, ◌≤◌, List, ◌++◌, codes, Option, Some, None}
 use Rattle.std.specs.{List.repeat, Fmt.decimal}
 
--- There is a sample with this number. The configuration of the sample 16384 has as many symbols as a script allows.
+-- There is a sample with this number. The configuration of sample 16384 has as many symbols as a script allows.
 abbrev pub IsSampleNumber : ℕ → Type 0
 IsSampleNumber number = (1 ≤ number) × (number ≤ 16384)
 
--- the word is this number, in decimal, and there is a sample with it
+-- the word is this number in decimal, and there is a sample with this number
 abbrev pub IsWrittenBy : List ℕ → ℕ → Type 0
 IsWrittenBy word number = IsSampleNumber number × (word ≡ decimal number)
 

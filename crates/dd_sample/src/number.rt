@@ -2,10 +2,10 @@
 ghost use Rattle.std.specs.Prelude.{◌≡◌, ◌⊎◌, ◌↔◌, IsTrue, slice_index};
 ghost use Rattle.dd_sample.specs.Sample.{IsNumberOf};
 
-// The greatest number of a sample. The configuration of that sample has as many symbols as a script allows, 65,536.
+// The greatest sample number. The configuration of that sample has as many symbols as a script allows, 65,536.
 const LARGEST: u32 = 16_384;
 
-// Whether the word begins with a plus or a zero. `parse` would accept such a word, but no sample's number is written so.
+// Whether the word begins with a plus or a zero. `parse` reads numbers that begin so, but no sample's number is written so.
 fn is_led(word: &str) -> bool
     ensures { IsTrue result ↔ (slice_index word.now 0 ≡ 43) ⊎ (slice_index word.now 0 ≡ 48) }
 {
@@ -15,7 +15,7 @@ fn is_led(word: &str) -> bool
     }
 }
 
-/// The sample number that this word gives, in decimal without a plus or a leading zero. `None` if it gives no sample number.
+/// The sample number that this word gives in decimal, without a plus or a leading zero. `None` if it gives no sample number.
 pub fn sample_number(word: &str) -> Option<u32>
     ensures { IsNumberOf word.now result }
 {

@@ -1,4 +1,4 @@
--- The tokens of a text after another text, of a number before a bracket, and of symbols. Bytes are written by their codes: 10 ends a line,
+-- The tokens of a text that follows another text, of a number before a bracket, and of symbols. Bytes are written as codes: 10 is a line feed,
 -- 32 is a blank, 48 to 57 are the digits, and 93 is the closing bracket.
 use Rattle.std.proofs.Common.{◌≡◌, ℕ, zero, suc, ◌+◌, ◌-◌, ◌*◌, ◌<◌, ◌≤◌, List, [], ◌∷◌, ◌++◌, length, map, true, codes, refl, sym, ap, subst, ◌∙◌, arith}
 use Rattle.std.specs.List.{prefix_len, repeat}
@@ -72,7 +72,7 @@ digits_end (d ∷ ds) ys all =
     let rest : prefix_len is_digit (ds ++ 93 ∷ ys) ≡ length ds = digits_end ds ys all.2 in
     rw (is_digit_from d all.0 all.1, rest) (omega arith)
 
--- a byte from 49 to 57, a digit from 1 to 9, begins a number
+-- a byte from 49 to 57, which is a digit from 1 to 9, begins a number
 begins : (k : ℕ) (bytes : List ℕ) → k < 9 → front (49 + k) bytes ≡ Cut token.Number (1 + prefix_len is_digit bytes)
 begins zero bytes few = refl
 begins (suc zero) bytes few = refl
@@ -106,7 +106,7 @@ number_before d ds ys place low high all =
 
 -- ---- symbols
 
--- the text of the symbols of two rows, called a turn
+-- a turn: the text of the symbols of two rows of the configuration
 abbrev pub turn : List ℕ
 turn = codes " 1 0 0 1"
 
@@ -125,7 +125,7 @@ before_blank_at_0 ys = refl
 before_line_feed_at_0 : (ys : List ℕ) → tokens_after 0 0 (turn ++ 10 ∷ ys) ≡ with_front (four 0) (tokens_after 0 8 (10 ∷ ys))
 before_line_feed_at_0 ys = refl
 
--- the tokens of a turn followed by these bytes, at any place if they are known at place 0
+-- if the tokens of a turn and these bytes are known at place 0, they are known at any place
 one_turn : (place : ℕ) (zs : List ℕ) → tokens_after 0 0 (turn ++ zs) ≡ with_front (four 0) (tokens_after 0 8 zs)
     → tokens_after 0 place (turn ++ zs) ≡ with_front (four place) (tokens_after 0 (place + 8) zs)
 one_turn place zs at_0 =

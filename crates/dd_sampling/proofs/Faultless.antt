@@ -18,9 +18,9 @@ use Rattle.dd_sampling.proofs.Sizes.{known}
 use Rattle.dd_written.specs.declared.tree.Quantifier.TheVariants as quantifier
 use Rattle.dd_faults.specs.declared.fault.Limit.TheVariants as limit
 
--- ---- faults and meanings, which are folds of a formula, layer by layer
+-- ---- faults and meanings: both are folds over a formula, unfolded here by one layer
 
--- the faults of a formula in each scope
+-- the faults of a formula, as a function of its scope: the list of the variables that it may use
 abbrev Faulty : Type 0
 Faulty = List Word → List Fault
 
@@ -43,7 +43,7 @@ chain_faulty x j fs scope = ap (λ (g : Faulty). g scope) (fold-roll-Formula Fau
 
 ruleset faulties = (atom_faulty, not_faulty, quantified_faulty, group_faulty, chain_faulty)
 
--- what a formula means in each scope
+-- what a formula means, as a function of its scope
 abbrev Meaning : Type 0
 Meaning = List Word → Meant
 
@@ -106,11 +106,11 @@ dom_means x = simp meanings
 
 -- ---- the contexts of commands
 
--- the context of a command of a sample, after these rules and configurations were defined
+-- the context of a command of a sample: what is known once these rules and configurations are defined
 abbrev pub standing : List ℕ → ℕ → List (List ℕ) → List (List ℕ) → Context
 standing bytes number rules configurations = record { text = bytes; has_topology = false; number = number; known = known rules configurations }
 
--- the context of a rule of a sample, after the rules with these names
+-- the context of a rule of a sample, once the rules with these names are defined
 abbrev pub behind : List ℕ → ℕ → List (List ℕ) → Context
 behind more number rules = standing (front_text ++ more) number rules []
 

@@ -26,7 +26,7 @@ digit_more : (n : ℕ) (ds : List ℕ) → 10 ≤ n → IsWrittenAs (n / 10) ds 
 digit_more n ds many so_far =
     (digits_more ds (48 + n % 10) so_far.0 (omega arith) (omega arith), value_more 0 ds (48 + n % 10) ∙ omega (arith, so_far.1))
 
--- the digits of a number of at least 1, the first one separately
+-- the digits of a number of at least 1: the first one, which isn't 0, and the others
 pub record Height (h : ℕ) : Type 0 where
   pub first : ℕ
   pub others : List ℕ

@@ -18,7 +18,7 @@ stands_behind (x ∷ xs) ys k =
     let one_on : suc (length xs) + k ≡ suc (length xs + k) = omega arith in
     ap (λ (j : ℕ). drop j (x ∷ (xs ++ ys))) one_on ∙ stands_behind xs ys k
 
--- if xs followed by ys stands at p, ys stands after xs
+-- if xs followed by ys stands at the position p, then ys stands at the position where xs ends
 pub stands_after : (bytes : List ℕ) (p : ℕ) (xs ys : List ℕ) (q : ℕ) → Stands bytes p (xs ++ ys) → q ≡ p + length xs → Stands bytes q ys
 stands_after bytes p xs ys q stands is k =
     let at : q + k ≡ p + (length xs + k) = omega (arith, is) in

@@ -1,4 +1,4 @@
--- What the rules of a sample mean: their formulas with numbers in place of names, and then without variables.
+-- What the rules of a sample mean: their formulas with numbers in place of names, and then their expansions, which have no variables.
 use Rattle.std.proofs.Common.{◌≡◌, ℕ, ◌+◌, List, [], ◌∷◌, ◌++◌, map, length, ap}
 use Rattle.std.specs.{Prelude.pos, Prelude.negsuc, List.flat_map, Option.option_to_list}
 use Rattle.dd_lattice.specs.{Place.place, Cells.cell, InOrder.in_order, declared.position.Cell.Cell}
@@ -13,7 +13,7 @@ use Rattle.dd_expansion.specs.Expansion.{Expansion, expansion, expansion_step, a
 use Rattle.dd_expansion.specs.Leaves.{instances, instances_step, clause_count, clause_count_step, total}
 use Rattle.dd_formula.specs.LocalRule.{LocalRule, local_rule, reads_at, expansion_at}
 
--- ---- formulas: the variable 0 stands for the origin; the moves have the numbers up 0, down 1, right 2, left 3
+-- ---- formulas: the variable 0 stands for the origin; the numbers of the moves are 0 for up, 1 for down, 2 for right and 3 for left
 
 abbrev pub term : ℕ → List ℕ → Term
 term v ms = record { variable = v; moves = ms }
@@ -56,17 +56,17 @@ near = record { variable = 0; radius = 1 }
 abbrev pub dom_meant : Formula
 dom_meant = roll-Formula (Formula-F.Exists (near ∷ []) (symbol (term 1 []) 1))
 
--- the rule of a formula under the defaults
+-- the rule of a formula on the default lattice, with the default symbols
 abbrev pub plain_rule : Formula → LocalRule
 plain_rule f = local_rule square (all_symbols 1 2) f
 
--- ---- the formulas without variables
+-- ---- the expansions
 
 -- the cell at (x, y)
 abbrev pub at : ℕ → ℕ → Cell
 at x y = cell (place (pos x) (pos y) (pos 0)) 0
 
--- the neighbours of the origin on the left and below
+-- the neighbours of the origin to the left and below
 abbrev pub left_of : Cell
 left_of = cell (place (negsuc 0) (pos 0) (pos 0)) 0
 
@@ -89,7 +89,7 @@ zero_expanded = leaf 0 (at 0 0)
 abbrev pub dom_expanded : Expanded
 dom_expanded = any_of (leaf 1 below ∷ leaf 1 left_of ∷ leaf 1 (at 0 0) ∷ leaf 1 (at 1 0) ∷ leaf 1 (at 0 1) ∷ [])
 
--- ---- expansions, which are folds of a formula, layer by layer
+-- ---- expansions and what is counted about them: all are folds, unfolded here by one layer
 
 symbol_expansion : (es : List Edge) (n : ℕ) (t : Term) (s : ℕ) (env : List Cell) → expansion es n (roll-Formula (Formula-F.Symbol t s)) env ≡ at_cell (leaf s) (cell_of es env t)
 symbol_expansion es n t s env = ap (λ (e : Expansion). e env) (fold-roll-Formula Expansion (expansion_step es n) (Formula-F.Symbol t s))
@@ -155,7 +155,7 @@ or_clauses es = fold-roll-Expanded ℕ clause_count_step (Expanded-F.Or es)
 
 ruleset gates = (leaf_clauses, not_clauses, and_clauses, or_clauses)
 
--- ---- the counts of a rule: its expansion, the numbers of that expansion's nodes and clauses, and the cells that it reads
+-- ---- the counts of a rule: its expansion, how many parts and clauses the expansion has, and the cells that the rule reads
 pub record Counts (f : Formula) (e : Expanded) (nodes clauses : ℕ) (cells : List Cell) : Type 0 where
   pub expanded : expansion_at (plain_rule f) 0 ≡ e
   pub nodes_are : instances e ≡ nodes

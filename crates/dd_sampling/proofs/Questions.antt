@@ -97,7 +97,7 @@ named bytes names v t is known =
     ap (λ (s : List ℕ). when (not (is_some (number_of names s))) (fault.Unknown (name.Word v))) is
     ∙ ap (λ (b : Bool). when (not b) (fault.Unknown (name.Word v))) known
 
--- the context of the query that is the command with this number
+-- the context of a query whose command has this number
 abbrev pub asked_in : List ℕ → ℕ → Context
 asked_in bytes number = standing bytes number names_5 (codes "c" ∷ [])
 
@@ -134,7 +134,7 @@ zero_dies_faultless bytes p stands =
     two_named bytes names_5 names_5 (up_word p (word_at 80 4)) (up_word p (word_at 85 4)) (codes "zero") (codes "dies")
     (word_up bytes p tail_text stands (word_at 80 4)) (word_up bytes p tail_text stands (word_at 85 4)) refl refl
 
--- the fault of a strip with the period v; the strip of the samples has the period 5
+-- the faults of a strip with the period v; the strip of the samples has the period 5
 abbrev strip_by : ℕ → List Fault
 strip_by v = over (nat_lt v 1 || nat_lt 64 v || false) limit.Periods
 
@@ -146,7 +146,7 @@ density_faultless bytes p stands =
     ap (λ (v : ℕ). over (nat_lt 1000000 v) limit.Number ++ [] ++ ((missing bytes names_5 (name.Word (up_word p (word_at 99 3))) ++ []) ++ ((strip_by v ++ []) ++ []))) five
     ∙ ap (λ (fs : List Fault). (fs ++ []) ++ []) known
 
--- the last query: its tokens, word, numbers and vectors have no fault
+-- the last query has no fault: its tokens, its word, its numbers and its vectors have none
 pub discharge_faultless : (bytes : List ℕ) (p : ℕ) → Stands bytes p tail_text → written_faults (asked_in bytes 14) (question_written p discharge_dom) ≡ []
 unfolding digits
 discharge_faultless bytes p stands =
@@ -184,7 +184,7 @@ rules_5 = plain_rule hard_meant ∷ plain_rule row_meant ∷ plain_rule dies_mea
 abbrev pub script : List Tile → List Query → Parts
 script tiles queries = record { known = known names_5 (codes "c" ∷ []); rules = rules_5; automata = []; configurations = tiles; queries = queries }
 
--- the limit that a query exceeds
+-- the limit that a query exceeds, if any
 abbrev pub excess_at : List ℕ → ℕ → ℕ → List Tile → List Query → Word × Request → Option Excess
 excess_at bytes number p tiles queries a = query_excess (script tiles queries) (query_of (asked_in bytes number) (up_request p a.1))
 

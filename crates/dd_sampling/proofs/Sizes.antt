@@ -26,7 +26,7 @@ limits = record { radius = 3; period = 3; pivots = 1000 }
 abbrev pub setting : Setting
 setting = record { nodes = codes "0" ∷ []; symbols = codes "0" ∷ codes "1" ∷ []; topology = square; sets = all_symbols 1 2 }
 
--- what is known after these rules and configurations were defined
+-- what is known once these rules and configurations are defined
 abbrev pub known : List (List ℕ) → List (List ℕ) → Known
 known rules configurations =
     record {
@@ -42,7 +42,7 @@ known rules configurations =
 
 -- ---- definitions
 
--- the limits that a rule with these counts exceeds
+-- the faults of a rule with these counts: the limits that it exceeds
 abbrev few_and_near : ℕ → List Cell → List Fault
 few_and_near nodes cells = over (not (nat_le nodes 20000 && true)) limit.Instances ++ (over (not (list_all is_near cells && true)) limit.Reach ++ [])
 
@@ -69,8 +69,8 @@ dom_few = rule_faultless dom_counts refl
 
 -- ---- questions
 
--- whether a question has too many clauses, by its premise, the clauses of the premise and of the goal's rule, and the cells that
--- the goal's rule reads
+-- A box question asks whether no configuration that obeys one rule, the premise, breaks another, the goal's rule. This is whether it has too many
+-- clauses, computed from the premise, the numbers of clauses of the premise and of the goal's rule, and the cells that the goal's rule reads.
 abbrev long_by : LocalRule → ℕ → ℕ → List Cell → Bool
 long_by x clauses goal cells =
     nat_lt most_clauses (largest_region x.dimension (max 3 (farthest (in_order cells ++ []))) 3 * (x.nodes * cell_clause_count x.symbols + disallowed_pairs x + (clauses + 0)) + (goal + 0 + 1))

@@ -34,7 +34,7 @@ use Rattle.dd_meanings.specs.declared.meaning.Meaning.TheVariants as meaning
 no_fault : (fs gs : List Fault) → fs ≡ [] → gs ≡ [] → option_or (first_fault fs) (option_or (first_fault gs) None) ≡ None
 no_fault fs gs first second = rw (first, second) refl
 
--- the same for a query
+-- the same for a query: if its text has no fault and it exceeds no limit, it has no fault
 no_excess : (fs : List Fault) (o : Option Excess) → fs ≡ [] → o ≡ None → option_or (first_fault fs) (option_or (first_fault []) (option_map (λ e. fault.Size (limit_of e)) o)) ≡ None
 no_excess fs o first second = rw (first, second) refl
 
@@ -44,7 +44,7 @@ one_more bytes n s t w ws none goes rest =
     ap (λ (f : Option Fault). option_or (option_map (located n) f) (first_from bytes false (n + 1) (next bytes false n s w) ws)) none
     ∙ (ap (λ (u : Parts). first_from bytes false (n + 1) u ws) goes ∙ rest)
 
--- the script so far
+-- the script that the commands so far define
 abbrev state : List (List ℕ) → List LocalRule → List (List ℕ) → List Tile → List Query → Parts
 state names rules configurations tiles queries = record { known = known names configurations; rules = rules; automata = []; configurations = tiles; queries = queries }
 
@@ -78,7 +78,7 @@ limits_none more = refl
 limits_next : (more : List ℕ) → next (front_text ++ more) false 1 start limits_written ≡ state [] [] [] [] []
 limits_next more = refl
 
--- the rule commands, from each of them to the last
+-- the rule commands from a given one to the last, followed by further commands
 abbrev from_dom : List Written → List Written
 from_dom ws = rule_written 150 155 3 dom_text dom ∷ ws
 
@@ -124,7 +124,7 @@ question_more bytes n p tiles qs a ws none rest =
 abbrev NoneFrom : List ℕ → ℕ → List Tile → List Written → Type 0
 NoneFrom bytes n tiles ws = (qs : List Query) → first_from bytes false n (state names_5 rules_5 (codes "c" ∷ []) tiles qs) ws ≡ None
 
--- the query commands, from each of them to the last
+-- the query commands from a given one to the last
 abbrev asking_discharge : ℕ → List Written
 asking_discharge p = question_written p discharge_dom ∷ []
 

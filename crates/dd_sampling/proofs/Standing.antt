@@ -1,4 +1,5 @@
--- The commands of a sample, each at an allowed stage.
+-- The commands of a sample are well formed and in an allowed order: the stage of each command, the place of its kind in a script, may follow that
+-- of the command before it.
 use Rattle.std.proofs.Common.{◌≡◌, ℕ, zero, suc, ◌+◌, ◌≤◌, List, [], ◌∷◌, ◌++◌, length, map, true, codes, refl, sym, ap, ◌∙◌, subst, arith, length-append}
 use Rattle.std.proofs.lemmas.List.{length-map}
 use Rattle.std.specs.List.{list_all}
@@ -17,9 +18,9 @@ use Rattle.dd_written.specs.declared.lexeme.Lexeme.TheVariants as lexeme
 use Rattle.dd_written.specs.declared.lexeme.Mark.TheVariants as mark
 use Rattle.dd_written.specs.declared.tree.Name.TheVariants as name
 
--- ---- the parts of the lexemes
+-- ---- the parts of the lexemes: a part is what follows one percent sign, up to the next
 
--- the parts of these lexemes followed by more, whose parts are q
+-- the parts of these lexemes with more lexemes after them, whose parts are q
 abbrev parts_onto : List Lexeme → List Lexeme × List (List Lexeme) → List Lexeme × List (List Lexeme)
 parts_onto [] q = q
 parts_onto (lexeme.Mark mark.Percent ∷ ts) q = ([], (parts_onto ts q).0 ∷ (parts_onto ts q).1)

@@ -18,11 +18,11 @@ use Rattle.dd_commands.specs.declared.table.QueryKind.TheVariants as kind
 use Rattle.dd_commands.specs.declared.command.Entry.TheVariants as entry
 use Rattle.dd_commands.specs.declared.command.Command.TheVariants as command
 
--- the word at s, of l letters
+-- the word of l letters that begins at the position s
 abbrev pub word_at : ℕ → ℕ → Word
 word_at s l = record { start = s; length = l }
 
--- ---- lexemes: a word, and a number of one digit
+-- ---- lexemes: a word, and a number of one digit, at the position s
 
 abbrev pub w : ℕ → ℕ → Lexeme
 w s l = lexeme.Word (word_at s l)
@@ -32,7 +32,7 @@ n s = lexeme.Number (number_at s 1)
 
 -- ---- formulas
 
--- terms: the variable at s, without a move, with the move at m, and with the moves at m and k
+-- terms with the variable written at s: without a move, with the move written at m, and with the moves written at m and k
 
 abbrev pub here : ℕ → Term
 here s = record { first = word_at s 1; moves = [] }
@@ -43,7 +43,7 @@ step s m = record { first = word_at s 1; moves = word_at m 2 ∷ [] }
 abbrev pub steps : ℕ → ℕ → ℕ → Term
 steps s m k = record { first = word_at s 1; moves = word_at m 2 ∷ word_at k 2 ∷ [] }
 
--- the atom that the term has the symbol written at s
+-- the atom which says that the term has the symbol written at s
 abbrev pub told : Term → ℕ → Atom
 told t s = record { term = t; relation = relation.Equal (side.Number (number_at s 1)) }
 
@@ -173,7 +173,7 @@ limits_written = written limits_tokens (command.Limits (number_at 8 1) (number_a
 abbrev pub rule_written : ℕ → ℕ → ℕ → List Lexeme → Formula → Written
 rule_written s named l tokens f = written (w s 4 ∷ w named l ∷ tokens) (command.Rule (word_at named l) f)
 
--- the configuration, whose height has this many digits
+-- the lexemes of the configuration, whose height has this many digits
 abbrev pub conf_tokens : ℕ → List Number → List Lexeme
 conf_tokens digits ns = w 171 4 ∷ w 176 1 ∷ lexeme.Mark mark.OpenList ∷ n 179 ∷ lexeme.Number (number_at 181 digits) ∷ lexeme.Mark mark.CloseList ∷ map lexeme.Number ns
 

@@ -1,5 +1,5 @@
--- The tokens of a sample. Its text is a front, the digits of the height, the symbols, and a tail. Front and tail are the same in all
--- samples, so their tokens are computed. Those of the digits and of the symbols follow by induction.
+-- The tokens of a sample. Its text consists of a front, the digits of the height with a bracket, the symbols, and a tail. The front and the tail
+-- are the same in all samples, so their tokens are computed. The tokens of the digits and of the symbols are found by induction.
 use Rattle.std.proofs.Common.{◌≡◌, ℕ, zero, suc, ◌+◌, ◌*◌, ◌≤◌, List, [], ◌∷◌, ◌++◌, length, map, take, drop, true, codes, refl, sym, ap, ◌∙◌, arith, append_assoc, length-append, append-nil, subst}
 use Rattle.std.proofs.lemmas.{List.map-append, Bool.eq-eqb, Bool.lt-ltb, Bool.and_from}
 use Rattle.std.proofs.lemmas.List.Folds.{list_all-append}
@@ -28,7 +28,7 @@ front_tokens = (tokens_of front_text).list
 abbrev pub tail_tokens : List Token
 tail_tokens = (tokens_of tail_text).list
 
--- a sample up to the end of its symbols, which are n turns; its height is written by the digit d and then the digits ds
+-- a sample up to the end of its symbols, which are n turns; its height is written as the digit d and then the digits ds
 abbrev pub upper : ℕ → List ℕ → ℕ → List ℕ
 upper d ds n = front_text ++ (d ∷ (ds ++ 93 ∷ repeat n turn))
 

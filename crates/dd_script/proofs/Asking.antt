@@ -8,7 +8,7 @@ use Rattle.dd_topology.specs.Sets.{row_allows}
 use Rattle.dd_pattern.specs.Tile.{Tile}
 use Rattle.dd_formula.specs.{Living.Fits, Allowed.HasAllowed}
 use Rattle.dd_question.specs.{Questions.Asked, Questions.membership, Questions.box, Questions.IsFormed, Questions.excess_of, Questions.IsSoundAsked}
-use Rattle.dd_question.specs.lemmas.AllowedLaws.{allowed_from_box}
+use Rattle.dd_formula.specs.lemmas.AllowedTiles.{allowed_from_box}
 use Rattle.dd_pairs.specs.lemmas.{ComparisonLaws.comparison_fits, QueryLaws.item_at}
 use Rattle.dd_script.specs.{Parts.Parts, Parts.Known, Parts.LocalRule, Parts.Automaton, Parts.Query, Questions.asked, Questions.map_question, Questions.conjugacy_question, Questions.comparisons_for, Asking.AreOf, Asking.AreSound}
 use Rattle.dd_pairs.specs.{Comparisons.ComparisonOf, Comparisons.image, Comparisons.change, Comparisons.pair_of, Comparisons.IsPair, Queries.of_both, Queries.of_three, Queries.of_four, Queries.map_comparisons, Queries.conjugate_comparisons}
@@ -23,7 +23,7 @@ module _ (k : Known) (x : LocalRule) (t : Tile) (rule : IsRuleOf k.setting x) (k
     symbols = subst (λ n. All (λ symbol. symbol < n) t.symbols) (sym rule.symbols) kept.symbols;
   }
 
-  -- the symbol at place i of a configuration is at the node i % nodes, which allows it
+  -- place i of a configuration belongs to the node i % nodes, which allows the symbol there
   member_allowed : HasAllowed x t
   member_allowed = allowed_from_box x t kept.tile
       (λ i within. ap (λ rows. row_allows rows (i % t.nodes) (get_or t.symbols i 0)) rule.allowed ∙ kept.allowed i within)
@@ -45,7 +45,7 @@ module _ (s : Parts) (ok : IsScriptOf s) where
   membership_fits (Some x) None of kept = tt
   membership_fits (Some x) (Some t) of kept = ((of.rule, kept.tile, member_fits s.known x t of kept, member_allowed s.known x t of kept), of)
 
-  -- the pair of each of these parts is well formed
+  -- the pair of each of these comparisons is well formed
   abbrev ArePaired : List ComparisonOf → Type 0
   ArePaired ps = All (λ p. IsPair s.known.setting (pair_of s.known.setting p)) ps
 

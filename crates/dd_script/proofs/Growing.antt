@@ -25,7 +25,7 @@ module _ (s : Parts) (is : IsScriptOf s) {R A C : List (List ℕ)} {rs : List Lo
   abbrev pub grown : Parts
   grown = record { known = record (s.known) { rules = R; automata = A; configurations = C }; rules = rs; automata = fs; configurations = ts; queries = qs }
 
-  -- a query names the same items and asks the same, about the same pairs
+  -- a query names the same items as before, asks the same question, and consists of the same comparisons
   same_query : (q : Query) → IsQueryWithin s.known q → IsQueryWithin grown.known q × (asked grown q ≡ asked s q) × (comparisons_for grown q ≡ comparisons_for s q)
   same_query q has = grind arith
 
@@ -39,7 +39,7 @@ module _ (s : Parts) (is : IsScriptOf s) {R A C : List (List ℕ)} {rs : List Lo
         within_limits = ap (option_and_then (excess_of s.known.limits)) same.1 ∙ of.within_limits;
       }
 
-  -- a script stays sound with more definitions, if its queries could be asked before them
+  -- what holds of a script still holds with more definitions, if all its queries could be asked before these
   pub more : All (IsQueryOf s) qs → IsScriptOf grown
   more old = record {
     known = grind arith;

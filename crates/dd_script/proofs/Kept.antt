@@ -19,15 +19,15 @@ IsFresh s = (s.rules ≡ []) × (s.automata ≡ []) × (s.configurations ≡ [])
 abbrev last_of_header : ℕ
 last_of_header = stage Head.Limits
 
--- while a command of this stage belongs to the header, nothing is defined
+-- if commands of this stage belong to the header, nothing is defined or asked
 abbrev pub IsReady : ℕ → Parts → Type 0
 IsReady place s = place ≤ last_of_header → IsFresh s
 
--- the default weights 0, 1, .. are at most 1,000, as there are at most 1,001 of them
+-- the default weights 0, 1, .. are at most 1,000, if there are at most 1,001 of them
 light_range : (n : ℕ) → n ≤ 1001 → All (λ w. w ≤ 1000) (range_with_len 0 n)
 light_range n le = λ i d lt. omega (arith, le, length-range_with_len 0 n, get_or-range_with_len 0 n i d)
 
--- if neither of two options is there, the second is not there
+-- if `option_or` of two options is `None`, so is the second option
 second_none : {X Y : Type 0} (o : Option Y) (f : X → Y) (p : Option X) → option_or o (option_map f p) ≡ None → p ≡ None
 second_none o f p e = grind arith
 
@@ -44,7 +44,7 @@ module _ (d : Draft) (is : IsScriptOf (parts_of d)) where
   pub ready_behind : (c : Command) → IsReady (stage (head_of c)) s → IsReady (next_stage (head_of c)) (behind c)
   ready_behind c ready = grind arith
 
-  -- a header command may change all that is known but the names; a later one only adds definitions and queries
+  -- a command of the header may change all that is known except the names of definitions; a later command only adds a definition or a query
   pub kept_behind : (c : Command) → IsReady (stage (head_of c)) s → IsSoundMeaning d.context (meaning d.context d.made.automata c) → asked_fault s (meaning d.context d.made.automata c) ≡ None
       → HavePairs d.context.known (comparisons_in s (meaning d.context d.made.automata c)) → HasSets (behind c).known → IsScriptOf (behind c)
   kept_behind (Command.Rule name f) ready sound faultless pairs has =

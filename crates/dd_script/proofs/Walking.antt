@@ -18,7 +18,7 @@ use Rattle.dd_script.proofs.Kept.{IsReady, HasSets, ready_behind, kept_behind}
 abbrev pub meant : Draft → Written → Meaning
 meant d w = meaning_of d.context d.made.automata w.command
 
--- if neither the text nor the counts have a fault, only what is asked can have one
+-- if neither the command's text nor its counts have a fault, only its question and pairs can have one
 module _ (d : Draft) (w : Written) (m : Meaning) (none : first_fault (written_faults d.context w) ≡ None) (few : counted_sizes d.context d.made.automata w.command ≡ []) (is : m ≡ meant d w) where
   pub asked_is : fault_at d w ≡ asked_fault (parts_of d) m
   asked_is = rw (none, few, is)
@@ -39,7 +39,7 @@ module _ (d : Draft) (w : Written) (m : Meaning) (none : first_fault (written_fa
 abbrev rest_of : Draft → List Written → Option Located × Parts
 rest_of d ws = (first_from d.context.text d.context.has_topology d.context.number (parts_of d) ws, after_all d.context.text d.context.has_topology d.context.number (parts_of d) ws)
 
--- i commands are read, without a fault; so the first fault of the rest is that of the whole text, and the rest leads to the script
+-- The first i commands were read and had no fault. So the first fault of the remaining ones is that of the whole text, and they lead to its script.
 pub record Sofar (text : List ℕ) (ws : List Written) (i : ℕ) (d : Draft) : Type 0 where
   pub from : ℕ
   pub left : List (List Lexeme)
@@ -57,7 +57,7 @@ begins text ws d written begun kept =
     subst (Sofar text ws 0) (sym begun)
     (record { from = 0; left = (texts_of (lexemes_of text)).1; are = written.1.1; fresh = λ header. (refl, refl, refl, refl); script = kept; same_text = refl; leads = refl })
 
--- the command's stage is at least `from`; the later commands start from the stage after it
+-- the command's stage is at least `from`, and the later commands start from the stage after it
 next_one : (text : List ℕ) (from : ℕ) (ps : List (List Lexeme)) (w : Written) (ws : List Written) → AreCommands text from ps (w ∷ ws)
     → (from ≤ stage_of w) × (left : List (List Lexeme)) × AreCommands text (stage_after w) left ws
 next_one text from [] w ws are = absurd are
@@ -70,7 +70,7 @@ module _ (text : List ℕ) (ws : List Written) (i : ℕ) (d : Draft) (w : Writte
   here : (sofar.from ≤ stage_of w) × (left : List (List Lexeme)) × AreCommands text (stage_after w) left (drop (i + 1) ws)
   here = next_one text sofar.from sofar.left w (drop (i + 1) ws) (rw split at sofar.are)
 
-  -- `rest_of` before the command at i, if that command has this first fault
+  -- what `rest_of` gives before the command at i, if `found` is the first fault of that command
   abbrev rest_with : Option Fault → Option Located × Parts
   rest_with found =
       let rest = rest_of (with_meaning d (meant d w)) (drop (i + 1) ws) in (option_or (option_map (located d.context.number) found) rest.0, rest.1)
@@ -96,7 +96,7 @@ module _ (text : List ℕ) (ws : List Written) (i : ℕ) (d : Draft) (w : Writte
         leads = leads_with None means.faultless;
       })
 
-  -- reading stops here
+  -- reading stops at this command, because it has a fault
   pub stops : IsScript text (tree_of text ws) → (f : Fault) → fault_at d w ≡ Some f → HasFault d.context.text d.context.number (kind_of d.context.text f)
   stops written f found =
       subst (λ (t : List ℕ). HasFault t d.context.number (kind_of t f)) (sym sofar.same_text) (record {

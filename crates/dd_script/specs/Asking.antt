@@ -16,7 +16,7 @@ AreOf k (question.density x strip ws) = IsRuleOf k.setting x
 AreOf k (question.least x along ws) = IsRuleOf k.setting x
 AreOf k (question.discharge x radius margin vs ws) = IsRuleOf k.setting x
 
--- the question is well formed, exceeds no limit, and has rules as `AreOf` says
+-- the question is well formed, exceeds no limit, and its rules are as `AreOf` says
 pub record IsSoundIn (k : Known) (a : Asked) : Type 0 where
   pub sound : IsSoundAsked k.limits a
   pub of : AreOf k a

@@ -1,4 +1,4 @@
--- Scripts while their commands are read one by one.
+-- Drafts of scripts, which grow while the commands are read one by one.
 use Rattle.std.specs.Prelude.{ℕ, ◌+◌, ◌≡◌, ◌≤◌, List, Bool, Option, None}
 use Rattle.dd_values.specs.Bounds.{most_commands}
 use Rattle.dd_script.specs.{Tree.SyntaxFault, declared.draft.Draft.Draft, declared.fault.ScriptFault.ScriptFault}

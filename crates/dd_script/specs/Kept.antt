@@ -7,7 +7,7 @@ use Rattle.dd_pairs.specs.Made.{HavePairs}
 use Rattle.dd_script.specs.Parts.{Parts, Query}
 pub use Rattle.dd_script.specs.Questions.{query_excess, comparisons_for}
 
--- the query names what exists; its numbers and vectors are within their bounds; neither its pairs nor its question exceeds a limit
+-- what the query names exists; its numbers and vectors are within their bounds; neither its pairs nor its question exceeds a limit
 pub record IsQueryOf (s : Parts) (q : Query) : Type 0 where
   pub within : IsQueryWithin s.known q
   pub pairs : HavePairs s.known (comparisons_for s q)
@@ -17,7 +17,7 @@ pub record IsQueryOf (s : Parts) (q : Query) : Type 0 where
 pub record IsScriptOf (s : Parts) : Type 0 where
   -- the numbers of nodes and symbols, the weights and the limits are in range and agree
   pub known : IsSound s.known
-  -- rules, configurations and automata, with the rules in them, have the script's topology, nodes and symbols
+  -- the rules, the configurations, and the automata with the rules in them have the script's topology, nodes and symbols
   pub rules : AreNamed (IsRuleOf s.known.setting) s.known.rules s.rules
   pub automata : AreNamed (IsAutomatonOf s.known.setting) s.known.automata s.automata
   pub configurations : AreNamed (IsConfigurationOf s.known.setting) s.known.configurations s.configurations

@@ -1,4 +1,4 @@
--- types of other crates: syntax trees, their faults, and what is known
+-- types of other crates: syntax trees, their faults, and what a script has set and named before a command
 pub mod Tree
 -- the parts of a script
 pub mod Parts
@@ -6,11 +6,11 @@ pub mod Parts
 pub mod Questions
 -- what holds of every script
 pub mod Kept
--- what each command changes, and the first fault
+-- what each command changes, and the first fault of a text
 pub mod Walk
 -- what holds of each question of a script
 pub mod Asking
 -- which bytes spell a script, and how all others are refused
 pub mod Scripts
--- scripts while their commands are read one by one
+-- drafts of scripts, which grow while the commands are read one by one
 pub mod Drafts

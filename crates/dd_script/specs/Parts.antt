@@ -6,8 +6,9 @@ pub use Rattle.dd_known.specs.declared.{known.Setting.Setting, known.Known.Known
 pub use Rattle.dd_query.specs.declared.queries.Query.{Query}
 use Rattle.dd_script.specs.declared.script.Made.{Made}
 
--- A script, as a value of specs. `known` holds what it says of cells, and its names, weights and limits. The rules, automata and
--- configurations are in the order of their definitions, and the queries in the order in which they are asked.
+-- A script, as contracts see it. `known` holds its nodes, symbols and topology, which symbols each node allows, the names of what it defines, its
+-- weights and its limits. The rules, automata and configurations are in the order of their definitions, and the queries in the order in which they
+-- are asked.
 pub record Parts : Type 0 where
   pub known : Known
   pub rules : List LocalRule
@@ -15,6 +16,6 @@ pub record Parts : Type 0 where
   pub configurations : List Tile
   pub queries : List Query
 
--- what is known, with what is defined and asked
+-- the parts of the script whose names and settings are k, and which defines and asks what m holds
 abbrev pub parts : Known → Made → Parts
 parts k m = record { known = k; rules = m.rules; automata = m.automata; configurations = m.configurations; queries = m.queries }

@@ -13,7 +13,7 @@ use Rattle.dd_script.specs.Parts.{Parts, LocalRule, Automaton, Query, Setting}
 abbrev pub map_question : Setting → LocalRule → LocalRule → Automaton → Asked
 map_question s x y f = question.box x (goal_of s (image x f y))
 
--- does each automaton map configurations of one rule to those of the other, and are the two inverse to each other?
+-- does f map configurations of x to those of y, does g map those of y to those of x, and are f and g inverse to each other there?
 abbrev pub conjugacy_question : Setting → LocalRule → LocalRule → Automaton → Automaton → Asked
 conjugacy_question s x y f g =
     question.conjugacy (conjugacy_by x y (pair_of s (image x f y)) (pair_of s (image y g x)) (pair_of s (change x g f)) (pair_of s (change y f g)))
@@ -35,17 +35,18 @@ asked s (Query.Density rule strip) = option_map (λ x. question.density x strip 
 asked s (Query.Least rule periods) = option_map (λ x. question.least x periods s.known.weights) (slice_get s.rules rule)
 asked s (Query.Discharge rule radius margin vectors) = option_map (λ x. question.discharge x radius margin vectors s.known.weights) (slice_get s.rules rule)
 
--- the limit on its work that the query's question exceeds, if any; the work depends on the script's limits of search
+-- the limit on the work for a question that the query's question exceeds, if any; the work depends on the script's limits of the searches
 abbrev pub query_excess : Parts → Query → Option Excess
 query_excess s q = option_and_then (excess_of s.known.limits) (asked s q)
 
--- the comparisons that a query consists of; then the pairs of automata that it asks about
+-- the comparisons that a query consists of (questions about an image or a change under automata), and below the pairs of automata that the query asks
+-- about
 abbrev pub comparisons_for : Parts → Query → List ComparisonOf
 comparisons_for s q = comparisons_asked s.rules s.automata q
 
 abbrev pub pairs_for : Parts → Query → List Pair
 pairs_for s q = pairs_of s.known.setting s.rules s.automata q
 
--- the query with a number, from 1
+-- the query with this number; queries are numbered from 1
 abbrev pub query_at : Parts → ℕ → Option Query
 query_at s number = slice_get s.queries (number - 1)

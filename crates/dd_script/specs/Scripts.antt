@@ -28,7 +28,7 @@ kind_of bytes Fault.TwiceVector = twice (codes "vector")
 kind_of bytes Fault.Dimension = dimension
 kind_of bytes (Fault.Size l) = size l
 
--- the bytes are a text of the grammar; the first fault of its commands is of this kind, in the command with the number n
+-- the bytes are a text of the grammar; the first fault of its commands is of kind k and belongs to the command with the number n
 pub record HasFault (bytes : List ℕ) (n : ℕ) (k : RefusalKind) : Type 0 where
   pub tree : Syntax
   pub written : IsScript bytes tree
@@ -36,7 +36,7 @@ pub record HasFault (bytes : List ℕ) (n : ℕ) (k : RefusalKind) : Type 0 wher
   pub comes_first : first_located_fault bytes tree.commands ≡ Some (located n found)
   pub is : k ≡ kind_of bytes found
 
--- the bytes are refused for the first command that is not well formed, otherwise for the first fault
+-- the bytes are refused for the first command that is not well formed; or if all are well formed, for the first fault
 abbrev pub RefusedAs : List ℕ → ℕ → RefusalKind → Type 0
 RefusedAs bytes n syntax = IsSyntaxFault bytes n
 RefusedAs bytes n (unknown text) = HasFault bytes n (unknown text)
@@ -44,7 +44,7 @@ RefusedAs bytes n (twice text) = HasFault bytes n (twice text)
 RefusedAs bytes n dimension = HasFault bytes n dimension
 RefusedAs bytes n (size l) = HasFault bytes n (size l)
 
--- the bytes are refused as above; or memory ran out, and then only the number 0 is promised
+-- the bytes are refused as above; or memory ran out, and then it is only promised that the number is 0
 abbrev pub IsRefusedAs : List ℕ → ℕ → ScriptKind → Type 0
 IsRefusedAs bytes n ScriptKind.Syntax = RefusedAs bytes n syntax
 IsRefusedAs bytes n (ScriptKind.Unknown text) = RefusedAs bytes n (unknown (string_bytes text))

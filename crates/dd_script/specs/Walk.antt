@@ -1,4 +1,4 @@
--- The commands of a script one by one: what each changes, and the first fault.
+-- The commands of a script, one by one: what each changes, and the first fault.
 use Rattle.std.specs.Prelude.{ℕ, ◌+◌, List, [], ◌∷◌, ◌++◌, length, Bool, ◌==◌, Option, Some, None, unwrap_or}
 use Rattle.std.specs.{List.list_any, List.range_with_len, Option.option_or, Option.option_map, Option.option_and_then}
 use Rattle.dd_topology.specs.Sets.{restricted}
@@ -20,8 +20,8 @@ start = record { known = known_start; rules = []; automata = []; configurations 
 
 -- ---- what a command changes
 
--- The script after one more command, with this meaning. If nodes or symbols change, each node allows each symbol again; if
--- symbols change, the weight of each is its index.
+-- The script s after one more command, which has this meaning. If the command gives nodes or symbols, each node allows each symbol again. If the
+-- command gives symbols, the weight of each symbol is its index.
 abbrev pub with : List ℕ → Parts → Meaning → Parts
 with bytes s (Meaning.Topology g) = record s { known = record (s.known) { setting = record (s.known.setting) { topology = g } } }
 with bytes s (Meaning.Nodes nodes given g) =
@@ -45,7 +45,7 @@ with bytes s (Meaning.Query query) = record s { queries = s.queries ++ query ∷
 abbrev pub context : List ℕ → Bool → ℕ → Parts → Context
 context bytes topology n s = record { text = bytes; has_topology = topology; number = n; known = s.known }
 
--- the query, if the command is one
+-- the query, if the command with this meaning is one
 abbrev pub query_in : Meaning → Option Query
 query_in (Meaning.Topology g) = None
 query_in (Meaning.Nodes nodes given g) = None
@@ -63,7 +63,7 @@ query_in (Meaning.Query query) = Some query
 abbrev pub query_fault : Parts → Query → Option Fault
 query_fault s q = option_or (earliest (faults_in_order s.known (comparisons_for s q))) (option_map (λ e. Fault.Size (limit_of e)) (query_excess s q))
 
--- the same for a command, if it is a query
+-- the fault that `query_fault` gives for the command, if it is a query
 abbrev pub asked_fault : Parts → Meaning → Option Fault
 asked_fault s m = option_and_then (query_fault s) (query_in m)
 
@@ -74,8 +74,8 @@ comparisons_in s m = unwrap_or (option_map (comparisons_for s) (query_in m)) []
 abbrev pub meaning_at : List ℕ → Bool → ℕ → Parts → Written → Meaning
 meaning_at bytes topology n s w = meaning_of (context bytes topology n s) s.automata w.command
 
--- The first fault of the command's text; otherwise the first limit on counts that is exceeded; otherwise `asked_fault` of the
--- command's meaning.
+-- The first fault of a command. It is the first fault of the command's text; or if there is none, the first limit on counts that the command exceeds;
+-- or if there is none, `asked_fault` of the command's meaning.
 abbrev pub fault_of : List ℕ → Bool → ℕ → Parts → Written → Option Fault
 fault_of bytes topology n s w =
     option_or (first_fault (written_faults (context bytes topology n s) w))
@@ -103,14 +103,14 @@ abbrev pub after_all : List ℕ → Bool → ℕ → Parts → List Written → 
 after_all bytes topology n s [] = s
 after_all bytes topology n s (w ∷ ws) = after_all bytes topology (n + 1) (next bytes topology n s w) ws
 
--- whether the command gives a topology, by its name or by its edges: these commands have one stage
+-- whether the command gives a topology, by its name or by its edges: these commands have a stage of their own in the order of commands
 abbrev pub is_topology : Written → Bool
 is_topology w = stage_of w == stage Head.Topology
 
 abbrev pub has_topology : List Written → Bool
 has_topology ws = list_any is_topology ws
 
--- commands are numbered from 1
+-- the first fault of a script's commands, which are numbered from 1
 abbrev pub first_located_fault : List ℕ → List Written → Option Located
 first_located_fault bytes ws = first_from bytes (has_topology ws) 1 start ws
 

@@ -1,4 +1,4 @@
-//! A script while its commands are read one by one.
+//! The draft of a script, which grows while its commands are read one by one.
 ghost use Rattle.std.specs.Prelude.{◌≡◌, ◌≤◌, ◌++◌, [], ◌∷◌, Contains, OnOk, IfOk, MatchResult};
 ghost use Rattle.dd_values.specs.Bounds.{most_commands};
 ghost use Rattle.dd_written.specs.Values.{word_text};
@@ -30,7 +30,8 @@ pub(crate) struct Draft {
     pub(crate) made: Made,
 }
 
-/// Adds a name that the list does not hold. If the list is longer than any script's, the error is that memory ran out.
+/// Adds the name, which is not in the list yet. If the list is longer than it can be in any script, the error is that memory
+/// ran out.
 fn add_name(alloc: Global, text: &Text, names: &mut Names, name: Word) -> Result<(), AllocError>
     requires { ¬ Contains names.old (word_text text.now name) }
     ensures { OnOk result (names.new ≡ names.old ++ word_text text.now name ∷ []) }
@@ -64,8 +65,8 @@ impl Draft {
         })
     }
 
-    /// Refuses a query if one of its pairs, the question about one of them, or its own question exceeds a limit. Accepts every
-    /// other command.
+    /// Refuses a query if one of its pairs of automata, the question about one of these pairs, or its own question exceeds a limit.
+    /// Accepts all other queries and commands.
     fn check_limits(&self, alloc: Global, meaning: &Meaning) -> Result<(), Refusal>
         requires script { IsScriptOf (parts_of self.now) }
         requires sound { IsSoundMeaning self.now.context meaning.now }
@@ -103,7 +104,7 @@ impl Draft {
         Ok(meaning)
     }
 
-    /// Adds the next command, whose meaning this is.
+    /// Adds the next command, which has this meaning.
     pub(crate) fn add(&mut self, alloc: Global, meaning: Meaning) -> Result<(), AllocError>
         requires counted { self.old.context.number ≤ most_commands }
         requires sound { IsSound self.old.context.known }

@@ -11,7 +11,7 @@ use thiserror::Error;
 /// What is wrong with a command.
 #[derive(Debug, Drop, Error)]
 pub enum ScriptKind {
-    /// It is not well formed.
+    /// The command is not well formed.
     #[error("not well formed")]
     Syntax,
     /// This name is unknown.
@@ -32,8 +32,8 @@ pub enum ScriptKind {
 }
 
 /// Why a text is not a script. `command` is the number of the first command that is not well formed. If all are well formed, it is
-/// that of the first command with a fault, and `kind` is the first fault of that command. Commands are numbered from 1. The number
-/// 0 stands for what comes before the first command; it is also given if memory ran out.
+/// the number of the first command with a fault, and `kind` is the first fault of that command. Commands are numbered from 1. The
+/// number 0 stands for the text before the first command, and is also given if memory ran out.
 #[derive(Debug, Drop, Error)]
 #[error("command {command}: {kind}")]
 pub struct ScriptFault {

@@ -1,4 +1,5 @@
-//! Scripts: from bytes to rules, automata, configurations and queries.
+//! Scripts: from bytes to the rules, automata and configurations that a script defines, and the queries that it asks. Each query
+//! asks a question, which holds the rules, automata and configurations themselves, not their names.
 #![tactic(auto)]
 
 mod draft;

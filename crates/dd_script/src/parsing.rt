@@ -32,7 +32,7 @@ fn has_topology(commands: &[Written]) -> bool
     commands.iter().any(|written| is_topology(written))
 }
 
-/// The refusal of the command with this number for this fault.
+/// The error that says that the command with this number has this fault.
 fn refusal_for(
     alloc: Global,
     text: &Text,
@@ -54,7 +54,8 @@ fn refusal_for(
     Ok(ScriptFault { command, kind })
 }
 
-/// Adds all commands of a text to the draft. If one has a fault, the error is the first such command, with its first fault.
+/// Adds all commands of a text to the draft. If some command has a fault, the error names the first such command and its first
+/// fault.
 fn walk(alloc: Global, draft: &mut Draft, commands: &[Written]) -> Result<(), ScriptFault>
     requires begun { draft.old ≡ draft_of draft.old.context.text (has_topology commands.now) 1 start }
     requires kept { IsScriptOf start }
@@ -81,7 +82,8 @@ fn walk(alloc: Global, draft: &mut Draft, commands: &[Written]) -> Result<(), Sc
     Ok(())
 }
 
-/// The script that the commands of a text spell. If one has a fault, the error is the first such command, with its first fault.
+/// The script that the commands of a text spell. If some command has a fault, the error names the first such command and its
+/// first fault.
 fn script_of(alloc: Global, text: Text, commands: &[Written]) -> Result<Script, ScriptFault>
     requires written { IsScript text (record { text = text; commands = commands.now }) }
     requires each { All (IsWritten text) commands.now }
@@ -102,8 +104,9 @@ fn script_of(alloc: Global, text: Text, commands: &[Written]) -> Result<Script, 
 /// The script that the bytes spell, or why they spell none.
 ///
 /// # Errors
-/// The first command that is not well formed; otherwise the first command with a fault, and its first fault. Faults come in this
-/// order: an unknown name, a repetition, a wrong dimension or number of entries, a limit exceeded. Or memory ran out.
+/// The error names the first command that is not well formed. If all are well formed, it names the first command with a fault, and
+/// the first fault of that command. Faults come in this order: an unknown name, a repetition, a wrong dimension or number of
+/// entries, a limit exceeded. Or the error says that memory ran out.
 pub fn parse(alloc: Global, bytes: &[u8]) -> Result<Script, ScriptFault>
     requires { length bytes.now ≤ most_script }
     ensures spelled { IfOk result (Spells bytes.now) }

@@ -11,8 +11,8 @@ use dd_pairs::{Pair, conjugacy};
 use dd_query::Query;
 use dd_question::Question;
 
-/// What a query asks, with rules, automata and configurations in place of their indices. `pairs` are those of the query. A question
-/// that weighs configurations has the script's weights.
+/// What a query asks, with rules, automata and configurations in place of their indices. `pairs` are the pairs of the query. If the
+/// question weighs configurations, it has the script's weights.
 pub(crate) fn question_of<'a>(
     known: &'a Known,
     made: &'a Made,

@@ -20,7 +20,8 @@ pub(crate) struct Made {
     pub(crate) queries: Items<Query>,
 }
 
-/// All that a script says. `known` holds what it says of cells, and its names, weights and limits. `made` holds what it defines and asks.
+/// The contents of a script. `known` holds its nodes, symbols and topology, which symbols each node allows, the names of what
+/// it defines, its weights and its limits. `made` holds the rules, automata and configurations themselves, and the queries.
 #[derive(Drop)]
 pub(crate) struct Contents {
     pub(crate) known: Known,
@@ -106,7 +107,7 @@ impl Script {
         self.contents.get().known.weights.as_slice()
     }
 
-    /// The limits of the search for answers.
+    /// The limits of the searches for answers.
     pub fn limits(&self) -> &Limits
         ensures value { result.now ≡ self.now.known.limits }
         ensures kept { IsScriptOf self.now }
@@ -156,8 +157,8 @@ impl Script {
     ghost use Rattle.dd_script.specs.Questions.{pairs_for};
     ghost use Rattle.dd_script.specs.Asking.{Asks, AreSound};
 
-    /// The pairs of automata that a query of the script asks about: none, unless it is about images or a conjugacy. A script doesn't
-    /// keep them, since each may be as large as the script.
+    /// The pairs of automata that a query of the script asks about. There are none unless the query is about an image or a conjugacy.
+    /// A script doesn't store the pairs, since each may be as large as the script.
     ///
     /// # Errors
     /// Memory ran out.
@@ -176,8 +177,9 @@ impl Script {
         }
     }
 
-    /// What a query of the script asks, with rules, automata and configurations in place of their indices. `pairs` are those of the
-    /// query. The question has the script's limits; if it weighs configurations, it has the script's weights. Nothing is allocated.
+    /// What a query of the script asks, with rules, automata and configurations in place of their indices. `pairs` are the pairs of
+    /// the query. The question has the script's limits. If it weighs configurations, it has the script's weights. The call allocates
+    /// nothing.
     pub fn question<'a>(&'a self, query: &'a Query, pairs: &'a [Pair]) -> CheckedQuestion<'a>
         requires query { Contains self.now.queries query.now }
         requires pairs { pairs.now ≡ pairs_for self.now query.now }

@@ -1,4 +1,4 @@
--- A check accepts the whole output of a run, with the run's status. For the answers are right, so they are certificates; and a
+-- A check accepts the whole output of a run, with the run's status. This is so since the answers are right and hence certificates, and since a
 -- text is the text of at most one output.
 use Rattle.std.proofs.Common.{◌≡◌, ℕ, zero, suc, ◌+◌, ◌-◌, ◌<◌, ◌≤◌, List, [], ◌∷◌, ◌++◌, length, max, Bool, true, false, Some, None, refl, ap, sym, subst, ◌∙◌, add-one, append_assoc, arith}
 use Rattle.std.proofs.lemmas.List.Elements.{All-nil, All-cons}

@@ -11,7 +11,7 @@ use Rattle.dd_session.proofs.Words.{different, alone, one_sample}
 
 -- ---- what is read and written
 
--- The words ask for something, so `IsIdle` says nothing of the session.
+-- If the words ask for something, all that `IsIdle` says is that the status is not `BadWords`.
 idle_never : {S K : Type 0} (words : List (List ℕ)) (source : Change S) (sink : Change K) (status : Status) → status ≢ BadWords → ¬ AreBad words
     → IsIdle words source sink status
 idle_never words source sink status never asked = record {

@@ -1,4 +1,4 @@
--- How a check ended, and what the bytes of a source, where they are known, decide of it.
+-- How a check ended, and what its status says about the bytes of the source, if these are known.
 use Rattle.std.proofs.Common.{◌≡◌, ◌≢◌, inl, inr, ℕ, suc, ◌+◌, ◌≤◌, List, [], ◌++◌, Bool, true, false, None, Some, refl, sym, ◌∙◌, ap, subst, length, arith, append-nil, length-append}
 use Rattle.std.proofs.KnownBytes.{Consumes-nil}
 use Rattle.std.specs.declared.option.Option.{Option}
@@ -48,7 +48,7 @@ check_long source sink Rejected more wrote = absurd wrote
 pub took_output : (old new : Option (List ℕ)) (bytes : List ℕ) → ReadToEnd old new bytes → length bytes ≤ most_checked → GivesAtMost old new (most_checked + 1)
 took_output old new bytes to_end short = record { given = bytes; consumed = to_end.consumed; few = omega (arith, short) }
 
--- ---- what the bytes decide
+-- ---- what the status says about the bytes
 
 -- a text is the text of at most one output
 abbrev pub OneOutput : Type 0
@@ -71,7 +71,7 @@ module _ (one_output : OneOutput) (never_both : NeverBoth) where
       let same : p ≡ o = same_output bytes p o of_p can.output in
       never_both o.script s n k can.spelled (subst (λ (q : Output). RefusedAs q.script n k) same refused)
 
-  -- what holds of the bytes that were read holds of those that were known
+  -- what holds of the bytes that were read holds of the known bytes of the source
   of_known : (bytes : List ℕ) (left : Option (List ℕ)) (P : List ℕ → Type 0) → Read (Some bytes) left P → (length bytes ≤ most_checked) × P bytes
   of_known bytes left P given =
       let same : bytes ≡ given.bytes = known_bytes bytes given.bytes left given.read in

@@ -1,4 +1,4 @@
--- What a check of bytes wrote, by what its parts wrote.
+-- What a check of bytes wrote, put together from what its parts wrote.
 use Rattle.std.proofs.Common.{◌≡◌, ◌≤◌, length, inl, inr, ℕ, List, Bool, true, false, codes, string_bytes, refl, sym, ap, subst}
 use Rattle.std.specs.declared.option.Option.{Option}
 use Rattle.dd_certificate.specs.declared.answer.Answer.{Answer}

@@ -1,4 +1,4 @@
--- What the bytes of a source, where they are known, decide of the status of a run.
+-- What the status of a run says about the bytes of the source, if these are known.
 use Rattle.std.proofs.Common.{◌≡◌, ◌≢◌, inl, inr, ℕ, suc, ◌+◌, ◌≤◌, List, [], Bool, refl, true, false, ◌++◌, None, Some, sym, ◌∙◌, ap, subst, length, arith, append-nil, length-append}
 use Rattle.std.proofs.KnownBytes.{Consumes-nil}
 use Rattle.std.specs.declared.option.Option.{Option}
@@ -10,7 +10,7 @@ use Rattle.dd_session.specs.declared.status.Status.TheVariants.{Definite, SomeUn
 use Rattle.dd_session.specs.Sides.{Change}
 use Rattle.dd_session.specs.Runs.{RanOver, Ended, IsAccepted, IsAcceptedAs, DecidesStatus, RanWhole, RefusedWhole, IsRefusedInput, IsRefusedBy, too_long, no_run}
 
--- The bytes that were read to the end are those that were known.
+-- If the bytes of a source are known and it is read to its end, the bytes that were read are the known ones.
 pub known_bytes : (bytes given : List ℕ) (left : Option (List ℕ)) → ReadToEnd (Some bytes) left given → bytes ≡ given
 known_bytes bytes given None to_end = absurd to_end.consumed
 known_bytes bytes given (Some rest) to_end = to_end.consumed ∙ ap (λ (l : List ℕ). given ++ l) to_end.at_end ∙ append-nil given
@@ -65,7 +65,7 @@ module _ (never_both : NeverBoth) where
         not_accepted bytes whole.line source.bytes_new whole.refused);
   }
 
--- ---- how a session ended, by how the run over the bytes ended
+-- ---- how a session ended, told from how the run over the bytes ended
 
 -- The input was read to its end.
 pub ended_run : {S K : Type 0} (source : Change S) (sink : Change K) (given bytes : List ℕ) (status : Status) → ReadToEnd source.bytes_old source.bytes_new given

@@ -1,4 +1,4 @@
--- How queries ask engines, one after the other, and when no engine was asked.
+-- Which engines are asked as one query after another is answered, and when no engine was asked.
 use Rattle.std.proofs.Common.{◌≡◌, ◌⊎◌, ℕ, ◌+◌, ◌<◌, ◌≤◌, List, [], ◌∷◌, ◌++◌, length, take, get_or, Bool, true, false, Some, None, refl, sym, ◌∙◌, subst, inl, inr, Result, Ok, Err}
 use Rattle.std.proofs.{KnownBytes.Appends-trans, lemmas.Bool.false≢true}
 use Rattle.std.specs.{Prelude.IsSomeAnd, Prelude.IsTrue, Prelude.IfOk, Prelude.OnErr, declared.option.Option.Option, Io.KnownBytes.Appends}
@@ -52,7 +52,7 @@ some_right s (x ∷ xs) ys asks = inr (some_right s xs ys asks)
 pub engaged_none : (s : Parts) (all : List Seen) → Engages (AsksSomeBoxes s []) all all
 engaged_none s all = record { first = λ none. absurd none; nobody = λ _. refl }
 
--- an engine that was asked since a moment was asked since any earlier one
+-- the hypothesis: an engine that was asked after some moment was asked after any earlier moment
 module _ (earlier : (before between after : List Seen) → Kept before between → FirstAsked between after → FirstAsked before after) where
   -- One more query was answered.
   engaged_more : (s : Parts) (queries : List Query) (q : Query) (a b c : List Seen) → Kept a b
@@ -79,7 +79,7 @@ module _ (earlier : (before between after : List Seen) → Kept before between �
 pub header_then : (a b c : Option (List ℕ)) (bytes text more : List ℕ) → text ≡ header bytes → Appends a b text → Appends b c more → HeaderTaken a c bytes
 header_then a b c bytes text more is before after = record { more = more; appends = Appends-trans a b c _ _ (subst (Appends a b) is before) after }
 
--- The header was written, and then all answers or a prefix of them.
+-- The header was written, and then all answers and the end line, or a prefix of these.
 pub taken_before : (a b c : Option (List ℕ)) (bytes : List ℕ) (s : Parts) (text : List ℕ) (r : Result Bool RunFault) → text ≡ header bytes → Appends a b text
     → IfOk r (λ u. AnsweredToEnd answer_text b c s u) → OnErr r (AnsweredShort answer_text b c s) → HeaderTaken a c bytes
 taken_before a b c bytes s text (Ok u) is before whole short = header_then a b c bytes text _ is before whole.appends
@@ -108,7 +108,7 @@ refused_unasked P bytes left_old left_new held_old held_new is never (inr run) =
       spelled = subst (λ (l : List ℕ). Spells l run.run.script) (sym same) run.run.spelled;
     })
 
--- ---- what the status says of the engines
+-- ---- what the status says about the engines
 
 pub asks_first : (left_old left_new : Option (List ℕ)) (before after : List Seen) (given bytes : List ℕ) → ReadToEnd left_old left_new given → bytes ≡ given
     → AsksFirstOver bytes before after → AsksFirst left_old left_new before after

@@ -1,4 +1,4 @@
--- The check of answers, one after the other.
+-- The check of answers, one after another.
 use Rattle.std.proofs.Common.{◌≡◌, ◌⊎◌, inl, inr, ℕ, suc, ◌+◌, ◌-◌, ◌<◌, ◌≤◌, max, List, [], ◌∷◌, ◌++◌, length, get_or, Bool, true, false, ◌||◌, None, Some, refl, sym, ◌∙◌, ap, subst, arith, append-nil, add-one}
 use Rattle.std.proofs.{KnownBytes.Appends-trans, lemmas.Bool.cases_lt, lemmas.Option.slice_get_within, lemmas.Option.slice_get_read}
 use Rattle.std.specs.{Prelude.◌↔◌, Prelude.IsSomeAnd, Prelude.Result, Prelude.Ok, Prelude.Err, Prelude.OnErr, List.slice_get, List.list_any}
@@ -15,7 +15,7 @@ use Rattle.dd_session.specs.Checks.{accepted_line, rejected_line, accepted_lines
 use Rattle.dd_session.specs.Checked.{CheckFront}
 use Rattle.dd_session.specs.checking.Judged.{IsJudged, Judged, JudgedFront, nothing, part, most_of, RejectedHere, AcceptedEach, AcceptedAll, EachJudged}
 
--- ---- facts of an item that is there
+-- ---- facts about an item that exists
 
 some_there : {X : Type 0} (o : Option X) (P : X → Type 0) → IsSomeAnd o P → (x : X) × (o ≡ Some x) × P x
 some_there None P fact = absurd fact
@@ -40,7 +40,7 @@ accepted_within s answers n accepted =
 pub has_query_at : (s : Parts) (n : ℕ) → 1 ≤ n → n - 1 < length s.queries → HasQuery s n
 has_query_at s n numbered less = record { numbered = numbered; within = omega (arith, numbered, less) }
 
--- if this is the answer with the number and is accepted there, it is a certificate
+-- if the answer with a number is accepted, it is a certificate
 at_number : (s : Parts) (answers : List Answer) (n : ℕ) (a : Answer) → slice_get answers (n - 1) ≡ Some a → IsAcceptedAt s answers n → IsCertificate s n a
 at_number s answers n a is accepted = subst (λ (o : Option Answer). IsSomeAnd o (λ b. IsCertificate s n b)) is accepted
 
@@ -68,7 +68,7 @@ next_accepted s answers done before here number low high = elim (cases_lt done n
 next_lines : (done : ℕ) → accepted_lines (done + 1) ≡ accepted_lines done ++ accepted_line (done + 1)
 next_lines done = ap accepted_lines (add-one done)
 
--- what is written after the next answer
+-- what holds, and what was written, once the next answer is checked
 pub accepted_next : (s : Parts) (answers : List Answer) (b c : Option (List ℕ)) (done number : ℕ) → number ≡ done + 1 → AcceptedTo s answers done
     → Judged b c s answers number true → AcceptedTo s answers (done + 1)
 accepted_next s answers b c done number is before one =
@@ -214,7 +214,7 @@ each_rejected s answers a b t is told = subst (EachJudged a b s answers) is told
 pub judged_as : (s : Parts) (answers : List Answer) (a b : Option (List ℕ)) (n : ℕ) (t u : Bool) → t ≡ u → Judged a b s answers n t → Judged a b s answers n u
 judged_as s answers a b n t u is told = subst (Judged a b s answers n) is told
 
--- whether some answer is UNKNOWN, said in two ways
+-- two ways to say whether some answer is UNKNOWN agree
 pub unknown_any : (answers : List Answer) → list_any is_unknown answers ≡ has_unknown answers
 unknown_any [] = refl
 unknown_any (a ∷ answers) = ap (λ (b : Bool). is_unknown a || b) (unknown_any answers)

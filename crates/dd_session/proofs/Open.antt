@@ -1,4 +1,4 @@
--- Whether some query has no definite answer, by the right answers that were found.
+-- Whether some query has no definite answer, told from the right answers that were found.
 use Rattle.std.proofs.Common.{◌≡◌, ℕ, zero, suc, ◌<◌, List, [], ◌∷◌, length, get_or, Bool, true, false, refl, sym, ◌∙◌, subst, arith, inl, inr}
 use Rattle.std.proofs.lemmas.Bool.{false≢true, or_cases}
 use Rattle.std.specs.{List.Contains, declared.option.Option.Option}
@@ -15,7 +15,7 @@ use Rattle.dd_values.specs.lemmas.Booleans.{or_none}
 abbrev pub AnswersAgree : Parts → Type 0
 AnswersAgree s = (q : Query) (a b : Answer) → Contains s.queries q → Right s q a → Right s q b → SayTheSame a b
 
--- some query among these has the right answer UNKNOWN
+-- UNKNOWN is a right answer to some query among these
 abbrev IsOpenIn : Parts → List Query → Type 0
 IsOpenIn s queries = (q : Query) × Contains queries q × ((a : Answer) × Right s q a × (is_unknown a ≡ true))
 
@@ -45,7 +45,7 @@ pub open_as : (s : Parts) (answers : List Answer) (has : Bool) → AnswersAgree 
 open_as s answers true agree right each is = open_from s s.queries answers right is
 open_as s answers false agree right each is = λ (q, (i, below, at), (b, told, unknown)). none_open s s.queries answers agree right each is q (i, below, at) i below at b told unknown
 
--- a whole run over a script
+-- if the whole output of a script was written, this was a whole run
 whole_run : (old new : Option (List ℕ)) (bytes : List ℕ) (s : Parts) (has : Bool) → AnswersAgree s → Spells bytes s → WholeOutput old new bytes s has →
     WholeRun old new bytes has
 whole_run old new bytes s has agree spelled output = record {
@@ -55,7 +55,7 @@ whole_run old new bytes s has agree spelled output = record {
   is_open = open_as s output.answers has agree output.right output.each output.unknown_is;
 }
 
--- the status of a whole run
+-- a whole run has this status
 pub whole_over : {K : Type 0} (sink : Change K) (bytes : List ℕ) (s : Parts) (has : Bool) (status : Status) → AnswersAgree s → Spells bytes s →
     WholeOutput sink.bytes_old sink.bytes_new bytes s has → status ≡ status_of has → RanOver sink bytes status
 whole_over sink bytes s true status agree spelled output is =

@@ -1,4 +1,4 @@
--- The line for bytes that are refused, by the fault that was found.
+-- The line for bytes that are refused, told from the fault that was found.
 use Rattle.std.proofs.Common.{◌≡◌, ℕ, List, string_bytes, subst, sym, inl, inr}
 use Rattle.dd_script.specs.declared.fault.ScriptKind.{ScriptKind}
 use Rattle.dd_script.specs.Scripts.{IsRefusedAs, RefusedAs, RefusalKind, syntax, unknown, twice, dimension, size}

@@ -1,4 +1,4 @@
--- What the run of a sample wrote, by how it ended.
+-- What the run of a sample wrote, for each way in which it may end.
 use Rattle.std.proofs.Common.{◌≡◌, ◌≢◌, ℕ, List, Bool, true, false, refl, sym, ◌∙◌, subst, inl, inr}
 use Rattle.std.specs.Prelude.{string_bytes}
 use Rattle.dd_certificate.specs.Text.{answer_line}
@@ -10,7 +10,7 @@ use Rattle.dd_session.specs.{Written.AnsweredToEnd, Samples.is_memory, Samples.L
 use Rattle.dd_session.proofs.Open.{AnswersAgree, open_as}
 use Rattle.dd_script.specs.declared.fault.ScriptKind.TheVariants as refused
 
--- the lines of all answers were written, and the end line
+-- the first lines of all answers were written, and the end line
 pub lines_over : {K : Type 0} (sink : Change K) (s : Parts) (has : Bool) (status : Status) → AnswersAgree s
     → AnsweredToEnd answer_line sink.bytes_old sink.bytes_new s has → status ≡ status_of has → LinesOf sink s status
 lines_over sink s true status agree lines is =

@@ -1,4 +1,4 @@
--- How the texts of answers, or their first lines, come one after the other, and what is written of an output that is cut short.
+-- How the texts of answers, or their first lines, follow one another, and how much of an output is written if it is cut short.
 use Rattle.std.proofs.Common.{◌≡◌, ℕ, ◌+◌, ◌<◌, List, [], ◌∷◌, ◌++◌, length, take, drop, get_or, Bool, true, false, ◌||◌, refl, sym, ◌∙◌, ap, subst, inl, inr, Result, Ok, Err, IfOk, OnOk, OnErr, append-nil, append_assoc, length-append, take-append-drop, length-take-le, arith}
 use Rattle.std.proofs.{KnownBytes.Appends-trans, KnownBytes.Appends-nil, lemmas.List.take_more}
 use Rattle.std.specs.{declared.option.Option.Option, Io.KnownBytes.Appends}
@@ -38,7 +38,7 @@ has_unknown-append (x ∷ xs) ys =
 
 -- ---- lists of queries
 
--- the first queries, with one more
+-- the first queries and one more
 pub one_more : (queries : List Query) (done : ℕ) (q : Query) → done < length queries → q ≡ get_or queries done q
     → take done queries ++ q ∷ [] ≡ take (done + 1) queries
 one_more queries done q less is = ap (λ (x : Query). take done queries ++ x ∷ []) is ∙ sym (take_more queries done q less)
@@ -48,7 +48,7 @@ after_first queries done next less is = omega (arith, is, length-take-le done qu
 
 -- ---- answers one by one, each whole or its first line
 
--- Nothing was written of a text.
+-- Nothing of a text was written.
 pub front_of_nothing : (a : Option (List ℕ)) (text : List ℕ) → GainsFront a a text
 front_of_nothing a text = record { gained = []; missing = text; appends = Appends-nil a; whole = refl }
 

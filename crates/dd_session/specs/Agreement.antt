@@ -7,7 +7,7 @@ use Rattle.dd_session.specs.declared.status.Status.{Status}
 use Rattle.dd_session.specs.declared.status.Status.TheVariants.{Definite, SomeUnknown, Refused, ReadFault, WriteFault, Memory, BadWords, Rejected}
 use Rattle.dd_session.specs.{Answers.AllRight, Answers.has_unknown, Output.output_of}
 
--- The bytes are this script, and the text is the whole output of a run over them, with a right answer to each query. `has` says whether
+-- The bytes spell this script, and the text is the whole output of a run over them, with a right answer to each query. `has` says whether
 -- some answer is UNKNOWN.
 pub record IsRunOutput (bytes : List ℕ) (s : Parts) (has : Bool) (text : List ℕ) : Type 0 where
   pub spelled : Spells bytes s

@@ -15,7 +15,8 @@ pub record Engines (E : Type 0) : Type 0 where
   -- the roster before and after
   pub old : Roster E
   pub new : Roster E
-  -- what is seen of each engine, before and after
+  -- what contracts see of each engine, before and after: its two counts (how often it was asked, and how often it proposed something), and whether it
+  -- is sound
   pub before : List Seen
   pub after : List Seen
 
@@ -29,18 +30,18 @@ AreUnasked roster = roster.new ≡ roster.old
 
 -- ---- when the first engine is asked
 
--- The header, which is all lines before the first answer, was written whole.
+-- The whole header, which is all lines before the first answer, was written, perhaps with more after it.
 pub record HeaderTaken (old new : Option (List ℕ)) (bytes : List ℕ) : Type 0 where
   pub more : List ℕ
   pub appends : Appends old new (header bytes ++ more)
 
--- The bytes are a script, and the header was written whole.
+-- The bytes are a script, and the whole header was written.
 pub record Begun (old new : Option (List ℕ)) (bytes : List ℕ) : Type 0 where
   pub script : Parts
   pub spelled : Spells bytes script
   pub taken : HeaderTaken old new bytes
 
--- The source was read to its end, it gave a script, and the header was written whole.
+-- The source was read to its end, it gave a script, and the whole header was written.
 pub record HasBegun (left_old left_new held_old held_new : Option (List ℕ)) : Type 0 where
   pub bytes : List ℕ
   pub read : ReadToEnd left_old left_new bytes
@@ -75,7 +76,7 @@ pub record AsksFirstOver (bytes : List ℕ) (before after : List Seen) : Type 0 
   pub spelled : Spells bytes script
   pub first : AsksSomeBoxes script script.queries → FirstAsked before after
 
--- The source was read to its end, and the same holds of its bytes.
+-- The source was read to its end, and `AsksFirstOver` holds for its bytes.
 pub record AsksFirst (left_old left_new : Option (List ℕ)) (before after : List Seen) : Type 0 where
   pub bytes : List ℕ
   pub read : ReadToEnd left_old left_new bytes
@@ -83,16 +84,16 @@ pub record AsksFirst (left_old left_new : Option (List ℕ)) (before after : Lis
 
 -- ---- what a session does with the engines
 
--- What holds for all words: the roster is kept.
+-- What holds for all words of the command line.
 pub record AreKept {E : Type 0} (roster : Engines E) (status : Status) : Type 0 where
-  -- Each sound engine is still there, in order, and no count has fallen.
+  -- Each sound engine is still there, in order, and no count of an engine has fallen.
   pub kept : Kept roster.before roster.after
   -- If no query is answered, no engine is asked.
   pub unanswered : IsUnanswered status → AreUnasked roster
 
 -- What holds for the word `run`.
 pub record RunConsults {S K E : Type 0} (source : Change S) (sink : Change K) (roster : Engines E) (status : Status) : Type 0 where
-  -- No engine is asked before the header is written whole.
+  -- No engine is asked before the whole header is written.
   pub late : AreUnasked roster ⊎ HasBegun source.bytes_old source.bytes_new sink.bytes_old sink.bytes_new
   -- No engine is asked for an input that is refused.
   pub refused : (bytes : List ℕ) → source.bytes_old ≡ Some bytes → ¬ IsAccepted bytes → AreUnasked roster

@@ -1,4 +1,4 @@
--- What a check read and wrote, by how it ended.
+-- What a check read and wrote, for each way in which it may end.
 use Rattle.std.specs.Prelude.{◌≡◌, ◌⊎◌, ℕ, ◌+◌, ◌≤◌, List, ◌++◌, length, Bool, true, false}
 use Rattle.std.specs.{declared.option.Option.Option, Io.KnownBytes.Appends}
 use Rattle.dd_outside.specs.Bytes.{GainsFront, ReadToEnd, GivesMore}
@@ -15,7 +15,7 @@ pub record WholeCheck (old new : Option (List ℕ)) (has : Bool) (bytes : List �
   pub all : IsAllAccepted has bytes
   pub appends : Appends old new (accepted_lines (length all.output.answers) ++ checked_line (length all.output.answers))
 
--- Some query is rejected, and the whole text up to the line of the first one was written.
+-- Some query is rejected, and all lines up to that of the first rejected query were written.
 pub record WholeRejection (old new : Option (List ℕ)) (bytes : List ℕ) : Type 0 where
   pub done : ℕ
   pub rejected : IsRejectedAfter done bytes
@@ -27,7 +27,7 @@ pub record WholeRefusedOutput (old new : Option (List ℕ)) (bytes : List ℕ) :
   pub refused : IsRefusedOutput bytes line
   pub appends : Appends old new line
 
--- A prefix of the text for these answers was written: of the lines of the first accepted queries, and of what follows them.
+-- A prefix of the text for these answers was written. This text has the lines of the first `done` queries, which are accepted, and then `ending`.
 pub record CheckFront (old new : Option (List ℕ)) (s : Parts) (answers : List Answer) : Type 0 where
   pub done : ℕ
   pub ending : List ℕ
@@ -35,7 +35,7 @@ pub record CheckFront (old new : Option (List ℕ)) (s : Parts) (answers : List 
   pub is_ending : IsEnding s answers done ending
   pub front : GainsFront old new (accepted_lines done ++ ending)
 
--- The bytes are checked, and a prefix of the text for them was written.
+-- The bytes are an output with a script, and a prefix of the text for them was written.
 pub record ShortCheck (old new : Option (List ℕ)) (bytes : List ℕ) : Type 0 where
   pub output : Output
   pub script : Parts
@@ -48,7 +48,7 @@ pub record ShortRefusedOutput (old new : Option (List ℕ)) (bytes : List ℕ) :
   pub refused : IsRefusedOutput bytes line
   pub front : GainsFront old new line
 
--- What a check of these bytes wrote, by its status.
+-- What a check of these bytes wrote, for each status.
 abbrev pub CheckedOver : {K : Type 0} → Change K → List ℕ → Status → Type 0
 CheckedOver sink bytes Definite = WholeCheck sink.bytes_old sink.bytes_new false bytes
 CheckedOver sink bytes SomeUnknown = WholeCheck sink.bytes_old sink.bytes_new true bytes
@@ -60,22 +60,22 @@ CheckedOver sink bytes ReadFault = ⊥
 CheckedOver sink bytes BadWords = ⊥
 CheckedOver sink bytes Rejected = WholeRejection sink.bytes_old sink.bytes_new bytes
 
--- The source was read to its end, its bytes were not too many, and P holds of them.
+-- The source was read to its end, its bytes are not too many for a check, and P holds of them.
 pub record Read (left_old left_new : Option (List ℕ)) (P : List ℕ → Type 0) : Type 0 where
   pub bytes : List ℕ
   pub read : ReadToEnd left_old left_new bytes
   pub short : length bytes ≤ most_checked
   pub holds : P bytes
 
--- The same, for the change of a source.
+-- The same, for a source before and after a call.
 abbrev pub OfBytes : {S : Type 0} → Change S → (List ℕ → Type 0) → Type 0
 OfBytes source P = Read source.bytes_old source.bytes_new P
 
--- The source gave more bytes than are checked.
+-- The source gave too many bytes for a check.
 abbrev pub IsTooLong : {S : Type 0} → Change S → Type 0
 IsTooLong source = GivesMore source.bytes_old source.bytes_new most_checked
 
--- What a check read and wrote, by its status. `ReadFault` and `WriteFault` come only if the source or the sink failed in this call.
+-- What a check read and wrote, for each status. `ReadFault` comes only if the source failed in this call, and `WriteFault` only if the sink did.
 abbrev pub CheckEnded : {S K : Type 0} → Change S → Change K → Status → Type 0
 CheckEnded source sink Definite = OfBytes source (WholeCheck sink.bytes_old sink.bytes_new false)
 CheckEnded source sink SomeUnknown = OfBytes source (WholeCheck sink.bytes_old sink.bytes_new true)
@@ -89,7 +89,7 @@ CheckEnded source sink Memory = OfBytes source (ShortCheck sink.bytes_old sink.b
 CheckEnded source sink BadWords = ⊥
 CheckEnded source sink Rejected = OfBytes source (WholeRejection sink.bytes_old sink.bytes_new)
 
--- What the status says of the bytes of the source.
+-- What the status says about the bytes of the source.
 pub record CheckDecides (bytes : List ℕ) (status : Status) : Type 0 where
   pub definite : status ≡ Definite → (length bytes ≤ most_checked) × IsAllAccepted false bytes
   pub some_unknown : status ≡ SomeUnknown → (length bytes ≤ most_checked) × IsAllAccepted true bytes

@@ -1,4 +1,4 @@
--- What the check of an output writes, by its bytes.
+-- What the check of an output writes, as the bytes of the output determine it.
 use Rattle.std.specs.Prelude.{◌≡◌, ◌⊎◌, ℕ, zero, suc, ◌+◌, ◌-◌, ◌≤◌, ◌<◌, max, List, [], ◌∷◌, ◌++◌, length, codes, Bool, true, false, IsSomeAnd}
 use Rattle.std.specs.{List.slice_get, Fmt.decimal}
 use Rattle.dd_certificate.specs.declared.answer.Answer.{Answer}
@@ -8,7 +8,7 @@ use Rattle.dd_script.specs.{Parts.Parts, Scripts.Spells, Scripts.RefusedAs, Scri
 use Rattle.dd_checker.specs.{Certificates.IsCertificate, Claims.Claim}
 use Rattle.dd_session.specs.{Answers.has_unknown, Output.refused_line}
 
--- The greatest number of bytes of an output that is checked.
+-- The greatest length of an output that can be checked, in bytes.
 abbrev pub most_checked : ℕ
 most_checked = 268435456
 
@@ -20,26 +20,26 @@ accepted_line number = codes "query " ++ (decimal number ++ codes " accepted\n")
 abbrev pub rejected_line : ℕ → List ℕ
 rejected_line number = codes "query " ++ (decimal number ++ codes " rejected\n")
 
--- after the lines of all queries: how many queries there are
+-- the line after those of all queries: it says how many queries there are
 abbrev pub checked_line : ℕ → List ℕ
 checked_line count = codes "checked " ++ (decimal count ++ codes "\n")
 
--- the lines for the queries 1 to `done`, all accepted
+-- the lines for the queries 1 to `done`, all of which are accepted
 abbrev pub accepted_lines : ℕ → List ℕ
 accepted_lines zero = []
 accepted_lines (suc done) = accepted_lines done ++ accepted_line (done + 1)
 
--- for bytes that are no output: `offset` is the length of their longest prefix that begins one
+-- the line for bytes that aren't an output; `offset` is the length of their longest prefix with which an output can begin
 abbrev pub offset_line : ℕ → List ℕ
 offset_line offset = codes "refused at " ++ (decimal offset ++ codes "\n")
 
--- for an output that gives no script as its script
+-- the line for an output whose script part isn't a script
 abbrev pub script_line : ℕ → RefusalKind → List ℕ
 script_line command k = refused_line (codes "refused script") command k
 
 -- ---- which answers are accepted
 
--- there are a query and an answer with this number, from 1, and the answer is a certificate of the query
+-- there are a query and an answer with this number, counted from 1, and the answer is a certificate for the query
 abbrev pub IsAcceptedAt : Parts → List Answer → ℕ → Type 0
 IsAcceptedAt s answers number = IsSomeAnd (slice_get answers (number - 1)) (λ a. IsCertificate s number a)
 
@@ -57,7 +57,7 @@ pub record AllAccepted (s : Parts) (answers : List Answer) : Type 0 where
   pub accepted : AcceptedTo s answers (length answers)
   pub claims : (number : ℕ) → 1 ≤ number → number ≤ length answers → IsTrueAt s answers number
 
--- After `done` accepted answers comes a query without an answer, an answer without a query, or an answer that is no certificate.
+-- The first `done` answers are accepted. Next comes a query without an answer, an answer without a query, or an answer that isn't a certificate.
 pub record FirstRejected (s : Parts) (answers : List Answer) (done : ℕ) : Type 0 where
   pub within : done < max (length s.queries) (length answers)
   pub before : AcceptedTo s answers done
@@ -70,19 +70,19 @@ pub record IsOutput (bytes : List ℕ) (o : Output) : Type 0 where
   pub writable : IsWritableOutput o
   pub text_is : bytes ≡ output_text o
 
--- The bytes are the text of this output, and its script is this one.
+-- The bytes are the text of this output, and the script in it is this one.
 pub record IsCheckable (bytes : List ℕ) (o : Output) (s : Parts) : Type 0 where
   pub output : IsOutput bytes o
   pub spelled : Spells o.script s
 
--- The bytes are no output, or the script in them is no script, and this line says so.
+-- The bytes aren't an output, or they are one whose script part isn't a script. This line says so.
 pub data IsRefusedOutput (bytes : List ℕ) (line : List ℕ) : Type 0 where
   malformed : (offset : ℕ) → ¬ IsWellFormed bytes → IsOffset bytes offset → line ≡ offset_line offset → IsRefusedOutput bytes line
   no_script : (o : Output) → IsOutput bytes o → (command : ℕ) (k : RefusalKind) → RefusedAs o.script command k → line ≡ script_line command k
       → IsRefusedOutput bytes line
 
--- How the text goes on after the lines of `done` accepted queries: with the line of the first rejected query, or with the last line.
--- It goes on with nothing if the check was broken off there.
+-- What follows the lines of `done` accepted queries: the line of the first rejected query, or the last line, or nothing if the check was broken
+-- off there.
 pub data IsEnding (s : Parts) (answers : List Answer) (done : ℕ) (ending : List ℕ) : Type 0 where
   broken_off : ending ≡ [] → IsEnding s answers done ending
   rejected : FirstRejected s answers done → ending ≡ rejected_line (done + 1) → IsEnding s answers done ending

@@ -1,28 +1,28 @@
--- what a session does for its words
+-- what a session does: it runs a script, checks an output or runs a sample, as the words of the command line ask
 pub mod Sessions
--- the words that a session has
+-- what the words of the command line ask for
 pub mod Words
--- a source and a sink before and after a call
+-- a source, from which bytes are read, and a sink, to which they are written, before and after a call
 pub mod Sides
 -- right answers to queries, as they are written
 pub mod Written
--- what a run reads and writes, by its status
+-- what a run reads and writes, for each status
 pub mod Runs
--- which engines of a roster a session asks
+-- which engines of a roster a session asks; a roster is a list of engines, and an engine may propose the result of a search
 pub mod Asking
--- what the run of a sample writes, by its status
+-- what the run of a sample writes, for each status
 pub mod Samples
 -- the answers of a run, and whether some query has no definite answer
 pub mod Answers
 -- the whole output of a run, and the lines for inputs that are refused
 pub mod Output
--- what a check reads and writes, by its status
+-- what a check reads and writes, for each status
 pub mod Checked
--- what the check of an output writes, by its bytes
+-- what the check of an output writes, as the bytes of the output determine it
 pub mod Checks
 -- a check accepts what a run wrote
 pub mod Agreement
 -- the check of answers one by one
 pub mod checking
--- how much is written of an answer
+-- how much of an answer is written
 pub mod writing

@@ -9,7 +9,7 @@ use Rattle.dd_session.specs.Answers.{texts}
 use Rattle.dd_faults.specs.declared.fault.Limit.TheVariants as limit
 use Rattle.dd_script.specs.declared.fault.ScriptKind.TheVariants as refused
 
--- The header of an output: all lines before the first answer. Proofs of runs need not look into it.
+-- The header of an output: all lines before the first answer. Proofs about runs need not unfold it.
 unfoldable pub header : List ℕ → List ℕ
 header bytes = lines_before bytes
 
@@ -19,7 +19,7 @@ output_of bytes answers = header bytes ++ texts answer_text 1 answers ++ end_lin
 
 -- ---- the lines for inputs that are refused
 
--- for an input that is too long
+-- the line for an input that is too long
 abbrev pub long_line : List ℕ
 long_line = codes "refused long\n"
 
@@ -53,7 +53,7 @@ refusal_kind_text (twice name) = codes "twice " ++ name
 refusal_kind_text dimension = codes "dimension"
 refusal_kind_text (size l) = codes "size " ++ limit_text l
 
--- for bytes that are no script: `words`, the number of the command, and what is wrong with it
+-- the line for bytes that aren't a script: `words`, the number of the command, and what is wrong with it
 abbrev pub refused_line : List ℕ → ℕ → RefusalKind → List ℕ
 refused_line words command k = words ++ (codes " " ++ (decimal command ++ (codes " " ++ (refusal_kind_text k ++ codes "\n"))))
 
@@ -61,7 +61,7 @@ refused_line words command k = words ++ (codes " " ++ (decimal command ++ (codes
 abbrev pub refused_words : List ℕ
 refused_words = codes "refused"
 
--- this is the line for a script that is refused for this kind of fault; if memory ran out, there is no line
+-- `line` is the line for a script that is refused for this command and this kind of fault; if memory ran out, there is no line
 abbrev pub IsLineOf : List ℕ → ℕ → ScriptKind → List ℕ → Type 0
 IsLineOf words command refused.Syntax line = line ≡ refused_line words command syntax
 IsLineOf words command (refused.Unknown name) line = line ≡ refused_line words command (unknown (string_bytes name))

@@ -1,4 +1,4 @@
--- What a run read and wrote, by how it ended.
+-- What a run read and wrote, for each way in which it may end.
 use Rattle.std.specs.Prelude.{◌≡◌, ◌⊎◌, ℕ, ◌≤◌, List, length, Bool, true, false}
 use Rattle.std.specs.{declared.option.Option.Option, Io.KnownBytes.Appends}
 use Rattle.dd_values.specs.Bounds.{most_script}
@@ -36,32 +36,32 @@ pub record RanShort (left_old left_new held_old held_new : Option (List ℕ)) : 
   pub short : length bytes ≤ most_script
   pub run : ShortRun held_old held_new bytes
 
--- The bytes spell a script and are not too many: a run accepts them.
+-- A run accepts the bytes: they spell a script, and there are not too many of them.
 pub record IsAccepted (bytes : List ℕ) : Type 0 where
   pub short : length bytes ≤ most_script
   pub script : Parts
   pub spelled : Spells bytes script
 
--- The bytes are no script, and this line says so.
+-- The bytes aren't a script, and this line says so.
 pub record IsRefusedBy (bytes : List ℕ) (line : List ℕ) : Type 0 where
   pub command : ℕ
   pub kind : RefusalKind
   pub no_script : RefusedAs bytes command kind
   pub line_is : line ≡ refused_line refused_words command kind
 
--- The bytes are no script, and the line that says so was written.
+-- The bytes aren't a script, and the line that says so was written.
 pub record WholeRefusal (old new : Option (List ℕ)) (bytes : List ℕ) : Type 0 where
   pub line : List ℕ
   pub refused : IsRefusedBy bytes line
   pub appends : Appends old new line
 
--- The bytes are no script, and a prefix of the line that says so was written.
+-- The bytes aren't a script, and a prefix of the line that says so was written.
 pub record ShortRefusal (old new : Option (List ℕ)) (bytes : List ℕ) : Type 0 where
   pub line : List ℕ
   pub refused : IsRefusedBy bytes line
   pub front : GainsFront old new line
 
--- The source gave too many bytes, or bytes that are no script, and this line says so.
+-- The source gave too many bytes, or bytes that aren't a script. This line says so.
 pub data IsRefusedInput (left_old left_new : Option (List ℕ)) (line : List ℕ) : Type 0 where
   too_long : GivesMore left_old left_new most_script → line ≡ long_line → IsRefusedInput left_old left_new line
   no_run : (bytes : List ℕ) → ReadToEnd left_old left_new bytes → length bytes ≤ most_script
@@ -79,9 +79,9 @@ pub record RefusedShort (left_old left_new held_old held_new : Option (List ℕ)
   pub refused : IsRefusedInput left_old left_new line
   pub front : GainsFront held_old held_new line
 
--- ---- by the status
+-- ---- for each status
 
--- What a run over these bytes wrote, by its status.
+-- What a run over these bytes wrote, for each status.
 abbrev pub RanOver : {K : Type 0} → Change K → List ℕ → Status → Type 0
 RanOver sink bytes Definite = WholeRun sink.bytes_old sink.bytes_new bytes false
 RanOver sink bytes SomeUnknown = WholeRun sink.bytes_old sink.bytes_new bytes true
@@ -92,7 +92,7 @@ RanOver sink bytes ReadFault = ⊥
 RanOver sink bytes BadWords = ⊥
 RanOver sink bytes Rejected = ⊥
 
--- What a run read and wrote, by its status. `ReadFault` and `WriteFault` come only if the source or the sink failed in this call.
+-- What a run read and wrote, for each status. `ReadFault` comes only if the source failed in this call, and `WriteFault` only if the sink did.
 abbrev pub Ended : {S K : Type 0} → Change S → Change K → Status → Type 0
 Ended source sink Definite = RanWhole source.bytes_old source.bytes_new sink.bytes_old sink.bytes_new false
 Ended source sink SomeUnknown = RanWhole source.bytes_old source.bytes_new sink.bytes_old sink.bytes_new true
@@ -110,7 +110,7 @@ pub record IsAcceptedAs (has : Bool) (bytes : List ℕ) : Type 0 where
   pub accepted : IsAccepted bytes
   pub is_open : IsOpenAs has accepted.script
 
--- What the status says of the bytes of the source.
+-- What the status says about the bytes of the source.
 pub record DecidesStatus (bytes : List ℕ) (status : Status) : Type 0 where
   pub definite : status ≡ Definite → IsAcceptedAs false bytes
   pub some_unknown : status ≡ SomeUnknown → IsAcceptedAs true bytes

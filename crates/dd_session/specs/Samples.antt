@@ -1,4 +1,4 @@
--- What the run of a sample wrote, by how it ended.
+-- What the run of a sample wrote, for each way in which it may end.
 use Rattle.std.specs.Prelude.{◌≡◌, ◌⊎◌, ℕ, Bool, true, false}
 use Rattle.dd_certificate.specs.Text.{answer_line}
 use Rattle.dd_script.specs.{declared.fault.ScriptKind.ScriptKind, Parts.Parts, Scripts.Spells}
@@ -17,7 +17,7 @@ is_memory refused.Dimension = false
 is_memory (refused.Size l) = false
 is_memory refused.Memory = true
 
--- The first lines of right answers to the queries of a script, as far as they were written, by the status.
+-- How far the first lines of right answers to the queries of a script were written, for each status.
 abbrev pub LinesOf : {K : Type 0} → Change K → Parts → Status → Type 0
 LinesOf sink s Definite = AnsweredToEnd answer_line sink.bytes_old sink.bytes_new s false × IsOpenAs false s
 LinesOf sink s SomeUnknown = AnsweredToEnd answer_line sink.bytes_old sink.bytes_new s true × IsOpenAs true s
@@ -34,6 +34,6 @@ pub record SampleRan {K : Type 0} (sink : Change K) (number : ℕ) (status : Sta
   pub spelled : Spells (sample_text number) script
   pub lines : LinesOf sink script status
 
--- What the run of the sample with this number wrote, by the status. It wrote nothing if memory ran out before its script was made.
+-- What the run of the sample with this number wrote, for each status. It wrote nothing if memory ran out before its script was made.
 abbrev pub SampleEnded : {K : Type 0} → Change K → ℕ → Status → Type 0
 SampleEnded sink number status = SampleRan sink number status ⊎ (IsUntouched sink × (status ≡ Memory))

@@ -1,4 +1,4 @@
--- What a session does for the words after the program's name. These are the promises of the contract of `run_diddy`.
+-- What a session does for the words after the program's name. This is what the contract of `run_diddy` promises.
 use Rattle.std.specs.Prelude.{◌≡◌, ◌↔◌, ◌≤◌, ◌+◌, ℕ, List, Some, codes}
 use Rattle.dd_values.specs.Bounds.{most_script}
 use Rattle.dd_outside.specs.Bytes.{GivesAtMost}
@@ -12,38 +12,39 @@ use Rattle.dd_session.specs.Asking.{Engines, AreUnasked, AreKept, RunConsults, I
 
 -- A run reads a script from the source, and writes its output, with a right answer to each query, to the sink.
 pub record IsRun {S K : Type 0} (source : Change S) (sink : Change K) (status : Status) : Type 0 where
-  -- What was read and what was written, by the status.
+  -- What was read and what was written, for each status.
   pub ended : Ended source sink status
-  -- If the bytes of the source are known: they are a script if they are run, and no script or too long if they are refused. Some query
-  -- has no definite answer exactly if the status says so.
+  -- What the status says about the bytes of the source, if these are known. If all queries were answered, the bytes are a script, and the status
+  -- says whether some query has no definite answer. If the bytes were refused, they aren't a script or are too long.
   pub decided : (bytes : List ℕ) → source.bytes_old ≡ Some bytes → DecidesStatus bytes status
   -- At most one byte more than a script may have is taken from the source.
   pub taken : GivesAtMost source.bytes_old source.bytes_new (most_script + 1)
 
 -- A check reads an output from the source, and writes to the sink whether the answer to each query is accepted.
 pub record IsCheck {S K : Type 0} (source : Change S) (sink : Change K) (status : Status) : Type 0 where
-  -- What was read and what was written, by the status.
+  -- What was read and what was written, for each status.
   pub ended : CheckEnded source sink status
-  -- If the bytes of the source are known: what is accepted is an output of certificates. What is rejected is an output in which an
-  -- answer is missing, is one too many, or is no certificate. What is refused is no output with a script, or is too long.
+  -- What the status says about the bytes of the source, if these are known. If they were accepted, they are an output whose answers are
+  -- certificates. If they were rejected, they are an output in which an answer is missing, is one too many, or isn't a certificate. If they were
+  -- refused, they aren't an output with a script, or are too long.
   pub decided : (bytes : List ℕ) → source.bytes_old ≡ Some bytes → CheckDecides bytes status
   -- At most one byte more than an output may have is taken from the source.
   pub taken : GivesAtMost source.bytes_old source.bytes_new (most_checked + 1)
 
--- A sample's run writes the first line of a right answer to each query of the sample script with this number.
+-- The run of a sample writes the first line of a right answer to each query of the sample script with this number.
 pub record IsSampleRun {S K : Type 0} (number : ℕ) (source : Change S) (sink : Change K) (status : Status) : Type 0 where
-  -- What was written, by the status.
+  -- What was written, for each status.
   pub ended : SampleEnded sink number status
   -- The source is left as it is.
   pub source_kept : IsUntouched source
 
--- Words that ask for nothing.
+-- What is promised about words that ask for nothing.
 pub record IsIdle {S K : Type 0} (words : List (List ℕ)) (source : Change S) (sink : Change K) (status : Status) : Type 0 where
   -- The status is `BadWords` exactly if the words ask for nothing.
   pub says : (status ≡ BadWords) ↔ AreBad words
-  -- Nothing is read then.
+  -- With this status nothing is read.
   pub source_kept : status ≡ BadWords → IsUntouched source
-  -- Nothing is written then.
+  -- With this status nothing is written.
   pub sink_kept : status ≡ BadWords → IsUntouched sink
 
 -- ---- the whole
@@ -63,9 +64,9 @@ pub record IsSession {S K : Type 0} (words : List (List ℕ)) (source : Change S
 
 -- Which engines a session asks.
 pub record Consults {S K E : Type 0} (words : List (List ℕ)) (source : Change S) (sink : Change K) (roster : Engines E) (status : Status) : Type 0 where
-  -- The roster is kept. If no query is answered, no engine is asked.
+  -- Each sound engine stays in the roster, in order. If no query is answered, no engine is asked.
   pub always : AreKept roster status
-  -- A run asks no engine before its header is written, nor for an input that is refused.
+  -- A run asks no engine before its whole header is written, and none for an input that is refused.
   pub run : IsOnly (codes "run") words → RunConsults source sink roster status
   -- A check asks no engine.
   pub check : IsOnly (codes "check") words → AreUnasked roster

@@ -1,4 +1,4 @@
--- A source and a sink before and after a call, and what each status says of them.
+-- A source and a sink before and after a call, and what each status says about them.
 use Rattle.std.specs.Prelude.{◌≡◌, ◌⊎◌, ℕ, List, Bool, true, false}
 use Rattle.std.specs.{declared.option.Option.Option, Io.KnownBytes.Appends}
 use Rattle.dd_values.specs.Counts.{Rose}
@@ -15,7 +15,7 @@ pub record Change (X : Type 0) : Type 0 where
   -- the bytes left in the source or held by the sink, if they are known
   pub bytes_old : Option (List ℕ)
   pub bytes_new : Option (List ℕ)
-  -- how often the source or sink has failed
+  -- how often the source or the sink has failed
   pub faults_old : ℕ
   pub faults_new : ℕ
 
@@ -23,11 +23,11 @@ abbrev pub change : {X : Type 0} → (X → Option (List ℕ)) → (X → ℕ) �
 change bytes faults old new =
     record { old = old; new = new; bytes_old = bytes old; bytes_new = bytes new; faults_old = faults old; faults_new = faults new }
 
--- the source or sink is as it was
+-- the source or the sink is as it was
 abbrev pub IsUntouched : {X : Type 0} → Change X → Type 0
 IsUntouched side = side.new ≡ side.old
 
--- the source or sink failed in the call
+-- the source or the sink failed in the call
 abbrev pub HasFailed : {X : Type 0} → Change X → Type 0
 HasFailed side = Rose side.faults_old side.faults_new
 
@@ -52,7 +52,7 @@ pub record LineRefused {K : Type 0} (sink : Change K) (words : List ℕ) (comman
 abbrev pub RefusedFor : {K : Type 0} → Change K → List ℕ → ℕ → ScriptKind → Status → Type 0
 RefusedFor sink words command kind status = LineRefused sink words command kind status ⊎ ((status ≡ Memory) × IsUntouched sink)
 
--- The status of a run that came to its end, by whether some answer is UNKNOWN.
+-- The status of a run that came to its end. The truth value says whether some answer is UNKNOWN.
 abbrev pub status_of : Bool → Status
 status_of true = SomeUnknown
 status_of false = Definite

@@ -2,7 +2,7 @@
 use Rattle.std.specs.Prelude.{◌≡◌, ℕ, List, [], ◌∷◌, codes, decimal, Option, Some, None}
 use Rattle.dd_sample.specs.Sample.{IsSampleNumber}
 
--- there is one word, and it is this text
+-- there is exactly one word, and it is this text
 abbrev pub IsOnly : List ℕ → List (List ℕ) → Type 0
 IsOnly text words = words ≡ text ∷ []
 
@@ -10,7 +10,7 @@ IsOnly text words = words ≡ text ∷ []
 abbrev pub IsSample : ℕ → List (List ℕ) → Type 0
 IsSample number words = IsSampleNumber number × (words ≡ codes "sample" ∷ decimal number ∷ [])
 
--- this is the number of the sample that the words ask for, or `None` if they ask for no sample
+-- the option is the number of the sample that the words ask for, or `None` if they ask for no sample
 abbrev pub IsSampleOf : List (List ℕ) → Option ℕ → Type 0
 IsSampleOf words (Some number) = IsSample number words
 IsSampleOf words None = (number : ℕ) → ¬ IsSample number words

@@ -1,6 +1,6 @@
--- Right answers to the queries of a script, as they are written. `written` gives the text of an answer to the query with a number: the
--- whole answer or its first line. `old` and `new` are the bytes that the sink holds before and after, if they are known. `has` says
--- whether some answer is UNKNOWN.
+-- Right answers to the queries of a script, as they are written. `written` takes the number of a query and an answer to it, and gives what is
+-- written of the answer: the whole text or the first line. `old` and `new` are the bytes that the sink holds before and after, if they are known.
+-- `has` says whether some answer is UNKNOWN.
 use Rattle.std.specs.Prelude.{◌≡◌, ◌⊎◌, ℕ, List, [], ◌++◌, length, Bool}
 use Rattle.std.specs.{declared.option.Option.Option, Io.KnownBytes.Appends}
 use Rattle.dd_outside.specs.Bytes.{GainsFront}
@@ -10,7 +10,7 @@ use Rattle.dd_script.specs.Parts.{Parts}
 use Rattle.dd_session.specs.{Answers.AllRight, Answers.has_unknown, Answers.texts, Output.header, Output.output_of}
 use Rattle.dd_output.specs.Outputs.{end_line}
 
--- Right answers to these queries were written. The first of them has the number `first`.
+-- Right answers to these queries were written. The first of the queries has the number `first`.
 pub record Answered (written : ℕ → Answer → List ℕ) (old new : Option (List ℕ)) (s : Parts) (queries : List Query) (first : ℕ) (has : Bool) : Type 0 where
   pub answers : List Answer
   pub right : AllRight s queries answers
@@ -32,7 +32,7 @@ pub record AnsweredToEnd (written : ℕ → Answer → List ℕ) (old new : Opti
   pub unknown_is : has_unknown answers ≡ has
   pub appends : Appends old new (texts written 1 answers ++ end_line)
 
--- A prefix of that text was written: of right answers to the first queries, and of the end line once all queries have an answer.
+-- A prefix of this text was written: right answers to the first queries, and possibly the end line, if these are all queries.
 pub record AnsweredShort (written : ℕ → Answer → List ℕ) (old new : Option (List ℕ)) (s : Parts) : Type 0 where
   pub answers : List Answer
   pub ending : List ℕ
@@ -48,8 +48,7 @@ pub record WholeOutput (old new : Option (List ℕ)) (bytes : List ℕ) (s : Par
   pub unknown_is : has_unknown answers ≡ has
   pub appends : Appends old new (output_of bytes answers)
 
--- A prefix of the output was written: of the header, of right answers to the first queries, and of the end line once all queries have
--- an answer.
+-- A prefix of this text was written: the header, right answers to the first queries, and possibly the end line, if these are all queries.
 pub record CutShort (old new : Option (List ℕ)) (bytes : List ℕ) (s : Parts) : Type 0 where
   pub answers : List Answer
   pub ending : List ℕ

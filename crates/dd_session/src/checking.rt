@@ -47,7 +47,7 @@ fn checked_line(alloc: Global, count: usize) -> Result<String, AllocError>
     format!(in alloc; "checked {count}\n")
 }
 
-// Whether there are a query and an answer with this number, from 1, and the answer is a certificate of the query.
+// Whether there are a query and an answer with this number, counted from 1, and the answer is a certificate for the query.
 fn is_accepted(
     alloc: Global,
     script: &Script,
@@ -85,7 +85,7 @@ fn check_one<K: Sink>(
     Ok(accepted)
 }
 
-// Checks the answers in order, and stops at the first that is rejected. True if all are accepted.
+// Checks the answers in order, and stops at the first rejection. True if all are accepted.
 fn check_each<K: Sink>(
     alloc: Global,
     script: &Script,
@@ -108,8 +108,8 @@ fn check_each<K: Sink>(
     Ok(true)
 }
 
-/// Checks the answers in order, and stops at the first that is rejected. If all are accepted, writes how many there are. True if all
-/// are accepted.
+/// Checks the answers in order, and stops at the first rejection. If all are accepted, writes how many there are. True if all are
+/// accepted.
 pub(crate) fn check_all<K: Sink>(
     alloc: Global,
     script: &Script,

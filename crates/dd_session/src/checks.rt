@@ -59,7 +59,7 @@ fn check_output<K: Sink>(alloc: Global, output: &Output, sink: &mut K) -> Status
     }
 }
 
-// The line for bytes that are no output. `offset` is the length of their longest prefix that begins an output.
+// The line for bytes that aren't an output. `offset` is the length of their longest prefix with which an output can begin.
 fn offset_line(alloc: Global, offset: u64) -> Result<String, AllocError>
     ensures { IfOk result (λ line. string_bytes line ≡ offset_line offset) }
 {
@@ -81,7 +81,7 @@ fn check_bytes<K: Sink>(alloc: Global, bytes: &[u8], sink: &mut K) -> Status
     }
 }
 
-// Checks what the source gives.
+// Checks the bytes that the source gives.
 fn check<S: Source, K: Sink>(alloc: Global, source: &mut S, sink: &mut K) -> Status
     ensures ended { CheckEnded (change S.left S.faults source.old source.new) (change K.held K.faults sink.old sink.new) result }
     ensures taken { GivesAtMost (S.left source.old) (S.left source.new) (most_checked + 1) }
@@ -97,18 +97,19 @@ fn check<S: Source, K: Sink>(alloc: Global, source: &mut S, sink: &mut K) -> Sta
 
 /// Reads an output from the source and checks the answer to each query of its script. Each line is written as soon as it is known.
 ///
-/// The line for the query with the number K is `query K accepted` or `query K rejected`. A query is rejected if it has no answer, or if
-/// its answer is no certificate; an answer without a query is rejected too. The first rejection ends the check. If there is none, the
-/// last line is `checked COUNT`. Then each answer is a certificate, and what it claims of all infinite configurations is true.
+/// The line for query K is `query K accepted` or `query K rejected`. A query is rejected if it has no answer, or if its answer
+/// isn't a certificate. An answer without a query is rejected too. The first rejection ends the check. If there is none, the last
+/// line is `checked COUNT`, where COUNT is the number of answers. Then each answer is a certificate, and what it claims about all
+/// infinite configurations is true.
 ///
 /// Three kinds of input are refused, each by one line:
 /// - `refused long`: the input has more than `MOST_OUTPUT` bytes.
-/// - `refused at OFFSET`: the input is no output. OFFSET is the length of its longest prefix that begins an output.
-/// - `refused script C KIND`: the script in the output is no script. C is the number of the command at fault, and KIND says what is
-///   wrong with it.
+/// - `refused at OFFSET`: the input isn't an output. OFFSET is the length of its longest prefix with which an output can begin.
+/// - `refused script C KIND`: the script part of the output isn't a script. C is the number of the command at fault, and KIND says
+///   what is wrong with it.
 ///
-/// If the source fails, nothing is written. If the sink fails or memory runs out, only a prefix of these lines may have been written. At
-/// most `MOST_OUTPUT` + 1 bytes are taken from the source.
+/// If the source fails, nothing is written. If the sink fails or memory runs out, perhaps only a prefix of these lines was written.
+/// At most `MOST_OUTPUT` + 1 bytes are taken from the source.
 pub fn check_diddy<S: Source, K: Sink>(alloc: Global, source: &mut S, sink: &mut K) -> Status
     ensures checked { IsCheck (change S.left S.faults source.old source.new) (change K.held K.faults sink.old sink.new) result }
     ensures faults { KeepsCounts (change S.left S.faults source.old source.new) (change K.held K.faults sink.old sink.new) }

@@ -6,7 +6,7 @@ ghost use Rattle.std.specs.Fmt.{decimal};
 use dd_script::{Limit, ScriptKind};
 use std::alloc::{AllocError, Global};
 
-// The word for a limit in the line of a refusal.
+// The word for a limit in the line that refuses an input.
 fn limit_text(limit: Limit) -> &'static str
     ensures { result.now ≡ limit_text limit }
 {
@@ -34,7 +34,8 @@ fn limit_text(limit: Limit) -> &'static str
     }
 }
 
-// The line for a refused command: `words`, the command's number, `fault`, and `name`, which may be the word for a limit or empty.
+// The line for a refused command. It has `words`, the command's number, `fault` and `name`. Here `name` may also be the word for a
+// limit, or empty.
 fn refused_line(
     alloc: Global,
     words: &str,
@@ -47,7 +48,8 @@ fn refused_line(
     format!(in alloc; "{words} {command} {fault}{name}\n")
 }
 
-/// The line for bytes that are no script. It begins with `words`. If memory ran out, now or when the bytes were read, there is no line.
+/// The line for bytes that aren't a script. The line begins with `words`. There is no line if memory ran out, either here or
+/// when the bytes were parsed.
 pub(crate) fn refused_text(
     alloc: Global,
     words: &str,

@@ -1,4 +1,4 @@
-//! A session: what it does for the words of the command line.
+//! A whole session, which does what the words of the command line ask for.
 ghost use Rattle.std.specs.Prelude.{◌≡◌, ◌≢◌, ◌⊎◌, ◌+◌, ◌≤◌, ◌↔◌, ℕ, List, Some, IsTrue, IfOk, map, codes, string_bytes, length};
 ghost use Rattle.dd_values.specs.Bounds.{most_script, most_commands};
 ghost use Rattle.dd_outside.specs.Bytes.{GivesAtMost};
@@ -34,7 +34,7 @@ fn is_text(word: &String, text: &str) -> bool
     word.as_str() == text
 }
 
-// Whether there is one word, and it is this text.
+// Whether there is exactly one word, and it is this text.
 fn is_only(words: &[String], text: &str) -> bool
     ensures { IsTrue result ↔ IsOnly text.now (map string_bytes words.now) }
 {
@@ -60,7 +60,7 @@ fn sample_of(words: &[String]) -> Option<u32>
     }
 }
 
-/// Writes the line for an input that is refused. The result is the status of the session.
+/// Writes the line for an input that is refused. Returns the status of the session.
 pub(crate) fn refuse<K: Sink>(sink: &mut K, line: &[u8]) -> Status
     ensures wrote { RefusedBy (change K.held K.faults sink.old sink.new) line.now result }
     ensures later { K.faults sink.old ≤ K.faults sink.new }
@@ -71,7 +71,7 @@ pub(crate) fn refuse<K: Sink>(sink: &mut K, line: &[u8]) -> Status
     }
 }
 
-/// Writes the line for bytes that are no script. It begins with `words`. The result is the status of the session.
+/// Writes the line for bytes that aren't a script. The line begins with `words`. Returns the status of the session.
 pub(crate) fn refuse_fault<K: Sink>(
     alloc: Global,
     words: &str,
@@ -135,7 +135,7 @@ fn run_bytes<K: Sink, E: Engine>(
     ensures late { (roster.new ≡ roster.old) ⊎ Begun (K.held sink.old) (K.held sink.new) bytes.now }
     ensures asked { IsToEnd result → AsksFirstOver bytes.now (roster_seen E.asked E.given E.sound roster.old) (roster_seen E.asked E.given E.sound roster.new) }
 {
-    // A law: a roster that is not asked stays as it is.
+    // Brings in a law: if no engine is asked, the roster keeps its engines.
     kept_is_reflexive();
     match parse(alloc, bytes) {
         Ok(script) => run_accepted(alloc, bytes, &script, sink, roster),
@@ -157,7 +157,7 @@ fn run<S: Source, K: Sink, E: Engine>(
     ensures late { (roster.new ≡ roster.old) ⊎ HasBegun (S.left source.old) (S.left source.new) (K.held sink.old) (K.held sink.new) }
     ensures asked { IsToEnd result → AsksFirst (S.left source.old) (S.left source.new) (roster_seen E.asked E.given E.sound roster.old) (roster_seen E.asked E.given E.sound roster.new) }
 {
-    // A law: a roster that is not asked stays as it is.
+    // Brings in a law: if no engine is asked, the roster keeps its engines.
     kept_is_reflexive();
     match read_all(alloc, source, MOST_SCRIPT) {
         Ok(bytes) => run_bytes(alloc, &bytes, sink, roster),
@@ -194,7 +194,7 @@ fn sample(alloc: Global, number: u32) -> Result<Script, AllocError>
     }
 }
 
-// Writes the first lines of the answers to a script.
+// Writes the first line of a right answer to each query of a script, and then the end line.
 fn run_lines<K: Sink, E: Engine>(
     alloc: Global,
     script: &Script,
@@ -228,7 +228,7 @@ fn run_sample<K: Sink, E: Engine>(
     ensures kept { AreKept (engines E.asked E.given E.sound roster.old roster.new) result }
     ensures asked { IsToEnd result → AsksFirstOver (sample_text number) (roster_seen E.asked E.given E.sound roster.old) (roster_seen E.asked E.given E.sound roster.new) }
 {
-    // A law: a roster that is not asked stays as it is.
+    // Brings in a law: if no engine is asked, the roster keeps its engines.
     kept_is_reflexive();
     match sample(alloc, number) {
         Ok(script) => run_lines(alloc, &script, sink, roster),
@@ -236,29 +236,31 @@ fn run_sample<K: Sink, E: Engine>(
     }
 }
 
-/// Does what the words after the program's name ask for: `run`, `check`, or `sample` and a number. Other words do nothing.
+/// Does what the words after the program's name ask for: `run`, `check`, or `sample` and a number. With other words it does
+/// nothing.
 ///
-/// `run` reads a script from the source and writes its output to the sink, with a right answer to each query. An output can hold each
-/// answer: its numbers and lists are within their bounds. The status says whether some answer is UNKNOWN, which depends on the script alone.
-/// An input of more than `MOST_SCRIPT` bytes is refused by the line `refused long`. An input that is no script is refused by the line
-/// `refused C KIND`: C is the number of the command at fault, and KIND says what is wrong with it. At most `MOST_SCRIPT` + 1 bytes are
-/// taken from the source.
+/// `run` reads a script from the source and writes its output to the sink, with a right answer to each query. Each answer is one
+/// that an output can hold: its numbers and lists are within their bounds. The status says whether some answer is UNKNOWN. This
+/// depends on the script alone. An input of more than `MOST_SCRIPT` bytes is refused with the line `refused long`. An input that
+/// isn't a script is refused with the line `refused C KIND`: C is the number of the command at fault, and KIND says what is wrong
+/// with it. At most `MOST_SCRIPT` + 1 bytes are taken from the source.
 ///
 /// `check` reads an output and checks it, as `check_diddy` says.
 ///
-/// `sample N` runs the sample script with the number N, whose text `sample_script` gives. N is a number from 1 to 16,384, in decimal without
-/// a leading zero. For each query the first line of a right answer is written as soon as it is known. The line `end` comes last. The source
-/// is left as it is.
+/// `sample N` runs the sample script with the number N, whose text `sample_script` gives. N is a number from 1 to 16,384, written
+/// in decimal without a leading zero. For each query the first line of a right answer is written as soon as it is known. The line
+/// `end` comes last. The source is left as it is.
 ///
-/// If the source fails, nothing is written. If the sink fails or memory runs out, only a prefix of the text may have been written.
+/// If the source fails, nothing is written. If the sink fails or memory runs out, perhaps only a prefix of the text was written.
 ///
-/// `run` and `sample` ask the engines of the roster before each search of a box question. What is written is right whatever they propose.
-/// So wherever the status is `Definite` or `SomeUnknown`, it and the first line of each answer are the same over every roster. Other statuses
-/// may differ, since an engine may run out of memory.
+/// `run` and `sample` ask the engines of the roster before each search that a box question takes. What is written is right,
+/// whatever the engines propose. So if the status is `Definite` or `SomeUnknown`, the status and the first line of each answer are
+/// the same with every roster. Other statuses may differ, since an engine may run out of memory.
 ///
-/// The roster is kept: on every return each sound engine is still there, in order. `run` asks no engine before its header, all lines before
-/// the first answer, is written whole. It asks none for an input that is refused. `check` asks no engine. If a run or a sample comes to its
-/// end and some query is a box question, the first engine that is left was asked, and only engines that aren't sound were dropped before it.
+/// On every return all sound engines are still in the roster, in the same order. The header of an output is all lines before the
+/// first answer. `run` asks no engine before the whole header is written, and none for an input that is refused. `check` asks no
+/// engine. If a run or a sample comes to its end and some query asks a box question, the first engine that is left, if there is
+/// one, was asked. Only engines that aren't sound were dropped before it.
 pub fn run_diddy<S: Source, K: Sink>(
     alloc: Global,
     words: &[String],
@@ -271,7 +273,7 @@ pub fn run_diddy<S: Source, K: Sink>(
     ensures engines { Consults (map string_bytes words.now) (change S.left S.faults source.old source.new) (change K.held K.faults sink.old sink.new)
         (engines asked given sound roster.old roster.new) result }
 {
-    // A law: a roster that is not asked stays as it is.
+    // Brings in a law: if no engine is asked, the roster keeps its engines.
     kept_is_reflexive();
     if is_only(words, "run") {
         spelled_or_refused();

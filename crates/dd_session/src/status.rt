@@ -5,7 +5,7 @@
 pub enum Status {
     /// Every query has a definite answer.
     Definite = 0,
-    /// Some answer is UNKNOWN: it is not known within the stated limits.
+    /// Some answer is UNKNOWN: its query wasn't settled within the stated limits.
     SomeUnknown = 1,
     /// The input was refused, and no query was answered or checked.
     Refused = 2,
@@ -17,6 +17,6 @@ pub enum Status {
     Memory = 5,
     /// The words ask for nothing that a session does.
     BadWords = 6,
-    /// A check found an answer missing, one too many, or one that is no certificate.
+    /// A check found a missing answer, an answer too many, or an answer that isn't a certificate.
     Rejected = 7,
 }

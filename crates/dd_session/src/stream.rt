@@ -1,4 +1,4 @@
-//! The answers to a script, written whole or only by their first lines. Each is written as soon as it is found.
+//! Answers the queries of a script, and writes each answer as soon as it is found: the whole answer, or only its first line.
 ghost use Rattle.std.specs.Prelude.{◌≡◌, ◌⊎◌, ◌≤◌, ◌∷◌, [], length, Contains, IfOk, OnOk, OnErr};
 ghost use Rattle.std.specs.Io.KnownBytes.{Appends};
 ghost use Rattle.dd_values.specs.Bounds.{most_commands};
@@ -48,7 +48,7 @@ impl From<dd_outside::WriteFault> for RunFault {
     }
 }
 
-/// How much is written of an answer.
+/// How much of an answer is written.
 #[derive(Clone, Copy, Debug, PartialEq, Eq)]
 pub(crate) enum Form {
     /// All its lines.
@@ -64,7 +64,7 @@ pub(crate) fn is_unknown(answer: &Answer) -> bool
     matches!(answer, Answer::Unknown { .. })
 }
 
-// The text of the answer to the query with this number, in this form.
+// The text, in this form, of the answer to the query with this number.
 fn text_in(alloc: Global, form: Form, number: u32, answer: &Answer) -> Result<Vec<u8>, AllocError>
     ensures { IfOk result (λ text. text.items ≡ text_in form number answer.now) }
 {
@@ -74,7 +74,7 @@ fn text_in(alloc: Global, form: Form, number: u32, answer: &Answer) -> Result<Ve
     }
 }
 
-// Writes the answer to the query with this number, in this form. True if it is UNKNOWN.
+// Writes, in this form, the answer to the query with this number. True if it is UNKNOWN.
 fn write_one<K: Sink>(
     alloc: Global,
     form: Form,
@@ -92,7 +92,7 @@ fn write_one<K: Sink>(
     Ok(is_unknown(answer))
 }
 
-// Answers one query and writes the answer, in this form. True if it is UNKNOWN.
+// Answers one query and writes the answer in this form. True if it is UNKNOWN.
 fn answer_one<K: Sink, E: Engine>(
     alloc: Global,
     script: &Script,
@@ -127,7 +127,7 @@ fn answer_all<K: Sink, E: Engine>(
     ensures faults { HasSinkCause (K.faults sink.old) (K.faults sink.new) result }
     ensures engines { AreEngaged (AsksSomeBoxes script.now script.now.queries) (roster_seen E.asked E.given E.sound roster.old) (roster_seen E.asked E.given E.sound roster.new) result }
 {
-    // Bring in laws of a roster that is asked several times.
+    // Bring in laws about a roster that is asked several times.
     kept_is_reflexive();
     kept_is_transitive();
     first_asked_earlier();
@@ -158,8 +158,8 @@ pub(crate) fn answer_to_end<K: Sink, E: Engine>(
     Ok(has_unknown)
 }
 
-/// Runs a script: writes its output to the sink. True if some answer is UNKNOWN. The header is all lines before the first answer. No
-/// engine is asked before the header is written whole.
+/// Runs a script: writes its output to the sink. True if some answer is UNKNOWN. The header is all lines before the first answer.
+/// No engine is asked before the whole header is written.
 pub(crate) fn run_script<K: Sink, E: Engine>(
     alloc: Global,
     bytes: &[u8],

@@ -66,7 +66,7 @@ at_flat d n u p flat at =
     let on_z = flat_run (is_active d 2) n at.k u.z p.z at.k_below (ap (λ (q : Place). q.z) at.is) parts.1 in
     and_from (nat_lt 1 d || int_eq p.y (pos 0)) (nat_lt 2 d || int_eq p.z (pos 0)) on_y on_z
 
--- ---- the gifts: along each vector, the amount of the pattern
+-- ---- the gifts: along each vector, a position gives the amount of its pattern
 
 abbrev gifts : ℕ → (Place → ℕ) → List Place → List ℕ → List Gift
 gifts m number [] a = []

@@ -1,4 +1,4 @@
--- If a filling has symbols at some cells around a position, these symbols are an admissible filling of those cells.
+-- If an admissible filling has symbols at some cells around a position, these symbols are an admissible filling of those cells.
 use Rattle.std.proofs.Common.{◌≡◌, ℕ, true, List, map, refl, sym, ap, ◌∙◌, Some, None}
 use Rattle.std.proofs.lemmas.Bool.{and_parts, and_from, false≢true}
 use Rattle.std.specs.{Prelude.Option, Prelude.is_some, Prelude.unwrap_or, Prelude.IfSome, List.Contains, List.range_with_len}
@@ -16,7 +16,7 @@ use Rattle.dd_sides.specs.Sides.{position_weight}
 use Rattle.dd_values.specs.lemmas.Lists.{map_agree}
 use Rattle.dd_sides.specs.lemmas.WordLaws.{read_word, word_has, words_have}
 
--- the symbol of a cell, counted from p
+-- the symbol of the cell c moved by p, or 0 if it has none
 abbrev pub around : Look → Place → Cell → ℕ
 around look p c = unwrap_or (look (shifted p c)) 0
 
@@ -32,7 +32,7 @@ given_passes : (P : ℕ → Type 0) (o : Option ℕ) → is_some o ≡ true → 
 given_passes P None h k = absurd (false≢true h)
 given_passes P (Some s) h k = k
 
--- all the cells have symbols there
+-- all of the cells, moved by p, have symbols
 abbrev pub HasAll : List Cell → Look → Place → Type 0
 HasAll cs look p = (c : Cell) → Contains cs c → is_some (look (shifted p c)) ≡ true
 
@@ -75,7 +75,7 @@ shown_filling x cs look p rule of flat allowed all ok =
     (yes, allowed_below x rule c.node (around look p c) yes)) in
     (the_admissible x cs of).each (map (around look p) cs) word (shown_admissible x cs look p flat all ok)
 
--- if a box around q lies within the cells, its pattern in what is shown is its pattern around p + q
+-- if the box around q lies within the cells, the pattern around q in `shown` is the pattern around p + q in `look`
 pub shown_pattern : (cs box : List Cell) (look : Look) (p q : Place) → ((c : Cell) → Contains box c → Contains cs (shifted q c)) →
     pattern_at box (shown cs look p) q ≡ pattern_at box look (moved q p)
 shown_pattern cs box look p q within =

@@ -9,7 +9,7 @@ use Rattle.dd_sides.specs.{Sums.box_sum, Sums.size_volume, Sums.from_outside, Si
 use Rattle.dd_sides.specs.{Boundaries.left_on, Boundaries.inner_count, Boundaries.outer_count, lemmas.BoxLaws.kept}
 use Rattle.dd_sides.proofs.CountLaws.{outside_count}
 
--- three, two or one of the axes are active
+-- Side(n) has n^d positions: d of the axes are active, and d is 1, 2 or 3
 pub side_volume : (d n : ℕ) → 1 ≤ d → d ≤ 3 → size_volume (side d n) ≡ n ^ d
 side_volume zero n low high = absurd (omega arith)
 side_volume (suc zero) n low high = rw (first_power n) (omega arith)

@@ -62,7 +62,7 @@ side_positions d n u p =
           (run_from (is_active d 2) n u.z p.z h.on_z),
     )
 
--- ---- each position once
+-- ---- a sum counts each position once
 
 on_past : (n : ℕ) (a q : ℤ) → a +ℤ pos n ≡ q → is_on n a q ≡ false
 on_past n a q e = grind (arith, ints)
@@ -135,7 +135,7 @@ box_once s u q =
 
 -- ---- grown boxes
 
--- a coordinate of the run that is near c
+-- a coordinate of the run that is within e of c
 record IsNearRun (active : Bool) (n e : ℕ) (a c : ℤ) : Type 0 where
   from : ℤ
   there : OnAxis active (IsAmong n) (from -ℤ a)

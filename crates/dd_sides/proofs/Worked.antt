@@ -27,7 +27,7 @@ five_from_outside = refl
 five_are_counted : box_sum (side 2 3) (place (pos 4) (negsuc 6) (pos 0)) (from_outside (side 2 3) (place (pos 4) (negsuc 6) (pos 0)) down_right) ≡ 5
 five_are_counted = refl
 
--- along (0, 4), all of its positions receive from outside
+-- along (0, 4), all positions of the square receive from outside it
 all_from_outside : outer_count 2 3 (place (pos 0) (pos 4) (pos 0)) ≡ 9
 all_from_outside = refl
 
@@ -39,7 +39,7 @@ two_vectors = refl
 four_neighbours : boundary 2 10 2 (place (pos 1) (pos 0) (pos 0) ∷ place (negsuc 0) (pos 0) (pos 0) ∷ place (pos 0) (pos 1) (pos 0) ∷ place (pos 0) (negsuc 0) (pos 0) ∷ []) (0 ∷ 1 ∷ 0 ∷ 1 ∷ 0 ∷ 1 ∷ 0 ∷ 1 ∷ []) ≡ 40
 four_neighbours = refl
 
--- radius 1, margin 2 and a greatest entry of 4
+-- the radius is 1, the margin is 2, and the greatest absolute value of an entry is 4
 reaches_seven : reach_of 1 2 (down_right ∷ place (pos 0) (negsuc 3) (pos 0) ∷ []) ≡ 7
 reaches_seven = refl
 
@@ -53,7 +53,8 @@ past_corner = refl
 off_the_plane : is_in_grown 2 3 1 (place (pos 0) (pos 0) (pos 0)) (place (pos 0) (pos 0) (pos 1)) ≡ false
 off_the_plane = refl
 
--- a rule of the line; each even x has the symbol 1, each odd x the symbol 0: two of the four positions from -1 on have a 1
+-- A rule of the line. In the filling, each even x has the symbol 1, and each odd x the symbol 0. So two of the four positions
+-- from -1 on have a 1.
 abbrev line : LocalRule
 line = record { dimension = 1; nodes = 1; symbols = 2; allowed = (true ∷ true ∷ []) ∷ []; edges = []; formula = roll-Formula (Formula-F.And []) }
 
@@ -63,8 +64,9 @@ alternating c = Some ((unsigned_abs c.position.x + 1) % 2)
 two_of_four : side_weight line (0 ∷ 3 ∷ []) alternating 4 (place (negsuc 0) (pos 0) (pos 0)) ≡ 6
 two_of_four = refl
 
--- Of any two neighbours on a line one has the symbol 1. The bound is 1 / 2, with the amounts 0 and 1 to the right. Of three
--- positions 0 1 0 only the middle one has it. What may come in from the left makes up for the rest: 3 = 2 * 1 + 1.
+-- Suppose that of any two neighbours on a line one has the symbol 1. The bound is 1 / 2: over the denominator 2, a 0 gives 0
+-- to the right, and a 1 gives 1. Of three positions 0 1 0 only the middle one has a 1. What may come in from the left makes up
+-- for the rest: 3 = 2 * 1 + 1.
 abbrev middle : Look
 middle c = Some (unsigned_abs c.position.x % 2)
 

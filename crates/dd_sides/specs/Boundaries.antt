@@ -1,11 +1,11 @@
--- The boundary term of a bound: the most that Side(n) may receive from outside. Along each vector, this is the greatest amount
--- times the number of positions that receive from outside.
+-- The boundary term of a bound: the most that Side(n), the box of side n, may receive from outside. Along each vector, this is
+-- the greatest amount times the number of positions that receive from outside.
 use Rattle.std.specs.Prelude.{ℕ, ◌+◌, ◌-◌, ◌*◌, ◌^◌, Bool, cond, ℤ, unsigned_abs, List, [], ◌∷◌, take, drop}
 use Rattle.dd_lattice.specs.{Place.Place, Boxes.is_active}
 use Rattle.dd_expansion.specs.Limits.{greatest}
 
--- How many coordinates of Side(n) on an axis receive from inside it along the entry c of a vector. On an active axis this is
--- max(0, n - |c|), otherwise 1.
+-- How many coordinates of Side(n) on an axis receive from inside it, where c is the vector's entry for this axis. On an active
+-- axis (one of the first d) this is max(0, n - |c|), otherwise 1.
 abbrev pub left_on : Bool → ℕ → ℤ → ℕ
 left_on active n c = cond active (n - unsigned_abs c) 1
 
@@ -17,8 +17,8 @@ inner_count d n v = left_on (is_active d 0) n v.x * (left_on (is_active d 1) n v
 abbrev pub outer_count : ℕ → ℕ → Place → ℕ
 outer_count d n v = n ^ d - inner_count d n v
 
--- The boundary term: the sum, over the vectors, of the greatest amount times `outer_count`. `amounts` has one amount for each pattern along the
--- first vector, then along the second, and so on.
+-- The boundary term: the sum, over the vectors, of the greatest amount along the vector times `outer_count`. `amounts` has one
+-- amount for each pattern along the first vector, then along the second, and so on.
 abbrev pub boundary : ℕ → ℕ → ℕ → List Place → List ℕ → ℕ
 boundary d n patterns [] amounts = 0
 boundary d n patterns (v ∷ vs) amounts = greatest (take patterns amounts) * outer_count d n v + boundary d n patterns vs (drop patterns amounts)

@@ -10,13 +10,13 @@ use Rattle.dd_rows.specs.{declared.rows.Rows.Rows, Programs.IsProgramOf}
 use Rattle.dd_discharge.specs.{declared.bound.Bound.Bound, Amounts.held_over}
 use Rattle.dd_sides.specs.{Sides.IsSideFilling, Sides.side_weight, Boundaries.boundary}
 
--- how far around a position a row looks: the radius, the margin and the greatest entry of the vectors
+-- how far around a position a row looks: the radius, plus the margin, plus the greatest absolute value of an entry of a vector
 abbrev pub reach_of : ℕ → ℕ → List Place → ℕ
 reach_of radius margin vs = radius + margin + greatest (map extent vs)
 
--- For each side n and position u of Z^d: move Side(n) to u, and grow it by this reach. In each admissible filling of the grown
--- box, the weight of the box of side n is at least n^d times the bound, less what the box may receive from outside. All three
--- are taken over the common denominator.
+-- For each side n and each position u of Z^d: move Side(n), the box of side n, to u, and grow it by `reach_of`. In each
+-- admissible filling of the grown box, the box of side n weighs at least n^d times the bound, less what it may receive from
+-- outside. The weight, the bound and what may be received are all taken over the common denominator.
 pub record HoldsOnSides (x : LocalRule) (ws : List ℕ) (radius margin : ℕ) (vs : List Place) (b : Bound) : Type 0 where
   pub program : Rows
   pub is_program : IsProgramOf x ws radius margin vs program

@@ -24,7 +24,7 @@ box_sum s u f = axis_sum s.z u.z (λ z. axis_sum s.y u.y (λ y. axis_sum s.x u.x
 abbrev pub size_volume : Size → ℕ
 size_volume s = s.x * (s.y * s.z)
 
--- c is one of the n coordinates from a on
+-- c is one of the n coordinates from a to a + n - 1
 abbrev pub is_on : ℕ → ℤ → ℤ → Bool
 is_on n a c = int_le a c && int_lt c (a +ℤ pos n)
 

@@ -1,4 +1,5 @@
-//! Boxes of every side at every position, and what a discharging bound says of their weight.
+//! Boxes of every side at every position, and what a discharging bound says of their weight. In a discharge, positions give
+//! weight to one another along some vectors, so that each position then holds at least the bound.
 #![tactic(auto)]
 
 mod laws;

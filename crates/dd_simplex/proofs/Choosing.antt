@@ -1,4 +1,4 @@
--- A choice among the first n places, and the order by ratio and variable.
+-- A choice among the first n places, and the order by ratio, then by variable.
 use Rattle.std.proofs.Common.{◌≡◌, ◌≢◌, ℕ, ◌+◌, ◌≤◌, List, Option, Some, None, Bool, true, false, ◌&&◌, ◌||◌, ⊎_elim, sym, ap, subst, ◌∙◌, arith}
 use Rattle.std.proofs.lemmas.{Int.ints, Bool.cases_eq}
 use Rattle.std.specs.{Bool.nat_lt, Int.RustNames.int_lt, Ordering.is_lt, Ordering.is_eq, declared.cmp.Ordering.Ordering}
@@ -44,7 +44,7 @@ chosen_new fit Before n e h f b chain = (
   λ i p g. ⊎_elim (λ (s : i ≡ n). subst (Before n) (sym s) b) (λ (s : i ≢ n). chain i (h.2 i (omega (arith, p, s)) g)) (cases_eq i n),
 )
 
--- ---- the order by ratio and variable
+-- ---- the order by ratio, then by variable
 pub precedes_itself : (a : Exact) (v : ℕ) → Precedes a v a v
 precedes_itself a v = record { ratio = at_most_refl a; tie = λ h. omega arith }
 
@@ -111,7 +111,7 @@ fits_more lines e n h f i p g = ⊎_elim
     (λ (s : i ≢ n). h i (omega (arith, p, s)) g)
     (cases_eq i n)
 
--- what holds after the first n lines
+-- what is known after the first n lines
 pub record IsFound (lines : List Line) (e n : ℕ) (least : Exact) (o : Option ℕ) : Type 0 where
   pub fit : DoRatiosFit lines e n
   pub chosen : IsChosen (does_limit lines e) (LeavesBefore lines e) n o

@@ -1,4 +1,4 @@
--- At the end the columns and the duals are feasible and have the same value, so no columns give more.
+-- At the end, the values of the columns and the duals are feasible and give the same value, so no other values of the columns give more.
 use Rattle.std.proofs.Common.{◌≡◌, ◌≢◌, ℕ, zero, suc, ◌+◌, ◌-◌, ◌<◌, List, length, Bool, true, false, cond, None, refl, sym, ap, subst, ◌∙◌, arith}
 use Rattle.std.specs.Bool.{nat_lt}
 use Rattle.dd_fraction.specs.{Exact.Exact, Exact.plus, Exact.times, Exact.minus, Exact.low, Order.IsNonneg, Order.IsAtMost}
@@ -12,7 +12,7 @@ use Rattle.dd_simplex.proofs.Totals.{eq_same, total_low, total_same, total_none,
 use Rattle.dd_simplex.proofs.{Equations.Holds, Reaching.IsReached, Reaching.start_holds, Reaching.start_says, Reaching.entering_none}
 use Rattle.dd_values.specs.lemmas.Booleans.{eq_other, lt_yes, lt_no}
 
--- ---- orders from sums
+-- ---- comparisons that follow from sums
 taken_away : (a y b : Exact) → plus a y ≡ low b → plus b (minus a) ≡ low y
 taken_away a y b e =
     sym (plus_low_left b (minus a))
@@ -54,14 +54,14 @@ module _ (p : LinearProgram) (d : Dictionary) (g : IsProgram p) (r : IsReached p
       (λ i. plus (total_same (λ j. times (coefficient p k j) (joined p u s j)) (λ j. times (coefficient p k j) (u j)) p.columns (λ j t. ap (times (coefficient p k j)) (joined_column p u s j t)) i) (joined_slack p u s k i))
       ∙ h k q
 
-  -- columns of 0, with the bounds as slacks
+  -- all columns are 0, and the slacks are the bounds
   nothing : (f : ℕ → Exact) (l : ℕ) → fraction_sum (λ j. times (f j) zero_of) l ≡ zero_of
   nothing f l = total_none (λ j. times (f j) zero_of) l (λ j _. times_zero (f j))
 
   nothing_meets : (k : ℕ) → k < length p.rows → plus (fraction_sum (λ j. times (coefficient p k j) zero_of) p.columns) (bound_at p k) ≡ times one_of (bound_at p k)
   nothing_meets k q = ap (λ (t : Exact). plus t (bound_at p k)) (nothing (coefficient p k) p.columns) ∙ (zero_plus (bound_at p k) ∙ sym (one_times (bound_at p k)))
 
-  -- one column of 1, with its negated coefficients as slacks
+  -- one column is 1 and the others are 0, and the slacks are the opposites of its coefficients
   column_alone : (j : ℕ) → j < p.columns → (f : ℕ → Exact) → fraction_sum (λ w. times (f w) (unit w j)) p.columns ≡ low (f j)
   column_alone j q f =
       total_pick (λ w. times (f w) (unit w j)) j p.columns q (λ w _ k. ap (λ (b : Bool). times (f w) (cond b one_of zero_of)) (eq_other w j k) ∙ times_zero (f w))
@@ -148,7 +148,7 @@ module _ (p : LinearProgram) (d : Dictionary) (g : IsProgram p) (r : IsReached p
       sym duals_worth
       ∙ total_same (λ k. times (dual_of p d k) (bound_at p k)) (λ k. times (minus (price d (p.columns + k))) (bound_at p k)) (length p.rows) (λ k _. ap (λ (t : Exact). times t (bound_at p k)) (dual_price k))
 
-  -- ---- rows as combinations of the program's
+  -- ---- rows as combinations of the program's rows
   side_at : (σ : Exact) (u s : ℕ → Exact)
       → ((k : ℕ) → k < length p.rows → plus (fraction_sum (λ j. times (coefficient p k j) (u j)) p.columns) (s k) ≡ times σ (bound_at p k))
       → (v : ℕ) → v < count p → d.is_basic v ≡ true
@@ -189,7 +189,7 @@ module _ (p : LinearProgram) (d : Dictionary) (g : IsProgram p) (r : IsReached p
           ∙ ((λ i. plus (sym (column_alone j t (dictionary_coefficient d v)) i) (sym slacks i))
           ∙ (side_at zero_of (λ w. unit w j) (λ k. minus (coefficient p k j)) (column_meets j t) v q b ∙ zero_times (d.bound v)))
 
-  -- ---- no columns give more
+  -- ---- no values of the columns give more
   no_more : entering (count p) d ≡ None → (xs : List Exact) → IsFeasible p xs → IsAtMost (fraction_at xs 0) d.value
   no_more h xs f = at_most_from_less X d.value (fraction_at xs 0) sum less
     where
@@ -268,7 +268,7 @@ module _ (p : LinearProgram) (d : Dictionary) (g : IsProgram p) (r : IsReached p
           by true s = rw s (zero_times (d.bound w))
           by false s = rw s (times_zero (d.cost w))
 
-  -- ---- the columns are best
+  -- ---- the values of the columns are best
   pub is_best : entering (count p) d ≡ None → (columns duals : List Exact) → length columns ≡ p.columns → ((j : ℕ) → j < p.columns → fraction_at columns j ≡ column_of d j)
       → length duals ≡ length p.rows → ((k : ℕ) → k < length p.rows → fraction_at duals k ≡ dual_of p d k)
       → low d.value ≡ d.value → low (column_of d 0) ≡ column_of d 0 → IsBest p d.value columns duals

@@ -1,5 +1,5 @@
--- What a dictionary says of its variables: an equation for each basic one, and the objective. A pivot changes neither the
--- solutions of the equations nor the objective's value.
+-- What a dictionary says about its variables: an equation for each basic one, and the objective. A pivot changes neither the solutions of the
+-- equations nor the objective's value.
 use Rattle.std.proofs.Common.{◌≡◌, ◌≢◌, ℕ, ◌<◌, Bool, true, false, ◌&&◌, ⊎_elim, refl, sym, ap, subst, ◌∙◌, arith}
 use Rattle.std.proofs.lemmas.Bool.{cases_eq}
 use Rattle.std.specs.Bool.{nat_eq}
@@ -15,14 +15,14 @@ use Rattle.dd_values.specs.lemmas.Booleans.{eq_other}
 abbrev pub left_side : ℕ → Dictionary → (ℕ → Exact) → ℕ → Exact
 left_side n d x v = fraction_sum (λ w. times (dictionary_coefficient d v w) (x w)) n
 
--- the values x of the variables meet each equation, with s times its bound
+-- the values x of the variables solve each equation, after its bound is multiplied by s
 abbrev pub Holds : ℕ → Dictionary → Exact → (ℕ → Exact) → Type 0
 Holds n d s x = (v : ℕ) → v < n → d.is_basic v ≡ true → left_side n d x v ≡ times s (d.bound v)
 
 abbrev pub objective : ℕ → Dictionary → Exact → (ℕ → Exact) → Exact
 objective n d s x = plus (times s d.value) (fraction_sum (λ w. times (price d w) (x w)) n)
 
--- in a pivot e enters and r leaves
+-- a pivot in which e enters and r leaves: e is nonbasic, r is basic, and the entry of r at e is greater than 0
 pub record IsPivot (n : ℕ) (d : Dictionary) (e r : ℕ) : Type 0 where
   pub entering : e < n
   pub leaving : r < n
@@ -56,7 +56,7 @@ then_other d e r v h k = rw (eq_other v e h, eq_other v r k) (and_true (d.is_bas
     and_true true = refl
     and_true false = refl
 
--- coefficients in the new row: those of the old one, divided by the pivot
+-- each coefficient in the new row is that of the old row, divided by the pivot entry
 pub new_row : (n : ℕ) (d : Dictionary) (e r w : ℕ) → IsPivot n d e r → dictionary_coefficient (pivoted d e r) e w ≡ times (dictionary_coefficient d r w) (inverse (d.entry r e))
 new_row n d e r w t = ⊎_elim at_e (λ (h : w ≢ e). ⊎_elim (at_r h) (λ (k : w ≢ r). other h k (d.is_basic w) refl) (cases_eq w r)) (cases_eq w e)
   where
@@ -88,7 +88,7 @@ gone q = sym (ap (plus q) (times_one (minus q)) ∙ (plus_low_right q (minus q) 
 idle : (a q : Exact) → plus a (times q zero_of) ≡ low a
 idle a q = ap (plus a) (times_zero q) ∙ plus_zero a
 
--- coefficients in a row that stays, and in the objective: the old one less a multiple of the new row's
+-- each coefficient in a row that stays, or in the objective, is the old one less a multiple of that in the new row
 pub row_then : (n : ℕ) (d : Dictionary) (e r v w : ℕ) → IsPivot n d e r → d.is_basic v ≡ true → v ≢ r
     → dictionary_coefficient (pivoted d e r) v w ≡ plus (dictionary_coefficient d v w) (times (minus (d.entry v e)) (dictionary_coefficient (pivoted d e r) e w))
 row_then n d e r v w t b vr = ⊎_elim at_v (λ (f : w ≢ v). ⊎_elim (at_e f) (λ (h : w ≢ e). ⊎_elim (at_r f h) (λ (k : w ≢ r). other f h k (d.is_basic w) refl) (cases_eq w r)) (cases_eq w e)) (cases_eq w v)
@@ -144,7 +144,7 @@ price_then n d e r w t = ⊎_elim at_e (λ (h : w ≢ e). ⊎_elim (at_r h) (λ 
     other h l true s = rw (eq_other w e h, eq_other w r l, s) (sym (idle zero_of (minus q) ∙ zero_is))
     other h l false s = rw (eq_other w e h, eq_other w r l, eq_same e e refl, s) (ap (plus (d.cost w)) (minus_times q _))
 
--- ---- a pivot keeps the equations, and the value of the objective
+-- ---- a pivot preserves the solutions of the equations, and the value of the objective
 bound_new : (d : Dictionary) (e r : ℕ) → (pivoted d e r).bound e ≡ new_bound d e r
 bound_new d e r = rw (eq_same e e refl) refl
 

@@ -1,4 +1,4 @@
--- The least number with a property, and properties of each number below another.
+-- The least number with a property, and properties of all numbers below n.
 use Rattle.std.proofs.Common.{◌≡◌, ◌≢◌, ℕ, zero, suc, ◌<◌, Option, Some, None, Bool, true, false, ◌&&◌, cond, ◌⊎◌, inl, inr, ⊎_elim, refl, sym, ap, subst, ◌∙◌, arith}
 use Rattle.std.proofs.lemmas.Bool.{cases_eq}
 use Rattle.dd_fraction.specs.{Exact.Exact, Order.IsAtMost}
@@ -33,7 +33,7 @@ all_false f (suc n) i p h = ⊎_elim
     (λ (s : i ≢ n). ap (λ (b : Bool). b && f n) (all_false f n i (omega (arith, p, s)) h))
     (cases_eq i n)
 
--- ---- the least
+-- ---- the least number with a property
 or_else_gives : (a b : Option ℕ) (m : ℕ) → or_else a b ≡ Some m → (a ≡ Some m) ⊎ ((a ≡ None) × (b ≡ Some m))
 or_else_gives None b m h = inr (refl, h)
 or_else_gives (Some k) b m h = inl h

@@ -1,4 +1,4 @@
--- Subtracting a product with 0 changes nothing, and no number of it is too large.
+-- Subtracting a product with a factor 0 changes nothing, and no number in this step is too large.
 use Rattle.std.proofs.Common.{◌≡◌, ℕ, ◌*◌, ◌%◌, true, nat_eq, refl, sym, ap, subst, ◌∙◌, arith}
 use Rattle.std.proofs.lemmas.Int.{ints, to_z-of_z}
 use Rattle.std.specs.Int.{RustNames.unsigned_abs, w128}
@@ -25,7 +25,7 @@ zero_fraction_is b f e = exact_same b zero_of e den
         ∙ (ap (greatest_common b.den) (sym left)
         ∙ (sym (greatest_common-step 0 b.den f.above) ∙ (ap (λ (z : ℤ). greatest_common (unsigned_abs z) b.den) (sym e) ∙ f.coprime)))
 
--- a signed number whose bits are 0
+-- a signed number whose bits are all 0 is 0
 pub zero_from : (x : ℤ) → SFits w128 x → nat_eq (of_z w128 x) 0 ≡ true → x ≡ pos 0
 zero_from x f h =
     let z : of_z w128 x ≡ 0 = grind (arith, h) in

@@ -1,4 +1,4 @@
--- The lines after the leaving one.
+-- The lines of a pivot: the leaving line, those after it, and all lines together.
 use Rattle.std.proofs.Common.{◌≡◌, ℕ, zero, suc, ◌+◌, ◌<◌, List, [], ◌∷◌, ◌++◌, length, take, drop, add-one, refl, sym, ap, subst, ◌∙◌, arith, drop-cons}
 use Rattle.std.proofs.lemmas.List.{Elements.All-drop, Elements.All-weaker, length-map, get_or-set_same}
 use Rattle.std.specs.{Prelude.map, List.All, List.slice_set}
@@ -22,7 +22,7 @@ back_sizes rows back leaving new r v e p s sizes n =
     All-weaker (λ l. length l.cells ≡ length (line_at rows r).cells) (λ l. length l.cells ≡ length new.cells) (λ l h. h ∙ sym size) back
     (subst (All (λ l. length l.cells ≡ length (line_at rows r).cells)) (sym parts.1) (All-drop (λ l. length l.cells ≡ length (line_at rows r).cells) (suc r) rows sizes))
 
--- a pivot maps each row but the one that it replaces
+-- applying f to all rows but row r, and putting p in its place, is the same as applying f to all rows and then replacing row r by p
 rows_go : {A B : Type 0} (f : A → B) (xs : List A) (r : ℕ) (p : B) → r < length xs → map f (take r xs) ++ p ∷ map f (drop (suc r) xs) ≡ slice_set (map f xs) r p
 rows_go f [] r p h = absurd (omega arith)
 rows_go f (x ∷ xs) zero p h = refl
@@ -31,7 +31,7 @@ rows_go f (x ∷ xs) (suc r) p h = ap (λ t. f x ∷ t) (rows_go f xs r p (omega
 pub rows_pivoted : {A B : Type 0} (f : A → B) (xs : List A) (r : ℕ) (p : B) → r < length xs → map f (take r xs) ++ p ∷ map f (drop (r + 1) xs) ≡ slice_set (map f xs) r p
 rows_pivoted f xs r p h = rw add-one (rows_go f xs r p h)
 
--- the solved line, at its new place
+-- after the pivot, line r is the solved line
 pub changed_at : (lines : List Line) (e r v : ℕ) → r < length lines → line_at (changed_lines e r v lines) r ≡ solved_line v e (line_at lines r)
 changed_at lines e r v h =
     let pivot = solved_line v e (line_at lines r) in

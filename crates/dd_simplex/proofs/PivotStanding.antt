@@ -1,4 +1,4 @@
--- The pivot of a table stands for the pivot of the dictionary.
+-- If a table stands for a dictionary, the table after a pivot stands for the dictionary after the same pivot.
 use Rattle.std.proofs.Common.{◌≡◌, ◌≢◌, ℕ, ◌<◌, List, length, Bool, true, false, cond, ⊎_elim, refl, sym, ap, subst, ◌∙◌, arith}
 use Rattle.std.proofs.lemmas.{Bool.cases_eq, List.length-set, List.get_or-set_same, List.get_or-set_other}
 use Rattle.std.specs.{Bool.nat_eq, List.slice_set, List.list_all}
@@ -65,7 +65,7 @@ module _ (n : ℕ) (t : Table) (d : Dictionary) (k : IsTable t) (s : StandsFor n
   abbrev d2 : Dictionary
   d2 = pivoted d E R
 
-  -- the new coefficients of a line or of the objective; the old ones are the list us, and a in the dictionary
+  -- the new coefficients of a line or of the objective; the old ones are the list `us` in the table, and the function `a` in the dictionary
   replaced_at : (q : Exact) (us : List Exact) (a : ℕ → Exact) (j : ℕ) → length us ≡ length t.others → j < length t.others
       → ((i : ℕ) → i < length t.others → a (other_at t.others i) ≡ fraction_at us i)
       → replaced d E R q (other_at new_others j) (a (other_at new_others j)) ≡ fraction_at (less q (slice_set us e zero_of) pivot.cells) j
@@ -88,7 +88,7 @@ module _ (n : ℕ) (t : Table) (d : Dictionary) (k : IsTable t) (s : StandsFor n
       (λ (v : j ≢ e). ap (new_entry d E R) (other_j j v) ∙ sym (pivot_else n t d k s e r inside line j p v))
       (cases_eq j e)
 
-  -- ---- what stands for what
+  -- ---- the line or the place of each variable
   new_line : ℕ → ℕ
   new_line v = cond (nat_eq v E) r (s.line v)
 
@@ -120,7 +120,7 @@ module _ (n : ℕ) (t : Table) (d : Dictionary) (k : IsTable t) (s : StandsFor n
   basic_else : (v : ℕ) → v ≢ E → v ≢ R → d2.is_basic v ≡ d.is_basic v
   basic_else v o q = then_other d (other_at t.others e) (line_at t.lines r).basic v o q
 
-  -- the line of a variable that was basic before
+  -- a variable other than E that is basic after the pivot was basic before it, and is not R
   old_line : (v : ℕ) → v < n → v ≢ E → d2.is_basic v ≡ true → (d.is_basic v ≡ true) × (v ≢ R)
   old_line v p o b =
       let vr : v ≢ R = λ (x : v ≡ R). true_false (sym b ∙ (ap d2.is_basic x ∙ basic_R)) in
@@ -137,7 +137,7 @@ module _ (n : ℕ) (t : Table) (d : Dictionary) (k : IsTable t) (s : StandsFor n
   column_apart : (w : ℕ) → w < n → d.is_basic w ≡ false → w ≢ E → s.column w ≢ e
   column_apart w p b o x = o (sym (s.column_is w p b) ∙ ap (other_at t.others) x)
 
-  -- by lines: the solved one, and each that stays
+  -- to show a property of each new line, it is enough to show it for the solved line and for each line that stays
   by_line : (P : ℕ → Type 0) → P r → ((i : ℕ) → i < length t.lines → i ≢ r → P i) → (i : ℕ) → i < length new_lines → P i
   by_line P a b i p =
       let q : i < length t.lines = let z = lines_are in omega (arith, z, p) in
@@ -260,7 +260,7 @@ module _ (n : ℕ) (t : Table) (d : Dictionary) (k : IsTable t) (s : StandsFor n
         subst IsFraction (sym (solved_at E e j (line_at t.lines r) (in_row j p)))
         (product_fraction (fraction_at (slice_set (line_at t.lines r).cells e one_of) j) (inverse p_cell) (divided_above j p) upside.above f)
 
-    -- coefficients us less the multiple of the pivot's
+    -- the coefficients `us`, less q times those of the solved line
     less_fractions : (q : Exact) (us : List Exact) (j : ℕ) → length us ≡ length t.others → IsFraction q → ((i : ℕ) → i < length t.others → IsFraction (fraction_at us i))
         → do_all_less_fit q (slice_set us e zero_of) pivot.cells ≡ true → j < length t.others → IsFraction (fraction_at (less q (slice_set us e zero_of) pivot.cells) j)
     less_fractions q us j h o is f p =

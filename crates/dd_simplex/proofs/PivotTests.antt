@@ -1,5 +1,5 @@
--- The pivot of a table, number by number: its cells, and the tests whether they fit, are those of the dictionary that the
--- table stands for.
+-- The pivot of a table, number by number. Each new cell, and each test whether a number fits, is the same as in the pivot of the dictionary that
+-- the table stands for.
 use Rattle.std.proofs.Common.{◌≡◌, ◌≢◌, ℕ, ◌+◌, ◌<◌, List, length, take, drop, Bool, true, false, not, ◌&&◌, ◌||◌, cond, Some, None, ⊎_elim, refl, sym, ap, subst, ◌∙◌, arith}
 use Rattle.std.proofs.lemmas.{Bool.cases_eq, List.length-set}
 use Rattle.std.specs.{Bool.nat_eq, List.slice_set, List.list_all}
@@ -30,7 +30,7 @@ less_fraction a q b p o r f =
     let two = IsFraction-minus (times q b) one in
     sum_fraction a (minus (times q b)) p two.above (and_right (does_product_fit q b) (does_sum_fit a (minus (times q b))) f)
 
--- at a place that is set to 0, the difference fits if the product does
+-- at a place that is set to 0, the numbers of the difference fit if those of the product do
 emptied_less : (q b : Exact) → 0 < q.den → 0 < b.den → does_product_fit q b ≡ true → does_less_fit zero_of q b ≡ true
 emptied_less q b p r f =
     let g = product_fraction q b p r f in
@@ -83,7 +83,7 @@ module _ (n : ℕ) (t : Table) (d : Dictionary) (k : IsTable t) (s : StandsFor n
       subst (λ (a : Exact). 0 < a.den) (sym at)
       (let l = IsLowest-times (fraction_at (slice_set (line_at t.lines r).cells e one_of) j) (inverse (fraction_at (line_at t.lines r).cells e)) in l.positive)
 
-  -- ---- the coefficients us of a line whose coefficient at e is q
+  -- ---- the coefficients `us` of a line whose coefficient at e is q
   emptied_size : (us : List Exact) → length us ≡ length t.others → length (slice_set us e zero_of) ≡ length pivot.cells
   emptied_size us h = length-set us e zero_of ∙ (h ∙ sym pivot_length)
 
@@ -161,7 +161,7 @@ module _ (n : ℕ) (t : Table) (d : Dictionary) (k : IsTable t) (s : StandsFor n
       first : does_product_fit (line_at t.lines r).bound (inverse c) ≡ does_quotient_fit (d.bound R) (d.entry R E)
       first = sym (λ z. does_product_fit (s.bounds r line z) (inverse (cell_is z)))
 
-      -- the number that is divided at each place
+      -- the number at each place before the division
       divided : (j : ℕ) → j < length t.others → fraction_at (slice_set (line_at t.lines r).cells e one_of) j ≡ cond (nat_eq (other_at t.others j) E) one_of (d.entry R (other_at t.others j))
       divided j p = ⊎_elim
           (λ (v : j ≡ e).
@@ -240,7 +240,7 @@ module _ (n : ℕ) (t : Table) (d : Dictionary) (k : IsTable t) (s : StandsFor n
               ∙ ((λ z. (not (sym (s.basic_is i p) z) || sym (eq_other v R other) z) || (does_less_fit (d.bound v) (d.entry v E) (new_bound d E R) && do_coefficients_fit n d E R (d.entry v E) (d.entry v)))
               ∙ test)
 
-  -- ---- the objective, and all of it
+  -- ---- the objective, and then the whole table
   pub objective_stands : does_table_objective_fit e pivot t.value t.costs ≡ does_objective_fit n d E R
   objective_stands =
       (λ z. (does_product_fit (sym (s.costs e inside) z) (pivot_bound z) && does_sum_fit (sym s.value z) (times (sym (s.costs e inside) z) (pivot_bound z)))

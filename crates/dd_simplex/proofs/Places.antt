@@ -1,4 +1,4 @@
--- What a loop over cells made at each place, and whether its numbers fit.
+-- What each place holds after a loop over cells, and whether its numbers fit.
 use Rattle.std.proofs.Common.{◌≡◌, ◌≢◌, ℕ, zero, suc, ◌+◌, ◌<◌, List, [], ◌∷◌, length, get_or, take, drop, Bool, true, ◌&&◌, refl, sym, ap, ◌∙◌, arith}
 use Rattle.std.proofs.lemmas.List.{length-map, length-set, get_or-set_same, get_or-set_other}
 use Rattle.std.specs.{Prelude.map, List.slice_set, List.list_all}
@@ -42,7 +42,7 @@ pub list_true : {A : Type 0} (f : A → Bool) (xs : List A) (a : A) → ((i : �
 list_true f [] a h = refl
 list_true f (x ∷ xs) a h = and_both (f x) (list_all f xs) (h 0 (omega arith)) (list_true f xs a (λ i p. h (suc i) (omega (arith, p))))
 
--- ---- a list with one place changed
+-- ---- a test of every place but one
 beside_go : {A : Type 0} (f : A → Bool) (xs : List A) (r i : ℕ) (a : A) → (list_all f (take r xs) && list_all f (drop (suc r) xs)) ≡ true
     → i < length xs → i ≢ r → f (get_or xs i a) ≡ true
 beside_go f [] r i a h p k = absurd (omega (arith, p))

@@ -1,5 +1,5 @@
--- What holds of each dictionary that a run reaches: its bounds are at least 0, its equations have the same solutions as those
--- of the first dictionary, and its objective has the same value.
+-- What holds for each dictionary that a run reaches. Its bounds are at least 0, its equations have the same solutions as those of the first
+-- dictionary, and its objective has the same value at each solution.
 use Rattle.std.proofs.Common.{◌≡◌, ◌≢◌, ℕ, zero, suc, ◌+◌, ◌-◌, ◌<◌, ◌≤◌, length, Bool, true, false, not, ◌&&◌, ◌||◌, Some, None, ◌⊎◌, inl, inr, ⊎_elim, refl, sym, ap, subst, ◌∙◌, arith}
 use Rattle.std.proofs.lemmas.{Bool.cases_eq, Int.ints}
 use Rattle.std.specs.{Bool.nat_lt, Ordering.is_gt, Int.RustNames.int_lt, declared.cmp.Ordering.Ordering}
@@ -41,7 +41,7 @@ take_off n k = omega arith
 put_on : (n v : ℕ) → n ≤ v → n + (v - n) ≡ v
 put_on n v p = omega arith
 
--- a row of the program, as an equation with its slack
+-- a row of the first dictionary says the same as the program's row with its slack
 pub start_row : (p : LinearProgram) (k : ℕ) (x : ℕ → Exact) → k < length p.rows
     → left_side (count p) (start_dictionary p) x (p.columns + k) ≡ plus (fraction_sum (λ j. times (coefficient p k j) (x j)) p.columns) (x (p.columns + k))
 start_row p k x h =
@@ -70,7 +70,7 @@ start_row p k x h =
         total_pick (λ i. times (dictionary_coefficient (start_dictionary p) (p.columns + k) (p.columns + i)) (x (p.columns + i))) k (length p.rows) h none
         ∙ ap (λ (t : Exact). low (times t (x (p.columns + k)))) one
 
--- columns and slacks that meet each row of the program
+-- columns and slacks that meet each row of the program solve the equations of the first dictionary
 pub start_holds : (p : LinearProgram) (s : Exact) (x : ℕ → Exact)
     → ((k : ℕ) → k < length p.rows → plus (fraction_sum (λ j. times (coefficient p k j) (x j)) p.columns) (x (p.columns + k)) ≡ times s (bound_at p k))
     → Holds (count p) (start_dictionary p) s x
@@ -111,7 +111,7 @@ sign_cases (pos zero) = inr (omega (arith, ints))
 sign_cases (pos (suc n)) = inl (omega (arith, ints))
 sign_cases (negsuc n) = inr (omega (arith, ints))
 
--- b - a · y is not below 0 where y is at most b / a
+-- for b and y of at least 0, b - a · y is at least 0 if a isn't greater than 0, or if y is at most b / a
 bound_sign : (a b y : Exact) → IsNonneg b → IsNonneg y → (IsPositive a → IsAtMost y (times b (inverse a))) → IsNonneg (less_product b a y)
 bound_sign a b y p q least = ⊎_elim up down (sign_cases a.num)
   where
@@ -128,7 +128,7 @@ bound_sign a b y p q least = ⊎_elim up down (sign_cases a.num)
     down : pos 0 ≤ℤ neg_ℤ a.num → IsNonneg (plus b (minus (times a y)))
     down s = nonneg_plus b _ p (subst IsNonneg (sym (minus_times a y)) (nonneg_times (minus a) y (record { sign = s }) q))
 
--- the row of r has the least ratio, so r leaves
+-- a pivot in which e enters and r leaves, where the row of r has the least ratio
 pub record IsLeast (n : ℕ) (d : Dictionary) (e r : ℕ) : Type 0 where
   pub pivot : IsPivot n d e r
   pub least : (v : ℕ) → v < n → d.is_basic v ≡ true → IsPositive (d.entry v e) → IsAtMost (ratio d e r) (ratio d e v)
@@ -183,7 +183,7 @@ entering_is n d e h =
       cost = over_positive (d.cost e) (and_right (not (d.is_basic e)) (is_over (d.cost e)) f.1);
     }
 
--- if nothing enters, no price is greater than 0
+-- if no variable enters, no price is greater than 0
 pub entering_none : (n : ℕ) (d : Dictionary) (w : ℕ) → entering n d ≡ None → w < n → IsNonneg (minus (price d w))
 entering_none n d w h q = by (d.is_basic w) refl
   where

@@ -1,4 +1,4 @@
--- Along the run, the table stands for a dictionary, and from this dictionary the run goes on as from the first one.
+-- Throughout the run, the table stands for a dictionary, and the rest of the run from this dictionary stops as the whole run does.
 use Rattle.std.proofs.Common.{◌≡◌, ◌≢◌, ℕ, zero, suc, ◌+◌, ◌<◌, List, length, Bool, true, false, ◌&&◌, cond, Option, Some, None, ⊎_elim, refl, sym, ap, subst, ◌∙◌, arith}
 use Rattle.std.proofs.lemmas.{Int.ints, List.length-set}
 use lib.IntN.{ℤ, pos}
@@ -18,7 +18,7 @@ use Rattle.dd_simplex.proofs.Standing.{entering_stands, entering_none_stands, un
 use Rattle.dd_simplex.proofs.{Starting.start_table, Starting.start_stands, Unbounded.is_limited, Unbounded.always_leaves}
 use Rattle.dd_values.specs.lemmas.Booleans.{and_both, and_second, lt_yes}
 
--- the table t stands for a dictionary from which the run has at most `left` more pivots
+-- the table t stands for a dictionary of the run, from which at most `left` more pivots are allowed
 pub record IsAlong (p : LinearProgram) (pivots left : ℕ) (t : Table) : Type 0 where
   pub dictionary : Dictionary
   pub table : IsTable t
@@ -39,7 +39,7 @@ along_start p k t g h = record {
   width = h.width;
 }
 
--- ---- one iteration of the run, from what enters and leaves
+-- ---- one iteration of the run, given what enters and what leaves
 iteration_is : (n k : ℕ) (d : Dictionary) (e : ℕ) (o : Option ℕ) → entering n d ≡ Some e → leaving n d e ≡ o → run n (suc k) d ≡ iteration (run n k) n d e o
 iteration_is n k d e o h l = rw (h, l) refl
 

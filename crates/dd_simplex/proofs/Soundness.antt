@@ -35,7 +35,7 @@ never_unbounded p (suc k) d g r h = at (λ (t : Dictionary) (q : IsReached p t).
     at again None n h = absurd cc
     at again (Some e) n h = under again e n (leaving (count p) d e) refl h
 
--- n values of a function, from that of i on
+-- the n values f i, f (i + 1), .. of a function f
 listed : (ℕ → Exact) → ℕ → ℕ → List Exact
 listed f i zero = []
 listed f i (suc n) = f i ∷ listed f (suc i) n

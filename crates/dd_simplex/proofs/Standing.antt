@@ -1,4 +1,4 @@
--- The code's choices, and its tests of numbers, are those of the dictionary that its table stands for.
+-- The code makes the same choices, and its tests of numbers have the same results, as those for the dictionary that its table stands for.
 use Rattle.std.proofs.Common.{◌≡◌, ℕ, ◌<◌, ◌≤◌, length, Bool, true, false, not, ◌&&◌, ◌||◌, Option, Some, None, refl, sym, ap, subst, ◌∙◌, arith}
 use Rattle.std.specs.Ordering.{is_gt}
 use Rattle.dd_fraction.specs.{Exact.Exact, Exact.times, Exact.inverse, Order.IsAtMost, Order.exact_cmp}

@@ -1,4 +1,4 @@
--- Sums over the first n numbers.
+-- Sums of the first n values of a function.
 use Rattle.std.proofs.Common.{◌≡◌, ◌≢◌, ℕ, zero, suc, ◌+◌, ◌<◌, Bool, true, cond, ⊎_elim, refl, sym, ap, subst, ◌∙◌, arith}
 use Rattle.std.proofs.lemmas.{Bool.cases_eq, Int.ints}
 use Rattle.std.specs.Bool.{nat_eq}
@@ -65,7 +65,7 @@ pub total_nonneg : (f : ℕ → Exact) (n : ℕ) → ((v : ℕ) → v < n → Is
 total_nonneg f zero h = zero_nonneg
 total_nonneg f (suc n) h = nonneg_plus (fraction_sum f n) (f n) (total_nonneg f n (λ v p. h v (omega (arith, p)))) (h n (omega arith))
 
--- sums of coefficient times value: a scaled one, and one with a multiple of another
+-- sums of coefficient times value, where all coefficients are multiplied by k, or where q times other coefficients are added to them
 pub sum_scaled : (f g x : ℕ → Exact) (k : Exact) (n : ℕ) → ((w : ℕ) → w < n → f w ≡ times (g w) k)
     → fraction_sum (λ w. times (f w) (x w)) n ≡ times (fraction_sum (λ w. times (g w) (x w)) n) k
 sum_scaled f g x k n h =

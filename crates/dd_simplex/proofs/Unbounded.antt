@@ -1,5 +1,5 @@
--- Some variable always leaves. If none limited the entering variable, it could grow for ever, and column 0 with it. But by the
--- first row, column 0 and its slack are at least 0 and sum to the cap.
+-- Some variable always leaves. If none limited the entering variable, it could grow for ever, and column 0 with it. But column 0 and the slack of
+-- the first row are at least 0, and by the first row they sum to the cap.
 use Rattle.std.proofs.Common.{◌≡◌, ◌≢◌, ℕ, ◌+◌, ◌<◌, Bool, true, false, not, ◌&&◌, ◌||◌, cond, None, ⊎_elim, refl, sym, ap, subst, ◌∙◌, arith}
 use Rattle.std.proofs.lemmas.{Bool.cases_eq, Int.ints}
 use Rattle.std.specs.{Bool.nat_eq, Ordering.is_gt}
@@ -77,7 +77,7 @@ module _ (n : ℕ) (d : Dictionary) (e : ℕ) (g : Enters n d e) where
           subst IsNonneg (sym (ray_basic d e w k s)) (not_over (d.entry w e) l)
       by k false s = subst IsNonneg (sym (ray_other d e w k s)) zero_nonneg
 
-  -- the objective grows with it
+  -- the objective grows with e
   ray_objective : objective n d zero_of (ray d e) ≡ low (d.cost e)
   ray_objective =
       (λ i. plus (zero_times d.value i) (total_pick (λ w. times (price d w) (ray d e w)) e n g.within other i))

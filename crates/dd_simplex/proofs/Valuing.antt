@@ -1,4 +1,4 @@
--- Each line gives the value of one column at most, and each nonbasic variable one dual at most.
+-- Each line gives the value of at most one column, and each nonbasic variable gives at most one dual.
 use Rattle.std.proofs.Common.{◌≡◌, ◌≢◌, ℕ, ◌+◌, ◌-◌, ◌<◌, ◌≤◌, List, length, Bool, true, false, not, ◌&&◌, cond, ⊎_elim, refl, sym, ap, subst, ◌∙◌, arith}
 use Rattle.std.proofs.lemmas.{Bool.cases_eq, List.length-set}
 use Rattle.std.specs.{Bool.nat_lt, List.slice_set}

@@ -14,7 +14,7 @@ pub record Dictionary : Type 0 where
   pub value : Exact
   pub cost : ℕ → Exact
 
--- how many variables there are
+-- the number of variables: the columns and the slacks
 abbrev pub count : LinearProgram → ℕ
 count p = p.columns + length p.rows
 
@@ -34,14 +34,14 @@ fraction_quotient a b = times a (inverse b)
 abbrev pub less_product : Exact → Exact → Exact → Exact
 less_product a q b = plus a (minus (times q b))
 
--- In a pivot, the variable e enters and becomes basic, and r leaves. The row of e is the row of r, solved for e.
+-- In a pivot, the variable e enters, so it becomes basic, and r leaves. The new row of e is the old row of r, solved for e.
 abbrev pub new_bound : Dictionary → ℕ → ℕ → Exact
 new_bound d e r = fraction_quotient (d.bound r) (d.entry r e)
 
 abbrev pub new_entry : Dictionary → ℕ → ℕ → ℕ → Exact
 new_entry d e r w = fraction_quotient (cond (nat_eq w r) one_of (d.entry r w)) (d.entry r e)
 
--- the new coefficient at w of a row or of the objective; the old ones were a at w, and q at e
+-- the new coefficient of w in a row or in the objective, where the old coefficient of w was a and that of e was q
 abbrev pub replaced : Dictionary → ℕ → ℕ → Exact → ℕ → Exact → Exact
 replaced d e r q w a = cond (nat_eq w r) (minus (times q (new_entry d e r w))) (less_product a q (new_entry d e r w))
 

@@ -1,6 +1,6 @@
--- The run by Bland's rule (1977): of the variables that may enter, the least enters; of those that may leave, the least leaves.
--- The run stops with the best value, at a limit on its pivots, or at a number that is greater than 2^127 - 1 in absolute
--- value. Other numbers fit.
+-- The run by Bland's rule (1977). Of the variables that may enter, the lowest-numbered one enters; of those that may leave, the lowest-numbered one
+-- leaves. A number fits if it is at most 2^127 - 1 in absolute value. The run stops with the best value, at a limit on its pivots, or at a number
+-- that doesn't fit.
 use Rattle.std.specs.Prelude.{◌≡◌, ℕ, zero, suc, ◌+◌, ◌<◌, List, length, Bool, true, not, ◌&&◌, ◌||◌, cond, Option, Some, None}
 use Rattle.std.specs.{Bool.nat_eq, Int.RustNames.int_lt, Ordering.is_gt}
 use lib.IntN.{pos}
@@ -11,7 +11,7 @@ use Rattle.dd_simplex.specs.Programs.{LinearProgram, fraction_at, zero_of, one_o
 use Rattle.dd_simplex.specs.Dictionaries.{Dictionary, count, start_dictionary, pivoted, fraction_quotient, new_bound, new_entry}
 use Rattle.dd_simplex.specs.declared.fault.SimplexFault.TheVariants as fault
 
--- greater than 0
+-- whether a fraction is greater than 0
 abbrev pub is_over : Exact → Bool
 is_over a = int_lt (pos 0) a.num
 
@@ -33,24 +33,24 @@ first_below f (suc n) = or_else (first_below f n) (cond (f n) (Some n) None)
 abbrev pub may_enter : Dictionary → ℕ → Bool
 may_enter d w = not (d.is_basic w) && is_over (d.cost w)
 
--- which of the first n variables enters
+-- of the first n variables, the one that enters
 abbrev pub entering : ℕ → Dictionary → Option ℕ
 entering n d = first_below (may_enter d) n
 
--- how far the entering variable e can grow before v falls to 0
+-- how far the entering variable e can grow before the basic variable v falls to 0
 abbrev pub ratio : Dictionary → ℕ → ℕ → Exact
 ratio d e v = fraction_quotient (d.bound v) (d.entry v e)
 
--- whether v falls as e grows
+-- whether v is basic and falls as e grows
 abbrev pub is_limiting : Dictionary → ℕ → ℕ → Bool
 is_limiting d e v = d.is_basic v && is_over (d.entry v e)
 
--- whether v limits e, and no limiting variable has a smaller ratio
+-- whether v limits e, and no other limiting variable has a smaller ratio
 abbrev pub may_leave : ℕ → Dictionary → ℕ → ℕ → Bool
 may_leave n d e v =
     is_limiting d e v && all_below (λ u. not (is_limiting d e u) || not (is_gt (exact_cmp (ratio d e v) (ratio d e u)))) n
 
--- which of the first n variables leaves when e enters
+-- of the first n variables, the one that leaves when e enters
 abbrev pub leaving : ℕ → Dictionary → ℕ → Option ℕ
 leaving n d e = first_below (may_leave n d e) n
 
@@ -66,14 +66,14 @@ does_less_fit a q b = does_product_fit q b && does_sum_fit a (minus (times q b))
 abbrev pub do_ratios_fit : ℕ → Dictionary → ℕ → Bool
 do_ratios_fit n d e = all_below (λ v. not (is_limiting d e v) || does_quotient_fit (d.bound v) (d.entry v e)) n
 
--- whether the numbers of the entering variable's row fit. The leaving variable has the coefficient 1 before the division;
--- it is tested at e, whose place it takes.
+-- whether the numbers of the entering variable's row fit. Before the division, the leaving variable has the coefficient 1 in this row. Its quotient
+-- is tested at e, since the leaving variable takes the place of e.
 abbrev pub does_row_fit : ℕ → Dictionary → ℕ → ℕ → Bool
 does_row_fit n d e r =
     does_quotient_fit (d.bound r) (d.entry r e)
     && all_below (λ w. d.is_basic w || does_quotient_fit (cond (nat_eq w e) one_of (d.entry r w)) (d.entry r e)) n
 
--- whether the new coefficients of a row or of the objective fit; the old ones were a w at each w, and q at e
+-- whether the new coefficients of a row or of the objective fit. The old coefficient of each w was a w, and that of e was q.
 abbrev pub do_coefficients_fit : ℕ → Dictionary → ℕ → ℕ → Exact → (ℕ → Exact) → Bool
 do_coefficients_fit n d e r q a =
     all_below (λ w. d.is_basic w || cond (nat_eq w e) (does_product_fit q (new_entry d e r r)) (does_less_fit (a w) q (new_entry d e r w))) n
@@ -106,22 +106,22 @@ pub data Stop : Type 0 where
   -- no variable limits the one that enters
   Unbounded : Stop
 
--- an iteration in which e enters, and the run `next` after it
+-- an iteration in which e enters, and then the run `next`. The last argument is the variable that leaves, if there is one.
 abbrev pub iteration : (Dictionary → Stop) → ℕ → Dictionary → ℕ → Option ℕ → Stop
 iteration next n d e None = Unbounded
 iteration next n d e (Some r) = cond (does_iteration_fit n d e r) (next (pivoted d e r)) Overflows
 
--- how the run goes on with the variable that enters; it ends if there is none
+-- ends the run if no variable enters; otherwise `go_on` of the variable that enters says how the run stops
 abbrev pub iterate_or_end : (ℕ → Stop) → Dictionary → Option ℕ → Stop
 iterate_or_end go_on d None = Ends d
 iterate_or_end go_on d (Some e) = go_on e
 
--- the run of at most k pivots from the dictionary d over n variables: how it stops
+-- how a run from the dictionary d over n variables stops, if at most k pivots are allowed
 abbrev pub run : ℕ → ℕ → Dictionary → Stop
 run n zero d = iterate_or_end (λ e. AtLimit) d (entering n d)
 run n (suc k) d = iterate_or_end (λ e. iteration (run n k) n d e (leaving n d e)) d (entering n d)
 
--- how the run of a program stops, if it has at most k pivots
+-- how the run of a program stops, if at most k pivots are allowed
 abbrev pub stop_of : LinearProgram → ℕ → Stop
 stop_of p k = run (count p) k (start_dictionary p)
 
@@ -133,7 +133,7 @@ column_of d j = cond (d.is_basic j) (d.bound j) zero_of
 abbrev pub dual_of : LinearProgram → Dictionary → ℕ → Exact
 dual_of p d k = cond (d.is_basic (p.columns + k)) zero_of (minus (d.cost (p.columns + k)))
 
--- the run of at most k pivots ends with this value, these columns and these duals
+-- the run of at most k pivots ends with this value, these values of the columns, and these duals
 pub record RunEnds (p : LinearProgram) (k : ℕ) (value : Exact) (columns duals : List Exact) : Type 0 where
   pub dictionary : Dictionary
   pub ends : stop_of p k ≡ Ends dictionary
@@ -150,7 +150,7 @@ RunOverflows p k = stop_of p k ≡ Overflows
 abbrev pub RunPivots : LinearProgram → ℕ → Type 0
 RunPivots p k = stop_of p k ≡ AtLimit
 
--- what each fault says of the run; `Memory` says nothing
+-- what each fault says about the run; `Memory` says nothing
 abbrev pub IsRunRefusal : LinearProgram → ℕ → SimplexFault → Type 0
 IsRunRefusal p k fault.Overflow = RunOverflows p k
 IsRunRefusal p k fault.Pivots = RunPivots p k

@@ -5,10 +5,10 @@ ghost use Rattle.dd_simplex.specs.declared.fault.SimplexFault.TheVariants.{Memor
 use std::alloc::AllocError;
 use thiserror::Error;
 
-/// Why a run of the simplex method has no result.
+/// The reason why a run of the simplex method has no result.
 #[derive(Clone, Copy, Debug, PartialEq, Eq, Error)]
 pub enum SimplexFault {
-    /// A number of the run is greater than 2^127 - 1 in absolute value.
+    /// A number in the run is greater than 2^127 - 1 in absolute value.
     #[error("a number of the simplex run passes 127 bits")]
     Overflow,
     /// The run needs more pivots than its limit.

@@ -3,8 +3,8 @@ ghost use Rattle.dd_simplex.specs.Laws.{HasOneStop, AreSoundDictionaries};
 
 use crate::program::Program;
 
-/// Does nothing; its contract says that a run stops in exactly one way: it ends with one result, one of its numbers is
-/// greater than 2^127 - 1 in absolute value, or it reaches its limit of pivots.
+/// Does nothing; its contract says that a run stops in exactly one of three ways: it ends with one result, one of its numbers
+/// is greater than 2^127 - 1 in absolute value, or it reaches its limit of pivots.
 pub fn one_stop(_program: &Program, _pivots: u32)
     ensures { HasOneStop _program.now _pivots }
 {
@@ -12,9 +12,9 @@ pub fn one_stop(_program: &Program, _pivots: u32)
     let _columns = _program.columns();
 }
 
-/// Does nothing; its contract is about the dictionaries of a run. Their rows are combinations of the program's rows. Their
-/// objective is column 0, less such a combination. No bound falls below 0. Where a variable enters, another leaves, so no
-/// run is unbounded.
+/// Does nothing; its contract is about the dictionaries of a run. Their rows are linear combinations of the program's rows.
+/// Their objective is column 0, less such a combination. No bound falls below 0. Whenever a variable enters, another leaves,
+/// so no run is unbounded.
 pub fn sound_pivots(_program: &Program)
     ensures { AreSoundDictionaries _program.now }
 {

@@ -10,8 +10,8 @@ ghost use Rattle.dd_simplex.specs.table.Lines.{IsIdle, HasFractions, less, do_al
 use dd_fraction::Fraction;
 use std::marker::Model;
 
-/// The equation `basic = bound - sum of cell times variable`, with one cell for each nonbasic variable. A cell is at the place
-/// that its variable has in the tableau's list of nonbasic variables.
+/// The equation `basic = bound - sum of cell times variable`, with one cell for each nonbasic variable. The place of a
+/// nonbasic variable is its index in the tableau's list of them. Its cell has the same index.
 #[derive(Drop)]
 pub struct Line {
     pub basic: usize,
@@ -35,7 +35,7 @@ impl Line {
         self.basic
     }
 
-    /// Solves the line for the variable `entering`, which is at the place `e`. False if a number is too large.
+    /// Solves the line for the variable `entering`, which is at the place `e`. Returns false if a number is too large.
     pub fn solve(&mut self, e: usize, entering: usize) -> bool
         requires place { e < length self.old.cells }
         requires cell { (fraction_at self.old.cells e).num ≢ pos 0 }
@@ -52,8 +52,8 @@ impl Line {
         divide(self.cells.as_mut_slice(), &cell)
     }
 
-    /// Substitutes the solved line `pivot` for the variable at the place `e`. A line whose cell there is 0 stays as it is. False
-    /// if a number is too large.
+    /// Substitutes the solved line `pivot` for the variable at the place `e`. A line whose cell at `e` is 0 stays as it is.
+    /// Returns false if a number is too large.
     pub fn substitute(&mut self, e: usize, pivot: &Line) -> bool
         requires place { e < length self.old.cells }
         requires size { length self.old.cells ≡ length pivot.now.cells }
@@ -68,7 +68,8 @@ impl Line {
         self.take_multiple(e, pivot)
     }
 
-    /// Subtracts the solved line `pivot`, times the cell at `e`, from the line. False if a number is too large.
+    /// Subtracts from the line a multiple of the solved line `pivot`. The factor is the line's cell at `e`. Returns false if a
+    /// number is too large.
     fn take_multiple(&mut self, e: usize, pivot: &Line) -> bool
         requires place { e < length self.old.cells }
         requires size { length self.old.cells ≡ length pivot.now.cells }
@@ -91,7 +92,7 @@ fn is_zero(fraction: &Fraction) -> bool
     fraction.num() == 0
 }
 
-/// Divides each cell by `by`. False if a number is too large; then only some cells are divided.
+/// Divides each cell by `by`. Returns false if a number is too large; then only some of the cells are divided.
 fn divide(cells: &mut [Fraction], by: &Fraction) -> bool
     requires { by.now.num ≢ pos 0 }
     ensures fits { result ≡ list_all (λ a. does_product_fit a (inverse by.now)) cells.old }
@@ -106,8 +107,8 @@ fn divide(cells: &mut [Fraction], by: &Fraction) -> bool
     true
 }
 
-/// Subtracts `factor` times `others` from the cells, place by place. False if a number is too large; then only some cells are
-/// changed.
+/// Subtracts `factor` times `others` from the cells, place by place. Returns false if a number is too large; then only some of
+/// the cells are changed.
 pub fn subtract(cells: &mut [Fraction], factor: &Fraction, others: &[Fraction]) -> bool
     requires { length cells.old ≡ length others.now }
     ensures fits { result ≡ do_all_less_fit factor.now cells.old others.now }
@@ -125,7 +126,7 @@ pub fn subtract(cells: &mut [Fraction], factor: &Fraction, others: &[Fraction]) 
     true
 }
 
-/// Whether subtracting `factor` times `other` from the cell changes nothing, since one of the two is 0.
+/// Whether `factor` or `other` is 0, so that subtracting their product from the cell changes nothing.
 fn is_idle(cell: &Fraction, factor: &Fraction, other: &Fraction) -> bool
     ensures { result ≡ true → IsIdle cell.now factor.now other.now }
 {
@@ -136,7 +137,7 @@ fn is_idle(cell: &Fraction, factor: &Fraction, other: &Fraction) -> bool
     num == 0 || other_num == 0
 }
 
-/// Substitutes the solved line `pivot` into each line. False if a number is too large.
+/// Substitutes the solved line `pivot` into each line. Returns false if a number is too large.
 fn substitute_each(lines: &mut [Line], e: usize, pivot: &Line) -> bool
     requires place { e < length pivot.now.cells }
     requires sizes { All (λ l. length l.cells ≡ length pivot.now.cells) lines.old }
@@ -153,8 +154,8 @@ fn substitute_each(lines: &mut [Line], e: usize, pivot: &Line) -> bool
     true
 }
 
-/// Pivots the lines: line `r` is solved for the variable `entering`, which is at the place `e`, and substituted into the
-/// other lines. False if a number is too large.
+/// Pivots the lines: solves line `r` for the variable `entering`, which is at the place `e`, and substitutes it into the other
+/// lines. Returns false if a number is too large.
 pub fn pivot_lines(lines: &mut [Line], e: usize, r: usize, entering: usize) -> bool
     requires line { r < length lines.old }
     requires place { e < length (line_at lines.old r).cells }

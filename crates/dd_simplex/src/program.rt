@@ -24,8 +24,8 @@ impl Model for Constraint {
     ghost view = { λ c. record { coefficients = c.coefficients.items; bound = c.bound } };
 }
 
-/// A linear program: maximise column 0, with each column at least 0, under the rows. The first row is "column 0 is at most a
-/// cap".
+/// A linear program: maximise column 0, where each column is at least 0 and each row holds. The first row is "column 0 is at
+/// most a cap".
 #[derive(Debug, Drop)]
 pub struct Program {
     columns: u32,
@@ -43,7 +43,8 @@ impl Model for Program {
 }
 
 impl Program {
-    /// The program whose only row is "column 0 is at most `cap`". There is at least one column, and the cap is at least 0.
+    /// Returns the program whose only row is "column 0 is at most `cap`". There must be at least one column, and the cap must
+    /// be at least 0.
     ///
     /// # Errors
     /// `AllocError` if memory ran out.
@@ -65,8 +66,8 @@ impl Program {
         Ok(Program { columns, rows })
     }
 
-    /// Adds the row "the sum of coefficient times column is at most `bound`". There is one coefficient for each column, and the
-    /// bound is at least 0.
+    /// Adds the row "the sum of coefficient times column is at most `bound`". There must be one coefficient for each column,
+    /// and the bound must be at least 0.
     ///
     /// # Errors
     /// `AllocError` if memory ran out. The program is then unchanged.
@@ -86,7 +87,7 @@ impl Program {
         Ok(())
     }
 
-    /// How many columns there are.
+    /// The number of columns.
     pub(crate) fn columns(&self) -> usize
         ensures columns { result ≡ self.now.columns }
         ensures few { result < 2 ^ 32 }
@@ -95,7 +96,7 @@ impl Program {
         self.columns as usize
     }
 
-    /// The rows. The first one is that of the cap.
+    /// The rows. The first one is the cap on column 0.
     pub(crate) fn rows(&self) -> &[Constraint]
         ensures { result.now ≡ self.now.rows }
     {

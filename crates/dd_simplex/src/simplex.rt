@@ -1,4 +1,4 @@
-//! The simplex method: pivots by Bland's rule until no variable may enter the basis.
+//! The simplex method: pivots by Bland's rule until no variable may enter.
 ghost use Rattle.std.specs.Prelude.{◌≡◌, IfOk, IfErr};
 ghost use Rattle.dd_simplex.specs.Programs.{IsBest};
 ghost use Rattle.dd_simplex.specs.Runs.{RunEnds, IsRunRefusal};
@@ -9,12 +9,12 @@ use crate::solution::{Solved, read_off};
 use crate::start::first_tableau;
 use std::alloc::{AllocError, Global};
 
-/// Maximises column 0 by Bland's rule (1977) in at most `pivots` pivots. The columns found are at least 0 and meet each
-/// row. No other columns give more, since the duals have the same value.
+/// Maximises column 0 by Bland's rule (1977) in at most `pivots` pivots. The values found for the columns are at least 0 and
+/// meet each row. No other values give more, since the duals have the same value.
 ///
 /// # Errors
-/// - `Memory` if memory ran out. Else:
-/// - `Overflow` exactly if a number of the run is greater than 2^127 - 1 in absolute value.
+/// - `Memory` if memory ran out. Otherwise:
+/// - `Overflow` exactly if a number in the run is greater than 2^127 - 1 in absolute value.
 /// - `Pivots` exactly if the run has not ended after that many pivots.
 pub fn maximise(alloc: Global, program: &Program, pivots: u32) -> Result<Solved, SimplexFault>
     ensures ends { IfOk result (λ solved. RunEnds program.now pivots solved.value solved.columns solved.duals) }

@@ -27,7 +27,7 @@ pub fn first_tableau(alloc: Global, program: &Program) -> Result<Tableau, AllocE
     })
 }
 
-/// A line for each row. Its basic variable is the row's slack.
+/// One line for each row. The line's basic variable is the row's slack.
 fn slack_lines(alloc: Global, rows: &[Constraint], columns: usize) -> Result<Vec<Line>, AllocError>
     requires { columns < 2 ^ 32 }
     ensures { IfOk result (λ lines. AreLinesOf rows.now columns lines.items) }
@@ -57,7 +57,7 @@ fn copied(alloc: Global, fractions: &[Fraction]) -> Result<Vec<Fraction>, AllocE
     Ok(copy)
 }
 
-/// The same fraction, which is known to be in lowest terms.
+/// Returns the fraction itself. The contract adds that it is in lowest terms.
 fn known(fraction: &Fraction) -> Fraction
     ensures value { result ≡ fraction.now }
     ensures fraction { IsFraction fraction.now }
@@ -67,7 +67,7 @@ fn known(fraction: &Fraction) -> Fraction
     *fraction
 }
 
-/// The nonbasic variables of the first tableau. They are the columns, which are numbered before the slacks.
+/// The nonbasic variables of the first tableau. They are the columns, whose numbers come before those of the slacks.
 fn variables(alloc: Global, columns: usize) -> Result<Vec<usize>, AllocError>
     ensures size { IfOk result (λ others. length others.items ≡ columns) }
     ensures each { IfOk result (λ others. (j : ℕ) → j < columns → other_at others.items j ≡ j) }

@@ -1,5 +1,5 @@
-//! The tableau: a dictionary as the run keeps it. It has a line for each basic variable, a list of the nonbasic variables,
-//! and the objective.
+//! The tableau: a dictionary in the form that the run uses. It has a line for each basic variable, a list of the nonbasic
+//! variables, and the objective.
 ghost use Rattle.std.specs.Prelude.{◌≡◌, ◌≢◌, ◌<◌, true, false, length, Option, Some, None, ℕ, MatchResult, IfOk, IfErr, slice_set};
 ghost use Rattle.std.specs.List.{All};
 ghost use lib.IntN.{pos};
@@ -17,8 +17,9 @@ use dd_fraction::Fraction;
 use std::cmp::Ordering;
 use std::marker::Model;
 
-/// A line for each basic variable, and the objective `value + sum of cost times variable`, in terms of the nonbasic variables
-/// `others`. A variable's place is its index in `others`. Its cost, and its cell in each line, have the same index.
+/// A line for each basic variable, and the objective `value + sum of cost times variable`. Both are in terms of the nonbasic
+/// variables, which `others` lists. A variable's place is its index in `others`. Its cost and its cell in each line have the
+/// same index.
 #[derive(Drop)]
 pub struct Tableau {
     pub lines: Vec<Line>,
@@ -36,10 +37,10 @@ impl Model for Tableau {
 }
 
 impl Tableau {
-    /// One iteration by Bland's rule: true if a pivot was made, false if no variable may enter.
+    /// Makes one iteration by Bland's rule. Returns true if a pivot was made, and false if no variable may enter.
     ///
     /// # Errors
-    /// `Overflow` if a number is too large. The tableau is then of no more use.
+    /// `Overflow` if a number is too large. The tableau is then unusable.
     pub fn iterate(&mut self) -> Result<bool, SimplexFault>
         requires { IsTable self.old }
         ensures end { IfOk result (λ more. more ≡ false → DoesEnter self.old None × (self.new ≡ self.old)) }
@@ -68,8 +69,8 @@ impl Tableau {
         entering(self.costs.as_slice(), self.others.as_slice()).is_none()
     }
 
-    /// Makes the variable at the place `e` basic in the line `r`. False if a number is too large; then the tableau is of no
-    /// more use.
+    /// Makes the variable at the place `e` basic in the line `r`. Returns false if a number is too large; then the tableau is
+    /// unusable.
     pub fn pivot(&mut self, e: usize, r: usize) -> bool
         requires fractions { All HasFractions self.old.lines }
         requires line { r < length self.old.lines }
@@ -95,7 +96,7 @@ impl Tableau {
     }
 }
 
-/// Substitutes the solved line `pivot` into the objective. False if a number is too large.
+/// Substitutes the solved line `pivot` into the objective. Returns false if a number is too large.
 fn pivot_objective(value: &mut Fraction, costs: &mut [Fraction], e: usize, pivot: &Line) -> bool
     requires place { e < length costs.old }
     requires size { length costs.old ≡ length pivot.now.cells }
@@ -115,7 +116,8 @@ fn pivot_objective(value: &mut Fraction, costs: &mut [Fraction], e: usize, pivot
     subtract(costs, &factor, pivot.cells.as_slice())
 }
 
-/// The variable that enters: the place of the least variable whose cost is greater than 0, or `None` if there is none.
+/// Returns the place of the variable that enters: the lowest-numbered variable whose cost is greater than 0. `None` if there
+/// is no such variable.
 pub fn entering(costs: &[Fraction], others: &[usize]) -> Option<usize>
     requires { length costs.now ≡ length others.now }
     ensures { IsChosen (does_enter costs.now) (EntersBefore others.now) (length costs.now) result }
@@ -133,8 +135,9 @@ pub fn entering(costs: &[Fraction], others: &[usize]) -> Option<usize>
     chosen
 }
 
-/// The line whose variable leaves: of the lines whose cell at `e` is greater than 0, the one with the least ratio of bound to
-/// cell. Among equal ratios it is the one with the least basic variable. `None` if there is no such line.
+/// Returns the line whose variable leaves. Of the lines whose cell at `e` is greater than 0, this is the one with the least
+/// ratio of bound to cell. If several have this ratio, it is the one with the lowest-numbered basic variable. `None` if no
+/// cell at `e` is greater than 0.
 ///
 /// # Errors
 /// `Overflow` if a number of a ratio is too large.
@@ -168,7 +171,7 @@ pub fn leaving(lines: &[Line], e: usize) -> Result<Option<usize>, SimplexFault>
     Ok(chosen)
 }
 
-/// Whether the first ratio is smaller, or the ratios are equal and the first variable is smaller.
+/// Whether the first ratio is smaller, or the ratios are equal and the first variable has the smaller number.
 fn precedes(ratio: &Fraction, variable: usize, other: &Fraction, other_variable: usize) -> bool
     ensures { result ≡ does_precede ratio.now variable other.now other_variable }
 {

@@ -1,4 +1,5 @@
--- The backjump. The literal kept first is forced before the backjump's decision, since those kept later come before that decision.
+-- The backjump. The learned clause forces the literal kept first once the trail is cut before the backjump's decision, because the entries kept later
+-- stand before that decision.
 use Rattle.std.proofs.Common.{◌≡◌, ℕ, ◌+◌, ◌<◌, ◌≤◌, Bool, true, false, List, [], ◌∷◌, ◌++◌, Option, Some, None, refl, ap, sym, ◌∙◌, subst, length, get_or, take, inl, inr, ◌⊎◌, arith}
 use Rattle.std.proofs.lemmas.Bool.{false≢true, false_from_ne_true, cases_lt}
 use Rattle.std.specs.Option.{MatchOption}
@@ -18,7 +19,7 @@ pub record BackjumpOk (trail : List Entry) (i : ℕ) (marked : List Bool) (learn
   pub others : (x : Literal) → In learned x → (x ≡ t.literal) ⊎ (In (falses (take t.place trail)) x)
   pub between : (k : ℕ) (d : Entry) → t.place ≤ k → k < i → marks marked (get_or trail k d).literal ≡ false
 
--- if there is no backjump, nothing was kept
+-- if there is a backjump, it is right; if there is none, nothing was kept
 abbrev pub BackjumpIs : List Entry → ℕ → List Bool → List Literal → Option Backjump → Type 0
 BackjumpIs trail i marked learned backjump = MatchOption backjump (learned ≡ []) (BackjumpOk trail i marked learned)
 
@@ -26,7 +27,7 @@ pub backjump_past : (trail : List Entry) (j : ℕ) (marked : List Bool) (learned
 backjump_past trail j marked learned None h = h
 backjump_past trail j marked learned (Some t) h = record { top = h.top; decided = h.decided; member = h.member; others = h.others; between = λ k d a b. h.between k d a (omega arith) }
 
--- an entry that is marked, and before those walked so far, stands before the backjump's place
+-- a marked entry that the walk has not reached yet stands before the backjump's place
 before : (trail : List Entry) (j : ℕ) (d : Entry) (marked : List Bool) (learned : List Literal) (t : Backjump) → marks marked (get_or trail j d).literal ≡ true → BackjumpOk trail (j + 1) marked learned t → j < t.place
 before trail j d marked learned t m h = elim (cases_lt j t.place) [ inl b ↦ b | inr b ↦ absurd (false≢true (sym (h.between j d b (omega arith)) ∙ m)) ]
 

@@ -1,4 +1,4 @@
--- Each learned step is right after those before it, and later steps may hint at its clause.
+-- Each learned step is right after those before it, and later steps may use its clause as a hint.
 use Rattle.std.proofs.Common.{◌≡◌, ℕ, suc, ◌+◌, Bool, true, ◌&&◌, List, [], ◌∷◌, ◌++◌, Option, Some, None, refl, ◌∙◌, subst, length, get_or, take, inl, inr, arith}
 use Rattle.std.proofs.lemmas.{Bool.and_parts, Bool.and_from, Bool.or_right, Bool.leb-true, List.length-append}
 use Rattle.std.proofs.lemmas.List.Elements.{All-cons, All-nil}
@@ -20,7 +20,7 @@ pub length-through : (before : Known) (steps : List Step) → length (known_thro
 length-through before [] = omega arith
 length-through before (x ∷ steps) = length-through (after_step before x) steps ∙ omega (arith, length-after before x.deletes, length-append (known_after before x.deletes) (Some x.clause ∷ []))
 
--- a trail stays one after a step, as the step keeps the clauses that forced the entries
+-- a trail stays right after a step, because the step keeps the clauses that forced the entries
 pub trail_after : (n : ℕ) (known : Known) (first : ℕ) (trail : List Entry) (s : Step) → IsTrail n known trail → MayDelete known first trail s.deletes → IsTrail n (after_step known s) trail
 trail_after n known first trail s ok m k d h =
     let e = ok k d h in
@@ -33,7 +33,7 @@ trail_after n known first trail s ok m k d h =
         let w = hint_clause known p r (Forced (get_or trail k d).literal) (λ x. cc) f in
         at_clause (after_step known s) p r w.0 (known_left (known_after known s.deletes) s.clause w.0 r (m.reasons_stay k r d h q ∙ w.1)) ∙ w.2
 
--- the number after the last one finds what the newest clause says
+-- after a clause is added, the number after the last one finds what this clause says
 pub hint_new : (known : Known) (c : List Literal) (p : Literal → Bool) (r : ℕ) → r ≡ suc (length known) → hint_finding (known ++ Some c ∷ []) p r ≡ finding p c
 hint_new known c p r e = at_clause (known ++ Some c ∷ []) p r c (known_last known c r e)
 
@@ -62,7 +62,7 @@ derived_more n before (x ∷ steps) s h r =
     let q = and_parts (is_right n before x) (is_derived n (after_step before x) steps) h in
     and_from _ _ q.0 (derived_more n (after_step before x) steps s q.1 r)
 
--- right steps of which the last has the empty clause refute the clauses
+-- if all steps are right and the last step's clause is empty, the steps refute the clauses
 pub refutes_last : (n : ℕ) (before : Known) (steps : List Step) (s : Step) → is_derived n before steps ≡ true → is_right n (known_through before steps) s ≡ true → s.clause ≡ [] → refutes_from n before (steps ++ s ∷ []) ≡ true
 refutes_last n before [] s h r e =
     let b : is_empty s.clause ≡ true = rw e refl in

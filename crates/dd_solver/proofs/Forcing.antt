@@ -19,7 +19,7 @@ in_right xs ys x h = rw (list_any-append (same_literal x) xs ys) (or_right _ _ h
 pub in_cases : (xs ys : List Literal) (x : Literal) → In (xs ++ ys) x → (In xs x) ⊎ (In ys x)
 in_cases xs ys x h = or_cases _ _ (rw (list_any-append (same_literal x) xs ys) at h)
 
--- the only literal of a list of one
+-- a literal in a list of one literal is that literal
 pub in_one : (x y : Literal) → In (y ∷ []) x → x ≡ y
 in_one x y h = elim (or_cases (same_literal x y) false h) [ inl a ↦ same_literal-eq x y a | inr a ↦ absurd (false≢true a) ]
 
@@ -59,7 +59,7 @@ forced_from p c l f = go (left_of p c) (in_left_of p c l f.member f.not_false) (
         let s : list_all (same_literal l) rest ≡ true = all_same l rest (λ x j. a x (or_right _ _ j)) in
         rw (e, s, f.not_true) refl
 
--- a number that finds something has a clause that says so
+-- if a number finds something other than `Open`, it has a clause that says so
 pub hint_clause : (known : List (Option (List Literal))) (p : Literal → Bool) (r : ℕ) (f : Finding) → (f ≡ Open → ⊥) → hint_finding known p r ≡ f → (c : List Literal) × (clause_of known r ≡ Some c) × (finding p c ≡ f)
 hint_clause known p r f n h = go (clause_of known r) refl h
   where

@@ -17,7 +17,7 @@ is_empty-map : {X Y : Type 0} (f : X → Y) (xs : List X) → is_empty (map f xs
 is_empty-map f [] = refl
 is_empty-map f (x ∷ xs) = refl
 
--- hints with new numbers for the same clauses end in a conflict too
+-- if hints end in a conflict, so do hints that name the same clauses by new numbers
 conflict_renamed : (old new : Known) (rename : ℕ → ℕ) (falses : List Literal) (hints : List ℕ) → ((h : ℕ) (x : List Literal) → is_hint h hints ≡ true → clause_of old h ≡ Some x → clause_of new (rename h) ≡ Some x) → is_conflict old falses hints ≡ true → is_conflict new falses (map rename hints) ≡ true
 conflict_renamed old new rename falses [] a h = h
 conflict_renamed old new rename falses (n ∷ hints) a h = go (λ l e. conflict_renamed old new rename (negation l ∷ falses) hints rest e) (clause_of old n) refl h
@@ -44,7 +44,7 @@ hinted_by number [] steps = false
 hinted_by number (m ∷ marked) [] = false
 hinted_by number (m ∷ marked) (s ∷ steps) = (m && is_hint number s.hints) || hinted_by number marked steps
 
--- The facts about the step with the number `next` and the steps after it. The clauses kept before it have numbers up to `last`.
+-- The facts about the step with the number `next` and the steps after it. The clauses that are kept before it have new numbers up to `last`.
 pub record IsPlanned (keep : ℕ → Bool) (rename : ℕ → ℕ) (next last : ℕ) (m : Bool) (s : Step) (marked : List Bool) (steps : List Step) : Type 0 where
   pub same : keep next ≡ m
   pub number : m ≡ true → rename next ≡ suc last

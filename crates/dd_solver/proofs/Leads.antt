@@ -1,6 +1,5 @@
--- The walk down the trail. At each place, the hints so far lead to a conflict from the literals that may be false there. At the
--- bottom these are the learned clause's literals, so the hints show that it follows. This holds whatever is kept or
--- resolved.
+-- The walk down the trail. At each place, the hints so far lead to a conflict from the literals that may be false there. At the bottom, these are the
+-- literals of the learned clause, so the hints show that it follows. This holds whichever entries are kept or resolved.
 use Rattle.std.proofs.Common.{◌≡◌, ℕ, ◌+◌, ◌<◌, ◌≤◌, Bool, true, false, not, ◌&&◌, List, [], ◌∷◌, ◌++◌, Option, Some, None, refl, ap, sym, ◌∙◌, subst, length, get_or, take, eqb, inl, inr, ◌⊎◌, arith}
 use Rattle.std.proofs.lemmas.Bool.{and_parts, and_from, or_cases, or_left, or_right, not-true, false≢true, false_from_ne_true, cases_eq, le-leb, ne_eqb}
 use Rattle.std.proofs.lemmas.List.Folds.{list_any-append}
@@ -17,7 +16,7 @@ use Rattle.dd_solver.specs.searching.Analysis.{marks, Grows, AreMarked, IsMarked
 use Rattle.dd_solver.proofs.Forcing.{in_left, in_right, in_cases, in_one, falsified_all, all_falsified, forced_from, hint_clause, at_clause}
 use Rattle.dd_solver.proofs.Trails.{apart}
 
--- the literals that may be false where the hints for the entries from place i on begin
+-- `start` may be the list of the false literals when the hints for the entries from place i on begin
 pub record Start (trail : List Entry) (i : ℕ) (marked : List Bool) (learned start : List Literal) : Type 0 where
   pub within : (x : Literal) → In start x → (In (falses (take i trail)) x) ⊎ (In learned x)
   pub learned_in : (x : Literal) → In learned x → In start x
@@ -28,18 +27,18 @@ abbrev pub Leads : List (Option (List Literal)) → List Entry → ℕ → List 
 Leads known trail i marked learned hints =
     (start : List Literal) → Start trail i marked learned start → is_conflict known start hints ≡ true
 
--- the learned literals belong to entries from place i on
+-- each learned literal is the negation of an entry at place i or later
 abbrev pub AreFrom : List Entry → ℕ → List Literal → Type 0
 AreFrom trail i learned = (x : Literal) → In learned x → (k : ℕ) × (i ≤ k) × (k < length trail) × ((d : Entry) → negation (get_or trail k d).literal ≡ x)
 
--- the variables of the clause of this number are marked
+-- the variables of the clause with this number are marked
 abbrev pub Covers : List (Option (List Literal)) → List Bool → ℕ → Type 0
 Covers known marked r = (c : List Literal) → clause_of known r ≡ Some c → (x : Literal) → In c x → marks marked x ≡ true
 
 pub covers_from : (known : List (Option (List Literal))) (marked : List Bool) (r : ℕ) → IsMarkedClause known marked r → Covers known marked r
 covers_from known marked r h c e = let m : AreMarked marked c = subst (λ (o : Option (List Literal)). MatchOption o ⊤ (AreMarked marked)) e h in m
 
--- at the top, where the variables of the conflict's clause are marked, its number alone leads to a conflict
+-- at the top of the trail, once the variables of the conflict's clause are marked, its number alone, as a hint, leads to a conflict
 pub leads_conflict : (known : List (Option (List Literal))) (trail : List Entry) (marked : List Bool) (r : ℕ) → hint_finding known (is_among (falses trail)) r ≡ Falsified → Covers known marked r → Leads known trail (length trail) marked [] (r ∷ [])
 leads_conflict known trail marked r h m start s =
     let q = hint_clause known (is_among (falses trail)) r Falsified (λ e. cc) h in
@@ -85,7 +84,7 @@ leads_kept known trail j d marked learned hints l leads start s =
     })
 
 module _ (n : ℕ) (known : List (Option (List Literal))) (trail : List Entry) (ok : IsTrail n known trail) where
-  -- no literal of the entry's variable is among those with which the hints begin
+  -- no literal of the entry's variable is among those that are false when the hints begin
   new_variable : (j : ℕ) (d : Entry) (marked : List Bool) (learned start : List Literal) (x : Literal) → j < length trail → AreFrom trail (j + 1) learned → Start trail j marked learned start → x.variable ≡ (get_or trail j d).literal.variable → is_among start x ≡ false
   new_variable j d marked learned start x l later s v = false_from_ne_true (is_among start x) (λ i. elim (s.within x i) [
     | inl a ↦ (let w = in_falses_take trail j x (omega arith) a in
@@ -125,7 +124,7 @@ module _ (n : ℕ) (known : List (Option (List Literal))) (trail : List Entry) (
         ];
       }))
 
-  -- a kept literal's variable differs from those kept before
+  -- the variable of a kept literal differs from those of the literals kept before
   pub proper_more : (j : ℕ) (d : Entry) (learned : List Literal) → j < length trail → AreFrom trail (j + 1) learned → is_proper n learned ≡ true → is_proper n (learned ++ negation (get_or trail j d).literal ∷ []) ≡ true
   proper_more j d learned l later p =
       let r = (ok j d l).in_range in

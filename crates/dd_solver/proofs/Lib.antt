@@ -8,6 +8,5 @@ pub mod Rises
 pub mod Derived
 pub mod Taken
 pub mod Moves
-pub mod Right
 pub mod Kept
 pub mod Planned

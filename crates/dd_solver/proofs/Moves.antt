@@ -28,7 +28,7 @@ all_in P (y ∷ c) x a i = elim (or_cases (same_literal x y) (is_among c x) i) [
   | inr j ↦ all_in P c x (All-tail P y c a) j
 ]
 
--- a forced literal is in range, and no false literal has its variable
+-- a forced literal is in range, and by the next lemma no false literal has its variable
 pub forced_in_range : (known : Known) (n : ℕ) (p : Literal → Bool) (r : ℕ) (l : Literal) → AreInRange n known → hint_finding known p r ≡ Forced l → IsLiteralInRange n l
 forced_in_range known n p r l a h =
     let q = hint_clause known p r (Forced l) (λ e. cc) h in
@@ -44,7 +44,7 @@ forced_new known xs r l h = false_from_ne_true _ (λ t.
       | inr e ↦ false≢true (sym f.not_true ∙ subst (In xs) e w.1)
     ])
 
--- a number without a clause falsifies nothing and forces nothing
+-- if all numbers of clauses find `Open`, all numbers do: a number without a clause falsifies nothing and forces nothing
 pub all_open : (known : Known) (p : Literal → Bool) → ((r : ℕ) → 0 < r → r ≤ length known → hint_finding known p r ≡ Open) → (r : ℕ) → hint_finding known p r ≡ Open
 all_open known p h zero = refl
 all_open known p h (suc k) = elim (cases_lt (length known) (suc k)) [
@@ -66,7 +66,7 @@ module _ (n : ℕ) (cs : List (List Literal)) (steps : List Step) (trail : List 
   pub search_front : (p : ℕ) → IsSearch (record { variables = n; clauses = cs; steps = steps; entries = take p trail })
   search_front p = record { in_range = s.in_range; given = s.given; trail = trail_front n (known_through (all_known cs) steps) trail p s.trail; derived = s.derived }
 
-  -- the invariant holds after a learned step that deletes only what it may
+  -- the invariant still holds after a learned step that deletes only what it may
   pub search_learned : (t : Step) → is_rightly_learned n (known_through (all_known cs) steps) t.clause t.hints ≡ true → MayDelete (known_through (all_known cs) steps) (length cs) trail t.deletes → IsSearch (record { variables = n; clauses = cs; steps = steps ++ t ∷ []; entries = trail })
   search_learned t r m =
       let before = known_through (all_known cs) steps in
@@ -92,7 +92,7 @@ module _ (n : ℕ) (cs : List (List Literal)) (steps : List Step) (trail : List 
         forces = rw (through_more (all_known cs) steps t) (hint_new (known_after before t.deletes) t.clause (is_among (falses (take u.place trail))) _ l ∙ e.forces);
       }
 
--- the invariant holds at first
+-- the invariant holds at the start
 pub search_first : (n : ℕ) (cs : List (List Literal)) → All (IsClauseInRange n) cs → IsSearch (record { variables = n; clauses = cs; steps = []; entries = [] })
 search_first n cs a = record {
   in_range = λ r c e. holds_of_clause (IsClauseInRange n) cs r c a e;
@@ -107,7 +107,7 @@ alive_first cs alive e = record {
   same = rw (append-nil cs, e) (all_alive cs);
 }
 
--- the step's clause is alive, and the clauses that it deletes are not
+-- after a step, its clause is alive, and the clauses that it deletes are not
 pub alive_more : (cs : List (List Literal)) (steps : List Step) (alive after : List Bool) (s : Step) → AreAlive cs steps alive → length after ≡ length alive + 1 → ((xs : List (List Literal)) → known_of xs after ≡ known_after (known_of xs (alive ++ true ∷ [])) s.deletes) → are_deletable (known_through (all_known cs) steps) s.deletes ≡ true → AreAlive cs (steps ++ s ∷ []) after
 alive_more cs steps alive after s ok l a d =
     let before = clauses_before cs steps in

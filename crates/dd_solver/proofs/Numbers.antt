@@ -84,7 +84,7 @@ length-after known (d ∷ ds) = length-after (without known d) ds ∙ one d
     one zero = refl
     one (suc d) = length-set known d
 
--- a number past the last one has no clause
+-- no clause has a number past the last one
 pub past_none : (known : Known) (h : ℕ) → length known < h → clause_of known h ≡ None
 past_none known h l = go (clause_of known h) refl
   where
@@ -106,7 +106,7 @@ pub length-all : (cs : List (List Literal)) → length (all_known cs) ≡ length
 length-all [] = refl
 length-all (c ∷ cs) = ap suc (length-all cs)
 
--- what holds for each clause of a list holds for the clause of each number
+-- what holds for each clause of a list holds for the clause with any number
 pub holds_of_clause : (P : List Literal → Type 0) (cs : List (List Literal)) (n : ℕ) (c : List Literal) → All P cs → clause_of (all_known cs) n ≡ Some c → P c
 holds_of_clause P cs zero c a h = absurd (cc)
 holds_of_clause P cs (suc k) c a h =

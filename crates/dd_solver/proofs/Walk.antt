@@ -1,4 +1,4 @@
--- The invariant of the walk along the trail.
+-- The invariant of the walk down the trail.
 use Rattle.std.proofs.Common.{◌≡◌, ℕ, ◌+◌, ◌<◌, Bool, true, false, List, [], ◌∷◌, ◌++◌, reverse, Option, Some, None, refl, sym, subst, length, get_or}
 use Rattle.std.proofs.lemmas.{Bool.false≢true, List.reverse-append}
 use Rattle.std.specs.Option.{MatchOption}

@@ -1,4 +1,4 @@
--- When an answer is right.
+-- When the outcome of a search is right.
 use Rattle.std.specs.Prelude.{◌≡◌, ℕ, Bool, true, List, length}
 use Rattle.dd_clause.specs.{declared.clause.Literal.Literal, Clauses.Satisfies}
 use Rattle.dd_values.specs.Variables.{true_variables}
@@ -17,7 +17,7 @@ abbrev pub IsRefuted : Outcome → Type 0
 IsRefuted (Found values) = ⊥
 IsRefuted (Refuted steps) = Unit {0}
 
--- values of the variables 1..n that make each clause true, or steps that refute the clauses
+-- the outcome is right: values of the variables 1..n that make each clause true, or steps that refute the clauses
 abbrev pub IsAnswer : ℕ → List (List Literal) → Outcome → Type 0
 IsAnswer n clauses (Found values) = (length values ≡ n) × Satisfies (true_variables values) clauses
 IsAnswer n clauses (Refuted steps) = refutes n clauses steps ≡ true

@@ -1,6 +1,8 @@
--- when an answer is right
+-- when the outcome of a search is right
 pub mod Answers
--- what it is for each step of a refutation to be used
+-- when each step of a refutation is used
 pub mod Trimming
+-- lemmas on these definitions, with their proofs
+pub mod lemmas
 -- the state of the search and its parts
 pub mod searching

@@ -1,8 +1,9 @@
-//! The clause learned from a conflict: that of the first unique implication point (Marques-Silva and Sakallah 1999).
-//! The trail is walked down from the conflict. An entry whose variable is marked is resolved or kept. If it is
-//! resolved, the variables of the clause that forced it are marked too. If it is kept, its negation goes into the
-//! learned clause. Whatever is kept, the numbers of the conflict's clause and of the resolved clauses are hints that
-//! show that the learned clause follows. So no contract says what is best to keep.
+//! The clause learned from a conflict, which is a clause whose literals are all false. The learned clause is that of the first
+//! unique implication point (Marques-Silva and Sakallah 1999). The analysis marks the variables of the conflict's clause. Then it
+//! walks down the trail, from the newest entry to the oldest, and resolves or keeps each entry whose variable is marked. If an
+//! entry is resolved, the variables of the clause that forced it are marked too. If an entry is kept, the negation of its literal
+//! goes into the learned clause. Whatever is kept, the learned clause follows: the numbers of the conflict's clause and of the
+//! resolved clauses are hints that show this. So no contract says which entries are best kept.
 ghost use Rattle.std.specs.Prelude.{◌≡◌, ℕ, ◌<◌, ◌≤◌, true, [], length, IfOk, MatchOption, slice_index_or, ⊤};
 ghost use Rattle.dd_clause.specs.Clauses.{IsLiteralInRange, IsClauseInRange};
 ghost use Rattle.dd_derivation.specs.declared.propagation.Finding.TheVariants.{Falsified};
@@ -16,8 +17,8 @@ use dd_clause::Literal;
 use dd_trail::{Database, Entry, Order, Style, Trail};
 use std::alloc::{AllocError, Global};
 
-/// Where the search goes back to: the place of a decision on the trail, and the literal that the learned clause forces once
-/// the entries from that place on are taken back.
+/// Where the search goes back to. The place is that of a decision on the trail. Once the entries from that place on are removed,
+/// the learned clause forces the literal.
 #[derive(Clone, Copy)]
 pub(crate) struct Backjump {
     pub place: usize,
@@ -32,8 +33,8 @@ pub(crate) struct Learned {
     pub backjump: Option<Backjump>,
 }
 
-/// What to do with a marked entry: resolve it with the clause of this number, which forced it, or keep it. The first entry kept
-/// determines the backjump.
+/// What to do with a marked entry: resolve it with the clause that forced it, which is given by its number, or keep it. The first
+/// entry that is kept determines the backjump.
 #[derive(Clone, Copy)]
 pub(crate) enum Choice {
     Resolve(u64),
@@ -46,8 +47,8 @@ fn is_marked(marked: &[bool], literal: Literal) -> bool {
     variable >= 1 && variable <= marked.len() && marked[variable - 1]
 }
 
-/// Marks the variables of the literals. Returns how many of the newly marked ones are latest: they got their values by the last
-/// decision or since.
+/// Marks the variables of the literals. Returns how many of the newly marked variables are latest: they got their values by the
+/// last decision or after it.
 fn mark_literals(trail: &Trail, marked: &mut [bool], literals: &[Literal]) -> usize
     requires { IsClauseInRange (length marked.old) literals.now }
     ensures grows { Grows marked.old marked.new }
@@ -63,7 +64,7 @@ fn mark_literals(trail: &Trail, marked: &mut [bool], literals: &[Literal]) -> us
     latest
 }
 
-/// Marks the variables of the clause with this number, and counts as `mark_literals` does.
+/// Marks the variables of the clause with this number. Returns the same count as `mark_literals`.
 fn mark_clause(database: &Database, trail: &Trail, marked: &mut [bool], number: u64) -> usize
     requires { AreInRange (length marked.old) database.now }
     ensures grows { Grows marked.old marked.new }
@@ -75,7 +76,8 @@ fn mark_clause(database: &Database, trail: &Trail, marked: &mut [bool], number: 
     }
 }
 
-/// Whether all variables of the clause but that of `literal` are marked, so that resolving with it adds nothing.
+/// Whether all variables of the clause with this number, except that of `literal`, are marked. Then resolving with this clause
+/// adds nothing.
 fn adds_nothing(database: &Database, marked: &[bool], number: u64, literal: Literal) -> bool {
     let Some(literals) = database.find_clause(number) else {
         return false;
@@ -88,7 +90,7 @@ fn adds_nothing(database: &Database, marked: &[bool], number: u64, literal: Lite
     true
 }
 
-/// The place of the earliest decision, at or before `top`, such that no entry from it to before `top` is marked.
+/// The place of the earliest decision, at or before `top`, such that no entry from there up to but excluding `top` is marked.
 fn find_place(entries: &[Entry], marked: &[bool], top: usize) -> Option<usize>
     requires top { top < length entries.now }
     requires in_range { (k : ℕ) (d : Entry) → k < length entries.now → IsLiteralInRange (length marked.now) (slice_index_or entries.now k d).literal }
@@ -110,8 +112,8 @@ fn find_place(entries: &[Entry], marked: &[bool], top: usize) -> Option<usize>
     place
 }
 
-/// The backjump that makes the literal of the entry at this place false. `None` if no decision, at this place or
-/// before it, comes after all earlier marked entries.
+/// The backjump that makes the literal of the entry at this place false. `None` if there is none, because no decision at or
+/// before this place comes after all marked entries before this place.
 fn backjump_at(entries: &[Entry], marked: &[bool], place: usize) -> Option<Backjump>
     requires place { place < length entries.now }
     requires in_range { (k : ℕ) (d : Entry) → k < length entries.now → IsLiteralInRange (length marked.now) (slice_index_or entries.now k d).literal }
@@ -124,7 +126,7 @@ fn backjump_at(entries: &[Entry], marked: &[bool], place: usize) -> Option<Backj
     }
 }
 
-/// The same for the place of a decision, where there always is a backjump.
+/// Like `backjump_at`, for the place of a decision. There is always a backjump then.
 fn backjump_at_decision(entries: &[Entry], marked: &[bool], place: usize) -> Backjump
     requires place { place < length entries.now }
     requires decided { (d : Entry) → (slice_index_or entries.now place d).reason ≡ None }
@@ -140,9 +142,10 @@ fn backjump_at_decision(entries: &[Entry], marked: &[bool], place: usize) -> Bac
     }
 }
 
-/// What to do with the marked entry at this place. `open` is the number of earlier marked entries that are latest. While
-/// none is kept, a forced entry is resolved if `open` is above 0, and else kept if there is a backjump. After that, it is
-/// resolved if its clause adds nothing or if it comes before each decision.
+/// Chooses what to do with the marked entry at this place. A decision is kept. As long as no entry has been kept, a forced entry
+/// is resolved if `open` is above 0 or there is no backjump for it. `open` is the number of marked entries before this place that
+/// are latest. Once an entry has been kept, a forced entry is resolved if its clause adds nothing or it comes before every
+/// decision. In all other cases it is kept.
 fn choose(
     database: &Database,
     trail: &Trail,
@@ -180,8 +183,8 @@ fn choose(
     }
 }
 
-/// Learns a clause by the walk down the trail. It begins by marking the variables of the clause of this number, whose literals
-/// are all false.
+/// Learns a clause by walking down the trail. `conflict` is the number of a clause whose literals are all false. The walk begins
+/// by marking the variables of this clause.
 fn walk_down(
     alloc: Global,
     database: &Database,
@@ -236,7 +239,8 @@ fn take_mark(marked: &mut [bool], literal: Literal) -> bool {
     false
 }
 
-/// Unmarks a clause's variables. Those that were marked and are not fixed become more active.
+/// Unmarks the variables of a clause. Those that were marked become more active, unless they are fixed. More active variables are
+/// decided earlier. A variable is fixed if it got its value before the first decision.
 fn bump_marked(order: &mut Order, trail: &Trail, marked: &mut [bool], literals: &[Literal]) {
     for literal in literals {
         if take_mark(marked, *literal) && !trail.is_fixed(literal.variable) {
@@ -267,7 +271,7 @@ fn bump_kept(order: &mut Order, literals: &[Literal]) {
     }
 }
 
-/// Marks the variables of the clauses that forced the values of these literals' variables.
+/// For each of these literals, marks the variables of the clause that forced the value of the literal's variable.
 fn mark_reasons(database: &Database, trail: &Trail, marked: &mut [bool], literals: &[Literal])
     requires { AreInRange (length marked.old) database.now }
 {
@@ -278,7 +282,7 @@ fn mark_reasons(database: &Database, trail: &Trail, marked: &mut [bool], literal
     }
 }
 
-/// Calls `bump_marked` for the clauses that forced the values of these literals' variables.
+/// For each of these literals, calls `bump_marked` for the clause that forced the value of the literal's variable.
 fn bump_reasons(
     order: &mut Order,
     database: &Database,
@@ -295,7 +299,8 @@ fn bump_reasons(
     }
 }
 
-/// Makes the variables of the learned clause more active once again, and then those of the clauses that forced their values.
+/// Makes the variables of the learned clause more active once again, and then the variables of the clauses that forced their
+/// values.
 fn bump_again(
     order: &mut Order,
     database: &Database,
@@ -310,8 +315,9 @@ fn bump_again(
     bump_reasons(order, database, trail, marked, literals);
 }
 
-/// Learns a clause from the one of this number, whose literals are all false. The variables of the clauses in its hints
-/// become more active. In the broad style, some become more active a second time.
+/// Learns a clause from a conflict: `conflict` is the number of a clause whose literals are all false. The variables of the
+/// clauses in the hints become more active, unless they are fixed. In the broad style, `bump_again` makes some variables more
+/// active after that.
 pub(crate) fn learn(
     alloc: Global,
     database: &Database,

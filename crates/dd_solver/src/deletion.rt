@@ -1,7 +1,7 @@
-//! Which learned clauses are deleted, and when. A clause's levels are the decision levels at which its literals got their
-//! values. The fewer there are, the more the clause is worth (Audemard and Simon 2009). A review deletes the worse half of the
-//! learned clauses that it may delete. No clause that forced a literal of the trail is deleted. The choice is checked exactly, so
-//! no contract rests on the counts kept here.
+//! Which learned clauses are deleted, and when. The levels of a clause are the decision levels at which its literals got their
+//! values. A clause is worth more if it has fewer levels (Audemard and Simon 2009). From time to time a review deletes the worse
+//! half of the learned clauses that may be deleted. No clause that forced a literal of the trail is deleted. The choice is
+//! checked exactly, so no contract depends on the counts kept here.
 ghost use Rattle.std.specs.Prelude.{◌≡◌, ℕ, List, ◌<◌, false, length, IfOk, Some, slice_index_or};
 ghost use Rattle.dd_clause.specs.declared.clause.Literal.{Literal};
 ghost use Rattle.dd_solver.specs.searching.Deleting.{AreChosen, MayDelete};
@@ -13,20 +13,20 @@ use std::alloc::{AllocError, Global};
 /// The number of learned clauses at the first review.
 const FIRST_REVIEW: usize = 4000;
 
-/// The gap at the start. The gap is the number of clauses learned from one review to the next.
+/// The gap at the start. The gap is the number of clauses that are learned between one review and the next.
 const FIRST_GAP: usize = 2000;
 
-/// How much each review adds to the gap, before the gap sets the next review.
+/// How much each review adds to the gap, before the gap determines when the next review is due.
 const GAP_GROWTH: usize = 300;
 
-/// A clause of at most this many levels is never deleted.
+/// A clause with at most this many levels is never deleted.
 const KEPT_LEVELS: u32 = 2;
 
-/// A clause of at most this many literals is never deleted.
+/// A clause with at most this many literals is never deleted.
 const KEPT_LENGTH: usize = 2;
 
-/// A learned clause that may be deleted. The lesser half of the candidates is kept. Less is a clause of fewer levels, among these a
-/// shorter one, and among these a newer one.
+/// A learned clause that may be deleted. One candidate comes before another if it has fewer levels, or as many levels and is
+/// shorter, or is equal in both and newer. The half that comes first is kept.
 #[derive(Clone, Copy, PartialEq, Eq, PartialOrd, Ord)]
 struct Candidate {
     levels: u32,
@@ -39,17 +39,18 @@ struct Candidate {
 pub(crate) struct Deletion {
     /// How many levels each learned clause has.
     levels: Vec<u32>,
-    /// For each level, the number of the last count in which it occurred. So a count needs no clearing.
+    /// For each level, the number of the last count in which it occurred. As counts are numbered, nothing needs to be cleared
+    /// between them.
     counted: Vec<u64>,
-    /// How many counts were made so far.
+    /// How many counts have been made so far.
     counts: u64,
-    /// The next review is due when this many clauses are learned.
+    /// The next review is due when this many clauses have been learned.
     next: usize,
-    /// How many clauses are learned from one review to the next.
+    /// How many clauses are learned between one review and the next.
     gap: usize,
 }
 
-/// Sets `chosen` to false for each clause that forced an entry. `chosen[k]` belongs to the clause of number k.
+/// Sets `chosen` to false for each clause that forced an entry of the trail. `chosen[k]` belongs to the clause with the number k.
 fn spare_reasons(entries: &[Entry], chosen: &mut [bool])
     ensures { AreChosen entries.now chosen.new }
 {
@@ -63,7 +64,8 @@ fn spare_reasons(entries: &[Entry], chosen: &mut [bool])
     }
 }
 
-/// The numbers of the chosen learned clauses that are alive. The list has `clauses` clauses.
+/// The numbers of the chosen learned clauses that are alive. The learned clauses have the numbers above `clauses`, the number of
+/// clauses in the list.
 fn take_chosen(
     alloc: Global,
     database: &Database,
@@ -86,7 +88,7 @@ fn take_chosen(
 }
 
 impl Deletion {
-    /// The state before anything is learned.
+    /// The state before any clause has been learned.
     pub(crate) fn new(alloc: Global, variables: usize) -> Result<Deletion, AllocError> {
         Ok(Deletion {
             levels: Vec::new(alloc),
@@ -97,7 +99,7 @@ impl Deletion {
         })
     }
 
-    /// How many decision levels the literals have, not counting level 0.
+    /// The number of different decision levels of the literals, not counting level 0.
     fn count_levels(&mut self, trail: &Trail, literals: &[Literal]) -> u32 {
         self.counts = self.counts.saturating_add(1);
         let mut count = 0u32;
@@ -111,7 +113,7 @@ impl Deletion {
         count
     }
 
-    /// The index in `levels` of the clause of this number, if it is a learned one.
+    /// The index in `levels` of the clause with this number, if it is a learned clause.
     fn place(&self, clauses: usize, number: u64) -> Option<usize> {
         let number = number as usize;
         if number > clauses && number - clauses <= self.levels.len() {
@@ -120,7 +122,8 @@ impl Deletion {
         None
     }
 
-    /// Counts the levels of the clause of this number anew, if it is a learned one. The lower of the old and the new count is kept.
+    /// Counts the levels of the clause with this number again, if it is a learned clause. Keeps the lower of the old and the new
+    /// count.
     fn lower(&mut self, database: &Database, trail: &Trail, clauses: usize, number: u64) {
         let Some(place) = self.place(clauses, number) else {
             return;
@@ -133,7 +136,8 @@ impl Deletion {
         }
     }
 
-    /// The chosen learned clauses that are alive, and have more levels and literals than those that are always kept.
+    /// The chosen learned clauses that are alive, and that have more than `KEPT_LEVELS` levels and more than `KEPT_LENGTH`
+    /// literals.
     fn find_candidates(
         &self,
         alloc: Global,
@@ -159,7 +163,7 @@ impl Deletion {
         Ok(candidates)
     }
 
-    /// For each clause number, whether the clause is to be deleted: the worse half of those that may be.
+    /// For each clause number, whether the clause is to be deleted. Of the clauses that may be deleted, the worse half is.
     fn choose(
         &self,
         alloc: Global,
@@ -183,12 +187,12 @@ impl Deletion {
                 chosen[number] = true;
             }
         }
-        // This changes nothing, as no candidate forced an entry. It is what the contract rests on.
+        // This changes nothing, as no candidate forced an entry. But the contract follows from this call.
         spare_reasons(entries, chosen.as_mut_slice());
         Ok(chosen)
     }
 
-    /// Whether a review is due. If it is, sets when the next one is.
+    /// Whether a review is due. If it is, sets when the next one will be due.
     fn is_due(&mut self) -> bool {
         if self.levels.len() < self.next {
             return false;
@@ -198,8 +202,8 @@ impl Deletion {
         true
     }
 
-    /// Notes that a clause of these literals was learned by these hints, with `clauses` clauses in the list. Returns the numbers
-    /// of the clauses to delete: none if no review is due.
+    /// Takes note of a learned clause, given by its literals and its hints. Returns the numbers of the clauses to delete, of
+    /// which there are none if no review is due. `clauses` is the number of clauses in the list.
     pub(crate) fn note_learned(
         &mut self,
         alloc: Global,

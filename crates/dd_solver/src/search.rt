@@ -1,7 +1,9 @@
-//! The search (Marques-Silva and Sakallah 1999, Eén and Sörensson 2003): propagate; at a conflict learn a clause and
-//! go back to where it forces a literal; else decide a variable. Each learned clause is a step of a refutation. The
-//! search ends, because the trail, read as a number in base 3, rises with each propagation, decision and backjump.
-//! The contracts call `left` how far this number is from its bound.
+//! The search (Marques-Silva and Sakallah 1999, Eén and Sörensson 2003). The trail lists the literals that are true, in the order
+//! in which they became true. The search first propagates: it makes literals true that clauses force. A conflict is a clause
+//! whose literals are all false. At a conflict, the search learns a clause, and goes back to where this clause forces a literal.
+//! If there is no conflict, it decides a variable. Each learned clause is a step of a refutation. The search ends, because the
+//! trail, read as a number in base 3, rises with each propagation, decision and backjump, and is bounded. In the contracts,
+//! `left` is the distance of this number from its bound.
 ghost use Rattle.std.specs.Prelude.{◌≡◌, ℕ, ◌+◌, ◌<◌, ◌≤◌, ◌^◌, ◌++◌, ◌∷◌, [], true, false, List, length, All, IfOk, OnOk, OnErr, MatchOption, IsTrue, ◌↔◌};
 ghost use Rattle.dd_clause.specs.declared.clause.Literal.{Literal};
 ghost use Rattle.dd_clause.specs.Clauses.{IsClauseInRange, Satisfies};
@@ -28,13 +30,13 @@ pub(crate) struct Search<'a> {
     clauses: &'a [Clause],
     /// The steps learned so far.
     steps: Vec<Step>,
-    /// Whether each clause, of the list and then of the steps, is alive.
+    /// For each clause, first of the list and then of the steps, whether it is alive.
     alive: Vec<bool>,
     trail: Trail,
     watches: Watches,
     order: Order,
     deletion: Deletion,
-    /// Room for the analysis of a conflict: a mark for each variable.
+    /// The memory that the analysis of a conflict works in: a mark for each variable.
     marked: Vec<bool>,
 }
 
@@ -68,7 +70,7 @@ fn push_step(steps: &mut Vec<Step>, alive: &mut Vec<bool>, step: Step) -> Result
 }
 
 impl<'a> Search<'a> {
-    /// The state before the first decision: no variable has a value, and nothing is learned.
+    /// The state before the first decision: no variable has a value, and no clause has been learned.
     pub(crate) fn new(
         alloc: Global,
         clauses: &'a [Clause],
@@ -99,7 +101,8 @@ impl<'a> Search<'a> {
         })
     }
 
-    /// Makes forced literals true, until a clause is falsified or none forces a literal. Returns the number of a falsified clause.
+    /// Makes forced literals true, until some clause is falsified or no clause forces a literal. Returns the number of a
+    /// falsified clause, or `None` if there is none.
     fn propagate(&mut self) -> Result<Option<u64>, AllocError>
         ensures same { (self.new.variables ≡ self.old.variables) × (self.new.clauses ≡ self.old.clauses) × (self.new.steps ≡ self.old.steps) }
         ensures conflict { IfOk result (λ conflict. MatchOption conflict (IsFull self.new.variables self.new.entries → AreOpen self.new) (IsFalsified self.new)) }
@@ -141,8 +144,8 @@ impl<'a> Search<'a> {
         Ok(true)
     }
 
-    /// Learns a clause from a falsified one, as a further step. Returns where to go back to. `None` if the steps now refute the
-    /// clauses.
+    /// Learns a clause from a falsified one, and adds it as a step. Returns where to go back to, or `None` if the steps now
+    /// refute the clauses.
     fn analyse(&mut self, alloc: Global, conflict: u64) -> Result<Option<Backjump>, AllocError>
         requires { IsFalsified self.old conflict }
         ensures same { (self.new.variables ≡ self.old.variables) × (self.new.clauses ≡ self.old.clauses) × (self.new.entries ≡ self.old.entries) }
@@ -179,7 +182,7 @@ impl<'a> Search<'a> {
         Ok(learned.backjump)
     }
 
-    /// Takes back all entries from a decision on, and makes the literal true that the last step's clause then forces.
+    /// Removes all entries from a decision on. The last step's clause then forces a literal, which is made true.
     fn backtrack(&mut self, backjump: Backjump) -> Result<(), AllocError>
         requires { IsForced self.old backjump }
         ensures same { (self.new.variables ≡ self.old.variables) × (self.new.clauses ≡ self.old.clauses) × (self.new.steps ≡ self.old.steps) }
@@ -196,7 +199,7 @@ impl<'a> Search<'a> {
         Ok(())
     }
 
-    /// The values of the variables, where each has one and no clause is falsified. They satisfy the clauses.
+    /// The values of the variables, which satisfy the clauses. Each variable must have a value, and no clause may be falsified.
     fn assignment(&self, alloc: Global) -> Result<Assignment, AllocError>
         requires open { AreOpen self.now }
         requires full { IsFull self.now.variables self.now.entries }
@@ -205,15 +208,15 @@ impl<'a> Search<'a> {
         self.trail.assignment(alloc)
     }
 
-    /// The steps learned.
+    /// The steps that have been learned.
     fn into_steps(self) -> Items<Step>
         ensures { result ≡ self.entry.steps }
     {
         Items::from_vec(self.steps)
     }
 
-    /// Searches until an assignment satisfies the clauses or the steps refute them. Returns the assignment. `None` if they are
-    /// refuted.
+    /// Searches until an assignment satisfies the clauses or the steps refute them. Returns the assignment, or `None` if the
+    /// clauses are refuted.
     fn settle(&mut self, alloc: Global) -> Result<Option<Assignment>, AllocError>
         ensures same { (self.new.variables ≡ self.old.variables) × (self.new.clauses ≡ self.old.clauses) }
         ensures settled { IfOk result (λ found. MatchOption found (refutes self.new.variables self.new.clauses self.new.steps ≡ true)
@@ -251,7 +254,8 @@ pub fn solve(alloc: Global, cnf: &Cnf) -> Result<Outcome, AllocError>
     solve_with(alloc, cnf, Style::Broad)
 }
 
-/// Like `solve`, in a style of search. The style changes how long it takes, and which assignment or which steps it finds.
+/// Like `solve`, but with a given style of search. The style affects how long the search takes, and which assignment or which
+/// steps it finds.
 pub fn solve_with(alloc: Global, cnf: &Cnf, style: Style) -> Result<Outcome, AllocError>
     ensures answer { IfOk result (IsAnswer cnf.now.variables cnf.now.clauses) }
     ensures found { IfOk result (λ outcome. IsFound outcome ↔ IsSatisfiable cnf.now.clauses) }

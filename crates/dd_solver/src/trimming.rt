@@ -1,6 +1,7 @@
-//! A search learns clauses that its refutation does not need in the end. Trimming marks the last step. It walks from there
-//! to the first step, and marks the steps that each marked step hints at (Goldberg and Novikov 2003). The marked steps are
-//! kept, under new numbers, with hints that name the same clauses as before. They delete nothing.
+//! The trimming of a refutation. A search learns clauses that its refutation does not need in the end. Trimming marks the last
+//! step. Then it walks back from there to the first step, and for each marked step marks the steps that its hints name (Goldberg
+//! and Novikov 2003). The marked steps are kept, and get new numbers. Their hints name the same clauses as before, by the new
+//! numbers. They delete nothing.
 ghost use Rattle.std.specs.Prelude.{◌≡◌, ℕ, suc, ◌+◌, ◌<◌, ◌≤◌, ◌^◌, ◌||◌, [], true, false, length, map, All, IfOk, MatchOption, slice_index_or};
 ghost use Rattle.dd_derivation.specs.Derivations.{refutes};
 ghost use Rattle.dd_solver.specs.Trimming.{is_hint, are_used};
@@ -11,7 +12,7 @@ use dd_derivation::Step;
 use dd_values::Items;
 use std::alloc::{AllocError, Global};
 
-/// The index, from 0, of the step with this number. `None` if it is the number of one of the list's `clauses` clauses.
+/// The index, from 0, of the step with this number. `None` if the number is at most `clauses`, the number of clauses in the list.
 fn find_place(number: u64, clauses: usize) -> Option<usize>
     ensures { MatchOption result (number ≤ clauses) (λ place. number ≡ clauses + place + 1) }
 {
@@ -22,7 +23,7 @@ fn find_place(number: u64, clauses: usize) -> Option<usize>
     None
 }
 
-/// Marks those of the first `before` steps that are hinted at.
+/// Marks those of the first `before` steps that the hints name.
 fn mark_hints(marked: &mut [bool], clauses: usize, before: usize, hints: &[u64])
     requires { before ≤ length marked.old }
     ensures earlier { (j : ℕ) → j < before → slice_index_or marked.new j false ≡ (slice_index_or marked.old j false || is_hint (clauses + suc j) hints.now) }
@@ -62,7 +63,8 @@ fn mark_used(alloc: Global, clauses: usize, steps: &[Step]) -> Result<Vec<bool>,
     Ok(marked)
 }
 
-/// The new number of each marked step, when only the marked ones are left. An unmarked step gets the last number before it.
+/// The new number of each marked step, once only the marked steps are left. An unmarked step gets the new number of the last
+/// marked step before it, or `clauses` if there is none.
 fn find_numbers(alloc: Global, clauses: usize, marked: &[bool]) -> Result<Vec<u64>, AllocError>
     requires { clauses + length marked.now < 2 ^ 64 }
     ensures { IfOk result (λ numbers. numbers.items ≡ numbers_from clauses marked.now) }
@@ -78,7 +80,7 @@ fn find_numbers(alloc: Global, clauses: usize, marked: &[bool]) -> Result<Vec<u6
     Ok(numbers)
 }
 
-/// The new number of a step's clause. A clause of the list keeps its number.
+/// The new number of the clause that has this number. A clause of the list keeps its number.
 fn new_number(clauses: usize, numbers: &[u64], number: u64) -> u64
     ensures { result ≡ renamed clauses numbers.now number }
 {
@@ -88,7 +90,7 @@ fn new_number(clauses: usize, numbers: &[u64], number: u64) -> u64
     }
 }
 
-/// A step under new numbers, with nothing deleted.
+/// A copy of the step that uses the new numbers in its hints, and deletes nothing.
 fn keep_step(
     alloc: Global,
     clauses: usize,
@@ -110,7 +112,7 @@ fn keep_step(
     })
 }
 
-/// The marked steps under their new numbers, with nothing deleted.
+/// Copies of the marked steps that use the new numbers in their hints, and delete nothing.
 fn keep_marked(
     alloc: Global,
     clauses: usize,
@@ -130,8 +132,8 @@ fn keep_marked(
     Ok(kept)
 }
 
-/// Of steps that refute the clauses, those that the last one uses, directly or through others. They refute the
-/// clauses too, and delete nothing.
+/// From steps that refute the clauses, keeps the last one and those that it uses, directly or through others. The steps that are
+/// kept refute the clauses too, and delete nothing.
 pub fn trimmed(alloc: Global, cnf: &Cnf, steps: Items<Step>) -> Result<Items<Step>, AllocError>
     requires { refutes cnf.now.variables cnf.now.clauses steps ≡ true }
     ensures refutes { IfOk result (λ fewer. refutes cnf.now.variables cnf.now.clauses fewer ≡ true) }

@@ -1,4 +1,4 @@
--- Bytes spell one script, or are refused in one way.
+-- Bytes spell a script or are refused.
 use Rattle.std.proofs.Common.{◌≡◌, ◌⊎◌, ℕ, zero, suc, List, [], ◌∷◌, Option, Some, None, refl, sym, ◌∙◌, inl, inr, arith}
 use Rattle.dd_script.specs.{Tree.Lexeme, Tree.Written, Tree.Syntax, Parts.Parts, Walk.Located, Walk.first_located_fault, Walk.script_of}
 use Rattle.dd_script.specs.Scripts.{Spells, RefusalKind, syntax, kind_of, RefusedAs}

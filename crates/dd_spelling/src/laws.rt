@@ -1,4 +1,4 @@
-//! Laws of bytes that are read as scripts, as contracts of functions that do nothing.
+//! Laws about bytes that are read as scripts. Each is the contract of a function that does nothing.
 ghost use Rattle.std.specs.Prelude.{◌≡◌, ◌≤◌, ◌⊎◌, ℕ, List, length};
 ghost use Rattle.dd_values.specs.Bounds.{most_script};
 ghost use Rattle.dd_script.specs.{Parts.Parts, Scripts.Spells, Scripts.RefusedAs, Scripts.RefusalKind};
@@ -13,7 +13,7 @@ pub fn one_script()
     one_tree();
 }
 
-/// Does nothing. Its contract says that bytes are refused in at most one way: for one command, and for one kind of fault.
+/// Does nothing. Its contract says that bytes are refused in at most one way: at one command, and for one kind of fault.
 pub fn one_refusal()
     ensures { (bytes : List ℕ) (m n : ℕ) (k l : RefusalKind) → RefusedAs bytes m k → RefusedAs bytes n l → (m ≡ n) × (k ≡ l) }
 {
@@ -22,7 +22,7 @@ pub fn one_refusal()
     tree_or_fault();
 }
 
-/// Does nothing. Its contract says that bytes which spell a script are never refused. All other bytes are refused, if they are no
+/// Does nothing. Its contract says that bytes that spell a script are never refused. All other bytes are refused, if they are no
 /// longer than a script may be.
 pub fn spelled_or_refused()
     ensures never_both { (bytes : List ℕ) (s : Parts) (n : ℕ) (k : RefusalKind) → Spells bytes s → RefusedAs bytes n k → ⊥ }

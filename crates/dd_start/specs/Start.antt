@@ -17,10 +17,10 @@ known_start =
       configurations = [];
     }
 
--- what is known, with these sets of symbols in place of its own, and with the nodes in the list as the restricted ones
+-- `k`, but with these sets of symbols in place of its own, and with these nodes as the restricted ones
 abbrev pub allowing : Known → SymbolSets → List ℕ → Known
 allowing k sets nodes = record k { setting = record (k.setting) { sets = sets }; restricted = nodes }
 
--- what is known, except that each node allows each symbol, and none is restricted
+-- `k`, except that each node allows each symbol and no node is restricted
 abbrev pub unrestricted : Known → Known
 unrestricted k = allowing k (all_symbols (length k.setting.nodes) (length k.setting.symbols)) []

@@ -59,7 +59,7 @@ pub fn numbers_below(alloc: Global, count: u32) -> Result<Vec<u32>, AllocError>
     (0..count).collect(alloc)
 }
 
-/// Lets each node allow each symbol, as at first. No node is restricted after that.
+/// Lets each node allow each symbol, as it does at first. After this call no node is restricted.
 pub fn allow_all(alloc: Global, known: &mut Known) -> Result<(), AllocError>
     requires nodes { 1 ≤ length known.old.setting.nodes }
     requires symbols { 1 ≤ length known.old.setting.symbols }

@@ -1,4 +1,4 @@
--- Strips. A strip has a slice at each x, and periods along y and z.
+-- Strips. A strip has periods along y and z, and no end along x. A slice consists of its cells with one value of x.
 use Rattle.std.specs.Prelude.{◌≡◌, ◌⊎◌, ℕ, ◌*◌, ◌<◌, ◌≤◌, List, length, slice_index}
 use Rattle.std.specs.List.{All}
 use Rattle.dd_values.specs.Bounds.{most_weight}
@@ -6,19 +6,19 @@ use Rattle.dd_formula.specs.LocalRule.{LocalRule}
 use Rattle.dd_counts.specs.Rules.{states, longer_states, most_states, most_longer_states}
 use Rattle.dd_strip.specs.declared.strip.Strip.{Strip}
 
--- the strip with these periods and this number of nodes at a position
+-- the strip with these periods along y and z, and this number of nodes at each position
 abbrev pub strip_of : ℕ → ℕ → ℕ → Strip
 strip_of y z nodes = record { y = y; z = z; nodes = nodes }
 
--- the number of positions of a slice
+-- the number of positions in a slice
 abbrev pub positions : Strip → ℕ
 positions s = s.y * s.z
 
--- the number of cells of a slice
+-- the number of cells in a slice
 abbrev pub cells : Strip → ℕ
 cells s = s.nodes * positions s
 
--- the periods are from 1 to 64, and there are 1 to 4 nodes
+-- the periods are from 1 to 64, and there are 1 to 4 nodes at each position
 pub record IsSized (s : Strip) : Type 0 where
   pub y_some : 0 < s.y
   pub z_some : 0 < s.z
@@ -27,7 +27,7 @@ pub record IsSized (s : Strip) : Type 0 where
   pub z_most : s.z ≤ 64
   pub nodes_most : s.nodes ≤ 4
 
--- the strip has the rule's number of nodes, and the period 1 along each axis past the rule's dimension
+-- the strip is one for the rule: it has the rule's number of nodes, and the period 1 along each axis beyond the rule's dimension
 pub record IsFor (r : LocalRule) (s : Strip) : Type 0 where
   pub sized : IsSized s
   pub nodes : s.nodes ≡ r.nodes
@@ -36,7 +36,7 @@ pub record IsFor (r : LocalRule) (s : Strip) : Type 0 where
 
 -- ---- which strips and weights a question about a rule may name
 
--- the list has the periods along y and z; they are from 1 to 64, and 1 along each axis past the rule's dimension
+-- the list gives the periods along y and z; they are from 1 to 64, and the period along each axis beyond the rule's dimension is 1
 pub record IsStrip (r : LocalRule) (periods : List ℕ) : Type 0 where
   pub y_some : 0 < slice_index periods 0
   pub z_some : 0 < slice_index periods 1
@@ -45,7 +45,7 @@ pub record IsStrip (r : LocalRule) (periods : List ℕ) : Type 0 where
   pub y_unused : r.dimension < 2 → slice_index periods 0 ≡ 1
   pub z_unused : r.dimension < 3 → slice_index periods 1 ≡ 1
 
--- there is one weight for each symbol, and each is at most most_weight
+-- there is one weight for each symbol, and each weight is at most most_weight
 pub record HasWeights (r : LocalRule) (weights : List ℕ) : Type 0 where
   pub each : length weights ≡ r.symbols
   pub small : All (λ w. w ≤ most_weight) weights
@@ -54,10 +54,10 @@ pub record HasWeights (r : LocalRule) (weights : List ℕ) : Type 0 where
 abbrev pub strip_for : LocalRule → List ℕ → Strip
 strip_for r periods = strip_of (slice_index periods 0) (slice_index periods 1) r.nodes
 
--- the transfer graph has too many states or too many windows
+-- the rule's transfer graph over the strip (see dd_transfer) has too many states or too many windows
 abbrev pub IsTooLarge : LocalRule → Strip → Type 0
 IsTooLarge r s = (most_states < states r (positions s)) ⊎ (most_longer_states < longer_states r (positions s))
 
--- the transfer graph has few enough states and few enough windows
+-- the rule's transfer graph over the strip has few enough states and few enough windows
 abbrev pub IsFew : LocalRule → Strip → Type 0
 IsFew r s = (states r (positions s) ≤ most_states) × (longer_states r (positions s) ≤ most_longer_states)

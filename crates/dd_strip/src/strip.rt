@@ -1,9 +1,10 @@
-//! Strips, and the numbers of positions and of cells of a slice.
+//! Strips, and how many positions and how many cells a slice has.
 ghost use Rattle.std.specs.Prelude.{◌≡◌, ◌≤◌};
 ghost use Rattle.dd_strip.specs.Strips.{IsSized, cells, positions};
 
-/// A strip: the cells whose `y` and `z` are at least 0 and less than the period of that axis. It has no end along x. A
-/// slice has the cells of one `x`. The calls need periods from 1 to 64, and 1 to 4 nodes.
+/// A strip: the cells whose `y` and `z` are at least 0 and less than the strip's period along that axis. It has no end along
+/// x. A slice consists of the cells with one value of `x`. The cells at one position are called its nodes. The calls need
+/// periods from 1 to 64, and 1 to 4 nodes at each position.
 #[derive(Debug, Clone, Copy)]
 pub struct Strip {
     /// The period along y.
@@ -15,7 +16,7 @@ pub struct Strip {
 }
 
 impl Strip {
-    /// The number of positions of a slice.
+    /// The number of positions in a slice.
     pub fn positions(&self) -> u32
         requires { IsSized self.now }
         ensures value { result ≡ positions self.now }
@@ -24,7 +25,7 @@ impl Strip {
         self.y * self.z
     }
 
-    /// The number of cells of a slice.
+    /// The number of cells in a slice.
     pub fn cells(&self) -> u32
         requires { IsSized self.now }
         ensures value { result ≡ cells self.now }

@@ -1,6 +1,6 @@
--- A closed walk as a configuration. Its period is the walk's length, and its slice at each x is the last one of the
--- state there. Each place is in some window, and the windows are those of the walk's edges. So the configuration
--- lives.
+-- A closed walk as a configuration. The configuration's period is the walk's length, and its slice at each x is the last slice of the walk's state
+-- there. Each position is in the tested slice of some window, and the windows are those of the walk's edges. So the configuration lives: it obeys the
+-- rule everywhere.
 use Rattle.std.proofs.Common.{◌≡◌, ℕ, zero, suc, ◌+◌, ◌*◌, ◌/◌, ◌%◌, ◌^◌, ◌<◌, ◌≤◌, Bool, true, false, List, [], ◌∷◌, length, map, get_or, ℤ, pos, ◌+ℤ◌, ◌≤ℤ◌, Option, None, refl, ap, sym, ◌∙◌, subst, arith}
 use Rattle.std.proofs.{Math.Nat.mod-eq_of_lt, Math.Nat.pow-suc, Math.Nat.one-le-pow, lemmas.Int.ints, lemmas.Bool.ltb-true}
 use Rattle.std.proofs.lemmas.Nat.{mul-add-lt, mod-mul-add, div-mul-add, div-add-mod', div_below, mod_below}
@@ -33,7 +33,7 @@ opened : (b : Bool) (o : Option ℕ) → is_some (cond b o None) ≡ true → b 
 opened true o h = refl
 opened false o h = absurd (cc)
 
--- the periods, and the symbol at a place of the list
+-- the periods of the configuration, and the symbol at a place of its list of symbols
 abbrev pub periods_for : Strip → ℕ → Periods
 periods_for s n = record { x = n; y = s.y; z = s.z; shear = 0 }
 
@@ -75,7 +75,7 @@ module _ (r : LocalRule) (s : Strip) (walk : List ℕ) (rule : IsRule r) (for : 
   pub on_strip : IsOnStrip r s (tile_of r s walk)
   on_strip = record { tile = is_tile; nodes = refl; y_period = refl; z_period = refl; straight = refl; known = all_known }
 
-  -- the slice at x is the last one of the state there
+  -- the slice at x is the last slice of the walk's state there
   symbol_there : (x : ℤ) (k : ℕ) → k < cells s →
       unwrap_or (tile_look (tile_of r s walk) (cell_from s x k)) 0 ≡ slice_index (digits r.symbols (cells s) (last_slice r s (state_at r s walk x))) k
   symbol_there x k lt =
@@ -141,7 +141,7 @@ module _ (r : LocalRule) (s : Strip) (walk : List ℕ) (rule : IsRule r) (for : 
     one_further : (y : ℤ) (n : ℕ) → ((y +ℤ pos n) +ℤ pos 1) ≡ y +ℤ pos (suc n)
     one_further y n = omega (arith, ints)
 
-    -- the n slices after y are the last n of the state at y + n
+    -- the n slices after y are the last n slices of the walk's state at y + n
     slices_there : (y : ℤ) (n : ℕ) → n ≤ state_length r → slices_from r s (tile_look (tile_of r s walk)) (y +ℤ pos 1) n ≡ state_at r s walk (y +ℤ pos n) % slices r (positions s) ^ n
     slices_there y zero le = none_there (y +ℤ pos 1) ∙ sym (mod_of_none (state_at r s walk (y +ℤ pos 0)) (slices r (positions s)))
     slices_there y (suc n) le =
@@ -162,7 +162,7 @@ module _ (r : LocalRule) (s : Strip) (walk : List ℕ) (rule : IsRule r) (for : 
         positive : {t : ℕ} (m n : ℕ) → t < m → 0 < m ^ n
         positive m n lt = one-le-pow n m (omega arith)
 
-    -- so the window from y + 1 on is that of an edge of the walk: the edge from the state at y + W, where W is `state_length`
+    -- so the window that begins at y + 1 is that of an edge of the walk: the edge from the state at y + W, where W is `state_length`
     window_there : (y : ℤ) → IsWindow r s (window_from r s (tile_look (tile_of r s walk)) (y +ℤ pos 1))
     window_there y =
         let look = tile_look (tile_of r s walk) in

@@ -14,7 +14,7 @@ use Rattle.dd_strips.proofs.{Walks.IsStep, Walks.walk_weighs, Walks.walk_is_heav
 use Rattle.dd_strips.proofs.Tiles.{IsOnStrip, tile_repeats, tile_has, symbols_round, period_weighs}
 use Rattle.dd_strips.proofs.Cycles.{tile_of, on_strip, lives_on_strip, cycle_weighs}
 
--- the strip with such periods is one for the rule
+-- the strip with these periods is one for the rule
 pub strip_fits : (r : LocalRule) (periods : List ℕ) → IsRule r → IsStrip r periods → IsFor r (strip_for r periods)
 strip_fits r periods rule is = record {
   sized = record { y_some = is.y_some; z_some = is.z_some; nodes_some = rule.nodes.0; y_most = is.y_most; z_most = is.z_most; nodes_most = rule.nodes.1 };
@@ -27,7 +27,7 @@ strip_fits r periods rule is = record {
 abbrev pub AreEdges : LocalRule → Strip → Type 0
 AreEdges r s = (look : Look) → RepeatsAcross s look → AreEdgesOf r s look
 
--- p / q is m / l divided by the number a of positions of a slice, so a bound by m / l on the weight of n slices is one by p / q
+-- p / q is m / l divided by a, the number of positions in a slice. So a bound by m / l for the weight of n slices is also a bound by p / q
 at_least : (p q m l n a w : ℕ) → 0 < l → p * (l * a) ≡ m * q → m * n ≤ l * w → p * (a * n) ≤ q * w
 at_least p q m l n a w some same h =
     let one : (p * (a * n)) * l ≡ (p * (l * a)) * n = omega arith in
@@ -99,7 +99,7 @@ module _ (r : LocalRule) (s : Strip) (rule : IsRule r) (for : IsFor r s) (edges 
       kept = record { allowed = λ c inside node. on.allowed c; true_there = λ v a at flat node. on.lives v a flat node };
     }
 
-    -- after its period the walk is back in its state, so it is closed
+    -- after one period the walk is back at its first state, so it is closed
     tile_heavy : (ws : List ℕ) (m l : ℕ) (ps : List ℤ) → AreStripPotentials r s ws m l ps → m * t.periods.x ≤ l * tile_weight ws t
     tile_heavy ws m l ps potentials =
         let look = tile_look t in
@@ -123,7 +123,7 @@ module _ (r : LocalRule) (s : Strip) (rule : IsRule r) (for : IsFor r s) (edges 
   pub strip_empty_law : (ranks : List ℕ) → IsEmptyCertificate r s ranks → StripEmpty r s (greatest ranks + state_length r)
   strip_empty_law ranks falls = record { short = fillings_short ranks falls; nowhere = nowhere ranks falls }
 
-  -- the closed walk of the certificate gives a configuration of its mean
+  -- the closed walk of the certificate gives a configuration with the walk's mean
   module _ (numbers : AreDigits r.symbols) (ws : List ℕ) (p q : ℕ) (walk : List ℕ) (ps : List ℤ) (c : IsDensityCertificate r s ws p q walk ps) where
     cycle_edges : AreEdgesOf r s (tile_look (tile_of r s walk))
     cycle_edges = edges (tile_look (tile_of r s walk)) (tile_repeats r s (tile_of r s walk) for (on_strip r s walk rule for numbers c.closed))

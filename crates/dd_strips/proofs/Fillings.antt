@@ -1,4 +1,5 @@
--- The windows of an admissible filling of a strip are steps: they hold what the rule reads in them, so it is true there.
+-- The windows of an admissible filling of a strip are steps of a walk: a window contains all that the rule reads at its tested slice, so the rule is
+-- true there.
 use Rattle.std.proofs.Common.{◌≡◌, ℕ, ◌+◌, ◌<◌, ◌≤◌, true, ℤ, pos, ◌+ℤ◌, ◌≤ℤ◌, Option, Some, None, ◌∙◌, arith}
 use Rattle.std.proofs.lemmas.{Int.ints, Bool.and_from, Bool.lt-ltb}
 use Rattle.std.specs.Prelude.{◌<ℤ◌, is_some, IfSome, IsSomeAnd}

@@ -1,5 +1,5 @@
--- The least density of a strip is one fraction: each of two configurations of least density weighs no less than the other, and two
--- fractions in lowest terms with equal cross products are the same.
+-- A strip has only one least density: of two configurations of least density, neither has a lower density than the other, and two fractions in lowest
+-- terms with equal cross products are the same.
 use Rattle.std.proofs.Common.{◌≡◌, ℕ, ◌*◌, ◌<◌, ◌≤◌, List, ap, arith}
 use Rattle.std.proofs.Math.Nat.{le_of_mul-le-mul_right, mul-le-mul_left, mul-le-mul_right}
 use Rattle.std.specs.Int.{IsGcd}
@@ -9,7 +9,7 @@ use Rattle.dd_strip.specs.declared.strip.Strip.{Strip}
 use Rattle.dd_strips.specs.Strips.{IsLeastDensity, tile_weight}
 use Rattle.dd_fraction.specs.lemmas.Divisors.{same_fraction}
 
--- p / q is at most a / b, if a / b is the density of a configuration
+-- if a configuration has the density a / b, and p / q is a lower bound for its density, then p / q is at most a / b
 no_more : (p q a b n w : ℕ) → 0 < n → p * n ≤ q * w → a * n ≡ b * w → p * b ≤ a * q
 no_more p q a b n w some less is =
     let one : b * (p * n) ≤ b * (q * w) = mul-le-mul_left b less in

@@ -1,9 +1,9 @@
--- Whole numbers modulo a number.
+-- Integers modulo a natural number.
 use Rattle.std.proofs.Common.{◌≡◌, ℕ, ◌+◌, ◌*◌, ◌%◌, ◌/◌, ◌<◌, ◌≤◌, ℤ, pos, ◌+ℤ◌, unsigned_abs, arith, ap, sym, ◌∙◌}
 use Rattle.std.proofs.{Math.Nat.mul-le-mul_left, Math.Nat.add-mul-mod_self_right, lemmas.Int.ints, lemmas.Nat.div-add-mod'}
 use Rattle.dd_pattern.specs.{Periods.residue, lemmas.Residues.residue_is}
 
--- x with so many multiples of n added that the sum is not below 0
+-- x plus a multiple of n that is great enough to make the sum at least 0
 record Raised (x : ℤ) (n : ℕ) : Type 0 where
   natural : ℕ
   is : x +ℤ pos (unsigned_abs x * n) ≡ pos natural

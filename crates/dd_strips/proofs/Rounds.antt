@@ -1,6 +1,5 @@
--- A closed walk, walked round and round. At each whole number x it is at a state, and an edge leads from there to the
--- state at the next x. Each state's last slice is that of the edge to it. So a state's slices are the last slices of
--- the states before it.
+-- A closed walk, walked round and round. At each integer x it is at a state, and an edge leads from this state to the state at the next x. Each
+-- state's last slice is the slice of the edge to it. So a state's slices are the last slices of this state and of the states just before it.
 use Rattle.std.proofs.Common.{◌≡◌, ℕ, zero, suc, ◌+◌, ◌*◌, ◌%◌, ◌^◌, ◌<◌, List, [], ◌∷◌, length, ℤ, pos, ◌+ℤ◌, ap, sym, ◌∙◌, subst, arith, inl, inr}
 use Rattle.std.proofs.{Math.Nat.mod-eq_of_lt, Math.Nat.pow-suc, Math.Nat.pow-zero, Math.Nat.mul-mod_left, lemmas.Bool.cases_lt}
 use Rattle.std.proofs.lemmas.Nat.{mod-mul-add}
@@ -56,7 +55,7 @@ module _ (r : LocalRule) (s : Strip) where
             (subst (λ (u : ℕ). IsJoined r s u (slice_index walk 0)) (sym here) (first_edge closed.last closed.last walk closed.closed closed.some))
       ]
 
-  -- what is known of an edge from u to v, whose slice is the last slice of v
+  -- what is known about an edge from u to v, whose slice is the last slice of v
   pub record Follows (u v : ℕ) : Type 0 where
     pub state : u < states r (positions s)
     pub slice : last_slice r s v < slices r (positions s)

@@ -1,4 +1,4 @@
--- Sums over the first numbers, and over lists.
+-- Sums over the numbers below a bound, and over lists.
 use Rattle.std.proofs.Common.{◌≡◌, ℕ, zero, suc, ◌+◌, ◌*◌, ◌<◌, List, [], ◌∷◌, length, map, get_or, refl, ap, sym, ◌∙◌, arith}
 use Rattle.std.proofs.lemmas.List.{Sums.sum_by-cons, FromFn.sum_by-map-range_with_len_more}
 use Rattle.std.specs.{Prelude.sum_by, List.range_with_len}
@@ -28,7 +28,7 @@ total_below-first f n =
     let e : total_below (λ k. f (1 + k)) n ≡ total_below (λ k. f (suc k)) n = total_below-same (λ k. f (1 + k)) (λ k. f (suc k)) n (λ k _. ap f (omega arith)) in
     ap (total_below f) (let s : suc n ≡ 1 + n = omega arith in s) ∙ (one ∙ omega (arith, e))
 
--- a sum over m rows of n numbers each
+-- a sum over m rows of n numbers each, as the sum of the rows' sums
 pub total_below-rows : (f : ℕ → ℕ) (m n : ℕ) → total_below f (m * n) ≡ total_below (λ i. total_below (λ j. f (i * n + j)) n) m
 total_below-rows f zero n = ap (total_below f) (let e : 0 * n ≡ 0 = omega arith in e)
 total_below-rows f (suc m) n =
@@ -48,7 +48,7 @@ total_below-none : (n : ℕ) → total_below (λ k. 0) n ≡ 0
 total_below-none zero = refl
 total_below-none (suc n) = let rest = total_below-none n in let sum : total_below (λ k. 0) n + 0 ≡ 0 = omega (arith, rest) in sum
 
--- the sum of the rows is the sum of the columns
+-- summing a table by rows gives the same as summing it by columns
 pub total_below-turned : (f : ℕ → ℕ → ℕ) (m n : ℕ) → total_below (λ i. total_below (f i) n) m ≡ total_below (λ j. total_below (λ i. f i j) m) n
 total_below-turned f zero n = sym (total_below-none n)
 total_below-turned f (suc m) n =
@@ -57,7 +57,7 @@ total_below-turned f (suc m) n =
     let sum : total_below (λ i. total_below (f i) n) m + total_below (f m) n ≡ total_below (λ j. total_below (λ i. f i j) m + f m j) n = omega (arith, rest, both) in
     sum
 
--- n numbers of a sequence that repeats after n have the same sum, wherever they begin
+-- in a sequence that repeats after n terms, any n consecutive terms have the same sum
 pub total_below-round : (f : ℕ → ℕ) (n : ℕ) → ((k : ℕ) → f (k + n) ≡ f k) → (x : ℕ) → total_below (λ k. f (x + k)) n ≡ total_below f n
 total_below-round f n h zero = total_below-same (λ k. f (0 + k)) f n (λ k _. ap f (omega arith))
 total_below-round f n h (suc x) =

@@ -1,5 +1,5 @@
--- Configurations with the strip's periods and no shear. They have every slice, and repeat after their period along
--- the first axis. As many slices as that period, wherever they begin, weigh as much as the fundamental box.
+-- Configurations with the strip's periods and no shear. In each of their slices all cells have symbols, and the slices repeat after the
+-- configuration's period along the first axis. Any run of as many slices as that period weighs as much as the fundamental box.
 use Rattle.std.proofs.Common.{◌≡◌, ℕ, zero, suc, ◌+◌, ◌*◌, ◌/◌, ◌%◌, ◌<◌, Bool, List, [], ◌∷◌, length, map, get_or, ℤ, pos, ◌+ℤ◌, Option, None, refl, ap, sym, ◌∙◌, arith}
 use Rattle.std.proofs.{Math.Nat.mod-eq_of_lt, Math.Nat.div-eq_of_lt, lemmas.Int.ints, lemmas.Bool.lt-ltb}
 use Rattle.std.proofs.lemmas.Nat.{mod-mul-add, div-mul-add, div-add-mod', mod_below, div_below}
@@ -50,7 +50,7 @@ value_at [] k = refl
 value_at (x ∷ xs) zero = refl
 value_at (x ∷ xs) (suc k) = value_at xs k
 
--- the place of a cell's symbol in the list, from its place along each axis
+-- the place of a cell's symbol in the configuration's list, from the cell's place along each axis
 abbrev pub spot : Tile → ℕ → ℕ → ℕ → ℕ → ℕ
 spot t x y z a = ((z * t.periods.y + y) * t.periods.x + x) * t.nodes + a
 
@@ -108,7 +108,7 @@ module _ (r : LocalRule) (s : Strip) (t : Tile) (for : IsFor r s) (on : IsOnStri
       ∙ ap (λ (o : Option ℕ). unwrap_or o 0) (look_round (x +ℤ pos i) (pos (j / s.nodes % s.y)) (pos (j / s.nodes / s.y)) (j % s.nodes))) in
       ap (λ (f : ℕ → ℕ). map f (range_with_len 0 (n * cells s))) (λ i k. same k i)
 
-  -- the symbol of a cell of a slice
+  -- the symbol of a cell of a slice, found in the configuration's list
   pub slice_symbol : (x : ℤ) (k : ℕ) → k < cells s →
       unwrap_or (tile_look t (cell_from s x k)) 0 ≡ get_or t.symbols ((k / s.nodes * t.periods.x + residue x t.periods.x) * s.nodes + k % s.nodes) 0
   slice_symbol x k k_lt =
@@ -186,7 +186,7 @@ module _ (r : LocalRule) (s : Strip) (t : Tile) (for : IsFor r s) (on : IsOnStri
           let sum : slices_weight s ws (tile_look t) (pos x) (suc n) ≡ total_below (λ k. slices_weight s ws (tile_look t) (pos (x + k)) 1) n + slices_weight s ws (tile_look t) (pos (x + n)) 1 = omega (arith, rest, more) in
           sum
 
-      -- as many slices as the period weigh as much as the fundamental box
+      -- any run of as many slices as the period weighs as much as the fundamental box
       pub period_weighs : (x : ℕ) → slices_weight s ws (tile_look t) (pos x) t.periods.x ≡ tile_weight ws t
       period_weighs x =
           slices_total x t.periods.x

@@ -1,5 +1,5 @@
--- Slices that obey the rule are a walk. Along it the potentials rise by at most l times the slices' weight, less m
--- for each slice, and the ranks fall. Both are sums over the edges, which telescope.
+-- Slices that obey the rule form a walk. Along the walk, the potential rises by at most l times the slices' weight, less m for each slice. Ranks fall
+-- by at least 1 at each step. Both follow from telescoping sums over the edges.
 use Rattle.std.proofs.Common.{◌≡◌, ℕ, zero, suc, ◌+◌, ◌*◌, ◌<◌, ◌≤◌, List, map, ℤ, pos, ◌+ℤ◌, ◌≤ℤ◌, unsigned_abs, ap, sym, ◌∙◌, subst, arith}
 use Rattle.std.proofs.lemmas.{Int.ints, Nat.mod_below, List.Sums.sum_by-append}
 use Rattle.std.specs.{Prelude.◌<ℤ◌, Prelude.◌-ℤ◌, Prelude.slice_index, Prelude.unwrap_or, List.range_with_len}
@@ -16,7 +16,7 @@ use Rattle.dd_strips.specs.{Strips.slices_weight, Claims.least_potential, Claims
 use Rattle.dd_strips.proofs.Extremes.{lowest_least, highest_greatest}
 use Rattle.dd_values.specs.lemmas.Numbers.{plus_zero}
 
--- each cell of the window from x on has a symbol, and the rule keeps the window
+-- each cell of the window that begins at x has a symbol of the alphabet, and the rule keeps the window
 pub record IsStep (r : LocalRule) (look : Look) (x : ℤ) : Type 0 where
   pub has : HasSlices r look x (state_length r + 1)
   pub kept : IsKeptFrom r look x
@@ -41,7 +41,7 @@ risen a b c m i l w v p q =
     let both : l * (w + v) ≡ l * w + l * v = omega arith in
     rw (more, both) (omega (arith, ints, p, q))
 
--- a rise between two potentials, which lie between `low` and `high`
+-- a bound for a walk, given that the potentials at its ends lie between `low` and `high`
 bounded : (a c low high : ℤ) (m l : ℕ) → (c +ℤ pos m) ≤ℤ (a +ℤ pos l) → low ≤ℤ c → a ≤ℤ high → m ≤ l + unsigned_abs (high -ℤ low)
 bounded a c low high m l p q s = omega (arith, ints)
 
@@ -88,7 +88,7 @@ module _ (r : LocalRule) (s : Strip) (look : Look) (edges : AreEdgesOf r s look)
         (slices_weight s ws look (x +ℤ pos w) i) (slices_weight s ws look ((x +ℤ pos w) +ℤ pos i) 1) rest rise' in
         subst (λ (v : ℕ). (potential_of ps (state_from r s look (x +ℤ pos (suc i))) +ℤ pos (m * suc i)) ≤ℤ (potential_of ps (state_from r s look x) +ℤ pos (l * v))) (sym (weight_longer ws (x +ℤ pos w) i)) all
 
-    -- so a long walk is heavy, up to the spread of the potentials
+    -- so a walk of j steps is heavy, up to the spread of the potentials
     pub walk_is_heavy : (x : ℤ) (j : ℕ) → AreSteps r look x j → m * j ≤ l * slices_weight s ws look (x +ℤ pos (state_length r)) j + spread_of ps
     walk_is_heavy x zero steps = omega arith
     walk_is_heavy x (suc i) steps =

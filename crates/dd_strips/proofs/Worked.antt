@@ -13,14 +13,14 @@ use Rattle.dd_strips.specs.{Strips.LivesNowhere, Strips.is_slice_cell, Strips.sl
 abbrev line : Formula → LocalRule
 line f = record { dimension = 1; nodes = 1; symbols = 2; allowed = (true ∷ true ∷ []) ∷ []; edges = []; formula = f }
 
--- three slices from -1 on: x is -1, 0 or 1
+-- the three slices from -1 on: x is -1, 0 or 1
 in_slices : is_slice_cell (line (roll-Formula (Formula-F.And []))) (negsuc 0) 3 (cell (place (pos 1) (pos 0) (pos 0)) 0) ≡ true
 in_slices = refl
 
 past_slices : is_slice_cell (line (roll-Formula (Formula-F.And []))) (negsuc 0) 3 (cell (place (pos 2) (pos 0) (pos 0)) 0) ≡ false
 past_slices = refl
 
--- the symbol 1 at each even x and 0 at each odd one: of five slices from -2 on three have a 1
+-- the symbol 1 at each even x and 0 at each odd one: of the five slices from -2 on, three have a 1
 abbrev alternating : Look
 alternating c = Some ((unsigned_abs c.position.x + 1) % 2)
 
@@ -30,14 +30,14 @@ three_of_five = refl
 spread_is : spread_of (pos 1 ∷ negsuc 1 ∷ pos 3 ∷ pos 0 ∷ []) ≡ 5
 spread_is = refl
 
--- the configuration 0 1 0 1 .. on the strip of one position, of the rule that is always true
+-- the configuration 0 1 0 1 .. on the strip whose slices have one position, for the rule that is always true
 abbrev two : Tile
 two = tile 1 (record { x = 2; y = 1; z = 1; shear = 0 }) 1 (0 ∷ 1 ∷ [])
 
 two_weighs : tile_weight (3 ∷ 4 ∷ []) two ≡ 7
 two_weighs = refl
 
--- nothing lives on any strip of the rule that is never true
+-- no configuration lives on this strip for the rule that is never true
 never_true : (look : Look) (c : Cell) → is_true (line (roll-Formula (Formula-F.Or []))) c look ≡ false
 never_true look c = ap (λ (t : Truth). t (c ∷ []) look) (fold-roll-Formula Truth (truth_step []) (Formula-F.Or []))
 

@@ -1,4 +1,4 @@
--- fillings of some slices of a strip, and configurations with the strip's periods
+-- fillings of consecutive slices of a strip, and configurations with the strip's periods
 pub mod Strips
--- what a certificate says about the strip at every length
+-- what a certificate says about strips of every length
 pub mod Claims

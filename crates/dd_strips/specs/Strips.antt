@@ -7,23 +7,23 @@ use Rattle.dd_boxes.specs.Fillings.{Admissible}
 use Rattle.dd_strip.specs.declared.strip.Strip.{Strip}
 use Rattle.dd_transfer.specs.Slices.{RepeatsAcross, symbols_from}
 
--- a cell of the k slices from x on
+-- whether the cell lies in the k slices from x on
 abbrev pub is_slice_cell : LocalRule → ℤ → ℕ → Cell → Bool
 is_slice_cell r x k c = int_le x c.position.x && int_lt c.position.x (x +ℤ pos k) && nat_lt c.node r.nodes
 
--- A filling of k slices of the strip from x on: exactly their cells have symbols, and these are allowed. It repeats with the
--- strip's periods along the axes after the first.
+-- A filling of the k slices of the strip from x on: exactly their cells have symbols, and these are allowed. The filling repeats with the strip's
+-- periods along the axes after the first.
 pub record IsStripFilling (r : LocalRule) (s : Strip) (x : ℤ) (k : ℕ) (look : Look) : Type 0 where
   pub domain : (c : Cell) → is_some (look c) ≡ is_slice_cell r x k c
   pub repeats : RepeatsAcross s look
   pub allowed : AreAllowed r look
 
--- an admissible filling: the rule is true at each cell that lies in it together with all cells that the rule reads there
+-- an admissible filling: the rule is true at each cell for which the cell itself and all cells that the rule reads there lie in the filling
 pub record IsAdmissibleStrip (r : LocalRule) (s : Strip) (x : ℤ) (k : ℕ) (look : Look) : Type 0 where
   pub filling : IsStripFilling r s x k look
   pub admissible : Admissible r look
 
--- the weight of n slices from x on
+-- the weight of the n slices from x on
 abbrev pub slices_weight : Strip → List ℕ → Look → ℤ → ℕ → ℕ
 slices_weight s ws look x n = total_weight ws (symbols_from s look x n)
 
@@ -46,7 +46,7 @@ LivesNowhere r s = (t : Tile) → LivesOnStrip r s t → ⊥
 abbrev pub tile_weight : List ℕ → Tile → ℕ
 tile_weight ws t = total_weight ws t.symbols
 
--- some configuration on the strip has the density p / q, its weight per position, and none has a lower one
+-- some configuration that lives on the strip has the density p / q, and none has a lower density. The density is the weight per position
 pub record IsLeastDensity (r : LocalRule) (s : Strip) (ws : List ℕ) (p q : ℕ) : Type 0 where
   pub positive : 0 < q
   pub some : Tile

@@ -13,9 +13,12 @@ ghost use Rattle.dd_strips.specs.Claims.{StripLeast, StripEmpty, spread_of};
 use dd_transfer::slices_are_walks;
 
 /// Does nothing. Its contract says what a closed walk and potentials show:
-/// - The walk's mean, divided by the number of positions of a slice, is the least density of all configurations on the strip.
-/// - Take an admissible filling of the slices of a state and `j` more. These `j` slices weigh at least `j` times the walk's
-///   mean, less the spread of the potentials over the mean's denominator. The spread is the greatest less the least.
+/// - The walk's mean, divided by the number of positions in a slice, is the least density of all configurations that live on
+///   the strip.
+/// - Take an admissible filling of as many slices as a state has, and `j` more. The last `j` slices weigh at least `j` times
+///   the walk's mean, less the spread of the potentials divided by the mean's denominator. The spread is the greatest
+///   potential less the least. A filling is admissible if the rule is true at each cell that lies in it together with all
+///   cells that the rule reads there.
 pub fn strip_least()
     ensures { (r : LocalRule) (periods ws : List ℕ) (p q : ℕ) (walk : List ℕ) (ps : List ℤ) → IsRule r → IsStrip r periods →
         (c : IsDensityCertificate r (strip_for r periods) ws p q walk ps) → StripLeast r (strip_for r periods) ws p q c.l c.m (spread_of ps) }
@@ -23,8 +26,8 @@ pub fn strip_least()
     slices_are_walks();
 }
 
-/// Does nothing. Its contract says what ranks show. No configuration lives on the strip. No admissible filling of the strip
-/// has more slices than the greatest rank plus the number of slices of a state.
+/// Does nothing. Its contract says what ranks show: no configuration lives on the strip, and no admissible filling of the
+/// strip has more slices than the greatest rank plus the number of slices in a state.
 pub fn strip_empty()
     ensures { (r : LocalRule) (periods ranks : List ℕ) → IsRule r → IsStrip r periods →
         IsEmptyCertificate r (strip_for r periods) ranks → StripEmpty r (strip_for r periods) (greatest ranks + state_length r) }

@@ -1,4 +1,4 @@
--- What is left to cut, before and after a piece.
+-- The tokens of the bytes that are still to be cut, before and after a piece is cut off.
 use Rattle.std.proofs.Common.{◌≡◌, ℕ, zero, suc, ◌+◌, ◌-◌, ◌<◌, ◌≤◌, List, [], ◌∷◌, ◌++◌, length, drop, sym, ap, ◌∙◌, append_assoc, arith}
 use Rattle.dd_tokens.specs.{declared.piece.Piece.Piece, declared.piece.Piece.TheVariants.Cut}
 use Rattle.dd_tokens.specs.{declared.token.TokenKind.TokenKind, declared.token.Token.Token}
@@ -10,7 +10,7 @@ over zero position bytes le = ap (λ p. tokens_after 0 p bytes) (omega arith)
 over (suc n) position [] le = absurd (omega arith)
 over (suc n) position (b ∷ bytes) le = over n (position + 1) bytes (omega arith) ∙ ap (λ p. tokens_after 0 p (drop n bytes)) (omega arith)
 
--- the tokens at a position are the piece there and the tokens after it
+-- the tokens from a position on are determined by the piece there and the tokens after that piece
 pub next : (piece : Piece) (position : ℕ) (bytes : List ℕ) → piece ≡ first bytes → 0 < piece_size piece → piece_size piece ≤ length bytes
     → tokens_after 0 position bytes ≡ with_piece piece position (tokens_after 0 (position + piece_size piece) (drop (piece_size piece) bytes))
 next piece position [] is some within = absurd (omega (arith, some, within))
@@ -19,7 +19,7 @@ next piece position (b ∷ bytes) is some within =
     rw (← is) (ap (with_piece piece position)
     (ap (λ (k : ℕ). tokens_after k position (b ∷ bytes)) (sym n) ∙ over (piece_size piece) position (b ∷ bytes) within))
 
--- a token moves from the front of what is left to the end of the list
+-- a token that is cut off moves from the front of what is left to the end of the list
 pub cut_off : (kind : TokenKind) (n position : ℕ) (bytes rest : List ℕ) (list new : List Token) → Cut kind n ≡ first bytes → IsPieceWithin (Cut kind n) (length bytes) → rest ≡ drop n bytes
     → new ≡ list ++ record { kind = kind; start = position; length = n } ∷ []
     → with_front new (tokens_after 0 (position + n) rest) ≡ with_front list (tokens_after 0 position bytes)

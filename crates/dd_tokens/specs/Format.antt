@@ -1,5 +1,5 @@
--- The lexical format of a script: blanks, comments and tokens. Each token is as long as possible. The tokens stop at the first
--- byte that isn't allowed.
+-- The lexical format of a script: blanks, comments and tokens. Each token is as long as possible. The list of tokens ends at the first byte that
+-- isn't allowed.
 use Rattle.std.specs.Prelude.{ℕ, zero, suc, ◌+◌, ◌-◌, List, [], ◌∷◌, ◌++◌, ◌<◌, ◌≤◌, Bool, false, ◌&&◌, ◌||◌, not, ◌==◌, nat_le, if◌then◌else◌, drop, codes}
 use Rattle.std.specs.List.{prefix_len, list_any}
 use Rattle.dd_tokens.specs.declared.token.TokenKind.TheVariants.{Word, Number, Negative, Mark}
@@ -22,39 +22,39 @@ is_digit b = nat_le 48 b && nat_le b 57
 abbrev pub is_one_byte_mark : ℕ → Bool
 is_one_byte_mark b = list_any (λ s. s == b) (codes "AE%()[].=!&|~@:")
 
--- a byte that a comment may hold: no line feed, and at most 127
+-- a byte that a comment may contain: not a line feed, and at most 127
 abbrev pub is_comment : ℕ → Bool
 is_comment b = not (b == 10) && nat_le b 127
 
--- there is a first byte, and it passes the test
+-- whether there is a first byte and it passes the test p
 abbrev pub starts : (ℕ → Bool) → List ℕ → Bool
 starts p [] = false
 starts p (b ∷ bytes) = p b
 
--- the first byte is a digit other than 0
+-- whether the first byte is a digit other than 0
 abbrev pub starts_positive : List ℕ → Bool
 starts_positive bytes = starts (λ c. nat_le 49 c && nat_le c 57) bytes
 
--- the marks of two bytes, -> and !=
+-- whether the byte b, followed by these bytes, begins a mark of two bytes: -> or !=
 abbrev pub is_two_byte_mark : ℕ → List ℕ → Bool
 is_two_byte_mark b bytes = (b == 45 && starts (λ c. c == 62) bytes) || (b == 33 && starts (λ c. c == 61) bytes)
 
--- the mark of three bytes, <->
+-- whether the byte b, followed by these bytes, begins the mark of three bytes: <->
 abbrev pub is_three_byte_mark : ℕ → List ℕ → Bool
 is_three_byte_mark b bytes = b == 60 && starts (λ c. c == 45) bytes && starts (λ c. c == 62) (drop 1 bytes)
 
--- The piece that is a comment, from the bytes after its first hyphen. It extends to the next line feed or to the end. A byte
--- over 127 in it is a fault.
+-- The piece for a comment, given the bytes after the comment's first hyphen. A comment extends to the next line feed or to the end. A byte over 127
+-- in it is a fault.
 abbrev pub comment : List ℕ → Piece
 comment bytes =
     if starts (λ b. nat_le 128 b) (drop (prefix_len is_comment bytes) bytes) then Fault (1 + prefix_len is_comment bytes)
     else Gap (1 + prefix_len is_comment bytes)
 
--- The piece that is a number, from its first digit b and the bytes after that. Only the number 0 begins with the digit 0.
+-- The piece for a number, given its first digit b and the bytes after b. Only the number 0 begins with the digit 0.
 abbrev pub number : ℕ → List ℕ → Piece
 number b bytes = if b == 48 && starts is_digit bytes then Fault 0 else Cut Number (1 + prefix_len is_digit bytes)
 
--- the piece that the byte b begins, if these bytes follow it
+-- the piece that begins with the byte b, given the bytes that follow b
 abbrev pub front : ℕ → List ℕ → Piece
 front b bytes =
     if is_blank b then Gap 1
@@ -72,30 +72,31 @@ abbrev pub first : List ℕ → Piece
 first [] = Fault 0
 first (b ∷ bytes) = front b bytes
 
--- the number of bytes of a blank, a comment or a token
+-- the number of bytes of a blank, a comment or a token; 0 for a byte that isn't allowed
 abbrev pub piece_size : Piece → ℕ
 piece_size (Gap n) = n
 piece_size (Cut kind n) = n
 piece_size (Fault n) = 0
 
--- The piece lies within the first `room` bytes: a blank, a comment or a token has one byte at least, and a byte that isn't
--- allowed is among them.
+-- The piece lies within the first `room` bytes. A blank, a comment or a token has at least one byte, and at most `room`. A byte that isn't allowed
+-- is one of the first `room` bytes.
 abbrev pub IsPieceWithin : Piece → ℕ → Type 0
 IsPieceWithin (Gap n) room = (0 < n) × (n ≤ room)
 IsPieceWithin (Cut kind n) room = (0 < n) × (n ≤ room)
 IsPieceWithin (Fault n) room = n < room
 
--- the tokens in the list, followed by the others
+-- the tokens in `list`, followed by those in `others`
 abbrev pub with_front : List Token → Tokens → Tokens
 with_front list others = record { list = list ++ others.list; stop = others.stop }
 
--- The tokens from a position on, given the piece there and the tokens after it. None follow a byte that isn't allowed.
+-- The tokens from a position on, given the piece at that position and the tokens after the piece. No token follows a byte that isn't allowed.
 abbrev pub with_piece : Piece → ℕ → Tokens → Tokens
 with_piece (Gap n) position rest = rest
 with_piece (Cut kind n) position rest = with_front (record { kind = kind; start = position; length = n } ∷ []) rest
 with_piece (Fault n) position rest = record { list = []; stop = position + n }
 
--- The tokens of the bytes that follow the first `position` bytes. The first `within` of them belong to the piece before.
+-- The tokens of the bytes that come after the first `position` bytes of a script. The first `within` of these bytes belong to the previous piece, and
+-- are skipped.
 abbrev pub tokens_after : ℕ → ℕ → List ℕ → Tokens
 tokens_after within position [] = record { list = []; stop = position }
 tokens_after (suc within) position (b ∷ bytes) = tokens_after within (position + 1) bytes

@@ -1,2 +1,2 @@
--- blanks, comments and tokens, and the tokens of a script
+-- what blanks, comments and tokens are, and the list of tokens of a script
 pub mod Format

@@ -8,7 +8,7 @@ use crate::token::{Token, Tokens};
 use dd_values::Items;
 use std::alloc::{AllocError, Global};
 
-/// Cuts bytes into tokens, up to the first byte that isn't allowed. Each token is as long as possible. There are at most
+/// Cuts bytes into tokens, up to the first byte that isn't allowed. Each token is as long as possible. There may be at most
 /// 1,048,576 bytes. Fails only if memory runs out.
 pub fn tokens(alloc: Global, bytes: &[u8]) -> Result<Tokens, AllocError>
     requires { length bytes.now ≤ most_script }

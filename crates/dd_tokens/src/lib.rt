@@ -1,4 +1,4 @@
-//! Cuts the bytes of a script into tokens: words, numbers and marks.
+//! Cuts the bytes of a script into tokens: words, numbers, and marks such as `->`.
 #![tactic(auto)]
 
 mod cutting;

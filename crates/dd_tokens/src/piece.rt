@@ -1,4 +1,4 @@
-//! The piece at the front of some bytes: a blank, a comment, a token, or bytes up to one that isn't allowed.
+//! The piece at the front of some bytes: a blank, a comment, a token, or the bytes up to one that isn't allowed.
 ghost use Rattle.std.specs.Prelude.{◌≡◌, ◌≤◌, ◌<◌, ◌+◌, length};
 ghost use Rattle.std.specs.List.{prefix_len};
 ghost use Rattle.dd_values.specs.Bounds.{most_script};
@@ -11,9 +11,9 @@ use crate::token::TokenKind;
 pub enum Piece {
     /// A blank (space, tab, line feed or carriage return) or a comment, of this many bytes.
     Gap(u32),
-    /// A token of this many bytes.
+    /// A token of this kind, with this many bytes.
     Cut(TokenKind, u32),
-    /// A byte that isn't allowed, after this many others.
+    /// The first byte that isn't allowed comes after this many others.
     Fault(u32),
 }
 
@@ -29,7 +29,7 @@ fn is_digit(byte: u8) -> bool
     byte >= b'0' && byte <= b'9'
 }
 
-/// A byte that a comment may hold after its two hyphens.
+/// Whether a comment may contain this byte after its two hyphens.
 fn is_comment(byte: u8) -> bool
     ensures { result ≡ is_comment byte }
 {
@@ -52,7 +52,7 @@ fn digits(bytes: &[u8]) -> usize
     bytes.iter().take_while(|byte| is_digit(**byte)).count()
 }
 
-/// The number of bytes before the end of a comment, or before a byte that isn't allowed in it.
+/// The number of bytes before the end of a comment, or before the first byte that isn't allowed in it.
 fn comment_bytes(bytes: &[u8]) -> usize
     ensures value { result ≡ prefix_len is_comment bytes.now }
     ensures within { result ≤ length bytes.now }
@@ -60,7 +60,7 @@ fn comment_bytes(bytes: &[u8]) -> usize
     bytes.iter().take_while(|byte| is_comment(**byte)).count()
 }
 
-/// The piece that is a comment. The bytes are those after its first hyphen.
+/// The piece for a comment, given the bytes after the comment's first hyphen.
 fn comment(bytes: &[u8]) -> Piece
     requires { length bytes.now ≤ most_script }
     ensures value { result ≡ comment bytes.now }
@@ -81,14 +81,14 @@ fn starts_positive(bytes: &[u8]) -> bool
     matches!(bytes, [b'1'..=b'9', ..])
 }
 
-/// Whether the byte begins a mark of two bytes, `->` or `!=`. The bytes `after` follow it.
+/// Whether a mark of two bytes, `->` or `!=`, begins with `byte`, given the bytes `after` that follow `byte`.
 fn is_two_byte_mark(byte: u8, after: &[u8]) -> bool
     ensures { result ≡ is_two_byte_mark byte after.now }
 {
     (byte == b'-' && matches!(after, [b'>', ..])) || (byte == b'!' && matches!(after, [b'=', ..]))
 }
 
-/// The piece that a byte begins. The bytes `after` follow it.
+/// The piece that begins with `byte`, given the bytes `after` that follow `byte`.
 fn front(byte: u8, after: &[u8]) -> Piece
     requires { length after.now ≤ most_script }
     ensures value { result ≡ front byte after.now }
@@ -125,7 +125,7 @@ fn front(byte: u8, after: &[u8]) -> Piece
     Piece::Fault(0)
 }
 
-/// The piece at the front of the bytes. There is at least one byte.
+/// The piece at the front of the bytes. There must be at least one byte.
 pub fn first(bytes: &[u8]) -> Piece
     requires some { 0 < length bytes.now }
     requires few { length bytes.now ≤ most_script }

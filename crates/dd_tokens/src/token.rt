@@ -1,20 +1,20 @@
-//! Tokens and their positions. A position is a number of bytes from the start.
+//! Tokens and their positions. Positions are counted in bytes from the start.
 use dd_values::Items;
 
-/// What a token is.
+/// The kinds of tokens.
 #[derive(Clone, Copy, Debug, PartialEq, Eq)]
 pub enum TokenKind {
-    /// Letters from `a` to `z`, at least one.
+    /// One or more letters from `a` to `z`.
     Word,
-    /// Digits, at least one. Only the number 0 begins with the digit 0.
+    /// One or more digits. Only the number 0 begins with the digit 0.
     Number,
-    /// A `-` and directly after it a number other than 0.
+    /// A `-` that is directly followed by a number other than 0.
     Negative,
     /// One of `A E % ( ) [ ] . = ! & | ~ @ : -> != <->`.
     Mark,
 }
 
-/// The kind and the position of a token. It doesn't hold the bytes.
+/// A token: its kind and its position. The bytes themselves aren't stored.
 #[derive(Clone, Copy, Debug, PartialEq, Eq)]
 pub struct Token {
     pub kind: TokenKind,
@@ -24,10 +24,10 @@ pub struct Token {
     pub length: u32,
 }
 
-/// The tokens at the front of some bytes, in order, and the position at which they stop.
+/// The tokens of some bytes in order, up to the first byte that isn't allowed, and the position of that byte.
 #[derive(Debug, Drop)]
 pub struct Tokens {
     pub list: Items<Token>,
-    /// The position of the first byte that isn't allowed, or the number of bytes if there is none.
+    /// The position of the first byte that isn't allowed, or the number of bytes if all are allowed.
     pub stop: u32,
 }

@@ -1,4 +1,4 @@
--- Adjacency and balls: their lists have exactly the cells of their sets.
+-- Adjacency and balls: the lists of neighbours and of balls have exactly the cells of the sets that they stand for.
 use Rattle.std.proofs.Common.{◌≡◌, ℕ, zero, suc, List, [], ◌∷◌, Bool, true, false, cond, refl, ap, sym, ◌∙◌, subst, inl, inr, Contains, eq-eqb}
 use Rattle.std.proofs.lemmas.Bool.{eqb-true, and_parts, and_from, Decides.Decides-int_eq}
 use Rattle.std.proofs.lemmas.List.Elements.{Contains-append_left, Contains-append_right, Contains-append_cases}
@@ -30,7 +30,7 @@ leads-exact e a b = (
   λ h. and_from _ _ (and_from _ _ (eq-eqb e.from a.node (sym h.0)) (eq-eqb e.to b.node (sym (ap (λ c. c.node) h.1)))) ((same_place-exact _ _).1 (sym (ap (λ c. c.position) h.1))),
 )
 
--- the test of adjacency says what the relation says
+-- the test `is_adjacent` decides the relation `IsAdjacent`
 pub is_adjacent-exact : (es : List Edge) (a b : Cell) → Decides (is_adjacent es a b) (IsAdjacent es a b)
 is_adjacent-exact es a b = (
   λ h. let at = some_passes (λ e. leads e a b || leads e b a) es h in

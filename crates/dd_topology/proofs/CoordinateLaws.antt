@@ -1,4 +1,4 @@
--- Sums of coordinates in range are equal exactly if the code's sums in words of 32 bits are.
+-- For coordinates in range, a sum is equal to a third coordinate exactly if the 32-bit words that the code compares are equal.
 use Rattle.std.proofs.Common.{◌≡◌, ℕ, ℤ, pos, ◌+ℤ◌, ◌-ℤ◌, arith, to_z, of_z, w32, eq-eqb, ap, sym, ◌∙◌, true, false}
 use Rattle.std.proofs.lemmas.Bool.{eqb-true, false_from_ne_true, and_left, and_right, and_from}
 use Rattle.std.proofs.lemmas.{Bool.Decides.Decides-int_eq, Int.ints}
@@ -9,7 +9,7 @@ use Rattle.dd_topology.specs.{Topology.reversed, Balls.same_place}
 pub difference_of_near : (x : ℤ) → IsCoordinateInRange x → to_z w32 (of_z w32 (pos 0 -ℤ to_z w32 (of_z w32 x))) ≡ pos 0 -ℤ x
 difference_of_near x near = omega (arith, ints)
 
--- the word of a sum of coordinates
+-- the 32-bit word of the sum of two coordinates
 abbrev word_sum : ℤ → ℤ → ℕ
 word_sum x y = of_z w32 (to_z w32 (of_z w32 x) +ℤ to_z w32 (of_z w32 y))
 

@@ -1,4 +1,4 @@
--- What the edges of a topology keep, edge by edge.
+-- How far the edges of a topology lead, proved edge by edge.
 use Rattle.std.proofs.Common.{◌≡◌, ◌≤◌, ℕ, List, [], ◌∷◌, Bool, true, false, cond, nat_lt, length, arith, refl}
 use Rattle.std.proofs.lemmas.Bool.{and_parts, and_from, Decides.nat_tests}
 use Rattle.std.specs.{Prelude.nat_le, Prelude.unsigned_abs, Prelude.max, List.list_all}
@@ -16,7 +16,7 @@ edge_reach-le d axis = by (nat_lt axis d)
 short_axis : (n d axis : ℕ) → nat_le n (edge_reach d axis) ≡ true → n ≤ 4
 short_axis n d axis h = grind (arith, nat_tests, edge_reach-le d axis)
 
--- an offset of an edge leads at most 4 along each axis
+-- the offset of an edge leads at most 4 along each axis
 short_offset : (d : ℕ) (p : Place) → is_offset d p ≡ true → nat_le (extent p) 4 ≡ true
 short_offset d p h =
     let zs = and_parts _ _ h in

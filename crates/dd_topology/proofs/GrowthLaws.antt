@@ -1,5 +1,5 @@
--- Why the rounds find the ball. All neighbours of an older cell were found in the round after it was new, so only the
--- frontier can have neighbours that are new.
+-- Why the rounds of the search find the ball. The neighbours of a cell are found, at the latest, in the round after the cell itself was found. So
+-- only the cells of the frontier can have neighbours that weren't found yet.
 use Rattle.std.proofs.Common.{◌≡◌, ◌+◌, ◌<◌, ◌≤◌, ◌↔◌, ℕ, zero, suc, List, [], ◌∷◌, ◌++◌, Bool, true, false, ◌&&◌, refl, ap, sym, ◌∙◌, subst, inl, inr, ◌⊎◌, arith, take, get_or, length, Contains, true≢false, add-one, zero-add, suc-add, ◌-◌, eq-eqb}
 use Rattle.std.proofs.lemmas.List.{take_more}
 use Rattle.std.proofs.lemmas.List.Elements.{All-contains, All-cons, All-nil, Contains-append_left, Contains-append_right, Contains-append_cases}
@@ -18,7 +18,7 @@ use Rattle.dd_topology.specs.{keeping.Growth.AddsCells, lemmas.ListLaws.in_flat_
 use Rattle.dd_topology.specs.lemmas.OrderLaws.{kept-insert_key, has-insert_key, from-insert_key, is-in_order}
 use Rattle.dd_topology.proofs.BallLaws.{from_neighbours, into_neighbours, in_ball, ball_holds}
 
--- the cells found are those of the ball of radius r, and every neighbour of one outside the frontier is found too
+-- the cells found are those of the ball of radius r, and every neighbour of a found cell outside the frontier has been found too
 pub record IsGrown (es : List Edge) (c : Cell) (r : ℕ) (found frontier : List Cell) : Type 0 where
   pub members : (d : Cell) → Contains found d ↔ IsInBall es c r d
   pub in_range : All (λ d. IsInRange d.position) found
@@ -28,7 +28,7 @@ pub record IsGrown (es : List Edge) (c : Cell) (r : ℕ) (found frontier : List 
 only_one : (c d : Cell) → Contains (c ∷ []) d → d ≡ c
 only_one c d h = elim (Contains-cons_cases c [] d h) [ inl same ↦ sym same | inr none ↦ absurd (Contains-nil d none) ]
 
--- before the first round: the centre alone
+-- before the first round, only the centre has been found
 pub grown_start : (es : List Edge) (c : Cell) → IsInRange c.position → IsGrown es c 0 (c ∷ []) (c ∷ [])
 grown_start es c near = record {
   members = λ d. (only_one c d, λ h. subst (Contains (c ∷ [])) (sym h) (Contains-first c []));
@@ -129,7 +129,7 @@ finished es c r found frontier cells grown same ascending = record {
   members = λ d. subst (λ l. Contains l d ↔ IsInBall es c r d) (sym same) (grown.members d);
 }
 
--- the list of the cells found, if memory sufficed for it, is that of the ball
+-- if there was memory for the list of the cells found, it is the list of the ball
 module _ {V E : Type 0} (result : Result V E) (items : V → List Cell) (es : List Edge) (c : Cell) (r : ℕ) (found frontier : List Cell) where
   pub cells_at_last : IsGrown es c r found frontier → IfOk result (λ v. items v ≡ found) → IfOk result (λ v. IsStrictlySortedBy cell_cmp (items v)) → IfOk result (λ v. IsCellListOf (IsInBall es c r) (items v))
   cells_at_last grown same ascending = if_ok_both result _ _ _ (λ v. finished es c r found frontier (items v) grown) same ascending
@@ -145,7 +145,7 @@ pub fault_from : (S : CellSet) (fault : LatticeFault) → (fault ≡ Range → C
 fault_from S Range h = h refl
 fault_from S Memory h = tt
 
--- one more cell that was not found before
+-- adding one more cell that was not found before
 pub adds_new : (before cells now fresh : List Cell) (i : ℕ) (x : Cell) → i < length cells → x ≡ get_or cells i x → AddsCells before (take i cells) now fresh →
     AddsCells before (take (i + 1) cells) (insert_key cell_cmp now x) (fresh ++ x ∷ [])
 adds_new before cells now fresh i x below is adds = rw (take_more cells i x below, ← is) (record {
@@ -177,7 +177,7 @@ adds_new before cells now fresh i x below is adds = rw (take_more cells i x belo
           | inr last ↦ subst (Contains (insert_key cell_cmp now x)) (sym (only_one x d last)) (has-insert_key cell_cmp cells_equal now x)
         ]
 
--- one more cell that was found before
+-- adding one more cell that was found before
 pub adds_known : (before cells now fresh : List Cell) (i : ℕ) (x : Cell) → i < length cells → x ≡ get_or cells i x → AddsCells before (take i cells) now fresh →
     Contains now x → AddsCells before (take (i + 1) cells) now fresh
 adds_known before cells now fresh i x below is adds there = rw (take_more cells i x below, ← is) (record {
@@ -211,7 +211,7 @@ part_out_of_range f xs i x below is far =
     let there : Contains (flat_map f xs) d.0 = into_flat_map f xs x d.0 (i, below, sym is) d.1 in
     false_from_ne_true (are_in_range (flat_map f xs)) (λ near. true≢false (sym (passes (λ c. is_in_range c.position) (flat_map f xs) d.0 near there) ∙ d.2))
 
--- the node m of a cell is the node n of an edge, and the edge's other end is in range
+-- n, the node at one end of an edge, is equal to m, the node of a cell. The cell `other` at the edge's other end is in range, and is `given`
 module _ (n m : ℕ) (other given : Cell) (same : n ≡ m) (near : Some given ≡ in_range other) where
   given_is : (given ≡ other) × (is_in_range other.position ≡ true)
   given_is = by_test (is_in_range other.position) near

@@ -1,4 +1,4 @@
--- A label has at most one edge from each node, and so a move by it leads to at most one cell.
+-- At most one edge with a given label leaves each node, so a move by a label leads to at most one cell.
 use Rattle.std.proofs.Common.{◌≡◌, ◌+◌, ◌<◌, ℕ, List, [], ◌∷◌, ◌++◌, Bool, true, false, ◌&&◌, map, length, get_or, take, Option, Some, None, Contains, refl, ap, sym, ◌∙◌, inl, inr, arith, true≢false, eq-eqb}
 use Rattle.std.proofs.lemmas.Bool.{eqb-true, and_parts, and_from, cases_order}
 use Rattle.std.proofs.lemmas.{Bool.Decides.nat_tests, List.take_more, List.get_or_default, List.map-append}
@@ -19,7 +19,7 @@ by_cases : {P : Type 0} (b : Bool) → (b ≡ true → P) → (b ≡ false → P
 by_cases true if_true if_false = if_true refl
 by_cases false if_true if_false = if_false refl
 
--- one more edge, with a label and a node that no edge before it has
+-- adding one more edge, where no edge before it has the same label and first node
 pub single_more : (es : List Edge) (i : ℕ) (e : Edge) → i < length es → e ≡ get_or es i e → AreSingle (take i es) → list_any (starts_alike e) (take i es) ≡ false → AreSingle (take (i + 1) es)
 single_more es i e within is before new =
     rw (take_more es i e within, ← is)
@@ -30,7 +30,7 @@ single_more es i e within is before new =
 alike : (e f : Edge) → e.label ≡ f.label → e.from ≡ f.from → starts_alike e f ≡ true
 alike e f label from = and_from _ _ (eq-eqb e.label f.label label) (eq-eqb e.from f.from from)
 
--- two edges with the same label and first node are not at two places
+-- two edges with the same label and first node can't be at different indices
 apart : (es : List Edge) → AreSingle es → (e f : Edge) (i j : ℕ) → i < j → j < length es → get_or es i e ≡ e → get_or es j f ≡ f → e.label ≡ f.label → e.from ≡ f.from → ⊥
 apart es single e f i j before below is is' label from =
     let same : get_or es j e ≡ f = get_or_default es j e f below ∙ is' in
@@ -45,11 +45,11 @@ one_edge es single e f (i, below, is) (j, below', is') label from =
       | inr (inr after) ↦ absurd (apart es single f e j i after below is' is (sym label) (sym from))
     ]
 
--- a move follows an edge that leaves by the label
+-- a move by a label follows an edge that has the label and leaves the cell's node
 follows : (es : List Edge) (c : Cell) (label : ℕ) (to : Cell) → (move : IsMove es c label to) → leaves c label move.0 ≡ true
 follows es c label to move = and_from _ _ (eq-eqb _ label move.2) (eq-eqb _ c.node (sym move.3.0))
 
--- a move by a label from c leads to the end of the edge found; without one, or with its end out of range, to no cell in range
+-- if an edge with the label is found and its end is in range, a move by the label leads from c to that end; otherwise it leads to no cell in range
 pub move_exact : (es : List Edge) (c : Cell) (label : ℕ) → AreSingle es → (r : Option Edge) → find (leaves c label) es ≡ r →
     MatchOption (option_and_then in_range (option_map (end_of c) r)) ((to : Cell) → IsMove es c label to → ¬ IsInRange to.position) (IsMove es c label)
 move_exact es c label single None h = λ to move near. true≢false (sym (follows es c label to move) ∙ missed (leaves c label) es move.0 h move.1)
@@ -66,14 +66,14 @@ move_exact es c label single (Some e) h =
         let arrives : to ≡ end_of c e = move.3.1 ∙ ap (end_of c) (sym same) in
         true≢false (sym (test_from_in_range to.position near) ∙ (ap (λ x. is_in_range x.position) arrives ∙ without))
 
--- equality of moves
+-- whether two moves are equal
 abbrev pub same_move : Move → Move → Bool
 same_move m n = m.label == n.label && m.from == n.from
 
 flip : (a b : ℕ) → (a == b) ≡ (b == a)
 flip a b = grind (arith, nat_tests)
 
--- an edge is found by the place of its move
+-- an edge is found at the index of its move
 pub found_by_move : (es : List Edge) (moves : List Move) → moves ≡ map move_of es → (c : Cell) (label : ℕ) (r : Option ℕ) →
     r ≡ position (same_move (record { label = label; from = c.node })) moves → option_and_then (slice_get es) r ≡ find (leaves c label) es
 found_by_move es moves is c label r at =
@@ -82,7 +82,7 @@ found_by_move es moves is c label r at =
     ∙ (sym (find-position (λ e. same_move m (move_of e)) es)
     ∙ find_alike (λ e. same_move m (move_of e)) (leaves c label) (λ e. ap (λ b. b && (c.node == e.from)) (flip label e.label) ∙ ap (λ b. (e.label == label) && b) (flip c.node e.from)) es)
 
--- a move that is in the list is that of an edge
+-- if the move of the edge e is in the list of the moves of es, some edge of es has the same label and first node as e
 pub repeats_from : (es : List Edge) (moves : List Move) (e : Edge) → moves ≡ map move_of es → list_any (same_move (move_of e)) moves ≡ true → list_any (starts_alike e) es ≡ true
 repeats_from es moves e is h = sym (list_any-map move_of (same_move (move_of e)) es) ∙ (ap (list_any (same_move (move_of e))) (sym is) ∙ h)
 

@@ -1,4 +1,4 @@
--- Flat lists as rows, and the rows of sets.
+-- Flat lists cut into rows, and the rows of the sets of symbols.
 use Rattle.std.proofs.Common.{◌≡◌, ◌+◌, ◌-◌, ◌*◌, ◌≤◌, ◌<◌, ℕ, zero, suc, Bool, true, false, List, [], ◌∷◌, ◌++◌, length, eq-eqb, take, drop, get_or, set, replicate, zero-add, suc-add, append_assoc, append-nil, refl, ap, sym, ◌∙◌, arith}
 use Rattle.std.proofs.Math.Nat.{zero-mul, suc-mul, mul-le-mul_right}
 use Rattle.std.proofs.lemmas.List.{take-replicate, drop-replicate, take-append-drop, take-append-le, drop-append-le, take_all, drop_all, drop-drop, get_or_default, get_or-take, get_or-drop, length-append, length-take-le, length-drop, length-set, length-replicate, same_lists}
@@ -23,7 +23,7 @@ module _ {X : Type 0} where
       let rest : suc n * m - m ≡ n * m = omega (arith, suc-mul n m) in
       rw (take-replicate m (suc n * m) x first, drop-replicate m (suc n * m) x, rest) (ap (λ rows. replicate m x ∷ rows) (rows-replicate n m x))
 
-  -- the row a of a flat list, and the item t of that row
+  -- row a of a flat list, and item t of that row
   pub get_or-in_rows : (n m a : ℕ) (xs : List X) (d : List X) → a < n → get_or (in_rows n m xs) a d ≡ take m (drop (a * m) xs)
   get_or-in_rows zero m a xs d h = absurd (omega arith)
   get_or-in_rows (suc n) m zero xs d h = rw zero-mul refl
@@ -44,7 +44,7 @@ module _ {X : Type 0} where
   take_past zero (x ∷ r) ys k h = absurd (cc)
   take_past (suc m) (x ∷ r) ys k h = rw suc-add (ap (λ l. x ∷ l) (take_past m r ys k (omega arith)))
 
-  -- writing over the row a of a flat list sets that row
+  -- overwriting row a of a flat list sets that row
   pub rows-written : (n m a : ℕ) (xs row : List X) → a < n → length xs ≡ n * m → length row ≡ m →
       in_rows n m (take (a * m) xs ++ (row ++ drop m (drop (a * m) xs))) ≡ set (in_rows n m xs) a row
   rows-written zero m a xs row h long few = absurd (omega arith)
@@ -66,7 +66,7 @@ module _ {X : Type 0} where
       rw (whole, row_first m r (take (a * m) ys ++ rest) as_many, row_past m r (take (a * m) ys ++ rest) as_many)
       (ap (λ rows. r ∷ rows) (rows-written n m a ys row (omega arith) left few))
 
--- the rows of sets in which every node allows every symbol
+-- the sets in which every node allows every symbol satisfy `IsSets`
 pub all_are_sets : (n m : ℕ) → 1 ≤ m → IsSets n (all_symbols n m)
 all_are_sets n m some = record {
   symbols = some;
@@ -97,7 +97,7 @@ row_is_row m (s ∷ symbols) all h =
       some = passes_any (λ b. b) row (get_or row s false) (Contains-get_or row s false (omega arith)) here;
     }
 
--- sets of which one node was restricted
+-- restricting one node keeps `IsSets` true
 pub restricted_are_sets : (n : ℕ) (s : SymbolSets) (a : ℕ) (symbols : List ℕ) → IsSets n s → All (λ t. t < s.symbols) symbols → 1 ≤ length symbols →
     IsSets n (restricted s a symbols)
 restricted_are_sets n s a symbols ok all some = record {
@@ -106,7 +106,7 @@ restricted_are_sets n s a symbols ok all some = record {
   rows = All-set (IsRow s.symbols) s.allowed a (symbol_row s.symbols symbols) (row_is_row s.symbols symbols all some) ok.rows;
 }
 
--- a list that is written over by one of the same length becomes that list
+-- a list that is overwritten with a list of the same length becomes that list
 pub written_over : {X : Type 0} (xs ys : List X) (n : ℕ) → length xs ≡ n → length ys ≡ n → take n (ys ++ drop (length ys) xs) ≡ ys
 written_over xs ys n long same = rw (same, drop_all n xs (omega arith)) (rw append-nil (take_all n ys (omega arith)))
 
@@ -116,7 +116,7 @@ listed_rows row m symbols long each =
     same_lists row (symbol_row m symbols) (long ∙ sym (length-map-range_with_len (is_listed symbols) 0 m)) (λ t d h.
     get_or_default row t d false h ∙ (each t h ∙ sym (get_or-row_of m symbols t d (omega arith))))
 
--- one row of the flat list was written over in place
+-- one row of the flat list was overwritten in place
 module _ (n m a k len : ℕ) (xs now row : List Bool) (symbols : List ℕ) (below : a < n) (long : length xs ≡ n * m) (full : length xs ≡ len) (same : now ≡ xs) (size : k ≡ m)
     (is : row ≡ symbol_row (length (take k (drop (a * m) now))) symbols) where
   abbrev over : List Bool

@@ -32,7 +32,7 @@ module _ {X : Type 0} (same : X → X → Bool) where
       let before : k < i = omega (arith, within, length-take i xs) in
       ap (λ z. same z (get_or xs i y)) (sym (sym (get_or-take i xs k y before) ∙ is)) ∙ pairs k i y before below
 
--- if no edge repeats another in label and first node, none is refused as `Twice`
+-- if no two edges have the same label and first node, the edges aren't refused as `Twice`
 pub not_twice : (es : List Edge) (label : ℕ) → has_repeat starts_alike es ≡ false → IsFirstTwice es label → ⊥
 not_twice es label h twice =
     let f = some_passes (starts_alike twice.edge) (take twice.at es) twice.repeats in
@@ -41,7 +41,7 @@ not_twice es label h twice =
     let apart = not_among starts_alike es (pairs_apart starts_alike es h) twice.at f.0 below f.1 in
     true≢false (sym f.2 ∙ starts_alike-flip f.0 twice.edge (ap (λ e. starts_alike f.0 e) (sym here) ∙ apart))
 
--- in a list without repeats no name is among those before it
+-- in a list without repeats, no name is among the names before it
 pub not_named : (names : List (List ℕ)) (i : ℕ) (name : List ℕ) → has_repeat bytes_eq names ≡ false → i < length names → get_or names i name ≡ name → Contains (take i names) name → ⊥
 not_named names i name h below is there =
     let apart = not_among bytes_eq names (pairs_apart bytes_eq names h) i name below there in

@@ -33,7 +33,7 @@ CellsLeaveRange S = LeavesRangeAt (λ (c : Cell). c.position) S
 abbrev pub IsCellFaultOf : CellSet → LatticeFault → Type 0
 IsCellFaultOf S = IsFaultAt (λ (c : Cell). c.position) S
 
--- tests: `leads` decides `Leads`, and `is_adjacent` decides `IsAdjacent`
+-- these are tests: `same_place` compares two positions, `leads` decides `Leads`, and `is_adjacent` decides `IsAdjacent`
 abbrev pub same_place : Place → Place → Bool
 same_place p q = int_eq p.x q.x && int_eq p.y q.y && int_eq p.z q.z
 

@@ -6,7 +6,7 @@ use Rattle.dd_topology.specs.declared.{edge.Edge.Edge, fault.TopologyFault.Topol
 use Rattle.dd_topology.specs.declared.fault.TopologyFault.TheVariants.{Twice, Memory}
 use Rattle.dd_topology.specs.{Naming.AreDistinct, Topology.starts_alike, Topology.AreSingle}
 
--- a topology, as contracts see it. An edge names its label and its nodes by their numbers
+-- a topology, as contracts see it. An edge gives its label and its nodes by their numbers
 pub record Grid : Type 0 where
   pub dimension : ℕ
   pub nodes : ℕ
@@ -16,7 +16,7 @@ pub record Grid : Type 0 where
 abbrev pub grid : ℕ → ℕ → List (List ℕ) → List Edge → Grid
 grid d nodes labels edges = record { dimension = d; nodes = nodes; labels = labels; edges = edges }
 
--- how far an edge may lead along the axis 0, 1 or 2 in dimension d: 4, but not at all from axis d on
+-- how far an edge may lead along axis 0, 1 or 2 in dimension d: at most 4 along the first d axes, and not at all along the others
 abbrev pub edge_reach : ℕ → ℕ → ℕ
 edge_reach d axis = cond (nat_lt axis d) 4 0
 
@@ -38,7 +38,7 @@ pub record IsGrid (g : Grid) : Type 0 where
   pub edges : are_edges g ≡ true
   pub single : AreSingle g.edges
 
--- the edge at the place `at` is the first that repeats an earlier one in its label and first node, and `label` is its label
+-- the edge at index `at` is the first that has the same label and first node as an earlier edge, and `label` is its label
 pub record IsFirstTwice (edges : List Edge) (label : ℕ) : Type 0 where
   pub at : ℕ
   pub edge : Edge
@@ -47,7 +47,7 @@ pub record IsFirstTwice (edges : List Edge) (label : ℕ) : Type 0 where
   pub repeats : list_any (starts_alike edge) (take at edges) ≡ true
   pub first : AreSingle (take at edges)
 
--- why no topology was made of the edges; `Memory` says nothing of them
+-- why no topology was made from the edges; `Memory` says nothing about the edges
 abbrev pub IsTopologyFault : List Edge → TopologyFault → Type 0
 IsTopologyFault edges (Twice label) = IsFirstTwice edges label
 IsTopologyFault edges Memory = Unit {0}

@@ -10,7 +10,7 @@ pub mod Grid
 pub mod Builtin
 -- which symbols the nodes allow
 pub mod Sets
--- what a topology keeps beside its edges, and a round of a ball's growth
+-- how topologies and alphabets are stored, and one round of the search for a ball
 pub mod keeping
 -- lemmas on these definitions, with their proofs
 pub mod lemmas

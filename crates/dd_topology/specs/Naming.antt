@@ -12,7 +12,7 @@ AreDistinct names = AllPairs (λ a b. a ≢ b) names
 abbrev pub number_of : List (List ℕ) → List ℕ → Option ℕ
 number_of names name = position (bytes_eq name) names
 
--- a refusal gives the name back. Either the name is there already, or memory ran out
+-- the fault of a refused name holds this name. `Twice`: the list has it already. `Memory`: the list doesn't have it, and memory ran out
 abbrev pub IsNameRefusal : List (List ℕ) → String Global → NameFault → Type 0
 IsNameRefusal names name (Twice back) = (back ≡ name) × Contains names (string_bytes name)
 IsNameRefusal names name (Memory back) = (back ≡ name) × ¬ Contains names (string_bytes name)

@@ -2,7 +2,7 @@
 use Rattle.std.specs.Prelude.{◌≡◌, ℕ, ◌≤◌, ◌==◌, Bool, true, false, List, [], length, map, slice_index_or, slice_set, replicate, All}
 use Rattle.std.specs.List.{list_any, range_with_len}
 
--- the size of the alphabet, and for each node a row: whether it allows the symbol 0, 1 and so on
+-- the size of the alphabet, and a row for each node, which says whether the node allows symbol 0, symbol 1, and so on
 pub record SymbolSets : Type 0 where
   pub symbols : ℕ
   pub allowed : List (List Bool)
@@ -10,7 +10,7 @@ pub record SymbolSets : Type 0 where
 abbrev pub symbol_sets : ℕ → List (List Bool) → SymbolSets
 symbol_sets m rows = record { symbols = m; allowed = rows }
 
--- whether the node a allows the symbol t; false where there is no such node or symbol
+-- whether the node a allows the symbol t; false if there is no such node or symbol
 abbrev pub row_allows : List (List Bool) → ℕ → ℕ → Bool
 row_allows rows a t = slice_index_or (slice_index_or rows a []) t false
 
@@ -35,10 +35,10 @@ all_symbols nodes m = symbol_sets m (replicate nodes (replicate m true))
 abbrev pub is_listed : List ℕ → ℕ → Bool
 is_listed symbols t = list_any (λ s. s == t) symbols
 
--- the row of a node that allows exactly the listed ones of m symbols
+-- the row, for an alphabet of m symbols, of a node that allows exactly the listed ones
 abbrev pub symbol_row : ℕ → List ℕ → List Bool
 symbol_row m symbols = map (is_listed symbols) (range_with_len 0 m)
 
--- the node a allows exactly these symbols from now on, and each other node allows what it did before
+-- the sets in which the node a allows exactly these symbols, and each other node allows what it allows in s
 abbrev pub restricted : SymbolSets → ℕ → List ℕ → SymbolSets
 restricted s a symbols = symbol_sets s.symbols (slice_set s.allowed a (symbol_row s.symbols symbols))

@@ -4,7 +4,7 @@ use Rattle.std.specs.{List.find, List.list_all, Option.option_map}
 use Rattle.dd_lattice.specs.{Place.Place, Place.place, Place.moved, Place.is_in_range, Cells.cell, declared.position.Cell.Cell}
 use Rattle.dd_topology.specs.declared.edge.Edge.{Edge}
 
--- the offset of the way back
+-- the offset of an edge that is followed backwards
 abbrev pub reversed : Place → Place
 reversed p = place (pos 0 -ℤ p.x) (pos 0 -ℤ p.y) (pos 0 -ℤ p.z)
 
@@ -20,11 +20,11 @@ start_of c e = cell (moved c.position (reversed e.offset)) e.from
 abbrev pub leaves : Cell → ℕ → Edge → Bool
 leaves c label e = e.label == label && e.from == c.node
 
--- the cell to which the first edge with this label leads from c; none where no such edge leaves c's node
+-- the cell to which a move by this label leads from c, along the first edge that has the label and leaves c's node; none if there is no such edge
 abbrev pub step : List Edge → Cell → ℕ → Option Cell
 step es c label = option_map (end_of c) (find (leaves c label) es)
 
--- the cell, if it is in range
+-- the cell if it is in range, and none otherwise
 abbrev pub in_range : Cell → Option Cell
 in_range c = if is_in_range c.position then Some c else None
 
@@ -36,11 +36,11 @@ Leads e a b = (a.node ≡ e.from) × (b ≡ end_of a e)
 abbrev pub IsMove : List Edge → Cell → ℕ → Cell → Type 0
 IsMove es a label b = (e : Edge) × Contains es e × (e.label ≡ label) × Leads e a b
 
--- two edges with the same label and first node
+-- whether two edges have the same label and the same first node
 abbrev pub starts_alike : Edge → Edge → Bool
 starts_alike e f = e.label == f.label && e.from == f.from
 
--- no label has two edges from one node
+-- no two edges have both the same label and the same first node
 abbrev pub AreSingle : List Edge → Type 0
 AreSingle es = AllPairs (λ e f. starts_alike e f ≡ false) es
 

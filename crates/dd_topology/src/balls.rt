@@ -25,11 +25,11 @@ impl Topology {
         some_edge_joins(self.edges(), a, b)
     }
 
-    /// The cells that a path of at most `radius` edges joins to the centre, in cell order, each once. A path may follow an
-    /// edge in either direction.
+    /// The cells that a path of at most `radius` edges joins to the centre. They come without repeats, in cell order: by z,
+    /// then y, then x, then the node. A path may follow an edge in either direction.
     ///
     /// # Errors
-    /// `Range` if a coordinate of one of these cells exceeds 2^20 in absolute value; or `Memory`.
+    /// `Range` if a coordinate of one of these cells exceeds 2^20 in absolute value. `Memory` if memory ran out.
     pub fn ball(&self, alloc: Global, centre: &Cell, radius: u32) -> Result<Vec<Cell>, LatticeFault>
         ensures cells { IfOk result (λ v. IsCellListOf (IsInBall self.now.edges centre.now radius) v.items) }
         ensures list { IfOk result (λ v. v.items ≡ in_order (ball self.now.edges centre.now radius)) }
@@ -39,7 +39,7 @@ impl Topology {
         self.ball_within(alloc, centre, radius, &mut found)
     }
 
-    /// The ball. `found` is empty at first, and gathers the cells of the ball round by round.
+    /// The cells that `ball` returns. `found` must be empty at first. It collects the cells of the ball, round by round.
     fn ball_within(
         &self,
         alloc: Global,
@@ -52,7 +52,7 @@ impl Topology {
         ensures list { IfOk result (λ v. v.items ≡ in_order (ball self.now.edges centre.now radius)) }
         ensures fault { IfErr result (IsCellFaultOf (IsInBall self.now.edges centre.now radius)) }
     {
-        // This call tells the proof what the type guarantees: the centre is in range.
+        // This read tells the proof what the type guarantees: the centre is in range.
         let position = &centre.position;
         let _ = &position.x;
         found.insert(*centre)?;
@@ -131,7 +131,8 @@ fn push_start(reached: &mut Vec<Cell>, edge: &Edge, cell: &Cell) -> Result<(), L
     Ok(())
 }
 
-/// Adds the cells adjacent to `cell`. A cell is added once for each edge that joins it.
+/// Adds the cells adjacent to `cell`. A cell is added once for each edge that leads to it from `cell`, and once for each
+/// edge that leads from it to `cell`.
 fn push_neighbours(reached: &mut Vec<Cell>, edges: &[Edge], cell: &Cell) -> Result<(), LatticeFault>
     ensures cells { OnOk result (reached.new.items ≡ reached.old.items ++ neighbours edges.now cell.now) }
     ensures in_range { OnOk result (are_in_range (neighbours edges.now cell.now) ≡ true) }
@@ -144,7 +145,7 @@ fn push_neighbours(reached: &mut Vec<Cell>, edges: &[Edge], cell: &Cell) -> Resu
     Ok(())
 }
 
-/// The cells adjacent to each of the cells in turn.
+/// The cells adjacent to each of `cells` in turn, with repeats.
 fn neighbours_of(alloc: Global, edges: &[Edge], cells: &[Cell]) -> Result<Vec<Cell>, LatticeFault>
     ensures cells { IfOk result (λ v. v.items ≡ flat_map (neighbours edges.now) cells.now) }
     ensures in_range { OnOk result (are_in_range (flat_map (neighbours edges.now) cells.now) ≡ true) }
@@ -157,7 +158,7 @@ fn neighbours_of(alloc: Global, edges: &[Edge], cells: &[Cell]) -> Result<Vec<Ce
     Ok(reached)
 }
 
-/// Adds the cells to those found, and returns the ones that were not found before.
+/// Adds the cells to `found`, and returns those that were not in it before.
 fn fresh_cells(
     alloc: Global,
     found: &mut BTreeSet<Cell>,
@@ -175,7 +176,7 @@ fn fresh_cells(
     Ok(fresh)
 }
 
-/// Adds the cells adjacent to the frontier to those found, and returns the next frontier.
+/// Adds the neighbours of the frontier to `found`, and returns the next frontier.
 fn next_frontier(
     alloc: Global,
     edges: &[Edge],

@@ -20,11 +20,11 @@ pub enum Kind {
     Line,
     /// The square grid: each cell has four neighbours.
     Square,
-    /// The square grid with the diagonals, as a king moves: eight neighbours.
+    /// The square grid with its diagonals, the moves of a chess king: eight neighbours.
     King,
     /// The triangular grid: six neighbours.
     Triangle,
-    /// The hexagonal grid: two nodes for each position, three neighbours.
+    /// The hexagonal grid: two nodes at each position, and each cell has three neighbours.
     Hex,
     /// The cubic grid of dimension 3: six neighbours.
     Cube,
@@ -36,9 +36,10 @@ impl Topology {
     ///
     /// - line: `rt` (1), `lt` (-1)
     /// - square: `up` (0,1), `dn` (0,-1), `rt` (1,0), `lt` (-1,0)
-    /// - king: those of square, `ne` (1,1), `nw` (-1,1), `se` (1,-1), `sw` (-1,-1)
-    /// - triangle: those of square, `ne` (1,1), `sw` (-1,-1)
-    /// - hex: `a` (0,0), `b` (-1,0), `c` (0,-1), each from node 0 to node 1, and back from node 1 by the negated offset
+    /// - king: those of square, then `ne` (1,1), `nw` (-1,1), `se` (1,-1), `sw` (-1,-1)
+    /// - triangle: those of square, then `ne` (1,1), `sw` (-1,-1)
+    /// - hex: `a` (0,0), `b` (-1,0), `c` (0,-1), each from node 0 to node 1, and from node 1 to node 0 by the negated
+    /// offset
     /// - cube: `rt` (1,0,0), `lt` (-1,0,0), `up` (0,1,0), `dn` (0,-1,0), `fw` (0,0,1), `bk` (0,0,-1)
     pub fn builtin(alloc: Global, kind: Kind) -> Result<Topology, AllocError>
         ensures { IfOk result (λ topology. topology ≡ grid_of kind) }
@@ -176,7 +177,8 @@ fn back(label: u32, x: i32, y: i32, z: i32) -> Edge
     }
 }
 
-/// The topology with these labels and edges. No label occurs twice, and no two edges have the same label and first node.
+/// The topology with these labels and edges. No label may occur twice, and no two edges may have the same label and first
+/// node.
 fn topology_of(
     alloc: Global,
     dim: u32,
@@ -201,7 +203,7 @@ fn topology_of(
     }
 }
 
-/// The names that these texts spell, in the same order. No text occurs twice.
+/// The list of the names that these texts spell, in the same order. No text may occur twice.
 fn names_of(alloc: Global, texts: &[&str]) -> Result<Names, AllocError>
     requires few { length texts.now < 2 ^ 32 - 1 }
     requires distinct { has_repeat bytes_eq (map (λ text. text.now) texts.now) ≡ false }
@@ -214,7 +216,7 @@ fn names_of(alloc: Global, texts: &[&str]) -> Result<Names, AllocError>
     Ok(names)
 }
 
-/// Adds a name that is not there yet.
+/// Adds a name that the list doesn't have yet.
 fn add_name(alloc: Global, names: &mut Names, text: &str) -> Result<(), AllocError>
     requires few { length names.old < 2 ^ 32 - 1 }
     requires new { ¬ Contains names.old text.now }

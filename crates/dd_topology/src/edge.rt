@@ -4,7 +4,8 @@ ghost use Rattle.dd_topology.specs.Topology.{reversed, end_of, start_of, in_rang
 
 use dd_lattice::{Cell, Position, shift};
 
-/// An edge leads from each cell of its first node to a cell of its second node, which lies `offset` away.
+/// An edge leads from each cell of its first node to a cell of its second node. The position of the second cell is that of
+/// the first cell, moved by `offset`.
 #[derive(Debug, Clone, Copy, PartialEq, Eq)]
 pub struct Edge {
     /// The number of its label.
@@ -16,7 +17,7 @@ pub struct Edge {
     pub to: u32,
 }
 
-/// The cell to which the edge leads from a cell of its first node, or `None` where that cell is out of range.
+/// The cell to which the edge leads from `cell`, a cell of its first node. `None` if the cell at the end is out of range.
 pub(crate) fn end_of(cell: &Cell, edge: &Edge) -> Option<Cell>
     ensures { result ≡ in_range (end_of cell.now edge.now) }
 {
@@ -27,7 +28,8 @@ pub(crate) fn end_of(cell: &Cell, edge: &Edge) -> Option<Cell>
     })
 }
 
-/// The cell from which the edge leads to a cell of its second node, or `None` where that cell is out of range.
+/// The cell from which the edge leads to `cell`, a cell of its second node. `None` if the cell at the start is out of
+/// range.
 pub(crate) fn start_of(cell: &Cell, edge: &Edge) -> Option<Cell>
     ensures { result ≡ in_range (start_of cell.now edge.now) }
 {
@@ -39,7 +41,7 @@ pub(crate) fn start_of(cell: &Cell, edge: &Edge) -> Option<Cell>
     })
 }
 
-/// The offset of the way back: each coordinate is negated.
+/// The offset of an edge that is followed backwards: each coordinate is negated.
 pub fn reversed(offset: &Position) -> Position
     ensures { result ≡ reversed offset.now }
 {

@@ -1,11 +1,11 @@
-//! The faults of topologies.
+//! The faults that can occur when a topology is made.
 use thiserror::Error;
 
-/// Why a topology is not made.
+/// Why a topology could not be made.
 #[derive(Clone, Copy, Debug, PartialEq, Eq, Error)]
 pub enum TopologyFault {
-    /// Two edges have the same label and the same first node. It holds the label of the first edge that repeats an earlier
-    /// one in both.
+    /// Two edges have the same label and the same first node. The variant holds the label of the first edge that agrees in
+    /// both with an earlier edge.
     #[error("the label {0} has two edges from one node")]
     Twice(u32),
     /// Memory ran out.

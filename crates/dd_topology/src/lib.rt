@@ -1,4 +1,5 @@
-//! Topologies: the labels and edges of a lattice, moves along the edges, adjacency, balls, and the alphabets of nodes.
+//! Topologies: labelled edges between the cells of a lattice, moves along these edges, adjacency, balls, and the alphabets
+//! of nodes. A cell is a node at a position. The alphabet of a node is the set of symbols that it allows.
 #![tactic(auto, using(std::proofs::lemmas::Grind::common_steps))]
 
 mod balls;

@@ -1,4 +1,4 @@
-//! A list of distinct names. The number of a name is its place in the list, from 0.
+//! Lists of distinct names. The number of a name is its index in the list, from 0.
 ghost use Rattle.std.specs.Prelude.{◌≡◌, ◌-◌, ◌^◌, ◌<◌, [], ◌∷◌, ◌++◌, length, slice_get, option_copied, string_bytes, Contains, IfOk, IfErr, OnOk, OnErr, MatchOption};
 
 use indexmap::IndexSet;
@@ -22,7 +22,7 @@ impl Model for Names {
     ghost invariant = { λ names. length names.known.keys < 2 ^ 32 };
 }
 
-/// Why a name was not added. It gives the name back.
+/// Why a name was not added. Each variant holds the name that was refused.
 #[derive(Debug, Drop, Error)]
 pub enum NameFault {
     /// The name was added before.
@@ -36,7 +36,7 @@ pub enum NameFault {
 impl Names {
     ghost use Rattle.dd_topology.specs.Naming.{AreDistinct, number_of, IsNameRefusal};
 
-    /// An empty list. It allocates no memory.
+    /// Returns an empty list. The call allocates no memory.
     pub fn new(alloc: Global) -> Names
         ensures { result ≡ [] }
     {
@@ -45,10 +45,11 @@ impl Names {
         }
     }
 
-    /// Adds a name, and gives its number.
+    /// Adds a name and returns its number.
     ///
     /// # Errors
-    /// `Twice` if the name was added before, else `Memory`. The fault gives the name back, and the list is unchanged.
+    /// `Twice` if the name was added before; otherwise `Memory`, if memory ran out. The fault holds the name, and the list
+    /// is unchanged.
     pub fn add(&mut self, name: String) -> Result<u32, NameFault>
         requires { length self.old < 2 ^ 32 - 1 }
         ensures number { IfOk result (λ number. number ≡ length self.old) }
@@ -67,7 +68,7 @@ impl Names {
         Ok(number)
     }
 
-    /// The number of a name, or `None` where the list doesn't have it.
+    /// The number of a name, or `None` if the list doesn't have it.
     pub fn find(&self, name: &str) -> Option<u32>
         ensures number { result ≡ number_of self.now name.now }
         ensures exact { MatchOption result (¬ Contains self.now name.now) (λ number. slice_get self.now number ≡ Some name.now) }
@@ -78,7 +79,7 @@ impl Names {
         }
     }
 
-    /// The name with a number, or `None` where the number is at least the count.
+    /// The name with this number, or `None` if the number isn't less than the count.
     pub fn name(&self, number: u32) -> Option<&str>
         ensures { option_copied result ≡ slice_get self.now number }
     {
@@ -86,7 +87,7 @@ impl Names {
         Some(name.as_str())
     }
 
-    /// How many names there are.
+    /// How many names the list has.
     pub fn count(&self) -> u32
         ensures number { result ≡ length self.now }
         ensures distinct { AreDistinct self.now }

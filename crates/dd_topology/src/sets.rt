@@ -11,7 +11,7 @@ pub struct Sets {
     nodes: u32,
     /// How many symbols the alphabet has.
     symbols: u32,
-    /// Whether each node allows each symbol: a row of `symbols` answers for each node, one row after the other.
+    /// Whether each node allows each symbol: a row of `symbols` answers for each node, one row after another.
     allowed: Vec<bool>,
 }
 

@@ -19,15 +19,15 @@ use indexmap::IndexSet;
 use std::alloc::Global;
 use std::marker::Model;
 
-/// The move by a label from the cells of a node. At most one edge makes it.
+/// A move: a label, and the node from which it leads. At most one edge makes each move.
 #[derive(Clone, Copy, PartialEq, Eq, Hash)]
 pub(crate) struct Move {
     label: u32,
     from: u32,
 }
 
-/// A topology: a dimension, the nodes of each position, labels, and edges. No label has two edges from one node, and no
-/// edge leads further than 4 along an axis.
+/// A topology: a dimension, a number of nodes at each position, labels, and edges. No two edges have both the same label
+/// and the same first node, and no edge leads further than 4 along an axis.
 #[derive(Drop)]
 pub struct Topology {
     /// The dimension: 1, 2 or 3.
@@ -37,7 +37,7 @@ pub struct Topology {
     /// The names of the labels.
     labels: Names,
     edges: Items<Edge>,
-    /// The moves of the edges. Each move has the index that its edge has in `edges`.
+    /// The moves that the edges make. Each move has the same index here as its edge has in `edges`.
     moves: IndexSet<Move>,
 }
 
@@ -53,7 +53,8 @@ impl Model for Topology {
     ghost invariant = { λ t. IsGrid (grid t.dim t.nodes t.labels t.edges) × (t.moves.keys ≡ map move_of t.edges) };
 }
 
-/// The moves of the edges, or the first label that has two edges from one node.
+/// The moves that the edges make, in the same order. The fault is `Twice` if two edges make the same move: it holds the
+/// label of the first edge that makes the same move as an earlier one.
 fn moves_of(alloc: Global, edges: &[Edge]) -> Result<IndexSet<Move>, TopologyFault>
     ensures moves { IfOk result (λ moves. moves.keys ≡ map move_of edges.now) }
     ensures single { OnOk result (AreSingle edges.now) }
@@ -75,12 +76,13 @@ fn moves_of(alloc: Global, edges: &[Edge]) -> Result<IndexSet<Move>, TopologyFau
 }
 
 impl Topology {
-    /// The topology of dimension `dim` with `nodes` nodes at each position, and with these labels and edges. Each edge
-    /// has a label and nodes that exist. It leads at most 4 along each of the first `dim` axes, and not at all along others.
+    /// The topology of dimension `dim` with `nodes` nodes at each position, and with these labels and edges. The label and
+    /// the nodes of each edge must exist. Each edge must lead at most 4 along each of the first `dim` axes, and not at all
+    /// along the others.
     ///
     /// # Errors
-    /// `Twice` if two edges have the same label and first node. It holds the label of the first edge that repeats an
-    /// earlier one in both. Or `Memory` if memory ran out.
+    /// `Twice` if two edges have the same label and the same first node: it holds the label of the first edge that agrees
+    /// in both with an earlier edge. `Memory` if memory ran out.
     pub fn from_edges(
         alloc: Global,
         dim: u32,
@@ -123,7 +125,7 @@ impl Topology {
         self.nodes
     }
 
-    /// The number of the label with a name, or `None` where no label has it.
+    /// The number of the label with this name, or `None` if no label has it.
     pub fn label(&self, name: &str) -> Option<u32>
         ensures number { result ≡ number_of self.now.labels name.now }
         ensures exact { MatchOption result (¬ Contains self.now.labels name.now) (λ number. slice_get self.now.labels number ≡ Some name.now) }
@@ -131,8 +133,9 @@ impl Topology {
         self.labels.find(name)
     }
 
-    /// The edges, in the order in which they were given. The contract also says, for all cells of Z^3, that `is_adjacent`
-    /// tests `IsAdjacent`, and that the list `ball` has exactly the cells of `IsInBall`.
+    /// The edges, in the order in which they were given. The contract also says, for all cells of Z^3, that the test
+    /// `is_adjacent` is true exactly where `IsAdjacent` holds, and that the list `ball` has exactly the cells for which
+    /// `IsInBall` holds.
     pub fn edges(&self) -> &[Edge]
         ensures edges { result.now ≡ self.now.edges }
         ensures adjacent { (a : AnyCell) → (b : AnyCell) → (is_adjacent result.now a b ≡ true) ↔ IsAdjacent result.now a b }
@@ -143,8 +146,8 @@ impl Topology {
         self.edges.as_slice()
     }
 
-    /// The cell to which the edge with this label leads from the cell `from`. `None` where there is no such edge, or where
-    /// the absolute value of a coordinate of that cell exceeds 2^20.
+    /// The cell to which the edge with this label leads from the cell `from`. `None` if there is no such edge, or if a
+    /// coordinate of the cell at its end exceeds 2^20 in absolute value.
     pub fn step(&self, from: &Cell, label: u32) -> Option<Cell>
         ensures value { result ≡ option_and_then in_range (step self.now.edges from.now label) }
         ensures exact { MatchOption result ((to : AnyCell) → IsMove self.now.edges from.now label to → ¬ IsInRange to.position) (IsMove self.now.edges from.now label) }
@@ -155,7 +158,7 @@ impl Topology {
         }
     }
 
-    /// The edge with this label from the cell's node, or `None` where there is none.
+    /// The edge with this label that leaves the cell's node, or `None` if there is none.
     fn edge_from(&self, cell: &Cell, label: u32) -> Option<&Edge>
         ensures edge { option_copied result ≡ find (leaves cell.now label) self.now.edges }
         ensures single { AreSingle self.now.edges }

@@ -1,4 +1,4 @@
--- The list of false literals, when a literal becomes false, and when it is taken back.
+-- How the list of false literals changes when a literal becomes false, and when this is undone.
 use Rattle.std.proofs.Common.{◌≡◌, ◌≢◌, ℕ, ◌+◌, ◌*◌, ◌<◌, ◌≤◌, Bool, true, false, cond, not, ◌&&◌, ◌||◌, List, [], ◌∷◌, ◌++◌, refl, ap, sym, ◌∙◌, subst, length, get_or, set, take, inl, inr, arith, eqb, get_or-set_same, get_or-set_other}
 use Rattle.std.proofs.lemmas.Bool.{cases_eq, false≢true, false_from_ne_true, or_left}
 use Rattle.std.proofs.lemmas.List.{length-set, length-append, length-take, take-append-le, get_or-take, get_or_append_left, take_all, take_more}
@@ -15,7 +15,7 @@ use Rattle.dd_trail.proofs.Valued.{valued_of, length_within, full_exactly, false
 abbrev signed : ℕ → Bool → Literal
 signed v p = record { variable = v; positive = p }
 
--- literals of one code are the same
+-- literals with the same code are equal
 same_code : (x y : Literal) → code x ≡ code y → x ≡ y
 same_code x y e = go x.positive y.positive refl refl e
   where
@@ -25,7 +25,7 @@ same_code x y e = go x.positive y.positive refl refl e
     go false true a b e = absurd (omega arith)
     go false false a b e = literal-eq x y (omega arith) (a ∙ sym b)
 
--- the list over all literals has a place for each literal in range
+-- the list of all literals has a place for each literal in range
 pub code_within : (n : ℕ) (l : Literal) → IsLiteralInRange n l → code l < 2 * n + 2
 code_within n l r = go l.positive
   where
@@ -33,7 +33,7 @@ code_within n l r = go l.positive
     go true = let b = r.1 in omega arith
     go false = let b = r.1 in omega arith
 
--- when a literal becomes false, no other literal changes
+-- a literal that becomes false changes nothing for literals with another code
 other : (x m : Literal) (xs : List Literal) → code x ≢ code m → is_among (m ∷ xs) x ≡ is_among xs x
 other x m xs n = or_first (false_from_ne_true (same_literal x m) (λ s. n (ap code (same_literal-eq x m s))))
   where

@@ -1,4 +1,4 @@
--- There are as many places for numbered clauses as clauses, deleted ones included.
+-- The list of the known clauses by number has one place for each clause, including the deleted ones.
 use Rattle.std.proofs.Common.{◌≡◌, suc, ◌≤◌, Bool, List, [], ◌∷◌, length, refl, ap, arith}
 use Rattle.dd_clause.specs.declared.clause.Literal.{Literal}
 use Rattle.dd_derivation.specs.checking.MarksOf.{known_of}

@@ -10,7 +10,7 @@ use Rattle.dd_derivation.specs.{Derivations.same_literal, Derivations.is_among, 
 use Rattle.dd_trail.specs.{declared.trail.Entry.Entry, Trails.falses, Trails.IsFull, keeping.Values.IsNewTo}
 use Rattle.dd_trail.specs.lemmas.Trails.{has_variable-in, in-has_variable, absent}
 
--- a variable with this value makes its literal of this sign false
+-- this value of a variable makes the variable's literal of this sign false
 abbrev pub value_denies : Bool → Option Bool → Bool
 value_denies positive None = false
 value_denies positive (Some value) = not (beq value positive)
@@ -111,7 +111,7 @@ at_most (Some x ∷ xs) = omega (arith, at_most xs)
 pub length_within : (trail : List Entry) (values : List (Option Bool)) → IsValued trail values → length trail ≤ length values
 length_within trail values v = omega (arith, v.count_ok, at_most values)
 
--- one more variable, without a value, changes nothing
+-- on a trail without entries, one more variable, without a value, changes nothing
 pub valued_wider : (values : List (Option Bool)) → IsValued [] values → IsValued [] (values ++ None ∷ [])
 valued_wider values v = record {
   news = λ k d h. absurd (omega arith);
@@ -133,7 +133,7 @@ valued_wider values v = record {
 pub valued_none : IsValued [] []
 valued_none = record { news = λ k d h. absurd (omega arith); values_ok = λ x r. refl; count_ok = refl }
 
--- a variable with a value is that of an entry
+-- a variable with a value is the variable of some entry
 pub some_entry : (trail : List Entry) (values : List (Option Bool)) (v : ℕ) → IsValued trail values → 1 ≤ v → v ≤ length values → one_if_some (get_or values (v - 1) None) ≡ 1 → has_variable v (falses trail) ≡ true
 some_entry trail values v ok a b e = go (get_or values (v - 1) None) refl e
   where

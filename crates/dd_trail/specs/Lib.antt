@@ -4,5 +4,5 @@ pub mod Trails
 pub mod Propagation
 -- lemmas on trails, with their proofs
 pub mod lemmas
--- the list by which the code tells which literals are false
+-- the list in which a trail records which literals are false
 pub mod keeping

@@ -6,12 +6,12 @@ use Rattle.dd_derivation.specs.Derivations.{hint_finding, is_among}
 use Rattle.dd_trail.specs.declared.propagation.Scan.{Scan}
 use Rattle.dd_trail.specs.declared.propagation.Scan.TheVariants.{Conflict, Unit, Nothing}
 
--- the scan is right: its clause is falsified, or forces its literal; if it found nothing, `otherwise` holds
+-- The scan is right: the clause that it found is falsified, or forces the literal that it found. If it found nothing, `otherwise` holds.
 abbrev pub Says : List (Option (List Literal)) → List Literal → Type 0 → Scan → Type 0
 Says known falses otherwise (Conflict r) = hint_finding known (is_among falses) r ≡ Falsified
 Says known falses otherwise (Unit r l) = hint_finding known (is_among falses) r ≡ Forced l
 Says known falses otherwise Nothing = otherwise
 
--- no clause of a number after `from`, up to `to`, is falsified or forces a literal
+-- no clause with a number greater than `from` and at most `to` is falsified or forces a literal
 abbrev pub AreOpenBetween : List (Option (List Literal)) → List Literal → ℕ → ℕ → Type 0
 AreOpenBetween known falses from to = (r : ℕ) → from < r → r ≤ to → hint_finding known (is_among falses) r ≡ Open

@@ -1,4 +1,4 @@
--- The trail of a search: the literals that are true, in the order in which they became so.
+-- The trail of a search: the literals that are true, in the order in which they became true.
 use Rattle.std.specs.Prelude.{◌≡◌, ℕ, ◌≤◌, true, false, List, map}
 use Rattle.dd_clause.specs.{declared.clause.Literal.Literal, Clauses.negation}
 use Rattle.dd_derivation.specs.Derivations.{has_variable}

@@ -1,4 +1,5 @@
-//! The clauses that a search may use, by number: those of the list and then the learned ones, without the deleted ones.
+//! The clauses that a search may use, by number. Those of the list come first, and then the learned ones. Deleted clauses are
+//! left out, but keep their numbers.
 ghost use Rattle.std.specs.Prelude.{◌≡◌, ◌≤◌, ◌+◌, length};
 ghost use Rattle.std.specs.Option.{option_copied};
 ghost use Rattle.dd_derivation.specs.Derivations.{clause_of};
@@ -8,7 +9,7 @@ use dd_clause::{Clause, Literal};
 use dd_derivation::{Known, Step};
 use std::marker::Model;
 
-/// The clauses that are known, by number, and how many numbers there are.
+/// The known clauses, by number, and how many numbers there are.
 #[derive(Drop)]
 pub struct Database<'a> {
     known: Known<'a>,
@@ -27,7 +28,8 @@ impl<'a> Model for Database<'a> {
 }
 
 impl<'a> Database<'a> {
-    /// The database of a list and of the steps after it. The clause of number k is alive if `alive[k - 1]` is true.
+    /// The database of the clauses of a list and of the steps after it. The clause with number k is alive, that is, not deleted,
+    /// if `alive[k - 1]` is true.
     pub fn new(clauses: &'a [Clause], steps: &'a [Step], alive: &'a [bool]) -> Database<'a>
         requires { length clauses.now + length steps.now ≤ length alive.now }
         ensures { result ≡ known_to clauses.now steps.now alive.now }
@@ -45,7 +47,7 @@ impl<'a> Database<'a> {
         self.count
     }
 
-    /// The clause of this number, if it is alive.
+    /// The clause with this number, if it is alive.
     pub fn find_clause(&self, number: u64) -> Option<&'a [Literal]>
         ensures { option_copied result ≡ clause_of self.now number }
     {

@@ -1,5 +1,7 @@
-//! The trail of a search over clauses: the literals that are true, in the order in which they became so. Two watched
-//! literals find what the clauses make true next. An order says which variable is decided next.
+//! The parts of a search for an assignment that satisfies clauses. The trail holds the literals that are true, in the order in
+//! which they became true. A clause forces a literal if all its other literals are false. Each clause watches two of its
+//! literals, by which the search finds what is forced next. If nothing is forced, it decides a variable, that is, it chooses a
+//! value for the variable. An order says which variable is decided next.
 #![tactic(auto)]
 
 mod database;

@@ -1,8 +1,8 @@
-//! The order in which variables are decided: first those that took part in the latest conflicts (Moskewicz, Madigan,
-//! Zhao, Zhang and Malik 2001, Eén and Sörensson 2003). Each gets the value that it had last (Pipatsrisawat and Darwiche
-//! 2007). The variables stand in a binary heap. A variable that is taken from it is tested exactly, so no contract rests on the
-//! order: a bad one only costs time. No invariant says that the places kept here are within their lists. So the code tests
-//! them. The tests never fail.
+//! The order in which variables are decided. Those that took part in the latest conflicts come first (Moskewicz, Madigan, Zhao,
+//! Zhang and Malik 2001, Eén and Sörensson 2003). Each variable gets the value that it had last (Pipatsrisawat and Darwiche
+//! 2007). The variables stand in a binary heap. A variable that is taken from the heap is tested exactly. So no contract depends
+//! on the order: a bad one only costs time. No invariant says that the places kept here are within their lists. So the code
+//! tests them. The tests never fail.
 ghost use Rattle.std.specs.Prelude.{◌≡◌, ◌<◌, ◌^◌, MatchOption, ⊤};
 ghost use Rattle.dd_trail.specs.Trails.{IsFree, IsFull};
 
@@ -10,31 +10,32 @@ use crate::trail::Trail;
 use dd_clause::Literal;
 use std::alloc::{AllocError, Global};
 
-/// The first increment, and the least that there can be. The increment is what a conflict adds to a variable's activity.
+/// The increment at the start, and the least possible one. The increment is what a conflict adds to a variable's activity.
 const FIRST_INCREMENT: u64 = 1 << 10;
 
-/// If an activity is above this, all activities are made smaller.
+/// If an activity rises above this bound, all activities are made smaller.
 const MOST_ACTIVE: u64 = 1 << 60;
 
-/// How many of its low bits each activity then loses.
+/// How many low bits each activity loses when all are made smaller.
 const LOST_BITS: u32 = 32;
 
-/// In the broad style, the increment grows after each conflict. It is divided by this number, and the quotient is added.
+/// In the broad style, the increment grows after each conflict: it is divided by this number, and the quotient is added to it.
 const BROAD_PART: u64 = 64;
 
-/// The same number for the focused style.
+/// The corresponding number for the focused style.
 const FOCUSED_PART: u64 = 20;
 
-/// How much the latest conflicts weigh in the order.
+/// How much weight the latest conflicts have in the order.
 #[derive(Clone, Copy, Debug)]
 pub enum Style {
-    /// A conflict counts for long: each adds only a little more than the one before. The variables of the learned clause become
-    /// more active a second time, and so do those of the clauses that forced their values (Liang, Ganesh, Poupart and
-    /// Czarnecki 2016). This is better where a contradiction lies deep among many variables: boxes, pigeonholes.
+    /// A conflict counts for a long time, as each adds only a little more than the one before. The variables of the learned
+    /// clause become more active a second time, and so do those of the clauses that forced their values (Liang, Ganesh, Poupart
+    /// and Czarnecki 2016). This style is better where a contradiction lies deep among many variables, as on boxes and in
+    /// pigeonhole problems.
     Broad,
-    /// The latest conflicts count most: each adds clearly more than the one before. In a conflict, a variable becomes more active
-    /// only once, however many of the resolved clauses contain it, as in MiniSat (Eén and Sörensson 2003). This is better on large
-    /// tori, where each cell is as good as any other: the search stays among the cells where it is.
+    /// The latest conflicts count most, as each adds clearly more than the one before. In a conflict, a variable becomes more
+    /// active only once, however many of the resolved clauses contain it, as in MiniSat (Eén and Sörensson 2003). This style is
+    /// better on large tori, where each cell is as good as any other: the search stays with the cells that it is working on.
     Focused,
 }
 
@@ -49,11 +50,12 @@ struct Rank {
 /// The variables in the order in which they are decided, the most active first.
 #[derive(Drop)]
 pub struct Order {
-    /// The first `waiting` entries are a binary heap of the variables that wait to be decided. Those taken from it stand behind it.
+    /// The first `waiting` entries are a binary heap of the variables that wait to be decided. The variables taken from the heap
+    /// stand after it.
     heap: Vec<usize>,
-    /// The rank of each variable, by its number.
+    /// The rank of each variable, at the index of its number.
     ranks: Vec<Rank>,
-    /// How many variables wait.
+    /// How many variables wait to be decided.
     waiting: usize,
     /// What a conflict adds to the activity of a variable.
     increment: u64,
@@ -61,7 +63,7 @@ pub struct Order {
 }
 
 impl Order {
-    /// The order in which all variables wait, each with the value false and no activity.
+    /// The order at the start: all variables wait to be decided, each with the value false and activity 0.
     pub fn new(alloc: Global, variables: usize, style: Style) -> Result<Order, AllocError> {
         let idle = Rank {
             activity: 0,
@@ -84,7 +86,7 @@ impl Order {
         })
     }
 
-    /// How much the latest conflicts weigh in the order.
+    /// How much weight the latest conflicts have in the order.
     pub fn style(&self) -> Style {
         self.style
     }
@@ -114,7 +116,7 @@ impl Order {
         variable < self.ranks.len() && self.ranks[variable].value
     }
 
-    /// Puts a variable at a place of the heap.
+    /// Puts a variable at a place in the heap.
     fn put(&mut self, variable: usize, place: usize)
         ensures { self.new.waiting ≡ self.old.waiting }
     {
@@ -124,7 +126,7 @@ impl Order {
         }
     }
 
-    /// Whether a variable is more active than another. Of two that are equally active, the one of the lower number comes first.
+    /// Whether a variable comes before another: it is more active, or it is equally active and has the lower number.
     fn is_before(&self, variable: usize, other: usize) -> bool {
         let activity = self.activity(variable);
         let others = self.activity(other);
@@ -146,7 +148,7 @@ impl Order {
         self.put(variable, place);
     }
 
-    /// The place below this one in the heap. Of two such places, the one whose variable comes first. `None` if there is none.
+    /// The child of this place in the heap. If there are two, it is the one whose variable comes first. `None` if there is none.
     fn find_below(&self, place: usize) -> Option<usize>
         ensures { MatchOption result ⊤ (λ below. (place < below) × (below < self.now.waiting)) }
     {
@@ -176,7 +178,7 @@ impl Order {
         self.put(variable, place);
     }
 
-    /// Takes the first variable out of the heap. It stands behind the heap from then on.
+    /// Takes the first variable out of the heap. It stands after the heap from then on.
     fn pop(&mut self) -> Option<usize> {
         if self.waiting == 0 {
             return None;
@@ -190,7 +192,7 @@ impl Order {
         Some(first)
     }
 
-    /// A literal of the first variable in the order that has no value. `None` if each variable has one.
+    /// A literal of the first variable in the order that has no value. `None` if each variable has a value.
     pub fn choose(&mut self, trail: &Trail) -> Option<Literal>
         requires { trail.now.variables < 2 ^ 32 }
         ensures { MatchOption result (IsFull trail.now.variables trail.now.entries) (λ l. IsFree trail.now.variables trail.now.entries l.variable) }
@@ -216,7 +218,7 @@ impl Order {
         }
     }
 
-    /// Puts a variable back into the heap, if it was taken, and notes the value that it had.
+    /// Puts a variable back into the heap, if it was taken out, and notes the value that it had.
     fn put_back(&mut self, variable: usize, value: bool) {
         let waiting = self.waiting;
         let place = self.place(variable);
@@ -231,7 +233,8 @@ impl Order {
         }
     }
 
-    /// Puts back the variables of the entries from a place on, and notes their values. The trail is then cut at this place.
+    /// Puts back the variables of the entries from this place on, and notes their values. The caller then cuts the trail at this
+    /// place.
     pub fn put_back_from(&mut self, trail: &Trail, place: usize) {
         let entries = trail.entries();
         for i in place..entries.len() {
@@ -240,8 +243,8 @@ impl Order {
         }
     }
 
-    /// Makes all activities and the increment smaller. Some activities that differed become equal, which changes the order. So the
-    /// heap is arranged again.
+    /// Makes all activities and the increment smaller. Activities that differed may become equal, which changes the order. So
+    /// the heap is arranged again.
     fn rescale(&mut self) {
         for rank in self.ranks.iter_mut() {
             rank.activity >>= LOST_BITS;
@@ -250,7 +253,7 @@ impl Order {
         self.arrange();
     }
 
-    /// Makes a variable more active, as it took part in a conflict.
+    /// Makes a variable more active, because it took part in a conflict.
     pub fn bump(&mut self, variable: u32) {
         let variable = variable as usize;
         let activity = self.activity(variable).saturating_add(self.increment);
@@ -266,8 +269,8 @@ impl Order {
         }
     }
 
-    /// Adds 1 to the activity of each literal's variable. After a call for each clause, the activities count the occurrences of the
-    /// variables. The heap is not arranged anew.
+    /// Adds 1 to the activity of each literal's variable. After a call for each clause, the activities count the occurrences of
+    /// the variables. The heap is not arranged again.
     pub fn count(&mut self, literals: &[Literal]) {
         for literal in literals {
             let variable = literal.variable as usize;
@@ -277,7 +280,7 @@ impl Order {
         }
     }
 
-    /// Makes a heap of the variables that wait, the most active first.
+    /// Arranges the variables that wait as a heap, with the most active first.
     pub fn arrange(&mut self) {
         for place in (0..self.waiting / 2).rev() {
             self.sink(self.variable_at(place), place);

@@ -1,4 +1,4 @@
-//! Unit propagation looks at clauses, in search of one that is falsified or forces a literal.
+//! Unit propagation looks at clauses, to find one that is falsified or forces a literal.
 ghost use Rattle.std.specs.Prelude.{◌≡◌};
 ghost use Rattle.dd_derivation.specs.declared.propagation.Finding.TheVariants.{Open};
 ghost use Rattle.dd_derivation.specs.Derivations.{hint_finding, is_among};
@@ -10,18 +10,18 @@ use crate::trail::Trail;
 use dd_clause::Literal;
 use dd_derivation::{Finding, find};
 
-/// What a look at clauses finds: the number of one that is falsified, or of one that forces a literal.
+/// What a look at clauses finds: the number of a clause that is falsified or forces a literal, or nothing.
 #[derive(Clone, Copy)]
 pub enum Scan {
-    /// All literals of the clause of this number are false.
+    /// All literals of the clause with this number are false.
     Conflict(u64),
-    /// All literals of the clause of this number are false, except this one. Its variable has no value.
+    /// All literals of the clause with this number are false, except this one, whose variable has no value.
     Unit(u64, Literal),
     /// No such clause was found.
     Nothing,
 }
 
-/// Looks at the clause of this number. Finds nothing if there is no such clause.
+/// Looks at the clause with this number. Finds nothing if there is no such clause.
 pub fn look_at(database: &Database, trail: &Trail, number: u64) -> Scan
     ensures { Says database.now (falses trail.now.entries) (hint_finding database.now (is_among (falses trail.now.entries)) number ≡ Open) result }
 {
@@ -35,7 +35,7 @@ pub fn look_at(database: &Database, trail: &Trail, number: u64) -> Scan
     }
 }
 
-/// Looks at the clauses of the numbers from `from + 1` to `to`, until one is falsified or forces a literal.
+/// Looks at the clauses with the numbers from `from + 1` to `to`, until one is falsified or forces a literal.
 pub fn scan_between(database: &Database, trail: &Trail, from: u64, to: u64) -> Scan
     ensures { Says database.now (falses trail.now.entries) (AreOpenBetween database.now (falses trail.now.entries) from to) result }
 {

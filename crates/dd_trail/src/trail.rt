@@ -1,8 +1,8 @@
-//! The literals that are true, in the order in which they became so. One truth value for each literal says whether it is
-//! false, so asking takes constant time.
+//! The literals that are true, in the order in which they became true. A list says of each literal whether it is false, so to
+//! ask this takes constant time.
 //!
-//! The reason, the level and the place of a variable are meant for variables with a value. No contract rests on them, and no
-//! invariant says that their indices are within the lists. So the code tests these indices. The tests never fail.
+//! Reasons, levels and places are meant for variables that have a value. No contract depends on them, and no invariant says that
+//! their indices are within the lists. So the code tests these indices. For variables that have a value, the tests never fail.
 ghost use Rattle.std.specs.Prelude.{◌≡◌, ℕ, ◌+◌, ◌<◌, ◌≤◌, ◌^◌, ◌++◌, ◌∷◌, [], true, false, length, take, slice_set, ◌-◌, IfOk, OnOk, OnErr, MatchOption, IsTrue, ◌↔◌};
 ghost use Rattle.dd_clause.specs.Clauses.{IsLiteralInRange};
 ghost use Rattle.dd_values.specs.Variables.{true_variables};
@@ -24,7 +24,8 @@ pub struct Entry {
     pub reason: Option<u64>,
 }
 
-/// The place of a variable's entry on the trail, and its decision level: the number of decisions on the trail up to it.
+/// The place of a variable's entry on the trail, and its decision level: the number of decisions on the trail up to and
+/// including this entry.
 #[derive(Clone, Copy)]
 struct Spot {
     place: usize,
@@ -36,9 +37,9 @@ struct Spot {
 pub struct Trail {
     variables: usize,
     entries: Vec<Entry>,
-    /// For each literal, by its code, whether it is false.
+    /// For each literal, at the index of its code, whether it is false.
     denied: Vec<bool>,
-    /// For each variable, by its number, the spot of its entry. It is out of date if the variable has no value.
+    /// For each variable, at the index of its number, the spot of its entry. The spot is out of date if the variable has no value.
     spots: Vec<Spot>,
     /// The places of the decisions on the trail, in ascending order.
     decision_places: Vec<usize>,
@@ -78,7 +79,7 @@ fn note_decision(places: &mut Vec<usize>, entry: Entry, place: usize) -> Result<
     Ok(())
 }
 
-/// How many of the decisions stand before a place.
+/// How many of the decisions stand before this place.
 fn count_below(places: &[usize], place: usize) -> usize {
     for count in (0..places.len()).rev() {
         if places[count] < place {
@@ -89,7 +90,7 @@ fn count_below(places: &[usize], place: usize) -> usize {
 }
 
 impl Trail {
-    /// The trail without entries over this many variables.
+    /// A trail without entries, over this many variables.
     pub fn new(alloc: Global, variables: usize) -> Result<Trail, AllocError>
         requires { variables < 2 ^ 32 }
         ensures variables { IfOk result (λ trail. trail.variables ≡ variables) }
@@ -104,14 +105,14 @@ impl Trail {
         })
     }
 
-    /// The literals that are true, in the order in which they became so.
+    /// The literals that are true, in the order in which they became true.
     pub fn entries(&self) -> &[Entry]
         ensures { result.now ≡ self.now.entries }
     {
         self.entries.as_slice()
     }
 
-    /// Makes a literal true. Its variable has no value before.
+    /// Makes a literal true. Its variable must not have a value yet.
     pub fn assign(&mut self, entry: Entry) -> Result<(), AllocError>
         requires in_range { IsLiteralInRange self.old.variables entry.literal }
         requires fresh { has_variable entry.literal.variable (falses self.old.entries) ≡ false }
@@ -133,7 +134,7 @@ impl Trail {
         Ok(())
     }
 
-    /// Takes back all entries from a place on.
+    /// Removes all entries from this place on.
     pub fn undo(&mut self, place: usize)
         ensures variables { self.new.variables ≡ self.old.variables }
         ensures entries { self.new.entries ≡ take place self.old.entries }
@@ -200,7 +201,7 @@ impl Trail {
         None
     }
 
-    /// The decision level of the variable's value: the number of decisions on the trail up to it.
+    /// The decision level of the variable's value: the number of decisions on the trail up to and including the variable's entry.
     pub fn level(&self, variable: u32) -> usize {
         let variable = variable as usize;
         if variable < self.spots.len() {
@@ -209,7 +210,7 @@ impl Trail {
         0
     }
 
-    /// Whether the variable's entry stands before the first decision, so that clauses alone force its value.
+    /// Whether the variable's entry stands before the first decision. If so, the clauses alone force its value.
     pub fn is_fixed(&self, variable: u32) -> bool {
         match self.decision_places.first() {
             None => true,
@@ -217,7 +218,7 @@ impl Trail {
         }
     }
 
-    /// Whether the variable got its value by the last decision or since.
+    /// Whether the variable got its value by the last decision or after it.
     pub fn is_latest(&self, variable: u32) -> bool {
         match self.decision_places.last() {
             None => true,
@@ -225,7 +226,7 @@ impl Trail {
         }
     }
 
-    /// For each literal, by its code, whether it is false.
+    /// For each literal, at the index of its code, whether it is false.
     pub(crate) fn denied(&self) -> &[bool] {
         self.denied.as_slice()
     }

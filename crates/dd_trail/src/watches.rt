@@ -1,11 +1,11 @@
-//! Two watched literals (Moskewicz, Madigan, Zhao, Zhang and Malik 2001). A clause needs no look while the two literals
-//! that it watches are not false. So when a literal becomes false, only the clauses that watch it are looked at, and
-//! nothing is undone when the search goes back. Each clause that is found this way is tested exactly, so no contract rests
-//! on the watches: a clause that they miss only costs time. No invariant says that the places kept here are within their
-//! lists. So the code tests them. The tests never fail.
+//! Two watched literals (Moskewicz, Madigan, Zhao, Zhang and Malik 2001). Each clause watches two of its literals, and needs no
+//! look while neither of them is false. So when a literal becomes false, only the clauses that watch it are looked at. When the
+//! search goes back, nothing has to be undone. Each clause that is found in this way is tested exactly. So no contract depends
+//! on the watches: a clause that they miss only costs time. No invariant says that the places kept here are within their lists.
+//! So the code tests them. The tests never fail.
 //!
-//! A watcher is a clause in the list of a literal that it watches. To pass a watcher is to look at its clause, which then stays
-//! in the list or moves to that of another literal.
+//! Each literal has a list of its watchers, which are the clauses that watch it. To pass a watcher is to look at its clause. The
+//! clause then stays in the list, or moves to the list of another literal.
 ghost use Rattle.std.specs.Prelude.{◌≡◌, ◌<◌, ◌^◌, length, IfOk, MatchOption, ⊤};
 ghost use Rattle.dd_trail.specs.Trails.{falses, IsFull};
 ghost use Rattle.dd_trail.specs.Propagation.{Says, AreOpenBetween};
@@ -40,7 +40,7 @@ impl Code {
         self.index as usize
     }
 
-    /// Whether the literal is false. `denied` says so for each literal, by its code.
+    /// Whether the literal is false. `denied` says this of each literal, at the index of its code.
     fn is_false(self, denied: &[bool]) -> bool {
         let index = self.index();
         index < denied.len() && denied[index]
@@ -51,7 +51,7 @@ impl Code {
     }
 }
 
-/// The end mark that stands behind the literals of each clause. It is the code of no literal, and never false.
+/// The end mark that follows the literals of each clause. No literal has this code, and it is never false.
 const END: Code = Code { index: 0 };
 
 /// A clause that watches a literal.
@@ -63,24 +63,25 @@ struct Watcher {
     other: Code,
 }
 
-/// The watchers of each literal, and how far the trail is read.
+/// The watchers of each literal, and how far the trail has been read.
 #[derive(Drop)]
 pub struct Watches {
-    /// For each literal the clauses that watch it.
+    /// For each literal, the clauses that watch it.
     lists: Vec<Vec<Watcher>>,
-    /// Holds one of these lists while its watchers are passed.
+    /// Holds one of `lists` while its watchers are passed.
     passed: Vec<Watcher>,
-    /// The literals of all clauses, those of each with the watched ones first and an end mark last.
+    /// The literals of all clauses, one clause after the other. In each clause the watched literals come first, and an end mark
+    /// comes last.
     literals: Vec<Code>,
-    /// For each place of `literals` the number of its clause.
+    /// For each place of `literals`, the number of the clause there.
     numbers: Vec<u32>,
-    /// How many clauses there are.
+    /// How many clauses have been added, including those deleted since.
     count: u32,
-    /// How many entries of the trail are read.
+    /// How many entries of the trail have been read.
     read: usize,
-    /// How many watchers are passed already in the list of the negation of the next entry's literal.
+    /// The next entry to be read makes a literal false. This is how many watchers in that literal's list have been passed already.
     at: usize,
-    /// How many clauses, from the first on, were looked at once since they were added.
+    /// The clauses with numbers up to this one have been looked at once since they were added.
     scanned: u64,
     /// Whether there are watchers of deleted clauses.
     has_deleted: bool,
@@ -89,11 +90,11 @@ pub struct Watches {
 /// What a look at a clause finds after one of its watched literals became false.
 #[derive(Clone, Copy)]
 enum Look {
-    /// The clause goes on watching the literal that became false. The other literal that it watches, given here, is true.
+    /// The clause keeps watching the literal that became false. The other literal that it watches, given here, is true.
     Stays(Code),
-    /// The clause watches the first of these literals instead. The second is the other one that it watches.
+    /// The clause now watches the first of these literals instead. The second is the other literal that it watches.
     Moves(Code, Code),
-    /// All literals of the clause are false, but maybe the other one that it watches, and that one is not true.
+    /// All literals of the clause are false, except perhaps the other one that it watches, and that one is not true.
     AllFalse,
 }
 
@@ -106,7 +107,7 @@ fn watch(lists: &mut Vec<Vec<Watcher>>, literal: Code, watcher: Watcher) -> Resu
     Ok(())
 }
 
-/// The first place, from `from` on, of a literal that is not false.
+/// The first place, from `from` on, with a literal that is not false.
 fn find_not_false(denied: &[bool], literals: &[Code], from: usize) -> Option<usize>
     ensures { MatchOption result ⊤ (λ place. place < length literals.now) }
 {
@@ -118,7 +119,8 @@ fn find_not_false(denied: &[bool], literals: &[Code], from: usize) -> Option<usi
     None
 }
 
-/// Looks in the clause for a literal to watch instead of the one that became false. `clause` is the place of its first literal.
+/// Looks in the clause for a literal to watch instead of the one that became false. `clause` is the place of the clause's first
+/// literal.
 fn rewatch(denied: &[bool], literals: &mut [Code], clause: u32, became_false: Code) -> Look {
     let first = clause as usize;
     let second = first + 1;
@@ -145,9 +147,9 @@ fn rewatch(denied: &[bool], literals: &mut [Code], clause: u32, became_false: Co
     }
 }
 
-/// Passes the watchers of a literal that became false, from the one at `from` on. A clause that now watches another literal
-/// moves to that literal's list, and the last watcher of this list takes its place here. Stops at a clause that may be falsified
-/// or force a literal, and returns the place of its watcher.
+/// Passes the watchers of a literal that became false, from the one at `from` on. They are in the list `passed`. A clause that
+/// now watches another literal moves to that literal's list, and the last watcher in `passed` takes its place. Stops at a clause
+/// that may be falsified or force a literal, and returns the place of its watcher. Returns `None` if there is no such clause.
 fn pass_from(
     denied: &[bool],
     literals: &mut [Code],
@@ -179,14 +181,14 @@ fn pass_from(
     Ok(None)
 }
 
-/// Whether the clause of this number is alive.
+/// Whether the clause with this number is alive, that is, not deleted.
 fn is_alive(alive: &[bool], number: u32) -> bool {
     let number = number as usize;
     number >= 1 && number <= alive.len() && alive[number - 1]
 }
 
 impl Watches {
-    /// Watches of no clauses over this many variables.
+    /// Watches over this many variables, without any clauses.
     pub fn new(alloc: Global, variables: usize) -> Result<Watches, AllocError>
         requires { variables < 2 ^ 32 }
     {
@@ -221,7 +223,8 @@ impl Watches {
         self.watch_first(start, end)
     }
 
-    /// Lets a clause watch its first two literals, if it has two. Its literals and end mark stand from `start` to before `end`.
+    /// Makes a clause watch its first two literals, if it has at least two. The clause's literals and its end mark stand at the
+    /// places from `start` up to, but not including, `end`.
     fn watch_first(&mut self, start: usize, end: usize) -> Result<(), AllocError> {
         let clause = u32::try_from(start).unwrap_or(0);
         if end <= self.literals.len() && start < end && end - start > 2 {
@@ -235,7 +238,7 @@ impl Watches {
         Ok(())
     }
 
-    /// The literal at a place, and its clause's number.
+    /// The literal at a place, and the number of its clause. `None` if there is no such place.
     fn literal_at(&self, place: usize) -> Option<(Code, u32)> {
         if place < self.literals.len() && place < self.numbers.len() {
             return Some((self.literals[place], self.numbers[place]));
@@ -243,7 +246,7 @@ impl Watches {
         None
     }
 
-    /// Writes a literal and its clause's number at a place.
+    /// Writes a literal and the number of its clause at a place.
     fn put(&mut self, place: usize, literal: Code, number: u32) {
         if place < self.literals.len() && place < self.numbers.len() {
             self.literals[place] = literal;
@@ -251,7 +254,8 @@ impl Watches {
         }
     }
 
-    /// Drops the literals and the watchers of the clauses that are not alive. The others watch their first two literals anew.
+    /// Drops the literals and the watchers of the clauses that are not alive. The other clauses watch their first two literals
+    /// again.
     fn drop_deleted(&mut self, alive: &[bool]) -> Result<(), AllocError> {
         for list in self.lists.iter_mut() {
             list.clear();
@@ -278,15 +282,15 @@ impl Watches {
         Ok(())
     }
 
-    /// Notes that the clauses of these numbers, if any, are deleted. The next call of `cut` drops them.
+    /// Notes that the clauses with these numbers, if any, are deleted. The next call of `cut` drops them.
     pub fn note_deleted(&mut self, numbers: &[u64]) {
         if !numbers.is_empty() {
             self.has_deleted = true;
         }
     }
 
-    /// Notes that the trail is cut to this length, and drops deleted clauses. The clause of number k is alive if `alive[k - 1]`
-    /// is true.
+    /// Notes that the trail is cut to this length, and drops deleted clauses. The clause with number k is alive if
+    /// `alive[k - 1]` is true.
     pub fn cut(&mut self, length: usize, alive: &[bool]) -> Result<(), AllocError> {
         if length <= self.read {
             self.read = length;
@@ -315,8 +319,9 @@ impl Watches {
         }
     }
 
-    /// Passes the watchers of a literal that became false, from the first that isn't passed yet. Stops at a clause that may be
-    /// falsified or force a literal, and returns the place of its first literal.
+    /// Passes the watchers of a literal that became false, from the first that hasn't been passed yet. Stops at a clause that
+    /// may be falsified or force a literal, and returns the place of the clause's first literal. Returns `None` if there is no
+    /// such clause.
     fn pass(&mut self, trail: &Trail, became_false: Code) -> Result<Option<u32>, AllocError> {
         self.exchange(became_false);
         let found = pass_from(
@@ -338,13 +343,13 @@ impl Watches {
         Ok(clause)
     }
 
-    /// Reads the trail on, until a clause is falsified or forces a literal. Each entry makes the negation of its literal false, so
-    /// the watchers of the negation are passed.
+    /// Reads on along the trail, until a clause is falsified or forces a literal. Each entry makes the negation of its literal
+    /// false, so the watchers of the negation are passed.
     fn read(&mut self, database: &Database, trail: &Trail) -> Result<Scan, AllocError>
         ensures { IfOk result (Says database.now (falses trail.now.entries) ⊤) }
     {
         let entries = trail.entries();
-        // The loop ends long before its bound. A `loop` would need a proof that it ends, and nothing is proved of the places.
+        // The loop ends long before its bound. A `loop` would need a proof that it ends, and nothing is proved about the places.
         for _ in 0..u64::MAX {
             let read = self.read;
             if read >= entries.len() {
@@ -366,8 +371,8 @@ impl Watches {
     }
 
     /// Looks for a clause that is falsified or forces a literal. Each new clause is looked at once, as it may have only one
-    /// literal, and then it watches none. If each variable has a value, all clauses are looked at once more: the contract rests
-    /// on this.
+    /// literal, in which case it watches none. If each variable has a value, all clauses are looked at once more. The contract
+    /// depends on this.
     pub fn find(&mut self, database: &Database, trail: &Trail) -> Result<Scan, AllocError>
         requires { trail.now.variables < 2 ^ 32 }
         ensures { IfOk result (Says database.now (falses trail.now.entries) (IsFull trail.now.variables trail.now.entries → AreOpenBetween database.now (falses trail.now.entries) 0 (length database.now))) }

@@ -1,4 +1,4 @@
--- The symbols of a window that their nodes allow.
+-- Whether each symbol of a window is one that its node allows.
 use Rattle.std.proofs.Common.{◌≡◌, ℕ, zero, suc, ◌+◌, ◌*◌, ◌/◌, ◌%◌, ◌<◌, ◌≤◌, Bool, true, false, List, [], ◌∷◌, length, get_or, ℤ, pos, ◌≤ℤ◌, unsigned_abs, Option, Some, None, refl, ap, sym, ◌∙◌, subst, arith}
 use Rattle.std.proofs.lemmas.{Int.ints, Bool.and_parts, Bool.ltb-true, Bool.lt-ltb, Bool.cond_both}
 use Rattle.std.proofs.lemmas.Nat.{mod-mul-add, div-add-mod', mod_below, div-mul-add}
@@ -16,7 +16,7 @@ use Rattle.dd_values.specs.lemmas.Numbers.{le_from}
 abbrev pub allowed_at : LocalRule → Shown → ℕ → Type 0
 allowed_at r w k = rule_allows r (k % r.nodes) (get_or w.symbols k 0) ≡ true
 
--- a cell's place gives its node
+-- a cell's place modulo the number of nodes is its node
 node_of : (s : Strip) (c : Cell) → c.node < s.nodes → window_index s c % s.nodes ≡ c.node
 node_of s c h =
     let x = unsigned_abs c.position.x in

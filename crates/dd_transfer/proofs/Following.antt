@@ -21,7 +21,7 @@ use Rattle.dd_transfer.proofs.Slicing.{given, symbols_joined, slices_joined, sli
 use Rattle.dd_transfer.proofs.Moving.{along, part, IsInside, part_same, part_inside, moved_inside, truth_same}
 use Rattle.dd_values.specs.lemmas.{Numbers.plus_zero, Numbers.le_from, Results.if_some}
 
--- x is subtracted and added again
+-- subtracting x and adding it again changes nothing
 back_and_there : (x c : ℤ) → ((c -ℤ x) +ℤ x) ≡ c
 back_and_there x c = omega (arith, ints)
 
@@ -31,7 +31,7 @@ back_inside x c n p q = (omega (arith, ints), omega (arith, ints))
 turned : (x y : ℤ) → (x +ℤ y) ≡ (y +ℤ x)
 turned x y = omega (arith, ints)
 
--- if n slices have symbols, so do fewer slices among them
+-- if n consecutive slices have symbols, so do any m consecutive slices among them
 pub fewer : (r : LocalRule) (look : Look) (x y : ℤ) (m n : ℕ) → x ≤ℤ y → (y +ℤ pos m) ≤ℤ (x +ℤ pos n) → HasSlices r look x n → HasSlices r look y m
 fewer r look x y m n low high has c inside node = has c (record { from = lower x y c.position.x low inside.from; before = higher c.position.x (y +ℤ pos m) (x +ℤ pos n) inside.before high }) node
   where
@@ -44,7 +44,7 @@ fewer r look x y m n low high has c inside node = has c (record { from = lower x
 some_there : (r : LocalRule) (look : Look) (x : ℤ) (n : ℕ) (c : Cell) → HasSlices r look x n → IsInSlices x n c → c.node < r.nodes → is_some (look c) ≡ true
 some_there r look x n c has inside node = let g = given r look x n c has inside node in ap is_some g.is
 
--- what the rule reads at the cells of the tested slice is in the window
+-- what the rule reads at the cells of the tested slice lies in the window
 read_within : (r : LocalRule) (x y d : ℤ) → y ≡ x +ℤ stand r → (pos 0 ≤ℤ (d +ℤ stand r)) × (unsigned_abs (d +ℤ stand r) < state_length r + 1) →
     (x ≤ℤ (d +ℤ y)) × ((d +ℤ y) <ℤ (x +ℤ pos (state_length r + 1)))
 read_within r x y d at spot = within x y d (stand r) (state_length r + 1) at spot.0 spot.1
@@ -154,7 +154,7 @@ module _ (r : LocalRule) (s : Strip) (look : Look) (rule : IsRule r) (for : IsFo
         once : (m : ℕ) → m ^ 1 ≡ m
         once m = pow-suc m 0 ∙ (ap (λ (p : ℕ). p * m) (pow-zero m) ∙ omega arith)
 
-  -- what the rule reads at a cell of the slice tested for the window from x on is in this window
+  -- each cell of the tested slice of the window that begins at x has a symbol, and so does each cell that the rule reads there
   reads_there : (x : ℤ) (v : Place) (a : ℕ) → HasSlices r look x (state_length r + 1) → v.x ≡ x +ℤ stand r → a < r.nodes →
       (is_some (look (cell v a)) && list_all (λ d. is_some (look (shifted v d))) (reads_at r a)) ≡ true
   reads_there x v a has at node =

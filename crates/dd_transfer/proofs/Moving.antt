@@ -1,5 +1,4 @@
--- The window of a look from x on has the symbols of the look, counted from x. So the rule is kept in the window exactly
--- if it is kept in the look.
+-- The window that begins at x in a look has the symbols that the look has there. So the rule keeps this window exactly if it keeps the look at x.
 use Rattle.std.proofs.Common.{◌≡◌, ℕ, zero, suc, ◌+◌, ◌*◌, ◌/◌, ◌%◌, ◌<◌, ◌≤◌, Bool, true, false, List, [], ◌∷◌, length, ℤ, pos, ◌+ℤ◌, ◌≤ℤ◌, unsigned_abs, Option, Some, None, refl, ap, sym, ◌∙◌, subst, arith, inl, inr}
 use Rattle.std.proofs.lemmas.Int.{ints}
 use Rattle.std.proofs.lemmas.Bool.{and_parts, and_from, cases_lt, lt-ltb, ltb-true}
@@ -20,11 +19,11 @@ use Rattle.dd_transfer.proofs.{Stands.between, Stands.reads_between, Stands.with
 use Rattle.dd_transfer.proofs.{Numbers.listed-at, Numbers.length-listed, Slicing.given, Slicing.symbol_from, Slicing.symbol_given}
 use Rattle.dd_values.specs.lemmas.Numbers.{plus_zero, le_from, le_to}
 
--- the position that is x along the first axis from the origin
+-- the position with the coordinate x along the first axis and 0 along the others
 abbrev pub along : ℤ → Place
 along x = place x (pos 0) (pos 0)
 
--- the look of the window from x on
+-- the look of the window that begins at x in the given look
 abbrev pub part : LocalRule → Strip → Look → ℤ → Look
 part r s look x = window_look s (symbols_from s look x (state_length r + 1))
 
@@ -61,7 +60,7 @@ module _ (r : LocalRule) (s : Strip) (look : Look) (x : ℤ) (for : IsFor r s) (
       let lt = mul-add-lt (unsigned_abs c.position.x) (cells s) (slice_index_of s c) (state_length r + 1) h.within (slice_below s c for.sized h.node) in
       omega (arith, lt)
 
-  -- the cell c of the window is, in the look, the cell x further than c, modulo the strip's periods
+  -- the cell c of the window corresponds to the look's cell that is x further along the first axis, modulo the strip's periods
   cell_there : (c : Cell) → IsInside r s c → cell_from s x (window_index s c) ≡ cell (across s (moved c.position (along x))) c.node
   cell_there c h =
       let n = unsigned_abs c.position.x in
@@ -76,7 +75,7 @@ module _ (r : LocalRule) (s : Strip) (look : Look) (x : ℤ) (for : IsFor r s) (
       ∙ (cell_at_index s (x +ℤ pos n) c for.sized h.node
       ∙ ap (λ (v : Place). cell v c.node) (place_same _ _ _ _ _ _ (same_sum x c.position.x h.right) y z)))
 
-  -- in the window the symbols are those of the look
+  -- at each cell of the window, the symbol is that of the look at the corresponding cell
   pub part_same : (c : Cell) → IsInside r s c → part r s look x c ≡ look (shifted (along x) c)
   part_same c h =
       let k = window_index s c in
@@ -103,7 +102,7 @@ module _ (r : LocalRule) (s : Strip) (look : Look) (x : ℤ) (for : IsFor r s) (
       let g = given r look x (state_length r + 1) (shifted (along x) c) has (moved_inside c h) (omega (arith, h.node, for.nodes)) in
       ap is_some (part_same c h ∙ g.is)
 
-  -- what the rule reads at the tested slice is in the window
+  -- what the rule reads at the cells of the tested slice lies in the window
   read_inside : (v : Place) → v.x ≡ stand r → (d : Cell) → d.node < r.nodes → between (least_x (pos 0) (all_cells r)) (greatest_x (pos 0) (all_cells r)) d ≡ true → IsInside r s (shifted v d)
   read_inside v at d node inside =
       let spot = within_window r d.position.x inside in record {
@@ -127,7 +126,8 @@ module _ (r : LocalRule) (s : Strip) (look : Look) (x : ℤ) (for : IsFor r s) (
   moved_twice : (v : Place) (d : Cell) → shifted (along x) (shifted v d) ≡ shifted (moved v (along x)) d
   moved_twice v d = ap (λ (p : Place). cell p d.node) (place_same _ _ _ _ _ _ (sum_moved d.position.x v.x x) (sum_moved d.position.y v.y (pos 0)) (sum_moved d.position.z v.z (pos 0)))
 
-  -- the rule has the same truth at a cell of the tested slice in the window, and at the cell x further in the look
+  -- the rule is true in the window, at a cell of the tested slice, exactly if it is true in the look at the cell that is x further along the first
+  -- axis
   pub truth_same : IsRule r → (v : Place) (a : ℕ) → v.x ≡ stand r → a < r.nodes → is_true r (cell v a) (part r s look x) ≡ is_true r (cell (moved v (along x)) a) look
   truth_same rule v a at node =
       truth_by_given r a v (moved v (along x)) (part r s look x) look

@@ -33,8 +33,8 @@ set_parts xs i v h =
 
 -- ---- what is left to carry
 
--- what is left to do when a digit is carried: the first `at` digits are those of a number and have to become those of the
--- next one. With the other digits, which are done, they then are the digits that are wanted
+-- what is left to do while a digit is carried: the first `at` digits are those of a number, and have to become those of the next number. The other
+-- digits are done. Together they will then be the wanted digits
 pub record Carries (base at : ℕ) (xs wanted : List ℕ) : Type 0 where
   pub number : ℕ
   pub begun : take at xs ≡ digits base at number
@@ -66,7 +66,7 @@ grown base k xs wanted some lt h low =
     ∙ (ap (λ (m : ℕ). digits base k ((n + 1) / base) ++ m ∷ drop (suc k) xs) (sym d)
     ∙ (sym (append_assoc (digits base k ((n + 1) / base)) ((n + 1) % base ∷ []) (drop (suc k) xs)) ∙ h.carried)))))
 
--- the digit is the greatest one: it becomes 0, and the carry goes on
+-- the digit is the greatest possible one: it becomes 0, and the carry goes on
 pub carried_on : (base k : ℕ) (xs wanted : List ℕ) → 0 < base → k < length xs → Carries base (suc k) xs wanted → base - 1 ≤ get_or xs k 0 → Carries base k (set xs k 0) wanted
 carried_on base k xs wanted some lt h high =
     let n = h.number in

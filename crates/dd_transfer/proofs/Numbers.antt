@@ -76,7 +76,7 @@ number_below base (d ∷ ds) ok =
 pub are_digits : (base : ℕ) → AreDigits base
 are_digits base = record { each = digits_length base; below = digits_below base; digits_of = digits_of base; number_is = number_is base; joined = joined base }
 
--- lists of the values of a function at the first numbers
+-- the list of a function's values at the first n numbers
 abbrev pub listed : (ℕ → ℕ) → ℕ → List ℕ
 listed f n = map f (range_with_len 0 n)
 

@@ -1,4 +1,4 @@
--- The cells of a slice by their places, and reading modulo the strip's periods.
+-- The cells of a slice and their places, and coordinates modulo the strip's periods.
 use Rattle.std.proofs.Common.{◌≡◌, ℕ, zero, suc, ◌+◌, ◌*◌, ◌/◌, ◌%◌, ◌<◌, ◌≤◌, Bool, true, false, List, [], ◌∷◌, length, ℤ, pos, ◌+ℤ◌, unsigned_abs, refl, ap, sym, ◌∙◌, subst, arith, inl, inr}
 use Rattle.std.proofs.lemmas.{Int.ints, Bool.and_from, Bool.cases_lt, Bool.lt-ltb}
 use Rattle.std.proofs.lemmas.Nat.{mul-add-lt, mod-mul-add, div-mul-add, div-add-mod', mod_below, div_below}
@@ -33,7 +33,7 @@ parts_of s i sized h =
       node = mod_below i s.nodes sized.nodes_some;
     }
 
--- the cell at the place of a cell c is c, taken modulo the strip's periods
+-- the cell at the place of a cell c is c itself, taken modulo the strip's periods
 pub cell_at_index : (s : Strip) (x : ℤ) (c : Cell) → IsSized s → c.node < s.nodes →
     cell_at s x (slice_index_of s c) ≡ cell (place x (pos (residue c.position.y s.y)) (pos (residue c.position.z s.z))) c.node
 cell_at_index s x c sized h =

@@ -35,7 +35,7 @@ one_power : (w : ℕ) → 1 ^ w ≡ 1
 one_power zero = refl
 one_power (suc w) = pow-suc 1 w ∙ (ap (λ (n : ℕ). n * 1) (one_power w) ∙ refl)
 
--- 131,072 windows allow a slice of at most 8 cells, if there are two symbols
+-- if there are at least two symbols and at most 131,072 windows, a slice has at most 8 cells
 few_cells : (b c w : ℕ) → 2 ≤ b → 1 ≤ w → (b ^ c) ^ (w + 1) ≤ 131072 → c ≤ 8
 few_cells b c w two h small = elim (cases_lt 8 c) [
   | inr le ↦ le
@@ -123,7 +123,7 @@ edge_from r s n m windows weights n_is m_is are u t v e =
 pub some_states : (r : LocalRule) (s : Strip) (n : ℕ) → IsRule r → n ≡ states r (positions s) → 0 < n
 some_states r s n rule is = omega (arith, is, power_some (slices r (positions s)) (state_length r) (power_some r.symbols (r.nodes * positions s) rule.symbols.0))
 
--- the parts make the graph of the rule
+-- these parts make the transfer graph of the rule
 pub graph_is : (r : LocalRule) (s : Strip) (ws : List ℕ) (n count : ℕ) (windows : List Bool) (weights : List ℕ) → IsRule r → IsFor r s → HasWeights r ws →
     n ≡ states r (positions s) → count ≡ longer_states r (positions s) → n ≤ 4096 → count ≤ 131072 → AreWindows r s count windows →
     length weights ≡ count / n → ((t : ℕ) → t < count / n → get_or weights t 0 ≡ slice_weight r s ws t) → IsGraphOf r s ws (transfer n (count / n) windows weights)

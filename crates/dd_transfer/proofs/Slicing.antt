@@ -1,4 +1,4 @@
--- The symbols of the slices of a look, in a list and as a number.
+-- The symbols of the slices of a look, as a list and as a number.
 use Rattle.std.proofs.Common.{◌≡◌, ℕ, zero, suc, ◌+◌, ◌*◌, ◌/◌, ◌%◌, ◌^◌, ◌<◌, List, ◌++◌, length, ℤ, pos, ◌+ℤ◌, ◌≤ℤ◌, Option, Some, None, refl, ap, sym, ◌∙◌, subst, arith}
 use Rattle.std.proofs.lemmas.{Int.ints, Nat.mod_below, Nat.div_below, Nat.pow-add}
 use Rattle.std.proofs.Math.Nat.{pow-suc, pow-zero, mul-add-mod_self_right, add-mul-div_right}
@@ -30,7 +30,7 @@ given_from r (Some d) h = record { symbol = d; is = refl; below = h }
 pub given : (r : LocalRule) (look : Look) (x : ℤ) (n : ℕ) (c : Cell) → HasSlices r look x n → IsInSlices x n c → c.node < r.nodes → Given r (look c)
 given r look x n c has inside node = given_from r (look c) (has c inside node)
 
--- the cell at a place of the slices lies in them
+-- the cell at a place of these slices lies in one of them
 pub place_in : (s : Strip) (x : ℤ) (n k : ℕ) → IsSized s → k < n * cells s → IsInSlices x n (cell_from s x k)
 place_in s x n k sized lt =
     let below : k / cells s < n = div_below k (cells s) n (some_cells s sized) lt in
@@ -62,7 +62,7 @@ module _ (r : LocalRule) (s : Strip) (look : Look) (for : IsFor r s) where
   pub length-symbols : (x : ℤ) (n : ℕ) → length (symbols_from s look x n) ≡ n * cells s
   length-symbols x n = length-listed (symbol_from s look x) (n * cells s)
 
-  -- m times the number of cells of a slice further in the list is m further along x
+  -- moving on in the list by m times the number of cells in a slice is moving m further along x
   further : (x : ℤ) (m k : ℕ) → cell_from s x (m * cells s + k) ≡ cell_from s (x +ℤ pos m) k
   further x m k =
       let c = cells s in
@@ -116,7 +116,7 @@ module _ (r : LocalRule) (s : Strip) (look : Look) (for : IsFor r s) where
       let power : r.symbols ^ length (symbols_from s look x n) ≡ slices r (positions s) ^ n = ap (λ (k : ℕ). r.symbols ^ k) (length-symbols x n) ∙ sym (slices_powers n) in
       omega (arith, below, power)
 
-  -- the digits of the number of a row of slices are the symbols
+  -- the digits of the number of a row of slices are the symbols of these slices
   pub digits_from : (x : ℤ) (n : ℕ) → HasSlices r look x n → digits r.symbols (n * cells s) (slices_from r s look x n) ≡ symbols_from s look x n
   digits_from x n has =
       ap (λ (k : ℕ). digits r.symbols k (slices_from r s look x n)) (sym (length-symbols x n)) ∙ digits_of r.symbols (symbols_from s look x n) (symbols_below x n has)

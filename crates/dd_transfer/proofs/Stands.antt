@@ -26,7 +26,7 @@ greatest_high from (c ∷ cs) = along _ _ _ (max_left from c.position.x) (greate
 abbrev pub between : ℤ → ℤ → Cell → Bool
 between lo hi c = int_le lo c.position.x && int_le c.position.x hi
 
--- each cell lies between the least and the greatest x
+-- the x of each cell lies between the least and the greatest x
 all_between : (from from' : ℤ) (lo hi : ℤ) (cs : List Cell) → lo ≤ℤ least_x from cs → greatest_x from' cs ≤ℤ hi → list_all (between lo hi) cs ≡ true
 all_between from from' lo hi [] p q = refl
 all_between from from' lo hi (c ∷ cs) p q =
@@ -34,7 +34,7 @@ all_between from from' lo hi (c ∷ cs) p q =
     let high : c.position.x ≤ℤ hi = along _ _ _ (along _ _ _ (max_right from' c.position.x) (greatest_high (int_max from' c.position.x) cs)) q in
     and_from _ _ (and_from _ _ (le_from _ _ low) (le_from _ _ high)) (all_between (int_min from c.position.x) (int_max from' c.position.x) lo hi cs p q)
 
--- what holds of all lists joined holds of each
+-- what holds for each cell of the joined lists holds for each cell of each list
 part : (p : Cell → Bool) (f : ℕ → List Cell) (k n a : ℕ) → k ≤ a → a < k + n → list_all p (flat_map f (range_with_len k n)) ≡ true → list_all p (f a) ≡ true
 part p f k zero a le lt h = absurd (omega arith)
 part p f k (suc n) a le lt h =
@@ -68,7 +68,7 @@ all_near r rule = parts is_near (cells_at r) 0 r.nodes (λ a lt. list_all-in_ord
 pub least_bounds : (r : LocalRule) → IsRule r → (negsuc 15 ≤ℤ least_x (pos 0) (all_cells r)) × (least_x (pos 0) (all_cells r) ≤ℤ pos 0)
 least_bounds r rule = (least_near (pos 0) (all_cells r) (all_near r rule) (omega (arith, ints)), least_low (pos 0) (all_cells r))
 
--- what a rule reads at a node lies between the least and the greatest x
+-- the x of each cell that a rule reads at a node lies between the least and the greatest x
 pub reads_between : (r : LocalRule) (a : ℕ) → a < r.nodes → list_all (between (least_x (pos 0) (all_cells r)) (greatest_x (pos 0) (all_cells r))) (reads_at r a) ≡ true
 reads_between r a lt =
     let lo = least_x (pos 0) (all_cells r) in
@@ -76,7 +76,7 @@ reads_between r a lt =
     sym (list_all-in_order (between lo hi) (reads_at r a))
     ∙ part (between lo hi) (cells_at r) 0 r.nodes a (omega arith) (omega arith) (all_between (pos 0) (pos 0) lo hi (all_cells r) (omega (arith, ints)) (omega (arith, ints)))
 
--- a cell between the two, seen from the tested slice, lies in the window
+-- a cell whose x lies between the two, taken relative to the tested slice, lies in the window
 pub within_window : (r : LocalRule) (x : ℤ) → between (least_x (pos 0) (all_cells r)) (greatest_x (pos 0) (all_cells r)) (record { position = record { x = x; y = pos 0; z = pos 0 }; node = 0 }) ≡ true →
     (pos 0 ≤ℤ (x +ℤ stand r)) × (unsigned_abs (x +ℤ stand r) < state_length r + 1)
 within_window r x h =

@@ -1,4 +1,4 @@
--- A rule in a window: it is true at all cells with an x if it is true at the cells of the slice at this x.
+-- A rule in a window: if it is true at the cells of the slice at x, it is true at every cell with this x.
 use Rattle.std.proofs.Common.{◌≡◌, ℕ, ◌+◌, ◌*◌, ◌<◌, true, ℤ, pos, ◌+ℤ◌, unsigned_abs, None, refl, ap, sym, ◌∙◌, subst, arith}
 use Rattle.std.proofs.lemmas.Bool.{cond_both}
 use Rattle.std.specs.Prelude.{nat_lt, int_le, slice_get, IfSome, cond, ◌&&◌}

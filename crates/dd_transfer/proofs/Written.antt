@@ -7,7 +7,7 @@ use Rattle.dd_strip.specs.{declared.strip.Strip.Strip, Strips.IsFor}
 use Rattle.dd_transfer.specs.Windows.{Shown, shown, shown_look, IsFullWindow, IsKept, IsWindow, AreWindows, window_cells, digits}
 use Rattle.dd_transfer.proofs.Digits.{digits_length, digits_below}
 
--- the window with a number, written over another window
+-- writing the digits of a number over a window gives the window with this number
 pub written : (r : LocalRule) (s : Strip) (w v : Shown) (b n : ℕ) → w.strip ≡ s → length w.symbols ≡ window_cells r s → b ≡ r.symbols →
     v ≡ shown w.strip (digits b (length w.symbols) n) → v ≡ shown s (digits r.symbols (window_cells r s) n)
 written r s w v b n strip len base is =
@@ -43,7 +43,7 @@ pub kept_more : (r : LocalRule) (s : Strip) (v : Shown) (n : ℕ) (ws : List Boo
     (IsTrue b ↔ IsKept r (shown_look v)) → AreWindows r s (n + 1) (ws ++ b ∷ [])
 kept_more r s v n ws b so_far is here = windows_more r s n ws b so_far (subst (λ (w : Shown). IsTrue b ↔ IsKept r (shown_look w)) is here)
 
--- the window with the next number
+-- advancing a window gives the window with the next number
 pub advanced : (r : LocalRule) (s : Strip) (w v : Shown) (b n : ℕ) → b ≡ r.symbols → w ≡ shown s (digits r.symbols (window_cells r s) n) →
     ((m : ℕ) → w.symbols ≡ digits b (length w.symbols) m → v ≡ shown w.strip (digits b (length w.symbols) (m + 1))) → v ≡ shown s (digits r.symbols (window_cells r s) (n + 1))
 advanced r s w v b n base is next =

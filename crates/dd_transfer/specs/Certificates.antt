@@ -1,5 +1,5 @@
--- What certifies the least density of a strip: a closed walk of its transfer graph, and potentials. If the graph has no
--- infinite walk, ranks certify this.
+-- What certifies the least density of a strip: a closed walk of the transfer graph, and a potential for each state. The potentials show that no
+-- closed walk has a smaller mean. If the graph has no infinite walk, a rank for each state certifies this.
 use Rattle.std.specs.Prelude.{◌≡◌, ℕ, ◌+◌, ◌*◌, ◌%◌, ◌<◌, ℤ, pos, ◌-ℤ◌, ◌≤ℤ◌, List, [], ◌∷◌, length, slice_index, slice_index_or}
 use Rattle.std.specs.Int.{IsGcd}
 use Rattle.dd_formula.specs.LocalRule.{LocalRule}
@@ -12,16 +12,16 @@ abbrev pub IsWalk : LocalRule → Strip → ℕ → List ℕ → ℕ → Type 0
 IsWalk r s u [] v = u ≡ v
 IsWalk r s u (w ∷ ws) v = ((t : ℕ) × IsEdge r s u t w) × IsWalk r s w ws v
 
--- a state's last slice; each edge to the state is by this slice
+-- the number of a state's last slice; each edge to the state is by this slice
 abbrev pub last_slice : LocalRule → Strip → ℕ → ℕ
 last_slice r s w = w % slices r (positions s)
 
--- the weight of the edges to these states
+-- the weight of a walk through these states: the total weight of the edges that lead to them
 abbrev pub walk_weight : LocalRule → Strip → List ℕ → List ℕ → ℕ
 walk_weight r s weights [] = 0
 walk_weight r s weights (w ∷ ws) = slice_weight r s weights (last_slice r s w) + walk_weight r s weights ws
 
--- there is a state, each has an edge to the next, and the last one has an edge to the first
+-- a closed walk: it has at least one state, each state has an edge to the next, and the last has an edge to the first
 pub record IsClosedWalk (r : LocalRule) (s : Strip) (walk : List ℕ) : Type 0 where
   pub last : ℕ
   pub closed : IsWalk r s last walk last
@@ -37,13 +37,13 @@ pub record IsInLowestTerms (n d a b : ℕ) : Type 0 where
 abbrev pub potential_of : List ℤ → ℕ → ℤ
 potential_of ps u = slice_index_or ps u (pos 0)
 
--- a potential for each state; along an edge of weight w it rises by at most l * w - m
+-- there is a potential for each state; along each edge of weight w the potential rises by at most l * w - m
 pub record AreStripPotentials (r : LocalRule) (s : Strip) (weights : List ℕ) (m l : ℕ) (ps : List ℤ) : Type 0 where
   pub each : length ps ≡ states r (positions s)
   pub rise : (u t v : ℕ) → IsEdge r s u t v → (potential_of ps v -ℤ potential_of ps u) ≤ℤ (pos (l * slice_weight r s weights t) -ℤ pos m)
 
--- A closed walk whose weight over its length is m / l in lowest terms, and potentials for m / l. The density p / q, in lowest
--- terms, is m / l over the number of positions of a slice.
+-- A certificate for the density p / q: a closed walk whose weight divided by its length is m / l in lowest terms, and potentials for m / l. The
+-- density p / q, in lowest terms, is m / l divided by the number of positions in a slice.
 pub record IsDensityCertificate (r : LocalRule) (s : Strip) (weights : List ℕ) (p q : ℕ) (walk : List ℕ) (ps : List ℤ) : Type 0 where
   pub m : ℕ
   pub l : ℕ
@@ -52,7 +52,7 @@ pub record IsDensityCertificate (r : LocalRule) (s : Strip) (weights : List ℕ)
   pub density : IsInLowestTerms p q m (l * positions s)
   pub potentials : AreStripPotentials r s weights m l ps
 
--- a rank for each state, which falls along each edge
+-- there is a rank for each state, and the rank falls along each edge
 pub record IsEmptyCertificate (r : LocalRule) (s : Strip) (ranks : List ℕ) : Type 0 where
   pub each : length ranks ≡ states r (positions s)
   pub fall : (u t v : ℕ) → IsEdge r s u t v → slice_index ranks v < slice_index ranks u

@@ -1,16 +1,16 @@
--- Transfer graphs. A slice is the symbols of all cells at one x, and a state is a row of slices. The edge by a slice leads
--- from a state to the state without its first slice and with this slice at the end.
+-- Transfer graphs. A slice gives a symbol to each cell with one value of x, and a state consists of consecutive slices. An edge by a slice leads from
+-- a state to the state without its first slice and with this slice appended.
 use Rattle.std.specs.Prelude.{◌≡◌, ℕ, ◌+◌, ◌*◌, ◌%◌, ◌<◌, ◌≤◌, ◌^◌, Bool, false, ◌&&◌, cond, nat_lt, List, length, slice_index, slice_index_or, Option, Some, None}
 use Rattle.dd_counts.specs.Rules.{most_states, most_longer_states}
 
--- Slices are numbered, and so are rows of slices. The first slice of a row is the most significant digit. A window is a
--- state with one slice more.
+-- Slices are numbered. Rows of slices are numbered too: the digits are the slices, and the first slice is the most significant digit. A window is a
+-- state followed by one more slice.
 pub record Transfer : Type 0 where
   pub states : ℕ
   pub slices : ℕ
   -- for each window, by its number, whether it is an edge
   pub windows : List Bool
-  -- what each slice weighs
+  -- for each slice, by its number, its weight
   pub weights : List ℕ
 
 -- the graph with these parts
@@ -41,7 +41,7 @@ pub record IsTransfer (g : Transfer) : Type 0 where
   pub some_slice : 0 < g.slices
   pub few : g.states ≤ most_states
   pub small : g.states * g.slices ≤ most_longer_states
-  -- so a state's last slice is its number modulo the number of slices
+  -- so the number of a state's last slice is the state's number modulo the number of slices
   pub divides : g.states % g.slices ≡ 0
   -- so a walk that passes each state at most once weighs at most 2^25
   pub light : (t : ℕ) → t < g.slices → g.states * weight_at g t ≤ 2 ^ 25

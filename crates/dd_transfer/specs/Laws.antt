@@ -19,16 +19,16 @@ pub record AreDigits (base : ℕ) : Type 0 where
 
 -- how the slices of a look that repeats across the strip relate to the transfer graph
 pub record AreEdgesOf (r : LocalRule) (s : Strip) (look : Look) : Type 0 where
-  -- m + n slices from x on are the first m and then the other n. The last digit of the number of n + 1 slices is the last slice
+  -- the m + n slices from x on are the first m and then the other n. The last digit of the number of n + 1 slices is the last slice
   pub joined : (x : ℤ) (m n : ℕ) → symbols_from s look x (m + n) ≡ symbols_from s look x m ++ symbols_from s look (x +ℤ pos m) n
   pub longer : (x : ℤ) (n : ℕ) → slices_from r s look x (n + 1) ≡ slices_from r s look x n * slices r (positions s) + slices_from r s look (x +ℤ pos n) 1
-  -- the weight of a slice is that of its symbols
+  -- the weight of a slice is the total weight of its symbols
   pub weight : (ws : List ℕ) (x : ℤ) → HasSlices r look x 1 → slice_weight r s ws (slices_from r s look x 1) ≡ total_weight ws (symbols_from s look x 1)
-  -- the window from x on has all that the rule reads at the cells of the tested slice
+  -- if all cells of the window that begins at x have symbols, so do the cells of the tested slice and all cells that the rule reads there
   pub reads : (x : ℤ) (v : Place) (a : ℕ) → HasSlices r look x (state_length r + 1) → v.x ≡ x +ℤ stand r → a < r.nodes →
       (is_some (look (cell v a)) && list_all (λ d. is_some (look (shifted v d))) (reads_at r a)) ≡ true
-  -- the rule keeps the window with this number exactly if it keeps the look there
+  -- the rule keeps the window with the number of the slices at x exactly if it keeps the look's window that begins at x
   pub windows : (x : ℤ) → HasSlices r look x (state_length r + 1) → IsWindow r s (window_from r s look x) ↔ IsKeptFrom r look x
-  -- then an edge by the window's last slice leads from the state at x to the state at x + 1
+  -- if the rule keeps this window, an edge by the window's last slice leads from the state at x to the state at x + 1
   pub edges : (x : ℤ) → HasSlices r look x (state_length r + 1) → IsKeptFrom r look x →
       IsEdge r s (state_from r s look x) (slices_from r s look (x +ℤ pos (state_length r)) 1) (state_from r s look (x +ℤ pos 1))

@@ -1,14 +1,14 @@
 -- states, slices and edges of a transfer graph
 pub mod Graphs
--- windows of a strip, and which of them the rule keeps
+-- windows of a strip, and which of them the rule keeps as edges of the graph
 pub mod Windows
 -- the transfer graph of a rule over a strip
 pub mod Transfers
 -- what certifies the least density of a strip
 pub mod Certificates
--- the slices of a look, and the states and windows that they make
+-- the slices of a look, which gives each cell a symbol or none, and the states and windows that these slices make
 pub mod Slices
 -- how the slices of a look relate to the transfer graph
 pub mod Laws
--- the rule at the cells of the tested slice, as formulas over a window's symbols
+-- formulas over a window's symbols that say whether the rule is true at the cells of the window's tested slice
 pub mod placing

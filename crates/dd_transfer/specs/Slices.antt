@@ -1,5 +1,5 @@
--- The slices of a look: the symbols of its cells at one x after another. The other coordinates are read modulo the strip's
--- periods. Rows of these slices are states and windows.
+-- The slices of a look. The slice at x consists of the symbols of the cells with this x; the other coordinates are read modulo the strip's periods.
+-- Consecutive slices make states and windows.
 use Rattle.std.specs.Prelude.{◌≡◌, ℕ, ◌+◌, ◌*◌, ◌/◌, ◌%◌, ◌<◌, true, ℤ, pos, ◌+ℤ◌, ◌≤ℤ◌, ◌<ℤ◌, List, map, unwrap_or, IfSome, IsSomeAnd}
 use Rattle.std.specs.List.{fold, range_with_len}
 use Rattle.dd_lattice.specs.{Place.Place, Place.place, Cells.cell, declared.position.Cell.Cell}
@@ -13,7 +13,7 @@ use Rattle.dd_transfer.specs.Windows.{cell_at, stand, IsTrueAlong}
 abbrev pub across : Strip → Place → Place
 across s v = place v.x (pos (residue v.y s.y)) (pos (residue v.z s.z))
 
--- cells that are the same modulo the strip's periods have the same symbol
+-- the look repeats across the strip: cells that are the same modulo the strip's periods have the same symbol, or none
 abbrev pub RepeatsAcross : Strip → Look → Type 0
 RepeatsAcross s look = (c : Cell) → look c ≡ look (cell (across s c.position) c.node)
 
@@ -26,11 +26,11 @@ pub record IsInSlices (x : ℤ) (n : ℕ) (c : Cell) : Type 0 where
 abbrev pub HasSlices : LocalRule → Look → ℤ → ℕ → Type 0
 HasSlices r look x n = (c : Cell) → IsInSlices x n c → c.node < r.nodes → IsSomeAnd (look c) (λ d. d < r.symbols)
 
--- the cell at the place k of the slices from x on: slice by slice, and in a slice in cell order
+-- the cell at the place k of the slices from x on; places are counted slice by slice, and within a slice in cell order
 abbrev pub cell_from : Strip → ℤ → ℕ → Cell
 cell_from s x k = cell_at s (x +ℤ pos (k / cells s)) (k % cells s)
 
--- the symbols of the n slices from x on, in this order
+-- the symbols of the n slices from x on, in the order of these places
 abbrev pub symbols_from : Strip → Look → ℤ → ℕ → List ℕ
 symbols_from s look x n = map (λ k. unwrap_or (look (cell_from s x k)) 0) (range_with_len 0 (n * cells s))
 
@@ -42,11 +42,11 @@ number_with_digits base ds = fold (λ n d. n * base + d) 0 ds
 abbrev pub slices_from : LocalRule → Strip → Look → ℤ → ℕ → ℕ
 slices_from r s look x n = number_with_digits r.symbols (symbols_from s look x n)
 
--- the state that begins at x
+-- the number of the state that begins at x
 abbrev pub state_from : LocalRule → Strip → Look → ℤ → ℕ
 state_from r s look x = slices_from r s look x (state_length r)
 
--- the window that begins at x
+-- the number of the window that begins at x
 abbrev pub window_from : LocalRule → Strip → Look → ℤ → ℕ
 window_from r s look x = slices_from r s look x (state_length r + 1)
 

@@ -8,8 +8,8 @@ use Rattle.dd_transfer.specs.declared.fault.TransferFault.TheVariants.{Size, Mem
 use Rattle.dd_transfer.specs.{Graphs.Transfer, Graphs.IsTransfer, Graphs.next_of, Graphs.weight_at, Windows.digits, Windows.IsWindow}
 use Rattle.dd_strip.specs.{declared.strip.Strip.Strip, Strips.positions, Strips.cells, Strips.IsTooLarge, Strips.IsFew}
 
--- an edge leads from the state u by the slice t to the state v: the rule keeps the window of u followed by t, and v is this
--- window without its first slice
+-- an edge leads from the state u by the slice t to the state v: the rule keeps the window that consists of u followed by t, and v is this window
+-- without its first slice
 pub record IsEdge (r : LocalRule) (s : Strip) (u t v : ℕ) : Type 0 where
   pub state : u < states r (positions s)
   pub slice : t < slices r (positions s)
@@ -20,7 +20,7 @@ pub record IsEdge (r : LocalRule) (s : Strip) (u t v : ℕ) : Type 0 where
 abbrev pub slice_weight : LocalRule → Strip → List ℕ → ℕ → ℕ
 slice_weight r s weights t = total_weight weights (digits r.symbols (cells s) t)
 
--- the graph has all states and slices, exactly these edges, and these weights
+-- the graph is the rule's transfer graph over the strip: it has all states and slices, exactly the edges of IsEdge, and the slices' weights
 pub record IsGraphOf (r : LocalRule) (s : Strip) (weights : List ℕ) (g : Transfer) : Type 0 where
   pub states_are : g.states ≡ states r (positions s)
   pub slices_are : g.slices ≡ slices r (positions s)
@@ -29,7 +29,7 @@ pub record IsGraphOf (r : LocalRule) (s : Strip) (weights : List ℕ) (g : Trans
   pub few : IsFew r s
   pub kept : IsTransfer g
 
--- what a fault says: `Size`, that the strip is too large; `Memory`, that it is not
+-- what a fault says: `Size` says that the strip is too large, and `Memory` that it isn't
 abbrev pub IsTransferFault : LocalRule → Strip → TransferFault → Type 0
 IsTransferFault r s Size = IsTooLarge r s
 IsTransferFault r s Memory = IsFew r s

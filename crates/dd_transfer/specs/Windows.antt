@@ -1,4 +1,4 @@
--- Windows of a strip: slices at x = 0, 1 and so on. The other coordinates are read modulo the strip's periods.
+-- Windows of a strip: the slices at x = 0, 1 and so on. The other coordinates are read modulo the strip's periods.
 use Rattle.std.specs.Prelude.{◌≡◌, ℕ, zero, suc, ◌+◌, ◌*◌, ◌/◌, ◌%◌, ◌<◌, ◌≤◌, ◌&&◌, cond, nat_lt, int_le, true, List, [], ◌∷◌, ◌++◌, Option, None, slice_get, slice_index_or, length, false, Bool, ◌↔◌, pos, ℤ, ◌-ℤ◌, unsigned_abs}
 use Rattle.std.specs.List.{All}
 use Rattle.dd_lattice.specs.{Place.Place, Place.place, Cells.cell, declared.position.Cell.Cell}
@@ -21,7 +21,7 @@ slice_index_of s c = (residue c.position.z s.z * s.y + residue c.position.y s.y)
 abbrev pub window_index : Strip → Cell → ℕ
 window_index s c = unsigned_abs c.position.x * cells s + slice_index_of s c
 
--- the look that gives the cells of a window these symbols
+-- the look of a window with these symbols; a look gives each cell a symbol, or none
 abbrev pub window_look : Strip → List ℕ → Look
 window_look s symbols c = cond (int_le (pos 0) c.position.x && nat_lt c.node s.nodes) (slice_get symbols (window_index s c)) None
 
@@ -37,7 +37,7 @@ shown strip symbols = record { strip = strip; symbols = symbols }
 abbrev pub shown_look : Shown → Look
 shown_look w = window_look w.strip w.symbols
 
--- the number of cells of a window, which has one slice more than a state
+-- the number of cells in a window, which has one more slice than a state
 abbrev pub window_cells : LocalRule → Strip → ℕ
 window_cells r s = (state_length r + 1) * cells s
 
@@ -49,7 +49,7 @@ numbered_window r s number = window_look s (digits r.symbols (window_cells r s) 
 abbrev pub IsTrueAlong : LocalRule → ℤ → Look → Type 0
 IsTrueAlong r x look = (v : Place) (a : ℕ) → v.x ≡ x → is_flat r.dimension v ≡ true → a < r.nodes → is_true r (cell v a) look ≡ true
 
--- the x of the tested slice of a window: the least x from 0 on such that the rule, at cells with this x, reads no cell to the
+-- the x coordinate of a window's tested slice: the least x of at least 0 such that the rule, evaluated at cells with this x, reads no cell to the
 -- left of the window
 abbrev pub stand : LocalRule → ℤ
 stand r = pos 0 -ℤ least_x (pos 0) (all_cells r)

@@ -23,8 +23,8 @@ use std::alloc::{AllocError, Global};
 /// `weights[s]`.
 ///
 /// # Errors
-/// `Size` if there are more than 4,096 states or more than 131,072 windows. A window is a state with one slice more. Else
-/// `Memory`, if memory runs out.
+/// `Size` if the graph would have more than 4,096 states or more than 131,072 windows. A window is a state followed by one
+/// more slice. Otherwise `Memory`, if memory runs out.
 pub fn graph(
     alloc: Global,
     rule: &Rule,
@@ -52,7 +52,7 @@ pub fn graph(
     Ok(graph_of(alloc, rule, strip, weights, states, count)?)
 }
 
-/// The transfer graph. `most` is the number of its states, and `count` the number of its windows.
+/// The transfer graph of the rule over the strip. `most` is the number of its states, and `count` the number of its windows.
 fn graph_of(
     alloc: Global,
     rule: &Rule,
@@ -76,7 +76,8 @@ fn graph_of(
     Ok(Graph::new(most, slices, windows, weights))
 }
 
-/// For each window, by its number, whether the rule keeps it.
+/// For each window, in the order of the windows' numbers, whether the rule keeps it. The windows that it keeps are the
+/// edges.
 fn kept_windows(
     alloc: Global,
     rule: &Rule,
@@ -110,7 +111,7 @@ fn first_window(alloc: Global, rule: &Rule, strip: Strip) -> Result<Window, Allo
     Ok(window)
 }
 
-/// The weight of each slice, by its number.
+/// The weights of the slices, in the order of the slices' numbers.
 fn slice_weights(
     alloc: Global,
     rule: &Rule,
@@ -131,7 +132,7 @@ fn slice_weights(
     Ok(sums)
 }
 
-/// The weight of a slice. Its symbols are written into `symbols`.
+/// The weight of the slice with the number `slice`. The call writes the slice's symbols into `symbols`.
 fn slice_weight(symbols: &mut [u32], rule: &Rule, strip: Strip, weights: &[u32], slice: u32) -> u64
     requires strip { IsFor rule.now strip }
     requires weights { HasWeights rule.now weights.now }

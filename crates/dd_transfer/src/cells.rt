@@ -10,7 +10,7 @@ ghost use Rattle.dd_transfer.specs.placing.Formulas.{window_numbers};
 use dd_lattice::{Cell, Position};
 use dd_strip::Strip;
 
-/// The place of a cell in its slice, in cell order from 0.
+/// The place of a cell in its slice. Places are counted from 0, in cell order: by z, then y, then the node.
 fn slice_place(strip: &Strip, y: i32, z: i32, node: u32) -> u32
     requires sized { IsSized strip.now }
     requires node { node < strip.now.nodes }
@@ -47,7 +47,7 @@ pub(crate) fn number(strip: &Strip, x: i32, y: i32, z: i32, node: u32) -> Option
     Some(window_place(strip, x, y, z, node) as usize)
 }
 
-/// The cell that has this place in the slice at this `x`.
+/// The cell with the place `number` in the slice at `x`.
 pub(crate) fn cell_at(strip: &Strip, x: i32, number: u32) -> Cell
     requires sized { IsSized strip.now }
     requires some { pos 0 ≤ℤ x }
@@ -88,7 +88,7 @@ fn residue(x: i32, n: u32) -> u32
     x.rem_euclid(n as i32) as u32
 }
 
-/// The index of an entry of a table in the list of its entries, row by row. Rows and columns are counted from 0.
+/// The index of a table's entry when the entries are listed row by row. Rows and columns are counted from 0.
 fn entry(row: u32, width: u32, column: u32) -> u32
     requires { row * width + column ≤ 16384 }
     ensures { result ≡ row * width + column }

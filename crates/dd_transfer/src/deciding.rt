@@ -1,4 +1,5 @@
-//! Whether the rule keeps a window. The windows that it keeps are the edges of the transfer graph.
+//! Whether a rule keeps a window: whether the symbols are allowed, and the rule is true at each cell of the window's tested
+//! slice. The windows that it keeps are the edges of the transfer graph.
 ghost use Rattle.std.specs.Prelude.{◌≡◌, ◌<◌, ◌↔◌, IsTrue};
 ghost use Rattle.dd_formula.specs.Allowed.{AreAllowed};
 ghost use Rattle.dd_transfer.specs.Windows.{IsFullWindow, IsKept, shown_look};
@@ -33,7 +34,8 @@ pub(crate) fn allows_all(rule: &Rule) -> bool
     true
 }
 
-/// Whether each symbol of the window is one that its node allows. No symbol is looked at if each node allows all symbols.
+/// Whether each symbol of the window is one that its node allows. If `allows_all` is true, each node allows all symbols, and
+/// the window isn't examined.
 fn are_allowed(rule: &Rule, allows_all: bool, window: &Window) -> bool
     requires window { IsFullWindow rule.now window.now }
     requires all { IsTrue allows_all → AllowsAll rule.now }
@@ -52,7 +54,7 @@ fn are_allowed(rule: &Rule, allows_all: bool, window: &Window) -> bool
     true
 }
 
-/// Whether each symbol of the window is allowed, and the rule is true at each cell of the tested slice. There is one
+/// Whether each symbol of the window is allowed, and the rule is true at each cell of the tested slice. `formulas` has one
 /// formula for each of these cells.
 pub(crate) fn is_kept(rule: &Rule, formulas: &[Numbered], allows_all: bool, window: &Window) -> bool
     requires window { IsFullWindow rule.now window.now }

@@ -7,7 +7,8 @@ use thiserror::Error;
 /// Why the transfer graph of a rule over a strip was not made.
 #[derive(Debug, Drop, Error)]
 pub enum TransferFault {
-    /// The strip has more than 4,096 states, or more than 131,072 windows. A window is a state with one slice more.
+    /// The graph would have more than 4,096 states, or more than 131,072 windows. A window is a state followed by one more
+    /// slice.
     #[error("the strip has more than 4096 states, or more than 131072 windows")]
     Size,
     /// Memory ran out.

@@ -1,12 +1,13 @@
-//! Transfer graphs: which windows are edges, and the weight of each slice. A window is a state with one slice more.
+//! Transfer graphs: which windows are edges, and the weight of each slice. A window is a state followed by one more slice.
 ghost use Rattle.std.specs.Prelude.{◌≡◌, ◌<◌, ◌*◌, length};
 ghost use Rattle.dd_transfer.specs.Graphs.{transfer, IsTransfer, next_of, target, weight_at, window_of};
 
 use std::marker::Model;
 
-/// The transfer graph of a strip. A slice is the symbols of all cells at one x, and a state is a row of slices. Both are
-/// numbered. The digits of a slice's number are its symbols, and those of a state's number are its slices. The first digit
-/// is the most significant. The edge by a slice drops the first slice of a state and appends this slice.
+/// The transfer graph of a rule over a strip. A slice gives a symbol to each cell with one value of x. A state consists of
+/// consecutive slices. Both are numbered: the digits of a slice's number are its symbols, and the digits of a state's number
+/// are its slices. The first digit is the most significant. An edge by a slice leads from a state to the state without its
+/// first slice and with this slice appended.
 #[derive(Debug, Drop)]
 pub struct Graph {
     states: u32,
@@ -26,7 +27,7 @@ impl Model for Graph {
 }
 
 impl Graph {
-    /// The graph with these parts. There is one entry of `windows` for each window and one of `weights` for each slice.
+    /// The graph with these parts. `windows` has one entry for each window, and `weights` has one for each slice.
     pub(crate) fn new(states: u32, slices: u32, windows: Vec<bool>, weights: Vec<u64>) -> Graph
         requires { IsTransfer (transfer states slices windows.items weights.items) }
         ensures { result ≡ transfer states slices windows.items weights.items }
@@ -39,7 +40,7 @@ impl Graph {
         }
     }
 
-    /// The number of states, 1 to 4,096.
+    /// The number of states, from 1 to 4,096.
     pub fn states(&self) -> u32
         ensures value { result ≡ self.now.states }
         ensures kept { IsTransfer self.now }
@@ -47,7 +48,7 @@ impl Graph {
         self.states
     }
 
-    /// The number of different slices, at least 1. Times the number of states, it is at most 131,072.
+    /// The number of different slices, at least 1. Its product with the number of states is at most 131,072.
     pub fn slices(&self) -> u32
         ensures value { result ≡ self.now.slices }
         ensures kept { IsTransfer self.now }

@@ -1,4 +1,4 @@
-//! The rule at each cell of the tested slice, as formulas over the symbols of a window.
+//! Formulas over the symbols of a window. Each says whether the rule is true at one cell of the window's tested slice.
 ghost use Rattle.std.specs.Prelude.{◌≡◌, ◌<◌, IfOk, pos, ◌≤ℤ◌};
 ghost use Rattle.dd_strip.specs.Strips.{IsSized, IsFor};
 ghost use Rattle.dd_transfer.specs.Windows.{stand};
@@ -44,7 +44,7 @@ impl Near {
     }
 }
 
-/// The number of a cell of the node `node` at the sum of two positions. The sum may lie outside the range of positions.
+/// The number of the cell with the node `node` at the sum of two positions. The sum may lie outside the range of positions.
 fn number_at(strip: Strip, position: &Position, by: &Position, node: u32) -> Option<usize>
     requires { IsSized strip }
     ensures { result ≡ window_numbers strip (cell (moved position.now by.now) node) }
@@ -65,7 +65,7 @@ impl Numbers for Near {
     }
 }
 
-/// The rule at a cell, as a formula over the symbols of a window.
+/// A formula over the symbols of a window that says whether the rule is true at the cell.
 fn formula_at(alloc: Global, rule: &Rule, strip: Strip, at: &Cell) -> Result<Numbered, AllocError>
     requires strip { IsSized strip }
     requires node { at.now.node < rule.now.nodes }
@@ -75,7 +75,7 @@ fn formula_at(alloc: Global, rule: &Rule, strip: Strip, at: &Cell) -> Result<Num
     Numbered::new(alloc, rule.expansion(at.node), &near)
 }
 
-/// The rule at each cell of the tested slice, in cell order. `x` is the x of this slice.
+/// The formulas for the cells of the tested slice, in cell order. `x` is the x coordinate of this slice.
 pub(crate) fn formulas(
     alloc: Global,
     rule: &Rule,

@@ -1,4 +1,4 @@
-//! The tested slice of a window. The rule must be true at each of its cells.
+//! The tested slice of a window: the slice at whose cells the rule must be true.
 ghost use Rattle.std.specs.Prelude.{◌≡◌, pos, ◌≤ℤ◌};
 ghost use Rattle.dd_counts.specs.Rules.{least_x};
 ghost use Rattle.dd_formula.specs.LocalRule.{IsRule};
@@ -8,7 +8,7 @@ ghost use Rattle.dd_transfer.specs.Windows.{stand};
 use dd_counts::least_x;
 use dd_formula::Rule;
 
-/// The least of 0 and the x of each cell that the rule reads.
+/// The least of 0 and the x coordinates of the cells that the rule reads, relative to the cell at which it is evaluated.
 fn least_read(rule: &Rule) -> i32
     ensures value { result ≡ least_x (pos 0) (all_cells rule.now) }
     ensures kept { IsRule rule.now }
@@ -20,8 +20,8 @@ fn least_read(rule: &Rule) -> i32
     least
 }
 
-/// The x of the tested slice. It is the least x from 0 on such that the rule, at cells with this x, reads no cell to the left
-/// of the window.
+/// The x coordinate of the tested slice. It is the least x of at least 0 such that the rule, evaluated at cells with this x,
+/// reads no cell to the left of the window.
 pub(crate) fn stand(rule: &Rule) -> i32
     ensures value { result ≡ stand rule.now }
     ensures some { pos 0 ≤ℤ result }

@@ -1,4 +1,4 @@
-//! Windows: the symbols of a row of slices of a strip. The coordinates y and z are read modulo the strip's periods.
+//! Windows: the symbols of consecutive slices of a strip. The coordinates y and z are read modulo the strip's periods.
 ghost use Rattle.std.specs.Prelude.{◌≡◌, ℕ, ◌<◌, ◌+◌, length};
 ghost use Rattle.dd_strip.specs.Strips.{IsSized};
 ghost use Rattle.dd_transfer.specs.Windows.{shown, digits};
@@ -39,8 +39,8 @@ pub(crate) fn write_digits(symbols: &mut [u32], base: u32, number: u32)
     }
 }
 
-/// Replaces the digits of a number by those of the next number. The last digit that isn't the greatest rises by 1, and the
-/// digits after it become 0.
+/// Replaces the digits of a number by those of the next number. The last digit that isn't the greatest possible one rises by
+/// 1, and the digits after it become 0.
 pub(crate) fn advance_digits(symbols: &mut [u32], base: u32)
     requires { 0 < base }
     ensures { (n : ℕ) → symbols.old ≡ digits base (length symbols.old) n → symbols.new ≡ digits base (length symbols.old) (n + 1) }

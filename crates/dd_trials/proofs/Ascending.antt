@@ -1,4 +1,4 @@
--- Cells visited one by one in cell order.
+-- Cells that are wired one by one, in cell order.
 use Rattle.std.proofs.Common.{◌≡◌, ℕ, ◌+◌, ◌<◌, List, [], ◌∷◌, ◌++◌, take, length, get_or, ap, sym, ◌∙◌}
 use Rattle.std.proofs.lemmas.List.{take_more}
 use Rattle.dd_lattice.specs.declared.position.Cell.{Cell}

@@ -1,4 +1,4 @@
--- A question on a box of at most three positions is small.
+-- A question on a box of at most three positions is within the limit on clauses, if each position has few clauses and the goal has few.
 use Rattle.std.proofs.Common.{◌≡◌, ℕ, zero, suc, ap, ◌+◌, ◌*◌, ◌≤◌, arith}
 use Rattle.dd_lattice.specs.Boxes.{centred, volume}
 use Rattle.dd_formula.specs.{LocalRule.LocalRule, Counts.place_clauses}

@@ -1,4 +1,4 @@
-// Values of automata at the origin of a filling, and the image of a configuration.
+// The values of automata at the origin, computed from fillings, and the image of a configuration under an automaton.
 ghost use Rattle.dd_boxes.specs.Goals.{IsGoalFor};
 ghost use Rattle.dd_boxes.specs.Views.{goal_of};
 
@@ -22,7 +22,7 @@ fn image(alloc: Global, script: &Script) -> Result<Periodic, Fail> {
     Ok(apply(alloc, automaton, configuration)?)
 }
 
-/// The filling that gives these symbols to the cells of a line, from the position `first` on.
+/// The filling that gives these symbols to consecutive cells of the line, the first of which is at the position `first`.
 fn line(alloc: Global, first: i32, symbols: &[u32]) -> Result<Filling, Fail> {
     let mut cells = Vec::new(alloc);
     let mut copies = Vec::new(alloc);
@@ -39,7 +39,7 @@ fn line(alloc: Global, first: i32, symbols: &[u32]) -> Result<Filling, Fail> {
     Ok(Filling::new(cells, copies))
 }
 
-/// The value at the origin of the first of the two automata in the goal.
+/// The value at the origin of the goal's first automaton. The goal must compare two automata.
 fn first_of(
     alloc: Global,
     premise: &Rule,
@@ -57,7 +57,7 @@ fn first_of(
     }
 }
 
-/// The value at the origin of the first automaton in the script's first box question.
+/// The value at the origin of the first automaton in the goal of the script's first box question.
 fn first_value(alloc: Global, script: &Script, filling: &Filling) -> Result<Option<u32>, Fail> {
     for query in script.queries() {
         let pairs = script.pairs(alloc, query)?;
@@ -69,11 +69,11 @@ fn first_value(alloc: Global, script: &Script, filling: &Filling) -> Result<Opti
     Err("a box question".into())
 }
 
-// The exclusive or of the two neighbours; the query applies it twice.
+// The automaton `r` gives each cell the exclusive or of its two neighbours. The query compares `r` applied twice with `r`.
 const SCRIPT: &str =
     "%dim 1 %rule full o@o %auto r when o.lt!=o.rt give 1 else 0 %compose rr r r %conf c [4] 0 1 0 0 %same rr r full";
 
-// The position of the first cell, the symbols from there on, and the value at the origin of the automaton applied twice.
+// The position of the first cell, the symbols from there on, and the value at the origin of `r` applied twice.
 const VALUES: [(i32, &[u32], Option<u32>); 3] = [
     (-2, &[0, 0, 0, 0, 1], Some(1)),
     (-2, &[1, 0, 0, 0, 1], Some(0)),
@@ -81,7 +81,7 @@ const VALUES: [(i32, &[u32], Option<u32>); 3] = [
     (-1, &[0, 0, 0, 1], None),
 ];
 
-/// Asserts the values of the automaton applied twice, and the image of the configuration.
+/// Asserts the values of `r` applied twice, and the image of the script's configuration under `r`.
 fn assert_values(rt: &impl Abort, alloc: Global, script: &Script) -> Result<(), Fail> {
     for (first, symbols, wanted) in &VALUES {
         let filling = line(alloc, *first, symbols)?;

@@ -1,4 +1,5 @@
-// Boxes of at most three cells: the assignments that satisfy the clauses are the admissible fillings with the goal.
+// Boxes of at most three cells. The assignments that satisfy the clauses of a box question are exactly the admissible fillings
+// that have the goal at the origin, each once.
 ghost use Rattle.std.specs.Prelude.{◌<◌, ◌≤◌, IfSome};
 ghost use Rattle.std.specs.List.{All};
 ghost use Rattle.dd_formula.specs.Automata.{IsAutomaton};
@@ -17,7 +18,7 @@ use dd_script::{Question, Script};
 use std::alloc::{AllocError, Global};
 use std::test::Fail;
 
-/// The assignment of the variables whose values are the binary digits of a number.
+/// The assignment whose values are the binary digits of a number, the least significant one first.
 fn assignment(alloc: Global, variables: u32, number: u32) -> Result<Assignment, AllocError> {
     let mut values = Vec::new(alloc);
     for digit in &digits(alloc, variables as usize, 2, number)? {
@@ -37,7 +38,7 @@ fn symbol(is_zero: bool, is_one: bool) -> Option<usize>
     }
 }
 
-/// The number of the filling that the first values give to `cells` cells, if exactly one input of each cell is true.
+/// The number of the filling of `cells` cells that the first values give; `None` unless exactly one input of each cell is true.
 fn filling_number(values: &[bool], cells: usize) -> Option<usize> {
     let mut number = 0usize;
     let mut weight = 1usize;
@@ -55,7 +56,7 @@ fn filling_number(values: &[bool], cells: usize) -> Option<usize> {
     Some(number)
 }
 
-/// For each filling of the cells, by number: how many assignments satisfy the clauses and give the cells this filling.
+/// For each filling of the cells, by number: how many assignments satisfy the clauses and give the cells these symbols.
 fn satisfying(alloc: Global, cnf: &Cnf, cells: usize) -> Result<[u32; 8], Fail> {
     if cnf.variables() > 16 {
         return Err("few variables".into());
@@ -74,7 +75,7 @@ fn satisfying(alloc: Global, cnf: &Cnf, cells: usize) -> Result<[u32; 8], Fail> 
     Ok(found)
 }
 
-/// Whether the rule is true at each of the cells for which all that it reads is given.
+/// Whether the filling is admissible: the rule is true at each of these cells at which all that it reads is given.
 fn is_admissible(rule: &Rule, filling: &Filling, cells: &[Cell]) -> Result<bool, Fail>
     requires { All (λ s. s < rule.now.symbols) filling.now.symbols }
 {
@@ -98,7 +99,7 @@ fn is_broken(rule: &Rule, filling: &Filling) -> Result<bool, Fail>
     Ok(false)
 }
 
-/// The symbol that the automaton gives a node of the origin; `None` if something that it reads isn't given.
+/// The symbol that the automaton gives to a node of the origin; `None` if the filling lacks a cell that it reads.
 pub(crate) fn value(
     alloc: Global,
     premise: &Rule,
@@ -151,7 +152,7 @@ fn has_goal(alloc: Global, premise: &Rule, goal: &Goal, filling: &Filling) -> Re
     }
 }
 
-/// The cells of the box of a radius, in cell order.
+/// The cells of the box of this radius around the origin, in cell order.
 fn box_cells(alloc: Global, rule: &Rule, radius: u32) -> Result<Vec<Cell>, Fail> {
     let dim = rule.dim();
     if dim == 0 || dim > 3 {
@@ -191,7 +192,7 @@ fn admissible(alloc: Global, rule: &Rule, goal: &Goal, cells: &[Cell]) -> Result
     Ok(wanted)
 }
 
-/// For each filling of the box: the number of assignments that satisfy the clauses, and the number that there should be.
+/// For each filling of the box: how many assignments satisfy the clauses and give this filling, and how many should.
 fn compared(
     alloc: Global,
     premise: &Rule,
@@ -206,7 +207,7 @@ fn compared(
     Ok((found, admissible(alloc, premise, goal, &cells)?))
 }
 
-/// The two numbers for each filling, in the script's first box question.
+/// The same two numbers for each filling, for the script's first box question.
 fn compared_query(
     alloc: Global,
     script: &Script,
@@ -250,11 +251,11 @@ const ID: &str = "%auto f when o=1 give 1 else 0 %auto g else 0 %same f g x";
 // An automaton that keeps each symbol, and one that gives each cell the other symbol.
 const OPPOSITE: &str = "%auto f when o=1 give 1 else 0 %auto g when o=1 give 0 else 1 %same f g x";
 
-// An automaton that gives each cell the other symbol, applied twice, and one that gives 0 to each cell.
+// An automaton that gives each cell the other symbol and is applied twice, and one that gives 0 to each cell.
 const TWICE: &str = "%auto f when o=1 give 0 else 1 %compose h f f %auto g else 0 %same h g x";
 
-/// A topology, a premise, a query with the rules and automata that it names, a radius, and the number of admissible fillings
-/// with the goal.
+/// A topology, a premise, a query with the rules and automata that it names, a radius, and the number of admissible fillings that
+/// have the goal.
 const QUESTIONS: &[(&str, &str, &str, u32, u32)] = &[
     ("%dim 1", "o=1 -> o.rt=0", "%empty x", 1, 5),
     ("%dim 1", "o.lt=o.rt", "%empty x", 1, 4),

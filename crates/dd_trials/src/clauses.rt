@@ -9,7 +9,7 @@ use dd_script::Script;
 use std::alloc::{AllocError, Global};
 use std::test::Fail;
 
-/// The literals as signed numbers.
+/// The literals of the clause as signed numbers of variables. A negative number stands for the negation of its variable.
 fn numbers(alloc: Global, clause: &Clause) -> Result<Vec<i64>, AllocError> {
     let mut numbers = Vec::new(alloc);
     for literal in clause.literals() {
@@ -23,7 +23,7 @@ fn numbers(alloc: Global, clause: &Clause) -> Result<Vec<i64>, AllocError> {
     Ok(numbers)
 }
 
-/// The clauses of the question whether any configuration obeys the script's first rule, on the box of one position.
+/// The clauses, on the box of one position, of the question whether any configuration obeys the script's first rule.
 fn emptiness_of(alloc: Global, script: &Script) -> Result<Cnf, Fail> {
     let rule = script.rules().first().ok_or("a rule")?;
     clauses_of(alloc, rule, &Goal::Always, 0)
@@ -35,7 +35,7 @@ fn emptiness(alloc: Global, script: &str) -> Result<Cnf, Fail> {
     emptiness_of(alloc, &script)
 }
 
-/// The rule asks each cell for both symbols, so no configuration obeys it.
+/// By this rule each cell has both symbols, so no configuration obeys it.
 const BOTH: &str = "%dim 1 %rule x o=0 & o=1";
 
 #[test]
@@ -52,7 +52,8 @@ fn no_cell_has_two_symbols(rt: HostRuntime) -> Result<(), Fail> {
     Ok(())
 }
 
-/// The number of clauses of a question about the script's first rule, up to a radius and a period. The goal has `goal` clauses.
+/// The number of clauses of a question on the largest box or torus, up to this radius and this period. The premise is the
+/// script's first rule, and the goal has `goal` clauses.
 fn size_of(script: &Script, goal: u32, radius: u32, period: u32) -> Result<u32, Fail> {
     if radius > 8 {
         return Err("a radius".into());
@@ -67,29 +68,32 @@ fn size(alloc: Global, script: &str, goal: u32, radius: u32, period: u32) -> Res
     size_of(&script, goal, radius, period)
 }
 
-/// A script with a rule, the number of clauses of the goal, a radius, a period, and the number of clauses on the largest box or
-/// torus. Along each axis this has `2 * radius + 1` or `period` positions, whichever is more. Each cell, also at the edge, has:
-/// - one clause that it has a symbol;
-/// - for each two symbols, one that it doesn't have both;
-/// - for each symbol that its node doesn't allow, one that it doesn't have it;
-/// - one that the rule is true;
+/// A script with a rule, the number of clauses of the goal, a radius, a period, and the number of clauses of the question on the
+/// largest box or torus. Along each axis this box or torus has `2 * radius + 1` or `period` positions, whichever is more. Each
+/// cell, even at the edge, has:
+/// - one clause that says that it has a symbol;
+/// - for each two symbols, one that says that it doesn't have both;
+/// - for each symbol that its node doesn't allow, one that says that it doesn't have this symbol;
+/// - one that says that the rule is true there;
 /// - the clauses of the rule's gates: `k + 1` for a gate over `k` parts, and 4 for an equivalence.
 const SIZES: [(&str, u32, u32, u32, u32); 18] = [
-    // A cell has 1 + 1 + 1 clauses, and a gate over two parts.
+    // Each cell has 1 + 1 + 1 clauses, and 3 for a gate over two parts.
     (BOTH, 0, 0, 1, 6),
     (BOTH, 0, 1, 1, 18),
     (BOTH, 0, 1, 4, 24),
-    // The rule asks for one symbol, so there is no gate. A negation needs no gate either.
+    // The formula is about one symbol of one cell, so there is no gate. A negation needs no gate either.
     ("%dim 1 %rule x o=1", 0, 8, 8, 51),
     ("%dim 1 %rule x !(o.rt=1)", 0, 0, 8, 24),
-    // An implication is a gate over two parts, one of them a gate over two: 3 + 3 + 3 on each of 9, 16 and 25 positions.
+    // An implication is a gate over two parts, and one of these parts is itself a gate over two. This gives 3 + 3 + 3 clauses on
+    // each of 9, 16 and 25 positions.
     ("%rule x o=1 -> (o.rt=0 & o.up=0)", 0, 1, 3, 81),
     ("%rule x o=1 -> (o.rt=0 & o.up=0)", 7, 1, 4, 151),
     ("%rule x o=1 -> (o.rt=0 & o.up=0)", 7, 2, 4, 232),
     ("%dim 1 %rule x o=1 <-> o.rt=1", 0, 1, 1, 21),
-    // A cell and its neighbour both have 0, both 1 or both 2: three gates over two and one over these, in addition to 1 + 3 + 1.
+    // A cell and its neighbour both have 0, both have 1 or both have 2. This takes three gates over two parts and one over these
+    // three, in addition to 1 + 3 + 1 clauses.
     ("%dim 1 %alphabet 0 1 2 %rule x o.rt=o", 0, 0, 2, 36),
-    // One of three symbols isn't allowed: 1 + 3 + 1 + 1.
+    // One of the three symbols isn't allowed: 1 + 3 + 1 + 1 clauses.
     (
         "%dim 1 %alphabet 0 1 2 %only 0 0 2 %rule x o!=1",
         0,
@@ -97,7 +101,8 @@ const SIZES: [(&str, u32, u32, u32, u32); 18] = [
         8,
         102,
     ),
-    // The second node has no such move, so the rule is a constant there. A constant is a gate over nothing: 2 * 3 + 1.
+    // The second node has no move `x`, so the rule is a constant there. A constant is a gate over no parts. So each position has
+    // 2 * 3 + 1 clauses.
     (
         "%dim 1 %nodes a b %topology (x a [0] b) (y b [0] a) %rule x o.x=1",
         0,
@@ -105,14 +110,16 @@ const SIZES: [(&str, u32, u32, u32, u32); 18] = [
         2,
         21,
     ),
-    // A ball has 4, 5 or 7 cells: two gates over 4 in addition to 2 * 3, or one over 5 or 7 in addition to 3.
+    // A ball of radius 1 has 4, 5 or 7 cells. On the hexagonal lattice, where each position has two nodes, there are two gates
+    // over 4 parts in addition to 2 * 3 clauses. On the other lattices there is one gate over 5 or 7 parts in addition to 3
+    // clauses.
     ("%topology hex %rule x Ep[o1] p=1", 0, 1, 3, 144),
     ("%rule x Ep[o1] p=1", 1, 8, 8, 2602),
     ("%dim 3 %rule x Ep[o1] p=1", 0, 1, 4, 704),
     ("%dim 3 %rule x Ep[o1] p=1", 0, 8, 8, 54_043),
-    // The ball has 63 cells. A gate over these makes 64 + 3 clauses on each of 17 * 17 * 17 positions. With the goal's clauses
-    // the question is at the limit. In the second rule each cell of the ball has two gates over two, and one over these. That
-    // passes the limit, and the count is cut off.
+    // The ball has 63 cells. A gate over these gives 64 + 3 clauses on each of 17 * 17 * 17 positions. Together with the goal's
+    // clauses they are as many as the limit allows. In the second rule each cell of the ball has two gates over two parts, and
+    // one gate over these two. This exceeds the limit, so the count is cut off.
     ("%dim 3 %rule x Ap[o3] p=1", 1_670_829, 8, 8, 2_000_000),
     ("%dim 3 %rule x Ap[o3] p=o", 0, 8, 8, 2_000_001),
 ];

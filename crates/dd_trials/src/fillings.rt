@@ -1,4 +1,4 @@
-// Every filling of a few cells, numbered.
+// All fillings of a few cells, each with a number.
 ghost use Rattle.std.specs.Prelude.{◌≡◌, ◌<◌, ◌≤◌, length, IfOk};
 ghost use Rattle.std.specs.List.{All};
 
@@ -8,7 +8,7 @@ use dd_pattern::Filling;
 use std::alloc::{AllocError, Global};
 use std::test::Fail;
 
-/// The last `count` digits of a number in this base, the last one first.
+/// The `count` least significant digits of a number in this base, the least significant one first.
 pub(crate) fn digits(
     alloc: Global,
     count: usize,
@@ -27,7 +27,8 @@ pub(crate) fn digits(
     Ok(digits)
 }
 
-/// The filling of the cells with this number. The digits of the number are the symbols of the cells in cell order.
+/// The filling of the cells that has this number. In cell order, the symbols of the cells are the digits of the number, the least
+/// significant one first. The base is the number of symbols.
 pub(crate) fn filling(
     alloc: Global,
     cells: &[Cell],
@@ -55,7 +56,7 @@ pub(crate) fn at_origin(node: u32) -> Cell
     }
 }
 
-/// Whether the rule is true at a cell; `None` if something that it reads there isn't given.
+/// Whether the rule is true at a cell; `None` if the filling lacks a cell that the rule reads there.
 #[tactic(auto, using(dd_formula::specs::lemmas::Reached::filling_below))]
 pub(crate) fn truth(rule: &Rule, filling: &Filling, at: &Cell) -> Result<Option<bool>, Fail>
     requires { All (λ s. s < rule.now.symbols) filling.now.symbols }

@@ -8,7 +8,7 @@ use std::alloc::{AllocError, Global};
 use std::process::Abort;
 use std::test::Fail;
 
-/// The x, the y and the node of a cell.
+/// The x coordinate, the y coordinate and the node of a cell.
 type Place = (i32, i32, u32);
 
 /// Whether the cell is at this place.
@@ -25,7 +25,7 @@ fn cells_of(alloc: Global, rule: &Rule) -> Result<Vec<Cell>, AllocError> {
     in_order(alloc, &cells)
 }
 
-/// The filling of the cells that the rule reads, with 1 at some of them and 0 at the others.
+/// The filling of the cells that the rule reads, with 1 at the places in `ones` and 0 at all others.
 fn filling_with(alloc: Global, rule: &Rule, ones: &[Place]) -> Result<Filling, Fail> {
     let read = cells_of(alloc, rule)?;
     let cells = in_order(alloc, &read)?;
@@ -51,9 +51,8 @@ fn truth_at(rule: &Rule, filling: &Filling, node: u32) -> Result<Option<bool>, F
 // No two neighbours are both 1.
 const HARD: &str = "%topology hex %rule hard Ap[o1] (p~o -> !(p=1 & o=1))";
 
-// The cells with 1, and whether the rule is true at the first node and at the second node of the origin. The neighbours of the
-// first node are the second nodes at (0,0), (-1,0) and (0,-1). Those of the second node are the first nodes at (0,0), (1,0)
-// and (0,1).
+// The cells with 1, and whether the rule is true at the first and at the second node of the origin. The neighbours of the first
+// node are the second nodes at (0,0), (-1,0) and (0,-1). Those of the second node are the first nodes at (0,0), (1,0) and (0,1).
 const TRUTHS: &[(&[Place], bool, bool)] = &[
     (&[], true, true),
     (&[(0, 0, 0)], true, true),
@@ -65,7 +64,7 @@ const TRUTHS: &[(&[Place], bool, bool)] = &[
     (&[(-1, 0, 1), (0, -1, 1), (1, 0, 0), (0, 1, 0)], true, true),
 ];
 
-/// Asserts the truths of the rule at both nodes.
+/// Asserts whether the rule is true at each of the two nodes.
 fn assert_truths(rt: &impl Abort, alloc: Global, rule: &Rule) -> Result<(), Fail> {
     for (ones, first, second) in TRUTHS {
         let filling = filling_with(alloc, rule, ones)?;

@@ -1,4 +1,5 @@
-// The pairs of automata in questions about images and conjugacies, applied to configurations.
+// A question about images or a conjugacy becomes pairs of automata, and asks whether the two automata of a pair agree. Here both
+// are applied to a configuration.
 
 use crate::scripts::{parsed, script_of};
 use dd_automaton::apply;
@@ -51,7 +52,7 @@ fn assert_images(
     Ok(())
 }
 
-/// Asserts the images for the first box question of the script.
+/// Asserts the same for the goal of the script's first box question.
 fn assert_image(
     rt: &impl Abort,
     alloc: Global,
@@ -69,7 +70,9 @@ fn assert_image(
     Err("a box question".into())
 }
 
-/// Asserts what both compositions of the script's first conjugacy give: the map and then the map back, and the reverse.
+/// Asserts the images of the script's first configuration under both compositions of its first conjugacy: `rounds.0` under the
+/// map and then the map back, and `rounds.1` under the map back and then the map. The other automaton of each pair leaves the
+/// configuration as it is, with the symbols `own`.
 fn assert_rounds(
     rt: &impl Abort,
     alloc: Global,
@@ -95,7 +98,7 @@ fn assert_rounds(
 
 const LINE: &str = "%dim 1 %rule x o@o %conf c [6] 0 1 1 0 0 0 ";
 
-// The second node has the symbol 0 only.
+// The second node allows only the symbol 0.
 const HEX: &str = "%topology hex %only 1 0 %rule x o@o %conf c [2 1] 1 0 0 0 ";
 
 // Each cell takes the symbol of its right neighbour.
@@ -108,7 +111,7 @@ const ONES: &str = "%auto f else 1 ";
 
 const ZEROS: &str = "%auto f else 0 ";
 
-// At (0,0) the two nodes take each other's symbol.
+// The two nodes of each position take each other's symbol.
 const ACROSS: &str = "%auto f when o.a=1 give 1 else 0 ";
 
 // No two neighbours are both 1.
@@ -117,9 +120,9 @@ const APART: &str = "%rule y o=1 -> o.rt=0";
 const FULL: &str = "%rule y o@o";
 
 /// A setting with a configuration, an automaton, a rule, and a mark for each cell. The mark is 1 where the configuration's image
-/// breaks the rule or has a symbol that isn't allowed.
+/// breaks the rule or has a symbol that the node doesn't allow.
 const IMAGES: &[(&str, &str, &str, &[u32])] = &[
-    // The images are 1 1 0 0 0 0, 0 0 1 1 0 0 and 1 1 1 1 1 1.
+    // The images under `LEFT`, `RIGHT` and `ONES` are 1 1 0 0 0 0, 0 0 1 1 0 0 and 1 1 1 1 1 1.
     (LINE, LEFT, APART, &[1, 0, 0, 0, 0, 0]),
     (LINE, LEFT, FULL, &[0; 6]),
     (LINE, RIGHT, APART, &[0, 0, 1, 0, 0, 0]),
@@ -151,7 +154,7 @@ const DEEP: &str = "%rule y !!!!!!!!!!!!!!!!!!!!!!!!!!!!!!!!!!!!!!!!!!!!!!!!!!!!
 const LESS_DEEP: &str =
     "%rule y !!!!!!!!!!!!!!!!!!!!!!!!!!!!!!!!!!!!!!!!!!!!!!!!!!!!!!!!!!!!!!!o=1";
 
-/// A setting, a rule, and whether the rule becomes too deep when allowed symbols are added to it.
+/// A setting, a rule, and whether the rule becomes too deep once the condition that each symbol is allowed is added to it.
 const DEPTHS: &[(&str, &str, bool)] = &[
     ("%topology hex ", DEEP, false),
     ("%topology hex %only 1 0 ", DEEP, true),
@@ -161,7 +164,7 @@ const DEPTHS: &[(&str, &str, bool)] = &[
     ("%dim 1 %only 0 0 1 ", DEEP, false),
 ];
 
-/// Whether the text with these parts passes the limit on depth. Else it must be a script.
+/// Whether the text with these parts is refused because it exceeds the limit on depth. Fails if it is refused for another reason.
 fn is_deep(alloc: Global, parts: &[&str]) -> Result<bool, Fail> {
     match parsed(alloc, parts)? {
         Ok(_) => Ok(false),
@@ -186,7 +189,8 @@ fn rules_too_deep_for_images(rt: HostRuntime) -> Result<(), Fail> {
 
 const THREE: &str = "%dim 1 %alphabet 0 1 2 %rule x o@o %conf c [3] 0 1 2 ";
 
-// The neighbours of each second node along a and b are the first nodes at its position and one further.
+// The neighbour of each second node along a is the first node at the same position. Its neighbour along b is the first node one
+// position further.
 const HEXAGONS: &str = "%topology hex %rule x o@o %conf c [3 1] 1 0 0 0 0 0 ";
 
 /// A setting with a configuration, a map, and a map back. Then the symbols of the configuration, of its image under the map and

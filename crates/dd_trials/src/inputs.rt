@@ -5,13 +5,13 @@ use dd_lattice::{Cell, Position};
 use std::alloc::{AllocError, Global};
 use std::test::Fail;
 
-/// The cell at a position of the line; `None` if that is out of range.
+/// The cell at a position of the line; `None` if the position is out of range.
 pub(crate) fn cell_at(x: i32) -> Option<Cell> {
     let position = Position::new(x, 0, 0)?;
     Some(Cell { position, node: 0 })
 }
 
-/// The signal that is true if the variable is.
+/// The signal that has the value of this variable.
 fn plus(variable: u32) -> Signal {
     Signal {
         variable,
@@ -34,7 +34,7 @@ fn two_cells(alloc: Global) -> Result<Inputs, AllocError> {
     Ok(inputs)
 }
 
-/// The position of a cell on the line, a symbol, and the variable of its signal.
+/// The position of a cell on the line, a symbol, and the variable of the signal for both; `None` if there is no such signal.
 const SIGNALS: &[(i32, u32, Option<u32>)] = &[
     (1, 0, Some(1)),
     (1, 1, Some(2)),

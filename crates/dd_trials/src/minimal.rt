@@ -6,26 +6,26 @@ use std::alloc::Global;
 use std::process::Abort;
 use std::test::Fail;
 
-/// A symbol for each cell that is read, or none for a cell that is left out.
+/// For each cell that the rule reads: its symbol, or `None` if the pattern leaves this cell out.
 type Pattern = &'static [Option<u32>];
 
 const HARD: &str = "%rule x o=1 -> (o.rt=0 & o.up=0)";
 
-// The neighbours of the first node are the second nodes at (0,-1), (-1,0) and (0,0). Those of the second node are the first
-// nodes at (0,0), (1,0) and (0,1). In cell order, the own cell of the first node is the third that is read there. That of the
-// second node is the second.
+// The neighbours of the first node are the second nodes at (0,-1), (-1,0) and (0,0). Those of the second node are the first nodes
+// at (0,0), (1,0) and (0,1). In cell order, the first node itself is the third cell that is read there, and the second node
+// itself is the second.
 const HEXAGONS: &str = "%topology hex %rule x Ap[o1] (p~o -> !(p=1 & o=1))";
 
 const SECOND_IS_1: &str = "%topology hex %only 1 1 %rule x Ap[o1] (p~o -> !(p=1 & o=1))";
 
 const SECOND_IS_0: &str = "%topology hex %only 1 0 %rule x Ap[o1] (p~o -> !(p=1 & o=1))";
 
-// Sixteen cells of two symbols have 65,536 fillings, and ten of three symbols have 59,049.
+// Sixteen cells with two symbols have 65,536 fillings, and ten cells with three symbols have 59,049.
 const SIXTEEN: &str = "%dim 1 %rule x (Ep[o3] Eq[p3] Er[q1] r=1) | o.rt.rt.rt.rt.rt.rt.rt.rt=1";
 
 const TEN: &str = "%dim 1 %alphabet 0 1 2 %rule x (Ep[o3] Eq[p1] q!=0) | o.rt.rt.rt.rt.rt!=0";
 
-/// A rule, a node, and the minimal patterns there.
+/// A rule, a node, and the rule's minimal forbidden patterns at this node.
 const MINIMAL: &[(&str, u32, &[Pattern])] = &[
     (
         HARD,
@@ -33,7 +33,7 @@ const MINIMAL: &[(&str, u32, &[Pattern])] = &[
         &[&[Some(1), None, Some(1)], &[Some(1), Some(1), None]],
     ),
     ("%dim 1 %rule x o=0 & o=1", 0, &[&[None]]),
-    // Nothing is read.
+    // The rule reads no cell.
     ("%dim 1 %rule x !(o@o)", 0, &[&[]]),
     ("%dim 1 %rule x o@o", 0, &[]),
     ("%dim 1 %rule x o.rt=0 | o.rt=1", 0, &[]),
@@ -42,7 +42,7 @@ const MINIMAL: &[(&str, u32, &[Pattern])] = &[
         0,
         &[&[Some(0), Some(1)], &[Some(1), Some(0)]],
     ),
-    // Of 0 0 1 the first cell is left out, since 1 0 1 breaks the rule too. Of 0 1 1 the first cell is kept.
+    // In the filling 0 0 1 the first cell is left out, since 1 0 1 breaks the rule too. In 0 1 1 the first cell is kept.
     (
         "%dim 1 %rule x o=o.rt & o.rt=o.rt.rt",
         0,

@@ -15,7 +15,7 @@ use dd_problem::{Goal, box_clauses, least_radius};
 use std::alloc::{AllocError, Global};
 use std::test::Fail;
 
-/// The number of clauses of the goal, cut off at 1000.
+/// The number of clauses of the goal, or 1001 if there are more than 1000.
 fn goal_clauses(alloc: Global, premise: &Rule, goal: &Goal) -> Result<u32, AllocError>
     requires { IsGoalFor premise.now (goal_of premise.now goal.now) }
     ensures { IfOk result (λ n. n ≡ cut 1000 (goal_clauses (goal_of premise.now goal.now))) }
@@ -29,7 +29,7 @@ fn goal_clauses(alloc: Global, premise: &Rule, goal: &Goal) -> Result<u32, Alloc
     }
 }
 
-/// Does nothing. Its contract is the law of the box of this radius.
+/// Does nothing. Its contract states the law of one box for the box of this radius.
 fn one_radius(premise: &Rule, goal: &Goal, _radius: u32)
     ensures { OneBox premise.now (goal_of premise.now goal.now) _radius }
 {
@@ -47,7 +47,7 @@ fn reaches(alloc: Global, premise: &Rule, goal: &Goal, radius: u32) -> Result<bo
     Ok(least_radius(alloc, goal)? <= radius)
 }
 
-/// The clauses of a question on the box of radius 0 or, on the line, 1.
+/// The clauses of a box question on a small box: on the line of radius 0 or 1, in the plane of radius 0.
 #[tactic(auto, using(crate::proofs::Counting::few_in_a_box, crate::proofs::Counting::few_at_the_origin))]
 pub(crate) fn clauses_of(
     alloc: Global,

@@ -1,9 +1,9 @@
-// Scripts made of parts of text.
+// Scripts whose text is given in parts.
 use dd_script::{Script, ScriptFault, parse};
 use std::alloc::{AllocError, Global};
 use std::test::Fail;
 
-/// The parts of a text, one after the other.
+/// The text that these parts make up, one after the other.
 fn joined(alloc: Global, parts: &[&str]) -> Result<Vec<u8>, AllocError> {
     let mut bytes = Vec::new(alloc);
     for part in parts {

@@ -1,4 +1,5 @@
-// The signal of a rule has the value of the rule's truth, for every filling of what the rule reads.
+// A rule is compiled to gates of a circuit. One signal, which is a variable or its negation, stands for the rule: for every
+// filling of the cells that the rule reads, the signal's value is the truth of the rule.
 ghost use Rattle.std.specs.Prelude.{◌<◌, ◌≤◌};
 ghost use Rattle.std.specs.List.Sorted.{IsStrictlySortedBy};
 ghost use Rattle.dd_lattice.specs.Order.{cell_cmp};
@@ -41,7 +42,8 @@ fn inputs_of(alloc: Global, cells: &[Cell], symbols: u32) -> Result<Inputs, Allo
     Ok(inputs)
 }
 
-/// The gates of the rule's template at a node of the origin, over this many variables, and their signal.
+/// Compiles the rule to a template, and places the template at a node of the origin, in a new circuit with this many input
+/// variables. Returns the circuit and the signal of the rule.
 fn placed(
     alloc: Global,
     rule: &Rule,
@@ -63,7 +65,8 @@ fn placed(
     Ok((circuit, signal))
 }
 
-/// The gates of the rule at a node of the origin, and their signal. The rule's template gives the same.
+/// Compiles the rule at a node of the origin. Returns the circuit and the signal of the rule. Fails if the rule's template gives
+/// other gates or another signal.
 fn compiled(
     alloc: Global,
     rule: &Rule,
@@ -118,7 +121,8 @@ fn value_of(
     Ok(value.ok_or("a variable of the circuit")? == signal.positive)
 }
 
-/// The truth of the rule and the value of its signal at a node of the origin, for each filling of what the rule reads there.
+/// For each filling of the cells that the rule reads at a node of the origin: the truth of the rule there, and the value of its
+/// signal.
 fn truths(alloc: Global, rule: &Rule, node: u32) -> Result<Vec<(Option<bool>, bool)>, Fail>
     requires { node < rule.now.nodes }
 {
@@ -135,7 +139,7 @@ fn truths(alloc: Global, rule: &Rule, node: u32) -> Result<Vec<(Option<bool>, bo
     Ok(truths)
 }
 
-/// How often the rule is true. Asserts that its signal agrees each time.
+/// The number of fillings for which the rule is true. Asserts that its signal agrees for each filling.
 fn times_true(rt: &impl Abort, truths: &[(Option<bool>, bool)]) -> usize {
     for (truth, value) in truths {
         assert_eq!(rt; *truth, Some(*value));
@@ -143,7 +147,7 @@ fn times_true(rt: &impl Abort, truths: &[(Option<bool>, bool)]) -> usize {
     truths.iter().filter(|(_, value)| *value).count()
 }
 
-/// For how many fillings of what it reads the rule is true, node by node.
+/// For each node, the number of fillings of the cells read there for which the rule is true.
 fn times_by_node(rt: &impl Abort, alloc: Global, rule: &Rule) -> Result<Vec<usize>, Fail> {
     let mut times = Vec::new(alloc);
     for node in 0..rule.nodes() {
@@ -153,13 +157,14 @@ fn times_by_node(rt: &impl Abort, alloc: Global, rule: &Rule) -> Result<Vec<usiz
     Ok(times)
 }
 
-/// For how many fillings the first rule of a script is true, node by node.
+/// For each node, the number of fillings for which the first rule of a script is true.
 fn times_of_first(rt: &impl Abort, alloc: Global, script: &Script) -> Result<Vec<usize>, Fail> {
     let rule = script.rules().first().ok_or("a rule")?;
     times_by_node(rt, alloc, rule)
 }
 
-/// For how many fillings the rule with this formula is true, node by node. The formula ends a script with this beginning.
+/// For each node, the number of fillings for which the rule with this formula is true. The text of the script is `beginning`,
+/// followed by the formula.
 fn times_in(
     rt: &impl Abort,
     alloc: Global,
@@ -170,10 +175,10 @@ fn times_in(
     times_of_first(rt, alloc, &script)
 }
 
-/// Formulas, and for how many fillings each is true at each node.
+/// Formulas, each with the number of fillings for which it is true at each node.
 type Times = &'static [(&'static str, &'static [usize])];
 
-/// Asserts how often each formula is true, after the beginning of a script.
+/// Asserts these numbers for each formula, at the end of a script that begins with `beginning`.
 fn assert_times(
     rt: &impl Abort,
     alloc: Global,
@@ -187,7 +192,7 @@ fn assert_times(
     Ok(())
 }
 
-// The second node has no move x, the first no move y.
+// The second node has no move x, and the first node has no move y.
 const TWO_NODES: &str = "%dim 1 %nodes a b %topology (x a [0] b) (y b [1] a) %rule r ";
 
 const ATOMS: Times = &[
@@ -236,7 +241,8 @@ fn formulas_over_three_symbols(rt: HostRuntime) -> Result<(), Fail> {
     assert_times(&rt, rt.alloc(), THREE_SYMBOLS, FORMULAS)
 }
 
-/// Asserts that the circuit is one gate over the inputs 1 and 2, and its values if only the first one is true.
+/// Asserts that the circuit has one gate, the conjunction of the inputs 1 and 2, with this signal. Also asserts the circuit's
+/// values if only the first input is true.
 fn assert_one_gate(
     rt: &impl Abort,
     alloc: Global,
@@ -263,7 +269,7 @@ fn assert_one_gate(
     Ok(())
 }
 
-/// The gates of the rule at the first node of the origin, and their signal.
+/// The circuit of the rule at the first node of the origin, and the signal of the rule.
 fn first_gates(alloc: Global, rule: &Rule) -> Result<(Circuit, Signal), Fail> {
     if rule.nodes() == 0 {
         return Err("a node".into());
@@ -272,7 +278,7 @@ fn first_gates(alloc: Global, rule: &Rule) -> Result<(Circuit, Signal), Fail> {
     compiled(alloc, rule, 0, &cells)
 }
 
-// The symbols 0 and 1 of the origin are the inputs 1 and 2, so the conjunction of both is the gate 3.
+// Input 1 says that the origin has the symbol 0, and input 2 that it has the symbol 1. So the conjunction of both is variable 3.
 #[test]
 fn one_gate_over_two_inputs(rt: HostRuntime) -> Result<(), Fail> {
     let script = script_of(rt.alloc(), &["%dim 1 %rule none o=0 & o=1"])?;

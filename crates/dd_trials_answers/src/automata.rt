@@ -1,16 +1,17 @@
-// Whether two automata agree on a rule's configurations: the answers of runs, and what a check makes of them.
+// Whether two automata agree on a rule's configurations: the answers of runs, and whether a check accepts them.
 use crate::outputs::{assert_answers, assert_checks, assert_first_lines, assert_lines};
 use std::alloc::{AllocError, Global};
 use std::test::Fail;
 
 // Scripts, and the first lines of their answers.
 const AGREEMENTS: [(&str, &str); 6] = [
-    // The exclusive or of the neighbours, squared.
+    // `r` gives each cell the exclusive or of its neighbours. The first query compares `r` applied twice with `far`, and the
+    // second compares `r` with the identity.
     (
         "%dim 1 %rule full o@o %auto r when o.lt!=o.rt give 1 else 0 %compose rr r r %auto far when o.lt.lt!=o.rt.rt give 1 else 0 %auto id when o=1 give 1 else 0 %same rr far full %same r id full",
         "query 1 YES 2\nquery 2 NO 1\n",
     ),
-    // They agree on only one configuration.
+    // The automata agree on only one configuration.
     (
         "%auto id when o=1 give 1 else 0 %auto nul else 0 %rule z o=0 %rule full o@o %same id nul z %same id nul full",
         "query 1 YES 0\nquery 2 NO 1 1\n",
@@ -20,24 +21,24 @@ const AGREEMENTS: [(&str, &str); 6] = [
         "%dim 1 %rule full o@o %auto f when o.lt=1 & o=1 & o.rt=1 give 0 when o=1 | o.rt=1 give 1 else 0 %auto g when o!=o.rt give 1 when o.lt=0 & o=1 give 1 else 0 %auto m when o.lt=1 & o=1 & o.rt=1 give 0 when o=1 | o.lt=1 give 1 else 0 %same f g full %same f m full",
         "query 1 YES 1\nquery 2 NO 3\n",
     ),
-    // They agree only on configurations of the premise.
+    // The automata agree on the configurations of the premise, and on no others.
     (
         "%dim 1 %rule alt o!=o.rt %auto id when o=1 give 1 else 0 %auto op when o.rt=1 give 0 else 1 %same id op alt",
         "query 1 YES 1\n",
     ),
-    // The two nodes of a position exchanged, twice and once.
+    // `ex` exchanges the symbols of the two nodes of each position. Applied twice it is the identity, applied once it isn't.
     (
         "%topology hex %rule full o@o %auto ex when o.a=1 give 1 else 0 %auto id when o=1 give 1 else 0 %compose twice ex ex %same twice id full %same ex id full",
         "query 1 YES 0\nquery 2 NO 1 1\n",
     ),
-    // All configurations have the period 3, which exceeds the limit.
+    // All configurations of the premise have the period 3, which exceeds the limit.
     (
         "%dim 1 %alphabet 0 1 2 %limits 4 2 10 %rule cyc (o=0 -> o.rt=1) & (o=1 -> o.rt=2) & (o=2 -> o.rt=0) %auto id when o=1 give 1 when o=2 give 2 else 0 %auto nul else 0 %same id nul cyc",
         "query 1 UNKNOWN limits\n",
     ),
 ];
 
-// Scripts, and the whole answers, each with the configuration on which the automata differ.
+// Scripts and their whole answers. Each answer has a configuration on which the automata differ.
 const DIFFERENCES: [(&str, &str); 4] = [
     // The exclusive or of the neighbours is 0 if all cells are 1.
     (
@@ -53,7 +54,7 @@ const DIFFERENCES: [(&str, &str); 4] = [
         "%dim 1 %rule full o@o %auto f when o=1 give 0 when o@o give 1 else 0 %auto g when o@o give 1 when o=1 give 0 else 0 %same f g full",
         "query 1 NO 1\nconf 1\n",
     ),
-    // The value at the second node depends on the second node, and only there they differ.
+    // The first node allows only 0. So the automata differ only at the second node, where the value depends on the second node.
     (
         "%dim 1 %nodes a b %topology (x a [0] b) (x b [0] a) %only a 0 %rule full o@o %auto id when o=1 give 1 else 0 %auto nul else 0 %same id nul full",
         "query 1 NO 1\nconf 0 1\n",
@@ -64,10 +65,10 @@ const DIFFERENCES: [(&str, &str); 4] = [
 const DIFFERENT: &str =
     "%auto id when o=1 give 1 else 0 %auto nul else 0 %rule full o@o %same id nul full";
 
-// Lines of answers to the last script, and whether a check accepts them.
+// Lines of answers to this script, and whether a check accepts them.
 const CHECKED: [(&str, bool); 4] = [
     ("query 1 NO 1 1\nconf 1\n", true),
-    // At the origin both values are 0.
+    // Both automata give the origin the value 0.
     ("query 1 NO 1 1\nconf 0\n", false),
     ("query 1 NO 2 1\nconf 0 1\n", false),
     ("query 1 NO left 1 1\nconf 1\n", false),
@@ -81,13 +82,13 @@ fn compares_automata(rt: HostRuntime) -> Result<(), Fail> {
     assert_checks(&rt, alloc, DIFFERENT, &CHECKED)
 }
 
-// The names of the automata of one script.
+// Names for the automata of one script.
 const NAMES: [&str; 16] = [
     "a", "b", "c", "d", "e", "f", "g", "h", "i", "j", "k", "l", "m", "n", "o", "p",
 ];
 
-// Adds the elementary automaton with this number (Wolfram 1983): bit k of the number is the value of a cell that, with its
-// neighbours, spells k in binary.
+// Adds the elementary automaton with this number (Wolfram 1983) to the text. Bit k of the number is the value of the middle cell,
+// where the symbols of the left neighbour, the cell and the right neighbour spell k in binary.
 fn push_elementary(
     alloc: Global,
     text: &mut String,
@@ -121,7 +122,7 @@ fn commuting(alloc: Global, first: u32) -> Result<String, AllocError> {
     Ok(text)
 }
 
-// The answers if all of them commute, with the least radius of the compositions.
+// The answers if all of them commute with the shift. The radius is the least one that suffices for these compositions.
 fn sixteen_yes(alloc: Global) -> Result<String, AllocError> {
     let mut lines = String::new(alloc);
     for number in 1..17u32 {

@@ -1,4 +1,4 @@
-// Discharging: known values, and what a check makes of the answers of runs and of other answers.
+// Discharging: known values, and whether a check accepts the answers of runs and other answers.
 use crate::outputs::{assert_answers, assert_checks, assert_lines};
 use std::test::Fail;
 
@@ -8,7 +8,7 @@ const DISCHARGES: [(&str, &str); 16] = [
         "%rule dom Ep[o1] p=1 %discharge dom 0 0 [1 0] [-1 0] [0 1] [0 -1]",
         "query 1 BOUND 1/5\n",
     ),
-    // 1 divided by the number of cells that a 1 dominates.
+    // The bound is 1 divided by the number of cells that a 1 dominates.
     (
         "%rule tot Ep[o1] (p=1 & !(p@o)) %discharge tot 0 0 [1 0] [-1 0] [0 1] [0 -1]",
         "query 1 BOUND 1/4\n",
@@ -21,7 +21,7 @@ const DISCHARGES: [(&str, &str); 16] = [
         "%topology king %rule dom Ep[o1] p=1 %discharge dom 0 0 [1 0] [-1 0] [0 1] [0 -1] [1 1] [-1 -1] [1 -1] [-1 1]",
         "query 1 BOUND 1/9\n",
     ),
-    // A quarter of the cells; a position has two.
+    // A quarter of the cells, and each position has two cells.
     (
         "%topology hex %rule dom Ep[o1] p=1 %discharge dom 0 0 [1 0] [-1 0] [0 1] [0 -1]",
         "query 1 BOUND 1/2\n",
@@ -30,7 +30,8 @@ const DISCHARGES: [(&str, &str); 16] = [
         "%dim 3 %rule dom Ep[o1] p=1 %discharge dom 0 0 [1 0 0] [-1 0 0] [0 1 0] [0 -1 0] [0 0 1] [0 0 -1]",
         "query 1 BOUND 1/7\n",
     ),
-    // What independent sets leave out (a 0 weighs 1): two of three cells of a triangle, three of four of a square of kings.
+    // A 0 weighs 1, so the weight counts the cells that an independent set leaves out: two of the three cells of a triangle, and
+    // three of the four cells of a square in the king's lattice.
     (
         "%topology triangle %weights 1 0 %rule apart o=0 | (o.rt=0 & o.up=0 & o.ne=0) %discharge apart 0 1 [1 0] [1 1]",
         "query 1 BOUND 2/3\n",
@@ -39,8 +40,8 @@ const DISCHARGES: [(&str, &str); 16] = [
         "%topology king %weights 1 0 %rule apart o=0 | (o.rt=0 & o.up=0 & o.ne=0 & o.nw=0) %discharge apart 0 1 [1 0] [0 1] [1 1]",
         "query 1 BOUND 3/4\n",
     ),
-    // At most one of three in a row is 0. The region of two cells is too small for the rule. With a margin it forbids that both
-    // are 0. Patterns of three cells show what comes before and after.
+    // Of three cells in a row at most one is 0. The region of two cells is too small for the rule. With a margin the rule forbids
+    // that both of these cells are 0. With the radius 1, patterns of three cells also show the cell before and the cell after.
     (
         "%dim 1 %rule apart o=0 -> (o.rt=1 & o.rt.rt=1) %discharge apart 0 0 [1]",
         "query 1 BOUND 0/1\n",
@@ -53,7 +54,8 @@ const DISCHARGES: [(&str, &str); 16] = [
         "%dim 1 %rule apart o=0 -> (o.rt=1 & o.rt.rt=1) %discharge apart 1 1 [1]",
         "query 1 BOUND 2/3\n",
     ),
-    // The same if a cell gives to the next two. The region of three cells has room for the rule once, with a margin everywhere.
+    // The same rule, but a cell gives to the next two. The region of three cells has room for the rule only once. With a margin
+    // the rule restricts any two cells of the region.
     (
         "%dim 1 %rule apart o=0 -> (o.rt=1 & o.rt.rt=1) %discharge apart 0 0 [1] [2]",
         "query 1 BOUND 1/2\n",
@@ -67,20 +69,21 @@ const DISCHARGES: [(&str, &str); 16] = [
         "%dim 1 %limits 4 4 0 %rule cover o=1 | o.rt=1 %density cover [] %discharge cover 0 0 [1]",
         "query 1 DENSITY 1/2\nquery 2 UNKNOWN pivots\n",
     ),
-    // The first 17 of its 30 cells have 131,072 fillings.
+    // The region has 30 cells. The first 17 of them have 131,072 fillings, which are too many.
     (
         "%rule full o@o %discharge full 2 0 [1 0]",
         "query 1 UNKNOWN large\n",
     ),
-    // Nothing forces a weight.
+    // Nothing forces any cell to have a weight.
     (
         "%dim 1 %rule full o@o %discharge full 0 0 [1]",
         "query 1 BOUND 0/1\n",
     ),
 ];
 
-// Whole answers, with their amounts and duals. docs/wrong-bodies.md says what the bounds mean for small boxes. A 0 has a 1 to
-// its right, or three steps away. The last rule stands two cells to the left of the cell that it restricts; the margin shows it.
+// Whole answers, with their amounts and duals. docs/wrong-bodies.md says what the bounds mean for small boxes. By the first rule
+// a 0 has a 1 to its right, and by the second a 1 three steps away. The last rule restricts the cell two to the right of the cell
+// at which it is applied, and the margin takes this into account.
 const WHOLE_BOUNDS: [(&str, &str); 3] = [
     (
         "%dim 1 %rule cover o=1 | o.rt=1 %discharge cover 0 0 [1]",
@@ -105,7 +108,8 @@ const CHECKED: [(&str, bool); 14] = [
         "query 1 DENSITY 1/2\ncycle 2 0 1\npotentials 0 1\nquery 2 BOUND 1/2\ndenominator 2\namounts 0 1\nduals 0 1 1\n",
         true,
     ),
-    // The cycle may go round twice, and the potentials may start from any number. The denominator may be a multiple.
+    // The cycle may be run through twice, and the potentials may start from any number. The denominator may be a multiple of the
+    // bound's.
     (
         "query 1 DENSITY 1/2\ncycle 4 1 0 1 0\npotentials -7 -6\nquery 2 BOUND 1/2\ndenominator 4\namounts 0 2\nduals 0 2 2\n",
         true,
@@ -137,12 +141,12 @@ const CHECKED: [(&str, bool); 14] = [
         "query 1 DENSITY 1/2\ncycle 2 0 1\npotentials 0 1\nquery 2 BOUND 1/2\ndenominator 2\namounts 0 1\nduals 0 0 0\n",
         false,
     ),
-    // A denominator that is no multiple of the bound's.
+    // A denominator that is no multiple of that of the bound.
     (
         "query 1 DENSITY 1/2\ncycle 2 0 1\npotentials 0 1\nquery 2 BOUND 1/2\ndenominator 3\namounts 0 1\nduals 0 1 1\n",
         false,
     ),
-    // Amounts that break the row of a 0 after a 1.
+    // Amounts that violate the row of a 1 followed by a 0.
     (
         "query 1 DENSITY 1/2\ncycle 2 0 1\npotentials 0 1\nquery 2 BOUND 1/2\ndenominator 2\namounts 1 0\nduals 0 1 1\n",
         false,

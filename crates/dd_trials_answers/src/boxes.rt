@@ -1,8 +1,9 @@
-// Box questions, by the first lines of their answers.
+// Answers to box questions, compared by their first lines. A box question asks whether a configuration that obeys one rule, the
+// premise, can have a goal at the origin, such as breaking another rule. YES means that none can, and NO that one does.
 use crate::outputs::{assert_answers, assert_lines};
 use std::test::Fail;
 
-// Containment and equality of rules, with the least radius or the first periods that decide.
+// Containment and equality of rules, with the least radius or the first periods that decide the question.
 const CONTAINED_OR_EQUAL: [(&str, &str); 5] = [
     (
         "%rule hard o=1 -> (o.rt=0 & o.up=0) %rule row o=1 -> o.rt=0 %contains row hard %contains hard row %equal hard row",
@@ -26,7 +27,7 @@ const CONTAINED_OR_EQUAL: [(&str, &str); 5] = [
     ),
 ];
 
-// Limits on boxes and periods that are met or not.
+// Questions that are decided within the limits on boxes and periods, and questions that aren't.
 const LIMITS_OF_BOXES: [(&str, &str); 6] = [
     (
         "%dim 1 %limits 3 4 10000 %rule dies (o=1 -> o.rt=1) & !(o=1 & o.rt=1 & o.rt.rt=1) %rule zero o=0 %contains zero dies",
@@ -44,7 +45,7 @@ const LIMITS_OF_BOXES: [(&str, &str); 6] = [
         "%dim 1 %alphabet 0 1 2 %limits 4 3 10 %rule cyc (o=0 -> o.rt=1) & (o=1 -> o.rt=2) & (o=2 -> o.rt=0) %rule no o!=1 %contains no cyc",
         "query 1 NO 3\n",
     ),
-    // A definite answer after one that is unknown.
+    // A definite answer after an UNKNOWN.
     (
         "%dim 1 %alphabet 0 1 2 %limits 4 2 10 %rule cyc (o=0 -> o.rt=1) & (o=1 -> o.rt=2) & (o=2 -> o.rt=0) %rule no o!=1 %contains no cyc %empty no",
         "query 1 UNKNOWN limits\nquery 2 NO 1\n",

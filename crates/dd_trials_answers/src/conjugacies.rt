@@ -1,5 +1,5 @@
-// Whether an automaton maps one rule's configurations into another's, and whether two are inverse maps between them: the answers
-// of runs, and what a check makes of them.
+// Whether an automaton maps one rule's configurations into another's, and whether two automata are inverse maps between them: the
+// answers of runs, and whether a check accepts them.
 use crate::outputs::{assert_answers, assert_checks, assert_lines};
 use std::test::Fail;
 
@@ -14,13 +14,13 @@ const MAPS: [(&str, &str); 5] = [
         "%dim 1 %rule row o=1 -> o.rt=0 %auto sl when o.rt=1 give 1 else 0 %auto sr when o.lt=1 give 1 else 0 %auto nul else 0 %conjugate sl sr row row %conjugate nul nul row row",
         "query 1 CONJUGATE 2 1 0 0\nquery 2 BROKEN 3 2\n",
     ),
-    // The two nodes of a position exchanged.
+    // `ex` exchanges the symbols of the two nodes of each position.
     (
         "%topology hex %rule full o@o %auto ex when o.a=1 give 1 else 0 %conjugate ex ex full full",
         "query 1 CONJUGATE 0 0 0 0\n",
     ),
-    // All configurations of `cyc` have the period 3, which exceeds the limit. So none is found that the identity doesn't map into
-    // `no`. One of `no` is found that the identity doesn't map into `cyc`.
+    // All configurations of `cyc` have the period 3, which exceeds the limit. So no configuration of `cyc` is found that the
+    // identity doesn't map into `no`. But one of `no` is found that the identity doesn't map into `cyc`.
     (
         "%dim 1 %alphabet 0 1 2 %limits 4 2 10 %rule cyc (o=0 -> o.rt=1) & (o=1 -> o.rt=2) & (o=2 -> o.rt=0) %rule no o!=1 %auto id when o=1 give 1 when o=2 give 2 else 0 %conjugate id id cyc no %conjugate id id no cyc",
         "query 1 BROKEN 2 1\nquery 2 BROKEN 1 1\n",
@@ -31,7 +31,7 @@ const MAPS: [(&str, &str); 5] = [
     ),
 ];
 
-// Scripts and the whole answers, each with a configuration as its evidence.
+// Scripts and their whole answers, each with a configuration as evidence.
 const BROKEN: [(&str, &str); 6] = [
     (
         "%dim 1 %rule full o@o %rule z o=0 %auto id when o=1 give 1 else 0 %maps id full z",
@@ -54,31 +54,31 @@ const BROKEN: [(&str, &str); 6] = [
         "%rule full o@o %auto nul else 0 %auto id when o=1 give 1 else 0 %conjugate nul id full full",
         "query 1 BROKEN 3 1 1\nconf 1\n",
     ),
-    // One composition gives back the configuration, the other doesn't.
+    // One composition gives each configuration back, and the other doesn't.
     (
         "%dim 1 %rule z o=0 %rule full o@o %auto id when o=1 give 1 else 0 %auto nul else 0 %conjugate id nul z full",
         "query 1 BROKEN 4 1\nconf 1\n",
     ),
 ];
 
-// A script whose automata lose information.
+// A script with an automaton that loses information.
 const LOSING: &str =
     "%dim 1 %limits 2 3 10 %rule row o=1 -> o.rt=0 %auto nul else 0 %conjugate nul nul row row";
 
-// The lines of an answer to this script, and whether a check accepts them.
+// Lines of answers to this script, and whether a check accepts them.
 const CHECKED: [(&str, bool); 10] = [
     ("query 1 BROKEN 3 2\nconf 1 0\n", true),
-    // Neither the question nor the periods need to be the first.
+    // An answer need not name the first question that is NO, nor the first periods.
     ("query 1 BROKEN 4 2\nconf 1 0\n", true),
     ("query 1 BROKEN 3 3\nconf 1 0 0\n", true),
     ("query 1 UNKNOWN limits\n", true),
-    // The symbol at the origin is given back.
+    // At the origin the composition gives the symbol back.
     ("query 1 BROKEN 3 2\nconf 0 1\n", false),
-    // The configuration doesn't obey the rule. If one does, its image is 0 throughout, which obeys the rule too.
+    // The configuration doesn't obey the rule. If a configuration does, its image has only 0s and obeys the rule too.
     ("query 1 BROKEN 3 1\nconf 1\n", false),
     ("query 1 BROKEN 1 2\nconf 1 0\n", false),
     ("query 1 NO 2\nconf 1 0\n", false),
-    // No steps refute that information is lost.
+    // The automaton does lose information, so no steps refute this.
     (
         "query 1 CONJUGATE 1 1 0 0\nrefutation 1\nstep 0 1 0 0\nrefutation 1\nstep 0 1 0 0\nrefutation 1\nstep 0 1 0 0\nrefutation 1\nstep 0 1 0 0\n",
         false,
@@ -90,8 +90,8 @@ const CHECKED: [(&str, bool); 10] = [
 const ONES: &str =
     "%dim 1 %rule ones o=1 %auto id when o=1 give 1 else 0 %conjugate id id ones ones";
 
-// The lines of an answer to this script, and whether a check accepts them. The first two questions have the same clauses, and
-// so do the last two.
+// Lines of answers to this script, and whether a check accepts them. The first two questions have the same clauses, and so do the
+// last two.
 const INVERSE: [(&str, bool); 4] = [
     (
         "query 1 CONJUGATE 0 0 0 0\nrefutation 1\nstep 0 3 5 10 14 19 27 20 21 25 32 33 0 0\nrefutation 1\nstep 0 3 5 10 14 19 27 20 21 25 32 33 0 0\nrefutation 1\nstep 0 3 21 26 32 5 10 14 17 28 36 37 0 0\nrefutation 1\nstep 0 3 21 26 32 5 10 14 17 28 36 37 0 0\n",
@@ -102,12 +102,12 @@ const INVERSE: [(&str, bool); 4] = [
         "query 1 CONJUGATE 0 0 0 0\nrefutation 1\nstep 0 3 5 10 14 19 27 20 21 25 32 33 0 0\nrefutation 1\nstep 0 3 21 26 32 5 10 14 17 28 36 37 0 0\nrefutation 1\nstep 0 3 5 10 14 19 27 20 21 25 32 33 0 0\nrefutation 1\nstep 0 3 21 26 32 5 10 14 17 28 36 37 0 0\n",
         false,
     ),
-    // The radius of the fourth question is another.
+    // The radius of the fourth question is a different one.
     (
         "query 1 CONJUGATE 0 0 0 1\nrefutation 1\nstep 0 3 5 10 14 19 27 20 21 25 32 33 0 0\nrefutation 1\nstep 0 3 5 10 14 19 27 20 21 25 32 33 0 0\nrefutation 1\nstep 0 3 21 26 32 5 10 14 17 28 36 37 0 0\nrefutation 1\nstep 0 3 21 26 32 5 10 14 17 28 36 37 0 0\n",
         false,
     ),
-    // The hints of the fourth question's step are too few.
+    // The step of the fourth question has too few hints.
     (
         "query 1 CONJUGATE 0 0 0 0\nrefutation 1\nstep 0 3 5 10 14 19 27 20 21 25 32 33 0 0\nrefutation 1\nstep 0 3 5 10 14 19 27 20 21 25 32 33 0 0\nrefutation 1\nstep 0 3 21 26 32 5 10 14 17 28 36 37 0 0\nrefutation 1\nstep 0 37 0 0\n",
         false,

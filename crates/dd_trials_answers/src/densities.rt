@@ -1,4 +1,4 @@
-// Least densities of strips: known values, and what a check makes of the answers of runs and of other answers.
+// Least densities of strips: known values, and whether a check accepts the answers of runs and other answers.
 use crate::outputs::{assert_checks, assert_lines};
 use std::test::Fail;
 
@@ -13,17 +13,17 @@ const DENSITIES: [(&str, &str); 15] = [
         "%rule dom Ep[o1] p=1 %density dom [5]",
         "query 1 DENSITY 1/5\n",
     ),
-    // The largest graph: 256 states of 256 slices.
+    // The largest graph: 256 states, and 256 slices that are tried after each.
     (
         "%rule hard o=1 -> (o.rt=0 & o.up=0) %density hard [8]",
         "query 1 DENSITY 0/1\n",
     ),
-    // A 0 weighs 1. Of seven cells in a circle three can be 1, and the next slice has its 1s beside them.
+    // A 0 weighs 1. Of the seven cells of a slice, which is a ring, three can be 1. The next slice has its 1s beside these.
     (
         "%weights 1 0 %rule hard o=1 -> (o.rt=0 & o.up=0) %density hard [7]",
         "query 1 DENSITY 4/7\n",
     ),
-    // What a densest set without the differences 2 and 3 leaves out; it has two of five.
+    // The density of what a densest set without the differences 2 and 3 leaves out. The set has two of every five cells.
     (
         "%dim 1 %weights 1 0 %rule apart !(o=1 & o.rt.rt=1) & !(o=1 & o.rt.rt.rt=1) %density apart []",
         "query 1 DENSITY 3/5\n",
@@ -32,7 +32,8 @@ const DENSITIES: [(&str, &str); 15] = [
         "%dim 3 %rule cover o=1 | o.rt=1 %density cover [1 2]",
         "query 1 DENSITY 1/2\n",
     ),
-    // Perfect codes of the king's and the hexagonal lattice; the latter has two cells a position, a quarter of them in the code.
+    // Perfect codes of the king's lattice and of the hexagonal lattice. The latter has two cells at each position, and a quarter
+    // of all its cells are in the code.
     (
         "%topology king %rule dom Ep[o1] p=1 %density dom [3]",
         "query 1 DENSITY 1/9\n",
@@ -41,7 +42,7 @@ const DENSITIES: [(&str, &str); 15] = [
         "%topology hex %rule dom Ep[o1] p=1 %density dom [2]",
         "query 1 DENSITY 1/2\n",
     ),
-    // Each cell has a codeword at or beside it, and no two cells have the same ones.
+    // Each cell has a codeword at or beside it, and no two cells have the same set of such codewords.
     (
         "%dim 1 %rule id (o=1 | o.lt=1 | o.rt=1) & (o.lt=1 | o.rt.rt=1) & (o=1 | o.lt=1 | o.rt.rt=1 | o.rt.rt.rt=1) %density id []",
         "query 1 DENSITY 1/2\n",
@@ -56,12 +57,12 @@ const DENSITIES: [(&str, &str); 15] = [
         "%dim 1 %weights 1 0 %rule up o=1 -> o.rt=1 %density up []",
         "query 1 DENSITY 0/1\n",
     ),
-    // A node that allows only the 1, beside one that allows both symbols.
+    // One node allows only the symbol 1, and the other allows both symbols.
     (
         "%dim 1 %nodes a b %topology (r a [1] a) %only b 1 %rule full o@o %density full []",
         "query 1 DENSITY 1/1\n",
     ),
-    // A strip that ends, and colourings with two colours of strips of circumference three and four.
+    // A rule that no infinite strip obeys, and colourings with two colours of strips of circumference three and four.
     (
         "%dim 1 %rule stuck o.rt=1 & !(o=1 & o.rt=1) %density stuck []",
         "query 1 EMPTY\n",
@@ -76,16 +77,16 @@ const DENSITIES: [(&str, &str); 15] = [
     ),
 ];
 
-// One of any two neighbours is 1, so the state 0 leads only to 1, and 1 to both.
+// Of any two neighbours at least one is 1. So the state 0 leads only to the state 1, and the state 1 leads to both.
 const COVER: &str = "%dim 1 %rule cover o=1 | o.rt=1 %density cover []";
 
-// Lines of answers to this script, and whether a check accepts them; likewise below.
+// Lines of answers to this script, and whether a check accepts them. The tables below are of the same form.
 const CHECKED_CYCLES: [(&str, bool); 9] = [
     ("query 1 DENSITY 1/2\ncycle 2 0 1\npotentials 0 1\n", true),
-    // Constant potentials, and one too few.
+    // Constant potentials, and one potential too few.
     ("query 1 DENSITY 1/2\ncycle 2 0 1\npotentials 0 0\n", false),
     ("query 1 DENSITY 1/2\ncycle 2 0 1\npotentials 0\n", false),
-    // Walks that don't close: no two 0s are neighbours.
+    // Cycles that aren't in the graph: no two neighbours are both 0.
     ("query 1 DENSITY 0/1\ncycle 1 0\npotentials 0 0\n", false),
     (
         "query 1 DENSITY 1/2\ncycle 4 0 0 1 1\npotentials 0 1\n",
@@ -103,7 +104,7 @@ const CHECKED_CYCLES: [(&str, bool); 9] = [
     ("query 1 EMPTY\nranks 1 0\n", false),
 ];
 
-// If a slice has four cells, the mean of a cycle is four times the density.
+// A slice has four cells, so the mean of a cycle is four times the density.
 const ROUND: &str = "%rule two o!=o.up & o!=o.rt %density two [4]";
 
 const CHECKED_ROUND: [(&str, bool); 2] = [

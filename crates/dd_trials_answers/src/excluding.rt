@@ -1,4 +1,6 @@
-//! What accepted answers exclude from a spike, a checkerboard and a configuration of the script.
+//! What accepted answers exclude from three configurations. A spike and a checkerboard are given as functions, and the third is a
+//! periodic configuration of the script. An answer excludes a query's goal at a position if the check accepts it as a YES to this
+//! query. Then no configuration that obeys the query's premise everywhere has the goal there.
 ghost use Rattle.dd_checker.specs.Lifted.{IsWhole};
 
 use dd_answer::answer;
@@ -24,7 +26,7 @@ const SCRIPT: &[u8] = b"%dim 1
 %contains sparse hard
 ";
 
-// The index of an answer, a query, and whether this answer to this query excludes the goal.
+// The index of an answer, the number of a query, and whether the answer, if it is given to this query, excludes the query's goal.
 const ROWS: &[(usize, u32, bool)] = &[
     (0, 1, true),
     (0, 2, false),
@@ -38,7 +40,7 @@ const ROWS: &[(usize, u32, bool)] = &[
     (2, 3, false),
 ];
 
-// Positions of the line.
+// The positions of the line that are tried.
 const PLACES: &[i32] = &[-1_000_000, 0, 1];
 
 fn script_of(alloc: Global, bytes: &[u8]) -> Result<Script, Fail> {
@@ -57,7 +59,7 @@ fn answers_to(alloc: Global, script: &Script) -> Result<Vec<Answer>, AllocError>
     Ok(answers)
 }
 
-// Whether this answer to this query excludes the goal from the configuration at a position of the line.
+// Whether this answer, given to this query, excludes the query's goal from the configuration at a position of the line.
 fn excludes_at<C: Configuration>(
     alloc: Global,
     script: &Script,
@@ -74,7 +76,7 @@ fn excludes_at<C: Configuration>(
     Ok(excludes(alloc, script, query, answer, configuration, &place)?)
 }
 
-// Asserts that this answer to this query excludes the goal at each of the positions, or at none.
+// Asserts that this answer, given to this query, excludes the query's goal at each of the positions, or at none of them.
 fn assert_places<C: Configuration>(
     rt: &impl Abort,
     alloc: Global,
@@ -112,7 +114,7 @@ fn assert_rows<C: Configuration>(
     Ok(())
 }
 
-// Asserts all rows for the two configurations that are functions.
+// Asserts all rows for the two configurations that are given as functions.
 fn assert_functions(
     rt: &impl Abort,
     alloc: Global,
@@ -139,7 +141,7 @@ fn assert_periodic(
     assert_rows(rt, alloc, script, answers, thirds)
 }
 
-// Asserts all rows for each of the configurations.
+// Asserts all rows for each of the three configurations.
 fn assert_script(rt: &impl Abort, alloc: Global, script: &Script) -> Result<(), Fail> {
     let answers = answers_to(alloc, script)?;
     assert_functions(rt, alloc, script, &answers)?;

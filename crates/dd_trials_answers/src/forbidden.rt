@@ -1,26 +1,26 @@
-// Forbidden patterns: the lists that runs write, and what a check makes of these and of other lists.
+// Forbidden patterns: the lists that runs write, and whether a check accepts these and other lists.
 use crate::outputs::{assert_answers, assert_checks};
 use std::test::Fail;
 
 // Scripts and the lines of their answers.
 const LISTS: [(&str, &str); 10] = [
-    // The cells are the origin, the one to the right and the one above.
+    // The cells that are read are the origin, the cell to its right and the cell above it.
     (
         "%rule hard o=1 -> (o.rt=0 & o.up=0) %forbidden hard",
         "query 1 LIST 3\npattern 0 1 0 1\npattern 0 1 1 0\npattern 0 1 1 1\n",
     ),
     ("%rule full o@o %forbidden full", "query 1 LIST 0\n"),
-    // Nothing is read, and the rule is false.
+    // The rule reads nothing and is false.
     (
         "%rule none !(o@o) %forbidden none",
         "query 1 LIST 1\npattern 0\n",
     ),
-    // At the second node the move is missing, and the atom is false.
+    // The second node lacks the move, so the atom is false there.
     (
         "%dim 1 %nodes a b %topology (x a [0] b) %rule p o.x=1 %forbidden p",
         "query 1 LIST 2\npattern 0 0\npattern 1\n",
     ),
-    // Only allowed symbols are listed.
+    // Only patterns of allowed symbols are listed.
     (
         "%dim 1 %alphabet 0 1 2 %only 0 0 2 %rule a o=1 | o.rt=0 %forbidden a",
         "query 1 LIST 2\npattern 0 0 2\npattern 0 2 2\n",
@@ -34,12 +34,12 @@ const LISTS: [(&str, &str); 10] = [
         "%alphabet 0 1 2 %rule hard o=1 -> (o.rt=0 & o.up=0) %forbidden hard",
         "query 1 LIST 8\npattern 0 1 0 1\npattern 0 1 0 2\npattern 0 1 1 0\npattern 0 1 1 1\npattern 0 1 1 2\npattern 0 1 2 0\npattern 0 1 2 1\npattern 0 1 2 2\n",
     ),
-    // One node after the other.
+    // The patterns are listed node by node.
     (
         "%topology hex %rule free Ap[o1] (p~o -> !(p=1 & o=1)) %rule q o=0 %forbidden q",
         "query 1 LIST 2\npattern 0 1\npattern 1 1\n",
     ),
-    // Each node has its own allowed symbols, and so do the cells that it reads.
+    // Each node has its own allowed symbols. A cell that is read has those of its own node.
     (
         "%dim 1 %nodes a b %topology (x a [0] b) (x b [0] a) %only b 1 %rule p o=0 %forbidden p",
         "query 1 LIST 2\npattern 0 1\npattern 1 1\n",

@@ -1,5 +1,5 @@
-// What formulas mean: configurations in which they are true, or the first cells, found by hand, at which they are false. Then
-// the limits on their expansions.
+// What formulas mean: configurations throughout which they are true, or the first cells, found by hand, at which they are false.
+// Then the limits on expansions, which are formulas with all quantifiers written out.
 use dd_trials_runs::run_on;
 use std::alloc::{AllocError, Global};
 use std::test::Fail;
@@ -58,7 +58,7 @@ pub(crate) const DOMINATION: [(&str, &str); 6] = [
     ),
 ];
 
-// Each atom, true and false.
+// Each kind of atom, where it is true and where it is false.
 pub(crate) const ATOMS: [(&str, &str); 5] = [
     (
         "%dim 1 %conf c [2] 0 1 %rule a o=0 %rule b o!=1 %rule d o=0 | o=1 %member c a %member c b %member c d",
@@ -96,13 +96,14 @@ pub(crate) const CONNECTIVES_AND_QUANTIFIERS: [(&str, &str); 2] = [
     ),
 ];
 
-// The cell 15 moves from p. If p is two moves from o, this is one further than a rule may read.
+// The cell 15 moves to the right of `p`. If `p` is two moves from `o`, this is one move further than a rule may read.
 const FAR: &str = "p.rt.rt.rt.rt.rt.rt.rt.rt.rt.rt.rt.rt.rt.rt.rt";
 
-// Three quantifiers, each over the balls round the cells of the one before.
+// Three nested quantifiers. Each inner one ranges over the balls around the cells of the quantifier before it.
 const LARGE: &str = "Ap[o3] Aq[p3] Ar[q3]";
 
-// Scripts, with the words FAR and LARGE for these texts, and the last line of the output. It says which limit they exceed, if any.
+// Scripts in which the words FAR and LARGE stand for these texts, and the last line of the output. This line says which limit the
+// script exceeds, if any.
 const EXPANSIONS: [(&str, &str); 11] = [
     ("%rule a Ap[o1] FAR=0", "end"),
     ("%rule a Ap[o2] FAR=0", "refused 1 size reach"),
@@ -111,7 +112,7 @@ const EXPANSIONS: [(&str, &str); 11] = [
         "%topology king %rule a LARGE r=0",
         "refused 2 size instances",
     ),
-    // A variable that is bound twice is refused before both limits, and the limit on instances is met before the one on reach.
+    // A variable that is bound twice is reported before both limits. The limit on instances is reported before the one on reach.
     (
         "%topology king %rule a Ap[o2] LARGE FAR=0",
         "refused 2 twice p",
@@ -120,7 +121,7 @@ const EXPANSIONS: [(&str, &str); 11] = [
         "%topology king %rule a LARGE (r=0 & FAR=0)",
         "refused 2 size instances",
     ),
-    // An automaton has the instances of all its cases.
+    // The instances of an automaton are those of all its cases together.
     (
         "%auto f when Ap[o2] FAR=0 give 0 when LARGE r=0 give 0 else 1",
         "refused 1 size reach",
@@ -143,7 +144,7 @@ const EXPANSIONS: [(&str, &str); 11] = [
     ),
 ];
 
-// The script, with these texts in place of the words FAR and LARGE.
+// The script with these texts in place of the words FAR and LARGE.
 fn written_out(alloc: Global, script: &str) -> Result<String, AllocError> {
     let script = script.replace(alloc, "FAR", FAR)?;
     script.replace(alloc, "LARGE", LARGE)

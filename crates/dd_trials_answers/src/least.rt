@@ -1,21 +1,21 @@
-// The least weight of a torus: the answers of runs, and what a check makes of them.
+// The least weight of a torus: the answers of runs, and whether a check accepts these and other answers.
 use crate::outputs::{assert_answers, assert_checks, assert_lines};
 use std::test::Fail;
 
 // Scripts, and the first lines of their answers.
 const WEIGHTS: [(&str, &str); 5] = [
-    // Two 1s never dominate nine cells: the first leaves four, and a second reaches at most three of them.
+    // Two 1s never dominate nine cells. The first leaves four cells undominated, and the second dominates at most three of them.
     ("%rule dom Ep[o1] p=1 %least dom [3 3]", "query 1 LEAST 3\n"),
     (
         "%dim 1 %rule cover o=1 | o.rt=1 %rule stuck o.rt=1 & !(o=1 & o.rt=1) %rule z o=0 %least cover [3] %least stuck [2] %least z [2]",
         "query 1 LEAST 2\nquery 2 NONE\nquery 3 LEAST 0\n",
     ),
-    // Both symbols have a weight, and a row of odd period can't alternate.
+    // Both symbols weigh something, and a ring of odd length can't alternate.
     (
         "%dim 1 %weights 2 3 %rule alt o!=o.rt %least alt [2] %least alt [3]",
         "query 1 LEAST 5\nquery 2 NONE\n",
     ),
-    // Eight cells on two nodes; each dominates itself and three others.
+    // There are eight cells, two at each position. Each cell dominates itself and three others.
     (
         "%topology hex %rule dom Ep[o1] p=1 %least dom [2 2]",
         "query 1 LEAST 2\n",
@@ -43,13 +43,13 @@ const CHECKED: [(&str, bool); 9] = [
         "query 1 LEAST 1\nconf 1\nrefutation 1\nstep 0 3 4 6 0 0\n",
         true,
     ),
-    // Wrong weights: one less and one more.
+    // Wrong weights: one too small and one too large.
     ("query 1 LEAST 0\nconf 1\n", false),
     (
         "query 1 LEAST 2\nconf 1\nrefutation 1\nstep 0 3 4 6 0 0\n",
         false,
     ),
-    // A configuration that doesn't live, or has too many symbols.
+    // A configuration that doesn't obey the rule, and one with too many symbols.
     (
         "query 1 LEAST 1\nconf 0\nrefutation 1\nstep 0 3 4 6 0 0\n",
         false,
@@ -63,7 +63,7 @@ const CHECKED: [(&str, bool); 9] = [
         "query 1 LEAST 1\nconf 1\nrefutation 1\nstep 0 3 5 6 0 0\n",
         false,
     ),
-    // A configuration lives.
+    // Some configuration obeys the rule.
     ("query 1 NONE\nrefutation 1\nstep 0 3 4 6 0 0\n", false),
     ("query 1 UNKNOWN limits\n", false),
     ("query 1 YES 0\nrefutation 1\nstep 0 3 4 6 0 0\n", false),

@@ -1,5 +1,6 @@
 //! Tests of the answers that runs give to each kind of query, of the answers that a check accepts or rejects, and of what
-//! accepted answers exclude from configurations that are functions. They use the crates from outside.
+//! accepted answers exclude from configurations given as functions. These tests use only the public items of the crates that they
+//! test.
 #![tactic(auto)]
 
 #[cfg(test)]

@@ -12,7 +12,7 @@ const NO_QUERIES: [(&str, &str); 4] = [
     ("%limits 8 8 100000", ""),
 ];
 
-// Configurations that obey rules, and the first cells at which others break them.
+// Configurations that obey rules, and configurations that don't, with the first cell at which they break the rule.
 const MEMBERS: [(&str, &str); 7] = [
     (HARD, "query 1 IN\n"),
     (
@@ -42,7 +42,7 @@ const MEMBERS: [(&str, &str); 7] = [
     ),
 ];
 
-// In one dimension and in three, and with two nodes.
+// Configurations in one dimension and in three, and on two nodes.
 const MEMBERS_ELSEWHERE: [(&str, &str); 4] = [
     (
         "%dim 1 %conf z [2] 0 1 %rule a o.rt=0 %member z a",
@@ -62,14 +62,14 @@ const MEMBERS_ELSEWHERE: [(&str, &str); 4] = [
     ),
 ];
 
-// Words that could be read in two ways, and tokens that could be split.
+// Words that could be read in two ways, and tokens that could be taken apart.
 const WORDS_AND_TOKENS: [(&str, &str); 4] = [
     // A word that is a variable in scope is not a symbol.
     (
         "%alphabet o i %conf z [1 1] i %rule a o=o %member z a",
         "query 1 IN\n",
     ),
-    // The words of commands may be names.
+    // A word that names a command may also be a name of the script.
     (
         "%alphabet rule conf %conf when [1 1] conf %rule dim o=conf %member when dim",
         "query 1 IN\n",
@@ -82,7 +82,7 @@ const WORDS_AND_TOKENS: [(&str, &str); 4] = [
     ("%conf z[1 1]0%rule a Ap[o1]p=0%member z a", "query 1 IN\n"),
 ];
 
-// With sheared periods, each row is shifted by the shear against the row below it.
+// Configurations with a shear. Each row is the row below it, shifted by the shear.
 const SHEARED: [(&str, &str); 2] = [
     (
         "%alphabet 0 1 2 %conf c [3 1] [2] 1 2 0 %rule d (o=0 -> o.rt=1 & o.up=1) & (o=1 -> o.rt=2 & o.up=2) & (o=2 -> o.rt=0 & o.up=0) %member c d",

@@ -1,11 +1,11 @@
-// Minimal forbidden patterns: the lists that runs write, and what a check makes of these and of other lists.
+// Minimal forbidden patterns: the lists that runs write, and whether a check accepts these and other lists.
 use crate::outputs::{assert_answers, assert_checks};
 use std::test::Fail;
 
 // Scripts and the lines of their answers.
 const LISTS: [(&str, &str); 8] = [
-    // The cells are the origin, the one to its right and the one above. Of the three fillings that break the rule, the first and
-    // the second each leave out one cell, and the third agrees with both patterns.
+    // The cells that are read are the origin, the cell to its right and the cell above it. Three fillings break the rule. The
+    // first and the second give patterns that leave out one cell each. The third agrees with both of these patterns.
     (
         "%rule hard o=1 -> (o.rt=0 & o.up=0) %minimal hard",
         "query 1 MINIMAL 2\npattern 0 1 * 1\npattern 0 1 1 *\n",
@@ -16,7 +16,7 @@ const LISTS: [(&str, &str); 8] = [
         "%dim 1 %rule x o=0 & o=1 %rule y !(o@o) %minimal x %minimal y",
         "query 1 MINIMAL 1\npattern 0 *\nquery 2 MINIMAL 1\npattern 0\n",
     ),
-    // At the second node the move is missing, and the atom is false.
+    // The second node lacks the move, so the atom is false there.
     (
         "%dim 1 %nodes a b %topology (x a [0] b) %rule p o.x=1 %minimal p",
         "query 1 MINIMAL 2\npattern 0 0\npattern 1\n",
@@ -26,7 +26,8 @@ const LISTS: [(&str, &str); 8] = [
         "%dim 1 %rule eq o=o.rt %minimal eq",
         "query 1 MINIMAL 2\npattern 0 0 1\npattern 0 1 0\n",
     ),
-    // A cell is left out only if the rule is false for all its allowed symbols; with the symbol 1 the rule is true.
+    // A cell is left out only if the rule is false for all of the cell's allowed symbols. With the symbol 1, which isn't allowed,
+    // the rule is true.
     (
         "%dim 1 %alphabet 0 1 2 %only 0 0 2 %rule a o=1 | o.rt=0 %minimal a",
         "query 1 MINIMAL 1\npattern 0 * 2\n",
@@ -36,7 +37,7 @@ const LISTS: [(&str, &str); 8] = [
         "%dim 1 %rule r !((o.lt=1 & o=1) | (o.lt=0 & o.rt=1)) %minimal r",
         "query 1 MINIMAL 2\npattern 0 0 * 1\npattern 0 1 1 *\n",
     ),
-    // One node after the other.
+    // The patterns are listed node by node.
     (
         "%dim 1 %nodes a b %topology (x a [0] b) (x b [0] a) %only b 1 %rule p o=o.x %minimal p",
         "query 1 MINIMAL 2\npattern 0 0 *\npattern 1 0 *\n",
@@ -54,7 +55,7 @@ const CHECKED: [(&str, bool); 9] = [
         false,
     ),
     ("query 1 MINIMAL 1\npattern 0 1 * 1\n", false),
-    // A symbol for a cell that is left out, and none for a cell that is kept.
+    // A symbol for a cell that should be left out, and none for a cell that should be kept.
     (
         "query 1 MINIMAL 2\npattern 0 1 0 1\npattern 0 1 1 *\n",
         false,
@@ -63,7 +64,7 @@ const CHECKED: [(&str, bool); 9] = [
         "query 1 MINIMAL 2\npattern 0 1 * *\npattern 0 1 1 *\n",
         false,
     ),
-    // The whole fillings that break the rule.
+    // The fillings that break the rule, with no cell left out.
     (
         "query 1 MINIMAL 3\npattern 0 1 0 1\npattern 0 1 1 0\npattern 0 1 1 1\n",
         false,

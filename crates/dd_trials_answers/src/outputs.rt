@@ -1,4 +1,4 @@
-// Outputs of runs over scripts, and what a check makes of them.
+// Outputs of runs over scripts, and whether a check accepts them.
 use dd_outside::{MemorySink, MemorySource};
 use dd_session::{Status, check_diddy};
 use dd_trials_runs::{Member, NO_ENGINES, OF_PROGRAM, Ran, first_lines, run_over};
@@ -6,7 +6,7 @@ use std::alloc::{AllocError, Global};
 use std::process::Abort;
 use std::test::Fail;
 
-// The status of a check of these bytes.
+// The status with which a check of these bytes ends.
 fn check_of(alloc: Global, bytes: &[u8]) -> Result<Status, AllocError> {
     let mut source = MemorySource::new(Vec::from_slice(alloc, bytes)?, 7, Vec::new(alloc));
     let mut sink = MemorySink::new(alloc, 400, 5, Vec::new(alloc))?;
@@ -43,8 +43,8 @@ fn checked_output(
     Ok(output)
 }
 
-/// Asserts that a run of the script gives answers with these first lines, without engines and with those of the program, and
-/// that a check accepts each output.
+/// Asserts that runs of the script, without engines and with those of the program, give answers with these first lines, and that
+/// a check accepts each output.
 pub(crate) fn assert_first_lines(
     rt: &impl Abort,
     alloc: Global,
@@ -59,7 +59,7 @@ pub(crate) fn assert_first_lines(
     Ok(())
 }
 
-/// Asserts that each script has these first lines of answers, and that a check accepts the output.
+/// Asserts that the answers to each script have these first lines, and that a check accepts each output.
 pub(crate) fn assert_lines(
     rt: &impl Abort,
     alloc: Global,
@@ -71,7 +71,7 @@ pub(crate) fn assert_lines(
     Ok(())
 }
 
-/// Asserts that each script has these lines of answers without engines, and that a check accepts the output.
+/// Asserts that a run of each script without engines gives exactly these lines of answers, and that a check accepts its output.
 pub(crate) fn assert_answers(
     rt: &impl Abort,
     alloc: Global,
@@ -85,7 +85,7 @@ pub(crate) fn assert_answers(
     Ok(())
 }
 
-/// Asserts that a check accepts the output with each of these lines of answers, or rejects an answer in it.
+/// For each row, asserts that a check accepts the output with these lines of answers, or that it rejects an answer in it.
 pub(crate) fn assert_checks(
     rt: &impl Abort,
     alloc: Global,

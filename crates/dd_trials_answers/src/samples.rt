@@ -1,4 +1,4 @@
-// Runs of the sample scripts: their lines, worked out by hand, and words that ask for no sample.
+// Sample scripts: the lines that answer them, worked out by hand, and words that ask for no sample.
 use crate::outputs::assert_first_lines;
 use dd_engines::Roster;
 use dd_outside::{MemorySink, MemorySource, ReadAllFault, read_all};
@@ -6,7 +6,7 @@ use dd_session::{Status, run_diddy, sample_script};
 use dd_trials_runs::words_of;
 use std::test::Fail;
 
-// The sample script number 1.
+// Sample script number 1.
 const SMALLEST: &str = "%limits 3 3 1000\n\
     %rule hard o=1 -> (o.rt=0 & o.up=0)\n\
     %rule row o=1 -> o.rt=0\n\
@@ -22,11 +22,12 @@ const SMALLEST: &str = "%limits 3 3 1000\n\
     %density dom [5]\n\
     %discharge dom 0 0 [1 0] [-1 0] [0 1] [0 -1]\n";
 
-// The chessboard has no two neighbouring 1s. `hard` implies `row`, and the box of radius 1 has the cells for this. For `row` a 1
-// may have a 1 above it: alternating columns of 1s and 0s have the periods 2 and 1; with the period 1 along a row, a 1 is its
-// own neighbour. By `dies` a 1 has a 1 to its right but no second one, so there is none. This takes the rule at the 1 and at its
-// neighbour, which reads three cells from the 1; the box of radius 2 ends before. A 1 dominates five cells, and a strip of
-// period 5 has a code that dominates each cell once.
+// Query 1: the chessboard has no two neighbouring 1s. Query 2: `hard` implies `row`, and the box of radius 1 has the cells that
+// this takes. Queries 3 and 4: by `row` a 1 may have a 1 above it. Alternating columns of 1s and 0s have the periods 2 and 1;
+// with the period 1 along a row, a 1 would be its own neighbour. Query 5: by `dies` a 1 has a 1 to its right, but no second one
+// after that, so there is no 1. To see this, the rule is needed at the 1 and at its right neighbour. There it reads the cell
+// three to the right of the 1, and the box of radius 2 ends before this cell. Queries 6 and 7: a 1 dominates five cells, and a
+// strip of period 5 has a code that dominates each cell once.
 const LINES: &str =
     "query 1 IN\nquery 2 YES 1\nquery 3 NO 2 1\nquery 4 NO right 2 1\nquery 5 YES 3\n\
     query 6 DENSITY 1/5\nquery 7 BOUND 1/5\n";

@@ -1,4 +1,5 @@
-// What a check makes of answers to box questions and membership: configurations and cells that are evidence, or are not.
+// Answers to box questions and to queries about membership, and whether a check accepts them. Their configurations and cells are
+// evidence, or are not.
 use crate::outputs::assert_checks;
 use std::test::Fail;
 
@@ -11,12 +12,14 @@ const BOX_QUESTIONS: [(&str, &[(&str, bool)]); 4] = [
             // The periods need not be the first.
             ("query 1 NO 3 1\nconf 1 0 0\n", true),
             ("query 1 UNKNOWN limits\n", true),
-            // The first breaks the rule, but not at the origin; the second breaks nothing; the third doesn't obey the premise.
+            // The first configuration breaks the rule, but not at the origin. The second and the fourth, which is a chessboard,
+            // break nothing. The third doesn't obey the premise.
             ("query 1 NO 2 1\nconf 0 1\n", false),
             ("query 1 NO 1 1\nconf 0\n", false),
             ("query 1 NO 1 1\nconf 1\n", false),
             ("query 1 NO 2 1 shear 1\nconf 1 0\n", false),
-            // A period over the limit, and wrong numbers of periods, symbols or sides.
+            // A period over the limit, too few periods, too many symbols, a symbol that doesn't exist, a side where the question
+            // has none, and steps that refute nothing.
             ("query 1 NO 4 1\nconf 1 0 1 0\n", false),
             ("query 1 NO 2\nconf 1 0\n", false),
             ("query 1 NO 2 1\nconf 1 0 0\n", false),
@@ -43,14 +46,14 @@ const BOX_QUESTIONS: [(&str, &[(&str, bool)]); 4] = [
         "%rule a o=0 %rule b o=1 %equal a b",
         &[
             ("query 1 NO left 1 1\nconf 0\n", true),
-            // Both sides have evidence.
+            // There is evidence for the other side too.
             ("query 1 NO right 1 1\nconf 1\n", true),
             ("query 1 NO left 1 1\nconf 1\n", false),
             ("query 1 NO right 1 1\nconf 0\n", false),
             ("query 1 NO 1 1\nconf 0\n", false),
         ],
     ),
-    // The steps of the left side don't refute the right one.
+    // The steps for the left side don't refute the clauses of the right side.
     (
         "%rule hard o=1 -> (o.rt=0 & o.up=0) %rule row o=1 -> o.rt=0 %equal hard row",
         &[
@@ -70,7 +73,8 @@ const BOX_QUESTIONS: [(&str, &[(&str, bool)]); 4] = [
 
 // Shears, nodes that allow only some symbols, and membership.
 const OTHERS: [(&str, &[(&str, bool)]); 4] = [
-    // A step up shifts by the shear. A shift by 2 is one by -1, so a step up and one to the right meet another symbol.
+    // Each row is the row below it, shifted by the shear. With the period 3 a shift by 2 is the same as one by -1. So the cell up
+    // and to the right of the origin has another symbol than the origin.
     (
         "%alphabet 0 1 2 %rule three Ap[o1] (p~o -> p!=o) %rule diagonal o=o.rt.up %contains diagonal three",
         &[

@@ -1,5 +1,5 @@
-// How an answer of each kind is written, outputs that are read back, and texts that are no outputs, with the lengths of the
-// prefixes that could begin one, counted by hand.
+// How an answer of each kind is written; outputs that are read back; and texts that are no outputs, each with the length of its
+// longest prefix that could begin an output, counted by hand.
 use crate::samples::{SAMPLES, Sample, answer_of};
 use dd_certificate::{Answer, answer_line, write_answer};
 use dd_output::{CertificateFault, read_output, write_output};
@@ -7,7 +7,7 @@ use std::alloc::{AllocError, Global};
 use std::process::Abort;
 use std::test::Fail;
 
-/// Asserts how an answer to query 7 is written: its first line, and the whole.
+/// Asserts how an answer to query 7 is written: its first line, and its whole text.
 fn assert_written(
     rt: &impl Abort,
     alloc: Global,
@@ -70,7 +70,7 @@ fn output_with(alloc: Global, sample: &Sample) -> Result<Vec<u8>, AllocError> {
     output_of(alloc, &answer)
 }
 
-/// Asserts that the output is read, and written again as the same text.
+/// Asserts that the output is read, and that what was read is written as the same text.
 fn assert_read(rt: &impl Abort, alloc: Global, text: &[u8]) -> Result<(), AllocError> {
     match read_output(alloc, text) {
         Ok(output) => {
@@ -107,7 +107,7 @@ fn refuses_cut_texts(rt: HostRuntime) -> Result<(), Fail> {
     Ok(())
 }
 
-/// The head of an output, the lines after the script, and the offset at which the text stops being an output.
+/// The head of an output, the lines after the script, and the offset at which the text stops being the beginning of an output.
 const ALTERED: &[(&str, &str, u64)] = &[
     ("diddy 2\nscript 34\n", LINES, 6),
     ("diddy 1\nscript 35\n", LINES, 53),
@@ -164,7 +164,8 @@ fn refuses_altered_texts(rt: HostRuntime) -> Result<(), Fail> {
     Ok(())
 }
 
-/// Answers after the first 26 bytes of an output, and the offset from there at which the text stops being an output.
+/// Texts that follow the first 26 bytes of an output in place of an answer, and the offset in each text at which the whole stops
+/// being the beginning of an output.
 const FAULTY: &[(&str, u32)] = &[
     ("NOR\n", 2),
     ("NONE\n", 5),

@@ -1,4 +1,5 @@
-// Clause lists, and which assignments satisfy them. A list is given by signed numbers, with 0 at the end of each clause.
+// Clause lists, and which assignments satisfy them. A list is given by signed numbers of variables, with 0 at the end of each
+// clause. A negative number stands for the negation of its variable.
 use dd_clause::{Assignment, Clause, Cnf, Literal, satisfies};
 use std::alloc::{AllocError, Global};
 use std::test::Fail;
@@ -10,7 +11,7 @@ fn literal(number: i32) -> Literal {
     }
 }
 
-/// The clauses that the numbers give. A clause out of range is left out.
+/// The clauses that the numbers give. A clause with a variable out of range is left out.
 fn cnf_of(alloc: Global, variables: u8, numbers: &[i32]) -> Result<Cnf, AllocError> {
     let mut cnf = Cnf::new(alloc, u32::from(variables));
     let mut literals = Vec::new(alloc);
@@ -32,7 +33,7 @@ fn assignment_of(alloc: Global, values: &[bool]) -> Result<Assignment, AllocErro
     Ok(Assignment::new(Vec::from_slice(alloc, values)?))
 }
 
-// The variable 3 is the conjunction of 1 and 2, one of which must be true and one false.
+// The variable 3 is the conjunction of the variables 1 and 2. One of these two must be true, and the other false.
 const GATE: &[i32] = &[1, 2, 0, -1, -2, 0, -3, 1, 0, -3, 2, 0, 3, -1, -2, 0];
 
 const GATE_IS_TRUE: &[i32] = &[1, 2, 0, -1, -2, 0, -3, 1, 0, -3, 2, 0, 3, -1, -2, 0, 3, 0];
@@ -57,7 +58,7 @@ fn finds_the_two_assignments_of_a_gate(rt: HostRuntime) -> Result<(), Fail> {
     Ok(())
 }
 
-/// A number of variables, a number of values, and whether they fit.
+/// A number of variables, a number of values, and whether there is one value for each variable.
 const VALUES: &[(u8, usize, bool)] = &[(0, 0, true), (2, 1, false), (2, 2, true), (2, 3, false)];
 
 #[test]

@@ -1,5 +1,6 @@
-// Checks of refutations and of single steps. Clauses are given by signed numbers, with 0 at the end of each. A step is given by the
-// literals of its clause, 0, its hints, 0, its deletes and 0.
+// Checks of refutations and of single steps. Clauses are given by signed numbers of variables, with 0 at the end of each clause.
+// A step is given by the literals of its clause, 0, its hints, 0, its deletes and 0. Hints are the numbers of the clauses from
+// which the step's clause follows, and deletes are the numbers of the clauses that the step removes.
 use dd_clause::{Clause, Cnf, Literal};
 use dd_derivation::{Marks, Step, check_refutation, check_step};
 use dd_values::Items;
@@ -18,7 +19,7 @@ fn clause_of(alloc: Global, numbers: &[i32]) -> Result<Clause, AllocError> {
     Clause::from_literals(alloc, literals.as_slice())
 }
 
-/// The clauses over three variables that the numbers give. A clause out of range is left out.
+/// The clauses over three variables that the numbers give. Empty clauses, and clauses with a variable out of range, are left out.
 fn cnf_of(alloc: Global, numbers: &[i32]) -> Result<Cnf, AllocError> {
     let mut cnf = Cnf::new(alloc, 3);
     for clause in numbers.split(|number| *number == 0) {
@@ -61,10 +62,11 @@ fn steps_of(alloc: Global, numbers: &[i32]) -> Result<Vec<Step>, AllocError> {
     Ok(steps)
 }
 
-// The variable 3 is the conjunction of 1 and 2, one of which must be true and one false, and 3 is true.
+// The variable 3 is the conjunction of the variables 1 and 2. One of these two must be true, and the other false. The variable 3
+// must be true.
 const GATE_IS_TRUE: &[i32] = &[1, 2, 0, -1, -2, 0, -3, 1, 0, -3, 2, 0, 3, -1, -2, 0, 3, 0];
 
-/// The result of the check, and once more with the same marks, after the last step was checked by itself.
+/// The results of two checks with the same marks. Between them, the last step is checked by itself.
 fn check_twice(alloc: Global, clauses: &[i32], steps: &[i32]) -> Result<[bool; 2], AllocError> {
     let cnf = cnf_of(alloc, clauses)?;
     let steps = steps_of(alloc, steps)?;
@@ -77,7 +79,7 @@ fn check_twice(alloc: Global, clauses: &[i32], steps: &[i32]) -> Result<[bool; 2
     Ok([first, second])
 }
 
-/// Asserts the result for each list of steps for the gate, both times.
+/// Asserts that both checks of each list of steps, with the clauses of the gate, have this result.
 fn assert_checks(
     rt: &impl Abort,
     alloc: Global,
@@ -100,11 +102,12 @@ const HINTS_OF_ONE_STEP: &[(&[i32], bool)] = &[
     (&[0, 0, 0], false),
     (&[0, 6, 4, 2, 0, 0], false),
     (&[0, 6, 3, 4, 2, 5, 0, 0], false),
-    // a literal that is already true, two literals that are not false, a number that doesn't exist
+    // hints to a clause with a literal that is already true, to one with two literals that are not false, and to one that doesn't
+    // exist
     (&[0, 6, 3, 3, 4, 2, 0, 0], false),
     (&[0, 1, 6, 3, 4, 2, 0, 0], false),
     (&[0, 7, 6, 3, 4, 2, 0, 0], false),
-    // a number deleted twice, and one that doesn't exist
+    // a clause that is deleted twice, and a delete of the step itself, whose clause doesn't exist yet
     (&[0, 6, 3, 4, 2, 0, 6, 6, 0], false),
     (&[0, 6, 3, 4, 2, 0, 7, 0], false),
     // the last clause is not empty
@@ -118,10 +121,10 @@ fn follows_the_hints_of_one_step(rt: HostRuntime) -> Result<(), Fail> {
     Ok(())
 }
 
-/// The literals 1 and 2 and then the empty clause, each derived from what comes before it.
+/// Steps with the clauses (1) and (2) and then the empty clause. Each clause is derived from what comes before it.
 const BOTH_AND_NOTHING: &[i32] = &[1, 0, 6, 3, 0, 0, 2, 0, 6, 4, 0, 0, 0, 7, 8, 2, 0, 0];
 
-/// Steps that are checked one after the other, and whether they are a refutation.
+/// Steps that are checked one after the other, and whether they make up a refutation.
 const STEPS_IN_TURN: &[(&[i32], bool)] = &[
     (BOTH_AND_NOTHING, true),
     (
@@ -129,7 +132,7 @@ const STEPS_IN_TURN: &[(&[i32], bool)] = &[
         true,
     ),
     (&[0, 6, 3, 4, 2, 0, 0, 0, 6, 3, 4, 2, 0, 0], true),
-    // hints to deleted clauses, of the list and of a step
+    // hints to deleted clauses: to one of the list, and to that of a step
     (
         &[1, 0, 6, 3, 0, 6, 0, 2, 0, 6, 4, 0, 0, 0, 7, 8, 2, 0, 0],
         false,
@@ -140,7 +143,7 @@ const STEPS_IN_TURN: &[(&[i32], bool)] = &[
     ),
     // a step that deletes itself
     (&[1, 0, 6, 3, 0, 7, 0, 0, 6, 3, 4, 2, 0, 0], false),
-    // a repeated variable, with one sign and with both, and a variable out of range
+    // a variable that is repeated with the same sign, one that is repeated with the other sign, and one that is out of range
     (&[1, 1, 0, 6, 3, 0, 0, 0, 6, 3, 4, 2, 0, 0], false),
     (&[1, -1, 0, 6, 3, 0, 0, 0, 6, 3, 4, 2, 0, 0], false),
     (&[4, 1, 0, 6, 3, 0, 0, 0, 6, 3, 4, 2, 0, 0], false),
@@ -162,11 +165,11 @@ fn a_literal_that_stands_twice_in_a_clause_counts_once(rt: HostRuntime) -> Resul
     Ok(())
 }
 
-/// Steps with the clauses (9) and (-9 1), each with the list's first clause as its hint, then one with the clause (1) that hints at
-/// both. The list has no variable 9.
+/// Steps with the clauses (9) and (-9 1), each with the list's first clause as its hint, and then a step with the clause (1) and
+/// hints to both. The list has no variable 9.
 const OUT_OF_RANGE: &[i32] = &[9, 0, 1, 0, 0, -9, 1, 0, 1, 0, 0, 1, 0, 7, 8, 0, 0];
 
-/// Steps, the index of the one that is checked after those before it, and whether it is right.
+/// Steps, the index of the step that is checked after those before it, and whether this step is right.
 const STEPS_AFTER_EARLIER_ONES: &[(&[i32], usize, bool)] = &[
     (BOTH_AND_NOTHING, 0, true),
     (BOTH_AND_NOTHING, 1, true),
@@ -179,7 +182,7 @@ const STEPS_AFTER_EARLIER_ONES: &[(&[i32], usize, bool)] = &[
         2,
         false,
     ),
-    // earlier steps may use a variable out of range, to which hints give a value
+    // earlier steps may use a variable out of range; hints to these steps give it a value
     (OUT_OF_RANGE, 0, false),
     (OUT_OF_RANGE, 2, true),
     (

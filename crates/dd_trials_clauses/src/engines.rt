@@ -1,4 +1,5 @@
-// Rosters of engines of each kind, most of them bad, asked twice about a few lists.
+// Rosters, which are lists of engines. There are engines of each kind, and most of them are bad. Each roster is asked twice about
+// a list of clauses.
 ghost use Rattle.std.specs.Prelude.{false};
 
 use dd_clause::{Assignment, Clause, Cnf, Literal};
@@ -13,13 +14,13 @@ use std::test::Fail;
 enum Habit {
     /// It proposes a refutation without steps.
     NoSteps,
-    /// It proposes that all variables are false.
+    /// It proposes the assignment in which all variables are false.
     AllFalse,
     /// It proposes nothing.
     Silent,
-    /// Memory runs out at its first call; later it proposes nothing.
+    /// Memory runs out at its first call. Later it proposes nothing.
     NoMemoryAtFirst,
-    /// It proposes nothing at its first call, later a refutation without steps.
+    /// It proposes nothing at its first call, and later a refutation without steps.
     ChangesItsMind,
 }
 
@@ -40,7 +41,7 @@ impl Fake {
     }
 }
 
-/// All variables of the list are false.
+/// The assignment in which all variables of the list are false.
 fn all_false(alloc: Global, cnf: &Cnf) -> Result<Assignment, AllocError> {
     let values = vec![in alloc; false; cnf.variables() as usize]?;
     Ok(Assignment::new(values))
@@ -85,7 +86,7 @@ enum Member {
     Walker(u32),
 }
 
-/// What a roster answers.
+/// The kind of answer that a roster gives.
 #[derive(Clone, Copy, Debug, PartialEq, Eq)]
 enum Answer {
     Found,
@@ -131,10 +132,10 @@ fn cnf_of(alloc: Global, numbers: &[i32]) -> Result<Cnf, AllocError> {
     Ok(cnf)
 }
 
-// Two flips satisfy it, and one does not.
+// A walker satisfies it with two flips, but not with one.
 const TWO_FLIPS: &[i32] = &[1, 2, 0, -1, 2, 0];
 
-// All variables false satisfy it.
+// It is satisfied if all variables are false.
 const NEGATIVE: &[i32] = &[-1, -2, 0];
 
 // Unit propagation refutes it, even though a literal is repeated.
@@ -365,7 +366,8 @@ const CASES: &[(&[i32], &[Member], Left, Left)] = &[
     ),
 ];
 
-/// The two answers of a roster of these members that is asked twice about the clauses, with how many are left each time.
+/// The two answers of a roster of these members that is asked twice about the clauses, each with the number of engines that are
+/// left after it.
 fn asked_twice(alloc: Global, cnf: &Cnf, members: &[Member]) -> Result<[Left; 2], AllocError> {
     let mut engines: Vec<Box<dyn Engine>> = Vec::new(alloc);
     for member in members {

@@ -1,4 +1,4 @@
-// A user's own engine, and a roster with it.
+// An engine that a user of the crates might write, and a roster with it.
 ghost use Rattle.std.specs.Prelude.{false};
 
 use dd_clause::{Assignment, Clause, Cnf, Literal};
@@ -7,7 +7,7 @@ use dd_engines::{Engine, Propagator, Proposal, Roster, Tally};
 use std::alloc::{AllocError, Global};
 use std::test::Fail;
 
-/// Guesses that all variables are true.
+/// An engine that guesses that all variables are true.
 #[derive(Drop)]
 struct Guesser {
     tally: Tally,

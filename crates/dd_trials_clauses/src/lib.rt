@@ -1,4 +1,5 @@
-//! Trials of clause lists, derivations, searches, engines and the texts of certificates: tables of cases beside the proofs.
+//! Tests of clause lists, derivations, searches, engines and the texts of certificates: tables of cases, in addition to what is
+//! proved.
 #![tactic(auto)]
 
 #[cfg(test)]

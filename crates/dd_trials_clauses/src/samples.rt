@@ -5,7 +5,7 @@ use dd_derivation::Step;
 use dd_values::Items;
 use std::alloc::{AllocError, Global};
 
-/// One step with the clause of these literals.
+/// A list of one step. Its clause has these literals.
 fn steps(
     alloc: Global,
     literals: &[i32],
@@ -46,7 +46,7 @@ fn yes_both(alloc: Global) -> Result<Answer, AllocError> {
     })
 }
 
-/// A configuration of two cells in a row.
+/// A NO with a configuration of two cells in a row.
 fn no(alloc: Global, side: Side, shear: u64) -> Result<Answer, AllocError> {
     Ok(Answer::No {
         side,
@@ -63,7 +63,7 @@ fn listed(alloc: Global, node: u64, symbols: &[u64]) -> Result<Listed, AllocErro
     })
 }
 
-/// A pattern with symbols and one without.
+/// A list of two patterns, one with symbols and one without.
 fn list(alloc: Global) -> Result<Answer, AllocError> {
     let mut patterns = Items::new(alloc);
     patterns.push(listed(alloc, 0, &[1, 0, 1])?)?;
@@ -150,7 +150,7 @@ fn least_of_all(alloc: Global) -> Result<Answer, AllocError> {
     })
 }
 
-/// The answers that are written. The fields of a kind tell its samples apart.
+/// Names of the answers that are written. If a kind has several samples, the fields tell them apart.
 pub(crate) enum Sample {
     Yes,
     YesBoth,

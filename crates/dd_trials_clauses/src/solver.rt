@@ -1,7 +1,8 @@
-// Clause lists that are solved, and a refutation that is trimmed. A list is given by signed numbers, with 0 at the end of each
-// clause.
+// Clause lists that are solved, and a refutation that is trimmed. A list is given by signed numbers of variables, with 0 at the
+// end of each clause. A negative number stands for the negation of its variable.
 use dd_clause::{Clause, Cnf, Literal, satisfies};
 use dd_derivation::{Marks, Outcome, Step, check_refutation};
+use dd_elimination::solve_reduced;
 use dd_solver::{solve, trimmed};
 use dd_values::Items;
 use std::alloc::{AllocError, Global};
@@ -19,7 +20,7 @@ fn clause_of(alloc: Global, numbers: &[i32]) -> Result<Clause, AllocError> {
     Clause::from_literals(alloc, literals.as_slice())
 }
 
-/// The clauses that the numbers give. A clause out of range is left out.
+/// The clauses that the numbers give. A clause with a variable out of range is left out.
 fn cnf_of(alloc: Global, variables: u8, numbers: &[i32]) -> Result<Cnf, AllocError> {
     let mut cnf = Cnf::new(alloc, u32::from(variables));
     let mut clause: Vec<i32> = Vec::new(alloc);
@@ -61,9 +62,19 @@ fn push_pigeonholes(numbers: &mut Vec<i32>, first: i32, holes: i32) -> Result<()
     Ok(())
 }
 
-/// The answer, confirmed by the check of assignments or of refutations.
+/// The answer of both searches, the one on the whole list and the one on the reduced list. `different` if they differ.
 fn answer(alloc: Global, cnf: &Cnf) -> Result<&'static str, AllocError> {
-    match solve(alloc, cnf)? {
+    let whole = confirmed(alloc, cnf, solve(alloc, cnf)?)?;
+    let reduced = confirmed(alloc, cnf, solve_reduced(alloc, cnf)?)?;
+    if whole != reduced {
+        return Ok("different");
+    }
+    Ok(whole)
+}
+
+/// The outcome, if the check of assignments or of refutations confirms it, and otherwise `wrong`.
+fn confirmed(alloc: Global, cnf: &Cnf, outcome: Outcome) -> Result<&'static str, AllocError> {
+    match outcome {
         Outcome::Found(assignment) => {
             if satisfies(cnf, &assignment) {
                 return Ok("found");
@@ -87,7 +98,7 @@ fn seven_in_six(alloc: Global) -> Result<Vec<i32>, AllocError> {
 }
 
 /// The pigeonhole clauses of four pigeons and three holes. Before them come 40 variables with clauses of their own, which very
-/// many assignments satisfy. A search that learns nothing refutes the pigeonhole clauses once for each of these.
+/// many assignments satisfy. A search that learns nothing refutes the pigeonhole clauses again for each of these assignments.
 fn four_in_three(alloc: Global) -> Result<Vec<i32>, AllocError> {
     let mut numbers = Vec::new(alloc);
     for pair in 0..20u8 {
@@ -100,7 +111,7 @@ fn four_in_three(alloc: Global) -> Result<Vec<i32>, AllocError> {
 }
 
 /// A number of variables, the number of clauses, their literals, and the answer. In the first two cases the variable 3 is the
-/// conjunction of 1 and 2, one of which must be true and one false.
+/// conjunction of the variables 1 and 2. One of these two must be true, and the other false.
 const CASES: &[(u8, usize, &[i32], &str)] = &[
     (
         3,
@@ -154,7 +165,7 @@ fn finds_or_refutes(rt: HostRuntime) -> Result<(), Fail> {
     Ok(())
 }
 
-/// Four clauses over two variables that can't be satisfied.
+/// Four clauses over two variables. No assignment satisfies all of them.
 const SQUARE: &[i32] = &[1, 2, 0, -1, 2, 0, 1, -2, 0, -1, -2, 0];
 
 fn step_of(alloc: Global, clause: &[i32], hints: &[u64]) -> Result<Step, AllocError> {
@@ -165,7 +176,7 @@ fn step_of(alloc: Global, clause: &[i32], hints: &[u64]) -> Result<Step, AllocEr
     })
 }
 
-/// Three steps that refute these clauses; the first is not used.
+/// Three steps that refute these clauses. The first step is not used.
 fn three_steps(alloc: Global) -> Result<Items<Step>, AllocError> {
     let mut steps = Items::new(alloc);
     steps.push(step_of(alloc, &[1], &[1, 3])?)?;
@@ -174,7 +185,7 @@ fn three_steps(alloc: Global) -> Result<Items<Step>, AllocError> {
     Ok(steps)
 }
 
-// The first of the three steps is not used, so the others get smaller numbers.
+// The first of the three steps is not used. It is left out, so the others get smaller numbers.
 #[test]
 fn leaves_out_a_step_that_is_not_used(rt: HostRuntime) -> Result<(), Fail> {
     let alloc = rt.alloc();

@@ -28,8 +28,8 @@ enum Call {
     Div,
 }
 
-/// The numerator and the denominator of the result. `Over` divides the numerators of the operands. The other calls are those of
-/// their names.
+/// The numerator and the denominator of the result. `Over` divides the numerators of the operands. The other calls do what their
+/// names say.
 fn answer(call: Call, left: &Fraction, right: &Fraction) -> Option<(i128, i128)> {
     let result = match call {
         Call::Over => Fraction::new(left.num(), right.num()),
@@ -102,7 +102,7 @@ const DIFFERENCES: &[(Pair, Pair, Pair, Option<Pair>)] = &[
     ((7, 6), (1, 2), (1, 3), Some((1, 1))),
     ((5, 7), (-2, 3), (1, 5), Some((89, 105))),
     ((1, 6), (1, 2), (1, 3), Some((0, 1))),
-    // The least number of 16 bits and the greatest denominators.
+    // The least numerator of 16 bits and the greatest denominators of 16 bits.
     (
         (-32768, 1),
         (-32768, 1),

@@ -2,7 +2,7 @@
 use dd_lattice::{Box3, Cell, LatticeFault, Position, centred_box, in_order, positions};
 use std::test::Fail;
 
-/// A dimension, the radius of a box, its number of positions, and that of the box grown by 1.
+/// A dimension, the radius of a box, the number of its positions, and the number of positions of the box grown by 1.
 const BOXES: &[(u32, u32, usize, usize)] = &[(1, 2, 5, 7), (2, 1, 9, 25), (3, 1, 27, 125)];
 
 #[test]
@@ -34,7 +34,7 @@ fn a_region_and_its_copy(rt: HostRuntime) -> Result<(), Fail> {
     Ok(())
 }
 
-/// A dimension, by how much a region at the edge of the range is grown, and the fault.
+/// A dimension, by how much a region at the edge of the range is grown, and the fault, if there is one.
 const GROWN_EDGES: &[(u32, u32, Option<LatticeFault>)] = &[
     (1, 0, None),
     (1, 1, Some(LatticeFault::Range)),

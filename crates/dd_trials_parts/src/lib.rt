@@ -1,4 +1,5 @@
-//! Tests of single crates: tables of cases whose results were worked out by hand or by a reference. A module for each crate.
+//! Tests of single crates, one module for each crate. Their tables have cases whose results were worked out by hand or by a
+//! reference implementation.
 #![tactic(auto)]
 
 #[cfg(test)]

@@ -14,7 +14,7 @@ fn cell_at(x: i32, y: i32, z: i32) -> Option<Cell>
     Some(Cell { position, node: 0 })
 }
 
-/// The symbols of two rows of three.
+/// The symbols of two rows of three cells each.
 const SIX: &[u32] = &[0, 1, 2, 3, 4, 5];
 
 /// The dimension, the periods, the shear and the symbols of a configuration; a position; and the symbol there.
@@ -129,7 +129,7 @@ const FAR: Cell = Cell {
     node: 0,
 };
 
-/// A filling of three cells, given out of order.
+/// A filling of three cells, which are given out of order.
 fn three_filled(alloc: Global) -> Result<Filling, Fail> {
     let domain = in_order(alloc, &[ABOVE, RIGHT, ORIGIN])?;
     let symbols = Vec::from_slice(alloc, &[4, 5, 6])?;

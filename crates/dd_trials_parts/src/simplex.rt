@@ -1,10 +1,11 @@
-//! Small linear programs. Their results come from a reference with exact fractions, and from trying all vertices.
+//! Small linear programs. Their results were worked out by a reference implementation with exact fractions, and by trying all
+//! vertices.
 use dd_fraction::Fraction;
 use dd_simplex::{Program, SimplexFault, Solved, maximise};
 use std::alloc::{AllocError, Global};
 use std::test::Fail;
 
-/// The fraction with this text: an integer, or two integers with a '/' between them.
+/// The fraction that this text writes: an integer, or two integers with a '/' between them.
 fn fraction(text: &str) -> Result<Fraction, Fail> {
     let (num, den) = match text.split_once('/') {
         Some(parts) => parts,
@@ -19,7 +20,7 @@ fn fraction(text: &str) -> Result<Fraction, Fail> {
     }
 }
 
-/// Fractions with blanks between them.
+/// The fractions that a text lists, with blanks between them.
 fn fractions(alloc: Global, text: &str) -> Result<Vec<Fraction>, Fail> {
     let mut numbers = Vec::new(alloc);
     for word in text.split_whitespace() {
@@ -28,7 +29,7 @@ fn fractions(alloc: Global, text: &str) -> Result<Vec<Fraction>, Fail> {
     Ok(numbers)
 }
 
-/// The program with these rows, which `;` separates. Each has its coefficients and then its bound.
+/// The program with these rows, which are separated by `;`. Each row has its coefficients and then its bound.
 fn program_of(alloc: Global, columns: u32, cap: i64, rows: &str) -> Result<Program, Fail> {
     if columns == 0 || cap < 0 {
         return Err("no column, or a cap below 0".into());
@@ -74,8 +75,8 @@ fn described(alloc: Global, answer: &Result<Solved, SimplexFault>) -> Result<Str
     }
 }
 
-/// A name, the number of columns, the cap on column 0, the rows, the limit on pivots, and the answer. `first past 2^127` names the
-/// first number that doesn't fit.
+/// A name, the number of columns, the cap on column 0, the rows, the limit on pivots, and the answer. A name that begins with
+/// `first past 2^127` says which number is the first that doesn't fit.
 const CASES: &[(&str, u32, i64, &str, u32, &str)] = &[
     (
         "one column under its cap",
@@ -375,8 +376,8 @@ const CASES: &[(&str, u32, i64, &str, u32, &str)] = &[
         6,
         "Overflow",
     ),
-    // The objective is column 0. So its line of the dictionary has the numbers of the line of column 0, which comes first. In the
-    // next six cases no other line has a number that is too large.
+    // The objective is column 0. So the line of the objective in the dictionary has the same numbers as the line of column 0,
+    // which comes first. In the next six cases no other line has a number that is too large.
     (
         "first past 2^127: the product in the value, 9 * 2^124",
         2,

@@ -38,8 +38,8 @@ fn well_formed_texts_have_no_fault(rt: HostRuntime) {
     }
 }
 
-/// Asserts that the first fault of each text is at the command with this number, from 1. 0 stands for what comes before the first
-/// command.
+/// Asserts that the first fault of each text is at the command with this number. Commands are numbered from 1, and 0 stands for
+/// what comes before the first command.
 fn assert_first_faults(rt: &impl Abort, alloc: Global, faults: &[(&[u8], u32)]) {
     for (text, command) in faults {
         let expected = Some(SyntaxFault::At { command: *command });
@@ -116,7 +116,7 @@ fn the_first_fault_is_found(rt: HostRuntime) {
     assert_first_faults(&rt, alloc, &FAULTS_OF_FORMULAS);
 }
 
-/// The pieces one after the other. Each is written this many times.
+/// The text of these pieces, one after the other. Each piece is repeated the given number of times.
 fn written(alloc: Global, pieces: &[(&[u8], u32)]) -> Result<Vec<u8>, Fail> {
     let mut text = Vec::new(alloc);
     for (piece, times) in pieces {

@@ -2,7 +2,7 @@
 use dd_tokens::tokens;
 use std::test::Fail;
 
-/// Texts, with the lengths of their tokens and the position at which these stop.
+/// Texts, each with the lengths of its tokens and the position at which the tokens stop.
 const CUTS: &[(&[u8], &[u32], u32)] = &[
     (b"", &[], 0),
     (b"Ap[o1q3]", &[1, 1, 1, 1, 1, 1, 1, 1], 8),

@@ -1,4 +1,4 @@
-//! Lists and boxes hold what was put in.
+//! Lists and boxed values give back what was put in.
 use dd_values::{Boxed, Items};
 use std::test::Fail;
 

@@ -11,13 +11,13 @@ use std::test::Fail;
 pub(crate) const OUTPUT: &str =
     "diddy 1\nscript 34\n%dim 1\n%rule x o=0 & o=1\n%empty x\n\nquery 1 YES 0\nrefutation 1\nstep 0 6 3 4 2 0 0\nend\n";
 
-// The answer of that output.
+// The answer in this output.
 const ANSWER: &str = "query 1 YES 0\nrefutation 1\nstep 0 6 3 4 2 0 0\n";
 
-// Each row of these tables alters the output. It has a part that occurs once, its replacement, the status of the check, and
-// what the check writes.
+// Each row of these tables alters the output. It has a part of the output that occurs only once, the replacement for this part,
+// the status with which the check ends, and what the check writes.
 
-// Lines that no output has. Each is refused where the longest prefix of an output ends.
+// Lines that no output has. Each text is refused at the offset where its longest prefix that could begin an output ends.
 const LINES: [(&str, &str, Status, &str); 16] = [
     ("diddy 1", "Diddy 1", Status::Refused, "refused at 0\n"),
     ("diddy 1", "diddy 2", Status::Refused, "refused at 6\n"),
@@ -31,9 +31,9 @@ const LINES: [(&str, &str, Status, &str); 16] = [
     ("query 1", "query 2", Status::Refused, "refused at 59\n"),
     ("query 1", "query 0", Status::Refused, "refused at 59\n"),
     ("query 1", "query  1", Status::Refused, "refused at 59\n"),
-    // MINIMAL begins with the same letter.
+    // The first letter could still begin `MINIMAL`.
     ("YES 0", "MAYBE", Status::Refused, "refused at 62\n"),
-    // There is at least one step, and as many as the line before says.
+    // A refutation has at least one step, and as many as its first line says.
     (
         "refutation 1",
         "refutation 0",
@@ -59,13 +59,13 @@ const LINES: [(&str, &str, Status, &str); 16] = [
         "refused at 99\n",
     ),
     ("2 0 0", "2 0 0 0", Status::Refused, "refused at 98\n"),
-    // Nothing may follow the end.
+    // The output ends with `end` and a line feed. Nothing may follow.
     ("end\n", "end", Status::Refused, "refused at 102\n"),
     ("end\n", "end\n\n", Status::Refused, "refused at 103\n"),
     ("end\n", "end\nend\n", Status::Refused, "refused at 103\n"),
 ];
 
-// Numbers with a leading zero, numbers at their limits, and numbers beyond.
+// Numbers with a leading zero or a wrong sign, numbers at their limits, and numbers beyond their limits.
 const NUMBERS: [(&str, &str, Status, &str); 11] = [
     ("YES 0", "YES 00", Status::Refused, "refused at 66\n"),
     ("YES 0", "YES -0", Status::Refused, "refused at 65\n"),
@@ -120,7 +120,8 @@ const SCRIPTS: [(&str, &str, Status, &str); 9] = [
         Status::Refused,
         "refused at 16\n",
     ),
-    // All that follows could begin a script of this length, but no script may be longer.
+    // With the length 1048576, all that follows could be the beginning of the script, so the text is refused only at its end. No
+    // script may be longer than that.
     (
         "script 34",
         "script 1048576",
@@ -159,7 +160,8 @@ const SCRIPTS: [(&str, &str, Status, &str); 9] = [
     ),
 ];
 
-// Another box, and hints and deletes that refute its clauses or fail to.
+// Other radii, and steps with other hints and deletes, which refute the clauses or fail to. A hint is the number of a clause by
+// which the step is derived, and a delete is the number of a clause that is removed.
 const STEPS: [(&str, &str, Status, &str); 13] = [
     ("YES 0", "YES 5", Status::Rejected, "query 1 rejected\n"),
     ("YES 0", "YES 9", Status::Rejected, "query 1 rejected\n"),
@@ -169,7 +171,8 @@ const STEPS: [(&str, &str, Status, &str); 13] = [
         Status::Definite,
         "query 1 accepted\nchecked 1\n",
     ),
-    // One hint too few, hints in an order in which the first is not a unit, and a hint after the conflict.
+    // One hint too few, hints in an order in which the first clause isn't a unit, a last hint to a clause that is already true,
+    // and a hint after the conflict.
     ("6 3 4 2", "6 4 2", Status::Rejected, "query 1 rejected\n"),
     ("6 3 4 2", "6 3 4", Status::Rejected, "query 1 rejected\n"),
     ("6 3 4 2", "3 4 2 6", Status::Rejected, "query 1 rejected\n"),
@@ -193,13 +196,13 @@ const STEPS: [(&str, &str, Status, &str); 13] = [
         Status::Definite,
         "query 1 accepted\nchecked 1\n",
     ),
-    // Deletes of a clause that is gone, and of the step itself.
+    // Deletes of a clause that is already gone, of the step itself, and of a clause that doesn't exist.
     ("2 0 0", "2 0 6 6 0", Status::Rejected, "query 1 rejected\n"),
     ("2 0 0", "2 0 7 0", Status::Rejected, "query 1 rejected\n"),
     ("2 0 0", "2 0 8 0", Status::Rejected, "query 1 rejected\n"),
 ];
 
-// Other answers, one too few, and one too many.
+// The output itself, and outputs with another answer, with one answer too few, and with one answer too many.
 const ANSWERS: [(&str, &str, Status, &str); 11] = [
     (
         "end\n",
@@ -264,7 +267,7 @@ const ANSWERS: [(&str, &str, Status, &str); 11] = [
     ),
 ];
 
-// Asserts the status of the check of these bytes, and what it writes.
+// Asserts the status with which a check of these bytes ends, and what the check writes.
 fn assert_check(
     rt: &impl Abort,
     alloc: Global,
@@ -308,7 +311,7 @@ fn checks_altered_outputs(rt: HostRuntime) -> Result<(), Fail> {
     assert_changes(&rt, alloc, &ANSWERS)
 }
 
-// An output that ends too early is refused at its end.
+// An output that is cut off is refused at the offset where it ends.
 #[test]
 fn checks_outputs_that_are_cut(rt: HostRuntime) -> Result<(), Fail> {
     let alloc = rt.alloc();

@@ -18,15 +18,15 @@ pub enum Habit {
     Silent,
     /// A refutation without steps.
     NoSteps,
-    /// That all variables are false.
+    /// The assignment in which all variables are false.
     AllFalse,
     /// Memory runs out at the first call; later calls propose nothing.
     NoMemoryAtFirst,
-    /// Nothing at the first call, later a refutation without steps.
+    /// Nothing at the first call, and a refutation without steps at each later call.
     ChangesItsMind,
-    /// Over and over: nothing, a right answer, a refutation without steps.
+    /// By turns: nothing, a right answer, and a refutation without steps.
     ByTurns,
-    /// A refutation without steps for a list of exactly this size, otherwise nothing.
+    /// A refutation without steps for a list of clauses of exactly this size, and otherwise nothing.
     OfSize { variables: u32, clauses: usize },
 }
 
@@ -49,7 +49,7 @@ impl Fake {
     }
 }
 
-/// The proposal that all variables are false.
+/// A proposal of the assignment in which all variables are false.
 fn all_false(alloc: Global, cnf: &Cnf) -> Result<Proposal, AllocError> {
     let values = vec![in alloc; false; cnf.variables() as usize]?;
     Ok(Proposal::Found(Assignment::new(values)))
@@ -68,7 +68,7 @@ fn no_steps(alloc: Global) -> Proposal {
     Proposal::Refutation(Items::new(alloc))
 }
 
-/// What an engine with this habit proposes after so many earlier calls.
+/// What an engine with this habit proposes after this many earlier calls.
 fn proposal_of(
     habit: Habit,
     earlier: u32,
@@ -122,9 +122,9 @@ impl Engine for Fake {
 pub enum Member {
     /// An engine with this habit.
     Fake(Habit),
-    /// The engine that only propagates units.
+    /// The engine that tries unit propagation, and nothing else.
     Propagator,
-    /// The engine that searches by local moves, with this many flips.
+    /// The engine that searches by flipping single variables, with at most this many flips.
     Walker(u32),
 }
 
@@ -134,7 +134,7 @@ pub const NO_ENGINES: &[Member] = &[];
 /// The engines of the program.
 pub const OF_PROGRAM: &[Member] = &[Member::Propagator, Member::Walker(10_000)];
 
-/// The status of a session with one word, these bytes and these engines, and how many engines are left.
+/// The status of a session with this word, this input and these engines, and how many engines are left after it.
 pub fn session_over(
     alloc: Global,
     word: &str,

@@ -5,7 +5,7 @@ use std::alloc::{AllocError, Global};
 use std::process::Abort;
 use std::test::Fail;
 
-// Asserts that each text is refused, and that the given text follows `refused` in the line.
+// Asserts that each text is refused. A row has a text, and what follows `refused` in the line that is written.
 fn assert_refused(rt: &impl Abort, alloc: Global, rows: &[(&[u8], &str)]) -> Result<(), Fail> {
     for (text, rest) in rows {
         let (status, output) = run_on(alloc, text)?;
@@ -44,13 +44,13 @@ const FAULTS_OF_NAMES: [(&[u8], &str); 16] = [
     (b"%rule a o=2", "1 unknown 2"),
     (b"%rule a o.no=0", "1 unknown no"),
     (b"%rule a Ap[q1] p=1", "1 unknown q"),
-    // A quantified variable is known only in the body.
+    // A quantified variable is known only in the body of its quantifier.
     (b"%rule a Ap[p1] p=1", "1 unknown p"),
-    // An unknown name takes precedence over a repetition and over limits.
+    // An unknown name is reported before a repeated name and before a limit.
     (b"%rule a o=0 %rule a o=2", "2 unknown 2"),
     (b"%rule a o=1000001", "1 unknown 1000001"),
     (b"%rule a o=0 %rule a o=1", "2 twice a"),
-    // Nothing is answered before a fault.
+    // No query is answered if a later command has a fault.
     (b"%rule a o=0 %forbidden a %rule a o=0", "3 twice a"),
     (
         b"%dim 1 %rule x o=0 & o=1 %rule y !(o@o) %minimal x %minimal y %minimal z",
@@ -76,7 +76,7 @@ const FAULTS_OF_NUMBERS: [(&[u8], &str); 9] = [
     (b"%rule a o=0 %density a [1 1]", "2 dimension"),
 ];
 
-// Symbols that their node does not allow, nodes restricted twice, and shears.
+// Symbols that their node doesn't allow, repetitions in restrictions of nodes, and wrong shears.
 const FAULTS_OF_NODES_AND_SHEARS: [(&[u8], &str); 9] = [
     (
         b"%alphabet 0 1 2 %only 0 0 2 %rule a o!=1 %empty a %conf c [1 1] 1",

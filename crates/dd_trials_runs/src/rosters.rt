@@ -1,5 +1,5 @@
-// Runs with rosters of engines, most of them bad. The lines are the same over every roster, and engines that are found wrong
-// are dropped.
+// Runs with rosters of engines, most of them bad. The first lines of the answers are the same over every roster, and engines that
+// are found wrong are dropped.
 use crate::engines::{Habit, Member, OF_PROGRAM, session_over};
 use crate::runs::{first_lines, run_over};
 use dd_outside::MemorySink;
@@ -18,17 +18,17 @@ const FICKLE: Member = Member::Fake(Habit::ChangesItsMind);
 
 const BY_TURNS: Member = Member::Fake(Habit::ByTurns);
 
-// One box that suffices.
+// The first box that is tried suffices: no filling of it both obeys the premise and has the goal. So the answer is YES.
 const YES: &str = "%rule hard o=1 -> (o.rt=0 & o.up=0) %rule row o=1 -> o.rt=0 %contains row hard";
 
-// Boxes that don't suffice, and then tori.
+// No box suffices. After the boxes, tori are tried, until one has a configuration that shows the answer NO.
 const NO: &str = "%rule hard o=1 -> (o.rt=0 & o.up=0) %rule row o=1 -> o.rt=0 %contains hard row";
 
 // The box of radius 3 suffices, and no smaller one does.
 const DIES: &str =
     "%dim 1 %limits 3 4 10000 %rule dies (o=1 -> o.rt=1) & !(o=1 & o.rt=1 & o.rt.rt=1) %rule zero o=0 %contains zero dies";
 
-// The engines, and how many of them are left after each of the first two scripts.
+// The engines, and how many of them are left after a run of the script `YES` and after one of the script `NO`.
 const LEFT: &[(&[Member], usize, usize)] = &[
     (&[], 0, 0),
     (&[NO_STEPS], 0, 0),
@@ -99,8 +99,9 @@ fn an_engine_runs_out_of_memory(rt: HostRuntime) -> Result<(), Fail> {
     Ok(())
 }
 
-// The sizes of the clauses of the boxes of radius 0 to 4. An engine that refutes only those of one radius is found wrong exactly
-// if the search asks about that radius. So engines are asked about the clauses of the boxes, and nothing else.
+// Each row has the numbers of variables and clauses for the box of one radius, from 0 to 4, and how many engines are left. The
+// engine gives a wrong refutation of lists of this size only. So it is found wrong exactly if the search asks about the box of
+// this radius. The search asks about the radii 0 to 3: engines are asked about the boxes themselves.
 #[test]
 fn engines_are_asked_for_the_boxes_themselves(rt: HostRuntime) -> Result<(), Fail> {
     let alloc = rt.alloc();
@@ -116,8 +117,8 @@ fn engines_are_asked_for_the_boxes_themselves(rt: HostRuntime) -> Result<(), Fai
     Ok(())
 }
 
-// Each row has a script, an engine, how many bytes the sink holds, and the number of its call that fails, or 0. The engine
-// would be dropped at its first or its second call, but the sink fails before this call is made.
+// Each row has a script, an engine, how many bytes the sink can hold, and which of its writes fails, or 0 if none does. The first
+// engine would be dropped at its first call, and the second engine at its second. But the sink fails before this call is made.
 #[test]
 fn no_engine_is_asked_before_the_earlier_lines_are_written(rt: HostRuntime) -> Result<(), Fail> {
     let alloc = rt.alloc();
@@ -137,7 +138,7 @@ fn no_engine_is_asked_before_the_earlier_lines_are_written(rt: HostRuntime) -> R
     Ok(())
 }
 
-// For other words, and for inputs that are refused, no engine is asked.
+// No engine is asked if the words are no command, or if the input is refused.
 #[test]
 fn no_engine_is_asked_without_a_run(rt: HostRuntime) -> Result<(), Fail> {
     let alloc = rt.alloc();

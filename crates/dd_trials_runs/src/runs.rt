@@ -5,11 +5,11 @@ use dd_session::Status;
 use std::alloc::{AllocError, Global};
 use std::test::Fail;
 
-/// A script with a query about a configuration in which no two neighbours are 1.
+/// A script with one query: is the chessboard a configuration in which no two neighbours are both 1?
 pub const HARD: &str =
     "%rule hard o=1 -> (o.rt=0 & o.up=0)\n%conf c [2 2] 1 0 0 1\n%member c hard\n";
 
-/// The words after the program's name, from a text with one blank between words.
+/// The words that follow the program's name, from a text in which they are separated by single blanks.
 pub fn words_of(alloc: Global, text: &str) -> Result<Vec<String>, AllocError> {
     let mut words = Vec::new(alloc);
     for word in text.split(' ') {

@@ -34,9 +34,10 @@ fn a_long_input_is_refused(rt: HostRuntime) -> Result<(), Fail> {
 // A session without a fault: its word, its input, its status, and what it writes.
 type Session = (&'static str, &'static str, Status, &'static str);
 
-// At most sixteen bytes are read or written at a time. Each session has the number of its reads, the last of which finds the
-// end, and how many bytes are held if its first, second or later write fails. The lines before the first answer of a run are
-// written together, and then each answer separately; so are the lines of a check and of a sample. A sample reads nothing.
+// At most sixteen bytes are read or written at a time. Each row has a session, the number of its reads, and a list. The last read
+// finds the end of the input. The list has a number for each write: how many bytes the sink holds if this write fails. A run
+// writes the lines before the first answer together, and then each answer separately. A check and a sample write each line
+// separately. A sample reads nothing.
 const SESSIONS: [(Session, u64, &[usize]); 7] = [
     (
         (
@@ -100,7 +101,7 @@ const SESSIONS: [(Session, u64, &[usize]); 7] = [
     ),
 ];
 
-// Which calls of the source and the sink fail, and how much the sink holds.
+// Which calls of the source and the sink fail, and how many bytes the sink can hold.
 #[derive(Clone, Copy, Debug)]
 struct Outside {
     // The number of the read that fails, from 1; 0 if none does.
@@ -110,7 +111,7 @@ struct Outside {
     capacity: usize,
 }
 
-// The status of a session, and what the sink held after it.
+// The status with which a session ends, and what the sink then holds.
 fn session_over(
     alloc: Global,
     session: Session,
@@ -127,7 +128,8 @@ fn session_over(
     Ok((status, Vec::from_slice(alloc, sink.held_bytes())?))
 }
 
-// Asserts that the session ends with the status, and that the sink then holds this many bytes of its output.
+// Asserts that the session ends with this status, and that the sink then holds this many bytes, the first ones of what the
+// session writes.
 fn assert_front(
     rt: &impl Abort,
     alloc: Global,
@@ -147,7 +149,7 @@ fn assert_front(
     Ok(())
 }
 
-// If any read fails, nothing is written.
+// Asserts that nothing is written if any of the reads fails, and that no further read is made.
 fn assert_reads(rt: &impl Abort, alloc: Global, session: Session, reads: u64) -> Result<(), Fail> {
     let (_, _, status, written) = session;
     let capacity = written.len();
@@ -167,7 +169,8 @@ fn assert_reads(rt: &impl Abort, alloc: Global, session: Session, reads: u64) ->
     assert_front(rt, alloc, session, outside, (status, capacity))
 }
 
-// If any write fails, the sink holds what was written before. `fronts` has the number of these bytes for each write.
+// Asserts that the sink holds what was written before, if any of the writes fails, and that no further write is made. `fronts`
+// has the number of these bytes for each write.
 fn assert_writes(
     rt: &impl Abort,
     alloc: Global,
@@ -194,7 +197,7 @@ fn assert_writes(
     assert_front(rt, alloc, session, outside, (status, capacity))
 }
 
-// A sink that is too small is filled completely.
+// Asserts that a sink that is too small is filled completely.
 fn assert_capacities(rt: &impl Abort, alloc: Global, session: Session) -> Result<(), Fail> {
     let (_, _, _, written) = session;
     for capacity in 0..written.len() {
@@ -219,7 +222,7 @@ fn each_fault_has_its_status(rt: HostRuntime) -> Result<(), Fail> {
     Ok(())
 }
 
-// Words that are no command leave the source and the sink alone.
+// If the words are no command, nothing is read and nothing is written.
 #[test]
 fn other_words_do_nothing(rt: HostRuntime) -> Result<(), Fail> {
     let alloc = rt.alloc();

@@ -1,7 +1,7 @@
 -- Limits that more than one crate uses.
 use Rattle.std.specs.Prelude.{ℕ, ◌^◌}
 
--- the greatest number of variables of a clause list, and the greatest number of signals of a circuit
+-- the greatest number of variables in a clause list, and in a circuit, where each input and each gate has a variable
 abbrev pub most_variables : ℕ
 most_variables = 2 ^ 24
 
@@ -13,7 +13,7 @@ most_number = 2 ^ 40
 abbrev pub most_script : ℕ
 most_script = 1048576
 
--- the greatest number of commands of a script, and so of its queries
+-- the greatest number of commands in a script, and so the greatest number of its queries
 abbrev pub most_commands : ℕ
 most_commands = 1000
 
@@ -21,7 +21,7 @@ most_commands = 1000
 abbrev pub most_weight : ℕ
 most_weight = 1000
 
--- the greatest radius of a ball in a formula, and the greatest radius and margin of a discharge
+-- the greatest radius of a ball in a formula, and the greatest radius and margin of a discharging query
 abbrev pub widest_radius : ℕ
 widest_radius = 3
 

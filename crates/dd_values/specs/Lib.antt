@@ -6,7 +6,7 @@ pub mod Ranges
 pub mod Variables
 -- counts of the faults of a source or a sink
 pub mod Counts
--- how a recursive type may contain lists and boxes
+-- how a recursive type may contain lists and boxes of its own values
 pub mod formers
 -- lemmas on truth values, numbers and lists, for all crates
 pub mod lemmas

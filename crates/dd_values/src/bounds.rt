@@ -1,6 +1,6 @@
 //! Limits that more than one crate uses.
 
-/// The greatest number of variables of a clause list, and the greatest number of signals of a circuit.
+/// The greatest number of variables in a clause list, and in a circuit, where each input and each gate has a variable.
 pub const MOST_VARIABLES: u64 = 1 << 24;
 
 /// The greatest absolute value of a number in an output. Numbers in refutations may be greater.
@@ -9,13 +9,13 @@ pub const MOST_NUMBER: u64 = 1 << 40;
 /// The greatest length of a script, in bytes.
 pub const MOST_SCRIPT: usize = 1_048_576;
 
-/// The greatest number of commands of a script, and so of its queries.
+/// The greatest number of commands in a script, and so the greatest number of its queries.
 pub const MOST_COMMANDS: u32 = 1000;
 
 /// The greatest weight of a symbol.
 pub const MOST_WEIGHT: u32 = 1000;
 
-/// The greatest radius of a ball in a formula, and the greatest radius and margin of a discharge.
+/// The greatest radius of a ball in a formula, and the greatest radius and margin of a discharging query.
 pub const WIDEST_RADIUS: u32 = 3;
 
 /// The highest limit that a script may set on the radius of a box.

@@ -1,10 +1,10 @@
-//! A `Box` for public fields: contracts see its value, and not its address.
+//! A `Box` for public fields. Contracts see its value, and not its address.
 ghost use Rattle.std.specs.Prelude.{◌≡◌, IfOk};
 
 use std::alloc::{AllocError, Global};
 use std::marker::Model;
 
-/// A value on the heap. Contracts don't tell apart two boxes with the same value.
+/// A value on the heap. Contracts don't distinguish two boxes with the same value.
 #[derive(Debug, Drop)]
 pub struct Boxed<T> {
     inner: Box<T>,
@@ -26,7 +26,7 @@ impl<T> Boxed<T> {
         &self.inner
     }
 
-    /// Moves the value off the heap. It allocates nothing.
+    /// Moves the value off the heap and returns it. This allocates nothing.
     pub fn into_inner(self) -> T
         ensures { result ≡ self }
     {
@@ -34,14 +34,14 @@ impl<T> Boxed<T> {
         Box::into_inner(inner)
     }
 
-    /// Wraps a `Box`. It allocates nothing.
+    /// Wraps a `Box`. This allocates nothing.
     pub fn from_box(inner: Box<T>) -> Boxed<T>
         ensures { result ≡ inner.value }
     {
         Boxed { inner }
     }
 
-    /// Gives the `Box` back. It allocates nothing.
+    /// Returns the `Box`. This allocates nothing.
     pub fn into_box(self) -> Box<T>
         ensures { result.value ≡ self }
     {
@@ -51,7 +51,7 @@ impl<T> Boxed<T> {
 }
 
 impl<T: Drop> Boxed<T> {
-    /// Puts a value on the heap. `AllocError` if memory runs out.
+    /// Puts a value on the heap. Returns `AllocError` if memory runs out.
     pub fn new(alloc: Global, value: T) -> Result<Boxed<T>, AllocError>
         ensures { IfOk result (λ boxed. boxed ≡ value) }
     {

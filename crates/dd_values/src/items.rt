@@ -1,4 +1,4 @@
-//! A `Vec` for public fields: contracts see its items, and not its capacity.
+//! A `Vec` for public fields. Contracts see its items, and not its capacity.
 ghost use Rattle.std.specs.Prelude.{◌≡◌, [], ◌∷◌, ◌++◌, ◌<◌, length, slice_get, slice_index_or, ◌↔◌, IsTrue, IfOk, OnOk, OnErr, MatchOption};
 ghost use Rattle.std.specs.Option.{option_copied};
 ghost use Rattle.std.specs.Cmp.Lexicographic.{pointwise, lists_per};
@@ -7,7 +7,7 @@ use std::alloc::{AllocError, Global};
 use std::marker::Model;
 use std::ops::Index;
 
-/// A growable list. Contracts don't tell apart two lists with the same items.
+/// A growable list. Contracts don't distinguish two lists with the same items.
 #[derive(Debug, Drop)]
 pub struct Items<T> {
     vec: Vec<T>,
@@ -25,7 +25,7 @@ impl<T> Model for Items<T> {
 }
 
 impl<T> Items<T> {
-    /// The empty list. It allocates nothing.
+    /// Returns the empty list. This allocates nothing.
     pub fn new(alloc: Global) -> Items<T>
         ensures { result ≡ [] }
     {
@@ -34,14 +34,14 @@ impl<T> Items<T> {
         }
     }
 
-    /// Wraps a `Vec`. It allocates nothing.
+    /// Wraps a `Vec`. This allocates nothing.
     pub fn from_vec(vec: Vec<T>) -> Items<T>
         ensures { result ≡ vec.items }
     {
         Items { vec }
     }
 
-    /// Gives the `Vec` back. It allocates nothing.
+    /// Returns the `Vec`. This allocates nothing.
     pub fn into_vec(self) -> Vec<T>
         ensures { result.items ≡ self }
     {
@@ -63,14 +63,14 @@ impl<T> Items<T> {
         self.vec.len()
     }
 
-    /// Whether there is no item.
+    /// Whether the list is empty.
     pub fn is_empty(&self) -> bool
         ensures { IsTrue result ↔ (self.now ≡ []) }
     {
         self.vec.is_empty()
     }
 
-    /// The item at an index from 0, or `None` past the end.
+    /// The item at an index, counted from 0, or `None` past the end.
     pub fn get(&self, at: usize) -> Option<&T>
         ensures { option_copied result ≡ slice_get self.now at }
     {
@@ -97,7 +97,7 @@ impl<T: Drop> Items<T> {
 }
 
 impl<T: Copy> Items<T> {
-    /// A list of the same items. `AllocError` if memory runs out.
+    /// Returns a list of the same items, or `AllocError` if memory runs out.
     pub fn from_slice(alloc: Global, items: &[T]) -> Result<Items<T>, AllocError>
         ensures { IfOk result (λ list. list ≡ items.now) }
     {

@@ -1,4 +1,5 @@
-//! Data that all crates use: a list and a heap box, which contracts see as their contents, and limits that several crates share.
+//! Data that all crates use: a list and a heap box, of which contracts see only the contents, and limits that several crates
+//! share.
 #![tactic(auto)]
 
 mod bounds;

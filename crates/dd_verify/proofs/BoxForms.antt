@@ -35,7 +35,7 @@ module _ {l : Limits} {x y : LocalRule} where
   pub right_of : {along : List ℕ} {shear : ℕ} {symbols : List ℕ} → IsEqualCertificate l x y (answer.No side.Right along shear symbols) → IsNo l y (breaks x) along shear symbols
   right_of (right_no h) = h
 
--- an answer of another form is no certificate
+-- an answer that is neither a YES to both box questions nor a NO nor UNKNOWN is no certificate for an equality
 pub no_equal : (l : Limits) (x y : LocalRule) (a : Answer) → ((n m : ℕ) (steps others : List Step) → a ≢ answer.YesBoth n m steps others) →
     ((s : Side) (along : List ℕ) (shear : ℕ) (symbols : List ℕ) → a ≢ answer.No s along shear symbols) → ((r : Reason) → a ≢ answer.Unknown r) →
     IsEqualCertificate l x y a → ⊥
@@ -59,7 +59,8 @@ module _ (l : Limits) (x y : LocalRule) (limits : AreLimits l) (left_rule : IsRu
   both_fit n m steps others left_goal right_goal one other fit both =
       (radius_writable l x (breaks y) n steps limits left_rule right_rule left_goal one, radius_writable l y (breaks x) m others limits right_rule left_rule right_goal other, fit, both)
 
--- a test that decides whether there is evidence decides whether there is a certificate that an output can hold
+-- P says that there is evidence, W that an output can hold the answer, and C that the answer is a certificate. If P implies W, and P and C imply each
+-- other, then a test that decides P decides whether W and C both hold.
 pub decides : {E : Type 0} (r : Result Bool E) (P W C : Type 0) → (P → W) → (P → C) → (C → P) → IfOk r (λ b. (b ≡ true) ↔ P) → IfOk r (λ b. (b ≡ true) ↔ (W × C))
 decides r P W C fits made taken told =
     IfOk-weaker r (λ b. (b ≡ true) ↔ P) (λ b. (b ≡ true) ↔ (W × C)) (λ b is. (λ h. (fits (is.0 h), made (is.0 h)), λ both. is.1 (taken both.1))) told

@@ -26,7 +26,7 @@ made_tile r along shear d n x y z items symbols d_is n_is x_is y_is z_is symbols
     ∙ (ap (λ k. tile r.dimension (given_periods along shear) k items) n_is
     ∙ ap (λ k. tile r.dimension (given_periods along shear) r.nodes k) symbols_are))))
 
--- its periods are at most 8
+-- if its periods are at most 8, this configuration has few enough symbols
 given_small : (x : LocalRule) (most : ℕ) (along : List ℕ) (shear : ℕ) (symbols : List ℕ) → IsRule x → most ≤ 8 → IsGiven x most along shear symbols →
     IsPeriodic (given_tile x along shear symbols)
 given_small x most along shear symbols rule few given =
@@ -62,7 +62,7 @@ pub not_within : (x : LocalRule) (most : ℕ) (along : List ℕ) (shear : ℕ) (
 not_within x most along shear symbols d dim none given =
     none (given.as_many ∙ sym dim, subst (λ k. AreWithin k most (given_periods along shear)) (sym dim) given.periods)
 
--- ---- NO
+-- ---- the configuration of a NO
 
 pub given_from : (l : Limits) (x : LocalRule) (g : GoalOf) (along : List ℕ) (shear : ℕ) (symbols : List ℕ) → IsNo l x g along shear symbols →
     IsGiven x l.period along shear symbols

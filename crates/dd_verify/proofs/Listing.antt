@@ -36,7 +36,7 @@ same_cell x c Less is h = absurd (cc h)
 same_cell x c Equal is h = cells_equal x c is
 same_cell x c Greater is h = absurd (cc h)
 
--- if the index is below the length, the cell is there
+-- if the index of a cell is below the length of the list, the cell is at this index
 stands_first : (x : Cell) (cs : List Cell) (c : Cell) (b : Bool) → is_cell c x ≡ b → (place_of cs c < length cs → get_or cs (place_of cs c) c ≡ c) →
     place_of (x ∷ cs) c < length (x ∷ cs) → get_or (x ∷ cs) (place_of (x ∷ cs) c) c ≡ c
 stands_first x cs c true is rest h =
@@ -50,7 +50,7 @@ stands : (cs : List Cell) (c : Cell) → place_of cs c < length cs → get_or cs
 stands [] c h = refl
 stands (x ∷ cs) c h = stands_first x cs c (is_cell c x) refl (stands cs c) h
 
--- a cell of the list has an index below the length
+-- each cell of the list has an index below the list's length
 within_first : (x : Cell) (cs : List Cell) (i : ℕ) (c d : Cell) (b : Bool) → is_cell c x ≡ b →
     ((j : ℕ) → j < length cs → is_cell c (get_or cs j d) ≡ true → place_of cs c < length cs) →
     i < length (x ∷ cs) → is_cell c (get_or (x ∷ cs) i d) ≡ true → place_of (x ∷ cs) c < length (x ∷ cs)

@@ -1,4 +1,4 @@
--- Certificates of conjugacies: the four questions, and that an output can hold their answers.
+-- Certificates for conjugacies: the answers to the four questions, and that an output can hold them.
 use Rattle.std.proofs.Common.{◌≡◌, ◌≢◌, ℕ, zero, suc, ◌-◌, Bool, true, false, List, [], ◌∷◌, length, slice_get, Some, None, refl, ap, sym, subst, ◌∙◌, arith}
 use Rattle.std.proofs.lemmas.{Bool.false≢true, List.Elements.All-nil, List.Elements.All-cons}
 use Rattle.std.specs.{Prelude.◌↔◌, Prelude.slice_index_or, List.All}
@@ -26,7 +26,7 @@ no_more c k x g is =
     let none : slice_get (parts c) (suc (suc (suc (suc k)))) ≡ None = refl in
     cc (sym none ∙ (sym (ap (slice_get (parts c)) at) ∙ is))
 
--- what holds of each question holds of the one with this index
+-- what holds of each question holds of the one with the index k
 pub of_part : (P : LocalRule → GoalOf → Type 0) (c : ConjugacyOf) (k : ℕ) (x : LocalRule) (g : GoalOf) → EachPart P c → IsPart c k x g → P x g
 of_part P c zero x g each is = absurd (omega (arith, is.0))
 of_part P c (suc zero) x g each is = let same : (c.from, c.image) ≡ (x, g) = cc is.1 in subst (λ (p : LocalRule × GoalOf). P p.0 p.1) same each.image
@@ -36,7 +36,7 @@ of_part P c (suc (suc (suc (suc zero)))) x g each is =
     let same : (c.to, c.round_back) ≡ (x, g) = cc is.1 in subst (λ (p : LocalRule × GoalOf). P p.0 p.1) same each.round_back
 of_part P c (suc (suc (suc (suc (suc k))))) x g each is = absurd (no_more c k x g is.1)
 
--- ---- NO to one of them
+-- ---- a NO to one of the questions
 
 abbrev pub BrokenAt : Limits → ConjugacyOf → ℕ → List ℕ → ℕ → List ℕ → Type 0
 BrokenAt l c k along shear symbols = (x : LocalRule) × (g : GoalOf) × IsPart c k x g × IsNo l x g along shear symbols
@@ -56,7 +56,7 @@ module _ (l : Limits) (c : ConjugacyOf) (limits : AreLimits l) (sound : EachPart
       let same : (told.0, told.1) ≡ (x, g) = cc (told.2.1, is.1) in
       subst (λ (p : LocalRule × GoalOf). IsNo l p.0 p.1 along shear symbols) same told.3
 
--- ---- YES to each
+-- ---- a YES to each of the questions
 
 abbrev four_of : {A : Type 0} → List A → A → List A
 four_of xs d = slice_index_or xs 0 d ∷ slice_index_or xs 1 d ∷ slice_index_or xs 2 d ∷ slice_index_or xs 3 d ∷ []
@@ -73,7 +73,7 @@ all_four : {A : Type 0} (P : A → Type 0) (a b e f : A) → P a → P b → P e
 all_four P a b e f one two three last =
     All-cons P a (b ∷ e ∷ f ∷ []) one (All-cons P b (e ∷ f ∷ []) two (All-cons P e (f ∷ []) three (All-cons P f [] last (All-nil P))))
 
--- the radius and the steps with this index are a YES
+-- the radius and the steps with the index k, from 0, certify a YES
 abbrev pub IsYesAt : Limits → List ℕ → List (List Step) → ℕ → LocalRule → GoalOf → Type 0
 IsYesAt l radii steps k x g = IsYes l x g (slice_index_or radii k 0) (slice_index_or steps k [])
 
@@ -111,7 +111,7 @@ module _ (l : Limits) (c : ConjugacyOf) (limits : AreLimits l) (sound : EachPart
     subst (All IsWritableRefutation) (sym (four steps [] told.steps_four)) (all_four IsWritableRefutation _ _ _ _ one two three last),
   )
 
-  -- the tests of the four questions decide whether there is a certificate
+  -- if the first three questions are answered YES, a test of the fourth YES decides whether there is a certificate that an output can hold
   pub each_decides : length radii ≡ 4 → length steps ≡ 4 → IsYesAt l radii steps 0 c.from c.image → IsFitAt steps 0 → IsYesAt l radii steps 1 c.to c.image_back → IsFitAt steps 1 →
       IsYesAt l radii steps 2 c.from c.round → IsFitAt steps 2 → (b : Bool) → (b ≡ true) ↔ IsYesAt l radii steps 3 c.to c.round_back → (b ≡ true → IsFitAt steps 3) →
       (b ≡ true) ↔ (IsWritable (answer.Conjugate radii steps) × IsConjugacyCertificate l c (answer.Conjugate radii steps))
@@ -136,7 +136,7 @@ unknown_decides l c r b told = (
   λ both. told.1 (reason_of both.1),
 )
 
--- an answer of another form is no certificate
+-- an answer that is neither CONJUGATE nor BROKEN nor UNKNOWN is no certificate for a conjugacy
 pub no_conjugacy : (l : Limits) (c : ConjugacyOf) (a : Answer) → ((radii : List ℕ) (steps : List (List Step)) → a ≢ answer.Conjugate radii steps) →
     ((k : ℕ) (along : List ℕ) (shear : ℕ) (symbols : List ℕ) → a ≢ answer.Broken k along shear symbols) → ((r : Reason) → a ≢ answer.Unknown r) →
     IsConjugacyCertificate l c a → ⊥
@@ -144,7 +144,7 @@ no_conjugacy l c a yes_form no_form open_form (conjugate one two three last) = y
 no_conjugacy l c a yes_form no_form open_form (broken is told) = no_form _ _ _ _ refl
 no_conjugacy l c a yes_form no_form open_form conjugacy_unknown = open_form _ refl
 
--- ---- what they claim
+-- ---- what the certificates claim
 
 pub conjugacy_claims : (l : Limits) (c : ConjugacyOf) (a : Answer) → EachPart (IsSoundBox l) c → EachPart HasGoalFacts c → IsConjugacyCertificate l c a → ConjugacyClaim c a
 conjugacy_claims l c a sound gates (conjugate {n1 = n1} {n2 = n2} {n3 = n3} {n4 = n4} {s1 = s1} {s2 = s2} {s3 = s3} {s4 = s4} one two three last) =

@@ -1,4 +1,4 @@
--- The place of a cell, as an answer gives it.
+-- The place of a cell, as an answer writes it: the coordinates of its position, then its node.
 use Rattle.std.proofs.Common.{◌≡◌, ℕ, ◌+◌, ◌≤◌, Bool, true, List, [], ◌∷◌, ◌++◌, length, take, get_or, ap, sym, ◌∙◌, arith, ℤ, pos, length-append}
 use Rattle.std.proofs.lemmas.{Bool.Decides.Decides-int_eq, Slice.Eq.slice_eq-Decides}
 use Rattle.std.proofs.lemmas.List.{take_all, take_more, take-append-le, append_cancel_left, length-take-le}
@@ -9,7 +9,7 @@ use Rattle.dd_lattice.specs.declared.position.Cell.{Cell}
 use Rattle.dd_pattern.specs.Tile.{Tile}
 use Rattle.dd_evidence.specs.Cells.{written_cell, IsOutside}
 
--- the first d coordinates of xs, followed by n
+-- when `place` consists of the first d coordinates of xs, followed by n
 module _ (d n : ℕ) (xs place : List ℤ) (few : d ≤ length xs) where
   pub place_length : place ≡ take d xs ++ pos n ∷ [] → length place ≡ d + 1
   place_length is =
@@ -35,7 +35,7 @@ module _ (d n : ℕ) (xs place : List ℤ) (few : d ≤ length xs) where
   place_whole z many last front =
       split z many ∙ (ap (λ f. f ++ get_or place d z ∷ []) front ∙ ap (λ l. take d xs ++ l ∷ []) last)
 
--- if the first cell at which the rule is false is known, only its place is right
+-- if c is the first cell at which the rule is false, the place of c is the only right one
 pub outside_at : (x : LocalRule) (t : Tile) (c : Cell) (d : ℕ) (place : List ℤ) (b : Bool) → d ≡ x.dimension → IsFirstFalse x t c →
     (b ≡ true) ↔ (place ≡ written_cell d c) → (b ≡ true) ↔ IsOutside x t place
 outside_at x t c d place b same first told = (

@@ -1,4 +1,4 @@
--- From tests of single numbers to what an output can hold.
+-- Tests of each number of a list decide whether an output can hold the list.
 use Rattle.std.proofs.Common.{◌≡◌, ℕ, ◌≤◌, Bool, true, List, length, sym, ◌∙◌, ℤ}
 use Rattle.std.proofs.lemmas.{Bool.leb-true, Bool.le-leb, List.Elements.All-weaker}
 use Rattle.std.proofs.lemmas.List.Sums.{AllPass-from_list_all, list_all-from_AllPass}

@@ -1,4 +1,4 @@
--- What the minimal patterns of a rule say.
+-- What a list of the minimal patterns of a rule claims is true.
 use Rattle.std.proofs.Common.{◌≡◌, ℕ, ◌<◌, Bool, true, false, List, [], Some, None, refl, ap, sym, ◌∙◌}
 use Rattle.std.proofs.lemmas.{Bool.false≢true, Bool.Decides.Decides-eqb, Slice.Eq.slice_eq-Decides}
 use Rattle.std.specs.{Prelude.◌↔◌, Prelude.Option, Prelude.nat_eq, List.All, Bool.Decides, Option.option_eq, Cmp.Lexicographic.pointwise}
@@ -10,7 +10,7 @@ use Rattle.dd_evidence.specs.{Lists.starred, Lists.IsStarredList, Lists.patterns
 use Rattle.dd_verify.specs.Holding.{TellsCovered, SayMinimal, MinimalClaim, says_minimal}
 use Rattle.dd_verify.proofs.Listing.{says_kept}
 
--- the laws of minimal lists
+-- the laws of the list of minimal patterns of one node
 abbrev AreExact : Type 0
 AreExact = (r : LocalRule) (a : ℕ) (ps : List (List (Option ℕ))) (ss : List ℕ) → IsRule r → IsMinimalList r a ps → are_allowed r (cells_at r a) ss ≡ true →
     (is_true_at_origin r a ss ≡ false) ↔ (is_covered ps ss ≡ true)
@@ -21,7 +21,7 @@ AreNeeded = (r : LocalRule) (a : ℕ) (ps : List (List (Option ℕ))) → IsRule
 abbrev AllAreNew : Type 0
 AllAreNew = (r : LocalRule) (a : ℕ) (ps : List (List (Option ℕ))) → IsMinimalList r a ps → AreNew r a [] ps
 
--- the same for the lists of all nodes
+-- the laws of the list of minimal patterns of all nodes
 abbrev HaveNodes : Type 0
 HaveNodes = (x : LocalRule) (patterns : List Starred) → IsStarredList x patterns → All (λ p. p.node < x.nodes) patterns
 
@@ -43,7 +43,7 @@ module _ (exact : AreExact) (needed : AreNeeded) (new : AllAreNew) (x : LocalRul
     minimal_claims a (all_minimal {patterns = patterns} is) =
         says_minimal (have x patterns is) (λ b below. say_minimal b (patterns_at b patterns) (minimal x patterns b is below))
 
--- ---- whether two patterns are the same
+-- ---- the test of whether two patterns are the same
 
 same_kept : (a b : Option ℕ) → Decides (option_eq nat_eq a b) (a ≡ b)
 same_kept None None = (λ h. refl, λ is. refl)

@@ -34,7 +34,7 @@ IsOnTorus x along symbols = IsTile (torus_tile x along symbols) × Fits x (torus
 pub fits_torus : (x : LocalRule) (along symbols : List ℕ) → All (λ s. s < x.symbols) symbols → Fits x (torus_tile x along symbols)
 fits_torus x along symbols below = record { dimension = refl; nodes = refl; symbols = below }
 
--- it has few enough symbols
+-- this configuration has few enough symbols
 pub torus_small : (x : LocalRule) (along symbols : List ℕ) → AreTorusPeriods x.dimension x.nodes (periods_of along 0) → IsTile (torus_tile x along symbols) → IsPeriodic (torus_tile x along symbols)
 torus_small x along symbols torus is =
     record { tile = is; small = (let full = is.full in let few = torus.few in omega (arith, full, few)) }
@@ -42,7 +42,7 @@ torus_small x along symbols torus is =
 pub on_torus_of : {x : LocalRule} {along ws : List ℕ} {w : ℕ} {symbols : List ℕ} → HasWeight x along ws w symbols → IsOnTorus x along symbols
 on_torus_of told = (told.lives.tile, told.lives.fits)
 
--- a test of the configuration is a test of its symbols
+-- a test of the configuration decides whether its symbols have the weight w
 pub weight_decides : (x : LocalRule) (along ws : List ℕ) (w : ℕ) (symbols : List ℕ) (t : Tile) (b : Bool) → t ≡ torus_tile x along symbols →
     (b ≡ true) ↔ (IsWitness x always t × (total_weight ws t.symbols ≡ w)) → (b ≡ true) ↔ HasWeight x along ws w symbols
 weight_decides x along ws w symbols t b is told = (
@@ -82,7 +82,7 @@ pub none_of : {x : LocalRule} {along ws : List ℕ} {steps : List Step} → IsTo
     IsRefuting (weight_problem x (periods_of along 0) ws 0) steps
 none_of (torus_none h) = h
 
--- an answer of another form is no certificate
+-- an answer that is neither LEAST nor NONE is no certificate
 pub no_torus : (x : LocalRule) (along ws : List ℕ) (a : Answer) → ((w : ℕ) (symbols : List ℕ) (steps : List Step) → a ≢ answer.Least w symbols steps) →
     ((steps : List Step) → a ≢ answer.Nothing steps) → IsTorusCertificate x along ws a → ⊥
 no_torus x along ws a least_form none_form (torus_least has bounded) = least_form _ _ _ refl
@@ -129,7 +129,7 @@ module _ (x : LocalRule) (along ws : List ℕ) (rule : IsRule x) (weighable : Is
     λ both. told.1 (both.0.2, bounded_of both.1),
   )
 
--- with the weight 0 there is nothing to refute, and there are no steps
+-- if the weight is 0, there is nothing to refute, and there must be no steps
 pub nothing_below : (x : LocalRule) (along ws : List ℕ) (w : ℕ) (steps : List Step) (b : Bool) → w ≡ 0 → (b ≡ true) ↔ (steps ≡ []) →
     (b ≡ true) ↔ (IsWritableBelow w steps × IsBoundedBy x along ws w steps)
 nothing_below x along ws w steps b zero_is told = (
@@ -140,7 +140,7 @@ nothing_below x along ws w steps b zero_is told = (
   ],
 )
 
--- with a greater weight, the steps are those of a refutation
+-- if the weight is not 0, the steps must be a refutation
 pub something_below : (x : LocalRule) (along ws : List ℕ) (w : ℕ) (steps : List Step) (b : Bool) → w ≢ 0 →
     (b ≡ true) ↔ IsRefuting (weight_problem x (periods_of along 0) ws w) steps → (b ≡ true → IsWritableRefutation steps) →
     (b ≡ true) ↔ (IsWritableBelow w steps × IsBoundedBy x along ws w steps)
@@ -152,9 +152,9 @@ pub none_decides : (x : LocalRule) (along ws : List ℕ) (steps : List Step) (b 
     (b ≡ true → IsWritableRefutation steps) → (b ≡ true) ↔ (IsWritable (answer.Nothing steps) × IsTorusCertificate x along ws (answer.Nothing steps))
 none_decides x along ws steps b told fit = (λ h. (fit h, torus_none (told.0 h)), λ both. told.1 (none_of both.1))
 
--- ---- what they claim
+-- ---- what the certificates claim
 
--- the law of weights
+-- the laws of the least weight hold for the rule, whatever the periods and the weights
 abbrev AreSaid : LocalRule → Type 0
 AreSaid x = (p : Periods) (ws : List ℕ) → AreTorusPeriods x.dimension x.nodes p → length ws ≡ x.symbols → SaysWeights x p ws
 

@@ -1,4 +1,4 @@
--- From the checks of densities and bounds to certificates that can be written, and what they claim.
+-- The checks of densities and bounds decide whether there is a certificate that an output can hold. What such certificates claim is true.
 use Rattle.std.proofs.Common.{◌≡◌, ℕ, ◌+◌, Bool, true, false, List, refl, sym, ◌∙◌, ℤ}
 use Rattle.std.proofs.lemmas.{Bool.false≢true, Result.IfOk-weaker}
 use Rattle.std.specs.Prelude.{◌↔◌, Result, IfOk}
@@ -18,7 +18,7 @@ use Rattle.dd_verify.specs.Bounds.{IsStripCertificate, strip_least, strip_empty,
 use Rattle.dd_values.specs.lemmas.Results.{if_ok_both}
 use Rattle.dd_certificate.specs.declared.answer.Answer.TheVariants as answer
 
--- ---- a test of what can be written, then a test of what is shown
+-- ---- first a test of whether an output can hold the answer, then a test of its evidence
 
 pub not_written : (b : Bool) (A B : Type 0) → (b ≡ true) ↔ A → b ≡ false → (false ≡ true) ↔ (A × B)
 not_written b A B told fails = (λ h. absurd (false≢true h), λ both. absurd (false≢true (sym fails ∙ told.1 both.0)))
@@ -26,12 +26,12 @@ not_written b A B told fails = (λ h. absurd (false≢true h), λ both. absurd (
 pub written : {E : Type 0} (r : Result Bool E) (A B : Type 0) → A → IfOk r (λ b. (b ≡ true) ↔ B) → IfOk r (λ b. (b ≡ true) ↔ (A × B))
 written r A B a told = IfOk-weaker r (λ b. (b ≡ true) ↔ B) (λ b. (b ≡ true) ↔ (A × B)) (λ b is. (λ h. (a, is.0 h), λ both. is.1 both.1)) told
 
--- a test that is false only of what doesn't hold is true of what holds
+-- if a test is false only if a statement doesn't hold, and the statement holds, then the test is true
 told_so : (b : Bool) (A : Type 0) → (b ≡ false → A → ⊥) → A → b ≡ true
 told_so true A refuted a = refl
 told_so false A refuted a = absurd (refuted refl a)
 
--- an answer that is yes only of what holds, and no only of what doesn't
+-- if a test is true only if a statement holds, and false only if it doesn't, then the test decides the statement
 pub decided_so : {E : Type 0} (r : Result Bool E) (A : Type 0) → IfOk r (λ b. b ≡ true → A) → IfOk r (λ b. b ≡ false → A → ⊥) → IfOk r (λ b. (b ≡ true) ↔ A)
 decided_so r A shown refuted =
     if_ok_both r (λ b. b ≡ true → A) (λ b. b ≡ false → A → ⊥) (λ b. (b ≡ true) ↔ A) (λ b here never. (here, told_so b A never)) shown refuted

@@ -1,4 +1,4 @@
--- A bound on what admissible fillings weigh on a box holds for each configuration that obeys the rule.
+-- A lower bound on what admissible fillings weigh on a box also holds for each configuration that obeys the rule.
 use Rattle.std.proofs.Common.{◌≡◌, ◌<◌, ◌≤◌, ◌+◌, ◌*◌, ◌^◌, ℕ, Bool, true, false, List, length, refl, ap, ◌∙◌, arith, None}
 use Rattle.std.proofs.lemmas.Bool.{and_parts, and_from, cond_both, lt-ltb, ltb-true}
 use Rattle.std.proofs.{lemmas.Bool.Decides.Decides-int_eq, lemmas.Int.ints, Math.Nat.mul-le-mul}

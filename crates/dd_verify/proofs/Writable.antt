@@ -1,4 +1,4 @@
--- An output can hold each certificate: its numbers are small, and its steps are those of a refutation.
+-- An output can hold the places, the radii and the configurations of certificates: their numbers are small enough.
 use Rattle.std.proofs.Common.{◌≡◌, ℕ, zero, suc, ◌*◌, ◌≤◌, ◌<◌, List, length, get_or, arith, ℤ, inl, inr}
 use Rattle.std.proofs.lemmas.{Bool.cases_lt, Nat.mul-le, List.Elements.All-from_get_or}
 use Rattle.std.specs.List.{All}

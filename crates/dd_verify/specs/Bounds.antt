@@ -16,15 +16,16 @@ use Rattle.dd_certificate.specs.declared.answer.{Reason.Reason, Answer.Answer}
 use Rattle.dd_certificate.specs.declared.answer.Reason.TheVariants as reason
 use Rattle.dd_certificate.specs.declared.answer.Answer.TheVariants as answer
 
--- Least densities. A certificate is a closed walk through the strip's transfer graph, with potentials that show that no closed walk
--- has a smaller mean. Or it is ranks that show that there is no closed walk, and so no configuration.
+-- Least densities. A certificate has a closed walk through the strip's transfer graph, and potentials which show that no closed walk has a smaller
+-- mean weight. Or it has ranks which show that there is no closed walk, and so no configuration on the strip.
 pub data IsStripCertificate (x : LocalRule) (strip ws : List ℕ) : Answer → Type 0 where
   strip_least : {p q : ℕ} {cycle : List ℕ} {potentials : List ℤ} → IsDensityCertificate x (strip_for x strip) ws p q cycle potentials →
       IsStripCertificate x strip ws (answer.Density p q cycle potentials)
   strip_empty : {ranks : List ℕ} → IsEmptyCertificate x (strip_for x strip) ranks → IsStripCertificate x strip ws (answer.Empty ranks)
 
--- p / q is the least density of all configurations on the strip. In an admissible filling of finite length, the slices after the
--- first state weigh at least their number times m / l, the cycle's mean, less the spread of the potentials.
+-- p / q is the least density of the configurations that live on the strip, and m / l is the mean weight of the cycle, in lowest terms. In an
+-- admissible filling of finite length, take the j slices after the first state. Then l times the weight of these slices is at least m * j, less the
+-- spread of the potentials (the greatest less the least).
 pub record IsLeastOnStrip (x : LocalRule) (strip ws : List ℕ) (p q : ℕ) (cycle : List ℕ) (potentials : List ℤ) : Type 0 where
   pub m : ℕ
   pub l : ℕ
@@ -36,8 +37,8 @@ pub data StripClaim (x : LocalRule) (strip ws : List ℕ) : Answer → Type 0 wh
   claims_least : {p q : ℕ} {cycle : List ℕ} {potentials : List ℤ} → IsLeastOnStrip x strip ws p q cycle potentials → StripClaim x strip ws (answer.Density p q cycle potentials)
   claims_empty : {ranks : List ℕ} → StripEmpty x (strip_for x strip) (greatest ranks + state_length x) → StripClaim x strip ws (answer.Empty ranks)
 
--- Discharging. A certificate is amounts with which each position holds at least the bound, with duals that show that no amounts
--- do better. Or it is a reason why no bound is given.
+-- Discharging. A certificate has amounts with which each position holds at least the bound, and duals which show that no amounts do better. Or it
+-- gives a reason why there is no bound.
 pub data IsDischargeCertificate (x : LocalRule) (radius margin : ℕ) (vs : List Place) (ws : List ℕ) : Answer → Type 0 where
   best : {p q n : ℕ} {amounts duals : List ℕ} → IsBoundCertificate x ws radius margin vs (bound_claimed p q n amounts duals) →
       IsDischargeCertificate x radius margin vs ws (answer.Bound p q n amounts duals)
@@ -45,9 +46,9 @@ pub data IsDischargeCertificate (x : LocalRule) (radius margin : ℕ) (vs : List
   overflow : IsDischargeCertificate x radius margin vs ws (answer.Unknown reason.Overflow)
   no_pivots : IsDischargeCertificate x radius margin vs ws (answer.Unknown reason.Pivots)
 
--- What a bound p / q says. No amounts that meet the program's rows hold more. Move Side(n) to any position of Z^d, and take an
--- admissible filling of the positions within reach of it. On the moved box it weighs at least n^d times p / q, less what the
--- box may receive from outside. So does each configuration that obeys the rule.
+-- What a bound p / q claims. No amounts that meet the program's rows give a greater bound. Now move Side(n), the box of side n, to any position of
+-- Z^d, and take an admissible filling of all positions within reach of the moved box. On the moved box, this filling weighs at least n^d times p / q,
+-- less what the box may receive from outside. So does each configuration that obeys the rule.
 pub record IsBestBound (x : LocalRule) (ws : List ℕ) (radius margin : ℕ) (vs : List Place) (b : Bound) : Type 0 where
   pub best : BestOf x ws radius margin vs b.numerator b.denominator
   pub sides : HoldsOnSides x ws radius margin vs b

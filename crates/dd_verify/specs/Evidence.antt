@@ -13,8 +13,9 @@ use Rattle.dd_certificate.specs.declared.answer.Side.TheVariants as side
 use Rattle.dd_certificate.specs.declared.answer.Reason.TheVariants as reason
 use Rattle.dd_certificate.specs.declared.answer.Answer.TheVariants as answer
 
--- n is at least the goal's least radius, and at most the greater of that and the limit. The steps refute the clauses that ask
--- for an admissible filling of the box B(n) with the goal at the origin.
+-- The goal's least radius is that of the smallest box that holds all cells that the goal reads at the origin. n is at least this least radius, and at
+-- most the greater of the least radius and the limit. The steps refute the clauses that ask for an admissible filling of B(n), the box of radius n,
+-- with the goal at the origin. (A filling is admissible if the premise is true at each of its cells where all that the premise reads has a symbol.)
 pub record IsYes (l : Limits) (x : LocalRule) (g : GoalOf) (n : ℕ) (steps : List Step) : Type 0 where
   pub least : ℕ
   pub is_least : IsLeastRadius g least
@@ -22,8 +23,8 @@ pub record IsYes (l : Limits) (x : LocalRule) (g : GoalOf) (n : ℕ) (steps : Li
   pub high : n ≤ max l.radius least
   pub refuting : IsRefuting (box_problem x g n) steps
 
--- There is a period for each axis, of at most the limit, and a shear less than the first. The configuration has allowed symbols,
--- lives in the premise's subshift and has the goal at the origin.
+-- There is exactly one period for each axis, from 1 to the limit. The shear is less than the first period, and 0 in one dimension. The configuration
+-- has allowed symbols, lives in the premise's subshift and has the goal at the origin.
 pub record IsNo (l : Limits) (x : LocalRule) (g : GoalOf) (along : List ℕ) (shear : ℕ) (symbols : List ℕ) : Type 0 where
   pub as_many : length along ≡ x.dimension
   pub periods : AreWithin x.dimension l.period (given_periods along shear)
@@ -35,15 +36,17 @@ pub data IsBoxCertificate (l : Limits) (x : LocalRule) (g : GoalOf) : Answer →
   box_no : {along : List ℕ} {shear : ℕ} {symbols : List ℕ} → IsNo l x g along shear symbols → IsBoxCertificate l x g (answer.No side.Whole along shear symbols)
   box_unknown : IsBoxCertificate l x g (answer.Unknown reason.Limits)
 
--- For equality, the left box question is whether no configuration of x breaks y, and the right one whether none of y breaks x. YES
--- is a YES to both, and NO is a NO on the side that it names.
+-- An equality is two box questions. The left one asks whether no configuration that obeys x breaks y, and the right one whether none that obeys y
+-- breaks x. A certificate is a YES to both, a NO that names one of the two by its side and holds for that one, or UNKNOWN with the limits as the
+-- reason.
 pub data IsEqualCertificate (l : Limits) (x y : LocalRule) : Answer → Type 0 where
   equal_yes : {n m : ℕ} {steps others : List Step} → IsYes l x (breaks y) n steps → IsYes l y (breaks x) m others → IsEqualCertificate l x y (answer.YesBoth n m steps others)
   left_no : {along : List ℕ} {shear : ℕ} {symbols : List ℕ} → IsNo l x (breaks y) along shear symbols → IsEqualCertificate l x y (answer.No side.Left along shear symbols)
   right_no : {along : List ℕ} {shear : ℕ} {symbols : List ℕ} → IsNo l y (breaks x) along shear symbols → IsEqualCertificate l x y (answer.No side.Right along shear symbols)
   equal_unknown : IsEqualCertificate l x y (answer.Unknown reason.Limits)
 
--- for a conjugacy: YES to each of the four box questions, NO to the one that the answer names, or UNKNOWN
+-- For a conjugacy, a certificate is CONJUGATE with a YES to each of the four box questions, BROKEN, which names one of these questions, with a NO to
+-- that one, or UNKNOWN with the limits as the reason.
 pub data IsConjugacyCertificate (l : Limits) (c : ConjugacyOf) : Answer → Type 0 where
   conjugate : {n1 n2 n3 n4 : ℕ} {s1 s2 s3 s4 : List Step} → IsYes l c.from c.image n1 s1 → IsYes l c.to c.image_back n2 s2 → IsYes l c.from c.round n3 s3 →
       IsYes l c.to c.round_back n4 s4 → IsConjugacyCertificate l c (answer.Conjugate (n1 ∷ n2 ∷ n3 ∷ n4 ∷ []) (s1 ∷ s2 ∷ s3 ∷ s4 ∷ []))

@@ -5,7 +5,7 @@ use Rattle.dd_problem.specs.pushing.GoalFacts.{HasGoalFacts}
 use Rattle.dd_question.specs.{Conjugacies.ConjugacyOf, Conjugacies.EachPart, Questions.Asked}
 use Rattle.dd_question.specs.Questions as asked
 
--- a box question or a conjugacy, with the facts about its goals
+-- the question is a box question or a conjugacy, and the facts about its goals hold
 pub data HaveGoalFacts : Asked → Type 0 where
   box_facts : {x : LocalRule} {g : GoalOf} → HasGoalFacts x g → HaveGoalFacts (asked.box x g)
   conjugacy_facts : {c : ConjugacyOf} → EachPart HasGoalFacts c → HaveGoalFacts (asked.conjugacy c)

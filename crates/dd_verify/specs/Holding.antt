@@ -14,32 +14,35 @@ use Rattle.dd_evidence.specs.{Cells.written_cell, Tiles.given_tile, Lists.listed
 use Rattle.dd_certificate.specs.declared.answer.Side.TheVariants as side
 use Rattle.dd_certificate.specs.declared.answer.Answer.TheVariants as answer
 
--- the rule is false at the cell with this place
+-- the rule is false at the cell that this place names
 abbrev pub IsFalseAt : LocalRule → Tile → List ℤ → Type 0
 IsFalseAt x t place = (c : Cell) × (place ≡ written_cell x.dimension c) × (is_true x c (tile_look t) ≡ false)
 
--- membership: the configuration lives in the subshift, or it breaks the rule at the place
+-- Membership. IN claims that the configuration lives in the rule's subshift: it obeys the rule at every cell. OUT claims that the rule is false at
+-- the cell that the place names.
 pub data MemberClaim (x : LocalRule) (t : Tile) : Answer → Type 0 where
   says_inside : Lives x t → MemberClaim x t answer.Inside
   says_outside : {place : List ℤ} → IsFalseAt x t place → MemberClaim x t (answer.Outside place)
 
--- Box questions. YES claims that the goal holds nowhere. NO claims that the configuration lives in the premise's subshift and has
--- the goal at the origin. UNKNOWN claims nothing.
+-- Box questions. YES claims that the goal holds nowhere: at no position of a configuration that obeys the premise, and at no position of an
+-- admissible filling such that the filling covers the box of radius n round that position. NO claims that the configuration lives in the premise's
+-- subshift and has the goal at the origin. UNKNOWN claims nothing.
 pub data BoxClaim (x : LocalRule) (g : GoalOf) : Answer → Type 0 where
   says_nowhere : {n : ℕ} {steps : List Step} → HoldsNowhere x g n → BoxClaim x g (answer.Yes n steps)
   says_witness : {along : List ℕ} {shear : ℕ} {symbols : List ℕ} → IsWitness x g (given_tile x along shear symbols) → BoxClaim x g (answer.No side.Whole along shear symbols)
   says_nothing : {r : Reason} → BoxClaim x g (answer.Unknown r)
 
--- Equality. YES claims that no configuration of x breaks y, and none of y breaks x. NO claims that a configuration of the rule on
--- the named side breaks the other.
+-- Equality. YES claims that the goals of both box questions hold nowhere: with the premise x, y is broken nowhere, and with the premise y, x is
+-- broken nowhere. NO names a side. It claims that the configuration lives in the subshift of the rule on this side, and breaks the other rule at the
+-- origin. UNKNOWN claims nothing.
 pub data EqualClaim (x y : LocalRule) : Answer → Type 0 where
   says_equal : {n m : ℕ} {steps others : List Step} → HoldsNowhere x (breaks y) n → HoldsNowhere y (breaks x) m → EqualClaim x y (answer.YesBoth n m steps others)
   says_left : {along : List ℕ} {shear : ℕ} {symbols : List ℕ} → IsWitness x (breaks y) (given_tile x along shear symbols) → EqualClaim x y (answer.No side.Left along shear symbols)
   says_right : {along : List ℕ} {shear : ℕ} {symbols : List ℕ} → IsWitness y (breaks x) (given_tile y along shear symbols) → EqualClaim x y (answer.No side.Right along shear symbols)
   says_none : {r : Reason} → EqualClaim x y (answer.Unknown r)
 
--- Conjugacies. YES claims that the goal of each of the four box questions holds nowhere. NO claims that the configuration lives in
--- the premise's subshift of the box question that it names, and has that question's goal at the origin.
+-- Conjugacies. CONJUGATE claims that the goal of each of the four box questions holds nowhere. BROKEN names one of these questions. It claims that
+-- the configuration lives in the subshift of this question's premise, and has this question's goal at the origin. UNKNOWN claims nothing.
 pub data ConjugacyClaim (c : ConjugacyOf) : Answer → Type 0 where
   says_conjugate : {n1 n2 n3 n4 : ℕ} {s1 s2 s3 s4 : List Step} → HoldsNowhere c.from c.image n1 → HoldsNowhere c.to c.image_back n2 → HoldsNowhere c.from c.round n3 →
       HoldsNowhere c.to c.round_back n4 → ConjugacyClaim c (answer.Conjugate (n1 ∷ n2 ∷ n3 ∷ n4 ∷ []) (s1 ∷ s2 ∷ s3 ∷ s4 ∷ []))
@@ -47,11 +50,12 @@ pub data ConjugacyClaim (c : ConjugacyOf) : Answer → Type 0 where
       ConjugacyClaim c (answer.Broken k along shear symbols)
   says_no_more : {r : Reason} → ConjugacyClaim c (answer.Unknown r)
 
--- the cells that the rule reads at the node a, placed relative to v, have these symbols
+-- the cells that the rule reads at the node a, moved by v, have these symbols under the look (which gives cells their symbols)
 abbrev pub AreReadAt : LocalRule → Look → Place → ℕ → List ℕ → Type 0
 AreReadAt x look v a ss = map (λ c. look (shifted v c)) (cells_at x a) ≡ map Some ss
 
--- where the cells that are read have allowed symbols, the rule is false exactly if the symbols are a listed pattern
+-- Take any position v and any node. If the cells that the rule reads there have allowed symbols, the rule is false there exactly if these symbols
+-- are a listed pattern.
 abbrev pub TellsBreaking : LocalRule → List Listed → Type 0
 TellsBreaking x patterns = (look : Look) (v : Place) (a : ℕ) (ss : List ℕ) → a < x.nodes → AreReadAt x look v a ss →
     are_allowed x (cells_at x a) ss ≡ true → (is_true x (cell v a) look ≡ false) ↔ Contains patterns (listed a ss)
@@ -60,20 +64,21 @@ TellsBreaking x patterns = (look : Look) (v : Place) (a : ℕ) (ss : List ℕ) �
 pub data ListClaim (x : LocalRule) : Answer → Type 0 where
   says_list : {patterns : List Listed} → TellsBreaking x patterns → ListClaim x (answer.List patterns)
 
--- where the cells that are read have allowed symbols, the rule is false exactly if the symbols agree with one of the patterns ps
+-- Take the node a of any position v. If the cells that the rule reads there have allowed symbols, the rule is false there exactly if these symbols
+-- agree with one of the patterns ps.
 abbrev pub TellsCovered : LocalRule → ℕ → List (List (Option ℕ)) → Type 0
 TellsCovered x a ps = (look : Look) (v : Place) (ss : List ℕ) → AreReadAt x look v a ss → are_allowed x (cells_at x a) ss ≡ true →
     (is_true x (cell v a) look ≡ false) ↔ (is_covered ps ss ≡ true)
 
--- what a list of minimal patterns of a node claims
+-- what the list ps of the minimal patterns of the node a claims
 pub record SayMinimal (x : LocalRule) (a : ℕ) (ps : List (List (Option ℕ))) : Type 0 where
   pub tells : TellsCovered x a ps
-  -- a pattern without one of its cells would forbid something that the rule allows
+  -- each cell of a pattern is needed: without it, the pattern would forbid something that the rule allows
   pub needed : All (NeedsEach x a) ps
-  -- each pattern has a breaking filling that agrees with no earlier pattern
+  -- each pattern is needed: some filling that breaks the rule agrees with this pattern, and with no earlier one
   pub new : AreNew x a [] ps
 
--- what a list of minimal patterns claims: each has a node of the rule, and each node has the patterns that SayMinimal describes
+-- what a list of minimal patterns claims: each pattern is at a node of the rule, and `SayMinimal` is true of the patterns at each node
 pub data MinimalClaim (x : LocalRule) : Answer → Type 0 where
   says_minimal : {patterns : List Starred} → All (λ p. p.node < x.nodes) patterns → ((a : ℕ) → a < x.nodes → SayMinimal x a (patterns_at a patterns)) →
       MinimalClaim x (answer.Minimal patterns)

@@ -1,6 +1,8 @@
 -- which answers to questions are certificates, and what they claim
 pub mod Certificates
--- which answers are certificates for a box question, or for a question that is several box questions
+-- Which answers are certificates for a box question, or for a question that comes down to several. A box question has a rule, the premise, and a
+-- goal: a property of a position, such as that another rule is broken there. It asks whether the goal holds nowhere in any configuration that obeys
+-- the premise.
 pub mod Evidence
 -- what answers claim, for each kind of question that is not about weights
 pub mod Holding
@@ -10,5 +12,5 @@ pub mod Bounds
 pub mod Tori
 -- when the numbers of an answer give a configuration
 pub mod Given
--- the facts about the goals of a question
+-- the facts about the goals of a question, on which the truth of its certificates' claims rests
 pub mod GoalFacts

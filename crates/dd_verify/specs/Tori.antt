@@ -12,7 +12,7 @@ use Rattle.dd_certificate.specs.declared.answer.Answer.TheVariants as answer
 abbrev pub torus_tile : LocalRule → List ℕ → List ℕ → Tile
 torus_tile x along symbols = tile x.dimension (periods_of along 0) x.nodes symbols
 
--- this configuration lives in the rule's subshift, and its fundamental box weighs w
+-- the configuration with these periods and symbols lives in the rule's subshift, and its fundamental box (the box that repeats) weighs w
 pub record HasWeight (x : LocalRule) (along ws : List ℕ) (w : ℕ) (symbols : List ℕ) : Type 0 where
   pub lives : IsWitness x always (torus_tile x along symbols)
   pub weighs : total_weight ws symbols ≡ w
@@ -22,7 +22,8 @@ pub record HasWeight (x : LocalRule) (along ws : List ℕ) (w : ℕ) (symbols : 
 abbrev pub IsBoundedBy : LocalRule → List ℕ → List ℕ → ℕ → List Step → Type 0
 IsBoundedBy x along ws w steps = 0 < w → IsRefuting (weight_problem x (periods_of along 0) ws w) steps
 
--- a configuration in the rule's subshift, with steps that refute that any weighs less; or steps that refute that there is one
+-- A certificate has a configuration in the rule's subshift, and steps that refute that any weighs less. Or it has steps that refute that there is any
+-- configuration in the rule's subshift.
 pub data IsTorusCertificate (x : LocalRule) (along ws : List ℕ) : Answer → Type 0 where
   torus_least : {w : ℕ} {symbols : List ℕ} {steps : List Step} → HasWeight x along ws w symbols → IsBoundedBy x along ws w steps →
       IsTorusCertificate x along ws (answer.Least w symbols steps)

@@ -15,7 +15,7 @@ use dd_certificate::Answer;
 use dd_question::{CheckedQuestion, Question};
 use std::alloc::{AllocError, Global};
 
-/// Whether the answer is a certificate for the question within its limits, and an output can hold the answer.
+/// Whether the answer is a certificate for the question, within the question's limits, and an output can hold the answer.
 ///
 /// # Errors
 /// `AllocError` if memory ran out.

@@ -75,7 +75,8 @@ pub(crate) fn check_box(
     }
 }
 
-/// Whether the configuration is a NO on this side: on the left it obeys `left` and breaks `right`, and on the right the reverse.
+/// Whether the configuration certifies a NO on this side, and an output can hold this NO. On the left side, the configuration must
+/// obey `left` and break `right` at the origin. On the right side, it must obey `right` and break `left` at the origin.
 fn check_side(
     alloc: Global,
     left: &Rule,
@@ -108,7 +109,7 @@ fn check_side(
     }
 }
 
-/// Whether the radii and the steps are a YES to both box questions.
+/// Whether the radii and the steps certify a YES to both box questions, and an output can hold this YES.
 #[tactic(auto, using(crate::specs::Evidence::equal_yes, crate::proofs::BoxForms::both_fit, crate::proofs::BoxForms::both_of))]
 fn check_both(
     alloc: Global,

@@ -1,4 +1,5 @@
-//! Tests of periodic configurations: whether one lives in a subshift, and whether a goal holds at its origin.
+//! Tests of periodic configurations: whether one lives in a rule's subshift (obeys the rule at every cell), and whether it has a
+//! goal at the origin.
 ghost use Rattle.std.specs.Prelude.{◌≡◌, ◌<◌, ◌↔◌, not, IsTrue, IfOk};
 ghost use Rattle.dd_lattice.specs.Cells.{cell};
 ghost use Rattle.dd_pattern.specs.Tile.{tile_look};
@@ -12,10 +13,9 @@ ghost use Rattle.dd_boxes.specs.Witnesses.{IsWitness};
 
 use dd_automaton::differ_at_origin;
 use dd_boxes::Goal;
-use dd_formula::{Membership, Rule};
+use dd_formula::{Membership, Rule, has_allowed};
 use dd_lattice::{Cell, Position};
 use dd_pattern::Periodic;
-use dd_question::has_allowed;
 use std::alloc::{AllocError, Global};
 
 /// Whether the configuration lives in the rule's subshift.
@@ -72,8 +72,8 @@ fn is_broken(rule: &Rule, periodic: &Periodic) -> bool
     false
 }
 
-/// Whether the configuration is a witness that `goal` doesn't follow from the premise: its symbols are allowed, it lives in the
-/// premise's subshift, and `goal` is false at some node of the origin. It takes no memory.
+/// Whether the configuration is a witness that the rule `goal` doesn't follow from the premise: its symbols are allowed, it lives
+/// in the premise's subshift, and `goal` is false at some node of the origin. This test takes no memory.
 pub fn check_periodic(premise: &Rule, goal: &Rule, periodic: &Periodic) -> bool
     requires fits { Fits premise.now periodic.now }
     requires alike { AreAlike premise.now goal.now }

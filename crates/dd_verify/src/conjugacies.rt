@@ -1,5 +1,5 @@
-//! The check of answers to conjugacy questions. Such a question asks whether two maps are inverse to each other; it is four box
-//! questions.
+//! The check of answers to conjugacy questions. A conjugacy question asks whether two maps between two subshifts are inverse to
+//! each other. It comes down to four box questions.
 ghost use Rattle.std.specs.Prelude.{[], ◌<◌, ◌↔◌, length, slice_index_or, IsTrue, IfOk};
 ghost use Rattle.dd_boxes.specs.Views.{goal_of};
 ghost use Rattle.dd_certificate.specs.declared.answer.Answer.TheVariants as answer;
@@ -20,10 +20,10 @@ use dd_question::Conjugacy;
 use dd_values::{Items, Limits};
 use std::alloc::{AllocError, Global};
 
-/// How many box questions make up a conjugacy.
+/// The number of box questions that make up a conjugacy.
 const PARTS: usize = 4;
 
-/// Whether the radius and the steps at the index `number`, counted from 0, are a YES to the box question.
+/// Whether the radius and the steps at the index `number`, from 0, certify a YES to the box question.
 fn check_at(
     alloc: Global,
     premise: &Rule,
@@ -44,7 +44,7 @@ fn check_at(
     check_yes(alloc, premise, goal, limits, radii[number], refutation)
 }
 
-/// Whether the radii and the steps are a YES to each of the four box questions.
+/// Whether the radii and the steps certify a YES to each of the four box questions, and an output can hold them.
 fn check_each(
     alloc: Global,
     c: &Conjugacy,
@@ -72,7 +72,7 @@ fn check_each(
     check_at(alloc, c.to, &c.round_back, limits, radii, steps, 3)
 }
 
-/// Whether the configuration is a NO to the box question with this number, 1 to 4.
+/// Whether the configuration certifies a NO to the box question with the number `part`, from 1 to 4, and an output can hold it.
 fn check_part(
     alloc: Global,
     c: &Conjugacy,

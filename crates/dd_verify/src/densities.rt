@@ -1,4 +1,7 @@
-//! The check of the least density of a strip.
+//! The check of answers about the least density of a strip. A strip has periods along y and z, and no end along x. The density
+//! of a configuration is its weight per position. The certificate is a cycle (a closed walk through the transfer graph of the
+//! strip) and a number for each state of the graph, its potential. If no configuration lives on the strip, the certificate has
+//! a rank for each state instead.
 ghost use Rattle.std.specs.Prelude.{◌↔◌, IsTrue, IfOk};
 ghost use Rattle.dd_strip.specs.Strips.{strip_for};
 ghost use Rattle.dd_transfer.specs.Certificates.{IsDensityCertificate, IsEmptyCertificate};
@@ -13,7 +16,7 @@ use dd_density::{check_density, check_empty};
 use dd_formula::Rule;
 use std::alloc::{AllocError, Global};
 
-/// Whether an output can hold this density, cycle and potentials.
+/// Whether an output can hold this density, this cycle and these potentials.
 fn is_writable(numerator: u64, denominator: u64, cycle: &[u64], potentials: &[i64]) -> bool
     ensures { IsTrue result ↔ IsWritable (answer.Density numerator denominator cycle.now potentials.now) }
 {
@@ -62,7 +65,7 @@ fn is_least(
     )
 }
 
-/// Whether the ranks show that the strip has no configuration, and an output can hold them.
+/// Whether the ranks show that no configuration lives on the strip, and an output can hold them.
 fn is_empty(
     alloc: Global,
     rule: &Rule,

@@ -1,4 +1,5 @@
-//! The check of the best bound of a discharge.
+//! The check of answers about the best bound of a discharge: a lower bound for what each position holds after each has sent
+//! amounts along given vectors.
 ghost use Rattle.std.specs.Prelude.{◌≡◌, ◌↔◌, ◌⊎◌, IsTrue, IfOk};
 ghost use Rattle.dd_certificate.specs.declared.answer.Answer.TheVariants as answer;
 ghost use Rattle.dd_certificate.specs.Bounds.{IsWritable};

@@ -1,4 +1,4 @@
-//! What certificates claim, as the contracts of calls that do nothing.
+//! Laws which say that what certificates claim is true. Each law is the contract of a function that does nothing.
 ghost use Rattle.dd_boxes.specs.Goals.{IsGoalFor, KeepsRule};
 ghost use Rattle.dd_boxes.specs.Views.{goal_of};
 ghost use Rattle.dd_certificate.specs.declared.answer.Answer.{Answer as AnyAnswer};
@@ -19,8 +19,8 @@ use dd_question::{CheckedQuestion, Question};
 use dd_sides::bound_holds;
 use dd_strips::{strip_empty, strip_least};
 
-/// Does nothing. Its contract says that the goal's automata read cells of the lattice, and that the gates for their values
-/// compute these values.
+/// Does nothing. Its contract says that the automata of the goal, if it has any, read only cells of the lattice, and that the
+/// gates made for their values compute these values.
 fn goal_facts(goal: &Goal)
     ensures { (x : LocalRule) → IsGoalFor x (goal_of x goal.now) → KeepsRule (goal_of x goal.now) → HasGoalFacts x (goal_of x goal.now) }
 {
@@ -36,12 +36,13 @@ fn goal_facts(goal: &Goal)
     }
 }
 
-/// Does nothing. Its contract says that what a certificate for the question claims is true. The claim of a bound is about boxes of
-/// every side, at any position: they weigh at least what the bound says, less what may come in from outside.
+/// Does nothing. Its contract says that what a certificate for the question claims is true. The claim of a bound is about
+/// boxes of every side at every position: a box of n positions weighs at least n times the bound, less what the box may
+/// receive from outside.
 pub fn claims_hold(question: &CheckedQuestion)
     ensures { (answer : AnyAnswer) → IsCertificateOf question.now.limits question.now.question answer → ClaimOf question.now.question answer }
 {
-    // The laws on which the claims about each kind of question rest.
+    // For each kind of question, these calls give the laws on which its claims rest.
     match question.question() {
         Question::Membership { .. } => {}
         Question::Box { goal, .. } => goal_facts(&goal),
@@ -71,8 +72,8 @@ pub fn claims_hold(question: &CheckedQuestion)
     }
 }
 
-/// Does nothing. For box questions and conjugacies, its contract says the same as that of `claims_hold`. It takes no goals of the
-/// code, only the facts about them.
+/// Does nothing. Its contract says the same as that of `claims_hold`, for every sound box question or conjugacy whose goals have
+/// the facts of `HaveGoalFacts`. It takes no question and no goals as values.
 pub fn claims_hold_for_goals()
     ensures { (l : AnyLimits) (k : Asked) (answer : AnyAnswer) → IsSoundAsked l k → HaveGoalFacts k → IsCertificateOf l k answer → ClaimOf k answer }
 {}

@@ -32,7 +32,7 @@ fn are_same(left: &[Listed], right: &[Listed]) -> bool
     true
 }
 
-/// Whether these are the patterns that the rule forbids, in their order.
+/// Whether these are all the patterns that the rule forbids, in the right order.
 fn is_list(alloc: Global, rule: &Rule, patterns: &[Listed]) -> Result<bool, AllocError>
     requires { HasFewPatterns rule.now }
     ensures { IfOk result (λ same. IsTrue same ↔ IsForbiddenList rule.now patterns.now) }
@@ -49,7 +49,7 @@ pub(crate) fn check_list(alloc: Global, rule: &Rule, answer: &Answer) -> Result<
     requires { HasFewPatterns rule.now }
     ensures { IfOk result (λ accepted. IsTrue accepted ↔ (IsWritable answer.now × IsListCertificate rule.now answer.now)) }
 {
-    // Law: an output can hold this list.
+    // Law: an output can hold the list of the patterns that a rule forbids.
     lists_fit();
     // This call tells the proof what the type guarantees.
     let _nodes = rule.nodes();

@@ -32,7 +32,7 @@ fn are_same(left: &[Starred], right: &[Starred]) -> bool
     true
 }
 
-/// Whether these are the minimal patterns of the rule, in their order.
+/// Whether these are all the minimal patterns of the rule, in the right order.
 fn is_minimal(alloc: Global, rule: &Rule, patterns: &[Starred]) -> Result<bool, AllocError>
     requires { HasFewPatterns rule.now }
     ensures { IfOk result (λ same. IsTrue same ↔ IsStarredList rule.now patterns.now) }
@@ -49,7 +49,7 @@ pub(crate) fn check_minimal(alloc: Global, rule: &Rule, answer: &Answer) -> Resu
     requires { HasFewPatterns rule.now }
     ensures { IfOk result (λ accepted. IsTrue accepted ↔ (IsWritable answer.now × IsMinimalCertificate rule.now answer.now)) }
 {
-    // Law: an output can hold this list.
+    // Law: an output can hold the list of the minimal patterns of a rule.
     starred_fit();
     // This call tells the proof what the type guarantees.
     let _nodes = rule.nodes();

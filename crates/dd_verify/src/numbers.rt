@@ -1,4 +1,5 @@
-//! Tests whether an output can hold the numbers of an answer: those of at most `MOST_NUMBER`.
+//! Tests whether an output can hold the numbers of an answer. An output can hold numbers of at most `MOST_NUMBER` in absolute
+//! value.
 ghost use Rattle.std.specs.Prelude.{◌≡◌, ◌≤◌, ◌↔◌, nat_le, unsigned_abs, length, All, IsTrue};
 ghost use Rattle.std.specs.List.{list_all};
 ghost use Rattle.dd_certificate.specs.Bounds.{most_number, IsWritableNumber, IsWritableSigned, IsWritableDenominator, IsWritableList};
@@ -12,7 +13,7 @@ pub(crate) fn is_number(number: u64) -> bool
     number <= MOST_NUMBER
 }
 
-/// Whether an output can hold the number as a denominator: it is not 0.
+/// Whether an output can hold the number as a denominator. A denominator is at least 1.
 pub(crate) fn is_denominator(number: u64) -> bool
     ensures { IsTrue result ↔ IsWritableDenominator number }
 {

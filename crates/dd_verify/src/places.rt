@@ -25,14 +25,14 @@ fn coordinates(cell: &Cell) -> [i64; 3]
     ]
 }
 
-/// Whether the number is this node.
+/// Whether the number is the number of this node.
 fn is_node(number: &i64, node: u32) -> bool
     ensures { IsTrue result ↔ (number.now ≡ pos node) }
 {
     *number == i64::from(node)
 }
 
-/// Whether this is the place of the cell in Z^d, where `dim` is d.
+/// Whether this is the place of the cell in Z^d. The dimension d is `dim`.
 fn is_place(dim: u32, cell: &Cell, place: &[i64]) -> bool
     requires { dim ≤ 3 }
     ensures { IsTrue result ↔ (place.now ≡ written_cell dim cell.now) }
@@ -62,8 +62,8 @@ fn is_outside(rule: &Rule, periodic: &Periodic, place: &[i64]) -> bool
     }
 }
 
-/// Whether the answer is right. It says that the configuration lives in the rule's subshift, or gives the place of the first cell
-/// at which the rule is false.
+/// Whether the answer is right. If the configuration lives in the rule's subshift, a right answer says so. Otherwise a right
+/// answer gives the place of the first cell at which the rule is false.
 #[tactic(auto, using(dd_evidence::specs::Answers::member_outside))]
 fn is_member_certificate(rule: &Rule, periodic: &Periodic, answer: &Answer) -> bool
     requires { Fits rule.now periodic.now }

@@ -1,4 +1,5 @@
-//! The check of a YES to a box question: a radius, and steps that refute the clauses of the box of this radius.
+//! The check of a YES to a box question: a radius, and steps that refute the clauses of the box of this radius. The clauses ask
+//! for an admissible filling of this box with the goal at the origin.
 ghost use Rattle.std.specs.Prelude.{◌≤◌, ◌↔◌, IsTrue, IfOk};
 ghost use Rattle.dd_lattice.specs.Boxes.{centred, volume};
 ghost use Rattle.dd_boxes.specs.Goals.{IsGoalFor};
@@ -43,8 +44,9 @@ fn refutes(
     Ok(check_refutation(&cnf, steps, &mut marks))
 }
 
-/// Whether the radius is within the limits, and the steps refute the clauses of the box of this radius. The radius must be at
-/// least the goal's least radius, and at most the greater of this and the limit.
+/// Whether the radius is within the limits, and the steps refute the clauses of the box of this radius. The goal's least radius is
+/// that of the smallest box that holds all cells that the goal reads at the origin. The radius must be at least this least radius,
+/// and at most the greater of the least radius and the limit.
 pub(crate) fn check_yes(
     alloc: Global,
     premise: &Rule,

@@ -1,4 +1,6 @@
-//! The check of a least weight on a torus: a configuration has this weight, and steps refute that any weighs less.
+//! The check of answers about the least weight on a torus. This is the least weight of the fundamental box, over the
+//! configurations with given periods and no shear that live in a rule's subshift. The least weight is certified by a
+//! configuration of this weight, and by steps which refute that any of these configurations weighs less.
 ghost use Rattle.std.specs.Prelude.{◌≡◌, ◌≤◌, ◌<◌, ◌↔◌, length, IsTrue, IfOk, MatchOption};
 ghost use Rattle.dd_pattern.specs.Periods.{periods_of};
 ghost use Rattle.dd_pattern.specs.Tile.{IsTile};
@@ -26,7 +28,7 @@ use dd_formula::Rule;
 use dd_pattern::Periodic;
 use std::alloc::{AllocError, Global};
 
-/// The configuration with these periods, no shear and these symbols; `None` where the numbers give none that fits the rule.
+/// The configuration with these periods, no shear and these symbols; `None` if they give no configuration that fits the rule.
 fn on_torus(
     alloc: Global,
     rule: &Rule,
@@ -83,7 +85,7 @@ fn has_weight(
 }
 
 /// Whether the steps refute the clauses that ask for a configuration that lives in the rule's subshift. If `below` is at least
-/// 1, the clauses also ask that it weighs less than `below`.
+/// 1, the clauses also ask that the configuration weighs less than `below`.
 fn refutes_below(
     alloc: Global,
     rule: &Rule,

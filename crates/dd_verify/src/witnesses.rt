@@ -15,7 +15,7 @@ use dd_pattern::Periodic;
 use dd_values::Limits;
 use std::alloc::{AllocError, Global};
 
-/// The period along an axis; 1 where none is given.
+/// The period along this axis; 1 if none is given for it.
 fn along(periods: &[u64], axis: usize) -> u64
     ensures { result ≡ slice_index_or periods.now axis 1 }
 {
@@ -26,7 +26,8 @@ fn along(periods: &[u64], axis: usize) -> u64
     }
 }
 
-/// Whether there is a period from 1 to `most` for each axis, and the shear is less than the first period, and 0 in one dimension.
+/// Whether there is exactly one period for each axis, from 1 to `most`, and the shear is less than the first period. In one
+/// dimension the shear must be 0.
 fn are_periods(dim: u32, most: u32, periods: &[u64], shear: u64) -> bool
     requires dim { (1 ≤ dim) × (dim ≤ 3) }
     requires most { 1 ≤ most }
@@ -47,7 +48,7 @@ fn are_periods(dim: u32, most: u32, periods: &[u64], shear: u64) -> bool
         && (1 < dim || shear == 0)
 }
 
-/// The symbols as 32-bit numbers; `None` where one is not below the size of the alphabet.
+/// The symbols as 32-bit numbers; `None` if one of them is not below `size`, the size of the alphabet.
 pub(crate) fn narrowed(
     alloc: Global,
     symbols: &[u64],
@@ -66,8 +67,8 @@ pub(crate) fn narrowed(
     Ok(Some(list))
 }
 
-/// The configuration with these periods, this shear and these symbols; `None` where the numbers give none that fits the premise,
-/// or a period is greater than `most`.
+/// The configuration with these periods, this shear and these symbols; `None` if the numbers give no configuration that fits the
+/// premise, or if a period is greater than `most`.
 fn given(
     alloc: Global,
     premise: &Rule,
@@ -99,7 +100,8 @@ fn given(
     }
 }
 
-/// Whether the periods are within the limits, and the configuration lives in the premise's subshift and has the goal at the origin.
+/// Whether the periods are within the limits, and the configuration has allowed symbols, lives in the premise's subshift and has
+/// the goal at the origin.
 pub(crate) fn check_no(
     alloc: Global,
     premise: &Rule,

@@ -1,4 +1,4 @@
--- Written formulas are read, unless what follows would continue them.
+-- A formula is read from its text, unless the tokens that follow could continue it.
 use Rattle.std.proofs.Common.{◌≡◌, ℕ, zero, suc, ◌-◌, ◌+◌, ◌≤◌, ◌<◌, Bool, true, false, List, [], ◌∷◌, ◌++◌, map, length, drop, Some, refl, ap, subst, ◌∙◌, append_assoc, arith, inl, inr, nat_le, ◌&&◌}
 use Rattle.std.specs.List.{flat_map, list_all, AllByRecursion}
 use Rattle.std.proofs.lemmas.Bool.{and_parts, cases_eq, ltb-true, le-leb, leb-true}
@@ -63,7 +63,7 @@ quantifier_again variable b balls rest = ap (λ (x : List Ball × List Lexeme). 
 
 -- ---- chains
 
--- the reader of the parts reads f from its text, if what follows can't belong to it
+-- the reader `part` reads f from its text, if the tokens that follow can't continue f
 abbrev ReadBy : Reader Formula → ℕ → Formula → Type 0
 ReadBy part place f = (rest : List Lexeme) → ends place rest ≡ true → part (text f ++ rest) ≡ Some (f, rest)
 
@@ -91,7 +91,7 @@ chain_again j part place f g gs rest each lt none e =
 
 -- ---- places
 
--- what is read at one place is read at each looser one
+-- a formula that is read at one place is also read at every looser place, if the tokens that follow can't continue it
 looser : (unary : Reader Formula) (tokens : List Lexeme) (f : Formula) (rest : List Lexeme) (low place : ℕ) → low ≤ place → place ≤ 4 → ends place rest ≡ true → level_at unary low tokens ≡ Some (f, rest) → level_at unary place tokens ≡ Some (f, rest)
 looser unary tokens f rest low zero under le e r =
     let same : low ≡ 0 = omega (arith, under) in
@@ -109,7 +109,7 @@ looser unary tokens f rest low (suc place) under le e r = elim (cases_eq low (su
 abbrev IsReadAgain : Formula → Type 0
 IsReadAgain f = (budget place : ℕ) (rest : List Lexeme) → place ≤ 4 → stands f place ≡ true → tree_depth f ≤ budget → ends place rest ≡ true → level_at (unary_at budget) place (text f ++ rest) ≡ Some (f, rest)
 
--- the same, stated by the parts of the formula
+-- the same, stated in terms of the formula's parts
 abbrev IsLayerRead : Formula-F Formula → Type 0
 IsLayerRead x = (budget place : ℕ) (rest : List Lexeme) → place ≤ 4 → stands_step (map-Formula Formula (ℕ → Bool) stands x) place ≡ true → tree_depth_step (map-Formula Formula ℕ tree_depth x) ≤ budget → ends place rest ≡ true
     → level_at (unary_at budget) place (text_step (map-Formula Formula (List Lexeme) text x) ++ rest) ≡ Some (roll-Formula x, rest)
@@ -129,7 +129,7 @@ quantified_again : (budget : ℕ) (q : Quantifier) (variable : Word) (balls : Li
 quantified_again budget q variable [] f rest some inner = absurd (omega (arith, leb-true 1 0 some))
 quantified_again budget q variable (b ∷ balls) f rest some inner = nested_quantifier (unary_at budget) q _ ∙ rw (quantifier_again variable b balls (text f ++ rest), inner) refl
 
--- each part of a chain is read
+-- each part of a chain is read from its text
 parts_again : (budget place : ℕ) (j : Join) (n i : ℕ) (fs : List Known) → place ≤ 4 → list_all (λ (h : ℕ → Bool). h place) (map stands (map formula_of fs)) ≡ true → chain_depth j n i (map tree_depth (map formula_of fs)) ≤ budget
     → AllByRecursion (ReadBy (level_at (unary_at budget) place) place) (map formula_of fs)
 parts_again budget place j n i [] le fit deep = tt
@@ -176,6 +176,6 @@ read_again : (f : Formula) → IsReadAgain f
 read_again = ind-Formula IsReadAgain (λ x y is budget place rest le fit deep e.
     rw (text_of x) (subst IsLayerRead is (step_again y) budget place rest le (rw (stands_of x place) at fit) (omega (arith, deep, depth_of x)) e))
 
--- a formula is read from its text, if what follows can't belong to it
+-- a formula is read from its text, if the tokens that follow can't continue it
 pub formula_again : (f : Formula) (rest : List Lexeme) → IsWrittenFormula f → ends 4 rest ≡ true → formula_at (text f ++ rest) ≡ Some (f, rest)
 formula_again f rest is e = rw (read_again f 64 4 rest (omega arith) is.grouped is.shallow e, le-leb (tree_depth f) 64 is.shallow) refl

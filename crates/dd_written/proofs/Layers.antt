@@ -1,4 +1,4 @@
--- For each kind of formula: its text, where it may stand, and its depth.
+-- The text of a formula, where it may stand, and its depth, each in terms of the formula's parts.
 use Rattle.std.proofs.Common.{◌≡◌, ℕ, Bool, List, ap}
 use Rattle.dd_written.specs.Tree.{Lexeme, Formula, roll-Formula, Formula-F, fold-roll-Formula, map-Formula}
 use Rattle.dd_written.specs.Formulas.{text, text_step, stands, stands_step, tree_depth, tree_depth_step}

@@ -1,4 +1,4 @@
--- What was read as a formula is the text of that formula.
+-- Tokens that are read as a formula are the text of that formula.
 use Rattle.std.proofs.Common.{◌≡◌, ℕ, zero, suc, ◌-◌, ◌≤◌, ◌<◌, Bool, true, List, [], ◌∷◌, ◌++◌, map, length, drop, Some, IfSome, refl, sym, ap, subst, ◌∙◌, append_assoc, arith, le-leb, leb-true, inl, inr, nat_le}
 use Rattle.std.specs.List.{flat_map, list_all}
 use Rattle.std.proofs.lemmas.{Bool.cases_Bool, List.length-map, Option.MatchOption-at_some}
@@ -39,7 +39,7 @@ relation_sound (Lexeme.Mark Mark.Colon ∷ Lexeme.Word w ∷ tokens) = refl
 relation_sound (Lexeme.Mark Mark.Colon ∷ Lexeme.Number n ∷ tokens) = refl
 relation_sound tokens = tt
 
--- the tokens are a formula that may stand at this place and at each looser one, followed by the rest
+-- the tokens are the text of a formula, followed by the rest; the formula may stand at this place and at every looser one
 abbrev Takes : List Lexeme → ℕ → Formula × List Lexeme → Type 0
 Takes tokens place x = (tokens ≡ text x.0 ++ x.1) × ((p : ℕ) → place ≤ p → stands x.0 p ≡ true)
 
@@ -50,7 +50,7 @@ atom_sound : IsSound atom_at 0
 atom_sound tokens =
     followed (term_at tokens) _ _ _ (term_sound tokens) (λ t e. followed (relation_at t.1) _ _ _ (relation_sound t.1) (λ r e'. (simp (text_of, append_assoc, e, e'), λ p le. simp stands_of)))
 
--- the tokens are a variable and its balls, of which there is at least one, followed by the rest
+-- the tokens are a variable and its balls in brackets, followed by the rest; there is at least one ball
 abbrev Quantifies : List Lexeme → (Word × List Ball) × List Lexeme → Type 0
 Quantifies tokens x = (tokens ≡ Lexeme.Word x.0.0 ∷ Lexeme.Mark Mark.OpenList ∷ (flat_map ball_text x.0.1 ++ Lexeme.Mark Mark.CloseList ∷ x.1)) × (nat_le 1 (length x.0.1) ≡ true)
 
@@ -66,7 +66,7 @@ quantifier_sound tokens = tt
 
 -- ---- chains
 
--- the parts after the first, each after its sign
+-- the text of the parts after the first, each preceded by the sign
 abbrev pub more_text : Join → List Formula → List Lexeme
 more_text j fs = flat_map (λ u. Lexeme.Mark (sign j) ∷ u) (map text fs)
 
@@ -77,7 +77,8 @@ begins_sound Join.Implies (Lexeme.Mark Mark.Arrow ∷ tokens) e = refl
 begins_sound Join.Iff (Lexeme.Mark Mark.BothWays ∷ tokens) e = refl
 begins_sound j tokens e = absurd cc
 
--- The tokens are more such parts, followed by the rest. There is at least one part if the sign comes next.
+-- The tokens are the text of such parts, followed by the rest. Each part may stand at this place. If the sign comes next and n isn't 0, there is at
+-- least one part.
 abbrev TakesMore : Join → ℕ → ℕ → List Lexeme → List Formula × List Lexeme → Type 0
 TakesMore j place n tokens x = (tokens ≡ more_text j x.0 ++ x.1) × (list_all (λ (h : ℕ → Bool). h place) (map stands x.0) ≡ true) × (begins j tokens ≡ true → 0 < n → 0 < length x.0)
 
@@ -109,7 +110,7 @@ module _ (j : Join) (part : Reader Formula) (place : ℕ) (ranked : join_rank j 
     | inr e ↦ rw e (t.0, λ p le. t.1 p (omega (arith, le)))
   ])
 
--- the ranks of the four signs
+-- the sign that belongs to each place from 1 to 4 has that place as its rank
 pub rank_join : (place : ℕ) → place < 4 → join_rank (join_at (suc place)) ≡ suc place
 rank_join zero lt = refl
 rank_join (suc zero) lt = refl

@@ -1,4 +1,4 @@
--- Formulas: the text of each, where it may stand without parentheses, and its depth. A text is a list of lexemes.
+-- Formulas: their texts, where they may stand without parentheses, and their depths. The text of a formula is a list of lexemes.
 use Rattle.std.specs.Prelude.{◌≡◌, ℕ, ◌+◌, ◌-◌, ◌≤◌, List, [], ◌∷◌, ◌++◌, length, Bool, true, ◌&&◌, nat_le, max, min}
 use Rattle.std.specs.List.{flat_map, list_all}
 use Rattle.dd_written.specs.Tree.{Word, Mark, Lexeme, Name, Term, Comparand, Relation, Atom, Ball, Quantifier, Join, Formula, Formula-F, fold-Formula}
@@ -40,7 +40,7 @@ sign Join.Or = Mark.Or
 sign Join.Implies = Mark.Arrow
 sign Join.Iff = Mark.BothWays
 
--- texts one after the other, with a mark between neighbours
+-- the texts one after another, with a mark between neighbouring texts
 abbrev pub separated_by : Mark → List (List Lexeme) → List Lexeme
 separated_by m [] = []
 separated_by m (t ∷ ts) = t ++ flat_map (λ u. Lexeme.Mark m ∷ u) ts
@@ -56,9 +56,9 @@ text_step (Formula-F.Chain j fs) = separated_by (sign j) fs
 abbrev pub text : Formula → List Lexeme
 text = fold-Formula (List Lexeme) text_step
 
--- The places where a formula may stand are numbered from the tightest: 0 after `!` or a quantifier and as a part of `&`, 1 as a
--- part of `|`, 2 as a part of `->`, 3 as a part of `<->`, and 4 in parentheses or alone. The rank of a sign is the tightest
--- place at which its chain may stand.
+-- The places where a formula may stand are numbered, the tightest first. Place 0 is after `!` or a quantifier, or as a part of a chain of `&`. Places
+-- 1, 2 and 3 are as a part of a chain of `|`, `->` and `<->`. Place 4 is in parentheses or alone. The rank of a sign is the tightest place where a
+-- chain with that sign may stand.
 abbrev pub join_rank : Join → ℕ
 join_rank Join.And = 1
 join_rank Join.Or = 2
@@ -76,15 +76,15 @@ stands_step (Formula-F.Chain j fs) place = nat_le (join_rank j) place && nat_le 
 abbrev pub stands : Formula → ℕ → Bool
 stands = fold-Formula (ℕ → Bool) stands_step
 
--- How many of the signs between n parts stand above part i in the tree. All `&` count as one, and so do all `|`. The others group:
--- `a -> b -> c` is `a -> (b -> c)`; `a <-> b <-> c` is `(a <-> b) <-> c`.
+-- The number of signs above part i, counted from 0, in the tree of a chain of n parts. All `&` count as one sign, and so do all `|`. The other two
+-- signs group: `a -> b -> c` is `a -> (b -> c)`, and `a <-> b <-> c` is `(a <-> b) <-> c`.
 abbrev pub signs_over : Join → ℕ → ℕ → ℕ
 signs_over Join.And n i = 1
 signs_over Join.Or n i = 1
 signs_over Join.Implies n i = min (i + 1) (n - 1)
 signs_over Join.Iff n i = min (n - i) (n - 1)
 
--- the depth that the parts from part i on give to a chain of n parts
+-- the greatest depth that the parts from part i on reach in a chain of n parts, given the depths of these parts themselves
 abbrev pub chain_depth : Join → ℕ → ℕ → List ℕ → ℕ
 chain_depth j n i [] = 0
 chain_depth j n i (d ∷ ds) = max (signs_over j n i + d) (chain_depth j n (i + 1) ds)
@@ -100,7 +100,7 @@ tree_depth_step (Formula-F.Chain j ds) = chain_depth j (length ds) 0 ds
 abbrev pub tree_depth : Formula → ℕ
 tree_depth = fold-Formula ℕ tree_depth_step
 
--- a depth, cut off at 65
+-- a depth, capped at 65
 abbrev pub cut_depth : ℕ → ℕ
 cut_depth n = min n 65
 

@@ -4,7 +4,7 @@ use Rattle.std.specs.{List.find, List.zip, List.list_all, Option.option_map, Cha
 use Rattle.dd_tokens.specs.{declared.token.Token.Token, declared.token.TokenKind.TokenKind, Format.tokens_of}
 use Rattle.dd_written.specs.Tree.{Mark, Lexeme}
 
--- the marks of one byte, each with its byte
+-- the marks that consist of one byte, each paired with that byte
 abbrev pub one_byte_marks : List (ℕ × Mark)
 one_byte_marks =
     zip (codes "AE%()[].=!&|~@:") (Mark.All ∷ Mark.Exists ∷ Mark.Percent ∷ Mark.Open ∷ Mark.Close ∷ Mark.OpenList ∷ Mark.CloseList
@@ -26,7 +26,7 @@ abbrev pub marked : Option Mark → Lexeme
 marked (Some m) = Lexeme.Mark m
 marked None = Lexeme.Stray
 
--- the lexeme of a token of these bytes
+-- the lexeme of a token that was cut from these bytes
 abbrev pub lexeme_of : List ℕ → Token → Lexeme
 lexeme_of bytes t = elim t.kind as (λ kind. Lexeme) [
   | TokenKind.Word ↦ Lexeme.Word (record { start = t.start; length = t.length })
@@ -35,7 +35,7 @@ lexeme_of bytes t = elim t.kind as (λ kind. Lexeme) [
   | TokenKind.Mark ↦ marked (mark_at (take t.length (drop t.start bytes)))
 ]
 
--- no lexeme if all bytes are allowed, and otherwise `Stray`
+-- what comes after the lexemes of the tokens: nothing if all bytes are allowed, otherwise `Stray`
 abbrev pub stray : List ℕ → List Lexeme
 stray bytes = if (tokens_of bytes).stop == length bytes && list_all is_ascii bytes then [] else Lexeme.Stray ∷ []
 

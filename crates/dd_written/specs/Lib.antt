@@ -1,4 +1,4 @@
--- the types from lexemes to syntax trees
+-- the types of lexemes and of syntax trees
 pub mod Tree
 -- lexemes: the tokens of a script, as the grammar sees them
 pub mod Lexemes
@@ -6,7 +6,7 @@ pub mod Lexemes
 pub mod Values
 -- formulas, their texts and their depths
 pub mod Formulas
--- what each reader reads, as a function
+-- the readers as functions: what each one reads from the front of some tokens
 pub mod reading
 -- lemmas on these definitions, for other crates
 pub mod lemmas

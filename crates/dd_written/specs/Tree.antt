@@ -1,4 +1,4 @@
--- The types from lexemes to syntax trees, all from one place.
+-- The types of lexemes and of syntax trees, gathered in one place.
 pub use Rattle.dd_written.specs.declared.{fault.ReadFault.ReadFault, lexeme.Word.Word, lexeme.Number.Number, lexeme.Mark.Mark}
 pub use Rattle.dd_written.specs.declared.{lexeme.Lexeme.Lexeme, tree.Name.Name, tree.Term.Term, tree.Comparand.Comparand}
 pub use Rattle.dd_written.specs.declared.{tree.Relation.Relation, tree.Atom.Atom, tree.Ball.Ball, tree.Quantifier.Quantifier}

@@ -12,12 +12,12 @@ abbrev pub name_text : List ℕ → Name → List ℕ
 name_text bytes (Name.Word w) = word_text bytes w
 name_text bytes (Name.Number n) = number_text bytes n
 
--- the value of digits that follow digits with the value `value`
+-- the value of a number that has these last digits, if the digits before them have the value `value`
 abbrev pub decimal : ℕ → List ℕ → ℕ
 decimal value [] = value
 decimal value (digit ∷ digits) = decimal (value * 10 + (digit - 48)) digits
 
--- the text without the `-` that it may begin with
+-- the text without its leading `-`, if it has one
 abbrev pub unsigned : List ℕ → List ℕ
 unsigned [] = []
 unsigned (b ∷ bytes) = if b == 45 then bytes else b ∷ bytes

@@ -1,21 +1,21 @@
-//! The depth of a formula, cut off at 65, just over the limit.
+//! The depth of a formula, capped at 65, which is one over the limit.
 ghost use Rattle.std.specs.Prelude.{◌≡◌, ◌<◌, ◌+◌, length, map};
 ghost use Rattle.dd_written.specs.Formulas.{tree_depth, signs_over, chain_depth, cut_depth};
 
 use crate::tree::{Formula, Join};
 
-/// The greatest depth of a formula.
+/// The greatest depth that a formula may have.
 pub(crate) const MOST_DEEP: u32 = 64;
 
-/// A depth with `more` levels added, cut off at 65.
+/// A depth with `more` levels added, capped at 65.
 fn deeper(depth: u32, more: u32) -> u32
     ensures { result ≡ cut_depth (more + depth) }
 {
     more.saturating_add(depth).min(MOST_DEEP + 1)
 }
 
-/// How many signs of a chain of `count` parts stand above the part at `index` in the tree, cut off at 65. All the signs `&` of
-/// a chain count as one, and so do all `|`.
+/// The number of signs above the part at `index` in the tree of a chain with `count` parts, capped at 65. All the `&` of a chain
+/// count as one sign, and so do all its `|`.
 fn signs_over(join: Join, count: usize, index: usize) -> u32
     requires { index < count }
     ensures { result ≡ cut_depth (signs_over join count index) }
@@ -28,7 +28,7 @@ fn signs_over(join: Join, count: usize, index: usize) -> u32
     signs.min(MOST_DEEP as usize + 1) as u32
 }
 
-/// The depth of a formula, cut off at 65.
+/// The depth of a formula, capped at 65.
 #[cycle(measure)]
 pub(crate) fn capped_depth(formula: &Formula) -> u32
     ensures { result ≡ cut_depth (tree_depth formula.now) }
@@ -41,7 +41,7 @@ pub(crate) fn capped_depth(formula: &Formula) -> u32
     }
 }
 
-/// The depth of a chain of these parts, cut off at 65.
+/// The depth of a chain with these parts, capped at 65.
 #[cycle(measure)]
 fn deepest(join: Join, parts: &[Formula]) -> u32
     ensures { result ≡ cut_depth (chain_depth join (length parts.now) 0 (map tree_depth parts.now)) }

@@ -1,4 +1,4 @@
-//! Results of readers, and why they read nothing.
+//! The results of readers, and the reasons why a reader may read nothing.
 ghost use Rattle.std.specs.Prelude.{◌≡◌};
 ghost use Rattle.dd_written.specs.declared.fault.ReadFault.TheVariants.{Memory};
 
@@ -6,7 +6,7 @@ use crate::lexeme::Lexeme;
 use std::alloc::AllocError;
 use thiserror::Error;
 
-/// The item that was read from the front of some tokens, and the tokens after it.
+/// The result of a reader: the item that it read from the front of some tokens and the tokens after that item, or a fault.
 pub(crate) type Read<'a, T> = Result<(T, &'a [Lexeme]), ReadFault>;
 
 /// Why nothing was read from the tokens.

@@ -26,7 +26,7 @@ pub fn read_name(tokens: &[Lexeme]) -> Read<'_, Name>
     }
 }
 
-/// The moves `.label`. There may be none.
+/// The moves at the front of the tokens, each written `.label`. There may be none.
 fn moves(alloc: Global, tokens: &[Lexeme]) -> Read<'_, Items<Word>>
     ensures { Gives (λ x. (x.0, x.1.now)) result (Some (moves_at tokens.now)) }
 {
@@ -61,7 +61,7 @@ fn comparand(alloc: Global, tokens: &[Lexeme]) -> Read<'_, Comparand>
     }
 }
 
-/// What an atom says of its term, read after the term.
+/// What an atom says about its term, read after the term.
 fn relation(alloc: Global, tokens: &[Lexeme]) -> Read<'_, Relation>
     ensures { Gives (λ x. (x.0, x.1.now)) result (relation_at tokens.now) }
 {
@@ -94,7 +94,7 @@ fn atom(alloc: Global, tokens: &[Lexeme]) -> Read<'_, Formula>
     Ok((Formula::Atom(Atom { term, relation }), rest))
 }
 
-/// The balls of a quantifier. There may be none; `quantifier` asks for one or more.
+/// The balls of a quantifier. There may be none here, but `quantifier` requires at least one.
 fn balls(alloc: Global, tokens: &[Lexeme]) -> Read<'_, Items<Ball>>
     ensures { Gives (λ x. (x.0, x.1.now)) result (Some (balls_at tokens.now)) }
 {
@@ -108,7 +108,7 @@ fn balls(alloc: Global, tokens: &[Lexeme]) -> Read<'_, Items<Ball>>
     Ok((balls, rest))
 }
 
-/// The variable and the balls of a quantifier, read after its `A` or `E`. There is at least one ball.
+/// The variable and the balls of a quantifier, read after its `A` or `E`. There must be at least one ball.
 fn quantifier(alloc: Global, tokens: &[Lexeme]) -> Read<'_, (Word, Items<Ball>)>
     ensures { Gives (λ x. (x.0, x.1.now)) result (quantifier_at tokens.now) }
 {
@@ -141,8 +141,8 @@ fn begins(join: Join, tokens: &[Lexeme]) -> bool
     }
 }
 
-/// A formula that isn't a chain: an atom, or one that begins with `!`, `A`, `E` or `(`. These four may be nested in each other
-/// at most `budget` deep.
+/// A formula that isn't a chain: an atom, or a formula that begins with `!`, `A`, `E` or `(`. Formulas of these four kinds may be
+/// nested at most `budget` deep.
 #[cycle(read)]
 fn unary(alloc: Global, budget: u32, tokens: &[Lexeme]) -> Read<'_, Formula>
     ensures { Gives (λ x. (x.0, x.1.now)) result (unary_at budget tokens.now) }
@@ -153,7 +153,7 @@ fn unary(alloc: Global, budget: u32, tokens: &[Lexeme]) -> Read<'_, Formula>
     nested(alloc, budget - 1, tokens)
 }
 
-/// The same as `unary`, with one level more than `budget`.
+/// The same as `unary` with a budget of `budget + 1`.
 #[cycle(read)]
 fn nested(alloc: Global, budget: u32, tokens: &[Lexeme]) -> Read<'_, Formula>
     ensures { Gives (λ x. (x.0, x.1.now)) result (nested_at (unary_at budget) tokens.now) }
@@ -194,7 +194,7 @@ fn quantified(alloc: Global, budget: u32, kind: Quantifier, tokens: &[Lexeme]) -
     Ok((formula, rest))
 }
 
-/// A part of a chain with this sign. It may itself be a chain with a sign that binds tighter.
+/// A part of a chain with this sign. The part may itself be a chain, with a sign that binds tighter.
 #[cycle(read)]
 fn part(alloc: Global, budget: u32, join: Join, tokens: &[Lexeme]) -> Read<'_, Formula>
     ensures { Gives (λ x. (x.0, x.1.now)) result (part_at join (unary_at budget) tokens.now) }
@@ -207,7 +207,7 @@ fn part(alloc: Global, budget: u32, join: Join, tokens: &[Lexeme]) -> Read<'_, F
     }
 }
 
-/// One part, or a chain of two or more with the sign between them. The chain is as long as possible.
+/// One part, or a chain of two or more parts with this sign between them. The chain is as long as possible.
 #[cycle(read)]
 fn chain(alloc: Global, budget: u32, join: Join, tokens: &[Lexeme]) -> Read<'_, Formula>
     ensures { Gives (λ x. (x.0, x.1.now)) result (chain_at join (part_at join (unary_at budget)) tokens.now) }

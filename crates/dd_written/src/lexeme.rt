@@ -1,4 +1,4 @@
-//! Lexemes: the tokens of a script, as the grammar sees them. Positions are numbers of bytes from the start of the script.
+//! Lexemes: the tokens of a script, as the grammar sees them. Positions are counted in bytes from the start of the script.
 
 /// A word, given by the position of its bytes.
 #[derive(Clone, Copy, Debug, PartialEq, Eq)]
@@ -14,7 +14,7 @@ pub struct Word {
 pub struct Number {
     /// The position of its first byte, which is `-` if the number is negative.
     pub start: u32,
-    /// How many bytes it has, with the `-`.
+    /// How many bytes it has, including the `-`.
     pub length: u32,
 }
 
@@ -66,10 +66,10 @@ pub enum Lexeme {
     Word(Word),
     /// Digits. Only the number 0 begins with the digit 0.
     Number(Number),
-    /// A `-` and directly after it a number other than 0.
+    /// A `-` that is directly followed by a number other than 0.
     Negative(Number),
     /// A mark.
     Mark(Mark),
-    /// Bytes that aren't allowed. It comes last, and no command contains it.
+    /// Stands for bytes that aren't allowed. It comes last in the list, and no command contains it.
     Stray,
 }

@@ -47,7 +47,8 @@ fn mark(written: &[u8]) -> Option<Mark>
     }
 }
 
-/// The lexeme of a token of these bytes. A mark with an unknown text would be `Stray`, but `tokens` cuts no such mark.
+/// The lexeme of a token that was cut from these bytes. A mark with an unknown text would become `Stray`, but `tokens` never
+/// cuts such a mark.
 fn lexeme(bytes: &[u8], token: Token) -> Lexeme
     ensures { result ≡ lexeme_of bytes.now token }
 {
@@ -60,7 +61,7 @@ fn lexeme(bytes: &[u8], token: Token) -> Lexeme
     }
 }
 
-/// The lexeme of each token.
+/// The lexemes of the tokens in `list`, in order.
 fn lexemes_in(alloc: Global, bytes: &[u8], list: &[Token]) -> Result<Items<Lexeme>, AllocError>
     ensures { IfOk result (λ lexemes. lexemes ≡ map (lexeme_of bytes.now) list.now) }
 {
@@ -77,8 +78,8 @@ fn is_ascii(bytes: &[u8]) -> bool
     bytes.iter().all(|byte| byte.is_ascii())
 }
 
-/// The lexemes of some bytes, up to the first byte that isn't allowed. If there is one, `Stray` follows. There are at most
-/// 1,048,576 bytes. Fails only if memory runs out.
+/// The lexemes of some bytes, up to the first byte that isn't allowed. If there is such a byte, `Stray` comes last. There may be
+/// at most 1,048,576 bytes. Fails only if memory runs out.
 pub fn lexemes(alloc: Global, bytes: &[u8]) -> Result<Items<Lexeme>, AllocError>
     requires { length bytes.now ≤ most_script }
     ensures value { IfOk result (λ lexemes. lexemes ≡ lexemes_of bytes.now) }

@@ -1,4 +1,5 @@
-//! The grammar of formulas: from bytes to lexemes, and from lexemes to syntax trees.
+//! The grammar of formulas. Bytes are read as lexemes, which are tokens as the grammar sees them. Lexemes are read as syntax
+//! trees.
 #![tactic(auto)]
 
 mod depth;

@@ -27,7 +27,7 @@ impl Model for Text {
     ghost invariant = { λ text. IsAscii text.bytes };
 }
 
-/// The value of the digits, or 4,294,967,295 if it is greater.
+/// The value of the digits, capped at 4,294,967,295.
 #[tactic(auto, using(crate::proofs::Digits::decimal_more))]
 fn decimal(digits: &[u8]) -> u32
     ensures { result ≡ min (decimal 0 digits.now) 4294967295 }
@@ -42,7 +42,7 @@ fn decimal(digits: &[u8]) -> u32
 }
 
 impl Text {
-    /// The text of these bytes. Fails only if memory runs out.
+    /// A text with these bytes. Fails only if memory runs out.
     pub fn new(alloc: Global, bytes: &[u8]) -> Result<Text, AllocError>
         requires { IsAscii bytes.now }
         ensures { IfOk result (λ text. text ≡ bytes.now) }
@@ -51,7 +51,7 @@ impl Text {
         Ok(Text { bytes })
     }
 
-    /// The `length` bytes from `start` on, or as many as there are.
+    /// The `length` bytes from `start` on, or as many of them as there are.
     pub fn part(&self, start: u32, length: u32) -> &str
         ensures { result.now ≡ take length (drop start self.now) }
     {
@@ -73,7 +73,7 @@ pub fn name_text(text: &Text, name: Name) -> &str
     }
 }
 
-/// The absolute value of a number, or 4,294,967,295 if it is greater.
+/// The absolute value of a number, capped at 4,294,967,295.
 pub fn number_value(text: &Text, number: Number) -> u32
     ensures { result ≡ min (written_value text.now number) 4294967295 }
 {

@@ -11,10 +11,11 @@ pub enum Name {
     Number(Number),
 }
 
-/// A word followed by moves, which are given by their labels: `o.rt.up`. It stands for the cell that the moves lead to.
+/// A word followed by moves, as in `o.rt.up`. Each move is given by the label of its edge. A term stands for the cell to which
+/// the moves lead.
 #[derive(Debug, Drop)]
 pub struct Term {
-    /// A variable. In a `Comparand` it may be a symbol.
+    /// A variable. In a `Comparand` it may instead name a symbol.
     pub first: Word,
     pub moves: Items<Word>,
 }
@@ -28,29 +29,29 @@ pub enum Comparand {
     Number(Number),
 }
 
-/// What an atom says of the cell of its term.
+/// What an atom says about the cell of its term.
 #[derive(Debug, Drop)]
 pub enum Relation {
-    /// `= comparand`: its symbol is that of the comparand.
+    /// `= comparand`: the cell's symbol is the comparand's.
     Equal(Comparand),
-    /// `!= comparand`: its symbol is another one.
+    /// `!= comparand`: the cell's symbol is not the comparand's.
     NotEqual(Comparand),
-    /// `~ term`: it is adjacent to the cell of the term.
+    /// `~ term`: the cell is adjacent to the cell of this second term.
     Adjacent(Term),
-    /// `@ term`: it is the same cell as that of the term.
+    /// `@ term`: the cell is the cell of this second term.
     Same(Term),
-    /// `: name`: its node has this name.
+    /// `: name`: the cell's node has this name.
     AtNode(Name),
 }
 
-/// A formula without parts: a term and a statement about it.
+/// An atomic formula: a term, and a statement about its cell.
 #[derive(Debug, Drop)]
 pub struct Atom {
     pub term: Term,
     pub relation: Relation,
 }
 
-/// A ball of a quantifier: its centre and its radius.
+/// A ball over which a quantifier ranges: its centre and its radius.
 #[derive(Clone, Copy, Debug, PartialEq, Eq)]
 pub struct Ball {
     pub centre: Word,
@@ -60,13 +61,13 @@ pub struct Ball {
 /// The quantifiers.
 #[derive(Clone, Copy, Debug, PartialEq, Eq)]
 pub enum Quantifier {
-    /// `A`: the body is true at all cells of the balls.
+    /// `A`: the body is true for every cell of the balls.
     All,
-    /// `E`: the body is true at some cell of the balls.
+    /// `E`: the body is true for some cell of the balls.
     Exists,
 }
 
-/// The sign between the parts of a chain. These are in order: the first binds tightest, the last loosest.
+/// The sign between the parts of a chain. The signs are listed in order: the first binds tightest, the last binds loosest.
 #[derive(Clone, Copy, Debug, PartialEq, Eq)]
 pub enum Join {
     /// `&`

@@ -4,7 +4,7 @@ ghost use Rattle.dd_written.specs.Values.{word_text};
 
 use crate::lexeme::Word;
 
-/// The `length` bytes from `start` on, or as many as there are.
+/// The `length` bytes from `start` on, or as many of them as there are.
 pub(crate) fn part(bytes: &[u8], start: u32, length: u32) -> &[u8]
     ensures { result.now ≡ take length (drop start bytes.now) }
 {

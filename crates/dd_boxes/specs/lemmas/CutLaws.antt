@@ -35,7 +35,7 @@ flat_box d n p h =
     let parts = box_parts d n p h in
     and_from (nat_lt 1 d || int_eq p.y (pos 0)) (nat_lt 2 d || int_eq p.z (pos 0)) (box_axis (nat_lt 1 d) n p.y parts.1) (box_axis (nat_lt 2 d) n p.z parts.2)
 
--- a larger box holds a smaller one
+-- a larger box contains a smaller one
 wider_axis : (active : Bool) (n m : ℕ) (x : ℤ) → n ≤ m → is_up_to (spread active n) x ≡ true → is_up_to (spread active m) x ≡ true
 wider_axis true n m x le h = let small : unsigned_abs x ≤ n = leb-true _ _ h in le-leb _ _ (omega arith)
 wider_axis false n m x le h = h
@@ -72,7 +72,7 @@ pub cut_is_filling : (x : LocalRule) (n : ℕ) (look : Look) (v : Place) → Are
 cut_is_filling x n look v ok covers =
     record { domain = λ c. cond_domain (is_box_cell x n c) (look (shifted v c)) (covers c); allowed = cut_allowed x n look v ok }
 
--- a cell relative to u in the cut is that cell relative to u + v in the filling
+-- where the cut has a symbol at a cell relative to u, the filling has this symbol at the same cell relative to u + v
 pub cut_near : (x : LocalRule) (n : ℕ) (look : Look) (u v : Place) (c : Cell) → is_some (from_place (cut x n look v) u c) ≡ true →
     from_place (cut x n look v) u c ≡ from_place look (moved u v) c
 cut_near x n look u v c h = cut_agrees x n look v (shifted u c) h ∙ ap look (shifted_twice u v c)

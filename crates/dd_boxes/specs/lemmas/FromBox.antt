@@ -1,4 +1,4 @@
--- A goal that no admissible filling of one box has at the origin holds nowhere: from a filling with the goal at v, cut out
+-- If no admissible filling of one box has the goal at the origin, the goal holds nowhere. The proof takes a filling with the goal at v, and cuts out
 -- the box round v.
 use Rattle.std.proofs.Common.{◌≡◌, ℕ, ◌<◌, ◌≤◌, Bool, true, false, List, length, refl, ap, sym, ◌∙◌}
 use Rattle.std.proofs.lemmas.{Bool.and_parts, Bool.lt-ltb, Bool.ltb-true, Option.slice_get-get_or}
@@ -15,7 +15,7 @@ use Rattle.dd_boxes.specs.lemmas.RuleLaws.{from_place, moved_from_origin, reads_
 use Rattle.dd_boxes.specs.lemmas.CutLaws.{flat_box, wider_box, wider_cells, cut, cut_is_filling, cut_near, cut_admissible}
 use Rattle.dd_values.specs.lemmas.Booleans.{cond_domain}
 
--- alike rules have the same box
+-- rules that are alike have the same boxes
 pub box_alike : (x y : LocalRule) (n : ℕ) (c : Cell) → AreAlike x y → is_box_cell y n c ≡ is_box_cell x n c
 box_alike x y n c same = rw (same.dimension, same.nodes) refl
 
@@ -26,7 +26,7 @@ cut_at_origin x n look v c h = cut_near x n look origin v c h ∙ ap (λ u. look
 pub box_over : (x : LocalRule) (s : CommonNumbers) (f g : Automaton) (n : ℕ) (c : Cell) → AreOver x s f g → is_cell_within s n c ≡ is_box_cell x n c
 box_over x s f g n c over = rw (over.dimension, over.nodes) refl
 
--- the cut has all that is read at the origin
+-- the cut has a symbol at each cell that is read at the origin
 cut_has : (x : LocalRule) (n : ℕ) (look : Look) (v : Place) → Covers x n look v → (p : Cell → Bool) → ((c : Cell) → p c ≡ is_box_cell x n c) →
     (ds : List Cell) → list_all p ds ≡ true → list_all (λ c. is_some (cut x n look v (shifted origin c))) ds ≡ true
 cut_has x n look v covers p same ds reach =
@@ -38,7 +38,7 @@ cut_reads : (x y : LocalRule) (n : ℕ) (look : Look) (v : Place) (a : ℕ) → 
     reads_given y (cut x n look v) origin a ≡ true
 cut_reads x y n look v a same node reach covers = cut_has x n look v covers (is_box_cell y n) (λ c. box_alike x y n c same) (reads_at y a) (reach a node)
 
--- values that differ at v differ in the cut at the origin
+-- two automata whose values differ at v have different values in the cut at the origin
 differ_at_origin : (x : LocalRule) (s : CommonNumbers) (f g : Automaton) (n : ℕ) (look : Look) (v : Place) (a : ℕ) → AreOver x s f g → a < s.nodes → Reaches (differ s f g) n →
     Covers x n look v → (value f look (cell v a) ≡ value g look (cell v a) → ⊥) →
     value f (cut x n look v) (cell origin a) ≡ value g (cut x n look v) (cell origin a) → ⊥
@@ -51,7 +51,7 @@ differ_at_origin x s f g n look v a over node reach covers apart same =
     value_keeps g less look origin v a (cut_at_origin x n look v) (has ((counted g).reads a) (reach a node).1) in
     apart (sym left ∙ (same ∙ right))
 
--- a goal at v holds at the origin of the cut
+-- a goal that holds at v holds in the cut at the origin
 goal_at_origin : (x : LocalRule) (g : GoalOf) (n : ℕ) (look : Look) (v : Place) → IsGoalFor x g → Reaches g n → Covers x n look v → HasGoal g look v →
     HasGoal g (cut x n look v) origin
 goal_at_origin x (breaks y) n look v ok reach covers there = (
@@ -102,7 +102,7 @@ holds_nowhere x g n ok reach suffices =
     let never = never_from_box x g n ok reach suffices in
     record { never = never; configurations = never_in_configuration x g n never; tiles = never_in_tile x g n never }
 
--- larger boxes suffice too
+-- each larger box also contains what the goal reads, and also suffices
 pub reaches_more : (g : GoalOf) (n m : ℕ) → n ≤ m → Reaches g n → Reaches g m
 reaches_more (breaks y) n m le reach = λ a node. list_all_weaker (is_box_cell y n) (is_box_cell y m) (λ c h. wider_box y n m c le h) (reads_at y a) (reach a node)
 reaches_more (differ s f g) n m le reach = λ a node.
@@ -123,6 +123,6 @@ suffices_more x g n m ok reach le suffices look filling admissible there =
     flat_origin false true = refl
     flat_origin false false = refl
 
--- the radii that reach are the least one and all greater ones
+-- a box whose radius is at least the least radius contains what the goal reads
 pub from_least : (g : GoalOf) (least n : ℕ) → IsLeastRadius g least → least ≤ n → Reaches g n
 from_least g least n is le = reaches_more g least n le is.reaches

@@ -1,4 +1,4 @@
--- What one box shows.
+-- The law of one box.
 use Rattle.std.proofs.Common.{◌≡◌, ℕ, ◌≤◌, Bool, true, false, ℤ, pos, ◌≤ℤ◌, ◌-ℤ◌, arith}
 use Rattle.std.proofs.lemmas.{Int.ints, Bool.and_from, Bool.leb-true, Bool.le-leb}
 use Rattle.std.specs.Prelude.{◌↔◌, unsigned_abs}

@@ -16,7 +16,7 @@ use Rattle.dd_boxes.specs.Fillings.{is_up_to, in_box, is_cell_in_box, is_box_cel
 use Rattle.dd_boxes.specs.{Boxes.goal_reach, Boxes.IsLeastRadius, lemmas.RuleLaws.list_all_weaker}
 use Rattle.dd_boxes.specs.lemmas.CutLaws.{box_parts, flat_box}
 
--- a cell of Z^d is in the box of radius k exactly if it is at most k away
+-- a cell of Z^d is in the box of radius k round the origin exactly if it is at most k away from the origin
 flat_near : (active : Bool) (k : ℕ) (x : ℤ) → (active || int_eq x (pos 0)) ≡ true → unsigned_abs x ≤ k → is_up_to (spread active k) x ≡ true
 flat_near true k x h near = le-leb _ _ near
 flat_near false k x h near = let zero_there : x ≡ pos 0 = (Decides-int_eq x (pos 0)).0 h in le-leb _ _ (omega (arith, ints))
@@ -100,7 +100,7 @@ module _ (s : CommonNumbers) (f g : Automaton) (some : 1 ≤ s.dimension) where
         omega (arith, first, second));
   }
 
-  -- what a box holds are cells of Z^d
+  -- the cells of a box are cells of Z^d
   held : (h : Automaton) (n a : ℕ) → list_all (is_cell_within s n) ((counted h).reads a) ≡ true → list_all (is_cell_of s) ((counted h).reads a) ≡ true
   held h n a = list_all_weaker (is_cell_within s n) (is_cell_of s)
       (λ c here. let both = and_parts (in_box s.dimension n c.position) (nat_lt c.node s.nodes) here in and_from _ _ (flat_box s.dimension n c.position both.0) both.1)
@@ -111,7 +111,7 @@ module _ (s : CommonNumbers) (f g : Automaton) (some : 1 ≤ s.dimension) where
       one_least (differ s f g) least radius is
       (radius_is_least (λ a node. held f least a (is.reaches a node).0) (λ a node. held g least a (is.reaches a node).1))
 
--- the least radius of two automata that read only cells of Z^d
+-- for two automata that read only cells of Z^d, the least radius is the greater of their reaches
 pub farthest_is_least : (s : CommonNumbers) (f g : Automaton) → 1 ≤ s.dimension → IsAutomaton s f → IsAutomaton s g → IsPlaced f → IsPlaced g →
     IsLeastRadius (differ s f g) (max (automaton_reach s.nodes f) (automaton_reach s.nodes g))
 farthest_is_least s f g some left right in_left in_right = radius_is_least s f g some (in_left s left) (in_right s right)
@@ -130,7 +130,7 @@ least_is_goal_reach x (differ s f g) least rule goal kept is =
     least_is_farthest s f g some least is
 least_is_goal_reach x always least rule goal kept is = least_is_none least is
 
--- rules and automata read nothing farther away than the greatest reach
+-- no goal reads farther than `most_reach`, the greatest reach that rules and automata may have
 pub goal_near : (x : LocalRule) (g : GoalOf) → IsGoalFor x g → KeepsRule g → goal_reach g ≤ most_reach
 goal_near x (breaks y) goal kept = reach_near y kept
 goal_near x (differ s f g) goal kept =

@@ -1,4 +1,4 @@
--- A question is small if the largest one within its limits is: smaller boxes and fewer positions have no more clauses.
+-- A question is small if the largest question within its limits is small: smaller boxes and regions with fewer positions have no more clauses.
 use Rattle.std.proofs.Common.{◌≡◌, ℕ, zero, suc, ◌+◌, ◌*◌, ◌^◌, ◌≤◌, ap, ◌∙◌, arith, pos}
 use Rattle.std.proofs.{Math.Nat.pow-zero, Math.Nat.pow-suc, lemmas.Int.ints, lemmas.Nat.mul-le}
 use Rattle.std.specs.Prelude.{◌-ℤ◌}
@@ -21,7 +21,7 @@ pub fewer : (x : LocalRule) (g : GoalOf) (radius period n : ℕ) → n ≤ large
 fewer x g radius period n le few =
     at_most (question_clauses x g n) (question_clauses x g (largest_region x.dimension radius period)) (clauses_up x g n (largest_region x.dimension radius period) le) few
 
--- ---- the positions of boxes as powers
+-- ---- the number of positions of a box, as a power
 
 pub first_power : (b : ℕ) → b ^ 1 ≡ b
 first_power b = let none = pow-zero b in let one : b ^ 1 ≡ b ^ 0 * b = pow-suc b 0 in one ∙ (ap (λ m. m * b) none ∙ (omega arith))
@@ -42,7 +42,7 @@ box_positions (suc (suc zero)) n low high = let side = side_is n in rw (second_p
 box_positions (suc (suc (suc zero))) n low high = let side = side_is n in rw (third_power (2 * n + 1), side) (omega arith)
 box_positions (suc (suc (suc (suc d)))) n low high = absurd (omega arith)
 
--- a larger box has more positions
+-- a larger box has no fewer positions
 squares_up : (a b : ℕ) → a ≤ b → a * a ≤ b * b
 squares_up a b le = mul-le a a b b le le
 

@@ -14,19 +14,19 @@ AreGates-append n (g ∷ gs) hs first rest =
 pub AreGates-snoc : (n : ℕ) (gs : List Gate) (g : Gate) → AreGates n gs → IsGate (n + length gs) g → AreGates n (gs ++ g ∷ [])
 AreGates-snoc n gs g first last = AreGates-append n gs (g ∷ []) first (last, tt)
 
--- the gates from index k on are over the variables 1..n + k and those of the gates before them
+-- without the first k gates, each gate that is left is over the variables 1..n + k and those of the gates that are left before it
 pub AreGates-drop : (n : ℕ) (gs : List Gate) (k : ℕ) → AreGates n gs → k ≤ length gs → AreGates (n + k) (drop k gs)
 AreGates-drop n gs zero ok few = let e : n + 0 ≡ n = omega arith in rw e ok
 AreGates-drop n [] (suc k) ok few = absurd (omega arith)
 AreGates-drop n (g ∷ gs) (suc k) ok few = let e : n + suc k ≡ suc n + k = omega arith in rw e (AreGates-drop (suc n) gs k ok.1 (omega arith))
 
--- the gate at index i is over the variables before it
+-- the gate at index i is over the variables before its own
 pub gate_at : (n : ℕ) (gs : List Gate) (i : ℕ) (d : Gate) → AreGates n gs → i < length gs → IsGate (n + i) (get_or gs i d)
 gate_at n [] i d ok within = absurd (omega arith)
 gate_at n (g ∷ gs) zero d ok within = let e : n + 0 ≡ n = omega arith in rw e ok.0
 gate_at n (g ∷ gs) (suc i) d ok within = let e : n + suc i ≡ suc n + i = omega arith in rw e (gate_at (suc n) gs i d ok.1 (omega arith))
 
--- a signal over 1..n is over 1..m too, if n ≤ m
+-- if n ≤ m, a signal of one of the variables 1..n is also a signal of one of 1..m
 pub IsSignal-more : (n m : ℕ) → n ≤ m → (s : Signal) → IsSignal n s → IsSignal m s
 IsSignal-more n m more s ok = (ok.0, omega (arith, more, ok.1))
 
@@ -35,7 +35,7 @@ IsGate-more n m more (And members) ok = All-weaker (IsSignal n) (IsSignal m) (Is
 IsGate-more n m more (Or members) ok = All-weaker (IsSignal n) (IsSignal m) (IsSignal-more n m more) members ok
 IsGate-more n m more (Iff a b) ok = (IsSignal-more n m more a ok.0, IsSignal-more n m more b ok.1)
 
--- each gate is over all the variables
+-- each gate is over the variables 1..m, if these include the variables of all gates
 pub gate_within : (n m : ℕ) (gs : List Gate) (i : ℕ) (g : Gate) → AreGates n gs → i < length gs → n + length gs ≤ m → g ≡ get_or gs i g → IsGate m g
 gate_within n m gs i g ok within few here = rw here (IsGate-more (n + i) m (omega arith) (get_or gs i g) (gate_at n gs i g ok within))
 

@@ -1,4 +1,4 @@
--- For any values of the inputs, exactly one list gives each gate's variable the gate's value. It is `values_from`.
+-- For any values of the inputs, exactly one list of values gives each gate's variable the gate's value: the list `values_from`.
 use Rattle.std.proofs.Common.{◌≡◌, ℕ, suc, ◌+◌, ◌<◌, ◌≤◌, Bool, true, false, List, [], ◌∷◌, ◌++◌, length, refl, ap, sym, ◌∙◌, arith, get_or, take, length-append, append_assoc}
 use Rattle.std.proofs.lemmas.Bool.{and_parts}
 use Rattle.std.proofs.lemmas.List.{append-nil, take_more, take_at, take_all, length-take-le, get_or-take, get_or_append_left}
@@ -27,7 +27,7 @@ any_alike n set other same [] ok = refl
 any_alike n set other same (l ∷ ls) ok =
     rw (signal_value-alike n set other same l (ok 0 l (omega arith)), any_alike n set other same ls (All-tail (IsSignal n) l ls ok)) refl
 
--- a gate over the variables 1..n depends on their values only
+-- the value of a gate over the variables 1..n depends only on the values of these variables
 pub gate_value-alike : (n : ℕ) (set other : ℕ → Bool) → Alike n set other → (g : Gate) → IsGate n g → gate_value set g ≡ gate_value other g
 gate_value-alike n set other same (And ls) ok = all_alike n set other same ls ok
 gate_value-alike n set other same (Or ls) ok = any_alike n set other same ls ok
@@ -59,13 +59,13 @@ last_value vs b n e = let i : suc n - 1 ≡ length vs = omega (arith, e) in rw i
 one_more : (vs : List Bool) (b : Bool) (n : ℕ) → length vs ≡ n → length (vs ++ b ∷ []) ≡ suc n
 one_more vs b n e = let h = length-append vs (b ∷ []) in omega (arith, h, e)
 
--- later gates don't change the values before them
+-- later gates don't change the values of the variables before theirs
 pub values_from-alike : (gs : List Gate) (vs : List Bool) (n : ℕ) → length vs ≡ n → Alike n (true_variables (values_from vs gs)) (true_variables vs)
 values_from-alike [] vs n e k p q = refl
 values_from-alike (g ∷ gs) vs n e k p q =
     values_from-alike gs (vs ++ gate_value (true_variables vs) g ∷ []) (suc n) (one_more vs _ n e) k p (omega arith) ∙ front vs _ k p (omega (arith, e))
 
--- in these values each gate's variable has the gate's value
+-- in the list `values_from`, each gate's variable has the gate's value
 pub agrees-values_from : (gs : List Gate) (vs : List Bool) (n : ℕ) → length vs ≡ n → AreGates n gs → agrees (true_variables (values_from vs gs)) n gs ≡ true
 agrees-values_from [] vs n e ok = refl
 agrees-values_from (g ∷ gs) vs n e ok =
@@ -98,7 +98,7 @@ pub values_done : (circuit : Network) (inputs values : List Bool) (gs : List Gat
 values_done circuit inputs values gs i e ok same all is =
     are_values circuit inputs values e (rw same at ok) (is ∙ ap (values_from inputs) (take_all i gs all ∙ same))
 
--- only these values do: a list that starts with the same values and agrees with the gates is `values_from`
+-- no other list does this: a list that starts with the values vs and agrees with the gates is `values_from`
 unique : (gs : List Gate) (vs ws : List Bool) (n : ℕ) → length ws ≡ n + length gs → AreGates n gs → take n ws ≡ vs →
     agrees (true_variables ws) n gs ≡ true → ws ≡ values_from vs gs
 unique [] vs ws n e ok begins said = sym (take_all n ws (omega (arith, e))) ∙ begins
@@ -122,7 +122,7 @@ pub values_only : (circuit : Network) (inputs values : List Bool) (gs : List Gat
 values_only circuit inputs values gs i ok same all is others are =
     AreValues-unique circuit inputs others (rw same at ok) are ∙ sym (is ∙ ap (values_from inputs) (take_all i gs all ∙ same))
 
--- the gate at index i is over the variables that have values before its turn
+-- the gate at index i is over variables whose values are there when its turn comes
 pub gate_here : (n : ℕ) (inputs vs : List Bool) (gs : List Gate) (i : ℕ) (g : Gate) → length inputs ≡ n → AreGates n gs → i < length gs →
     vs ≡ values_from inputs (take i gs) → g ≡ get_or gs i g → IsGate (length vs) g
 gate_here n inputs vs gs i g full ok within is here =

@@ -51,7 +51,7 @@ beq-not true false = refl
 beq-not false true = refl
 beq-not false false = refl
 
--- The clauses of two literals: if the gate's literal is true, so are all signed members.
+-- The clauses with two literals say that, if the gate's literal is true, so are all signed members.
 pairs_law : (set : ℕ → Bool) (gate : Literal) (sign : Bool) (members : List Signal) →
     is_satisfied set (map (λ l. negation gate ∷ signed sign l ∷ []) members) ≡ (not (is_true_under set gate) || list_all (λ l. is_true_under set (signed sign l)) members)
 pairs_law set gate sign [] = go (is_true_under set gate) where
@@ -62,7 +62,7 @@ pairs_law set gate sign (l ∷ ls) =
     rw (is_true_under-negation set gate, pairs_law set gate sign ls)
     (pair_clause (is_true_under set gate) (is_true_under set (signed sign l)) (list_all (λ m. is_true_under set (signed sign m)) ls))
 
--- The other literals of the last clause: some is true exactly if not all signed members are.
+-- Of the last clause's other literals, some is true exactly if not all signed members are true.
 last_law : (set : ℕ → Bool) (sign : Bool) (members : List Signal) →
     list_any (is_true_under set) (map (signed (not sign)) members) ≡ not (list_all (λ l. is_true_under set (signed sign l)) members)
 last_law set sign [] = refl

@@ -1,4 +1,4 @@
--- The models of a circuit's clauses are its values.
+-- The models of a circuit's clauses are the values of the circuit.
 use Rattle.std.proofs.Common.{◌≡◌, ℕ, Bool, true, List, refl, sym, ◌∙◌, ◌+◌, ◌++◌, [], drop, add-zero}
 use Rattle.std.proofs.lemmas.List.Sums.{AllPass-from_list_all, list_all-from_AllPass}
 use Rattle.dd_clause.specs.{declared.clause.Literal.Literal, Clauses.is_clause_true, Clauses.Satisfies, Clauses.ClauseList}
@@ -28,7 +28,7 @@ encoded_has_models circuit ok = record {
   all_inputs = λ inputs full. (values_from inputs circuit.gates, are_values circuit inputs (values_from inputs circuit.gates) full ok refl);
 }
 
--- clause lists with the same parts are the same
+-- clause lists with the same number of variables and the same clauses are equal
 pub same_list : (cnf : ClauseList) (variables : ℕ) (clauses : List (List Literal)) → cnf.variables ≡ variables → cnf.clauses ≡ clauses →
     cnf ≡ record { variables = variables; clauses = clauses }
 same_list cnf variables clauses wide all = rw (← wide, ← all) refl

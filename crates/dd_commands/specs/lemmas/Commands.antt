@@ -1,4 +1,4 @@
--- The tokens that are read as a command are its text, and the text of a command is read as that command.
+-- Tokens that are read as a command are the text of that command, and the text of a command is read as that command.
 use Rattle.std.proofs.Common.{◌≡◌, ℕ, ◌<◌, List, [], ◌∷◌, ◌++◌, map, length, Some, None, refl, sym, ap, subst, ◌∙◌, arith, codes, flat_map, append-nil, length-append}
 use Rattle.dd_commands.specs.Tree.{Word, Lexeme, Name, Head, Case, Command}
 use Rattle.dd_written.specs.{Formulas.text, Formulas.name_lexeme, lemmas.Many.few_items}
@@ -50,7 +50,7 @@ module _ (law : FormulasAreRead) where
 
     -- ---- bodies
 
-    -- a command with this head, and the tokens of its body
+    -- the command has this head, and the tokens are its body
     abbrev Spelled : Head → List Lexeme → Command → Type 0
     Spelled h tokens c = (head_of c ≡ h) × IsBody bytes c tokens
 

@@ -1,4 +1,4 @@
--- What the reader of a form reads is written in that form, and what is written in the form is read. Combinations of forms keep this.
+-- The reader of a form reads exactly what is written in that form. If some forms have this property, so do their combinations.
 use Rattle.std.proofs.Common.{◌≡◌, ℕ, ◌≤◌, ◌<◌, List, [], ◌∷◌, ◌++◌, length, Option, Some, None, refl, sym, ap, ◌∙◌, arith, Bool, true, if◌then◌else◌, is_some, nat_le, flat_map, eqb-true, eq-eqb, leb-true, le-leb, length-append}
 use Rattle.std.proofs.lemmas.{Option.cond_some, Option.some_pair_parts}
 use Rattle.dd_commands.specs.Tree.{Lexeme}
@@ -12,10 +12,10 @@ pub record Reads {X : Type 0} (f : Form X) : Type 0 where
   pub written : (tokens : List Lexeme) (x : X) (rest : List Lexeme) → f.item tokens ≡ Some (x, rest) → f.is x × (tokens ≡ f.onto x rest)
   -- an item of this form, written before tokens that may follow it, is read
   pub read : (x : X) (rest : List Lexeme) → f.is x → f.ends rest → f.item (f.onto x rest) ≡ Some (x, rest)
-  -- no token needs to follow an item
+  -- an item may come last: no token needs to follow it
   pub last : f.ends []
 
--- an item is read from its text, if nothing follows
+-- an item is read from its text if nothing follows
 pub read_last : {X : Type 0} {f : Form X} → Reads f → (x : X) (tokens : List Lexeme) → f.is x → tokens ≡ f.onto x [] → f.item tokens ≡ Some (x, [])
 read_last is x tokens right e = rw e (is.read x [] right is.last)
 
@@ -57,7 +57,7 @@ then_reads {X} {Y} {f} {g} is ended are = record {
   last = are.last;
 }
 
--- an item that is made of others, and has a text
+-- items that are made from items of another form, and are written as a text
 pub text_reads : {X Y : Type 0} {f : Form X} (make : X → Y) (parts : Y → X) (text : Y → List Lexeme) → ((x : X) (rest : List Lexeme) → f.onto x rest ≡ text (make x) ++ rest) → ((y : Y) → make (parts y) ≡ y)
     → ((y : Y) → f.is (parts y)) → ((rest : List Lexeme) → f.ends rest) → Reads f → Reads (by_text text (made make f.item))
 text_reads {X} {Y} {f} make parts text spelt same right free is = record {
@@ -77,7 +77,7 @@ such_reads {X} {f} P test holds told is = record {
   last = is.last;
 }
 
--- ---- items one after the other
+-- ---- items one after another
 
 module _ {X : Type 0} (writes : X → List Lexeme → List Lexeme → Type 0) (item : Reader X) (written : (tokens : List Lexeme) (x : X) (rest : List Lexeme) → item tokens ≡ Some (x, rest) → writes x tokens rest)
     (read : (x : X) (tokens rest : List Lexeme) → writes x tokens rest → item tokens ≡ Some (x, rest)) where
@@ -89,7 +89,7 @@ module _ {X : Type 0} (writes : X → List Lexeme → List Lexeme → Type 0) (i
       let given = λ (o : Option (X × List Lexeme)). is_some o in
       many_again writes (λ ts. is_some (item ts)) item (λ x ts more w. let e = read x ts more w in (ap given e, e)) n xs tokens rest le (λ lt. ap given (ended lt)) all
 
--- the same, for items with a text
+-- the same, for items that are written as a text
 module _ {X : Type 0} (text : X → List Lexeme) (texts : List X → List Lexeme) (item : Reader X) (same : (xs : List X) → flat_map text xs ≡ texts xs) (is : Reads (by_text text item)) where
   texts_written : (n : ℕ) (tokens : List Lexeme) (xs : List X) (rest : List Lexeme) → at_most item n tokens ≡ Some (xs, rest) → tokens ≡ texts xs ++ rest
   texts_written n tokens xs rest e = rw (← same xs) (texts_read text xs tokens rest (most_written (ByText text) item (λ ts x more f. (is.written ts x more f).1) (λ x ts more w. ap item w ∙ is.read x more tt tt) n tokens xs rest e))

@@ -32,7 +32,7 @@ pub wanted_reads : (bytes spelt : List ℕ) → Reads (wanted bytes spelt)
 wanted_reads bytes spelt =
     such_reads (λ w. word_text bytes w ≡ spelt) (λ w. bytes_eq (word_text bytes w) spelt) (λ w. (bytes_eq-Decides (word_text bytes w) spelt).0) (λ w. (bytes_eq-Decides (word_text bytes w) spelt).1) word_reads
 
--- the first word is sought first among the commands that aren't queries, then among the queries
+-- to look up a first word, search the commands that aren't queries first, and then the queries
 either_of : (written : List ℕ) (hs : List Head) (ks : List QueryKind) → one_of head_text (hs ++ map Head.Query ks) written ≡ option_or (one_of head_text hs written) (option_map Head.Query (one_of kind_word ks written))
 either_of written [] [] = refl
 either_of written [] (k ∷ ks) = grind (arith, common_steps, either_of written [] ks)
@@ -41,12 +41,12 @@ either_of written (h ∷ hs) ks = grind (arith, common_steps, either_of written 
 pub either_head : (written : List ℕ) → one_of head_text heads written ≡ option_or (one_of head_text other_heads written) (option_map Head.Query (one_of kind_word query_kinds written))
 either_head written = either_of written other_heads query_kinds
 
--- no head has the first word of another
+-- no two heads have the same first word
 pub head_first : (h : Head) → one_of head_text heads (head_text h) ≡ Some h
 head_first (Head.Query QueryKind.Member) = refl
 head_first h = refl
 
--- no built-in topology has the name of another
+-- no two built-in topologies have the same name
 pub kind_first : (k : Kind) → one_of kind_text kinds (kind_text k) ≡ Some k
 kind_first Kind.Line = refl
 kind_first k = refl
@@ -75,7 +75,7 @@ edges_read = some_reads edge_text (flat_map edge_text) edge.item (λ es. refl) e
 vectors_read : Reads (some (flat_map vector_text) vector.item)
 vectors_read = some_reads vector_text (flat_map vector_text) vector.item (λ vs. refl) vector_reads (λ v. omega arith) refl
 
--- a name is no vector
+-- names aren't read as a shear, because a name is not a vector
 pub no_shear : (ns : List Name) (rest : List Lexeme) → (1 ≤ length ns) × Unit {0} → plain.item (map name_lexeme ns ++ rest) ≡ None
 no_shear [] rest is = absurd (omega (arith, is.0))
 no_shear (Name.Word v ∷ ns) rest is = refl

@@ -1,4 +1,4 @@
--- Reading commands.
+-- Readers of commands.
 use Rattle.std.specs.Prelude.{◌≡◌, ℕ, List, [], ◌∷◌, ◌++◌, length, map, true, Option, Some, None, bytes_eq, codes, find}
 use Rattle.std.specs.List.{flat_map}
 use Rattle.dd_commands.specs.Tree.{Word, Name, Kind, Lexeme, Formula, Lists, Head, Vector, Case, Command}
@@ -14,7 +14,7 @@ use Rattle.dd_commands.specs.reading.Vectors.{word_at, word, number_at, number, 
 abbrev pub one_of : {X : Type 0} → (X → List ℕ) → List X → List ℕ → Option X
 one_of text_of xs written = find (λ x. bytes_eq written (text_of x)) xs
 
--- reads a word, and gives the item of the list that has its text
+-- reads a word, and gives the first item of the list that has the same text
 abbrev pub keyword : {X : Type 0} → (X → List ℕ) → List X → List ℕ → Reader X
 keyword text_of xs bytes tokens = word_at tokens >>= λ w. one_of text_of xs (word_text bytes w.0) >>= λ x. Some (x, w.1)
 
@@ -30,7 +30,7 @@ heads = other_heads ++ map Head.Query query_kinds
 abbrev pub kinds : List Kind
 kinds = Kind.Line ∷ Kind.Square ∷ Kind.King ∷ Kind.Triangle ∷ Kind.Hex ∷ Kind.Cube ∷ []
 
--- a word that is spelt so
+-- a word with this spelling
 abbrev pub wanted : List ℕ → List ℕ → Form Word
 wanted bytes spelt = such (λ w. word_text bytes w ≡ spelt) (λ w. bytes_eq (word_text bytes w) spelt) word
 
@@ -48,7 +48,7 @@ case_at bytes = made (λ x. record { condition = x.1.0; symbol = x.1.1.1 }) (cas
 abbrev pub automaton_at : List ℕ → Reader (Word × (List Case × (Word × Name)))
 automaton_at bytes = both word_at (both (each_at (case_at bytes)) (wanted bytes (codes "else") ▸ name).item)
 
--- one name or more
+-- one or more names
 abbrev pub names : Form (List Name)
 names = some (map name_lexeme) name_at
 
@@ -63,7 +63,7 @@ lists_at Lists.Strip tokens = one_plain tokens
 lists_at Lists.Torus tokens = one_plain tokens
 lists_at Lists.Vectors tokens = some_at vector.item tokens
 
--- the form of these vectors
+-- the form of the vectors at the end of a query
 abbrev pub listed : Lists → Form (List Vector)
 listed l = record { onto = λ vs rest. flat_map vector_text vs ++ rest; is = AreLists l; ends = λ rest. vector.item rest ≡ None; item = lists_at l }
 

@@ -15,11 +15,11 @@ pub record Form (X : Type 0) : Type 1 where
   -- the reader of an item
   pub item : Reader X
 
--- an item that is always written as this text; anything may follow it
+-- the form of items that are always written as this text; anything may follow them
 abbrev pub by_text : {X : Type 0} → (X → List Lexeme) → Reader X → Form X
 by_text text item = record { onto = λ x rest. text x ++ rest; is = λ x. Unit {0}; ends = λ rest. Unit {0}; item = item }
 
--- an item that is one token
+-- the form of items that are one token each
 abbrev pub single : {X : Type 0} → (X → Lexeme) → Reader X → Form X
 single lexeme item = by_text (λ x. lexeme x ∷ []) item
 
@@ -27,7 +27,7 @@ single lexeme item = by_text (λ x. lexeme x ∷ []) item
 abbrev pub made : {X Y : Type 0} → (X → Y) → Reader X → Reader Y
 made make item tokens = item tokens >>= λ x. Some (make x.0, x.1)
 
--- an item, and then another one
+-- reads an item, and then another one
 abbrev pub both : {X Y : Type 0} → Reader X → Reader Y → Reader (X × Y)
 both item next tokens = item tokens >>= λ x. next x.1 >>= λ y. Some ((x.0, y.0), y.1)
 
@@ -36,33 +36,33 @@ infixr 20 ◌▸◌
 abbrev pub ◌▸◌ : {X Y : Type 0} → Form X → Form Y → Form (X × Y)
 f ▸ g = record { onto = λ p rest. f.onto p.0 (g.onto p.1 rest); is = λ p. f.is p.0 × g.is p.1; ends = g.ends; item = both f.item g.item }
 
--- an item that passes the test
+-- reads an item, which must pass the test
 abbrev pub tested : {X : Type 0} → (X → Bool) → Reader X → Reader X
 tested test item tokens = item tokens >>= λ x. if test x.0 then Some x else None
 
--- the form of items with a property, which the test decides
+-- the form of those items that have a property, which the test decides
 abbrev pub such : {X : Type 0} → (X → Type 0) → (X → Bool) → Form X → Form X
 such P test f = record { onto = f.onto; is = λ x. P x × f.is x; ends = f.ends; item = tested test f.item }
 
--- as many items as can be read, up to n
+-- reads as many items as possible, up to n
 abbrev pub at_most : {X : Type 0} → Reader X → ℕ → Reader (List X)
 at_most item n tokens = many (λ ts. is_some (item ts)) item n tokens
 
--- all items that come next; there may be none
+-- reads all items that come next; there may be none
 abbrev pub each_at : {X : Type 0} → Reader X → Reader (List X)
 each_at item tokens = at_most item (length tokens) tokens
 
 abbrev pub each : {X : Type 0} → (List X → List Lexeme) → Reader X → Form (List X)
 each texts item = record { onto = λ xs rest. texts xs ++ rest; is = λ xs. Unit {0}; ends = λ rest. item rest ≡ None; item = each_at item }
 
--- one item or more
+-- reads all items that come next; there must be at least one
 abbrev pub some_at : {X : Type 0} → Reader X → Reader (List X)
 some_at item = tested (λ xs. nat_le 1 (length xs)) (each_at item)
 
 abbrev pub some : {X : Type 0} → (List X → List Lexeme) → Reader X → Form (List X)
 some texts item = such (λ xs. 1 ≤ length xs) (λ xs. nat_le 1 (length xs)) (each texts item)
 
--- exactly n items
+-- reads exactly n items
 abbrev pub exactly_at : {X : Type 0} → ℕ → Reader X → Reader (List X)
 exactly_at n item = tested (λ xs. length xs == n) (at_most item n)
 

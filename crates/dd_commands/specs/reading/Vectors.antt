@@ -1,4 +1,4 @@
--- Reading names, numbers, vectors and edges.
+-- Readers and forms of words, names, numbers, vectors and edges.
 use denote.Enum.Bare.{sameb}
 use Rattle.std.specs.Prelude.{◌≡◌, List, ◌∷◌, ◌++◌, map, Bool, true, Option, Some, None, if◌then◌else◌}
 use Rattle.dd_written.specs.{contracts.lexeme.Mark.the_type, Formulas.name_lexeme, reading.Atoms.name_at}
@@ -36,7 +36,7 @@ abbrev pub mark_at : Mark → Reader (Unit {0})
 mark_at wanted (Lexeme.Mark m ∷ tokens) = if same_mark m wanted then Some (tt, tokens) else None
 mark_at wanted tokens = None
 
--- one mark, the wanted one
+-- the form of the wanted mark
 abbrev pub sign : Mark → Form (Unit {0})
 sign wanted = single (λ x. Lexeme.Mark wanted) (mark_at wanted)
 

@@ -1,4 +1,4 @@
--- The state while the gates of a value by cases are made.
+-- The state of the loops that make the gates of an automaton's value, where the automaton is given by cases.
 use Rattle.std.proofs.Common.{◌≡◌, ◌<◌, ◌≤◌, ℕ, zero, suc, ◌+◌, Bool, true, false, List, [], ◌∷◌, ◌++◌, map, length, take, drop, get_or, refl, ap, sym, ◌∙◌, subst, arith, append_assoc, drop-cons, add-one}
 use Rattle.std.proofs.lemmas.List.{map-append, take_more, drop_all}
 use Rattle.std.proofs.lemmas.List.Elements.{All-push, All-weaker}
@@ -28,7 +28,7 @@ one_gate now new g inputs gates =
     let n = size-append now new (g ∷ []) inputs gates in
     (record { inputs = inputs; added = g ∷ []; gates = gates }, omega (arith, n))
 
--- the choices of the signals so far
+-- the state after the choices of the first i rules
 pub record Choosing (rules : List Signal) (i : ℕ) (start now : Network) (chosen before : List Signal) : Type 0 where
   pub extends : Extends start now
   pub gates_left : start.gates ++ choices [] rules ≡ now.gates ++ choices (take i rules) (drop i rules)
@@ -90,7 +90,7 @@ pub with_first : (n : ℕ) (l : Signal) (xs : List Signal) → IsSignal n l → 
 with_first n l xs here rest zero d h = here
 with_first n l xs here rest (suc k) d h = rest k d (omega arith)
 
--- of the choices from the number i on, those that give the symbol
+-- one step through the choices: if choice i gives the symbol, its signal is added
 pub giving_step : (s : ℕ) (xs : List ℕ) (fs members more : List Signal) (i : ℕ) (x : ℕ) (f : Signal) (b : Bool) → giving s xs fs ≡ members ++ giving s (drop i xs) (drop i fs) → i < length xs → i < length fs →
     x ≡ get_or xs i x → f ≡ get_or fs i f → (x == s) ≡ b → more ≡ (if b then members ++ f ∷ [] else members) → giving s xs fs ≡ more ++ giving s (drop (i + 1) xs) (drop (i + 1) fs)
 giving_step s xs fs members more i x f b so_far below below' is is' test grown =
@@ -115,7 +115,7 @@ giving_in_range n s (x ∷ xs) [] ok = λ k d h. absurd (omega arith)
 giving_in_range n s (x ∷ xs) (f ∷ fs) ok =
     in_either n f (giving s xs fs) (ok zero f (omega arith)) (giving_in_range n s xs fs (λ k d h. ok (suc k) d (omega arith))) (x == s)
 
--- the gates of the symbols so far
+-- the state after the gates of the first i symbols
 pub record Giving (k : ℕ) (xs : List ℕ) (fs : List Signal) (i : ℕ) (start now : Network) (signals : List Signal) : Type 0 where
   pub extends : Extends start now
   pub gates_left : start.gates ++ symbol_gates k xs fs ≡ now.gates ++ map (λ s. Or (giving s xs fs)) (range_with_len i (k - i))

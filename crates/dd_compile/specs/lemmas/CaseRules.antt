@@ -25,7 +25,7 @@ use Rattle.dd_compile.specs.lemmas.{Progress.size-append, Progress.Extends-trans
 use Rattle.dd_compile.specs.lemmas.ChoiceLaws.{pick, picked, chosen_says, gates_say, fresh_length, fresh_in_range, choices_length}
 use Rattle.dd_compile.specs.lemmas.CaseGates.{itself, next_is, taken_is}
 
--- if the gates of a circuit have their values, so do its first gates
+-- if all gates of a circuit have their values, so do the first of them
 pub agrees_before : (now new : Network) (set : ℕ → Bool) → Extends now new → agrees set new.inputs new.gates ≡ true → agrees set now.inputs now.gates ≡ true
 agrees_before now new set more ok =
     let whole : agrees set now.inputs (now.gates ++ more.added) ≡ true = sym (ap (λ n. agrees set n new.gates) more.inputs ∙ ap (agrees set now.inputs) more.gates) ∙ ok in
@@ -53,7 +53,7 @@ signals_more n m k more (Some ss) h =
     let both = and_parts (length ss == k) (list_all (is_signal n) ss) h in
     and_from (length ss == k) (list_all (is_signal m) ss) both.0 (list_all-weaker (is_signal n) (is_signal m) (signal_more n m more) ss both.1)
 
--- the reads of a case's rule have their signals
+-- the cells that a case's rule reads have their signals
 pub case_wired : (n m : ℕ) (w : Wiring) (c : Cases) (at : Cell) (h : AreCasesWired n w c at) (i : ℕ) (case : LocalRule × ℕ) → n ≤ m → i < length c.cases → case ≡ get_or c.cases i case → are_reads_wired m w case.0 at ≡ true
 case_wired n m w c at h i case more below is =
     let s = h.setting in
@@ -174,7 +174,8 @@ made_length (m ∷ ms) n = ap suc (made_length ms (n + length (m n).gates))
 pub rules_length : (w : Wiring) (at : Cell) (cases : List (LocalRule × ℕ)) (n : ℕ) → length (rules_made w at cases n).signals ≡ length cases
 rules_length w at cases n = made_length (map (made_at w at) cases) n ∙ length-map cases (made_at w at)
 
--- The gates of the rules, the choices and the symbols are those of the value, and the last say which symbol it is.
+-- The gates of the rules, of the choices and of the symbols are together the gates of the value. The signals of the symbols say which symbol the
+-- value is.
 module _ (k : ℕ) (c : Cases) (w : Wiring) (at : Cell) (start one two new : Network) (rules chosen : List Signal) (xs : List ℕ) (signals : List Signal) where
   pub record Steps : Type 0 where
     pub first : Extends start one
@@ -293,7 +294,7 @@ rules_wired n k w c at h wired = record {
   wired = ap (λ m. are_wired_there n m w (cases_reads c.cases at.node) at) h.all ∙ wired;
 }
 
--- what the last step gives
+-- what the gates give after the last step
 pub record Answer (k : ℕ) (c : Cases) (w : Wiring) (at : Cell) (start new : Network) {T E : Type 0} (items : T → List Signal) (r : Result T E) : Type 0 where
   pub gates : IfOk r (λ _. new.gates ≡ start.gates ++ (given_made k c w at (size start)).gates)
   pub signals : IfOk r (λ v. items v ≡ (given_made k c w at (size start)).signals)

@@ -1,4 +1,4 @@
--- What the gates that choose one of several symbols say.
+-- What is said by the gates that choose one of several symbols.
 use Rattle.std.proofs.Common.{◌≡◌, ◌≤◌, ℕ, zero, suc, ◌+◌, Bool, true, false, List, [], ◌∷◌, ◌++◌, Some, map, length, slice_get, refl, ap, sym, ◌∙◌, arith}
 use Rattle.std.proofs.lemmas.{Bool.and_parts, List.map-append, List.Folds.list_all-append}
 use Rattle.std.specs.Prelude.{◌&&◌, ◌||◌, ◌==◌, not, if◌then◌else◌}
@@ -12,7 +12,7 @@ use Rattle.dd_compile.specs.ValueGates.{fresh, choices, giving, given_symbols}
 use Rattle.dd_compile.specs.lemmas.MadeSays.{opposite_value}
 use Rattle.dd_values.specs.lemmas.Booleans.{same_from_beq}
 
--- the first symbol whose truth value is true, else the last
+-- the first symbol whose truth value is true, or the last symbol if no truth value is true; there is one more symbol than truth values
 abbrev pub pick : List ℕ → List Bool → ℕ
 pick [] bs = 0
 pick (x ∷ xs) [] = x
@@ -61,7 +61,7 @@ none_more set before l =
     and_true true = refl
     and_true false = refl
 
--- Among the choices that give a symbol one is true exactly if no earlier signal is true and the symbol is picked.
+-- Some choice that gives the symbol s is true exactly if no earlier signal is true and s is picked.
 pub chosen_says : (set : ℕ → Bool) (n : ℕ) (before ls : List Signal) (xs : List ℕ) (s : ℕ) → length xs ≡ length ls + 1 → agrees set n (choices before ls) ≡ true →
     list_any (signal_value set) (giving s xs (fresh n (length (choices before ls)))) ≡ (none_of set before && (pick xs (map (signal_value set) ls) == s))
 chosen_says set n before [] [] s long ok = absurd (omega arith)
@@ -83,7 +83,7 @@ chosen_says set n before (l ∷ ls) (x ∷ xs) s long ok =
     ∙ (ap (λ c. ((x == s) && (b && none)) || c) rest
     ∙ (one_more (x == s) b none (p == s) ∙ ap (λ c. none && c) (equal_where b x p s))))
 
--- each of these gates says that some of its signals is true
+-- the signal of each of these gates says whether some member of the gate is true
 pub gates_say : (set : ℕ → Bool) (m j k : ℕ) (among : ℕ → List Signal) (i : ℕ) (x : Signal) → agrees set m (map (λ s. Or (among s)) (range_with_len j k)) ≡ true →
     slice_get (fresh m k) i ≡ Some x → signal_value set x ≡ list_any (signal_value set) (among (j + i))
 gates_say set m j zero among i x ok is = absurd (cc)
@@ -97,7 +97,7 @@ gates_say set m j (suc k) among (suc i) x ok is =
     let at : (j + 1) + i ≡ j + suc i = omega arith in
     gates_say set (suc m) (j + 1) k among i x later is ∙ ap (λ s. list_any (signal_value set) (among s)) at
 
--- the signals of new variables
+-- the signals of new variables: how many there are, and that they are in range
 pub fresh_length : (n k : ℕ) → length (fresh n k) ≡ k
 fresh_length n zero = refl
 fresh_length n (suc k) = ap suc (fresh_length (suc n) k)

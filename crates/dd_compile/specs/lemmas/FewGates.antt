@@ -1,4 +1,4 @@
--- An expansion has no more gates than instances, and no more than clauses.
+-- An expansion has no more gates than instances (itself, its parts, their parts, and so on), and no more gates than these gates have clauses.
 use Rattle.std.proofs.Common.{◌≤◌, ℕ, List, [], ◌∷◌, map, arith}
 use Rattle.dd_expansion.specs.declared.expanded.Expanded.{Expanded}
 use Rattle.dd_expansion.specs.declared.expanded.Expanded.TheFolds.{fold-roll-Expanded, ind-Expanded, map-Expanded}

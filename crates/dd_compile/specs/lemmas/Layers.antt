@@ -1,4 +1,4 @@
--- The gates, the counts and the wires of an expansion, for each kind of expansion, from those of its parts.
+-- For each kind of expansion, its gates, counts and wires, from those of its parts.
 use Rattle.std.proofs.Common.{◌≡◌, ◌≤◌, ◌<◌, ◌+◌, ◌*◌, ℕ, zero, suc, get_or, Bool, true, List, [], ◌∷◌, ◌++◌, map, length, refl, ap, sym, ◌∙◌, arith}
 use Rattle.std.proofs.lemmas.{Bool.and_parts, Bool.leb-true, Bool.le-leb, List.Folds.list_all-map}
 use Rattle.std.specs.Prelude.{◌&&◌, Option, Some, None, nat_le}
@@ -61,7 +61,7 @@ instances_at [] i e h is = absurd (omega arith)
 instances_at (x ∷ es) zero e h is = let same = ap instances is in omega (arith, same)
 instances_at (x ∷ es) (suc i) e h is = let rest = instances_at es i e (omega arith) is in omega (arith, rest)
 
--- a wire of n variables is also one of more variables
+-- if n ≤ m, a wire whose variable is one of 1..n is also one whose variable is one of 1..m
 wire_more : (n m : ℕ) → n ≤ m → (o : Option Signal) → is_wire n o ≡ true → is_wire m o ≡ true
 wire_more n m more None h = h
 wire_more n m more (Some s) h =
@@ -78,7 +78,7 @@ all_wired-more n m w (e ∷ es) more h =
     let both = and_parts (are_wired n w e) (all_wired n w es) h in
     rw (wired_more n m w e more both.0) (all_wired-more n m w es more both.1)
 
--- what a formula with these parts requires of them
+-- what is required of the parts of an expansion
 pub record AsksOf (n : ℕ) (w : Wires) (e : Expanded) (parts : List Expanded) : Type 0 where
   pub smaller : 2 * all_instances parts + 1 < 2 * instances e
   pub few : all_counts parts ≤ gate_count e
@@ -96,7 +96,7 @@ or_asks n w e fs parts is same =
     let c = ap gate_count is ∙ count_or fs in
     rw same (record { smaller = omega (arith, i); few = omega (arith, c); wired = λ h. sym (ap (are_wired n w) is ∙ wired_or n w fs) ∙ h })
 
--- what the second side requires when the gates of the first are there
+-- what is required of the second side of an equivalence when the gates of the first side are there
 pub record AsksOfSecond (n m : ℕ) (w : Wires) (e side : Expanded) : Type 0 where
   pub smaller : 2 * instances side < 2 * instances e
   pub few : m + gate_count side ≤ n + gate_count e

@@ -1,4 +1,4 @@
--- How many gates there are, and that they depend only on the wires of the leaves.
+-- How many gates an expansion has. These gates depend only on the wires of the leaves.
 use Rattle.std.proofs.Common.{◌≡◌, ℕ, ◌+◌, Bool, true, List, [], ◌∷◌, ◌++◌, map, length, refl, ap, ◌∙◌, arith, length-append}
 use Rattle.std.proofs.lemmas.Bool.{and_parts}
 use Rattle.std.specs.List.{list_all}
@@ -59,7 +59,7 @@ pub made_count : (e : Expanded) → Counts e
 made_count = ind-Expanded Counts (λ x y is wires n.
     rw (fold-roll-Expanded Maker (made_step wires) x, fold-roll-Expanded ℕ gate_count_step x, ← is) (step_counts y wires n))
 
--- the same wires at the leaves that pass p
+-- `wires` and `other` give the same wires to the leaves that pass p
 abbrev pub AreSame : LeafTest → (Cell → ℕ → Signal) → (Cell → ℕ → Signal) → Type 0
 AreSame p wires other = (c : Cell) (s : ℕ) → p c s ≡ true → wires c s ≡ other c s
 

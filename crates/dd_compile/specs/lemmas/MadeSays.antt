@@ -14,7 +14,7 @@ use Rattle.dd_circuit.specs.{Circuits.signal_value, Circuits.gate_value, Circuit
 use Rattle.dd_compile.specs.Compiling.{Maker, all_made, then_gate, made_step, made}
 use Rattle.dd_values.specs.lemmas.Booleans.{same_from_beq, if_not}
 
--- the wires of the cells that pass p say the symbols of look
+-- each wire whose cell and symbol pass p says whether `look` gives that cell that symbol
 abbrev pub Tell : (ℕ → Bool) → (Cell → ℕ → Signal) → (Cell → ℕ → Bool) → Look → Type 0
 Tell set wires p look = (c : Cell) (s : ℕ) → p c s ≡ true → signal_value set (wires c s) ≡ is_symbol s (look c)
 
@@ -32,7 +32,7 @@ layer y = map-Expanded Known Expanded (λ e. e.0) y
 abbrev plain : List Known → List Expanded
 plain es = map (λ e. e.0) es
 
--- the signals of all parts
+-- the signals of all parts have the values of the parts
 all_say : (es : List Known) (set : ℕ → Bool) (wires : Cell → ℕ → Signal) (p : Cell → ℕ → Bool) (look : Look) (n : ℕ) → Tell set wires p look →
     list_all (λ b. b) (map (leaves_pass p) (plain es)) ≡ true → agrees set n (all_made (map (made wires) (plain es)) n).gates ≡ true →
     map (signal_value set) (all_made (map (made wires) (plain es)) n).signals ≡ map (λ h. h look) (map holds (plain es))
@@ -44,7 +44,7 @@ all_say (e ∷ es) set wires p look n tell wired ok =
     let both = and_parts (agrees set n gs) (agrees set (n + length gs) hs) (sym (agrees-append set n gs hs) ∙ ok) in
     rw (e.1 set wires p look n tell w.0 both.0, all_say es set wires p look (n + length gs) tell w.1 both.1) refl
 
--- the last gate has its value, and those before it agree
+-- if all gates have their values, the gates before the last one do, and so does the last one
 pub last_gate : (set : ℕ → Bool) (n : ℕ) (gs : List Gate) (g : Gate) → agrees set n (then_gate n gs g).gates ≡ true →
     (agrees set n gs ≡ true) × (signal_value set (then_gate n gs g).signal ≡ gate_value set g)
 last_gate set n gs g ok =

@@ -23,11 +23,11 @@ Extends-trans a b c first rest = record {
   gates = rest.gates ∙ (ap (λ gs. gs ++ rest.added) first.gates ∙ append_assoc a.gates first.added rest.added);
 }
 
--- a circuit with one more gate extends what the circuit before it extends
+-- if a circuit extends another one, it still does when one more gate is added to it
 pub one_more : (old mid new : Network) (g : Gate) → Extends old mid → new.inputs ≡ mid.inputs → new.gates ≡ mid.gates ++ g ∷ [] → Extends old new
 one_more old mid new g so_far inputs gates = Extends-trans old mid new so_far (record { inputs = inputs; added = g ∷ []; gates = gates })
 
--- the same with one more gate, or none if memory runs out
+-- the same if one more gate is added, or none because memory ran out
 pub at_most_one_more : (old mid new : Network) (g : Gate) (r : Result Signal AllocError) → Extends old mid → new.inputs ≡ mid.inputs → IfOk r (λ s. new.gates ≡ mid.gates ++ g ∷ []) →
     OnErr r (new ≡ mid) → Extends old new
 at_most_one_more old mid new g (Ok s) so_far inputs gates same = one_more old mid new g so_far inputs gates
@@ -87,7 +87,7 @@ progress_end w parts i start now signals p past =
       ),
     )
 
--- the gates of the parts and the gate that joins them are those of the definition
+-- the added gates and the signal are those of the definition
 abbrev Ends : Network → Network → Made → Result Signal AllocError → Type 0
 Ends old new m r = IfOk r (λ s. new.gates ≡ old.gates ++ m.gates) × IfOk r (λ s. s ≡ m.signal)
 

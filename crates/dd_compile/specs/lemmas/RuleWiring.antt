@@ -12,7 +12,7 @@ use Rattle.dd_compile.specs.Wiring.{Wiring, signal_for, signals_of}
 use Rattle.dd_compile.specs.Compiling.{is_wire, are_wired, wires_near}
 use Rattle.dd_compile.specs.RuleSignals.{is_signal, are_signals, are_reads_wired}
 
--- what a rule reads near a place of this extent is in the range of positions
+-- what a rule reads at a position of extent at most `most_coordinate - most_reach` is in the range of positions
 pub near_in_range : (v : Place) (d : Cell) → extent v ≤ most_coordinate - most_reach → is_near d ≡ true → is_in_range (moved d.position v) ≡ true
 near_in_range v d inner near =
     let close = leb-true (extent d.position) most_reach near in

@@ -1,4 +1,4 @@
--- What is wired with some variables is still wired with more.
+-- Cells that have their signals among some variables still have them among more variables.
 use Rattle.std.proofs.Common.{◌≡◌, ℕ, ◌≤◌, true, List, [], ◌∷◌, refl}
 use Rattle.std.proofs.lemmas.Bool.{and_parts, and_from}
 use Rattle.dd_lattice.specs.{Cells.shifted, declared.position.Cell.Cell}

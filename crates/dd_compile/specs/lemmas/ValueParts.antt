@@ -1,4 +1,4 @@
--- The gates of an automaton's value, by its parts, and how many there are.
+-- The gates of an automaton's value, from those of its parts, and how many gates there are.
 use Rattle.std.proofs.Common.{◌≡◌, ◌≤◌, ℕ, ◌+◌, List, [], ◌∷◌, map, length, ap, sym, ◌∙◌, arith, length-append}
 use Rattle.dd_lattice.specs.{Cells.shifted, InOrder.in_order, Place.Place, declared.position.Cell.Cell}
 use Rattle.dd_expansion.specs.Leaves.{total}
@@ -27,7 +27,7 @@ gated_given k c = ap (gated k) (sym (v.rolls-Given c)) ∙ fold-roll-Automaton G
 gated_composed : (k : ℕ) (f g : Automaton) → gated k (v.Composed f g) ≡ gated_step k (Automaton-F.Composed (gated k f) (gated k g))
 gated_composed k f g = ap (gated k) (sym (v.rolls-Composed f g)) ∙ fold-roll-Automaton Gated (gated_step k) (Automaton-F.Composed f g)
 
--- the fold that makes the gates has the same counts as `counted`
+-- the fold that makes the gates has the same counts (the cells that are read, instances and depth) as `counted`
 gated_counts : (k : ℕ) (f : Automaton) → (gated k f).counts ≡ counted f
 gated_counts k =
     by_forms (λ f. (gated k f).counts ≡ counted f) (λ c. ap (λ (x : Gated). x.counts) (gated_given k c) ∙ sym (counted_given c))
@@ -36,7 +36,7 @@ gated_counts k =
     ∙ (ap (λ (x : Counted). counted_step (Automaton-F.Composed x (gated k g).counts)) first
     ∙ (ap (λ (x : Counted). counted_step (Automaton-F.Composed (counted f) x)) second ∙ sym (counted_composed f g))))
 
--- the gates at the two forms of an automaton
+-- the gates of each of the two forms of an automaton
 pub made_given : (k : ℕ) (c : Cases) (w : Wiring) (at : Cell) (n : ℕ) → value_made k (v.Given c) w at n ≡ given_made k c w at n
 made_given k c w at n = ap (λ (x : Gated). x.made w at n) (gated_given k c)
 

@@ -1,4 +1,4 @@
--- Wires are read by the places of their cells.
+-- The wires of a cell are found by the cell's place in the list of cells.
 use Rattle.std.proofs.Common.{◌≡◌, ◌<◌, ℕ, List, [], ◌∷◌, ◌++◌, length, get_or, slice_get, Some, None, Ok, Err, Option, ap, sym, refl, ◌∙◌, arith, map, option_map, length-append}
 use Rattle.std.proofs.lemmas.Option.{slice_get_past, slice_get_read, slice_get-map}
 use Rattle.std.proofs.lemmas.List.{get_or_default, length-map, Elements.All-contains}
@@ -42,7 +42,7 @@ signals_at_place w ok k d h =
 pub read_by_place : (w : Wiring) → IsWiring w → IsWiredByPlace w
 read_by_place w ok = record { at = reads_at_place w ok; elsewhere = missing_reads_none_too w ok }
 
--- what a search for the cell finds is the list of its signals
+-- the place that a search for a cell finds holds the list of the cell's signals
 pub found_list : (w : Wiring) (cs : List Cell) (c : Cell) (i : ℕ) (ss : List Signal) → IsWiring w → cs ≡ w.cells → IsSearchInRange (Ok i) (length cs) →
     IsBinarySearchResult (λ y. cell_cmp y c) cs (Ok i) → ss ≡ get_or w.signals i ss → signals_of w c ≡ Some ss
 found_list w cs c i ss ok same within h here =
@@ -66,7 +66,7 @@ pub missing : (w : Wiring) (cs : List Cell) (c : Cell) (s i : ℕ) → IsWiring 
     IsBinarySearchResult (λ y. cell_cmp y c) cs (Err i) → None ≡ wire_of w c s
 missing w cs c s i ok same within h = ap (λ o. signal_for o s) (sym (missing_list w cs c i ok same within h))
 
--- a cell after all others keeps the cells in order
+-- if a cell that comes after all others is added, the cells stay in order
 pub one_more : (w : Wiring) (c : Cell) (ss : List Signal) (cs : List Cell) (sss : List (List Signal)) → IsWiring w → All (λ d. cell_cmp d c ≡ Less) w.cells →
     cs ≡ w.cells ++ c ∷ [] → sss ≡ w.signals ++ ss ∷ [] → IsWiring (record { cells = cs; signals = sss })
 one_more w c ss cs sss ok before cells signals = record {

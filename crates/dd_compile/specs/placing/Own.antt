@@ -1,11 +1,11 @@
--- The gates of a template: those of a rule at a node of the origin, over new variables for the cells that it reads.
+-- The gates of a template: those of a rule at a node of the origin, over new variables for the cells that the rule reads.
 use Rattle.std.specs.Prelude.{ℕ, ◌+◌, ◌*◌, ◌<◌, ◌≡◌, pos, List, [], ◌∷◌, length}
 use Rattle.dd_lattice.specs.{Place.Place, Place.place, declared.position.Cell.Cell}
 use Rattle.dd_formula.specs.LocalRule.{LocalRule, IsRule, cells_at, expansion_at}
 use Rattle.dd_circuit.specs.{declared.gates.Signal.Signal, Circuits.Network}
 use Rattle.dd_compile.specs.{Wiring.Wiring, Compiling.Made, Compiling.compiled, ValueGates.fresh}
 
--- for each cell the signals of m new variables, after n others and those of the cells before it
+-- for each cell the signals of m new variables, which follow n other variables and those of the cells before it
 abbrev pub signals_in_turn : ℕ → ℕ → List Cell → List (List Signal)
 signals_in_turn m n [] = []
 signals_in_turn m n (c ∷ cs) = fresh n m ∷ signals_in_turn m (n + m) cs
@@ -25,11 +25,11 @@ own_inputs r a = own_wiring r.symbols (cells_at r a)
 abbrev pub own_count : LocalRule → ℕ → ℕ
 own_count r a = length (cells_at r a) * r.symbols
 
--- the gates over these inputs
+-- the signal and the gates of the rule over these inputs
 abbrev pub own_made : LocalRule → ℕ → Made
 own_made r a = compiled (own_inputs r a) origin (expansion_at r a) (own_count r a)
 
--- the circuit has exactly the gates of the template of the rule r at the node a, and the signal is theirs
+-- the circuit has exactly the inputs and gates of the template of the rule r at the node a, and s is the signal of these gates
 pub record IsTemplate (r : LocalRule) (a : ℕ) (circuit : Network) (s : Signal) : Type 0 where
   pub exists : a < r.nodes
   pub kept : IsRule r

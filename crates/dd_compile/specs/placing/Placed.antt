@@ -7,34 +7,34 @@ use Rattle.dd_circuit.specs.declared.gates.Gate.TheVariants.{And, Or, Iff}
 use Rattle.dd_circuit.specs.Circuits.{opposite}
 use Rattle.dd_compile.specs.Wiring.{Wiring, signals_of}
 
--- the signals of a cell; none for a cell without any
+-- the list of a cell's signals, which is empty if the cell has none
 abbrev pub all_of : Option (List Signal) → List Signal
 all_of None = []
 all_of (Some ss) = ss
 
--- the cell, relative to v, is in range, and has signals
+-- the cell, moved by v, is in range, and has signals
 abbrev pub is_there : Wiring → Place → Cell → Bool
 is_there w v d = is_in_range (moved d.position v) && is_some (signals_of w (shifted v d))
 
--- the signals of the cells, relative to v, one cell after the other
+-- the signals of the cells, which are relative to v, one cell after the other
 abbrev pub signals_there : Wiring → Place → List Cell → List Signal
 signals_there w v cs = flat_map (λ d. all_of (signals_of w (shifted v d))) cs
 
--- the signal, or its opposite
+-- the signal if the truth value is true, or its opposite if not
 abbrev pub signed : Bool → Signal → Signal
 signed positive s = if positive then s else opposite s
 
--- the input or its opposite, or a signal of the variable if there is no input
+-- the input or its opposite; if there is no input, the variable or its opposite
 abbrev pub placed_by : Option Signal → ℕ → Bool → Signal
 placed_by None variable positive = record { variable = variable; positive = positive }
 placed_by (Some input) variable positive = signed positive input
 
--- The signal that takes the place of a template's signal. One of `inputs` takes the place of each of the template's first
--- variables, which are its inputs. The variables after n take the places of the later ones.
+-- The signal that replaces a signal of a template. Each of the template's first variables, which are its inputs, is replaced by one of `inputs`. The
+-- later variables are replaced, in order, by the variables after n.
 abbrev pub placed : List Signal → ℕ → Signal → Signal
 placed inputs n s = placed_by (slice_get inputs (s.variable - 1)) (n + (s.variable - length inputs)) s.positive
 
--- the gate that takes the place of a template's gate
+-- the gate that replaces a gate of a template
 abbrev pub placed_gate : List Signal → ℕ → Gate → Gate
 placed_gate inputs n (And members) = And (map (placed inputs n) members)
 placed_gate inputs n (Or members) = Or (map (placed inputs n) members)

@@ -2,6 +2,6 @@
 use Rattle.std.specs.Prelude.{◌≡◌, ◌⊎◌, List}
 use Rattle.dd_engines.specs.Rounds.{Seen, FirstAsked}
 
--- no engine was asked, or the first engine that is left was asked since
+-- the engines are as before, or the first engine that is left, if one is left, was asked since
 abbrev pub AskedOrSame : List Seen → List Seen → Type 0
 AskedOrSame before after = (after ≡ before) ⊎ FirstAsked before after

@@ -8,7 +8,7 @@ use Rattle.dd_cnf.specs.Encoding.{gates_clauses, literal, literal_of, opposing}
 use Rattle.dd_cnf.specs.lemmas.GateLaws.{gates_clauses-append}
 use Rattle.dd_counter.specs.Counter.{Making, joined, member_by, of_symbol, members, count, row, rows, refusal_of, weighed}
 
--- the clauses of gates after others
+-- if gates follow others, the bounds on the numbers of their clauses add up
 after : (n : ℕ) (gs hs : List Gate) (a b : ℕ) → length (gates_clauses n gs) ≤ a → length (gates_clauses (n + length gs) hs) ≤ b → length (gates_clauses n (gs ++ hs)) ≤ a + b
 after n gs hs a b first rest =
     let all = ap length (gates_clauses-append n gs hs) in

@@ -13,7 +13,7 @@ pub any_append : {X : Type 0} (p : X → Bool) (xs ys : List X) → list_any p (
 any_append p [] ys = refl
 any_append p (x ∷ xs) ys = rw (any_append p xs ys) (sym (or_assoc (p x) (list_any p xs) (list_any p ys)))
 
--- some signal is true where some test passes
+-- if each making has a true signal exactly if its test passes, some signal of the joined makings is true exactly if some test passes
 pub any_joined : (set : ℕ → Bool) (make : ℕ → Making) (test : ℕ → Bool) →
     ((s n : ℕ) → agrees set n (make s n).gates ≡ true → list_any (signal_value set) (make s n).signals ≡ test s) →
     (c a n : ℕ) → agrees set n (joined (map make (range_with_len a c)) n).gates ≡ true →
@@ -26,7 +26,7 @@ any_joined set make test says (suc c) a n h =
     any_append (signal_value set) (make a n).signals rest.signals
     ∙ rw (says a n both.0, any_joined set make test says c (a + 1) (n + length gs) both.1) refl
 
--- each signal says what its test says
+-- if each making has one signal, with the value of its test, the signals of the joined makings have the values of the tests
 pub each_joined : (set : ℕ → Bool) (make : ℕ → Making) (test : ℕ → Bool) (a c : ℕ) →
     ((s n : ℕ) → s < a + c → agrees set n (make s n).gates ≡ true → map (signal_value set) (make s n).signals ≡ test s ∷ []) →
     (n : ℕ) → agrees set n (joined (map make (range_with_len a c)) n).gates ≡ true →

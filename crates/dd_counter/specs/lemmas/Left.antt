@@ -19,7 +19,7 @@ grown-append cnf gs hs =
 pub grown-nil : (cnf : ClauseList) → grown cnf [] ≡ cnf
 grown-nil cnf = same_list (grown cnf []) cnf.variables cnf.clauses (omega arith) (append-nil cnf.clauses)
 
--- what is already there and what the numbers from w on make are the whole
+-- what the loop has made so far, followed by what it makes for the numbers from w on, is the whole
 pub record Left (make : ℕ → Making) (w end : ℕ) (start now : ClauseList) (signals : List Signal) : Type 0 where
   pub clauses : grown now (joined (map make (range_to w end)) now.variables).gates ≡ grown start (joined (map make (range_with_len 0 end)) start.variables).gates
   pub made : signals ++ (joined (map make (range_to w end)) now.variables).signals ≡ (joined (map make (range_with_len 0 end)) start.variables).signals
@@ -42,7 +42,7 @@ left_step make w end start now new signals after left within pushed more ok =
       more = omega (arith, wide, left.more);
     }
 
--- a pass that adds one signal
+-- `Left` still holds after a pass that adds one signal
 pub left_one : (make : ℕ → Making) (w end : ℕ) (start now new : ClauseList) (signals after : List Signal) (s : Signal) → Left make w end start now signals → w < end →
     new ≡ grown now (make w now.variables).gates → s ∷ [] ≡ (make w now.variables).signals → IsSignal new.variables s → after ≡ signals ++ s ∷ [] →
     Left make (w + 1) end start new after
@@ -71,7 +71,7 @@ left_few make w end start now signals most left within few =
     let e = length-append first.gates rest.gates in
     omega (arith, all, e, few)
 
--- the same for the loop over rows
+-- like `Left`, for the loop over rows
 pub record RowsLeft (ws : List ℕ) (below k end : ℕ) (start now : ClauseList) (before : List Signal) : Type 0 where
   pub clauses : grown now (rows ws below (end - k) k before now.variables).gates ≡ grown start (rows ws below end 0 [] start.variables).gates
   pub made : (rows ws below (end - k) k before now.variables).signals ≡ (rows ws below end 0 [] start.variables).signals
@@ -105,7 +105,7 @@ rows_few ws below k end start now before most left within few =
     let e = length-append first.gates rest.gates in
     omega (arith, all, e, few)
 
--- what the member is if the symbol alone doesn't weigh enough, without and with a row before
+-- the member for a symbol that doesn't weigh enough alone: first without, then with a signal of the row before
 pub member_none : (from : Signal) (w t : ℕ) (before : List Signal) (n : ℕ) → w ≤ t → slice_get before (t - w) ≡ None → member from w t before n ≡ making [] []
 member_none from w t before n h is = ap (λ b. member_by from b (slice_get before (t - w)) n) (le-ltb t w h) ∙ ap (λ o. member_by from false o n) is
 
@@ -113,7 +113,7 @@ pub member_some : (from : Signal) (w t : ℕ) (before : List Signal) (n : ℕ) (
     member from w t before n ≡ making (signal_of (suc n) ∷ []) (And (from ∷ r ∷ []) ∷ [])
 member_some from w t before n r h is = ap (λ b. member_by from b (slice_get before (t - w)) n) (le-ltb t w h) ∙ ap (λ o. member_by from false o n) is
 
--- the gate after the members
+-- after the gates of the members, the Or gate over the members is added
 pub with_or : (start now new : ClauseList) (each : AllMade) (signals : List Signal) → now ≡ grown start each.gates → signals ≡ each.signals → new ≡ grown now (Or signals ∷ []) →
     new ≡ grown start (each.gates ++ Or each.signals ∷ [])
 with_or start now new each signals is same pushed =

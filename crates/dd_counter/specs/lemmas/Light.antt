@@ -13,7 +13,7 @@ light_below : (below : ℕ) (ws : List ℕ) (t : Tile) → total_weight ws t.sym
 light_below zero ws t h = tt
 light_below (suc b) ws t h = h
 
--- if no configuration is light, each weighs at least the bound
+-- if no configuration is light, each one that lives weighs at least the bound
 pub none_lighter : (x : LocalRule) (p : Periods) (ws : List ℕ) (below : ℕ) → ((t : Tile) → IsLightWitness x p ws below t → ⊥) → (t : Tile) → IsLiving x p t →
     below ≤ total_weight ws t.symbols
 none_lighter x p ws below none t lives = elim (cases_lt (total_weight ws t.symbols) below) as (λ _. below ≤ total_weight ws t.symbols) [
@@ -33,7 +33,7 @@ pub none_lives : (x : LocalRule) (p : Periods) (ws : List ℕ) (steps : List Ste
     IsRefuting (weight_problem x p ws 0) steps → NoneOn x p
 none_lives x p ws steps shows refuting t lives = none_light x p ws 0 steps shows refuting t (record { along = lives.0; witness = lives.1; light = tt })
 
--- a configuration that lives has the least weight, if that is 0 or the clauses below it are refuted
+-- a configuration that lives has the least weight, if its weight is 0 or the clauses that ask for less are refuted
 pub least_refuted : (x : LocalRule) (p : Periods) (ws : List ℕ) (w : ℕ) (t : Tile) (steps : List Step) → IsLiving x p t → total_weight ws t.symbols ≡ w →
     (0 < w → ShowsWeights (weight_problem x p ws w).clauses x p ws w) → (0 < w → IsRefuting (weight_problem x p ws w) steps) → LeastOn x p ws w
 least_refuted x p ws w t steps lives weighs shows refuting = record {

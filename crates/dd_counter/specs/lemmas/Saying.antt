@@ -13,7 +13,7 @@ use Rattle.dd_counter.specs.lemmas.Bools.{one_of_range, lt_sum}
 use Rattle.dd_counter.specs.lemmas.Joined.{agrees_parts, any_joined, each_joined}
 use Rattle.dd_values.specs.lemmas.Booleans.{and_true, or_false, same_from_beq, and_false}
 
--- what the signal at t says; false after the last one
+-- the value of the signal at t; false if there is no signal at t
 abbrev pub said : (ℕ → Bool) → List Signal → ℕ → Bool
 said set signals t = get_or (map (signal_value set) signals) t false
 
@@ -40,7 +40,7 @@ member_says set from w t before n h =
     member_by_says set from (nat_lt t w) (slice_get before (t - w)) n h
     ∙ ap (λ b. signal_value set from && (nat_lt t w || b)) (sym (said_at set before (t - w)))
 
--- the signals at 0, 1, .. up to below - 1 say whether the weight is more than that
+-- for each t less than `below`, the signal at t says whether the weight is more than t
 abbrev pub SaysWeight : (ℕ → Bool) → ℕ → List Signal → ℕ → Type 0
 SaysWeight set below signals weight = (t : ℕ) → t < below → said set signals t ≡ nat_lt t weight
 
@@ -99,7 +99,7 @@ rows_say set ws ss below (suc c) k before n ok end says h =
     let both = agrees_parts set n first.gates rest.gates h in
     rows_say set ws ss below c (k + 1) first.signals (n + length first.gates) ok (omega arith) (row_says set ws ss below k before n ok (omega arith) says both.0) both.1
 
--- the rows from the first cell on, which has no row before it
+-- the signals of the last row say how much all cells weigh; the first cell has no row before it
 pub all_say : (set : ℕ → Bool) (ws ss : List ℕ) (below n : ℕ) → Weighs set ws ss → agrees set n (rows ws below (length ss) 0 [] n).gates ≡ true →
     SaysWeight set below (rows ws below (length ss) 0 [] n).signals (total_weight ws ss)
 all_say set ws ss below n ok h = rows_say set ws ss below (length ss) 0 [] n ok (omega arith) (λ t small. sym (le-ltb t 0 (omega arith))) h

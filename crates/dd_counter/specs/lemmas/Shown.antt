@@ -19,7 +19,7 @@ use Rattle.dd_counter.specs.lemmas.Fitting.{rows_fit}
 use Rattle.dd_counter.specs.lemmas.Extending.{extension, extension_alike, extension_agrees}
 use Rattle.dd_values.specs.lemmas.Booleans.{not_true}
 
--- the three parts of the clauses
+-- the clauses are satisfied exactly if each of their three parts is
 parts : (set : ℕ → Bool) (base gates last : List (List Literal)) → is_satisfied set ((base ++ gates) ++ last) ≡ ((is_satisfied set base && is_satisfied set gates) && is_satisfied set last)
 parts set base gates last = list_all-append (is_clause_true set) (base ++ gates) last ∙ ap (λ b. b && is_satisfied set last) (list_all-append (is_clause_true set) base gates)
 
@@ -41,7 +41,7 @@ light_at : (below : ℕ) (ws : List ℕ) (t : Tile) → IsLight below ws t → 0
 light_at zero ws t h some = absurd (omega arith)
 light_at (suc b) ws t h some = omega (arith, h)
 
--- without a bound there is no gate
+-- without a bound there is no signal
 nothing_made : (ws : List ℕ) (c k : ℕ) → (n : ℕ) → (rows ws 0 c k [] n).signals ≡ []
 nothing_made ws zero k n = refl
 nothing_made ws (suc c) k n = nothing_made ws c (k + 1) (n + 0)

@@ -1,4 +1,4 @@
--- If the bound is at least 1, the last clause is there.
+-- If the bound is at least 1, there is a last clause that sets it.
 use Rattle.std.proofs.Common.{◌≡◌, ℕ, zero, suc, ◌+◌, ◌<◌, List, [], ◌∷◌, map, length, get_or, refl, ap, arith, length-append}
 use Rattle.std.proofs.lemmas.Option.{slice_get-get_or}
 use Rattle.std.specs.{Prelude.◌-◌, List.range_with_len}
@@ -30,7 +30,7 @@ all_length ws below (suc c) n some =
     let first = row ws below 0 [] n in
     rows_length ws below c 1 first.signals (n + length first.gates) (row_length ws below 0 [] n)
 
--- it is the opposite of the last signal: of the one that says that all cells weigh at least the bound
+-- the last clause is the opposite of the last signal, which says that all cells together weigh at least the bound
 pub unit_there : (ws : List ℕ) (below c n : ℕ) → 0 < c → 0 < below → let signals = (rows ws below c 0 [] n).signals in
     last_refused below signals ≡ (opposing (get_or signals (below - 1) (signal_of 0)) ∷ []) ∷ []
 unit_there ws below c n some bounded =

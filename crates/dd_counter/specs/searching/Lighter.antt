@@ -1,4 +1,4 @@
--- What the search for a lighter configuration answers.
+-- What the search for a lighter configuration returns.
 use Rattle.std.specs.Prelude.{ℕ, List}
 use Rattle.dd_pattern.specs.{declared.periods.Periods.Periods, Tile.Tile}
 use Rattle.dd_formula.specs.LocalRule.{LocalRule}
@@ -6,7 +6,7 @@ use Rattle.dd_counter.specs.declared.least.Lighter.{Lighter}
 use Rattle.dd_counter.specs.{declared.least.Lighter.TheVariants.Found, declared.least.Lighter.TheVariants.Nothing, Weights.IsLightWitness}
 use Rattle.dd_counter.specs.Least.{IsRefutedBelow}
 
--- a living configuration that weighs less than `below`, or steps that refute that there is one
+-- a living configuration that weighs less than `below` (or any if `below` is 0), or steps that refute the clauses that ask for one
 abbrev pub IsLighter : LocalRule → Periods → List ℕ → ℕ → Lighter → Type 0
 IsLighter x p ws below (Found t) = IsLightWitness x p ws below t
 IsLighter x p ws below (Nothing steps) = ((t : Tile) → IsLightWitness x p ws below t → ⊥) × IsRefutedBelow x p ws below steps

@@ -1,4 +1,4 @@
--- The density of a least mean: the mean divided by the number of positions of a slice.
+-- The density for a least mean: the mean divided by the number of positions in a slice.
 use Rattle.std.specs.{Prelude.◌≡◌, Prelude.ℕ, Prelude.◌*◌, Prelude.◌<◌, Prelude.◌≤◌, Prelude.◌^◌, Prelude.List, Prelude.ℤ, List.All}
 use Rattle.dd_values.specs.Bounds.{most_number}
 use Rattle.dd_transfer.specs.Certificates.{IsInLowestTerms}
@@ -7,7 +7,7 @@ use Rattle.dd_density.specs.declared.answer.Density.{Density}
 use Rattle.dd_density.specs.declared.answer.Density.TheVariants.{Least, Empty}
 use Rattle.dd_meancycle.specs.declared.least.Mean.TheVariants as mean
 
--- an output can hold the numbers of the mean, and those of the mean divided by `volume`
+-- the numbers of the mean are small enough for an output, and so are those of the mean divided by `volume`
 abbrev pub IsMeanOver : ℕ → Mean → Type 0
 IsMeanOver volume (mean.Least m l cycle ps) = (0 < l * volume) × (l * volume ≤ most_number) × (m ≤ most_number)
 IsMeanOver volume (mean.NoCycle ranks) = Unit {0}
@@ -19,7 +19,7 @@ pub record IsDensityOf (volume m l : ℕ) (cycle : List ℕ) (ps : List ℤ) (p 
   pub potentials_are : qs ≡ ps
   pub small : All (λ u. u < 2 ^ 32) walk
 
--- the answer is the density of the mean
+-- the answer is the density for the least mean, or `Empty` if there is no cycle
 abbrev pub IsOfMean : ℕ → Mean → Density → Type 0
 IsOfMean volume (mean.Least m l cycle ps) (Least p q walk qs) = IsDensityOf volume m l cycle ps p q walk qs
 IsOfMean volume (mean.Least m l cycle ps) (Empty ranks) = ⊥

@@ -1,10 +1,10 @@
--- The certificates over a transfer graph: a closed walk and potentials for a least density, or ranks if no walk is infinite.
+-- The certificates over a transfer graph: a closed walk and potentials if there is a least density, or ranks if no walk is infinite.
 use Rattle.std.specs.Prelude.{◌≡◌, ℕ, ◌*◌, ◌<◌, ℤ, pos, ◌-ℤ◌, ◌≤ℤ◌, List, length, slice_index, Some}
 use Rattle.dd_transfer.specs.{Graphs.Transfer, Graphs.next_of, Graphs.weight_at, Certificates.IsInLowestTerms, Certificates.potential_of}
 use Rattle.dd_meancycle.specs.Means.{IsCycle, ArePotentials, AreRanks, weight_of}
 
--- The walk is closed, and its mean is m / l in lowest terms. The density p / q, in lowest terms, is m / l divided by the
--- number of positions of a slice, which is `volume`. The potentials are right for m / l.
+-- The walk is closed, and its mean is m / l in lowest terms. The density p / q, in lowest terms, is m / l divided by the number of positions in a
+-- slice, which is `volume`. The potentials are right for m / l.
 pub record IsShown (g : Transfer) (volume p q : ℕ) (walk : List ℕ) (ps : List ℤ) : Type 0 where
   pub m : ℕ
   pub l : ℕ
@@ -14,7 +14,7 @@ pub record IsShown (g : Transfer) (volume p q : ℕ) (walk : List ℕ) (ps : Lis
   pub each : length ps ≡ g.states
   pub potentials : ArePotentials g m l ps
 
--- the ranks are right: there is one for each state, and it falls along each edge
+-- the ranks are right: there is one for each state, and the rank falls along each edge
 pub record AreFallen (g : Transfer) (ranks : List ℕ) : Type 0 where
   pub each : length ranks ≡ g.states
   pub fall : AreRanks g ranks

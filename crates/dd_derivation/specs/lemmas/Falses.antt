@@ -40,14 +40,14 @@ beq-sym true false = refl
 beq-sym false true = refl
 beq-sym false false = refl
 
--- two literals of one variable are the same or each other's negation
+-- two literals of the same variable are equal or are each other's negation
 pub same_variable : (x l : Literal) → x.variable ≡ l.variable → (x ≡ l) ⊎ (x ≡ negation l)
 same_variable x l v = elim (cases_Bool (beq x.positive l.positive)) [
   | inl t ↦ inl (literal-eq x l v (same_from_beq x.positive l.positive t))
   | inr n ↦ inr (literal-eq x (negation l) v (beq-false x.positive l.positive n))
 ]
 
--- neither a literal of a variable without a value nor its negation is among the false ones
+-- if neither a literal nor its negation is among the false ones, no literal of its variable is
 not_among : (falses : List Literal) (x l : Literal) → x.variable ≡ l.variable → is_among falses l ≡ false → is_among falses (negation l) ≡ false → is_among falses x ≡ false
 not_among falses x l v f g = elim (same_variable x l v) [
   | inl e ↦ subst (λ (y : Literal). is_among falses y ≡ false) (sym e) f
@@ -75,7 +75,7 @@ length-marked marks step l = elim (cases_Bool (is_literal_in_range (length marks
   | inr f ↦ rw f refl
 ]
 
--- a literal in range and a literal out of range are not the same
+-- a literal in range differs from a literal out of range
 apart : (n : ℕ) (x l : Literal) → is_literal_in_range n x ≡ true → is_literal_in_range n l ≡ false → same_literal x l ≡ false
 apart n x l t f = false_from_ne_true _ (λ h. false≢true (sym f ∙ ap (is_literal_in_range n) (sym (same_literal-eq x l h)) ∙ t))
 
@@ -88,14 +88,14 @@ marked_more marks step falses l x m i f g = elim (cases_Bool (is_literal_in_rang
   | inr n ↦ rw (n, apart (length marks) x l i n) m
 ]
 
--- with one more literal false, the marks and the hinted clauses still tell which literals are false
+-- after one more literal becomes false, the marks and the hinted clauses still tell which literals are false
 FalsesAre-more : (marks : List VariableMark) (step : ℕ) (seen more falses : List Literal) (l : Literal) → FalsesAre marks step seen falses → is_among falses l ≡ false → is_among falses (negation l) ≡ false → ((x : Literal) → is_literal_in_range (length marks) x ≡ false → is_false_unmarked more x ≡ is_among (l ∷ falses) x) → FalsesAre (with_mark marks step l) step more (l ∷ falses)
 FalsesAre-more marks step seen more falses l a f g out x = elim (cases_Bool (is_literal_in_range (length marks) x)) [
   | inl t ↦ rw (length-marked marks step l, t) (marked_more marks step falses l x (rw t at (a x)) t f g)
   | inr n ↦ rw (length-marked marks step l, n) (out x n)
 ]
 
--- more literals at the end do not change the first literal of a variable
+-- literals added at the end do not change the first literal of a variable
 first_literal_of-some : (v : ℕ) (xs ys : List Literal) (m : Literal) → first_literal_of v xs ≡ Some m → first_literal_of v (xs ++ ys) ≡ Some m
 first_literal_of-some v [] ys m h = absurd (cc)
 first_literal_of-some v (x ∷ xs) ys m h = elim (cases_Bool (eqb x.variable v)) [
@@ -170,7 +170,7 @@ unmarked_more seen falses c l x a f = go (first_literal_of x.variable seen) refl
     go (Some m) e = rw (first_literal_of-some x.variable seen c m e, valued m e) (rw e at (a x refl))
     go None e = rw (first_literal_of-none x.variable seen c e) (fresh (first_literal_of x.variable c) refl (λ y v. sym (a y v) ∙ rw (v, e) refl))
 
--- the literal that a hint forces becomes true
+-- after a hint forces a literal and its negation is marked, the marks and the hinted clauses still tell which literals are false
 pub FalsesAre-forced : (known : List (Option (List Literal))) (marks : List VariableMark) (step : ℕ) (seen falses : List Literal) (h : ℕ) (l : Literal) → FalsesAre marks step seen falses → hint_finding known (is_among falses) h ≡ Forced l → FalsesAre (with_mark marks step (negation l)) step (seen ++ unwrap_or (clause_of known h) []) (negation l ∷ falses)
 FalsesAre-forced known marks step seen falses h l a e = at (clause_of known h) e
   where
@@ -181,11 +181,11 @@ FalsesAre-forced known marks step seen falses h l a e = at (clause_of known h) e
         FalsesAre-more marks step seen (seen ++ c) falses (negation l) a f.not_true (rw (negation-negation l) f.not_false) (λ x r.
         unmarked_more seen falses c l x (λ y v. (let q : is_literal_in_range (length marks) y ≡ false = rw v r in rw q at (a y))) f)
 
--- a literal of the step's own clause becomes false
+-- after a literal of the step's own clause is marked, the marks still tell which literals are false
 pub FalsesAre-start : (marks : List VariableMark) (step : ℕ) (falses : List Literal) (l : Literal) → FalsesAre marks step [] falses → is_literal_in_range (length marks) l ≡ true → is_among falses l ≡ false → is_among falses (negation l) ≡ false → FalsesAre (with_mark marks step l) step [] (l ∷ falses)
 FalsesAre-start marks step falses l a r f g = FalsesAre-more marks step [] [] falses l a f g (λ x n. (let q : false ≡ is_among falses x = rw n at (a x) in rw (apart' (length marks) x l n r, ← q) refl))
 
--- marking in this step leaves each mark of this step or an earlier one
+-- after a literal is marked in this step, there is still no mark of a later step
 pub AreUpTo-marked : (marks : List VariableMark) (step : ℕ) (l : Literal) → AreUpTo step marks → AreUpTo step (with_mark marks step l)
 AreUpTo-marked marks step l a = elim (cases_Bool (is_literal_in_range (length marks) l)) [
   | inl t ↦ rw t (All-set (λ m. m.step ≤ step) marks (l.variable - 1) (record { step = step; positive = l.positive }) (omega arith) a)
@@ -199,7 +199,7 @@ literals_of-append known (h ∷ hs) gs = ap (λ (ys : List Literal). unwrap_or (
 pub literals_of-more : (known : List (Option (List Literal))) (hints : List ℕ) (i : ℕ) → i < length hints → literals_of known (take (i + 1) hints) ≡ literals_of known (take i hints) ++ unwrap_or (clause_of known (get_or hints i 0)) []
 literals_of-more known hints i h = ap (literals_of known) (take_more hints i 0 h) ∙ literals_of-append known (take i hints) (get_or hints i 0 ∷ []) ∙ ap (λ (ys : List Literal). literals_of known (take i hints) ++ ys) (append-nil (unwrap_or (clause_of known (get_or hints i 0)) []))
 
--- if no earlier hint has the variable, its first literal in this hint's clause is the first in all hinted clauses
+-- if no earlier hinted clause has the variable, its first literal in this hint's clause is its first in all hinted clauses
 pub hinted_here : (known : List (Option (List Literal))) (hints : List ℕ) (i v : ℕ) (clause : List Literal) (m : Literal) → i < length hints → first_literal_of v (literals_of known (take i hints)) ≡ None → clause_of known (get_or hints i 0) ≡ Some clause → first_literal_of v clause ≡ Some m → first_literal_of v (literals_of known hints) ≡ Some m
 hinted_here known hints i v clause m lt h c e =
     let s : hints ≡ take i hints ++ get_or hints i 0 ∷ drop (suc i) hints = sym (take-append-drop i hints) ∙ ap (λ (hs : List ℕ). take i hints ++ hs) (drop-cons hints i 0 lt) in
@@ -220,7 +220,7 @@ is_last-drop (x ∷ hints) (suc j) h = is_last-drop hints j (omega arith) ∙ sy
     same : (a b : ℕ) → eqb (suc a) (suc b) ≡ eqb a b
     same a b = elim (cases_eq a b) [ inl e ↦ rw (eq-eqb a b e) (eq-eqb (suc a) (suc b) (omega arith)) | inr n ↦ rw (ne_eqb a b n) (ne_eqb (suc a) (suc b) (λ e. n (omega arith))) ]
 
--- whether the hints from index i on end in a conflict, by the hint at i
+-- whether the hints from index i on end in a conflict, in terms of what the hint at i finds
 is_conflict-at : (known : List (Option (List Literal))) (falses : List Literal) (hints : List ℕ) (i d : ℕ) → i < length hints → is_conflict known falses (drop i hints) ≡ follow (hint_finding known (is_among falses) (get_or hints i d)) (eqb (i + 1) (length hints)) (λ l. is_conflict known (negation l ∷ falses) (drop (i + 1) hints))
 is_conflict-at known falses hints i d h = rw (drop-cons hints i d h, add-one i, is_last-drop hints (suc i) (omega arith)) refl
 
@@ -228,7 +228,7 @@ is_conflict-at known falses hints i d h = rw (drop-cons hints i d h, add-one i, 
 pub hint_seen : (known : List (Option (List Literal))) (marks : List VariableMark) (step : ℕ) (seen falses : List Literal) (h : ℕ) (f : Finding) → FalsesAre marks step seen falses → f ≡ hint_finding known (is_false marks step seen) h → hint_finding known (is_among falses) h ≡ f
 hint_seen known marks step seen falses h f a e = sym (e ∙ hint_finding-congr known (is_false marks step seen) (is_among falses) h a)
 
--- the check of all hints, by what the hint at index i finds
+-- whether all hints end in a conflict, in terms of what the hint at index i finds
 pub conflict_now : (known : List (Option (List Literal))) (start falses : List Literal) (hints : List ℕ) (i : ℕ) (f : Finding) → i < length hints → hint_finding known (is_among falses) (get_or hints i 0) ≡ f → is_conflict known start hints ≡ is_conflict known falses (drop i hints) → is_conflict known start hints ≡ follow f (eqb (i + 1) (length hints)) (λ l. is_conflict known (negation l ∷ falses) (drop (i + 1) hints))
 conflict_now known start falses hints i f lt h e = e ∙ is_conflict-at known falses hints i 0 lt ∙ ap (λ (x : Finding). follow x (eqb (i + 1) (length hints)) (λ l. is_conflict known (negation l ∷ falses) (drop (i + 1) hints))) h
 

@@ -1,4 +1,4 @@
--- What a clause says: the scan that finds it, and what it means for the clause's literals.
+-- What a clause says: the scan that finds this out, and what it means for the clause's literals.
 use Rattle.std.proofs.Common.{◌≡◌, ℕ, suc, ◌<◌, ◌≤◌, Bool, true, false, cond, not, ◌&&◌, List, [], ◌∷◌, ◌++◌, Option, Some, None, refl, ap, sym, ◌∙◌, subst, length, get_or, take, drop, take-append-drop, drop-cons, inl, inr, ◌⊎◌}
 use Rattle.std.proofs.lemmas.List.{take_all}
 use Rattle.std.proofs.lemmas.Bool.{cases_Bool, and_right, and_parts, or_cases, or_left, or_right, not-true, false≢true}
@@ -24,7 +24,7 @@ open_at p xs ys first l rest f n d =
     let e : filter (λ x. not (p x)) (xs ++ l ∷ ys) ≡ first ∷ (rest ++ l ∷ filter (λ x. not (p x)) ys) = rw (filter-append, f, n) refl in
     rw (e, mixed first l rest (filter (λ x. not (p x)) ys) d) refl
 
--- a literal that is not false and differs from the first such one leaves the clause open
+-- a clause is open if it has a literal that is not false and differs from the first literal that is not false
 pub open_early : (p : Literal → Bool) (clause : List Literal) (i : ℕ) (d first l : Literal) (rest : List Literal) → i < length clause → filter (λ x. not (p x)) (take i clause) ≡ first ∷ rest → get_or clause i d ≡ l → p l ≡ false → same_literal first l ≡ false → finding p clause ≡ Open
 open_early p clause i d first l rest lt f g n s =
     let e : clause ≡ take i clause ++ l ∷ drop (suc i) clause = sym (take-append-drop i clause) ∙ ap (λ (x : List Literal). take i clause ++ x) (drop-cons clause i d lt ∙ ap (λ (x : Literal). x ∷ drop (suc i) clause) g) in
@@ -33,7 +33,7 @@ open_early p clause i d first l rest lt f g n s =
 pub all_sums : (p : Literal → Bool) (clause : List Literal) (i : ℕ) (c : Option Literal) → length clause ≤ i → Sums c (filter (λ x. not (p x)) (take i clause)) → Sums c (filter (λ x. not (p x)) clause)
 all_sums p clause i c h s = subst (λ (x : List Literal). Sums c (filter (λ y. not (p y)) x)) (take_all i clause h) s
 
--- a clause whose literals are all false but for copies of one forces that one, unless it is true already
+-- if the literals that are not false are all copies of one literal, the clause forces that literal, unless it is true already
 pub forced_end : (p : Literal → Bool) (clause : List Literal) (l : Literal) → Sums (Some l) (filter (λ x. not (p x)) clause) → finding p clause ≡ cond (p (negation l)) Open (Forced l)
 forced_end p clause l s = rw (s.1, s.2) (turned (p (negation l)) (Forced l))
   where
@@ -41,7 +41,7 @@ forced_end p clause l s = rw (s.1, s.2) (turned (p (negation l)) (Forced l))
     turned true f = refl
     turned false f = refl
 
--- two tests that call the same literals false find the same
+-- if two tests call the same literals false, the clause says the same by both
 pub finding-congr : (p q : Literal → Bool) (clause : List Literal) → ((l : Literal) → p l ≡ q l) → finding p clause ≡ finding q clause
 finding-congr p q clause e = of_same (filter (λ x. not (p x)) clause) ∙ ap (finding_of q) (same_kept clause)
   where
@@ -93,7 +93,7 @@ of_left p (y ∷ xs) x h = elim (cases_Bool (p y)) [
   ]
 ]
 
--- this is the only literal of the clause that is not false, and it is not true
+-- l is the only literal of the clause that is not false, and it is not true
 pub record Forces (p : Literal → Bool) (c : List Literal) (l : Literal) : Type 0 where
   pub member : In c l
   pub others : (x : Literal) → In c x → (x ≡ l) ⊎ (p x ≡ true)

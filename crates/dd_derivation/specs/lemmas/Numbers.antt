@@ -40,33 +40,33 @@ slice_get-map f (y ∷ xs) (suc k) x h = slice_get-map f xs k x h
 pub length-before : (clauses : List (List Literal)) (steps : List Step) → length (clauses_before clauses steps) ≡ length clauses + length steps
 length-before clauses steps = length-append clauses (map (λ s. s.clause) steps) ∙ ap (λ (n : ℕ). length clauses + n) (length-map steps (λ s. s.clause))
 
--- the number of a clause of the list that is alive
+-- a clause of the list is found by its number if it is alive
 pub in_clauses : (clauses : List (List Literal)) (steps : List Step) (alive : List Bool) (number : ℕ) (c : List Literal) → (number ≡ 0 → ⊥) → length clauses + length steps ≤ length alive → slice_get clauses (number - 1) ≡ Some c → get_or alive (number - 1) false ≡ true → clause_of (known_of (clauses_before clauses steps) alive) number ≡ Some c
 in_clauses clauses steps alive number c n h g a =
     let l : length (clauses_before clauses steps) ≤ length alive = rw (length-before clauses steps) h in
     clause_of-known_of (clauses_before clauses steps) alive number n l ∙ rw a (slice_get-append_left clauses (map (λ s. s.clause) steps) (number - 1) (slice_get_within clauses (number - 1) c g) ∙ g)
 
--- the number of a step whose clause is alive
+-- the clause of a step is found by its number if it is alive
 pub in_steps : (clauses : List (List Literal)) (steps : List Step) (alive : List Bool) (number : ℕ) (s : Step) → length clauses < number → length clauses + length steps ≤ length alive → slice_get steps (number - 1 - length clauses) ≡ Some s → get_or alive (number - 1) false ≡ true → clause_of (known_of (clauses_before clauses steps) alive) number ≡ Some s.clause
 in_steps clauses steps alive number s n h g a =
     let l : length (clauses_before clauses steps) ≤ length alive = rw (length-before clauses steps) h in
     let e : number - 1 ≡ length clauses + (number - 1 - length clauses) = omega arith in
     clause_of-known_of (clauses_before clauses steps) alive number (λ z. omega arith) l ∙ rw a (ap (slice_get (clauses_before clauses steps)) e ∙ slice_get-append_right clauses (map (λ x. x.clause) steps) (number - 1 - length clauses) ∙ slice_get-map (λ x. x.clause) steps _ s g)
 
--- the number of a deleted clause has no clause
+-- no clause is found by the number of a deleted one
 pub deleted_place : (clauses : List (List Literal)) (steps : List Step) (alive : List Bool) (number : ℕ) → (number ≡ 0 → ⊥) → length clauses + length steps ≤ length alive → get_or alive (number - 1) false ≡ false → clause_of (known_of (clauses_before clauses steps) alive) number ≡ None
 deleted_place clauses steps alive number n h a =
     let l : length (clauses_before clauses steps) ≤ length alive = rw (length-before clauses steps) h in
     clause_of-known_of (clauses_before clauses steps) alive number n l ∙ rw a refl
 
--- a number after the last has no clause
+-- no clause is found by a number after the last one
 pub past_all : (clauses : List (List Literal)) (steps : List Step) (alive : List Bool) (number : ℕ) → length clauses + length steps < number → length clauses + length steps ≤ length alive → clause_of (known_of (clauses_before clauses steps) alive) number ≡ None
 past_all clauses steps alive number n h =
     let l : length (clauses_before clauses steps) ≤ length alive = rw (length-before clauses steps) h in
     let p : slice_get (clauses_before clauses steps) (number - 1) ≡ None = slice_get_past (clauses_before clauses steps) (number - 1) (rw (length-before clauses steps) (omega arith)) in
     clause_of-known_of (clauses_before clauses steps) alive number (λ z. omega arith) l ∙ rw p (sym (cond_none (get_or alive (number - 1) false)))
 
--- a number has a clause if it is in the list of clauses and alive
+-- a clause is found by a number if the number is within the list and the clause there is alive
 pub alive_some : (cs : List (List Literal)) (alive : List Bool) (number : ℕ) → (number ≡ 0 → ⊥) → number - 1 < length cs → length cs ≤ length alive → get_or alive (number - 1) false ≡ true → is_some (clause_of (known_of cs alive) number) ≡ true
 alive_some cs alive number n p l a = rw (clause_of-known_of cs alive number n l, a) (some_within cs (number - 1) p)
 
@@ -86,19 +86,19 @@ known_of-set (c ∷ cs) [] k = refl
 known_of-set (c ∷ cs) (a ∷ alive) zero = refl
 known_of-set (c ∷ cs) (a ∷ alive) (suc k) = ap (λ (ys : List (Option (List Literal))). cond a (Some c) None ∷ ys) (known_of-set cs alive k)
 
--- to delete a number is to write false at its index
+-- deleting the clause with a number means writing false at its index
 pub without-known_of : (cs : List (List Literal)) (alive : List Bool) (number : ℕ) → (number ≡ 0 → ⊥) → without (known_of cs alive) number ≡ known_of cs (set alive (number - 1) false)
 without-known_of cs alive zero n = absurd (n refl)
 without-known_of cs alive (suc k) n = let e : suc k - 1 ≡ k = omega arith in rw e (sym (known_of-set cs alive k))
 
--- if the number at index i can be deleted, the later ones decide
+-- if the clause with the number at index i can be deleted, the later numbers decide whether all of them can be
 pub deletes_one : (cs : List (List Literal)) (alive : List Bool) (numbers : List ℕ) (i : ℕ) → i < length numbers → (get_or numbers i 0 ≡ 0 → ⊥) → get_or numbers i 0 - 1 < length cs → length cs ≤ length alive → get_or alive (get_or numbers i 0 - 1) false ≡ true → are_deletable (known_of cs alive) (drop i numbers) ≡ are_deletable (known_of cs (set alive (get_or numbers i 0 - 1) false)) (drop (i + 1) numbers)
 deletes_one cs alive numbers i h n p l a = rw (drop-cons numbers i 0 h, add-one i, alive_some cs alive (get_or numbers i 0) n p l a, without-known_of cs alive (get_or numbers i 0) n) refl
 
 pub after_one : (cs : List (List Literal)) (alive : List Bool) (numbers : List ℕ) (i : ℕ) → i < length numbers → (get_or numbers i 0 ≡ 0 → ⊥) → known_after (known_of cs alive) (drop i numbers) ≡ known_after (known_of cs (set alive (get_or numbers i 0 - 1) false)) (drop (i + 1) numbers)
 after_one cs alive numbers i h n = rw (drop-cons numbers i 0 h, add-one i) (ap (λ (known : List (Option (List Literal))). known_after known (drop (suc i) numbers)) (without-known_of cs alive (get_or numbers i 0) n))
 
--- if the number at index i has no clause, the numbers cannot be deleted
+-- if the number at index i has no clause, the clauses with the numbers from i on cannot all be deleted
 pub deletes_none : (cs : List (List Literal)) (alive : List Bool) (numbers : List ℕ) (i : ℕ) → i < length numbers → is_some (clause_of (known_of cs alive) (get_or numbers i 0)) ≡ false → are_deletable (known_of cs alive) (drop i numbers) ≡ false
 deletes_none cs alive numbers i h e = rw (drop-cons numbers i 0 h, e) refl
 

@@ -1,4 +1,4 @@
--- A refutation, whose last clause is empty, leaves no set of true variables that satisfies the clauses.
+-- Refutations are sound: if steps refute the clauses, no set of true variables satisfies them.
 use Rattle.std.proofs.Common.{◌≡◌, ℕ, zero, suc, Bool, true, false, cond, not, ◌&&◌, ◌||◌, List, [], ◌∷◌, ◌++◌, Option, Some, None, refl, ap, sym, ◌∙◌, subst, inl, inr, ◌⊎◌, get_or, map}
 use Rattle.std.specs.List.{list_any, list_all, filter, All, slice_get, slice_set}
 use Rattle.std.specs.Option.{option_map_or, option_and_then}
@@ -35,7 +35,7 @@ same_literal-eq a b h =
 pub same_literal-refl : (l : Literal) → same_literal l l ≡ true
 same_literal-refl l = and_from _ _ (eq-eqb l.variable l.variable refl) (beq_same l.positive)
 
--- each literal that passes the test is false under the set
+-- each literal that the test calls false is false under the set
 abbrev pub MarksFalse : (ℕ → Bool) → (Literal → Bool) → Type 0
 MarksFalse set is_false = (l : Literal) → is_false l ≡ true → is_true_under set l ≡ false
 
@@ -43,7 +43,7 @@ or_left_out : (a b : Bool) → a ≡ false → (a || b) ≡ true → b ≡ true
 or_left_out true b e h = cc
 or_left_out false b e h = h
 
--- a true literal is among those that are not marked
+-- if some literal of the clause is true, one that the test does not call false is true
 kept_true : (set : ℕ → Bool) (is_false : Literal → Bool) (clause : List Literal) → MarksFalse set is_false → list_any (is_true_under set) clause ≡ true → list_any (is_true_under set) (filter (λ l. not (is_false l)) clause) ≡ true
 kept_true set is_false [] m h = h
 kept_true set is_false (l ∷ clause) m h =
@@ -54,7 +54,7 @@ kept_true set is_false (l ∷ clause) m h =
     ] e in
     go (is_false l) refl
 
--- literals that are all the same as a false one are false
+-- if all literals are equal to a false one, none of them is true
 same_false : (set : ℕ → Bool) (l : Literal) (rest : List Literal) → list_all (same_literal l) rest ≡ true → is_true_under set l ≡ false → list_any (is_true_under set) rest ≡ false
 same_false set l [] h e = refl
 same_false set l (m ∷ rest) h e =
@@ -87,7 +87,7 @@ finding_of_true set is_false (l ∷ rest) h = (
 abbrev pub TrueIfKnown : (ℕ → Bool) → Option (List Literal) → Type 0
 TrueIfKnown set o = (c : List Literal) → o ≡ Some c → is_clause_true set c ≡ true
 
--- each clause that is known is true
+-- each known clause is true
 abbrev pub KnownTrue : (ℕ → Bool) → List (Option (List Literal)) → Type 0
 KnownTrue set known = All (TrueIfKnown set) known
 
@@ -98,7 +98,7 @@ and_then_some : (o : Option (Option (List Literal))) (c : List Literal) → opti
 and_then_some None c h = absurd (cc)
 and_then_some (Some o) c h = ap (λ (x : Option (List Literal)). Some x) h
 
--- the clause of a number is one of those known
+-- the clause with a number is a known clause, so it is true if all known clauses are
 clause_of_known : (set : ℕ → Bool) (known : List (Option (List Literal))) (n : ℕ) (c : List Literal) → KnownTrue set known → clause_of known n ≡ Some c → is_clause_true set c ≡ true
 clause_of_known set known zero c a e = absurd (cc)
 clause_of_known set known (suc k) c a e =
@@ -110,7 +110,7 @@ followed Falsified is_last next h = inl refl
 followed (Forced l) is_last next h = inr (l, refl, h)
 followed Open is_last next h = absurd (cc)
 
--- the same for the clause of a hint
+-- if the clause of a hint is true, it is not falsified, and a literal that it forces is true
 hint_true_at : (set : ℕ → Bool) (is_false : Literal → Bool) → MarksFalse set is_false → (o : Option (List Literal)) → ((c : List Literal) → o ≡ Some c → is_clause_true set c ≡ true) → (option_map_or (finding is_false) o Open ≡ Falsified → ⊥) × ((l : Literal) → option_map_or (finding is_false) o Open ≡ Forced l → is_true_under set l ≡ true)
 hint_true_at set is_false m None t = (λ e. cc, λ l e. absurd (cc))
 hint_true_at set is_false m (Some c) t = finding_of_true set is_false _ (kept_true set is_false c m (t c refl))
@@ -122,7 +122,7 @@ marks_more set falses l m t x h =
       | inr a ↦ m x a
     ]
 
--- hints do not end in a conflict where the clauses are true and the marked literals false
+-- hints do not end in a conflict if the known clauses are true and the marked literals are false
 conflict_false : (set : ℕ → Bool) (known : List (Option (List Literal))) (falses : List Literal) (hints : List ℕ) → KnownTrue set known → MarksFalse set (is_among falses) → is_conflict known falses hints ≡ true → ⊥
 conflict_false set known falses [] s m h = false≢true h
 conflict_false set known falses (n ∷ hints) s m h =
@@ -146,7 +146,7 @@ empty_false : (set : ℕ → Bool) (clause : List Literal) → is_empty clause �
 empty_false set [] h t = false≢true t
 empty_false set (l ∷ clause) h t = false≢true h
 
--- a right step's clause is true if the known clauses are true
+-- the clause of a right step is true if the known clauses are true
 step_true : (set : ℕ → Bool) (n : ℕ) (known : List (Option (List Literal))) (step : Step) → KnownTrue set known → is_right n known step ≡ true → is_clause_true set step.clause ≡ true
 step_true set n known step s h =
     let c = (and_parts (is_conflict known step.clause step.hints) _ (and_parts (is_proper n step.clause) _ h).1).0 in
@@ -171,6 +171,6 @@ refutes_false set n known (step ∷ steps) s h =
       | inr r ↦ refutes_false set n (known_after known step.deletes ++ Some step.clause ∷ []) steps (All-push (TrueIfKnown set) _ (Some step.clause) (after_true set known step.deletes s) (λ c e. let q : step.clause ≡ c = some_eq _ _ e in subst (λ (x : List Literal). is_clause_true set x ≡ true) q t)) r
     ]
 
--- a refutation is sound: if its steps are right, nothing satisfies the clauses
+-- a refutation is sound: if the steps refute the clauses, no set of true variables satisfies them
 pub refutes_sound : (n : ℕ) (clauses : List (List Literal)) (steps : List Step) → refutes n clauses steps ≡ true → (set : ℕ → Bool) → Satisfies set clauses → ⊥
 refutes_sound n clauses steps h set s = refutes_false set n (map (λ c. Some c) clauses) steps (All-map (TrueIfKnown set) (λ c. Some c) clauses (λ k d l c e. let q : get_or clauses k d ≡ c = some_eq _ _ e in subst (λ (x : List Literal). is_clause_true set x ≡ true) q (s k d l))) h

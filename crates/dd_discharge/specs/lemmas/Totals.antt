@@ -36,12 +36,12 @@ total_none : (n : ℕ) → total_below (λ j. pos 0) n ≡ pos 0
 total_none zero = refl
 total_none (suc n) = let rest = total_none n in omega (arith, ints, rest)
 
--- a double sum, row by row or column by column
+-- a double sum is the same row by row and column by column
 pub total_swap : (f : ℕ → ℕ → ℤ) (m n : ℕ) → total_below (λ k. total_below (f k) n) m ≡ total_below (λ j. total_below (λ k. f k j) m) n
 total_swap f zero n = sym (total_none n)
 total_swap f (suc m) n = ap (λ (t : ℤ). t +ℤ total_below (f m) n) (total_swap f m n) ∙ sym (total_sum (λ j. total_below (λ k. f k j) m) (f m) n)
 
--- a sum is at least its first part if the others are at least 0
+-- a sum is at least a if its first term is at least a and the others are at least 0
 pub total_first : (f : ℕ → ℤ) (n : ℕ) (a : ℤ) → 0 < n → a ≤ℤ f 0 → ((j : ℕ) → 1 ≤ j → j < n → pos 0 ≤ℤ f j) → a ≤ℤ total_below f n
 total_first f zero a z p h = absurd (omega (arith, z))
 total_first f (suc zero) a z p h = omega (arith, ints, p)

@@ -1,4 +1,4 @@
--- Products of whole numbers. An expression becomes one difference of naturals, over which `omega` multiplies out.
+-- Products of whole numbers. An expression is rewritten as one difference of natural numbers, in which `omega` multiplies out.
 use Rattle.std.proofs.Common.{◌≡◌, ℕ, zero, suc, ◌+◌, ◌*◌, ◌<◌, ap, ◌∙◌, arith}
 use Rattle.std.proofs.{Math.Nat.eq_of_mul-eq-mul_right, lemmas.Int.ints, lemmas.Int.by_lt_z}
 use lib.IntN.{ℤ, pos, neg_ℤ, ◌+ℤ◌, ◌-ℤ◌, ◌*ℤ◌, *ℤ_comm}
@@ -29,7 +29,7 @@ scaled_le y a b p q =
 pub scaled_right : (a b y : ℤ) → pos 0 ≤ℤ y → a ≤ℤ b → (a *ℤ y) ≤ℤ (b *ℤ y)
 scaled_right a b y p q = let e = *ℤ_comm a y in let f = *ℤ_comm b y in let d = scaled_le y a b p q in omega (arith, ints, d, e, f)
 
--- a positive factor on both sides may be left out
+-- a positive factor on both sides may be cancelled
 pub cancel_le : (x y : ℤ) (k : ℕ) → 0 < k → (x *ℤ pos k) ≤ℤ (y *ℤ pos k) → x ≤ℤ y
 cancel_le x y k z h = by_lt_z y x below (λ p. p)
   where

@@ -8,12 +8,12 @@ use Rattle.dd_derivation.specs.Derivations.{is_literal_in_range, is_among, is_co
 use Rattle.dd_engines.specs.declared.{analysis.Entry.Entry, propagation.Progress.Progress}
 use Rattle.dd_engines.specs.declared.propagation.Progress.TheVariants.{Conflict, More, Settled}
 
--- there is a value, and it is not this sign
+-- there is a value, and it differs from this sign
 abbrev pub is_other : Bool → Option Bool → Bool
 is_other positive None = false
 is_other positive (Some value) = not (beq value positive)
 
--- the literal is false by the values
+-- the literal is false under the values
 abbrev pub is_false_by : List (Option Bool) → Literal → Bool
 is_false_by values l =
     if is_literal_in_range (length values) l then is_other l.positive (slice_index_or values (l.variable - 1) None) else false
@@ -26,15 +26,15 @@ unknown_count (Some value) = 0
 abbrev pub unknowns : List (Option Bool) → ℕ
 unknowns values = sum_by unknown_count values
 
--- the clauses by number, none of them deleted
+-- the clauses by number, with none deleted
 abbrev pub alive : List (List Literal) → List (Option (List Literal))
 alive clauses = map (λ c. Some c) clauses
 
--- the literals that are false, by the entries
+-- the literals that the entries make false
 abbrev pub falses : List Entry → List Literal
 falses entries = map (λ e. negation e.literal) entries
 
--- the entry's clause forces its literal once the older entries are true
+-- once the literals of the older entries are true, the entry's clause forces the entry's literal
 pub record IsForced (clauses : List (List Literal)) (older : List Entry) (e : Entry) : Type 0 where
   pub within : e.number < length clauses
   pub forced : finding (is_among (falses older)) (slice_index_or clauses e.number []) ≡ Forced e.literal
@@ -43,12 +43,12 @@ pub record IsForced (clauses : List (List Literal)) (older : List Entry) (e : En
 abbrev pub IsTrail : List (List Literal) → List Entry → Type 0
 IsTrail clauses entries = (k : ℕ) (d : Entry) → k < length entries → IsForced clauses (take k entries) (slice_index_or entries k d)
 
--- by the entries, all literals of the clause with this number are false
+-- the entries make all literals of the clause with this number false
 pub record IsFalsified (clauses : List (List Literal)) (entries : List Entry) (number : ℕ) : Type 0 where
   pub within : number < length clauses
   pub falsified : finding (is_among (falses entries)) (slice_index_or clauses number []) ≡ Falsified
 
--- each entry follows from the older ones, and the entries make the same literals false as the values
+-- each entry follows from the older ones, and the entries and the values make the same literals false
 pub record Follows (clauses : List (List Literal)) (entries : List Entry) (values : List (Option Bool)) : Type 0 where
   pub agree : (l : Literal) → is_false_by values l ≡ is_among (falses entries) l
   pub trail : IsTrail clauses entries
@@ -57,34 +57,34 @@ pub record Follows (clauses : List (List Literal)) (entries : List Entry) (value
 abbrev pub Ends : List (List Literal) → List ℕ → Type 0
 Ends clauses hints = is_conflict (alive clauses) [] hints ≡ true
 
--- the entries follow, and lead to a conflict
+-- each entry follows from the older ones, and the clause with this number is a conflict: the entries make all its literals false
 abbrev pub Conflicts : List (List Literal) → List Entry → ℕ → Type 0
 Conflicts clauses entries number = IsTrail clauses entries × IsFalsified clauses entries number
 
--- by the values, the clause is not falsified and forces no literal
+-- under the values, the clause is not falsified and forces no literal
 abbrev pub IsSettled : List (Option Bool) → List Literal → Type 0
 IsSettled values clause = finding (is_false_by values) clause ≡ Open
 
--- at least one more value follows
+-- the new entries and values follow, and fewer variables than before have no value
 pub record FollowsMore (clauses : List (List Literal)) (values : List (Option Bool)) (new_entries : List Entry) (new_values : List (Option Bool)) : Type 0 where
   pub follows : Follows clauses new_entries new_values
   pub fewer : unknowns new_values < unknowns values
 
--- what a look at the clause with this number leaves
+-- what holds after a look at the clause with this number, depending on what the look found
 abbrev pub Looked : List (List Literal) → ℕ → List Entry → List (Option Bool) → List Entry → List (Option Bool) → Finding → Type 0
 Looked clauses number entries values new_entries new_values Falsified = Conflicts clauses new_entries number
 Looked clauses number entries values new_entries new_values (Forced l) = FollowsMore clauses values new_entries new_values
 Looked clauses number entries values new_entries new_values Open =
     (new_entries ≡ entries) × (new_values ≡ values) × (number < length clauses → IsSettled values (slice_index_or clauses number []))
 
--- what a look at a clause, and at others after it, leaves
+-- what holds after a look at a clause and at the clauses that wait because of it, depending on how far propagation got
 abbrev pub Followed : List (List Literal) → ℕ → List Entry → List (Option Bool) → List Entry → List (Option Bool) → Progress → Type 0
 Followed clauses number entries values new_entries new_values (Conflict conflict) = Conflicts clauses new_entries conflict
 Followed clauses number entries values new_entries new_values More = FollowsMore clauses values new_entries new_values
 Followed clauses number entries values new_entries new_values Settled =
     (new_entries ≡ entries) × (new_values ≡ values) × (number < length clauses → IsSettled values (slice_index_or clauses number []))
 
--- what a pass over all clauses leaves
+-- what holds after a pass over all clauses, depending on how far propagation got
 abbrev pub Passed : List (List Literal) → List (Option Bool) → List Entry → List (Option Bool) → Progress → Type 0
 Passed clauses values new_entries new_values (Conflict conflict) = Conflicts clauses new_entries conflict
 Passed clauses values new_entries new_values More = FollowsMore clauses values new_entries new_values

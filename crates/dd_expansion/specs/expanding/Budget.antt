@@ -1,9 +1,9 @@
--- Budgets of instances: each instance of an expansion takes one.
+-- Budgets of instances: each instance of an expansion costs 1.
 use Rattle.std.specs.Prelude.{◌≡◌, ℕ, ◌+◌, ◌<◌, Result, Ok, Err}
 use Rattle.dd_expansion.specs.declared.fault.ExpansionFault.{ExpansionFault, TheVariants.Instances}
 
--- the value was made, and its cost was taken from the budget; or it was not made. The fault `Instances` says that the cost
--- is more than the budget before
+-- either the value was made, and its cost was taken from the budget; or it was not made. The fault `Instances` says that the cost exceeds the
+-- budget before the call
 abbrev pub IsPaid : {T : Type 0} → ℕ → ℕ → T → ℕ → Result T ExpansionFault → Type 0
 IsPaid before after value cost (Ok made) = (made ≡ value) × (after + cost ≡ before)
 IsPaid before after value cost (Err fault) = fault ≡ Instances → before < cost

@@ -1,4 +1,4 @@
--- How far cells are from the origin.
+-- How far cells lie from the origin.
 use Rattle.std.specs.{Prelude.ℕ, Prelude.◌≤◌, Prelude.List, List.All}
 use Rattle.dd_lattice.specs.declared.position.Cell.{Cell}
 use Rattle.dd_topology.specs.Topology.{extent}

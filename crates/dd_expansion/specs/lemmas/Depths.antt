@@ -1,4 +1,4 @@
--- Depths of formulas, and the greatest of a list.
+-- Depths of formulas, and the greatest number of a list.
 use Rattle.std.proofs.Common.{suc, arith, ◌∷◌, List, get_or, [], zero, ℕ, ◌≤◌, map, length, ◌<◌, ◌≡◌, sym, ◌+◌, ◌∙◌, ap}
 use Rattle.dd_expansion.specs.{Limits.greatest, Limits.depth, Limits.depth_step, declared.formulas.Formula.Formula}
 use Rattle.dd_expansion.specs.declared.formulas.{Formula.TheFolds.fold-roll-Formula, BallOf.BallOf}

@@ -1,4 +1,4 @@
--- The truth depends only on the symbols at the leaves, or at the cells that are read.
+-- The truth of an expansion depends only on the symbols at its leaves.
 use Rattle.std.proofs.Common.{◌≡◌, ℕ, Bool, true, List, [], ◌∷◌, map, refl, ap}
 use Rattle.std.proofs.lemmas.Bool.{and_parts}
 use Rattle.std.specs.{Prelude.not, Prelude.is_some, List.list_all, List.list_any}
@@ -9,11 +9,11 @@ use Rattle.dd_expansion.specs.declared.expanded.Expanded.TheFolds.{fold-roll-Exp
 use Rattle.dd_expansion.specs.{declared.expanded.Expanded.TheOpen.Expanded-F, Truth.is_symbol}
 use Rattle.dd_expansion.specs.Leaves.{LeafTest, holds, holds_step, leaves_pass, leaves_pass_step, given}
 
--- at each leaf that passes the test, both looks give the leaf's symbol or neither does
+-- at each leaf that passes the test, either both look-ups give the leaf's symbol or neither does
 abbrev pub AgreeAt : LeafTest → Look → Look → Type 0
 AgreeAt p look other = (c : Cell) (s : ℕ) → p c s ≡ true → is_symbol s (look c) ≡ is_symbol s (other c)
 
--- wherever the first gives a symbol, the second gives that symbol
+-- wherever the first look-up gives a symbol, the second gives the same symbol
 abbrev pub Extends : Look → Look → Type 0
 Extends less more = (c : Cell) → is_some (less c) ≡ true → less c ≡ more c
 
@@ -56,6 +56,6 @@ pub holds_agree : (e : Expanded) → Agrees e
 holds_agree = ind-Expanded Agrees (λ x y is p look other agree.
     rw (fold-roll-Expanded (Look → Bool) holds_step x, fold-roll-Expanded Bool (leaves_pass_step p) x, ← is) (step_agrees p look other agree y))
 
--- where the first look gives a symbol to each leaf, more symbols change nothing
+-- if the first look-up gives a symbol at each leaf, a look-up that extends it gives the same truth value
 pub holds_keeps : (e : Expanded) (less more : Look) → Extends less more → given e less ≡ true → holds e less ≡ holds e more
 holds_keeps e less more extends = holds_agree e (λ c s. is_some (less c)) less more (λ c s h. ap (is_symbol s) (extends c h))

@@ -1,4 +1,4 @@
--- What follows from a test of each leaf.
+-- What follows if each leaf of an expansion passes a test.
 use Rattle.std.proofs.Common.{◌≡◌, ℕ, Bool, true, List, [], ◌∷◌, map, refl}
 use Rattle.std.proofs.lemmas.{Bool.and_parts, List.Folds.list_all-append}
 use Rattle.std.specs.{Prelude.◌&&◌, Prelude.is_some, List.list_all, List.flat_map}
@@ -9,11 +9,11 @@ use Rattle.dd_expansion.specs.declared.expanded.Expanded.TheOpen.{Expanded-F}
 use Rattle.dd_expansion.specs.Leaves.{LeafTest, leaves_pass, leaves_pass_step, leaf_cells, leaf_cells_step}
 use Rattle.dd_values.specs.lemmas.Booleans.{and_true, and_four}
 
--- the first test is passed only where the second is
+-- each leaf that passes the first test passes the second
 abbrev pub IsStronger : LeafTest → LeafTest → Type 0
 IsStronger p q = (c : Cell) (s : ℕ) → p c s ≡ true → q c s ≡ true
 
--- leaves that pass a test pass each weaker test
+-- if all leaves pass a test, they pass each weaker test
 abbrev Weakens : Expanded → Type 0
 Weakens e = (p q : LeafTest) → IsStronger p q → leaves_pass p e ≡ true → leaves_pass q e ≡ true
 
@@ -48,7 +48,7 @@ leaves_weaken = ind-Expanded Weakens (λ x y is p q w.
 abbrev both_tests : LeafTest → LeafTest → LeafTest
 both_tests p q c s = p c s && q c s
 
--- passing two tests at once is passing each
+-- the leaves pass two tests at once exactly if they pass each of the two
 abbrev Joins : Expanded → Type 0
 Joins e = (p q : LeafTest) → leaves_pass (λ c s. p c s && q c s) e ≡ (leaves_pass p e && leaves_pass q e)
 
@@ -85,7 +85,7 @@ leaves_both = ind-Expanded Joins (λ x y is p q.
       ← is,
     ) (step_joins y p q))
 
--- a test of the leaves' cells alone
+-- the leaves pass a test that looks only at their cells exactly if each cell of the list `leaf_cells` passes it
 abbrev TestsCells : Expanded → Type 0
 TestsCells e = (test : Cell → Bool) → leaves_pass (λ c s. test c) e ≡ list_all test (leaf_cells e)
 

@@ -1,4 +1,4 @@
--- The leaves of an expansion are at the cells that the formula reads, and have its symbols.
+-- The leaves of a formula's expansion are at the cells that the formula reads, and their symbols are symbols of the alphabet.
 use Rattle.std.proofs.Common.{◌≡◌, ◌<◌, ◌≤◌, ℕ, zero, suc, ◌+◌, Bool, true, false, List, [], ◌∷◌, ◌++◌, map, refl, ap, sym, ◌∙◌, Some, None, arith, Contains, subst}
 use Rattle.std.proofs.lemmas.Bool.{and_parts, and_from, lt-ltb}
 use Rattle.std.proofs.lemmas.List.Folds.{list_all-append, list_all-map}
@@ -24,7 +24,7 @@ use Rattle.dd_expansion.specs.lemmas.ListTests.{list_all-alike, list_all-flat_ma
 use Rattle.dd_expansion.specs.lemmas.LeafLaws.{leaves_are_cells}
 use Rattle.dd_values.specs.lemmas.Booleans.{and_true, and_same}
 
--- when the leaves of each form of expansion pass a test
+-- for each kind of expansion, when its leaves pass a test
 module _ (test : LeafTest) where
   pub leaves_of_constant : (b : Bool) → leaves_pass test (constant b) ≡ true
   leaves_of_constant b = fold-roll-Expanded Bool (leaves_pass_step test) (Expanded-F.Constant b)
@@ -53,7 +53,7 @@ module _ (test : LeafTest) where
       ∙ (list_all-map (leaves_pass test) (both_have c d) (range_with_len 0 n)
       ∙ list_all-alike (λ s. leaves_pass test (both_have c d s)) (λ s. test c s && (test d s && true)) (leaves_of_pair c d) (range_with_len 0 n))
 
-  -- a quantifier's parts, over the cells of its balls
+  -- the parts of a quantifier's expansion, one for each cell of its balls
   leaves_of_each : (f : Expansion) (env cs : List Cell) → list_all (leaves_pass test) (map (λ c. f (env ++ c ∷ [])) (in_order cs)) ≡ list_all (λ c. leaves_pass test (f (env ++ c ∷ []))) cs
   leaves_of_each f env cs =
       list_all-map (leaves_pass test) (λ c. f (env ++ c ∷ [])) (in_order cs) ∙ list_all-in_order (λ c. leaves_pass test (f (env ++ c ∷ []))) cs
@@ -83,7 +83,7 @@ module _ (test : Cell → Bool) where
   equal_reads : (n : ℕ) → 1 ≤ n → (c d : Cell) → leaves_pass (by_cell test) (equal_at n c d) ≡ (test c && (test d && true))
   equal_reads n some c d = leaves_of_equal (by_cell test) n c d ∙ all_in_range (test c && (test d && true)) n some
 
--- an atom that looks at no symbol has no leaf
+-- an atom about one cell, or about two: if its leaves pass the test whatever the cells are, they also pass it where a cell may be missing
 at_cell_passes : (test : LeafTest) (e : Cell → Expanded) → ((c : Cell) → leaves_pass test (e c) ≡ true) → (o : Option Cell) → leaves_pass test (at_cell e o) ≡ true
 at_cell_passes test e each None = leaves_of_constant test false
 at_cell_passes test e each (Some c) = each c
@@ -148,7 +148,7 @@ pub leaves_are_reads : (es : List Edge) (n : ℕ) → 1 ≤ n → (f : Formula) 
 leaves_are_reads es n some = ind-Formula (ReadsThose es n) (λ x y is env test.
     rw (fold-roll-Formula Expansion (expansion_step es n) x, fold-roll-Formula Reading (reads_step es) x, ← is) (step_reads es n some env test y))
 
--- two lists that pass the same tests have the same cells
+-- two lists of cells that pass the same tests have the same cells
 abbrev is_cell : Cell → Cell → Bool
 is_cell d c = is_eq (cell_cmp c d)
 
@@ -235,7 +235,7 @@ module _ (g : Grid) (n : ℕ) (es : List Edge) (env : List Cell) where
       let both = and_parts (balls_fit scope bs) (formula_fits g n f.0 (scope + 1)) h in
       leaves_of_any (by_symbol n) (map (λ c. expansion es n f.0 (env ++ c ∷ [])) (in_order (balls_of es env bs))) ∙ each_below f scope (balls_of es env bs) both.1
 
--- if the formula fits, the symbol of each leaf exists
+-- if the formula fits, the symbol of each leaf of its expansion is one of the n symbols
 pub leaves_are_symbols : (g : Grid) (n : ℕ) (f : Formula) → AreBelow g n f
 leaves_are_symbols g n = ind-Formula (AreBelow g n) (λ x y is es env scope.
     rw (fold-roll-Formula Expansion (expansion_step es n) x, fold-roll-Formula (ℕ → Bool) (formula_fits_step g n) x, ← is) (step_below g n es env y scope))

@@ -1,4 +1,4 @@
--- Tests of lists, by their elements.
+-- Tests of lists, from the tests of their elements.
 use Rattle.std.proofs.Common.{◌≡◌, List, [], ◌∷◌, map, Bool, true, false, refl, ap, sym, ◌∙◌}
 use Rattle.std.proofs.lemmas.{Bool.and_parts, Bool.and_from, List.Folds.list_all-append}
 use Rattle.std.specs.{Prelude.◌&&◌, Prelude.◌||◌, Prelude.not, List.list_all, List.list_any, List.flat_map}

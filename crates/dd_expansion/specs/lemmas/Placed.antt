@@ -1,4 +1,4 @@
--- A formula at cells of Z^d reads cells of Z^d.
+-- A formula whose variables stand for cells of Z^d reads only cells of Z^d.
 use Rattle.std.proofs.Common.{◌≡◌, ◌<◌, ◌≤◌, ℕ, zero, suc, Bool, true, false, List, [], ◌∷◌, ◌++◌, map, length, cond, refl, ◌∙◌, Some, None, arith, ℤ, pos, ◌+ℤ◌, ◌-ℤ◌, unsigned_abs}
 use Rattle.std.proofs.lemmas.Int.{ints}
 use Rattle.std.proofs.lemmas.Bool.{and_parts, and_from, or_right, leb-true, lt-ltb}
@@ -18,7 +18,7 @@ use Rattle.dd_expansion.specs.Terms.{walk, cell_of, ball_round, balls_of, origin
 use Rattle.dd_expansion.specs.{Reads.Reading, Reads.both_cells, Reads.reads, Reads.reads_step, Placed.is_flat, Placed.is_placed}
 use Rattle.dd_expansion.specs.lemmas.ListTests.{all_pass, list_all-flat_map, list_all-weaker}
 
--- along an axis past the dimension all coordinates are 0
+-- along an axis past the dimension coordinates are 0, and so are their sums
 pub sum_is_zero : (x o : ℤ) → int_eq x (pos 0) ≡ true → int_eq o (pos 0) ≡ true → int_eq (x +ℤ o) (pos 0) ≡ true
 sum_is_zero x o h h' =
     let a : x ≡ pos 0 = (Decides-int_eq x (pos 0)).0 h in
@@ -50,7 +50,7 @@ reversed_on_axis false o h =
     let none : pos 0 -ℤ o ≡ pos 0 = omega (arith, ints) in
     (Decides-int_eq (pos 0 -ℤ o) (pos 0)).1 none
 
--- an edge's offset, and the way back
+-- both an offset p and its reversal are positions of Z^d
 record Offsets (d : ℕ) (p : Place) : Type 0 where
   there : is_flat d p ≡ true
   back : is_flat d (reversed p) ≡ true
@@ -94,7 +94,7 @@ cond_passes p false c h = refl
 abbrev Reached : List Edge → (Cell → Bool) → Formula → Type 0
 Reached es p f = (env : List Cell) → list_all p env ≡ true → list_all p (reads es f env) ≡ true
 
--- each edge leads, forth and back, from cells that pass a test to cells that pass it
+-- each edge, followed in either direction, leads from cells that pass a test to cells that pass it
 module _ (es : List Edge) (p : Cell → Bool) (q : Edge → Bool) (edges : list_all q es ≡ true)
     (forth : (c : Cell) (e : Edge) → p c ≡ true → q e ≡ true → p (end_of c e) ≡ true)
     (back : (c : Cell) (e : Edge) → p c ≡ true → q e ≡ true → p (start_of c e) ≡ true) where
@@ -165,7 +165,7 @@ module _ (es : List Edge) (p : Cell → Bool) (q : Edge → Bool) (edges : list_
   step_passes_reads (Formula-F.ForAll bs f) env h = each_passes f env (balls_of es env bs) h (balls_pass env bs h)
   step_passes_reads (Formula-F.Exists bs f) env h = each_passes f env (balls_of es env bs) h (balls_pass env bs h)
 
-  -- what a formula reads from cells that pass passes
+  -- if the cells of the variables pass the test, so do all cells that the formula reads
   pub reads_pass : (f : Formula) → Reached es p f
   reads_pass = ind-Formula (Reached es p) (λ x y is env.
       rw (fold-roll-Formula Reading (reads_step es) x, ← is) (step_passes_reads y env))

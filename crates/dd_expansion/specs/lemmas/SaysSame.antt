@@ -1,4 +1,4 @@
--- The expansion of a formula says what the formula says.
+-- The expansion of a formula has the same truth value as the formula.
 use Rattle.std.proofs.Common.{◌≡◌, ℕ, ◌<◌, Bool, true, false, List, [], ◌∷◌, ◌++◌, map, length, get_or, refl, ap, sym, ◌∙◌, Some, None, arith, eq-eqb, inl, inr}
 use Rattle.std.proofs.lemmas.Bool.{and_from, and_right, cases_Bool, Decides.nat_tests}
 use Rattle.std.proofs.lemmas.List.Folds.{list_all-map, list_any_at}
@@ -38,7 +38,7 @@ holds_any_of es look = ap (λ h. h look) (fold-roll-Expanded (Look → Bool) hol
 pub holds_both_alike : (e f : Expanded) (look : Look) → holds (both_alike e f) look ≡ beq (holds e look) (holds f look)
 holds_both_alike e f look = ap (λ h. h look) (fold-roll-Expanded (Look → Bool) holds_step (Expanded-F.Iff e f))
 
--- some symbol below n is that of both cells exactly if they have the same symbol and it is below n
+-- some symbol below n is the symbol of both cells exactly if they have the same symbol and it is below n
 abbrev are_both : Option ℕ → Option ℕ → ℕ → Bool
 are_both a b s = is_symbol s a && is_symbol s b
 
@@ -71,7 +71,7 @@ equal_says n c d look below =
     ∙ (list_any-alike (λ s. holds (both_have c d s) look) (are_both (look c) (look d)) (λ s. both_say c d s look) (range_with_len 0 n)
     ∙ symbols_say n (look c) (look d) (below c)))
 
--- an atom of a cell, or of two, whose parts say what they are to say
+-- an atom about one cell, or about two: if its expansion is right at every cell, it is right where a cell may be missing
 at_cell_says : (e : Cell → Expanded) (p : Cell → Bool) (look : Look) → ((c : Cell) → holds (e c) look ≡ p c) → (o : Option Cell) → holds (at_cell e o) look ≡ on_cell p o
 at_cell_says e p look same None = holds_constant false look
 at_cell_says e p look same (Some c) = same c
@@ -95,7 +95,7 @@ module _ (es : List Edge) (n : ℕ) (env : List Cell) (look : Look) (below : Has
   any_say [] = refl
   any_say (f ∷ fs) = rw (f.1 env look below, any_say fs)
 
-  -- each cell of the balls in place of the variable
+  -- each cell of the balls takes the place of the quantifier's variable
   for_all_says : (f : Known (SaysSame es n)) (cs : List Cell) →
       holds (all_of (map (λ c. expansion es n f.0 (env ++ c ∷ [])) (in_order cs))) look ≡ list_all (λ c. truth es f.0 (env ++ c ∷ []) look) cs
   for_all_says f cs =

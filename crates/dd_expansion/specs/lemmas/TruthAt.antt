@@ -1,4 +1,4 @@
--- What the expansion at the origin says of the symbols near a cell is what the formula says there.
+-- The expansion at the origin, given the symbols as seen from a cell, has the truth value of the formula at that cell.
 use Rattle.std.proofs.Common.{◌≡◌, ◌≤◌, ℕ, Bool, true, false, List, [], ◌∷◌, refl, ap, sym, ◌∙◌, Some, None, cond}
 use Rattle.std.proofs.lemmas.Bool.{cond_both}
 use Rattle.std.specs.{Prelude.is_some, List.list_all}
@@ -36,7 +36,7 @@ same_where : {A : Type 0} (b : Bool) (x y : A) → (b ≡ true → x ≡ y) → 
 same_where true x y h = ap Some (h refl)
 same_where false x y h = refl
 
--- the same where an answer is given only if each cell that is read has a symbol
+-- the same, with an answer only if each cell that is read has a symbol
 pub truth_where_given : (es : List Edge) (n : ℕ) (f : Formula) (c : Cell) (look : Look) → 1 ≤ n → HasSymbolsBelow n look →
     cond (given (expansion es n f (origin_at c.node ∷ [])) (seen look c.position)) (Some (holds (expansion es n f (origin_at c.node ∷ [])) (seen look c.position))) None
     ≡ cond (list_all (λ d. is_some (seen look c.position d)) (reads es f (origin_at c.node ∷ []))) (Some (truth es f (c ∷ []) look)) None

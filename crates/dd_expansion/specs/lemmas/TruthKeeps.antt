@@ -1,4 +1,4 @@
--- What a formula says depends only on the symbols at the cells that it reads.
+-- The truth of a formula depends only on the symbols at the cells that it reads.
 use Rattle.std.proofs.Common.{◌≡◌, ℕ, Bool, true, List, [], ◌∷◌, ◌++◌, map, refl, ap, sym, ◌∙◌, Some, None}
 use Rattle.std.proofs.lemmas.{Bool.and_parts, List.Folds.list_all-append}
 use Rattle.std.specs.{Prelude.◌&&◌, Prelude.not, Prelude.is_some, Prelude.Option, List.list_all, List.list_any, List.flat_map}
@@ -13,7 +13,7 @@ use Rattle.dd_expansion.specs.{declared.formulas.Formula.TheOpen.Formula-F, Term
 use Rattle.dd_expansion.specs.Truth.{Truth, is_symbol, are_equal, truth, truth_step}
 use Rattle.dd_expansion.specs.{Reads.Reading, Reads.both_cells, Reads.reads, Reads.reads_step, lemmas.Shifting.truth_shifted}
 
--- the two looks give the same at the cells that pass a test
+-- the two look-ups agree at the cells that pass a test
 abbrev pub AgreeOn : (Cell → Bool) → Look → Look → Type 0
 AgreeOn p look other = (c : Cell) → p c ≡ true → look c ≡ other c
 
@@ -32,7 +32,7 @@ abbrev Depends : List Edge → Formula → Type 0
 Depends es f = (env : List Cell) (p : Cell → Bool) (look other : Look) → AgreeOn p look other → list_all p (reads es f env) ≡ true → truth es f env look ≡ truth es f env other
 
 module _ (es : List Edge) (env : List Cell) (p : Cell → Bool) (look other : Look) (agree : AgreeOn p look other) where
-  -- the reads of a list's first member, and those of the others
+  -- if all reads of a list of formulas pass the test, so do the reads of the first formula, and those of the others
   first_and_rest : (f : Known (Depends es)) (fs : List (Known (Depends es))) → list_all p (flat_map (λ r. r env) (map (reads es) (map (λ e. e.0) (f ∷ fs)))) ≡ true →
       (list_all p (reads es f.0 env) ≡ true) × (list_all p (flat_map (λ r. r env) (map (reads es) (map (λ e. e.0) fs))) ≡ true)
   first_and_rest f fs h =
@@ -54,7 +54,7 @@ module _ (es : List Edge) (env : List Cell) (p : Cell → Bool) (look other : Lo
       let both = and_parts (list_all p (reads es f.0 env)) (list_all p (reads es f'.0 env)) (sym (list_all-append p (reads es f.0 env) (reads es f'.0 env)) ∙ h) in
       (f.1 env p look other agree both.0, f'.1 env p look other agree both.1)
 
-  -- the reads of the first cell of a ball, and those of the others
+  -- likewise, for a quantifier's body, the reads at the first cell of a ball, and those at the other cells
   first_cell : (f : Known (Depends es)) (c : Cell) (cs : List Cell) → list_all p (flat_map (λ d. reads es f.0 (env ++ d ∷ [])) (c ∷ cs)) ≡ true →
       (list_all p (reads es f.0 (env ++ c ∷ [])) ≡ true) × (list_all p (flat_map (λ d. reads es f.0 (env ++ d ∷ [])) cs) ≡ true)
   first_cell f c cs h =
@@ -92,7 +92,7 @@ pub truth_depends : (es : List Edge) (f : Formula) → Depends es f
 truth_depends es = ind-Formula (Depends es) (λ x y is env p look other agree.
     rw (fold-roll-Formula Truth (truth_step es) x, fold-roll-Formula Reading (reads_step es) x, ← is) (step_depends es env p look other agree y))
 
--- if the cells read have the same symbols, relative to u in one configuration and to v in the other, the truth is the same
+-- if each cell that is read has the same symbol relative to u in one configuration as relative to v in the other, the truth is the same
 pub truth_keeps : (es : List Edge) (f : Formula) (env : List Cell) (less more : Look) (u v : Place) →
     ((c : Cell) → is_some (less (shifted u c)) ≡ true → less (shifted u c) ≡ more (shifted v c)) →
     list_all (λ c. is_some (less (shifted u c))) (reads es f env) ≡ true → truth es f (map (shifted u) env) less ≡ truth es f (map (shifted v) env) more

@@ -9,7 +9,7 @@ pub both_nil : {X : Type 0} (xs ys : List X) → xs ++ ys ≡ [] → (xs ≡ [])
 both_nil [] ys e = (refl, e)
 both_nil (x ∷ xs) ys e = absurd cc
 
--- what holds of each element without a fault holds of all, if no element has a fault
+-- if each element without a fault has the property P, and no element has a fault, then all elements have P
 pub all_where : {X Y : Type 0} (P : X → Type 0) (f : X → List Y) → ((x : X) → f x ≡ [] → P x) → (xs : List X) → flat_map f xs ≡ [] → All P xs
 all_where P f each [] h = All-nil P
 all_where P f each (x ∷ xs) h = (let parts = both_nil (f x) (flat_map f xs) h in All-cons P x xs (each x parts.0) (all_where P f each xs parts.1))
@@ -22,7 +22,7 @@ pub within : (b : Bool) (l : Limit) → over b l ≡ [] → b ≡ false
 within true l e = absurd cc
 within false l e = refl
 
--- what `grind` needs for taking apart a list without faults
+-- what `grind` needs to take apart a list of faults that is empty
 pub ruleset parts = (common_steps, both_nil, fits, within)
 
 -- a name that is not missing has an index below the number of names

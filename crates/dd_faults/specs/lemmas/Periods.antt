@@ -1,4 +1,4 @@
--- Each axis that has no entry has the period 1.
+-- The period along an axis that has no entry is 1.
 use Rattle.std.proofs.Common.{◌≡◌, ℕ, ◌≤◌, zero, suc, List, [], ◌∷◌, length, refl, arith}
 use Rattle.std.specs.{Prelude.slice_get, Option.option_map_or}
 use Rattle.dd_faults.specs.{Tree.Entry, Commands.entry_value}

@@ -1,4 +1,4 @@
--- A rule's numbered expansion says what the rule says, and the cells that are read have the rule's nodes.
+-- A rule's numbered expansion is true exactly where the rule is. In it, numbers stand for cells. The cells that a rule reads have nodes of the rule.
 use Rattle.std.specs.{Prelude.All, List.position_or_len, List.list_all, List.fold, Ordering.is_eq, BTreeSet.insert_key}
 use Rattle.dd_pattern.specs.{Reading.HasSymbolsBelow, Reading.Look, Filling.filling_look, Filling.filled}
 use Rattle.dd_lattice.specs.{Order.cell_cmp, declared.position.Cell.Cell, Cells.shifted, Cells.cell, Place.Place, Place.place}
@@ -15,7 +15,7 @@ use Rattle.dd_numbered.specs.{declared.numbered.Numbered.Numbered, Numbered.hold
 pub look_below : (n : ℕ) (cs : List Cell) (ss : List ℕ) → All (λ s. s < n) ss → HasSymbolsBelow n (filling_look (filled cs ss))
 look_below n cs ss below c = below_at n ss below (position_or_len (λ d. is_eq (cell_cmp d c)) cs)
 
--- the expansion, with its cells counted from a position, is true exactly where the rule is
+-- at each position v, the expansion, with its cells taken relative to v, is true exactly if the rule is true
 abbrev pub SaysTruth : LocalRule → ℕ → Expanded → Type 0
 SaysTruth r a e = (look : Look) → HasSymbolsBelow r.symbols look → (v : Place) → holds e (λ c. look (shifted v c)) ≡ is_true r (cell v a) look
 
@@ -25,7 +25,7 @@ says_at_origin r a e ss truth below =
     let same : (λ (c : Cell). look (shifted (place (pos 0) (pos 0) (pos 0)) c)) ≡ look = fun_ext (λ c. ap look (shifted_by_origin c)) in
     ap (holds e) (sym same) ∙ truth look (look_below r.symbols (cells_at r a) ss below) (place (pos 0) (pos 0) (pos 0))
 
--- the numbered formula says what the expansion says, if the numbers are the places of the cells that are read
+-- the numbered formula says what the rule says, if it says what the expansion says when numbers stand for the cells that are read, in order
 pub says_rule : (r : LocalRule) (a : ℕ) (e : Numbered) (x : Expanded) (cs : List Cell) → SaysTruth r a x → cs ≡ cells_at r a →
     ((ss : List ℕ) → holds_in e ss ≡ holds x (read_by (by_rank cs) ss)) → SaysRule r a e
 says_rule r a e x cs truth is says ss below = says ss ∙ (ap (λ ds. holds x (filling_look (filled ds ss))) is ∙ says_at_origin r a x ss truth below)

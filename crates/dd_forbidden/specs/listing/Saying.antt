@@ -1,9 +1,9 @@
--- The formula that the search evaluates.
+-- What the formula that the search evaluates must say.
 use Rattle.std.specs.Prelude.{ℕ, ◌≡◌, List}
 use Rattle.dd_numbered.specs.{declared.numbered.Numbered.Numbered, Numbered.holds_in}
 use Rattle.dd_formula.specs.LocalRule.{LocalRule}
 use Rattle.dd_forbidden.specs.{Breaking.is_true_at_origin, listing.Extensions.AreSymbols}
 
--- whichever symbols the cells that are read have, in cell order, the formula is true of them exactly if the rule is true
+-- for all symbols ss of the cells that the rule reads, in cell order, the formula is true of ss exactly if the rule is true
 abbrev pub SaysRule : LocalRule → ℕ → Numbered → Type 0
 SaysRule r a e = (ss : List ℕ) → AreSymbols r ss → holds_in e ss ≡ is_true_at_origin r a ss

@@ -1,4 +1,4 @@
--- What is counted of an automaton, by what is counted of its parts, and what follows from its limits.
+-- The counts of an automaton, from the counts of its parts, and what follows from its limits.
 use Rattle.std.proofs.Common.{◌≡◌, ◌<◌, ◌≤◌, ℕ, zero, suc, ◌+◌, Bool, true, false, List, [], ◌∷◌, ◌++◌, Option, Some, None, MatchOption, length, get_or, map, max, refl, ap, sym, ◌∙◌, inl, inr, subst, arith}
 use Rattle.std.proofs.Math.Nat.{eq-or-lt_of_le}
 use Rattle.std.proofs.lemmas.Bool.{and_parts, and_from, leb-true, lt-ltb, ltb-true, eqb-true}
@@ -35,7 +35,7 @@ checks n = fold-Automaton Checked (limits_step n)
 checks_composed : (n : ℕ) (f g : Automaton) → checks n (v.Composed f g) ≡ limits_step n (Automaton-F.Composed (checks n f) (checks n g))
 checks_composed n f g = ap (checks n) (sym (v.rolls-Composed f g)) ∙ fold-roll-Automaton Checked (limits_step n) (Automaton-F.Composed f g)
 
--- beside the limits, `checks` has the same counts as `counted`
+-- the counts that `checks` holds are those of `counted`
 abbrev CountsThose : ℕ → Automaton → Type 0
 CountsThose n f = (checks n f).counts ≡ counted f
 
@@ -77,7 +77,7 @@ inner_part s f g h = record {
   within = (and_parts _ _ (and_parts _ _ (sym (within_composed s.nodes f g) ∙ h.within)).0).1;
 }
 
--- a well-formed automaton keeps the limits
+-- a well-formed automaton is within the limits
 abbrev IsLimited : ℕ → Automaton → Type 0
 IsLimited n f = are_within n f ≡ true → keeps_limits n (counted f) ≡ true
 
@@ -102,7 +102,7 @@ within_is n = ind-Automaton (IsLimited n) (λ x y is h.
     ap (keeps_limits n) (fold-roll-Automaton Counted counted_step x)
     ∙ subst (Follows n) is (step_limited n y) (ap (λ (c : Checked). c.within) (sym (fold-roll-Automaton Checked (limits_step n) x)) ∙ h))
 
--- where all numbers of a range pass a test, each one does
+-- if all numbers of a range pass a test, then each of them does
 pub range_at : (p : ℕ → Bool) (k n a : ℕ) → list_all p (range_with_len k n) ≡ true → k ≤ a → a < k + n → p a ≡ true
 range_at p k zero a h low high = absurd (omega arith)
 range_at p k (suc n) a h low high =
@@ -128,7 +128,7 @@ module _ (s : CommonNumbers) (f : Automaton) (h : IsAutomaton s f) where
   pub shallow : (counted f).depth ≤ 64
   shallow = leb-true _ _ parts_within.2
 
--- lists with the same members give the same list, when they are joined and put in cell order
+-- if g x and h x have the same members for each x, then the lists g x, joined and put in cell order, give the same list as the lists h x
 module _ (X : Type 0) (g h : X → List Cell) (same : (x : X) (p : Cell → Bool) → list_all p (g x) ≡ list_all p (h x)) where
   pub in_order_alike : (xs : List X) → in_order (flat_map g xs) ≡ in_order (flat_map h xs)
   in_order_alike xs =
@@ -137,7 +137,7 @@ module _ (X : Type 0) (g h : X → List Cell) (same : (x : X) (p : Cell → Bool
       ∙ (list_all-alike (λ x. list_all p (g x)) (λ x. list_all p (h x)) (λ x. same x p) xs
       ∙ sym (list_all-flat_map p h xs)))
 
--- what is read by cases, from what each rule reads in cell order
+-- the cells that the cases read, from the cells that each rule reads, in cell order
 pub reads_by_cases : (cases : List (LocalRule × ℕ)) (a : ℕ) → in_order (flat_map (λ case. cells_at case.0 a) cases) ≡ in_order (cases_reads cases a)
 reads_by_cases cases a =
     in_order_alike (LocalRule × ℕ) (λ case. cells_at case.0 a) (λ case. reads_at case.0 a) (λ case p. list_all-in_order p (reads_at case.0 a)) cases
@@ -163,7 +163,7 @@ first_in_order g cs =
     list_all-flat_map p (moved_cells g) (in_order cs)
     ∙ (list_all-in_order (λ c. list_all p (moved_cells g c)) cs ∙ sym (list_all-flat_map p (moved_cells g) cs)))
 
--- what a composition reads, from what its parts read in cell order
+-- the cells that a composition reads, from the cells that its parts read, in cell order
 pub reads_composed : (f g : Automaton) (a : ℕ) → cells_of (v.Composed f g) a ≡ in_order (flat_map (moved_cells g) (cells_of f a))
 reads_composed f g a =
     ap (λ h. in_order (h.reads a)) (counted_composed f g)
@@ -184,13 +184,13 @@ depth_composed f g = ap (λ h. h.depth) (counted_composed f g)
 
 pub ruleset layers = (reads_given, reads_composed, instances_given, instances_composed, depth_given, depth_composed)
 
--- where all elements of a list pass a test, each one does
+-- if all elements of a list pass a test, then each of them does
 pub passes_at : {X : Type 0} (p : X → Bool) (xs : List X) (i : ℕ) (x : X) → list_all p xs ≡ true → i < length xs → x ≡ get_or xs i x → p x ≡ true
 passes_at p [] i x h below is = absurd (omega arith)
 passes_at p (y ∷ ys) zero x h below is = ap p is ∙ (and_parts (p y) (list_all p ys) h).0
 passes_at p (y ∷ ys) (suc i) x h below is = passes_at p ys i x (and_parts (p y) (list_all p ys) h).1 (omega arith) is
 
--- a rule of a setting reads cells of it
+-- a rule that has the numbers of a setting reads only cells of the setting
 pub rule_reads : (s : CommonNumbers) (r : LocalRule) (a : ℕ) → IsRule r → rule_has s r ≡ true → a < s.nodes → list_all (is_cell_of s) (cells_at r a) ≡ true
 rule_reads s r a rule has below =
     let two = and_parts (r.dimension == s.dimension && r.nodes == s.nodes) (r.symbols == s.symbols) has in
@@ -201,19 +201,19 @@ rule_reads s r a rule has below =
     ∙ (list_all-alike (is_cell_of s) (is_of r) (λ c. ap (λ d. is_cell_in d s.nodes c) (sym dimension) ∙ ap (λ n. is_cell_in r.dimension n c) (sym nodes)) (reads_at r a)
     ∙ rule.placed a (omega arith))
 
--- the rule of a case is one of the setting
+-- if the cases fit a setting, then the rule of each case has its numbers
 pub case_has : (s : CommonNumbers) (cases : List (LocalRule × ℕ)) (otherwise i : ℕ) (case : LocalRule × ℕ) → cases_fit s cases otherwise ≡ true → i < length cases → case ≡ get_or cases i case → rule_has s case.0 ≡ true
 case_has s cases otherwise i case fit below is =
     let all = and_parts (list_all (λ c. rule_has s c.0 && nat_lt c.1 s.symbols) cases) (nat_lt otherwise s.symbols) fit in
     (and_parts (rule_has s case.0) (nat_lt case.1 s.symbols) (passes_at (λ c. rule_has s c.0 && nat_lt c.1 s.symbols) cases i case all.0 below is)).0
 
--- a rule of a setting has the setting's number of nodes
+-- a rule that has the numbers of a setting has its number of nodes
 pub rule_nodes : (s : CommonNumbers) (r : LocalRule) → rule_has s r ≡ true → r.nodes ≡ s.nodes
 rule_nodes s r has =
     let two = and_parts (r.dimension == s.dimension && r.nodes == s.nodes) (r.symbols == s.symbols) has in
     eqb-true r.nodes s.nodes (and_parts (r.dimension == s.dimension) (r.nodes == s.nodes) two.0).1
 
--- cells of a setting, moved by one of its positions, are cells of it
+-- if cells of a setting are moved by the position of a cell of the setting, they are still cells of the setting
 pub moved_placed : (s : CommonNumbers) (c : Cell) (ds : List Cell) → is_cell_of s c ≡ true → list_all (is_cell_of s) ds ≡ true → list_all (is_cell_of s) (map (shifted c.position) ds) ≡ true
 moved_placed s c ds here h =
     let flat = (and_parts (is_flat s.dimension c.position) (nat_lt c.node s.nodes) here).0 in
@@ -221,15 +221,15 @@ moved_placed s c ds here h =
     ∙ list_all-weaker (is_cell_of s) (λ d. is_cell_of s (shifted c.position d))
     (λ d there. let both = and_parts (is_flat s.dimension d.position) (nat_lt d.node s.nodes) there in and_from _ _ (flat_moved s.dimension d.position c.position both.0 flat) both.1) ds h
 
--- two lists that pass a test, joined, pass it
+-- if all elements of two lists pass a test, then so do those of the joined list
 pub passes_both : {X : Type 0} (p : X → Bool) (xs ys : List X) → list_all p xs ≡ true → list_all p ys ≡ true → list_all p (xs ++ ys) ≡ true
 passes_both p xs ys h h' = list_all-append p xs ys ∙ and_from (list_all p xs) (list_all p ys) h h'
 
--- each cell of a setting has one of its nodes
+-- each cell of a setting has one of the setting's nodes
 pub node_at : (s : CommonNumbers) (cs : List Cell) (i : ℕ) (c : Cell) → list_all (is_cell_of s) cs ≡ true → i < length cs → c ≡ get_or cs i c → c.node < s.nodes
 node_at s cs i c h below is = ltb-true c.node s.nodes (and_parts (is_flat s.dimension c.position) (nat_lt c.node s.nodes) (passes_at (is_cell_of s) cs i c h below is)).1
 
--- whether there are rules, and their number of nodes
+-- whether an automaton has rules, and how many nodes they have
 has_rules_given : (c : Cases) → has_rules (v.Given c) ≡ nat_lt 0 (length c.cases)
 has_rules_given c = ap has_rules (sym (v.rolls-Given c)) ∙ fold-roll-Automaton Bool has_rules_step (Automaton-F.Given c)
 
@@ -247,7 +247,7 @@ pub nodes_inner : (f g : Automaton) (r : Option ℕ) → has_rules f ≡ false �
 nodes_inner f g None none h = has_rules_composed f g ∙ (ap (λ b. b || has_rules g) none ∙ h)
 nodes_inner f g (Some n) none h = λ s fit. h s (and_parts (automaton_fits s f) (automaton_fits s g) (sym (fits_composed s f g) ∙ fit)).1
 
--- without rules nothing is read, and all nodes have equally many instances
+-- an automaton without rules reads nothing, and has the same number of instances at all nodes
 abbrev pub IsUniform : Automaton → Type 0
 IsUniform f = has_rules f ≡ false → ((a : ℕ) → (counted f).reads a ≡ []) × ((a : ℕ) → (counted f).instances a ≡ (counted f).instances 0)
 
@@ -293,7 +293,7 @@ uniform = ind-Automaton IsUniform (λ x y is h.
       λ a. ap (λ (f : Counted). f.instances a) all ∙ (same.1 a ∙ sym (ap (λ (f : Counted). f.instances 0) all)),
     ))
 
--- an automaton by cases within the limits is well formed
+-- an automaton by cases within the limits is well formed in each setting that its cases fit
 checks_given : (n : ℕ) (c : Cases) → checks n (v.Given c) ≡ limits_step n (Automaton-F.Given c)
 checks_given n c = ap (checks n) (sym (v.rolls-Given c)) ∙ fold-roll-Automaton Checked (limits_step n) (Automaton-F.Given c)
 

@@ -1,4 +1,4 @@
--- Why no rule is made of a formula, and no automaton by cases.
+-- Why a formula can't be made into a rule, or cases into an automaton.
 use Rattle.std.proofs.Common.{◌≡◌, ◌<◌, ◌≤◌, ℕ, true, false, List, length, get_or, refl, ap, ◌∙◌, subst, arith}
 use Rattle.std.proofs.lemmas.Bool.{and_from, lt-leb, eq-eqb}
 use Rattle.std.specs.{Prelude.nat_le, List.list_all}
@@ -10,7 +10,7 @@ use Rattle.dd_formula.specs.{ByCases.numbers_over, ByCases.IsCasesRefusal, decla
 use Rattle.dd_formula.specs.declared.fault.RuleFault.TheVariants.{Reach, Instances, Depth, Memory}
 use Rattle.dd_formula.specs.lemmas.CompositionLaws.{range_fails}
 
--- an automaton that has a rule's instances and reads, or more, is refused where the rule is
+-- if an automaton has at least as many instances as a rule, and reads too far away wherever the rule does, then it is refused if the rule is
 module _ (r : LocalRule) (f : Counted) (large : (a : ℕ) → instances (expansion_at r a) ≤ f.instances a) (far : (a : ℕ) → list_all is_near (reads_at r a) ≡ false → list_all is_near (f.reads a) ≡ false) where
   pub refused : (e : RuleFault) → (IsSmall r → is_few r.nodes f ≡ true) → IsRuleRefusal r e → IsCasesRefusal r.nodes f e
   refused Instances few h = range_fails (λ a. nat_le (f.instances a) most_instances) r.nodes h.node h.exists (lt-leb _ _ (omega (arith, h.many, large h.node)))
@@ -18,14 +18,14 @@ module _ (r : LocalRule) (f : Counted) (large : (a : ℕ) → instances (expansi
   refused Depth few h = h
   refused Memory few h = tt
 
--- what refuses an automaton by cases refuses a composition with the same counts
+-- a fault for which an automaton by cases is refused is also one for which a composition with the same counts is refused
 pub passes_one : (n : ℕ) (f : Counted) (e : RuleFault) → IsCasesRefusal n f e → IsCompositionFault n f e
 passes_one n f Instances h = h
 passes_one n f Reach h = h
 passes_one n f Depth h = absurd h
 passes_one n f Memory h = tt
 
--- the case that a loop over the cases is at
+-- the case that a loop over the cases has reached
 pub record IsCase (cases : List (LocalRule × ℕ)) (i : ℕ) (case : LocalRule × ℕ) : Type 0 where
   pub is : case ≡ get_or cases i case
   pub below : i < length cases
@@ -33,6 +33,6 @@ pub record IsCase (cases : List (LocalRule × ℕ)) (i : ℕ) (case : LocalRule 
 pub case_of : (cases items : List (LocalRule × ℕ)) (i : ℕ) (case : LocalRule × ℕ) → items ≡ cases → case ≡ get_or items i case → i < length items → IsCase cases i case
 case_of cases items i case same is below = record { is = is ∙ ap (λ xs. get_or xs i case) same; below = subst (λ xs. i < length xs) same below }
 
--- a rule over a topology and an alphabet is one of their setting
+-- a rule over a topology and an alphabet has the numbers of their setting
 pub has_numbers : (g : Grid) (s : SymbolSets) (f : Formula) → rule_has (numbers_over g s) (local_rule g s f) ≡ true
 has_numbers g s f = and_from _ _ (and_from _ _ (eq-eqb g.dimension g.dimension refl) (eq-eqb g.nodes g.nodes refl)) (eq-eqb s.symbols s.symbols refl)

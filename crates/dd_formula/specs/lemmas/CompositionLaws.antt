@@ -1,4 +1,4 @@
--- Compositions within the limits, and how many nodes need a test.
+-- Compositions within the limits, and how many nodes have to be tested.
 use Rattle.std.proofs.Common.{◌≡◌, ◌<◌, ◌≤◌, ℕ, zero, suc, ◌+◌, Bool, true, false, refl, ap, sym, ◌∙◌, add-one, arith}
 use Rattle.std.proofs.lemmas.Bool.{and_from}
 use Rattle.std.specs.{Prelude.◌&&◌, Prelude.◌||◌, Prelude.nat_le, List.list_all, List.range_with_len}
@@ -30,7 +30,7 @@ range_fails p n i below here = by (list_all p (range_with_len 0 n)) refl
     by true e = absurd (let passes = range_at p 0 n i e (omega arith) (omega arith) in cc)
     by false e = e
 
--- a test that answers the same for all numbers: a range passes it exactly if 0 does
+-- if a test has the same result for all numbers, a range of at least one number passes it exactly if 0 does
 range_constant : (p : ℕ → Bool) → ((a : ℕ) → p a ≡ p 0) → (k n : ℕ) → list_all p (range_with_len k (suc n)) ≡ p 0
 range_constant p same k zero = and_true (p k) ∙ same k
 range_constant p same k (suc n) = ap (λ b. p k && b) (range_constant p same (k + 1) n) ∙ (ap (λ b. b && p 0) (same k) ∙ and_same (p 0))
@@ -43,7 +43,7 @@ range_one p same (suc n) h = range_constant p same 0 n ∙ sym (range_constant p
 pub stands_all : (s : CommonNumbers) (f : Counted) (n : ℕ) → s.nodes ≡ n → StandFor s f n
 stands_all s f n is = record { below = omega arith; few = ap (λ k. is_few k f) is; short = ap (λ k. is_short k f) is }
 
--- it is enough to test one node where there is no rule
+-- if there is no rule, it is enough to test one node
 pub stands_one : (s : CommonNumbers) (f g : Automaton) → has_rules f ≡ false → has_rules g ≡ false → 1 ≤ s.nodes → StandFor s (composition f g) 1
 stands_one s f g none none' some =
     let same = uniform (v.Composed f g) (has_rules_composed f g ∙ (ap (λ b. b || has_rules g) none ∙ none')) in record {
@@ -52,7 +52,7 @@ stands_one s f g none none' some =
       short = range_one (λ a. list_all is_near ((composition f g).reads a)) (λ a. ap (list_all is_near) (same.0 a ∙ sym (same.0 0))) s.nodes some;
     }
 
--- a composition within the limits is well formed where its parts are
+-- a composition within the limits is well formed in each setting in which its parts are
 pub composition_formed : (s : CommonNumbers) (f g : Automaton) → IsAutomaton s f → IsAutomaton s g → PassesDepth s.nodes (composition f g) → IsAutomaton s (v.Composed f g)
 composition_formed s f g outer inner h = record {
   some = outer.some;

@@ -1,4 +1,4 @@
--- Sums, products and powers of counts that are cut off, and loops over lists.
+-- Sums, products and powers of counts that are cut off at a limit, and loops over lists.
 use Rattle.std.proofs.Common.{◌≡◌, ◌<◌, ◌≤◌, ℕ, zero, suc, ◌+◌, ◌*◌, ◌^◌, List, [], ◌∷◌, ◌++◌, map, take, length, get_or, refl, ap, sym, ◌∙◌, arith, inl, inr}
 use Rattle.std.proofs.{Math.Nat.pow-zero, Math.Nat.pow-suc, Math.Nat.mul_comm, lemmas.Bool.cases_lt}
 use Rattle.std.proofs.lemmas.List.{take_more, append-nil, Concat.flat_map-append}
@@ -8,7 +8,7 @@ use Rattle.dd_expansion.specs.{Leaves.total, lemmas.Layers.total-map}
 use Rattle.dd_formula.specs.Counts.{cut}
 
 module _ {X : Type 0} where
-  -- joined lists and sums, with one element more
+  -- joined lists and sums, with one more element
   pub flat_more : {A : Type 0} (f : X → List A) (xs : List X) (i : ℕ) (x : X) → i < length xs → x ≡ get_or xs i x → flat_map f (take (i + 1) xs) ≡ flat_map f (take i xs) ++ f x
   flat_more f xs i x below is =
       ap (flat_map f) (take_more xs i x below)
@@ -23,7 +23,7 @@ module _ {X : Type 0} where
   pub total-take-le : (f : X → ℕ) (xs : List X) (i : ℕ) → total (map f (take i xs)) ≤ total (map f xs)
   total-take-le f xs i = omega (arith, total-map f (take i xs), total-map f xs, sum_by-take-le f xs i)
 
--- a sum that has passed the limit stays there
+-- a sum that is past the limit is cut off to the same number when it grows
 pub cut_passed : (l m n : ℕ) → m ≤ n → l < cut l m → cut l m ≡ cut l n
 cut_passed l m n le past = omega arith
 
@@ -31,7 +31,7 @@ cut_passed l m n le past = omega arith
 pub next_cut : (l old term new sum part whole : ℕ) → old ≡ cut l sum → term ≡ cut l part → new ≡ cut l (old + term) → whole ≡ sum + part → new ≡ cut l whole
 next_cut l old term new sum part whole a b c d = omega arith
 
--- ---- a product or a power of counts that are cut off, itself cut off, is the product or the power of the counts, cut off
+-- ---- cutting counts off before they are multiplied or raised to a power doesn't change the result, once that is cut off itself
 
 times_small : (l x y : ℕ) → x ≤ l → cut l (cut l x * y) ≡ cut l (x * y)
 times_small l x y le =
@@ -60,7 +60,7 @@ cut_power l x (suc n) =
     ∙ (ap (λ m. cut l (m * cut l x)) (cut_power l x n)
     ∙ (cut_times_left l (x ^ n) (cut l x) ∙ (cut_times_right l (x ^ n) x ∙ ap (cut l) (sym (pow-suc x n))))))
 
--- one factor more
+-- one more factor
 pub power_more : (l b n value new : ℕ) → value ≡ cut l (b ^ n) → new ≡ cut l (value * b) → new ≡ cut l (b ^ (n + 1))
 power_more l b n value new is next =
     let more : n + 1 ≡ suc n = omega arith in

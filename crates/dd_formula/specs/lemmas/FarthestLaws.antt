@@ -1,4 +1,4 @@
--- How far the farthest cell of a list lies, when the list grows.
+-- How far away the farthest cell of a list lies, as the list grows.
 use Rattle.std.proofs.Common.{◌≡◌, ◌<◌, ◌≤◌, ◌+◌, ℕ, zero, suc, max, true, false, refl, List, [], ◌∷◌, ◌++◌, length, take, get_or, ap, sym, ◌∙◌, arith, rules}
 use Rattle.std.proofs.lemmas.{Bool.and_parts, Bool.leb-true, List.take_more, List.append-nil}
 use Rattle.std.proofs.lemmas.List.Concat.{flat_map-append, flat_map-cons}
@@ -38,7 +38,7 @@ node_more at n old e new cells is far greater so_far =
     let here : e ≡ farthest (at n) = far ∙ ap farthest is in
     greater ∙ (greater_is old e ∙ omega (arith, both, here, so_far))
 
--- cells within the limit of reach lie at most 16 away
+-- cells within the limit on reach lie at most 16 away
 pub near_farthest : (cs : List Cell) → list_all is_near cs ≡ true → farthest cs ≤ 16
 near_farthest [] h = omega arith
 near_farthest (c ∷ cs) h =
@@ -59,7 +59,7 @@ still_near a b new is p q = let greater = greater_is a b in omega (arith, is, gr
 abbrev IsRadius : (ℕ → List Cell) → ℕ → ℕ → Type 0
 IsRadius at n radius = (radius ≡ farthest (flat_map at (range_with_len 0 n))) × (radius ≤ 16)
 
--- one more node of cells that are near
+-- one more node, whose cells are near
 pub radius_more : (at : ℕ → List Cell) (n old e new : ℕ) (cells : List Cell) → cells ≡ at n → e ≡ farthest cells → new ≡ ord_max nat_cmp old e → farthest (at n) ≤ 16 →
     IsRadius at n old → IsRadius at (n + 1) new
 radius_more at n old e new cells is far greater near so_far =

@@ -1,4 +1,4 @@
--- How far rules and automata read, and what they read within a distance.
+-- How far away rules and automata read cells, and that they read only cells within that distance.
 use Rattle.std.proofs.Common.{◌≡◌, ℕ, zero, suc, ◌+◌, ◌<◌, ◌≤◌, Bool, true, List, [], ◌∷◌, refl, ap, sym, ◌∙◌, arith}
 use Rattle.std.proofs.lemmas.Bool.{and_from, leb-true, le-leb, Decides.nat_tests}
 use Rattle.std.proofs.lemmas.List.{Concat.flat_map-cons, Folds.list_all-append}
@@ -10,7 +10,7 @@ use Rattle.dd_formula.specs.Automata.{counted, cells_of}
 use Rattle.dd_formula.specs.Reach.{farthest, all_cells, reach, automaton_cells, automaton_reach}
 use Rattle.dd_formula.specs.{declared.automaton.Automaton.Automaton, lemmas.AutomatonLaws.range_at}
 
--- at most k away from the origin along each axis
+-- the cell lies at most k away from the origin, along each axis
 abbrev pub is_within : ℕ → Cell → Bool
 is_within k c = nat_le (extent c.position) k
 
@@ -20,12 +20,12 @@ max_within a b k = grind (arith, nat_tests)
 none_far : (k : ℕ) → nat_le 0 k ≡ true
 none_far k = grind (arith, nat_tests)
 
--- the farthest cell of a list lies within k exactly if all of them do
+-- the farthest cell of a list lies at most k away exactly if all cells of the list do
 all_within : (k : ℕ) (cs : List Cell) → nat_le (farthest cs) k ≡ list_all (is_within k) cs
 all_within k [] = none_far k
 all_within k (c ∷ cs) = max_within (extent c.position) (farthest cs) k ∙ ap (λ b. is_within k c && b) (all_within k cs)
 
--- a test of joined lists is a test of each list
+-- a joined list passes a test exactly if each of its lists does
 list_all-flat_map : {X Y : Type 0} (p : Y → Bool) (f : X → List Y) (xs : List X) → list_all p (flat_map f xs) ≡ list_all (λ x. list_all p (f x)) xs
 list_all-flat_map p f [] = refl
 list_all-flat_map p f (x ∷ xs) =
@@ -37,11 +37,11 @@ pub all_numbers : (p : ℕ → Bool) (m n : ℕ) → ((k : ℕ) → k < m + n �
 all_numbers p m zero h = refl
 all_numbers p m (suc n) h = and_from _ _ (h m (omega arith)) (all_numbers p (m + 1) n (λ k below. h k (omega arith)))
 
--- the reach of a rule is at most k exactly if at each node it reads nothing farther away
+-- the reach of a rule is at most k exactly if at each node it reads only cells that lie at most k away
 nodes_within : (r : LocalRule) (k : ℕ) → nat_le (reach r) k ≡ list_all (λ a. list_all (is_within k) (cells_at r a)) (range_with_len 0 r.nodes)
 nodes_within r k = all_within k (all_cells r) ∙ list_all-flat_map (is_within k) (cells_at r) (range_with_len 0 r.nodes)
 
--- a rule whose reach is at most k reads nothing farther away, and the other way round
+-- a rule whose reach is at most k reads only cells that lie at most k away, and conversely
 pub reads_within : (r : LocalRule) (k a : ℕ) → reach r ≤ k → a < r.nodes → list_all (is_within k) (reads_at r a) ≡ true
 reads_within r k a far node =
     let all = sym (nodes_within r k) ∙ le-leb (reach r) k far in

@@ -1,4 +1,4 @@
--- What a rule reads at the cells of a fundamental box has symbols.
+-- Each cell that a rule reads at a cell of a fundamental box has a symbol.
 use Rattle.std.proofs.Common.{◌≡◌, ℕ, ◌<◌, ◌≤◌, true, List, [], ◌∷◌, pos, unsigned_abs, refl, ap, arith}
 use Rattle.std.proofs.lemmas.Int.{ints}
 use Rattle.std.proofs.lemmas.Bool.{and_parts, and_from, leb-true, ltb-true, lt-ltb, cond_both}
@@ -56,13 +56,13 @@ all_given r t fits ok c h (d ∷ ds) near placed =
     let exists : d.node < t.nodes = omega (arith, node, fits.nodes) in
     and_from _ _ (read_given t ok c d h (leb-true _ _ nears.0) exists) (all_given r t fits ok c h ds nears.1 places.1)
 
--- a rule's reads at each cell of the box have symbols
+-- each cell that a rule reads at a cell of the box has a symbol
 pub box_given : (r : LocalRule) (t : Tile) → IsRule r → Fits r t → IsPeriodic t → (c : Cell) → IsInBox t c → is_given r c (tile_look t) ≡ true
 box_given r t rule fits ok c h =
     let node : c.node < r.nodes = omega (arith, h.node, fits.nodes) in
     all_given r t fits ok c h (reads_at r c.node) (rule.short c.node node) (rule.placed c.node node)
 
--- a configuration that fits a rule gives symbols of its alphabet
+-- a configuration that fits a rule gives only symbols of the rule's alphabet
 pub tile_below : (r : LocalRule) (t : Tile) → Fits r t → HasSymbolsBelow r.symbols (tile_look t)
 tile_below r t fits c =
     cond_both (nat_lt c.node t.nodes) (slice_get t.symbols (tile_index t c)) None (λ o. IfSome o (λ s. s < r.symbols)) (λ _. below_at r.symbols t.symbols fits.symbols (tile_index t c)) (λ _. tt)

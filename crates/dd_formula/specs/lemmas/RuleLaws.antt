@@ -1,4 +1,4 @@
--- What a rule says at a place, by its expansion at the origin and by the symbols that it reads there.
+-- Whether a rule is true at a position, from its expansion at the origin and from the symbols that it reads there.
 use Rattle.std.proofs.Common.{◌≡◌, ◌≤◌, ℕ, Bool, true, [], ◌∷◌, ap, sym, ◌∙◌, Some, None}
 use Rattle.std.proofs.lemmas.Bool.{eqb-true}
 use Rattle.std.specs.{Prelude.Option, Prelude.is_some, List.list_all}
@@ -9,11 +9,11 @@ use Rattle.dd_expansion.specs.lemmas.{LeavesAreReads.leaves_are_reads, TruthKeep
 use Rattle.dd_expansion.specs.lemmas.TruthAt.{at_origin, says_at}
 use Rattle.dd_formula.specs.LocalRule.{LocalRule, expansion_at, reads_at, cells_at, is_true}
 
--- the expansion at a node, with the cells of its leaves relative to a cell, is true exactly if the rule is true at that cell
+-- the expansion at the cell's node, with the cells in its leaves relative to the cell, is true exactly if the rule is true at the cell
 pub at_cell : (r : LocalRule) (c : Cell) (look : Look) → HasSymbolsBelow r.symbols look → holds (expansion_at r c.node) (λ d. look (shifted c.position d)) ≡ is_true r c look
 at_cell r c look below = says_at r.edges r.symbols r.formula look c.position c.node below
 
--- the truth at a place is the truth at the origin in the configuration moved back
+-- a rule is true at a position exactly if it is true at the origin in the configuration moved back
 pub truth_moved_back : (r : LocalRule) (v : Place) (a : ℕ) (look : Look) → is_true r (cell v a) look ≡ is_true r (origin_at a) (λ d. look (shifted v d))
 truth_moved_back r v a look = ap (λ c. is_true r c look) (sym (at_origin v a)) ∙ truth_shifted r.edges r.formula v (origin_at a ∷ []) look
 
@@ -22,8 +22,8 @@ equal_symbols None b h = absurd (cc)
 equal_symbols (Some x) None h = absurd (cc)
 equal_symbols (Some x) (Some y) h = ap Some (sym (eqb-true y x h))
 
--- The truth depends only on the cells read. If these have the same symbols, counted from u under one look and from v
--- under the other, the rule says the same at u and at v.
+-- Whether a rule is true depends only on the symbols of the cells that it reads. If one look-up gives these cells, moved by u, the same symbols as
+-- the other gives them moved by v, then the rule has the same truth value at u and at v.
 pub truth_by_reads : (r : LocalRule) (a : ℕ) (u v : Place) (one other : Look) → list_all (λ d. are_equal (one (shifted u d)) (other (shifted v d))) (reads_at r a) ≡ true →
     is_true r (cell u a) one ≡ is_true r (cell v a) other
 truth_by_reads r a u v one other same =
@@ -32,7 +32,7 @@ truth_by_reads r a u v one other same =
     ∙ (truth_depends r.edges r.formula (origin_at a ∷ []) alike (λ d. one (shifted u d)) (λ d. other (shifted v d)) (λ d. equal_symbols (one (shifted u d)) (other (shifted v d))) same
     ∙ sym (truth_moved_back r v a other))
 
--- the same for two looks, one of which gives each symbol that the other gives
+-- the same for two look-ups, if `more` gives each symbol that `less` gives, and `less` gives a symbol to each cell that is read
 pub truth_by_given : (r : LocalRule) (a : ℕ) (u v : Place) (less more : Look) → ((d : Cell) → is_some (less (shifted u d)) ≡ true → less (shifted u d) ≡ more (shifted v d)) →
     list_all (λ d. is_some (less (shifted u d))) (reads_at r a) ≡ true → is_true r (cell u a) less ≡ is_true r (cell v a) more
 truth_by_given r a u v less more same given =
@@ -40,10 +40,10 @@ truth_by_given r a u v less more same given =
     ∙ (truth_depends r.edges r.formula (origin_at a ∷ []) (λ d. is_some (less (shifted u d))) (λ d. less (shifted u d)) (λ d. more (shifted v d)) same given
     ∙ sym (truth_moved_back r v a more))
 
--- a test of the cells of an expansion's leaves is a test of the cells that are read
+-- the cells in an expansion's leaves pass a test exactly if the cells that the rule reads pass it
 pub leaves_pass_reads : (r : LocalRule) → 1 ≤ r.symbols → (a : ℕ) (test : Cell → Bool) → leaves_pass (λ c s. test c) (expansion_at r a) ≡ list_all test (reads_at r a)
 leaves_pass_reads r some a test = leaves_are_reads r.edges r.symbols some r.formula (origin_at a ∷ []) test
 
--- a test of the cells that are read is a test of these cells in cell order
+-- putting the cells that the rule reads in cell order doesn't change whether they all pass a test
 pub cells_pass_reads : (r : LocalRule) (a : ℕ) (test : Cell → Bool) → list_all test (cells_at r a) ≡ list_all test (reads_at r a)
 cells_pass_reads r a test = list_all-in_order test (reads_at r a)

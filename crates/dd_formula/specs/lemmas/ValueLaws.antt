@@ -1,4 +1,4 @@
--- The value of an automaton, by its parts and by what it reads.
+-- The value of an automaton, from the values of its parts and from what it reads.
 use Rattle.std.proofs.Common.{◌≡◌, ◌<◌, ℕ, suc, ◌+◌, Option, Bool, true, List, [], ◌∷◌, length, get_or, drop, drop-cons, add-one, Some, None, cond, ap, sym, ◌∙◌, refl, subst, eq-eqb, ℤ, ◌+ℤ◌, pos, arith}
 use Rattle.std.proofs.lemmas.{Bool.and_parts, Bool.ltb-true, Bool.eqb-true, Bool.cond_both, Int.ints}
 use Rattle.std.proofs.lemmas.List.Folds.{list_all-map, list_all-append}
@@ -28,7 +28,7 @@ pub value_composed : (f g : Automaton) (look : Look) (at : Cell) → value (v.Co
 value_composed f g look at =
     ap (λ (h : Valuation). h look at) (ap value (sym (v.rolls-Composed f g)) ∙ fold-roll-Automaton Valuation value_step (Automaton-F.Composed f g))
 
--- cells that are moved twice are moved by the sum
+-- moving a cell twice moves it by the sum
 plus_assoc : (x y z : ℤ) → ((x +ℤ y) +ℤ z) ≡ (x +ℤ (y +ℤ z))
 plus_assoc x y z = omega (arith, ints)
 
@@ -47,8 +47,8 @@ shifted_by_none d = ap (λ p. cell p d.node) (moved_by_none d.position)
 pub equal_values : (x y : ℕ) → x ≡ y → are_equal (Some x) (Some y) ≡ true
 equal_values x y e = eq-eqb y x (sym e)
 
--- The value depends only on the cells read. If these have the same symbols, counted from u under one look and from w
--- under the other, the values at u and at w are the same.
+-- The value of an automaton depends only on the symbols of the cells that it reads. If one look-up gives these cells, moved by u, the same symbols as
+-- the other gives them moved by w, then the automaton has the same value at u and at w.
 abbrev alike : Place → Place → Look → Look → Cell → Bool
 alike u w one other d = are_equal (one (shifted u d)) (other (shifted w d))
 
@@ -76,7 +76,7 @@ by_cases (case ∷ cases) otherwise a u w one other h =
     ap (λ b. cond b case.1 (first_case cases otherwise one (cell u a))) (truth_by_reads case.0 a u w one other both.0)
     ∙ ap (λ n. cond (is_true case.0 (cell w a) other) case.1 n) (by_cases cases otherwise a u w one other both.1)
 
--- the same at a cell that the first automaton reads
+-- the same for the second automaton of a composition, at a cell that the first one reads
 at_read : (g : Automaton) → Depends g → (u w : Place) (one other : Look) (c : Cell) → list_all (alike u w one other) (map (shifted c.position) ((counted g).reads c.node)) ≡ true →
     are_equal (Some (value g one (shifted u c))) (Some (value g other (shifted w c))) ≡ true
 at_read g depends u w one other c h =
@@ -159,7 +159,7 @@ read_by_both f g a look =
     ∙ (list_all-alike (λ c. are_given look origin (there c)) (λ c. is_read g c look) (read_there g look) reads
     ∙ sym (list_all-in_order (λ c. is_read g c look) reads)))
 
--- the first true case, from the i-th on: the i-th itself, or one from the next on
+-- the first true case from the i-th on is the i-th if that is true, and else the first true case after it
 pub case_step : (cases : List (LocalRule × ℕ)) (otherwise : ℕ) (look : Look) (at : Cell) (i : ℕ) (case : LocalRule × ℕ) (b : Bool) → i < length cases → case ≡ get_or cases i case →
     is_true case.0 at look ≡ b → first_case (drop i cases) otherwise look at ≡ cond b case.1 (first_case (drop (i + 1) cases) otherwise look at)
 case_step cases otherwise look at i case b below is here =
@@ -168,7 +168,7 @@ case_step cases otherwise look at i case b below is here =
     ∙ (ap (λ t. cond t case.1 (first_case (drop (suc i) cases) otherwise look at)) here
     ∙ ap (λ n. cond b case.1 (first_case (drop n cases) otherwise look at)) (sym (add-one i))))
 
--- the symbols that one case reads are given if those of all cases are
+-- if each cell that the cases read has a symbol, then so does each cell that one of the cases reads
 pub case_given : (cases : List (LocalRule × ℕ)) (look : Look) (p : Place) (a i : ℕ) (case : LocalRule × ℕ) → are_given look p (cases_reads cases a) ≡ true → i < length cases → case ≡ get_or cases i case →
     are_given look p (reads_at case.0 a) ≡ true
 case_given cases look p a i case given below is =
@@ -180,7 +180,7 @@ rule_symbols s r has = eqb-true r.symbols s.symbols (and_parts (r.dimension == s
 pub told : (r : LocalRule) (at : Cell) (look : Look) (answer : Option Bool) → is_given r at look ≡ true → answer ≡ cond (is_given r at look) (Some (is_true r at look)) None → answer ≡ Some (is_true r at look)
 told r at look answer given said = said ∙ ap (λ b. cond b (Some (is_true r at look)) None) given
 
--- an automaton reads cells with its nodes
+-- each cell that an automaton reads has a position in Z^d and one of its nodes
 pub placed_given : (c : Cases) → CasesArePlaced c → IsPlaced (v.Given c)
 placed_given c h s formed a below =
     ap (λ (k : Counted). list_all (is_cell_of s) (k.reads a)) (counted_given c) ∙ h s (sym (fits_given s c) ∙ formed.fits) a below
@@ -196,7 +196,7 @@ placed_composed f g outer inner s formed a below =
     ∙ list_all-weaker (is_cell_of s) (λ c. list_all (is_cell_of s) (there c))
     (λ c here. let node = ltb-true c.node s.nodes (and_parts (is_flat s.dimension c.position) (nat_lt c.node s.nodes) here).1 in moved_placed s c ((counted g).reads c.node) here (inner s second c.node node)) reads first)
 
--- options that are equal, and have a value, pass the test for equality
+-- two equal options that have a value pass the test for equality
 pub equal_to_some : (a b : Option ℕ) → a ≡ b → is_some a ≡ true → are_equal a b ≡ true
 equal_to_some None b e h = absurd (cc)
 equal_to_some (Some x) b e h = subst (λ o. are_equal (Some x) o ≡ true) e (equal_values x x refl)

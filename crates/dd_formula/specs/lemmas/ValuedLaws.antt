@@ -1,4 +1,5 @@
--- A claim about all automata is proved for each of their two forms. The clauses of an automaton's value, by form.
+-- How to prove a claim about all automata: for each automaton by cases, and for each composition. Also the number of clauses of an automaton's value,
+-- for both forms.
 use Rattle.std.proofs.Common.{◌≡◌, ℕ, ap, sym, ◌∙◌, subst}
 use Rattle.dd_formula.specs.Automata.{Counted, counted, counted_step}
 use Rattle.dd_formula.specs.ValueCounts.{Valued, valued_step}
@@ -9,7 +10,7 @@ use Rattle.dd_formula.specs.declared.automaton.Automaton.TheOpen.{Automaton-F}
 use Rattle.dd_formula.specs.lemmas.AutomatonLaws.{counted_given, counted_composed}
 use Rattle.dd_formula.specs.declared.automaton.Automaton.TheVariants as v
 
--- a claim holds of all automata if it holds of those by cases, and of each composition if it holds of both parts
+-- a claim holds of all automata if it holds of each automaton by cases, and of each composition of two automata of which it holds
 abbrev Known : (Automaton → Type 0) → Type 0
 Known P = (f : Automaton) × P f
 
@@ -32,7 +33,7 @@ valued_given k c = ap (valued k) (sym (v.rolls-Given c)) ∙ fold-roll-Automaton
 pub valued_composed : (k : ℕ) (f g : Automaton) → valued k (v.Composed f g) ≡ valued_step k (Automaton-F.Composed (valued k f) (valued k g))
 valued_composed k f g = ap (valued k) (sym (v.rolls-Composed f g)) ∙ fold-roll-Automaton Valued (valued_step k) (Automaton-F.Composed f g)
 
--- beside the clauses, `valued` has the same counts as `counted`
+-- the counts that `valued` holds are those of `counted`
 pub valued_counts : (k : ℕ) (f : Automaton) → (valued k f).counts ≡ counted f
 valued_counts k =
     by_forms (λ f. (valued k f).counts ≡ counted f) (λ c. ap (λ (x : Valued). x.counts) (valued_given k c) ∙ sym (counted_given c))

@@ -1,4 +1,4 @@
--- What each step of the evaluation of a composition needs: each cell that it reads has a symbol of the alphabet.
+-- What each step in evaluating a composition needs: each cell that it reads has a symbol of the alphabet.
 use Rattle.std.specs.{Prelude.ℕ, Prelude.◌<◌, Prelude.◌≡◌, Prelude.true, Prelude.List, List.list_all}
 use Rattle.dd_lattice.specs.{Place.Place, declared.position.Cell.Cell}
 use Rattle.dd_pattern.specs.{Reading.Look, Reading.HasSymbolsBelow, Filling.Filled, Filling.filling_look}
@@ -29,7 +29,8 @@ pub record IsReadableAt (f : Automaton) (cs : List Cell) (look : Look) : Type 0 
   pub symbols : HasSymbolsBelow setting.symbols look
   pub given : list_all (λ c. is_read f c look) cs ≡ true
 
--- the filling gives these cells the symbols that are seen from v, and no symbols that the look doesn't give
+-- the filling gives each of these cells the symbol that the look-up gives the cell moved by v; and if all symbols of the look-up are below n, then so
+-- are those of the filling
 pub record IsSeen (look : Look) (v : Place) (cs : List Cell) (f : Filled) : Type 0 where
   pub seen : list_all (λ d. are_equal (filling_look f d) (seen look v d)) cs ≡ true
   pub below : (n : ℕ) → HasSymbolsBelow n look → HasSymbolsBelow n (filling_look f)

@@ -57,7 +57,7 @@ pub greatest_common-is : (a b : ℕ) → IsGcd a b (greatest_common a b)
 unfolding greatest_common
 greatest_common-is a b = is_common (suc b) a b (omega arith)
 
--- k times two coprime numbers have the greatest common divisor k
+-- if a and b are coprime, the greatest common divisor of a · k and b · k is k
 pub IsGcd-scaled : (a b k : ℕ) → 0 < k → IsGcd a b 1 → IsGcd (a * k) (b * k) k
 IsGcd-scaled a b k z coprime =
     let one : greatest_common a b ≡ 1 = same_from_IsGcd a b (greatest_common a b) 1 (greatest_common-is a b) coprime in
@@ -90,7 +90,7 @@ pub quotient_above : (a b : ℕ) → 0 < b → 0 < b / greatest_common a b
 quotient_above a b p =
     front_of (b / greatest_common a b) (greatest_common a b) b (div-mul_cancel _ (greatest_common-is a b).1) p
 
--- two numbers over their greatest common divisor are coprime
+-- two numbers divided by their greatest common divisor are coprime
 pub quotients_coprime : (a b : ℕ) → 0 < b → greatest_common (a / greatest_common a b) (b / greatest_common a b) ≡ 1
 quotients_coprime a b p =
     let g = greatest_common a b in

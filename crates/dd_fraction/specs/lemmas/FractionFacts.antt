@@ -1,4 +1,4 @@
--- What a call returns is a fraction in lowest terms, and bounded.
+-- The fractions that calls return are in lowest terms and bounded.
 use Rattle.std.proofs.Common.{◌≡◌, ◌≢◌, ℕ, zero, suc, ◌*◌, ◌^◌, ◌<◌, refl, sym, ap, subst, ◌∙◌, arith, Some, Bool, true, false, ◌&&◌}
 use lib.IntN.{ℤ, pos, negsuc, neg_ℤ, ◌+ℤ◌, ◌*ℤ◌}
 use Rattle.std.specs.Int.RustNames.{unsigned_abs}

@@ -1,5 +1,5 @@
--- The laws of exact fractions: sum, opposite, product and inverse. Each side of a law is brought to `lowest` of one pair of
--- numbers, and the two pairs have equal cross products.
+-- The laws of exact fractions: sum, opposite, product and inverse. Each side of a law is written as `lowest` of one pair of numbers, and the two
+-- pairs have equal cross products.
 use Rattle.std.proofs.Common.{◌≡◌, ℕ, zero, suc, ◌*◌, ◌/◌, ◌<◌, refl, sym, ap, ◌∙◌, max, arith, subst}
 use Rattle.std.proofs.{lemmas.Int.ints, Math.Nat.mul_comm, Math.Nat.zero-div}
 use lib.IntN.{ℤ, pos, negsuc, neg_ℤ, ◌+ℤ◌, ◌*ℤ◌, *ℤ_comm, +ℤ_comm, neg_ℤ-neg_ℤ}
@@ -49,7 +49,7 @@ pub times_comm : (a b : Exact) → times a b ≡ times b a
 unfolding times
 times_comm a b = λ i. lowest (*ℤ_comm a.num b.num i) (mul_comm (den_of a) (den_of b) i)
 
--- ---- sums and products don't depend on the form of a fraction
+-- ---- sums and products don't depend on whether the fractions are in lowest terms
 sum_one : (x m : ℤ) (d e k : ℕ)
     → (x *ℤ pos e +ℤ m *ℤ pos k) *ℤ pos (d * e) ≡ (x *ℤ pos d) *ℤ pos (e * e) +ℤ m *ℤ pos (k * (d * e))
 sum_one x m d e k = rw (← diff_self x, ← diff_self m) (simp as_diff (diff_same _ _ _ _ (omega arith)))
@@ -101,7 +101,7 @@ assoc_lem : (x y z : ℤ) (d e f : ℕ)
 assoc_lem x y z d e f =
     rw (← diff_self x, ← diff_self y, ← diff_self z) (simp as_diff (diff_same _ _ _ _ (omega arith)))
 
--- a sum of three, as one fraction
+-- a sum of three fractions, as one fraction
 plus_three : (a b c : Exact)
     → plus (plus a b) c
     ≡ lowest
@@ -256,7 +256,7 @@ times_inverse a p =
         → lowest (n *ℤ b.num) (max 1 d * den_of b) ≡ lowest (n *ℤ b.num) (max 1 (max 1 d) * den_of b)
     twice n d b = let e : max 1 (max 1 d) ≡ max 1 d = omega arith in rw (e) refl
 
--- ---- sums of several
+-- ---- sums of several fractions
 pub plus_swap : (a b c : Exact) → plus a (plus b c) ≡ plus b (plus a c)
 plus_swap a b c = sym (plus_assoc a b c) ∙ (ap (λ (t : Exact). plus t c) (plus_comm a b) ∙ plus_assoc b a c)
 

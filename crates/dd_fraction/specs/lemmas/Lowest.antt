@@ -1,5 +1,5 @@
--- Lowest terms: two pairs of numbers with equal cross products have the same lowest terms, so equations of fractions are
--- equations of whole numbers.
+-- Lowest terms: two pairs of numbers with equal cross products have the same lowest terms. So an equation of fractions is shown as an equation of
+-- whole numbers.
 use Rattle.std.proofs.Common.{◌≡◌, ℕ, zero, suc, ◌*◌, ◌/◌, ◌<◌, refl, sym, ap, subst, ◌∙◌, max, arith}
 use Rattle.std.proofs.lemmas.{Int.ints, Int.unsigned_abs-mul, Nat.Gcd.same_from_IsGcd}
 use Rattle.std.proofs.Math.Nat.{eq_of_mul-eq-mul_right, div-mul_cancel, mul_comm, div-one}
@@ -16,7 +16,7 @@ pub neg_times : (q g : ℕ) → neg_ℤ (pos q) *ℤ pos g ≡ neg_ℤ (pos (q *
 neg_times zero g = same_in _ _ (omega (arith, ints))
 neg_times (suc q) g = refl
 
--- a whole number divided by one of its divisors, and multiplied by it again
+-- dividing a whole number by one of its divisors, and then multiplying by that divisor, changes nothing
 pub whole_over : (n : ℤ) (g : ℕ) → g ∣ unsigned_abs n → int_div n (pos g) *ℤ pos g ≡ n
 whole_over (pos n) g h = ap pos (div-mul_cancel g h)
 whole_over (negsuc n) g h =
@@ -26,7 +26,7 @@ pub size_over : (n : ℤ) (g : ℕ) → unsigned_abs (int_div n (pos g)) ≡ uns
 size_over (pos n) g = refl
 size_over (negsuc n) g = omega (arith, ints)
 
--- a is what is left of n / d after both numbers are divided by g
+-- a is what is left of the fraction n / d when n and d are divided by their common divisor g
 pub record Parts (n : ℤ) (d : ℕ) (a : Exact) (g : ℕ) : Type 0 where
   pub above : 0 < g
   pub num : a.num *ℤ pos g ≡ n
@@ -65,8 +65,8 @@ numbers_same n m d e g h a b p q s t z =
     ∙ (ap (λ (x : ℤ). x *ℤ pos d) (sym q.num)
     ∙ (sym (times_times b.num (pos h) (pos d)) ∙ ap (λ (k : ℕ). b.num *ℤ pos k) (sym s))))))
 
--- If n / d = m / e, then |n| · e = |m| · d, so (|n| · e, d · e) and (|m| · d, e · d) are the same pair. Its greatest
--- common divisor is e times that of n and d, and d times that of m and e.
+-- If n / d = m / e, then |n| · e = |m| · d, so (|n| · e, d · e) and (|m| · d, e · d) are the same pair. The greatest common divisor of this pair is
+-- e times that of n and d, and also d times that of m and e.
 pub lowest_same : (n m : ℤ) (d e : ℕ) → n *ℤ pos (max 1 e) ≡ m *ℤ pos (max 1 d) → lowest n d ≡ lowest m e
 lowest_same n m d0 e0 s =
     let d = max 1 d0 in
@@ -136,7 +136,7 @@ over_one : (n : ℤ) → int_div n (pos 1) ≡ n
 over_one (pos n) = ap pos (div-one n)
 over_one (negsuc n) = ap (λ (x : ℕ). neg_ℤ (pos x)) (div-one (suc n))
 
--- a fraction in lowest terms stays as it is
+-- bringing a fraction to lowest terms changes nothing if it is in lowest terms already
 pub low_lowest : (a : Exact) → IsLowest a → low a ≡ a
 low_lowest a p =
     lowest_at a.num a.den p.positive

@@ -1,5 +1,5 @@
--- The laws of the order of exact fractions. a is at most b exactly if b - a is at least 0. So the order's laws follow
--- from those of sums and products, and from the signs of both.
+-- The laws of the order of exact fractions. Since a is at most b exactly if b - a is at least 0, these laws follow from those of sums and products,
+-- and from the signs of sums and products.
 use Rattle.std.proofs.Common.{◌≡◌, ℕ, ◌<◌, ◌⊎◌, inl, inr, sym, ap, subst, ◌∙◌, max, arith}
 use Rattle.std.proofs.lemmas.{Int.ints, Int.by_lt_z, Cmp.int_ranked}
 use lib.IntN.{ℤ, pos, negsuc, ◌*ℤ◌}
@@ -99,7 +99,7 @@ below_from_gap a b p =
     let s = positive_of_lowest _ _ (subst IsPositive (plus_is b (minus a)) p) in
     record { cross = omega (arith, ints, s, n) }
 
--- ---- a total order, up to the form of a fraction
+-- ---- a total order, if fractions with the same lowest terms count as equal
 pub at_most_refl : (a : Exact) → IsAtMost a a
 at_most_refl a = record { cross = omega (arith, ints) }
 
@@ -145,7 +145,7 @@ below_trans_right a b c p q =
     below_from_gap a c
     (subst IsPositive (plus_comm _ _ ∙ gaps a b c) (positive_plus _ _ (below_gap b c q) (at_most_gap a b p)))
 
--- ---- against 0
+-- ---- comparisons with 0
 zero_gap : (a : Exact) → plus a (minus (whole_of (pos 0))) ≡ low a
 zero_gap a = plus_zero a
 
@@ -180,7 +180,7 @@ minus_gap a b = plus_comm b (minus a) ∙ ap (plus (minus a)) (sym (minus_minus 
 pub at_most_minus : (a b : Exact) → IsAtMost a b → IsAtMost (minus b) (minus a)
 at_most_minus a b p = at_most_from_gap _ _ (subst IsNonneg (minus_gap a b) (at_most_gap a b p))
 
--- ---- the order doesn't depend on the form of a fraction
+-- ---- the order doesn't depend on whether the fractions are in lowest terms
 low_gap : (a b : Exact) → plus b (minus a) ≡ plus (low b) (minus (low a))
 low_gap a b =
     sym (plus_low_right b (minus a))

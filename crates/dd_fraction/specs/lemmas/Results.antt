@@ -1,4 +1,4 @@
--- What the calls return: results are in lowest terms and bounded, and `None` comes where a number doesn't fit.
+-- What the calls return: a result is in lowest terms and bounded, and `None` is returned where a number doesn't fit.
 use Rattle.std.proofs.Common.{◌≡◌, ℕ, zero, suc, ◌*◌, ◌/◌, ◌%◌, ◌^◌, ◌<◌, ◌≤◌, refl, sym, ap, subst, ◌∙◌, arith, max, Some, None, Bool, true, false, cond}
 use Rattle.std.proofs.lemmas.{Bool.ltb-true, Int.ints, Nat.mod_below}
 use Rattle.std.proofs.{lemmas.Nat.Gcd.same_from_IsGcd, lemmas.Nat.Gcd.IsGcd-swap, Math.Nat.div-le_self}
@@ -10,7 +10,7 @@ use Rattle.dd_fraction.specs.Checked.{IsFraction, is_bounded, bounded, bounded_s
 use Rattle.dd_fraction.specs.lemmas.Divisors.{greatest_common-is, greatest_common-step, greatest_common-zero, quotients_coprime, quotient_above}
 use Rattle.dd_fraction.specs.lemmas.Lowest.{size_over, lowest_at, low_lowest}
 
--- ---- bounded numbers have bounded lowest terms
+-- ---- bringing bounded numbers to lowest terms gives bounded numbers
 pub lowest_fraction : (n : ℤ) (d : ℕ) → 0 < d → d < 2 ^ 127 → unsigned_abs n < 2 ^ 127
     → let g = greatest_common (unsigned_abs n) d in IsFraction (record { num = int_div n (pos g); den = d / g })
 lowest_fraction n d p q r =
@@ -73,7 +73,7 @@ lowest_whole n = lowest_coprime n 1 (omega arith) (greatest_common-one (unsigned
 pub whole_fraction : (n : ℤ) → SFits w64 n → IsFraction (record { num = n; den = 1 })
 whole_fraction n f = IsFraction-whole n (omega (arith, ints, f))
 
--- ---- a result tells whether the test was passed
+-- ---- whether there is a result tells whether the test was passed
 pub kept : {A : Type 0} (t : Bool) (x z : A) → Some x ≡ cond t (Some z) None → (t ≡ true) × (x ≡ z)
 kept true x z e = (refl, cc)
 kept false x z e = absurd cc
@@ -98,7 +98,7 @@ size_within n x e =
     let w = size_some n x e in
     ltb-true _ _ (subst (λ (k : ℕ). is_bounded (pos k) ≡ true) (sym w.1) w.0)
 
--- ---- a product. The denominators of fractions are at least 1
+-- ---- a product, where the denominators are at least 1
 pub times_at : (a b : Exact) (n : ℤ) (d : ℕ) → 0 < a.den → 0 < b.den
     → n ≡ a.num *ℤ b.num → d ≡ a.den * b.den → lowest n d ≡ times a b
 unfolding times
@@ -124,7 +124,7 @@ plus_at a b n d p q e f =
     let y : max 1 b.den ≡ b.den = omega (arith, q) in
     rw (e, f, x, y) refl
 
--- the two cross products fit
+-- the two cross products fit, and l + r is their sum
 pub record Cross (a b : Exact) (l r : ℤ) : Type 0 where
   pub left : is_bounded (a.num *ℤ pos b.den) ≡ true
   pub right : is_bounded (b.num *ℤ pos a.den) ≡ true

@@ -1,4 +1,4 @@
--- Products of whole numbers. An expression becomes one difference of naturals, which `omega` multiplies out.
+-- Products of whole numbers. An expression is written as one difference of natural numbers, which `omega` multiplies out.
 use Rattle.std.proofs.Common.{◌≡◌, ℕ, zero, suc, ◌+◌, ◌*◌, ◌<◌, ap, arith}
 use Rattle.std.proofs.{Math.Nat.eq_of_mul-eq-mul_right, lemmas.Int.ints, lemmas.Int.by_lt_z}
 use lib.IntN.{ℤ, pos, negsuc, neg_ℤ, ◌+ℤ◌, ◌-ℤ◌, ◌*ℤ◌}
@@ -9,7 +9,7 @@ use borrow.Author.Differences.{up, down, same_in, sum_is_lem, neg_is, product_is
 pub diff : ℕ → ℕ → ℤ
 diff u v = pos u -ℤ pos v
 
--- what the laws below need of `diff`
+-- the fact about `diff` that the laws below use
 pub diff_parts : (u v : ℕ) → up (diff u v) + v ≡ down (diff u v) + u
 unfolding diff
 diff_parts u v = omega (arith, ints)
@@ -26,7 +26,7 @@ diff_sum u v s t = same_in _ _ (omega (arith, diff_parts, sum_is_lem))
 pub diff_neg : (u v : ℕ) → neg_ℤ (diff u v) ≡ diff v u
 diff_neg u v = same_in _ _ (omega (arith, diff_parts, neg_is))
 
--- the two sides of a product, from the parts of its factors
+-- if a - b = u - v and c - d = s - t, then (a - b) · (c - d) = (u - v) · (s - t); both are stated without subtraction
 pub cross : (a b c d u v s t : ℕ) → a + v ≡ b + u → c + t ≡ d + s
     → (a * c + b * d) + (u * t + v * s) ≡ (a * d + b * c) + (u * s + v * t)
 cross a b c d u v s t e f =
@@ -39,7 +39,7 @@ diff_product u v s t =
     let sides = cross (up a) (down a) (up b) (down b) u v s t (diff_parts u v) (diff_parts s t) in
     same_in _ _ (omega (arith, diff_parts, product_is a b, sides))
 
--- for `simp`: an expression of whole numbers as one difference
+-- rules for `simp`, which write an expression of whole numbers as one difference
 pub pos_is : (n : ℕ) → pos n ≡ diff n 0
 pos_is n = same_in _ _ (omega (arith, diff_parts))
 
@@ -83,7 +83,7 @@ product_nonpositive (pos zero) k p = omega (arith, ints)
 product_nonpositive (pos (suc x)) k p = absurd (omega (arith, ints, p))
 product_nonpositive (negsuc x) k p = omega (arith, ints)
 
--- two numbers have the same sign if their products with positive naturals are equal
+-- if x · d = n · k for positive d and k, then x and n have the same sign
 pub same_nonneg : (x n : ℤ) (d k : ℕ) → 0 < k → x *ℤ pos d ≡ n *ℤ pos k → pos 0 ≤ℤ x → pos 0 ≤ℤ n
 same_nonneg x n d k q e p = by_lt_z n (pos 0) below (λ h. h)
   where

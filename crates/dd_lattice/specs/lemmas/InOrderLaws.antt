@@ -63,7 +63,7 @@ all_from p (c ∷ cs) ks =
 pub list_all-in_order : (p : Cell → Bool) (cs : List Cell) → list_all p (in_order cs) ≡ list_all p cs
 list_all-in_order p cs = all_from p cs [] ∙ and_true (list_all p cs)
 
--- the step of insert_members
+-- one step of the induction for insert_members
 insert_members_step : (k x : Cell) (xs rest : List Cell) → ((q : Cell) → Contains rest q ↔ ((k ≡ q) ⊎ Contains xs q)) → (r : Ordering) → (r ≡ Equal → k ≡ x) →
     (q : Cell) → Contains (match_ordering r (k ∷ x ∷ xs) (x ∷ xs) (x ∷ rest)) q ↔ ((k ≡ q) ⊎ Contains (x ∷ xs) q)
 insert_members_step k x xs rest ih Less same q = (
@@ -91,7 +91,7 @@ insert_members_step k x xs rest ih Greater same q = (
   ],
 )
 
--- an insertion adds the cell, and keeps those that were there
+-- after an insertion the list has the new cell and the cells that it had before, and no others
 insert_members : (ks : List Cell) (k q : Cell) → Contains (insert_key cell_cmp ks k) q ↔ ((k ≡ q) ⊎ Contains ks q)
 insert_members [] k q = (Contains-cons_cases k [] q, λ h. elim h [ inl is ↦ subst (Contains (k ∷ [])) is (Contains-first k []) | inr none ↦ absurd (Contains-nil q none) ])
 insert_members (x ∷ xs) k q = insert_members_step k x xs (insert_key cell_cmp xs k) (insert_members xs k) (cell_cmp k x) (cells_equal k x) q
@@ -118,7 +118,7 @@ in_order_members cs q = (
   λ c. (fold_members cs [] q).1 (inl c),
 )
 
--- when an ascending list is visited in order, the next cell is greater than all before it
+-- in an ascending list, the cell at index i is greater than all cells before it
 pub turn_after : (cells : List Cell) (i : ℕ) (d : Cell) (before : List Cell) → IsStrictlySortedBy cell_cmp cells → i < length cells → d ≡ get_or cells i d →
     before ≡ take i cells → All (λ c. cell_cmp c d ≡ Less) before
 turn_after cells i d before up h here is = rw is (λ k e below.

@@ -1,4 +1,4 @@
--- A region moved by a position keeps its order.
+-- Moving a region by a position keeps its order.
 use Rattle.std.proofs.Common.{◌≡◌, ℕ, ◌+◌, ℤ, ◌+ℤ◌, List, [], ◌∷◌, ◌++◌, map, length, take, get_or, ap, sym, refl, ◌<◌, ◌∙◌, arith, Some, None, if◌then◌else◌, pos, to_z, of_z, w32}
 use Rattle.std.proofs.lemmas.{Int.ints, List.take_more, List.map-append, List.Elements.All-push}
 use Rattle.std.specs.{Prelude.◌<ℤ◌, List.All, Ordering.int_cmp, Ordering.MatchOrdering, Cmp.int_cmp_is, Cmp.int_ranks}
@@ -31,7 +31,7 @@ moved_region ps v region near =
       members = λ p. (Contains-from_map move ps p, λ h. rw h.2 (Contains-map move ps h.0 h.1));
     }
 
--- one turn of the loop that moves positions: the next position p is moved by v, and lands in range
+-- one turn of the loop that moves positions: the next position p, moved by v, is in range
 pub moved_more : (ps made : List Place) (v p there : Place) (i : ℕ) → i < length ps → p ≡ get_or ps i p →
     (made ≡ map (λ q. moved q v) (take i ps)) × All IsInRange made → Some there ≡ (if is_in_range (moved p v) then Some (moved p v) else None) →
     (made ++ there ∷ [] ≡ map (λ q. moved q v) (take (i + 1) ps)) × All IsInRange (made ++ there ∷ [])

@@ -1,4 +1,4 @@
--- The positions of a box, listed by their numbers, ascend, and are exactly those within the box.
+-- The list of a box's positions by their numbers is ascending, and has exactly the positions within the box.
 use Rattle.std.proofs.Common.{◌≡◌, ℕ, zero, suc, ◌+◌, ◌*◌, ◌<◌, ◌≤◌, [], ◌∷◌, ◌++◌, ℤ, ◌≤ℤ◌, arith, ap, sym, subst, inl, inr}
 use Rattle.std.proofs.lemmas.{Int.ints, Nat.mul-add-lt, Nat.same_from_place, Bool.cases_order, Bool.cases_lt}
 use Rattle.std.proofs.lemmas.List.Elements.{Contains-append_left, Contains-push, Contains-push_cases}
@@ -14,7 +14,7 @@ use Rattle.dd_values.specs.lemmas.Numbers.{cmp_less, cmp_equal}
 abbrev IsBefore : Place → Place → Type 0
 IsBefore p q = place_cmp p q ≡ Less
 
--- every number in a later row of a table is greater than each in an earlier row
+-- in a table that is numbered row by row, each number in a later row is greater than each number in an earlier row
 table_order : (a b c d w : ℕ) → a < c → b < w → a * w + b < c * w + d
 table_order a b c d w p q = omega (arith, mul-add-lt a w b c p q)
 

@@ -1,4 +1,4 @@
--- A region stretched along an axis: the union of its copies that are moved along it by each number of steps between two bounds.
+-- A region stretched along an axis: the union of its copies, moved along the axis by every number of steps between two bounds.
 use Rattle.std.specs.{Prelude.◌≡◌, Prelude.ℤ, Prelude.pos, Prelude.◌≤ℤ◌, Prelude.◌<ℤ◌, Prelude.◌⊎◌, Prelude.List, List.Contains}
 use Rattle.dd_lattice.specs.{Place.Place, Place.place, Place.moved, Regions.PlaceSet, Regions.IsMoved, declared.growing.Axis.Axis}
 use Rattle.dd_lattice.specs.declared.growing.Axis.TheVariants.{X, Y, Z}
@@ -9,7 +9,7 @@ along X c = place c (pos 0) (pos 0)
 along Y c = place (pos 0) c (pos 0)
 along Z c = place (pos 0) (pos 0) c
 
--- p is a position of the list, moved along the axis by at least low and less than high
+-- p is a position of the list, moved along the axis by at least low and less than high steps
 pub record IsStretched (axis : Axis) (low high : ℤ) (ps : List Place) (p : Place) : Type 0 where
   pub origin : Place
   pub member : Contains ps origin
@@ -18,6 +18,6 @@ pub record IsStretched (axis : Axis) (low high : ℤ) (ps : List Place) (p : Pla
   pub most : steps <ℤ high
   pub is : p ≡ moved origin (along axis steps)
 
--- a position of the list, or one of its copy that is moved along the axis
+-- p is in the list, or in the copy of the list that is moved along the axis by c steps
 abbrev pub IsExtended : Axis → ℤ → List Place → PlaceSet
 IsExtended axis c ps p = Contains ps p ⊎ IsMoved ps (along axis c) p

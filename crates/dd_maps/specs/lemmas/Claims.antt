@@ -1,5 +1,5 @@
--- What follows for a rule that was made of a formula, for a look-up with small symbols, and for automata that break or change
--- nothing.
+-- What follows for a rule that was made from a formula, for a look-up whose symbols are below a bound, for an image that breaks no rule, and for a
+-- composition that changes no symbol.
 use Rattle.std.proofs.Common.{◌≡◌, ◌<◌, ℕ, Bool, true, false, Option, Some, None, refl, ap, sym, ◌∙◌, subst, eq-eqb, inl, inr}
 use Rattle.std.proofs.lemmas.Bool.{cases_Bool, eqb-true}
 use Rattle.std.specs.Prelude.{◌==◌, ◌⊎◌, is_some, IfSome}
@@ -11,7 +11,7 @@ use Rattle.dd_formula.specs.{LocalRule.LocalRule, LocalRule.local_rule, Automata
 use Rattle.dd_maps.specs.Pairs.{IsRuleOver}
 use Rattle.dd_maps.specs.Images.{image, KeepsAt, GivesBackAt, HasSymbolAt, AtEachNode, ImageBreaks, Changes, HasSymbols}
 
--- a rule that was made of a formula
+-- a rule that was made from a formula
 pub rule_over : (g : Grid) (s : SymbolSets) (f : Formula) (y : LocalRule) → IsFormula g s.symbols f → y ≡ local_rule g s f → IsRuleOver g s y
 rule_over g s f y formula made = subst (IsRuleOver g s) (sym made) (record { same = refl; formula = formula })
 
@@ -23,7 +23,7 @@ symbol_at k look c below some = by (look c) some (below c)
     by None given low = absurd (cc)
     by (Some t) given low = (t, low, refl)
 
--- an image that doesn't break the rule keeps it at each node
+-- an image that doesn't break the rule at a position keeps it at each node there
 both_hold : (a b : Bool) → ((a ≡ false) ⊎ (b ≡ false) → ⊥) → (a ≡ true) × (b ≡ true)
 both_hold true true h = (refl, refl)
 both_hold true false h = absurd (h (inr refl))

@@ -38,8 +38,8 @@ pub truth_symbol : (es : List Edge) (t : ℕ) (c : Cell) (look : Look) → truth
 truth_symbol es t c look =
     ap (λ f. truth es f (c ∷ []) look) (sym (v.rolls-Symbol here t)) ∙ ap (λ h. h (c ∷ []) look) (fold-roll-Formula Truth (truth_step es) (Formula-F.Symbol here t))
 
--- At a cell with the symbol t the guards of other nodes are true. The guard of the cell's own node is true exactly if the
--- node allows t, since t is then among the listed symbols. A node without a guard allows all symbols.
+-- Let a cell have the symbol t. There, the guards of other nodes are true. The guard of the cell's own node is true exactly if the node allows t,
+-- since the guard lists the symbols that the node allows. A node without a guard allows all symbols.
 module _ (es : List Edge) (s : SymbolSets) (c : Cell) (t : ℕ) (look : Look) (gives : look c ≡ Some t) (below : t < s.symbols) where
   symbols_say : (a : ℕ) → list_any (λ f. truth es f (c ∷ []) look) (map symbol_is (allowed_symbols s a)) ≡ allows s a t
   symbols_say a =
@@ -80,6 +80,6 @@ module _ (es : List Edge) (s : SymbolSets) (c : Cell) (t : ℕ) (look : Look) (g
   with_says f [] = sym (and_true (truth es f (c ∷ []) look))
   with_says f (g ∷ gs) = truth_and es (f ∷ g ∷ gs) (c ∷ []) look
 
-  -- the formula is true and the symbol is allowed
+  -- the guarded formula says that the formula is true and the symbol is allowed
   pub guarded_says : (n : ℕ) → c.node < n → (f : Formula) → truth es (guarded s n f) (c ∷ []) look ≡ (truth es f (c ∷ []) look && allows s c.node t)
   guarded_says n within f = with_says f (map (guard s) (guarded_nodes s n)) ∙ ap (λ b. truth es f (c ∷ []) look && b) (guards_say n within)

@@ -1,4 +1,4 @@
--- Tests of the items that a filter keeps, and tests of the first numbers that depend on one of the numbers alone.
+-- Tests of the items that a filter keeps. Also tests of all numbers below a bound whose outcome depends on one of these numbers alone.
 use Rattle.std.proofs.Common.{◌≡◌, ◌<◌, ℕ, Bool, true, false, List, [], ◌∷◌, length, get_or, refl, ap, sym, ◌∙◌, arith, eq-eqb, inl, inr}
 use Rattle.std.proofs.lemmas.{Bool.cases_Bool, Bool.eqb-true, List.Folds.list_any_at}
 use Rattle.std.proofs.lemmas.List.FromFn.{length-range_with_len, get_or-range_with_len}
@@ -25,7 +25,7 @@ module _ {X : Type 0} (p q : X → Bool) where
   any_kept [] = refl
   any_kept (x ∷ xs) = any_more x xs (any_kept xs) (q x) refl
 
--- each number passes or isn't b, exactly if b passes
+-- each number below n either isn't b or passes, exactly if b passes
 ask_one : (q : ℕ → Bool) (b a : ℕ) → q b ≡ true → (not (b == a) || q a) ≡ true
 ask_one q b a h = elim (cases_Bool (b == a)) [
   | inl same ↦ rw (same, ← eqb-true b a same) h
@@ -39,7 +39,7 @@ all_but_one q b n below = by (q b) refl
     by true h = all_pass (λ a. not (b == a) || q a) (λ a. ask_one q b a h) (range_with_len 0 n) ∙ sym h
     by false h = range_fails (λ a. not (b == a) || q a) n b below (rw (eq-eqb b b refl) h) ∙ sym h
 
--- some number passes and is t, exactly if t passes
+-- some number below n passes and is t, exactly if t passes
 ask_none : (q : ℕ → Bool) (t a : ℕ) → q t ≡ false → (q a && (t == a)) ≡ false
 ask_none q t a h = elim (cases_Bool (t == a)) [
   | inl same ↦ rw (← eqb-true t a same, h) refl

@@ -15,7 +15,7 @@ use Rattle.dd_maps.specs.Pairs.{IsRuleOver, guarded_of, marked, own_symbol, iden
 use Rattle.dd_maps.specs.Images.{image, DifferAt, BreaksAt, ChangesAt, HasSymbolAt, AtSomeNode, Differ, ImageBreaks, Changes, HasSymbols}
 use Rattle.dd_maps.specs.lemmas.GuardLaws.{truth_symbol, guarded_says}
 
--- what holds at the same cells holds at some node of the same positions
+-- if P and Q hold at the same cells of a position, P holds at some node of it exactly if Q does
 same_nodes : (n : ℕ) (P Q : Cell → Type 0) (v : Place) → ((a : ℕ) → a < n → P (cell v a) ↔ Q (cell v a)) → AtSomeNode n P v ↔ AtSomeNode n Q v
 same_nodes n P Q v each = (λ h. (h.0, h.1, (each h.0 h.1).0 h.2), λ h. (h.0, h.1, (each h.0 h.1).1 h.2))
 
@@ -27,14 +27,14 @@ value_always_zero g s look c = value_given _ look c
 value_marked : (g : Grid) (s : SymbolSets) (y : LocalRule) (look : Look) (c : Cell) → value (marked g s y) look c ≡ cond (truth g.edges (guarded_of s y) (c ∷ []) look) 0 1
 value_marked g s y look c = value_given _ look c
 
--- a number that is 0 exactly where two facts hold differs from 0 where one of them fails
+-- a number that is 0 if two facts hold, else 1, differs from 0 exactly if one of the facts fails
 differs_where : (a b : Bool) (x z : ℕ) → x ≡ cond (a && b) 0 1 → z ≡ 0 → (x ≡ z → ⊥) ↔ ((b ≡ false) ⊎ (a ≡ false))
 differs_where true true x z h h' = (λ other. absurd (other (h ∙ sym h')), λ e. elim e [ inl bad ↦ absurd (cc) | inr bad ↦ absurd (cc) ])
 differs_where true false x z h h' = (λ other. inl refl, λ e same. absurd (let both : 1 ≡ 0 = sym h ∙ (same ∙ h') in omega arith))
 differs_where false b x z h h' = (λ other. inr refl, λ e same. absurd (let both : 1 ≡ 0 = sym h ∙ (same ∙ h') in omega arith))
 
--- The composition is 0 where the guarded formula is true under the image. The image gives the cell a symbol of the alphabet,
--- so the guards there say that its node allows it.
+-- The composition gives 0 exactly where the guarded formula is true in the image. The image gives the cell a symbol of the alphabet, so the guards
+-- say that the cell's node allows this symbol.
 module _ (g : Grid) (s : SymbolSets) (y : LocalRule) (over : IsRuleOver g s y) (f : Automaton) (fits : automaton_fits (numbers_over g s) f ≡ true) (look : Look) where
   pub value_image : (c : Cell) → c.node < g.nodes →
       value (Composed (marked g s y) f) look c ≡ cond (is_true y c (image f look) && rule_allows y c.node (value f look c)) 0 1

@@ -1,4 +1,4 @@
--- The edges of a transfer graph, and paths with one state more.
+-- The edges of a transfer graph, and paths with one more state.
 use Rattle.std.proofs.Common.{◌≡◌, ℕ, zero, suc, ◌+◌, ◌*◌, ◌/◌, ◌%◌, ◌<◌, ◌≤◌, ◌^◌, Bool, true, false, cond, List, [], ◌∷◌, ◌++◌, length, get_or, Some, None, arith, refl, sym, ap, ◌∙◌}
 use Rattle.std.proofs.{lemmas.Bool.Decides.nat_tests, lemmas.Nat.mod-mul-add, lemmas.Nat.mod_below, Math.Nat.mul-le-mul_right}
 use Rattle.std.specs.Prelude.{◌&&◌, nat_lt, slice_index_or}
@@ -28,7 +28,7 @@ step_at g u t v false false p q h = absurd (cc)
 pub step : (g : Transfer) (u t v : ℕ) → next_of g u t ≡ Some v → Step g u t v
 step g u t v h = step_at g u t v (nat_lt u g.states) (nat_lt t g.slices) refl refl h
 
--- a state's last slice is its number modulo the slices
+-- the number of a state's last slice is the state's number modulo the number of slices
 mod_of_multiple : (x s n : ℕ) → 0 < s → 0 < n → n % s ≡ 0 → x % n % s ≡ x % s
 mod_of_multiple x s n some more h =
     let q = x / n in
@@ -63,7 +63,7 @@ path_end g (s ∷ []) u v d zero e path = sym path.1
 path_end g (s ∷ t ∷ ss) u v d zero e path = absurd (omega arith)
 path_end g (s ∷ ss) u v d (suc k) e path = path_end g ss s v d k (omega arith) path.1
 
--- a path and one state more
+-- a path with one more state at its end
 pub path_push : (g : Transfer) (ss : List ℕ) (u v s : ℕ) → IsPath g u ss v → next_of g v (s % g.slices) ≡ Some s → IsPath g u (ss ++ s ∷ []) s
 path_push g [] u v s walk h = (ap (λ (x : ℕ). next_of g x (s % g.slices)) walk ∙ h, refl)
 path_push g (x ∷ ss) u v s walk h = (walk.0, path_push g ss x v s walk.1 h)

@@ -7,12 +7,12 @@ use Rattle.dd_meancycle.specs.declared.edges.Edge.{Edge}
 abbrev pub at : List (Option ℕ) → ℕ → Option ℕ
 at row v = slice_index_or row v None
 
--- an entry, once another walk of the weight x is known
+-- the new value of an entry once another walk, of the weight x, is known
 abbrev pub lowered : Option ℕ → ℕ → Option ℕ
 lowered None x = Some x
 lowered (Some y) x = Some (min y x)
 
--- the row after the edge e extends a walk of the given weight, if there is one
+-- the row after the edge e has extended a walk of the given weight, if there is such a walk
 abbrev pub lower_at : Option ℕ → List (Option ℕ) → Edge → List (Option ℕ)
 lower_at None row e = row
 lower_at (Some a) row e = slice_set row e.to (lowered (at row e.to) (a + e.weight))
@@ -47,7 +47,7 @@ abbrev pub IsAtMost : Option ℕ → ℕ → Type 0
 IsAtMost None x = ⊥
 IsAtMost (Some y) x = y ≤ x
 
--- the entry is at most the bound, if there is one
+-- if there is an entry, it is at most the bound
 abbrev pub IsUpToIn : ℕ → Option ℕ → Type 0
 IsUpToIn bound None = Unit {0}
 IsUpToIn bound (Some a) = a ≤ bound

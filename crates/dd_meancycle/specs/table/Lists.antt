@@ -6,7 +6,7 @@ use Rattle.dd_meancycle.specs.declared.{edges.Edge.Edge, table.EdgeMean.EdgeMean
 use Rattle.dd_meancycle.specs.declared.least.Mean.TheVariants.{Least, NoCycle}
 use Rattle.dd_meancycle.specs.declared.table.EdgeMean.TheVariants as edge_mean
 
--- the window of this number as an edge, if it is one
+-- the window with this number as an edge, if it is one
 abbrev pub edge_at : Transfer → ℕ → Option Edge
 edge_at g number = option_map (λ v. record { from = number / g.slices; to = v; weight = weight_at g (number % g.slices) }) (next_of g (number / g.slices) (number % g.slices))
 
@@ -19,7 +19,7 @@ pub record AreEdgesTo (g : Transfer) (n : ℕ) (edges : List Edge) : Type 0 wher
 abbrev pub AreEdges : Transfer → List Edge → Type 0
 AreEdges g edges = AreEdgesTo g (g.states * g.slices) edges
 
--- along an edge of weight w in the list the potential rises by at most l * w - m
+-- along each edge of the list the potential rises by at most l * w - m, where w is the weight of the edge
 abbrev pub ArePotentialsAlong : ℕ → ℕ → List ℤ → List Edge → Type 0
 ArePotentialsAlong m l ps edges = All (λ e. (potential_of ps e.to -ℤ potential_of ps e.from) ≤ℤ (pos (l * e.weight) -ℤ pos m)) edges
 

@@ -1,6 +1,6 @@
--- What is read off the table of least weights. A longest walk has `last` edges, the greatest length in the table. A rise of a
--- state goes from its entry in a level k below the last one to its entry in the last one. Its mean is the difference of the
--- two, divided by last - k.
+-- What is read off the table of least weights. Its levels are its rows, one for each length. A longest walk has `last` edges, the greatest length in
+-- the table. A rise of a state goes from its entry in a level k below the last level to its entry in the last level. The mean of the rise is the
+-- second entry less the first, divided by last - k.
 use Rattle.std.specs.Prelude.{◌≡◌, ℕ, suc, ◌∷◌, ◌+◌, ◌-◌, ◌*◌, ◌<◌, ◌≤◌, List, [], length, Option, Some, None, slice_index_or, ◌⊎◌, Bool, true, false, ◌^◌, is_some, ◌&&◌, ◌==◌}
 use Rattle.std.specs.{List.Contains, Int.IsGcd}
 use Rattle.dd_meancycle.specs.declared.{edges.Edge.Edge, rises.Ratio.Ratio, rises.Steep.Steep}
@@ -34,17 +34,17 @@ pub record IsPotential (levels : List (List (Option ℕ))) (last v m l p : ℕ) 
   pub from : level_weight_at levels at_length v ≡ Some at_weight
   pub is : p ≡ l * at_weight + m * (last - at_length)
 
--- r is the greater of two means: `best`, and that of the rise from the entry b, if there is one, to `end` over `run` edges
+-- r is the greater of two means: `best`, and the mean of the rise from b to `end` over `run` edges; it is `best` if there is no entry b
 abbrev pub IsSteeper : Ratio → ℕ → Option ℕ → ℕ → Ratio → Type 0
 IsSteeper best end None run r = r ≡ best
 IsSteeper best end (Some b) run r = (end * r.length ≤ b * r.length + r.weight * run) × ((r ≡ best) ⊎ ((b + r.weight ≡ end) × (r.length ≡ run) × (best.weight * run < r.weight * best.length)))
 
--- r is the smaller of `best` and l * b + m * run, where the entry b, if there is one, is `run` levels below the last
+-- r is the smaller of `best` and l * b + m * run, where the entry b is `run` levels below the last; it is `best` if there is no entry b
 abbrev pub IsLesser : ℕ → Option ℕ → ℕ → ℕ → ℕ → ℕ → Type 0
 IsLesser best None m l run r = r ≡ best
 IsLesser best (Some b) m l run r = (r ≤ best) × (r ≤ l * b + m * run) × ((r ≡ best) ⊎ (r ≡ l * b + m * run))
 
--- whether there is a walk, and it weighs `end` together with an edge of the weight `weight`
+-- whether there is a walk whose weight, plus the weight `weight` of an edge, is `end`
 abbrev pub arrives : Option ℕ → ℕ → ℕ → Bool
 arrives None weight end = false
 arrives (Some a) weight end = (a + weight) == end
@@ -53,13 +53,13 @@ arrives (Some a) weight end = (a + weight) == end
 abbrev pub is_back : List (Option ℕ) → ℕ → ℕ → Edge → Bool
 is_back before state weight e = (e.to == state) && arrives (at before e.from) e.weight weight
 
--- r is the one of `best` and the state `state`, whose mean is h, that has the smaller mean
+-- of `best` and the state `state`, whose mean is h, r is the one with the smaller mean
 abbrev pub IsGentler : Option Steep → ℕ → Option Ratio → Option Steep → Type 0
 IsGentler best state None r = r ≡ best
 IsGentler None state (Some h) r = r ≡ Some (record { state = state; mean = h })
 IsGentler (Some o) state (Some h) r = ((r ≡ Some o) × (o.mean.weight * h.length ≤ h.weight * o.mean.length)) ⊎ ((r ≡ Some (record { state = state; mean = h })) × (h.weight * o.mean.length < o.mean.weight * h.length))
 
--- a longest walk to v, of the weight `end`, is a walk to a state on the cycle, then the cycle, then the rest
+-- a longest walk to v has the weight `end`, and consists of a walk to a state on the cycle, then the cycle, then the rest
 pub record IsCycleOnWalk (edges : List Edge) (n v end : ℕ) (cycle : List Edge) : Type 0 where
   pub at_state : ℕ
   pub before : ℕ
@@ -84,7 +84,7 @@ marked (Some r ∷ os) = suc (marked os)
 abbrev pub HasRiseIn : List (List (Option ℕ)) → ℕ → ℕ → ℕ → ℕ → ℕ → Type 0
 HasRiseIn levels last m l v end = (k : ℕ) × (before : ℕ) × (k < last) × (level_weight_at levels k v ≡ Some before) × (before * l + m * (last - k) ≤ end * l)
 
--- s is a state below i with its greatest mean of a rise, and this is the least among the states below i with a longest walk
+-- s is a state below i, with the greatest mean of its rises. This mean is the least among those of the states below i to which a longest walk leads
 pub record IsGentlest (levels : List (List (Option ℕ))) (last i : ℕ) (s : Steep) : Type 0 where
   pub below : s.state < i
   pub steepest : IsSteepest levels last s.state s.mean.weight s.mean.length
@@ -92,7 +92,7 @@ pub record IsGentlest (levels : List (List (Option ℕ))) (last i : ℕ) (s : St
   pub small_weight : s.mean.weight < 2 ^ 32
   pub small_length : s.mean.length < 2 ^ 31
 
--- the choice among the states below i: none if none has a longest walk
+-- the choice among the states below i; there is none if no longest walk leads to any of them
 abbrev pub LeastSoFar : List (List (Option ℕ)) → ℕ → ℕ → Option Steep → Type 0
 LeastSoFar levels last i None = (v : ℕ) → v < i → level_weight_at levels last v ≡ None
 LeastSoFar levels last i (Some s) = IsGentlest levels last i s
@@ -105,7 +105,7 @@ pub record IsReduced (mean r : Ratio) : Type 0 where
   pub short : r.length ≤ mean.length
   pub light : r.weight ≤ mean.weight
 
--- h is the height of v: the greatest number of edges below `last` that a walk to v has
+-- h is the height of v: the greatest number of edges, below `last`, of a walk to v
 pub record IsHeight (levels : List (List (Option ℕ))) (last v h : ℕ) : Type 0 where
   pub below : h < last
   pub here : is_some (level_weight_at levels h v) ≡ true

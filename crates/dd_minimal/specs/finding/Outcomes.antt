@@ -1,4 +1,4 @@
--- The outcome of a filling of the reads, and the table of all outcomes.
+-- The outcome of a filling of the cells that a rule reads, and the table of the outcomes of all fillings.
 use Rattle.std.specs.Prelude.{ℕ, ◌++◌, Bool, true, false, cond, List, map, length}
 use Rattle.dd_lattice.specs.declared.position.Cell.{Cell}
 use Rattle.dd_formula.specs.LocalRule.{LocalRule, cells_at}
@@ -24,7 +24,7 @@ abbrev pub of_truth : Bool → Outcome
 of_truth true = Holds
 of_truth false = Breaks
 
--- the outcome of a filling that begins with the allowed symbols `start`, and gives the rest of the cells the symbols ss
+-- the outcome of a filling that begins with the allowed symbols `start`, and gives the remaining cells the symbols ss
 abbrev pub outcome_behind : LocalRule → ℕ → List Cell → List ℕ → List ℕ → Outcome
 outcome_behind r a rest start ss = cond (are_allowed r rest ss) (of_truth (is_true_at_origin r a (start ++ ss))) Barred
 
@@ -32,7 +32,7 @@ outcome_behind r a rest start ss = cond (are_allowed r rest ss) (of_truth (is_tr
 abbrev pub outcome : LocalRule → ℕ → List ℕ → Outcome
 outcome r a ss = cond (are_allowed r (cells_at r a) ss) (of_truth (is_true_at_origin r a ss)) Barred
 
--- the outcome of a filling that gives the rest of the cells the symbols ss: o if they are allowed
+-- the outcome of a filling that gives the remaining cells the symbols ss: o if these are allowed, else `Barred`
 abbrev pub known_outcome : LocalRule → List Cell → Outcome → List ℕ → Outcome
 known_outcome r rest o ss = cond (are_allowed r rest ss) o Barred
 

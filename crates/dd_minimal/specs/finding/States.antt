@@ -7,8 +7,8 @@ use Rattle.dd_minimal.specs.Minimal.{words, thinned, listed}
 use Rattle.dd_minimal.specs.finding.Numbers.{IsWord, number, open_strides, least_number, KeepsBelow}
 use Rattle.dd_minimal.specs.finding.{Outcomes.outcome, Outcomes.outcomes, Outcomes.does_break, Walks.is_enough}
 
--- The first k cells are thinned to p, and the rest is whole. For that pattern, ds are the strides of the cells left out, and
--- `from` is its least number.
+-- The first k cells are thinned to p, and all later cells are kept. For this pattern, ds are the strides of the cells that are left out, and `from`
+-- is the least number of a filling that agrees with the pattern.
 pub record IsThinnedTo (m : ℕ) (table : List Outcome) (ss : List ℕ) (k : ℕ) (p : List (Option ℕ)) (ds : List ℕ) (from : ℕ) : Type 0 where
   pub as_many : length p ≡ k
   pub below : KeepsBelow m p
@@ -17,7 +17,7 @@ pub record IsThinnedTo (m : ℕ) (table : List Outcome) (ss : List ℕ) (k : ℕ
   pub least : from ≡ least_number m (p ++ whole (drop k ss))
   pub enough : is_enough m table (p ++ whole (drop k ss)) ≡ true
 
--- the same after all cells
+-- the state after all cells: p is the thinned filling
 pub record IsThinned (m : ℕ) (table : List Outcome) (ss : List ℕ) (p : List (Option ℕ)) (ds : List ℕ) (from : ℕ) : Type 0 where
   pub pattern : p ≡ thinned (is_enough m table) ss
   pub as_many : length p ≡ length ss
@@ -25,15 +25,15 @@ pub record IsThinned (m : ℕ) (table : List Outcome) (ss : List ℕ) (p : List 
   pub strides : ds ≡ open_strides m p
   pub least : from ≡ least_number m p
 
--- the fillings that break the rule, from the number k on
+-- the fillings that break the rule and whose number is at least k
 abbrev pub breaking_from : LocalRule → ℕ → ℕ → List (List ℕ)
 breaking_from r a k = filter (λ ss. does_break (outcome r a ss)) (drop k (words r.symbols (length (cells_at r a))))
 
--- exactly the words that agree with some of the patterns are marked
+-- exactly the words that agree with at least one of the patterns are marked
 abbrev pub AreMarks : ℕ → ℕ → List Bool → List (List (Option ℕ)) → Type 0
 AreMarks m n marks ps = (ss : List ℕ) → IsWord m n ss → slice_index_or marks (number m ss) false ≡ is_covered ps ss
 
--- the first k fillings are done: the patterns found, followed by those of the other fillings, are the whole list
+-- the first k fillings are done: the patterns found so far, followed by those that the later fillings still give, are the whole list
 pub record IsListedTo (r : LocalRule) (a : ℕ) (k : ℕ) (found : List (List (Option ℕ))) (ms : List Bool) : Type 0 where
   pub whole : found ++ listed (thinned (is_enough r.symbols (outcomes r a))) found (breaking_from r a k) ≡
       listed (thinned (is_enough r.symbols (outcomes r a))) [] (breaking_from r a 0)

@@ -1,16 +1,16 @@
--- What the first symbols of a list settle of a leaf, and of a list of formulas.
+-- When the first symbols of a list settle the truth of a leaf, or of all or some of several formulas.
 use Rattle.std.specs.{Prelude.ℕ, Prelude.◌≡◌, Prelude.◌++◌, Prelude.Bool, Prelude.List, Prelude.slice_get, List.list_all, List.list_any}
 use Rattle.dd_expansion.specs.Truth.{is_symbol}
 use Rattle.dd_numbered.specs.{declared.numbered.Numbered.Numbered, Numbered.holds_in}
 
--- whatever symbols follow, b says whether the list has the symbol s at the index k
+-- b says whether the list has the symbol s at the index k, whatever symbols follow the first ones
 abbrev pub IsLeafSettled : ℕ → ℕ → List ℕ → Bool → Type 0
 IsLeafSettled s k ss b = (more : List ℕ) → is_symbol s (slice_get (ss ++ more) k) ≡ b
 
--- whatever symbols follow, b says whether all of the formulas are true
+-- b says whether all of the formulas are true, whatever symbols follow the first ones
 abbrev pub AreAllSettled : List Numbered → List ℕ → Bool → Type 0
 AreAllSettled es ss b = (more : List ℕ) → list_all (λ e. holds_in e (ss ++ more)) es ≡ b
 
--- whatever symbols follow, b says whether some formula is true
+-- b says whether some formula is true, whatever symbols follow the first ones
 abbrev pub IsAnySettled : List Numbered → List ℕ → Bool → Type 0
 IsAnySettled es ss b = (more : List ℕ) → list_any (λ e. holds_in e (ss ++ more)) es ≡ b

@@ -1,5 +1,5 @@
--- Forms: the parts of the grammar. A form has a reader, and a least text, which completes a text in which nothing of the form was
--- read.
+-- Forms: the parts of the grammar. A form has a reader and a least text. If reading stops before anything of the form was read, the least text is
+-- what is missing of the form.
 use Rattle.std.specs.Prelude.{ℕ, ◌+◌, List, [], ◌∷◌, ◌++◌, cond, ◌==◌}
 use Rattle.dd_output.specs.reading.Stops.{Read, before, word_at, number_at, then_at, after_at, map_at, many_at, copies, Entry, item, last, choice_at}
 
@@ -7,14 +7,14 @@ pub record Form (A : Type 0) : Type 0 where
   pub read : List ℕ → Read A
   pub least : List ℕ
 
--- no text has to follow
+-- no text has to follow, whatever the number
 abbrev pub nothing : ℕ → List ℕ
 nothing _ = []
 
 abbrev pub word : List ℕ → Form (Unit {0})
 word w = record { read = word_at w; least = w }
 
--- a number, and the byte that ends it
+-- a number from `low` to `bound`, and the byte `end` after it
 abbrev pub number : ℕ → ℕ → ℕ → Form ℕ
 number low bound end = record { read = map_at (λ n. n.0) (number_at low bound end end nothing); least = (48 + low) ∷ end ∷ [] }
 
@@ -26,7 +26,7 @@ both f g = record { read = then_at (λ bytes. before g.least (f.read bytes)) (λ
 abbrev pub after : {A : Type 0} → List ℕ → Form A → Form A
 after w f = record { read = after_at w f.least f.read; least = w ++ f.least }
 
--- the same text with another value
+-- the same texts; the function h gives the new value
 abbrev pub mapped : {A B : Type 0} → (A → B) → Form A → Form B
 mapped h f = record { read = map_at h f.read; least = f.least }
 
@@ -57,7 +57,7 @@ item_of x = item x
 abbrev pub fork_of : {A B : Type 0} → (ℕ × ℕ) × Entry A B → ℕ × Entry A B
 fork_of x = (x.0.0, x.1)
 
--- a number, and then the first form after a line feed, or the second one after a space
+-- a number, and then either a line feed and the first form, or a space and the second form
 abbrev pub forked : {A B : Type 0} → ℕ → Form B → Form A → Form (ℕ × Entry A B)
 forked bound f g = record {
   read = map_at fork_of (then_at (number_at 0 bound 10 32 (λ _. f.least))
@@ -65,7 +65,7 @@ forked bound f g = record {
   least = 48 ∷ 10 ∷ f.least;
 }
 
--- The rows of a table, each with the byte that its texts begin with. The last row reads what begins with any other byte.
+-- The rows of a table, each with the byte with which its texts begin. The last row reads whatever begins with any other byte.
 abbrev pub table : {A : Type 0} → ℕ × Form A → List (ℕ × Form A) → Form A
 table row [] = row.1
 table row (next ∷ rows) = either row.0 row.1 (table next rows)

@@ -1,5 +1,5 @@
--- The grammar of answers, as a table with a row for each kind of answer. Bytes are given as numbers, in decimal. Here a name that
--- ends with `_of` is no reader: it makes a value from the values of its parts.
+-- The grammar of answers, as a table. Each row is for one kind of answer, or for two kinds whose texts begin alike. Bytes are given as numbers, in
+-- decimal. Here a function whose name ends with `_of` isn't a reader: it makes a value from the values of its parts.
 use Rattle.std.specs.Prelude.{ℕ, ℤ, List, [], ◌∷◌, Option, Some, None, codes}
 use Rattle.dd_clause.specs.declared.clause.Literal.{Literal}
 use Rattle.dd_derivation.specs.declared.step.Step.{Step}
@@ -110,14 +110,14 @@ right_and_refutations = both (number 0 most_number 10) (both refutation refutati
 unfoldable pub yes_row : Form Answer
 yes_row = mapped yes_of (after (codes "YES ") (forked most_number refutation right_and_refutations))
 
--- `NO`, after these two letters
+-- `NO`, without these two letters
 unfoldable pub no_row : Form Answer
 no_row = mapped no_of (after (codes " ") (both side_and_periods (after (codes "conf ") (numbers 1 None))))
 
 unfoldable pub unknown_row : Form Answer
 unknown_row = mapped unknown_of (after (codes "UNKNOWN ") reason_word)
 
--- `LIST`, after its `L`
+-- `LIST`, without its `L`
 unfoldable pub list_row : Form Answer
 list_row = mapped list_of (after (codes "IST ") (counted 0 most_number pattern))
 
@@ -133,7 +133,7 @@ empty_row = mapped empty_of (after (codes "EMPTY\nranks ") (numbers 1 None))
 unfoldable pub amounts_and_duals : Form (List ℕ × List ℕ)
 amounts_and_duals = after (codes "amounts") (both amounts (after (codes "duals ") (numbers 1 None)))
 
--- `BOUND`, after its `B`
+-- `BOUND`, without its `B`
 unfoldable pub bound_row : Form Answer
 bound_row = mapped bound_of (after (codes "OUND ") (both fraction (after (codes "denominator ") (both (number 1 most_number 10) amounts_and_duals))))
 
@@ -159,7 +159,7 @@ conjugate_row = mapped conjugate_of (after (codes "CONJUGATE ") (both (numbers 4
 abbrev pub broken_of : ℕ × ((List ℕ × ℕ) × List ℕ) → Answer
 broken_of x = answer.Broken x.0 x.1.0.0 x.1.0.1 x.1.1
 
--- `BROKEN`, after its `B`
+-- `BROKEN`, without its `B`
 unfoldable pub broken_row : Form Answer
 broken_row = mapped broken_of (after (codes "ROKEN ") (both (number 1 4 32) (both periods (after (codes "conf ") (numbers 1 None)))))
 
@@ -175,14 +175,14 @@ some_weight = both (number 1 most_number 10) (both (after (codes "conf ") (numbe
 abbrev pub least_of : ℕ × (List ℕ × List Step) → Answer
 least_of x = answer.Least x.0 x.1.0 x.1.1
 
--- `LEAST`, after its `L`
+-- `LEAST`, without its `L`
 unfoldable pub least_row : Form Answer
 least_row = mapped least_of (after (codes "EAST ") (either 48 zero_weight some_weight))
 
 abbrev pub nothing_of : List Step → Answer
 nothing_of steps = answer.Nothing steps
 
--- `NONE`, after its `NO`
+-- `NONE`, without its `NO`
 unfoldable pub nothing_row : Form Answer
 nothing_row = mapped nothing_of (after (codes "NE\n") refutation)
 
@@ -200,7 +200,7 @@ list_or_least = after (codes "L") (either 69 least_row list_row)
 unfoldable pub bound_or_broken : Form Answer
 bound_or_broken = after (codes "B") (either 82 broken_row bound_row)
 
--- the rows by their first bytes: O, Y, N, U, L, D, E, B, M, C and I
+-- the rows, each with its first byte: O, Y, N, U, L, D, E, B, M, C and I
 unfoldable pub answer_form : Form Answer
 answer_form = table (79, outside_row) ((89, yes_row) ∷ (78, no_or_nothing) ∷ (85, unknown_row) ∷ (76, list_or_least) ∷ (68, density_row) ∷ (69, empty_row)
     ∷ (66, bound_or_broken) ∷ (77, minimal_row) ∷ (67, conjugate_row) ∷ (73, inside_row) ∷ [])

@@ -1,5 +1,5 @@
--- Readers of lists: those that a 0 ends, and the numbers that a line ends with. A name that ends with `_of` is no reader: it makes a
--- value from the values of its parts. 48 is the digit 0, 49 the digit 1, 45 the minus sign, 32 a space, and 10 a line feed.
+-- Readers of lists of two sorts: those that end with a 0, and the numbers at the end of a line. A function whose name ends with `_of` isn't a
+-- reader: it makes a value from the values of its parts. 48 is the digit 0, 49 the digit 1, 45 the minus sign, 32 a space, and 10 a line feed.
 use Rattle.std.specs.Prelude.{ℕ, ℤ, pos, negsuc, zero, suc, ◌-◌, ◌≤◌, List, [], ◌∷◌, ◌++◌, Bool, true, false, cond, ◌==◌, nat_lt, nat_le, Option, Some, None}
 use Rattle.dd_values.specs.Bounds.{most_variables}
 use Rattle.dd_clause.specs.declared.clause.Literal.{Literal}
@@ -7,7 +7,7 @@ use Rattle.dd_certificate.specs.Bounds.{most_number, most_count}
 use Rattle.dd_output.specs.reading.Stops.{Read, before, word_at, number_at, after_at, map_at, Entry, item, last, entries_at, choice_at}
 use Rattle.dd_output.specs.reading.Forms.{Form, nothing}
 
--- ---- lists that a 0 ends
+-- ---- lists that end with a 0
 
 abbrev pub positive_of : ℕ × ℕ → Entry Literal (Unit {0})
 positive_of n = item (record { variable = n.0; positive = true })
@@ -21,7 +21,7 @@ entry_of n = item n.0
 abbrev pub ended : {A : Type 0} → Unit {0} → Entry A (Unit {0})
 ended u = last u
 
--- a variable; the text that completes it ends the list
+-- a variable; if reading stops in it, the missing text also ends the list
 abbrev pub variable_at : List ℕ → Read (ℕ × ℕ)
 variable_at bytes = before (48 ∷ 32 ∷ []) (number_at 1 most_variables 32 32 nothing bytes)
 
@@ -44,7 +44,7 @@ literals = record { read = map_at items_of (entries_at (λ _. literal_entry) 0);
 abbrev pub numbers_until : ℕ → Form (List ℕ)
 numbers_until end = record { read = map_at items_of (entries_at (λ _. number_entry end) 0); least = 48 ∷ end ∷ [] }
 
--- ---- numbers that a line ends with: at least `least`, and at most `most` if there is such a bound
+-- ---- the numbers at the end of a line: at least `least` of them, and at most `most` if there is such a bound
 
 -- the number with index k is the last one allowed
 abbrev pub is_last : Option ℕ → ℕ → Bool
@@ -56,15 +56,14 @@ abbrev pub AtMost : Option ℕ → ℕ → Type 0
 AtMost None n = Unit {0}
 AtMost (Some most) n = n ≤ most
 
--- The bytes that can end the number with index k, from 0. `end_at` is that of the shortest line allowed, `other_at` that of the
--- longest.
+-- The bytes that can end the number with index k, from 0. `end_at` ends it in the shortest line allowed, and `other_at` in the longest one.
 abbrev pub end_at : ℕ → ℕ → ℕ
 end_at least k = cond (nat_lt (suc k) least) 32 10
 
 abbrev pub other_at : Option ℕ → ℕ → ℕ
 other_at most k = cond (is_last most k) 10 32
 
--- this many zeros at the end of a line
+-- this many zeros, each with a space after it, but the last one with a line feed
 abbrev pub zeros : ℕ → List ℕ
 zeros zero = []
 zeros (suc zero) = 48 ∷ 10 ∷ []
@@ -90,7 +89,7 @@ minus_of n = (negsuc (n.0 - 1), n.1)
 abbrev pub plus_of : ℕ × ℕ → ℤ × ℕ
 plus_of n = (pos n.0, n.1)
 
--- a number up to `bound` that may have a minus sign, and the byte that ends it; `rest` is the least text that has to follow
+-- a number from -`bound` to `bound`, and the byte that ends it; `rest` is the least text that has to follow
 unfoldable pub signed_at : ℕ → ℕ → ℕ → List ℕ → List ℕ → Read (ℤ × ℕ)
 signed_at bound end other rest = choice_at 45
     (map_at minus_of (after_at (45 ∷ []) (49 ∷ end ∷ rest) (number_at 1 bound end other (λ _. rest))))

@@ -1,4 +1,4 @@
--- Readers of periods, and of the shear that may follow two or three of them.
+-- Readers of periods, and of the shear that may follow two or three periods.
 use Rattle.std.specs.Prelude.{ℕ, List, [], ◌∷◌, ◌++◌, cond, ◌==◌, nat_lt, codes}
 use Rattle.dd_certificate.specs.Bounds.{most_number}
 use Rattle.dd_output.specs.reading.Stops.{Read, number_at, map_at, Entry, item, last, entries_at, choice_at}

@@ -1,4 +1,4 @@
--- Which entries of the grammar the values that the code returns stand for.
+-- These functions take a value that the code returns for an entry to the entry of the grammar that it stands for.
 use Rattle.std.specs.Prelude.{ℕ, ℤ, Option, Some, None, Bool, cond}
 use Rattle.dd_clause.specs.declared.clause.Literal.{Literal}
 use Rattle.dd_certificate.specs.declared.answer.Answer.{Answer}
@@ -6,7 +6,7 @@ use Rattle.dd_output.specs.{declared.sides.PeriodEntry.PeriodEntry, reading.Stop
 use Rattle.dd_output.specs.reading.Periods.{PeriodsEnd, ends, shears}
 use Rattle.dd_output.specs.declared.sides.PeriodEntry.TheVariants as entry
 
--- an item of a list, or `None` at its end
+-- an item of a list; `None` stands for the end of the list
 abbrev pub seen : {A : Type 0} → Option A → Entry A (Unit {0})
 seen None = last tt
 seen (Some x) = item x

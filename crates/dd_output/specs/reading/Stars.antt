@@ -1,11 +1,11 @@
--- Readers of the symbols and stars that a line ends with. A star stands for a cell that is left out.
+-- Readers of the symbols and stars at the end of a line. A star stands for a cell that is left out.
 use Rattle.std.specs.Prelude.{ℕ, suc, ◌-◌, List, [], ◌∷◌, cond, ◌==◌, ◌||◌, Option, Some, None, Ok, Err}
 use Rattle.dd_certificate.specs.Bounds.{most_number}
 use Rattle.dd_output.specs.reading.Stops.{Read, stop, number_at, after_at, map_at, Entry, entries_at, choice_at}
 use Rattle.dd_output.specs.reading.Forms.{Form}
 use Rattle.dd_output.specs.reading.Lists.{end_at, other_at, zeros, line_entry_of, line_of}
 
--- one of two bytes; the first one, and `rest` after it, complete a line without it
+-- the byte `end` or the byte `other`; if neither of them comes, `end` and then `rest` are missing
 abbrev pub end_byte_at : ℕ → ℕ → List ℕ → List ℕ → Read ℕ
 end_byte_at end other rest [] = Err (stop [] (end ∷ rest))
 end_byte_at end other rest (b ∷ bytes) = cond (b == end || b == other) (Ok (b, bytes)) (Err (stop (b ∷ bytes) (end ∷ rest)))
@@ -25,6 +25,6 @@ symbol_or_star_at end other rest = choice_at 42
 unfoldable pub symbol_or_star_entry : ℕ → List ℕ → Read (Entry (Option ℕ) (Option ℕ))
 symbol_or_star_entry k = map_at line_entry_of (symbol_or_star_at (end_at 1 k) (other_at None k) (zeros (1 - suc k)))
 
--- the symbols and stars that a line ends with, at least one
+-- the symbols and stars at the end of a line, at least one
 unfoldable pub symbols_and_stars : Form (List (Option ℕ))
 symbols_and_stars = record { read = map_at line_of (entries_at symbol_or_star_entry 0); least = zeros 1 }

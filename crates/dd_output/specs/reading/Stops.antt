@@ -1,4 +1,4 @@
--- Readers. A reader takes bytes to the value that they begin with and the bytes after it, or to where reading stops.
+-- Readers. A reader takes bytes to the value with which they begin and the bytes after it, or else to the place where reading stops.
 use Rattle.std.specs.Prelude.{◌≡◌, ℕ, zero, suc, ◌+◌, ◌*◌, ◌-◌, List, [], ◌∷◌, ◌++◌, length, take, drop, Result, Ok, Err, Bool, false, cond, ◌&&◌, ◌||◌, nat_lt, nat_le, ◌==◌, replicate}
 use Rattle.dd_output.specs.declared.fault.ReadFault.{ReadFault}
 use Rattle.dd_output.specs.declared.fault.ReadFault.TheVariants as faults
@@ -21,7 +21,7 @@ abbrev pub ◌>>=◌ : {A B : Type 0} → Result A Stop → (A → Result B Stop
 (Ok x) >>= f = f x
 (Err s) >>= f = Err s
 
--- a reader after which this text has to come: if it stops, the text is missing too
+-- the result of a reader, where this text has to come next: if the reader stops, the text is missing, too
 abbrev pub before : {A : Type 0} → List ℕ → Result A Stop → Result A Stop
 before text (Ok x) = Ok x
 before text (Err s) = Err (stop s.left (s.missing ++ text))
@@ -36,7 +36,7 @@ abbrev pub Fails : {A : Type 0} → ReadFault → Result A Stop → Type 0
 Fails faults.Memory read = Unit {0}
 Fails (faults.Stopped count) read = StoppedAt count read
 
--- What a function returns, seen through `view`, is what reading gives, unless memory runs out.
+-- What a function of the code returns, seen through `view`, is what the reader gives, unless memory runs out.
 abbrev pub Gives : {X A : Type 0} → (X → A) → Result X ReadFault → Result A Stop → Type 0
 Gives view (Ok x) read = read ≡ Ok (view x)
 Gives view (Err e) read = Fails e read
@@ -47,16 +47,16 @@ word_at [] bytes = Ok (tt, bytes)
 word_at (w ∷ word) [] = Err (stop [] (w ∷ word))
 word_at (w ∷ word) (b ∷ bytes) = cond (b == w) (word_at word bytes) (Err (stop (b ∷ bytes) (w ∷ word)))
 
--- 0 to 9
+-- the byte is one of the digits 0 to 9
 abbrev pub is_digit : ℕ → Bool
 is_digit b = nat_le 48 b && nat_le b 57
 
--- the byte can be one more digit of the number n: no digit follows a leading 0, and the bound holds
+-- the byte can be the next digit of the number n: after a leading 0 there is none, and the longer number has to be at most the bound
 abbrev pub goes_on : ℕ → ℕ → ℕ → Bool
 goes_on bound n b = is_digit b && (nat_lt 0 n && nat_le (n * 10 + (b - 48)) bound)
 
--- The number whose digits so far have the value n, and the byte that ends it: one of `end` and `other`. `after` gives the least text
--- that has to follow a number and its end.
+-- The number whose digits so far have the value n, and the byte that ends it, which is `end` or `other`. `after` takes the number to the least text
+-- that has to follow it and its end.
 abbrev pub digits_at : ℕ → ℕ → ℕ → (ℕ → List ℕ) → ℕ → List ℕ → Read (ℕ × ℕ)
 digits_at bound end other after n [] = Err (stop [] (end ∷ after n))
 digits_at bound end other after n (b ∷ bytes) =
@@ -68,7 +68,7 @@ digits_at bound end other after n (b ∷ bytes) =
 abbrev pub starts : ℕ → ℕ → ℕ → Bool
 starts low bound b = is_digit b && (nat_le low (b - 48) && nat_le (b - 48) bound)
 
--- a number from `low`, which is 0 or 1, to `bound`, and the byte that ends it: one of `end` and `other`
+-- a number from `low`, which is 0 or 1, to `bound`, and the byte that ends it, which is `end` or `other`
 abbrev pub number_at : ℕ → ℕ → ℕ → ℕ → (ℕ → List ℕ) → List ℕ → Read (ℕ × ℕ)
 number_at low bound end other after [] = Err (stop [] ((48 + low) ∷ end ∷ after low))
 number_at low bound end other after (b ∷ bytes) =
@@ -81,7 +81,7 @@ bytes_at count bytes =
     cond (nat_le count (length bytes)) (Ok (take count bytes, drop count bytes))
     (Err (stop [] (replicate (count - length bytes) 0)))
 
--- one value after the other
+-- two values, one after the other; the second reader may depend on the first value
 abbrev pub then_at : {A B : Type 0} → (List ℕ → Read A) → (A → List ℕ → Read B) → List ℕ → Read (A × B)
 then_at first second bytes = first bytes >>= λ a. second a.0 a.1 >>= λ b. Ok ((a.0, b.0), b.1)
 
@@ -89,7 +89,7 @@ then_at first second bytes = first bytes >>= λ a. second a.0 a.1 >>= λ b. Ok (
 abbrev pub after_at : {A : Type 0} → List ℕ → List ℕ → (List ℕ → Read A) → List ℕ → Read A
 after_at word least read bytes = before least (word_at word bytes) >>= λ x. read x.1
 
--- the same text with another value
+-- the same text; the function f gives the new value
 abbrev pub map_at : {A B : Type 0} → (A → B) → (List ℕ → Read A) → List ℕ → Read B
 map_at f read bytes = read bytes >>= λ x. Ok (f x.0, x.1)
 
@@ -98,7 +98,7 @@ abbrev pub copies : ℕ → List ℕ → List ℕ
 copies zero text = []
 copies (suc n) text = text ++ copies n text
 
--- n values, one after the other; `least` is the least text of one
+-- n values, one after another; `least` is the least text of a value
 abbrev pub many_at : {A : Type 0} → (List ℕ → Read A) → List ℕ → ℕ → List ℕ → Read (List A)
 many_at one least zero bytes = Ok ([], bytes)
 many_at one least (suc n) bytes = map_at (λ p. p.0 ∷ p.1) (then_at (λ b. before (copies n least) (one b)) (λ _. many_at one least n)) bytes
@@ -108,25 +108,25 @@ pub data Entry (A B : Type 0) : Type 0 where
   item : A → Entry A B
   last : B → Entry A B
 
--- an entry, and more entries if it is an item
+-- what follows an entry: if it is an item, `more` reads further entries
 abbrev pub next_at : {A B : Type 0} → (List ℕ → Read (List A × B)) → Entry A B × List ℕ → Read (List A × B)
 next_at more (item x, rest) = more rest >>= λ o. Ok ((x ∷ o.0.0, o.0.1), o.1)
 next_at more (last y, rest) = Ok (([], y), rest)
 
--- The entries from index k on, up to the one that ends them. `fuel` is the greatest number of entries.
+-- The entries from index k on, up to the one that ends the list. There are at most `fuel` entries.
 abbrev pub until_at : {A B : Type 0} → (ℕ → List ℕ → Read (Entry A B)) → ℕ → ℕ → List ℕ → Read (List A × B)
 until_at entry k zero bytes = Err (stop bytes [])
 until_at entry k (suc fuel) bytes = entry k bytes >>= next_at (until_at entry (suc k) fuel)
 
--- the same without `fuel`: there are no more entries than bytes
+-- the same without `fuel`, since there are no more entries than bytes
 abbrev pub entries_at : {A B : Type 0} → (ℕ → List ℕ → Read (Entry A B)) → ℕ → List ℕ → Read (List A × B)
 entries_at entry k bytes = until_at entry k (suc (length bytes)) bytes
 
--- the first byte is this one
+-- the bytes begin with c
 abbrev pub begins : ℕ → List ℕ → Bool
 begins c [] = false
 begins c (b ∷ bytes) = b == c
 
--- the first reader if the bytes begin with c, and else the second
+-- the first reader if the bytes begin with c, or else the second
 abbrev pub choice_at : {A : Type 0} → ℕ → (List ℕ → Read A) → (List ℕ → Read A) → List ℕ → Read A
 choice_at c first second bytes = cond (begins c bytes) (first bytes) (second bytes)

@@ -1,4 +1,4 @@
--- The reader of a whole output, and the text that completes what can be read of one.
+-- The reader of a whole output. Where it stops, a text completes what it has read.
 use Rattle.std.specs.Prelude.{ℕ, suc, List, [], ◌∷◌, ◌++◌, length, cond, ◌==◌, nat_lt, Result, Ok, Err, codes, replicate}
 use Rattle.std.specs.Fmt.{decimal}
 use Rattle.dd_values.specs.Bounds.{most_script, most_commands}
@@ -10,17 +10,17 @@ use Rattle.dd_output.specs.reading.{Lists.items_of, Lists.ended, Grammar.answer_
 abbrev pub answer_entry_of : Answer → Entry Answer (Unit {0})
 answer_entry_of a = item a
 
--- the words before the answer with index k, from 0
+-- the text before the answer with index k, from 0
 abbrev pub query_text : ℕ → List ℕ
 query_text k = codes "query " ++ (decimal (suc k) ++ codes " ")
 
--- The answer with index k, from 0, or the end, for an index that an output may have. 113 is the q of `query`.
+-- The answer with index k, from 0, or the end, where an output may have more than k answers. 113 is the q of `query`.
 unfoldable pub open_entry : ℕ → List ℕ → Read (Entry Answer (Unit {0}))
 open_entry k = choice_at 113
     (map_at answer_entry_of (after_at (query_text k) (codes "IN\n" ++ end_line) (λ bytes. before end_line (answer_form.read bytes))))
     (map_at ended (word_at end_line))
 
--- the same for any index: after the last one that an output may have, only the end can follow
+-- the same for any index: after as many answers as an output may have, only the end can follow
 unfoldable pub answer_entry : ℕ → List ℕ → Read (Entry Answer (Unit {0}))
 answer_entry k bytes = cond (nat_lt k most_commands) (open_entry k bytes) (map_at ended (word_at end_line) bytes)
 
@@ -41,11 +41,11 @@ output_of x = record { script = x.0; answers = x.1 }
 abbrev pub head_text : List ℕ
 head_text = codes "diddy 1\nscript "
 
--- an output, with bytes that may be left after it
+-- an output; bytes may be left after it
 unfoldable pub output_at : List ℕ → Read Output
 output_at = map_at output_of (after_at head_text (48 ∷ 10 ∷ 10 ∷ end_line) (then_at script_at (λ _. answers_at)))
 
--- an output with no bytes left after it
+-- an output; no bytes may be left after it
 unfoldable pub all_at : List ℕ → Result Output Stop
 all_at bytes = output_at bytes >>= λ x. cond (length x.1 == 0) (Ok x.0) (Err (stop x.1 []))
 
@@ -53,6 +53,6 @@ abbrev pub missing_of : Result Output Stop → List ℕ
 missing_of (Ok o) = []
 missing_of (Err s) = s.missing
 
--- A text that completes what can be read of these bytes to a well-formed output.
+-- A text that makes a well-formed output when it is appended to what can be read of these bytes.
 abbrev pub completion : List ℕ → List ℕ
 completion bytes = missing_of (all_at bytes)

@@ -5,13 +5,13 @@ use Rattle.std.proofs.KnownBytes.{Appends-trans, Appends-kept, Consumes-trans}
 use Rattle.std.specs.{declared.option.Option.Option, Io.KnownBytes.Appends, Io.KnownBytes.Consumes, Io.KnownBytes.Keeps}
 use Rattle.dd_outside.specs.Bytes.{GainsFront, GivesAtMost, ReadsOn}
 
--- after the first `at` bytes of a piece, the next `n` were written
+-- the first `at` bytes of a piece were written, and then the next `n`; so together the first `at + n` were
 pub wrote_more : (a b c : Option (List ℕ)) (piece : List ℕ) (at n : ℕ) → Appends a b (take at piece) → Appends b c (take n (take (length piece - at) (drop at piece))) → Appends a c (take (at + n) piece)
 wrote_more a b c piece at n so_far next =
     let rest : Appends b c (take n (drop at piece)) = rw take_rest at next in
     subst (Appends a c) (sym (take-add at n piece)) (Appends-trans a b c _ _ so_far rest)
 
--- after the first `at` bytes of a piece, a write failed
+-- the first `at` bytes of a piece were written, and then a write failed; so a prefix of the piece was written
 pub wrote_front : (a b c : Option (List ℕ)) (piece : List ℕ) (at : ℕ) → Appends a b (take at piece) → Keeps b c → GainsFront a c piece
 wrote_front a b c piece at so_far kept = record {
   gained = take at piece;
@@ -20,7 +20,7 @@ wrote_front a b c piece at so_far kept = record {
   whole = sym (take-append-drop at piece);
 }
 
--- one text was written whole, and then a prefix of another
+-- one text was written whole, and then a prefix of another; so a prefix of the two texts joined was written
 pub front_after : (a b c : Option (List ℕ)) (before text : List ℕ) → Appends a b before → GainsFront b c text → GainsFront a c (before ++ text)
 front_after a b c before text so_far more = record {
   gained = before ++ more.gained;
@@ -29,7 +29,7 @@ front_after a b c before text so_far more = record {
   whole = ap (λ (l : List ℕ). before ++ l) more.whole ∙ sym (append_assoc before more.gained more.missing);
 }
 
--- after `bytes`, at most `room` more were read, so at most `limit` in all
+-- `bytes` were read, and then at most `room` more bytes; so at most `limit` in all
 pub gave_few_more : (a b c : Option (List ℕ)) (bytes : List ℕ) (room limit : ℕ) → Consumes a b bytes → GivesAtMost b c room → length bytes + room ≤ limit → GivesAtMost a c limit
 gave_few_more a b c bytes room limit so_far more fits = record {
   given = bytes ++ more.given;

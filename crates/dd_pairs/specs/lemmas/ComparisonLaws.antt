@@ -1,4 +1,4 @@
--- Comparisons of a script's rules and automata: `dd_maps` accepts these, and the goal of each comparison fits its premise.
+-- Comparisons of a script's rules and automata: `dd_maps` accepts these rules and automata, and the goal of each comparison fits its premise.
 use Rattle.std.proofs.Common.{◌≡◌, ℕ, List, Bool, refl, sym, subst, ◌∙◌}
 use Rattle.dd_topology.specs.declared.edge.Edge.{Edge}
 use Rattle.dd_boxes.specs.{Goals.IsGoalFor, Views.numbers_of}
@@ -10,7 +10,7 @@ use Rattle.dd_question.specs.Questions.{box, IsFormed}
 use Rattle.dd_pairs.specs.declared.pair.Pair.{Pair}
 use Rattle.dd_pairs.specs.Comparisons.{ComparisonOf, image, change, premise, pair_of, goal_of, IsComparisonOf, IsPair, difference}
 
--- a rule is given by its fields
+-- a rule is determined by its fields
 with_parts : (r : LocalRule) (d n k : ℕ) (allowed : List (List Bool)) (es : List Edge) → r.dimension ≡ d → r.nodes ≡ n → r.symbols ≡ k → r.allowed ≡ allowed → r.edges ≡ es
     → r ≡ record { dimension = d; nodes = n; symbols = k; allowed = allowed; edges = es; formula = r.formula }
 with_parts r d n k allowed es hd hn hk ha he = rw (← hd, ← hn, ← hk, ← ha, ← he) refl
@@ -33,7 +33,7 @@ module _ (s : Setting) (sound : IsSetting s) where
   is_rule (image x f y) of = of.0
   is_rule (change x f g) of = of.0
 
-  -- two automata over the script's numbers are a goal that fits the premise
+  -- that two automata with the script's dimension, nodes and symbols differ is a goal that fits the premise
   pub is_goal : (c : ComparisonOf) (q : Pair) → IsComparisonOf s c → IsPair s q → IsGoalFor (premise c) (difference (premise c) q)
   is_goal c q of pair =
       let same = same_numbers (premise c) (is_rule c of) in

@@ -9,7 +9,7 @@ use Rattle.dd_query.specs.declared.queries.Query.{Query}
 use Rattle.dd_pairs.specs.Comparisons.{image, change, IsComparisonOf}
 use Rattle.dd_pairs.specs.Queries.{of_three, of_four, map_comparisons, conjugate_comparisons, comparisons_asked, asks_pairs}
 
--- what holds of each named item holds of the item with this index, if there is one
+-- what holds of each named item holds of the item with the index n, if there is one
 pub item_at : {X : Type 0} {P : X → Type 0} {names : List (List ℕ)} {xs : List X} → AreNamed P names xs → (n : ℕ) → IfSome (slice_get xs n) P
 item_at are n = grind (arith, common_steps, gets, are.each n)
 

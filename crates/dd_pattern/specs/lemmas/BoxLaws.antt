@@ -1,4 +1,4 @@
--- The fundamental box of a periodic configuration: its cells by their numbers, and cell order.
+-- The cells of the fundamental box of a periodic configuration have numbers, which agree with cell order.
 use Rattle.std.proofs.Common.{◌≡◌, ℕ, ◌+◌, ◌*◌, ◌/◌, ◌%◌, ◌<◌, length, ℤ, pos, arith, refl, ap, sym, ◌∙◌}
 use Rattle.std.proofs.lemmas.Nat.{mul-add-lt, mod-mul-add, div-mul-add, div-add-mod', mod_below, div_below}
 use Rattle.std.proofs.lemmas.Int.{ints}
@@ -23,7 +23,7 @@ base_of-origin p x y z =
 pub origin_in_box : (t : Tile) (a : ℕ) → IsTile t → a < t.nodes → IsInBox t (cell (place (pos 0) (pos 0) (pos 0)) a)
 origin_in_box t a tile node = record { base = base_of-origin t.periods tile.periods.x_some tile.periods.y_some tile.periods.z_some; node = node }
 
--- the number of a cell leads back to the cell at its base
+-- the cell of the box that has the number of a given cell is at the given cell's base
 pub cell_at_index : (t : Tile) → IsTile t → (v : Place) (a : ℕ) → a < t.nodes → cell_in t (tile_index t (cell v a)) ≡ cell (base_of t.periods v) a
 cell_at_index t ok v a h =
     let x_in = residue_below (unsheared t.periods v) t.periods.x ok.periods.x_some in
@@ -59,7 +59,7 @@ parts_of t ok i h =
       node = mod_below i t.nodes ok.nodes_some;
     }
 
--- in the fundamental box no second period vector is subtracted
+-- in the fundamental box no multiple of the second period vector is subtracted, so x stays as it is
 own_x : (t : Tile) (i : ℕ) → Parts t i → unsheared t.periods (cell_in t i).position ≡ pos (i / t.nodes % t.periods.x)
 own_x t i p = ap (λ k. pos (i / t.nodes % t.periods.x) -ℤ k *ℤ pos t.periods.shear) (quotient_small _ _ p.y) ∙ omega (arith, ints)
 
@@ -82,12 +82,12 @@ index_of_cell t ok i h =
       div-add-mod' i t.nodes,
     )
 
--- if o is Less or Equal, a and b compare so
+-- if o is Less then a is less than b, and if o is Equal then a equals b
 record Tells (o : Ordering) (a b : ℕ) : Type 0 where
   less : o ≡ Less → a < b
   equal : o ≡ Equal → a ≡ b
 
--- an order by the first numbers, then by the second, is the order of their places in a table of rows
+-- pairs that are ordered by their first number and then by their second are in the order of their places in a table with rows of length w
 then_tells : (o p : Ordering) (a b x y w : ℕ) → x < w → Tells o a b → Tells p x y → Tells (ordering_then o p) (a * w + x) (b * w + y)
 then_tells Less p a b x y w xw first second =
     record { less = λ h. (let below : a < b = first.less refl in omega (arith, mul-add-lt a w x b below xw)); equal = λ h. absurd (cc) }

@@ -71,7 +71,7 @@ read_below f n h c = below_at n f.symbols h (place_of f.cells c)
 some_is_not_none : (s : ℕ) → Some s ≡ None → ⊥
 some_is_not_none s e = absurd (cc)
 
--- a cell that reads as nothing isn't in the domain
+-- a cell for which the look-up gives none isn't in the domain
 pub missing_from_none : (f : Filled) → IsFilling f → (c : Cell) → filling_look f c ≡ None → Contains f.cells c → ⊥
 missing_from_none f ok c none member =
     let k = member.0 in

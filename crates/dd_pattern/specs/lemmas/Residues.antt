@@ -1,4 +1,4 @@
--- Whole numbers modulo a number, and divided by it.
+-- Whole numbers modulo n, and their quotients by n, rounded down.
 use Rattle.std.proofs.Common.{◌≡◌, ℕ, suc, ◌+◌, ◌*◌, ◌-◌, ◌%◌, ◌/◌, ◌<◌, ◌≤◌, ℤ, pos, negsuc, ◌+ℤ◌, unsigned_abs, arith, ap, sym, ◌∙◌, refl}
 use Rattle.std.proofs.Math.Nat.{mul-le-mul_left, mod-lt, mod-eq_of_lt, div-eq_of_lt, add-mul, add-mul-mod_self_right, add-mul-div_right}
 use Rattle.std.proofs.lemmas.{Int.ints, Int.int_rem_euclid_is, Nat.div-add-mod', Nat.div-mul-add, Nat.div_below}
@@ -23,7 +23,7 @@ residue_below x n h = let p = raised x n h in rw (residue_is x n (unsigned_abs x
 pub residue_small : (k n : ℕ) → k < n → residue (pos k) n ≡ k
 residue_small k n h = mod-eq_of_lt h
 
--- x and its residue become equal if n is added to each a number of times
+-- x and its residue become equal if n is added to each of them often enough, and these numbers of times differ by the quotient
 pub record Met (x : ℤ) (n : ℕ) : Type 0 where
   pub times : ℕ
   pub times' : ℕ
@@ -33,7 +33,7 @@ pub record Met (x : ℤ) (n : ℕ) : Type 0 where
 split_table : (j b n k : ℕ) → k ≡ j + b + 1 → k * n ≡ j * n + b * n + n
 split_table j b n k e = rw e (omega arith)
 
--- the quotient of x by n, if x plus k times n is the natural number m
+-- if x plus k times n is the natural number m, then the quotient of x by n, plus k, is the quotient of m by n
 quotient_is : (x : ℤ) (n k m : ℕ) → 0 < n → x +ℤ pos (k * n) ≡ pos m → quotient x n +ℤ pos k ≡ pos (m / n)
 quotient_is (pos a) n k m h e =
     let sum : m ≡ a + k * n = omega (arith, ints) in
@@ -82,7 +82,7 @@ quotient_added x n k h =
 pub quotient_small : (k n : ℕ) → k < n → quotient (pos k) n ≡ pos 0
 quotient_small k n h = ap pos (div-eq_of_lt h)
 
--- an equation of sums, multiplied by q
+-- the equation x + a = b, multiplied by q
 pub scaled : (x : ℤ) (a b q : ℕ) → x +ℤ pos a ≡ pos b → x *ℤ pos q +ℤ pos (a * q) ≡ pos (b * q)
 scaled (pos k) a b q e =
     let sum : b ≡ k + a = omega (arith, ints) in

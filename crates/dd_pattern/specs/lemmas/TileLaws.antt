@@ -9,7 +9,7 @@ use Rattle.dd_pattern.specs.Periods.{ArePeriodsIn, residue, quotient, unsheared,
 use Rattle.dd_pattern.specs.Tile.{Tile, IsTile, IsPeriodic, Times, with_vectors, IsCongruent, IsReadModulo, tile_index, tile_look, fundamental}
 use Rattle.dd_pattern.specs.lemmas.Residues.{residue_below, residue_small, residue_added, quotient_added, quotient_small, scaled, scaled_added, meets}
 
--- v goes to its base by subtracting the second vector until y lies in the box, and then the others
+-- the base of v is reached by subtracting a multiple of the second period vector, so that y lies in the box, and then multiples of the others
 congruent_base : (d : ℕ) (p : Periods) → ArePeriodsIn d p → (v : Place) → IsCongruent p v (base_of p v)
 congruent_base d p ok v =
     let x = meets (unsheared p v) p.x ok.x_some in
@@ -24,7 +24,7 @@ congruent_base d p ok v =
       is = place_same _ _ _ _ _ _ on_x y.is z.is;
     }
 
--- adding period vectors keeps the base
+-- adding period vectors to a position doesn't change its base
 base_added : (d : ℕ) (p : Periods) → ArePeriodsIn d p → (n : Times) (v : Place) → base_of p (with_vectors p n v) ≡ base_of p v
 base_added d p ok n v =
     let turns = quotient_added v.y p.y n.second ok.y_some in
@@ -51,7 +51,7 @@ moved_congruent p c v w h = record {
       place_same _ _ _ _ _ _ (omega (arith, ints, on_x)) (omega (arith, ints, on_y)) (omega (arith, ints, on_z));
 }
 
--- c moved by a position and c moved by its base have the same base
+-- c moved by v and c moved by the base of v have the same base
 pub base_moved : (d : ℕ) (p : Periods) → ArePeriodsIn d p → (c v : Place) → base_of p (moved c v) ≡ base_of p (moved c (base_of p v))
 base_moved d p ok c v = base_congruent d p ok (moved c v) (moved c (base_of p v)) (moved_congruent p c v (base_of p v) (congruent_base d p ok v))
 
@@ -74,7 +74,7 @@ look_same t v w a h = ap (λ i. cond (nat_lt a t.nodes) (slice_get t.symbols i) 
 read_at_base : (t : Tile) → IsTile t → (c : Cell) → tile_look t c ≡ tile_look t (cell (base_of t.periods c.position) c.node)
 read_at_base t ok c = look_same t c.position (base_of t.periods c.position) c.node (sym (base_again t.dimension t.periods ok.periods c.position))
 
--- on an axis of the fundamental box a coordinate is its own residue, and its distance from the low end
+-- on an axis of the fundamental box, the residue of a coordinate is the coordinate itself, and so its distance from the low end
 coordinate_is : (c : ℤ) (n : ℕ) → pos 0 ≤ℤ c → c ≤ℤ pos (n - 1) → 0 < n → residue c n ≡ gap (pos 0) c
 coordinate_is (pos k) n low high some = residue_small k n (omega (arith, ints)) ∙ omega (arith, ints)
 coordinate_is (negsuc k) n low high some = absurd (omega (arith, ints))
@@ -86,7 +86,7 @@ no_turns (negsuc k) n low high some = absurd (omega (arith, ints))
 pub span_is : (n : ℕ) → 0 < n → span (pos 0) (pos (n - 1)) ≡ n
 span_is n h = omega (arith, ints)
 
--- in the fundamental box no second period vector is subtracted
+-- in the fundamental box no multiple of the second period vector is subtracted, so x stays as it is
 unsheared_in_box : (d : ℕ) (p : Periods) → ArePeriodsIn d p → (v : Place) → IsWithin (fundamental p) v → unsheared p v ≡ v.x
 unsheared_in_box d p ok v h = rw (no_turns v.y p.y h.0.on_y h.1.on_y ok.y_some) (omega (arith, ints))
 

@@ -1,4 +1,4 @@
--- How large the parts of a tile are, and where a cell's symbol stands in its list.
+-- Bounds on the numbers in a tile, and on the index of a cell's symbol in the list of symbols.
 use Rattle.std.proofs.{Common.ℕ, Common.◌+◌, Common.◌*◌, Common.◌<◌, Common.◌≤◌, Common.length, Common.arith, lemmas.Nat.mul-add-lt}
 use Rattle.dd_lattice.specs.declared.position.Cell.{Cell}
 use Rattle.dd_pattern.specs.declared.periods.Periods.{Periods}

@@ -3,7 +3,7 @@ use Rattle.std.specs.{Prelude.ℕ, Prelude.◌<◌, Prelude.◌≤◌, Prelude.�
 use Rattle.dd_lattice.specs.Boxes.{is_active}
 use Rattle.dd_pattern.specs.declared.periods.Periods.{Periods}
 
--- the second list has the periods of the first, and those that satisfy P
+-- the new list has exactly the periods of the old one and those that satisfy P
 abbrev pub IsAdded : List Periods → List Periods → (Periods → Type 0) → Type 0
 IsAdded old new P = (q : Periods) → Contains new q ↔ (Contains old q ⊎ P q)
 
@@ -18,7 +18,7 @@ pub record HasShear (n x y z : ℕ) (q : Periods) : Type 0 where
   pub at_z : q.z ≡ z
   pub shear : q.shear < n
 
--- the period f of q is from 1 to n, and q satisfies F for this period
+-- f picks one of the periods of q: it is from 1 to n, and q satisfies F for it
 pub record IsPeriodUpTo (F : ℕ → Periods → Type 0) (f : Periods → ℕ) (n : ℕ) (q : Periods) : Type 0 where
   pub rest : F (f q) q
   pub some : 1 ≤ f q
@@ -28,10 +28,10 @@ pub record IsPeriodUpTo (F : ℕ → Periods → Type 0) (f : Periods → ℕ) (
 abbrev pub HasRow : ℕ → ℕ → ℕ → ℕ → Periods → Type 0
 HasRow d n x y = IsPeriodUpTo (HasShear (most_along d 1 x) x y) (λ q. q.z) n
 
--- q has this x, and y and z from 1 to n, as far as their axes are active
+-- q has this x; y and z are from 1 to n on active axes, and 1 on the others
 abbrev pub HasPlane : ℕ → ℕ → ℕ → Periods → Type 0
 HasPlane d n x = IsPeriodUpTo (HasRow d (most_along d 2 n) x) (λ q. q.y) (most_along d 1 n)
 
--- q has an x from 1 to k, and y and z from 1 to n, as far as their axes are active
+-- q has an x from 1 to k; y and z are from 1 to n on active axes, and 1 on the others
 abbrev pub HasBox : ℕ → ℕ → ℕ → Periods → Type 0
 HasBox d n k = IsPeriodUpTo (HasPlane d n) (λ q. q.x) k

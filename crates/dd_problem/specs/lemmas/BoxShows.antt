@@ -56,7 +56,7 @@ admissible_from_holds x n look filling holds v a flat node fit =
     filter_at (λ d. is_true x d look) (fits_in (box_layout x n) x) (box_cells x n) (box_index x n c) c holds (box_cell_there x n c here)
     (list_all_weaker (λ d. is_some (look (shifted v d))) (λ d. is_box_cell x n (shifted v d)) (λ d h. sym (filling.domain (shifted v d)) ∙ h) (reads_at x a) both.1)
 
--- the look of symbols is a filling of the box
+-- the look that a list of symbols gives is a filling of the box
 some_within : (symbols : List ℕ) (i : ℕ) → i < length symbols → is_some (slice_get symbols i) ≡ true
 some_within symbols i h = ap is_some (slice_get-get_or symbols i 0 h)
 
@@ -121,7 +121,7 @@ symbols_fit x n look rule filling = record {
       rw at (allowed_from (λ s. rule_allows x c.node s ≡ true) (look c) (filling.allowed c) (filling.domain c ∙ here)));
 }
 
--- read by the cells, and by their numbers
+-- symbols read by the cells, and by the cells' numbers
 read_by_cells : (set : ℕ → Bool) (x : LocalRule) (n : ℕ) (symbols : List ℕ) → length symbols ≡ length (box_cells x n) → AreRead set x.symbols symbols →
     IsReadFrom set x n (layout_look (box_layout x n) symbols)
 read_by_cells set x n symbols full read c s here below =

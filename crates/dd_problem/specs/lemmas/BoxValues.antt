@@ -1,4 +1,4 @@
--- A box that reaches has the cells that automata read at the origin, with their inputs.
+-- A box that holds all that the goal reads at the origin has the cells that the goal's automata read there, with their inputs.
 use Rattle.std.proofs.Common.{◌≡◌, ℕ, true, List, length, ap, sym, ◌∙◌, Some}
 use Rattle.std.proofs.lemmas.List.FromFn.{length-range_with_len}
 use Rattle.std.specs.List.{Contains, list_all, range_with_len}

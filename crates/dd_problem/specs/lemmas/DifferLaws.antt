@@ -1,4 +1,4 @@
--- What the gates that tell two values apart say.
+-- What is said by the gates that tell two values apart.
 use Rattle.std.proofs.Common.{◌≡◌, ℕ, zero, suc, ◌+◌, ◌<◌, ◌≤◌, Bool, true, false, List, [], ◌∷◌, ◌++◌, map, length, refl, ap, sym, subst, ◌∙◌, arith, inl, inr, Some, length-append, eq-eqb}
 use Rattle.std.proofs.{Math.Nat.eq-or-lt_of_le, lemmas.Bool.and_parts, lemmas.Bool.Decides.nat_tests, lemmas.List.Elements.All-weaker}
 use Rattle.std.specs.{Prelude.not, Prelude.◌&&◌, Prelude.◌||◌, Prelude.◌==◌, Prelude.slice_get, Bool.beq}
@@ -14,7 +14,7 @@ use Rattle.dd_compile.specs.lemmas.{MadeSays.last_gate, MadeSays.opposite_value,
 use Rattle.dd_problem.specs.Differing.{apart, differ_made}
 use Rattle.dd_values.specs.lemmas.Booleans.{same_from_beq}
 
--- at each place, whether the first list is true and the second isn't
+-- at each place, whether the first list has true and the second has false
 abbrev each_apart : List Bool → List Bool → List Bool
 each_apart [] bs = []
 each_apart (a ∷ us) [] = []
@@ -41,7 +41,7 @@ any_as_map : (set : ℕ → Bool) (ss : List Signal) → list_any (signal_value 
 any_as_map set [] = refl
 any_as_map set (s ∷ ss) = ap (λ b. signal_value set s || b) (any_as_map set ss)
 
--- for each of k symbols from j on, whether it is the value
+-- for each of k symbols from j on, whether it is the value v
 abbrev is_value : ℕ → ℕ → ℕ → List Bool
 is_value v j k = map (λ t. v == t) (range_with_len j k)
 
@@ -128,7 +128,7 @@ module _ (k : ℕ) (f g : Automaton) (w : Wiring) (at : Cell) (n : ℕ) where
         from_zero : (t : ℕ) → t ≡ 0 + t
         from_zero t = omega arith
 
-    -- and they are over earlier variables
+    -- these gates are over earlier variables
     pub differ_fits : AreGates n (differ_made k f g w at n).gates
     differ_fits =
         let so_far = AreGates-append n left right first.gates next.gates in

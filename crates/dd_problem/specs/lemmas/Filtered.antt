@@ -1,4 +1,4 @@
--- A test of a filtered list, and variables none of which is true.
+-- Tests of filtered lists, and lists of variables of which none is true.
 use Rattle.std.proofs.Common.{◌≡◌, ℕ, zero, suc, ◌+◌, ◌<◌, Bool, true, false, List, [], ◌∷◌, map, refl, ap, sym, ◌∙◌, arith, Some}
 use Rattle.std.proofs.lemmas.{Bool.and_parts, Option.slice_get_read, Option.slice_get_within}
 use Rattle.std.proofs.lemmas.List.FromFn.{get_or-range_with_len, length-range_with_len, get_or-map-range_with_len, length-map-range_with_len}
@@ -7,7 +7,7 @@ use Rattle.std.specs.List.{list_all, filter, range_with_len}
 use Rattle.dd_clause.specs.Clauses.{is_clause_true}
 use Rattle.dd_cnf.specs.{Encoding.literal, Models.is_satisfied}
 
--- the places of a range
+-- the item at place k of a list that is made from a range
 pub slice_of_range : {X : Type 0} (f : ℕ → X) (n k : ℕ) → k < n → slice_get (map f (range_with_len 0 n)) k ≡ Some (f k)
 slice_of_range f n k h =
     slice_get_read (map f (range_with_len 0 n)) n k (f k) (sym (length-map-range_with_len f 0 n)) h (sym (get_or-map-range_with_len f 0 n k k (f k) h (omega arith)))

@@ -44,7 +44,7 @@ node_gates l m y (a ∷ nodes) n =
     let all = length-append gs (all_made (map (λ b. place_maker l m y (cell origin b)) nodes) (n + length gs)).gates in
     omega (arith, here, below, rest, all)
 
--- the gates of two values
+-- the gates that tell two values apart
 value_signals : (k : ℕ) (f : Automaton) (w : Wiring) (at : Cell) (n : ℕ) → length (value_made k f w at n).signals ≡ k
 value_signals k =
     by_forms (λ f. (w : Wiring) (at : Cell) (n : ℕ) → length (value_made k f w at n).signals ≡ k)

@@ -1,4 +1,4 @@
--- A circuit and its clauses, grown step by step: lists of gates or parts added one after the other are added as one list.
+-- A circuit and its clauses, grown step by step. Lists of gates or of parts may be added one after the other, or all at once as one list.
 use Rattle.std.proofs.Common.{◌≡◌, ℕ, ◌+◌, List, [], ◌∷◌, ◌++◌, length, refl, ap, sym, ◌∙◌, arith, length-append, append_assoc}
 use Rattle.std.proofs.lemmas.List.{append-nil}
 use Rattle.dd_clause.specs.declared.clause.Literal.{Literal}

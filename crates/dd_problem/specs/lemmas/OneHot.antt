@@ -90,7 +90,7 @@ pub hot_below : (set : ℕ → Bool) (vs : List ℕ) → list_any set vs ≡ tru
 hot_below set [] any = absurd (cc)
 hot_below set (v ∷ vs) any = below_step (set v) (position_or_len set vs) (length vs) (λ f. hot_below set vs (any_rest (set v) (list_any set vs) any f))
 
--- the other way: if exactly the variable with the number t is true, some is true, and at most one
+-- the converse: if exactly the variable with the number t is true, then some variable is true, and at most one is
 pub cold_made : (set : ℕ → Bool) (f : ℕ → ℕ) (t n a : ℕ) → ((s : ℕ) → a ≤ s → s < a + n → set (f s) ≡ (t == s)) → t < a →
     (list_any set (map f (range_with_len a n)) ≡ false) × (at_most_one set (map f (range_with_len a n)) ≡ true)
 cold_made set f t zero a says low = (refl, refl)

@@ -1,4 +1,4 @@
--- What the parts of a problem say, if the inputs tell the symbols of a look.
+-- What the parts of a problem say, if the inputs tell the symbols of a look (which gives cells their symbols).
 use Rattle.std.proofs.Common.{◌≡◌, ℕ, zero, suc, ◌+◌, ◌*◌, ◌<◌, ◌≤◌, arith, Bool, true, false, List, [], ◌∷◌, ◌++◌, map, length, refl, ap, sym, ◌∙◌, Some, None}
 use Rattle.std.proofs.lemmas.{Bool.and_parts, Bool.ltb-true, List.map-append}
 use Rattle.std.proofs.lemmas.List.Folds.{list_all-append, list_all-map}
@@ -21,11 +21,11 @@ use Rattle.dd_problem.specs.{Differing.differ_made, lemmas.Parts.tests, lemmas.P
 use Rattle.dd_problem.specs.lemmas.ValueWires.{AreValuesWired, GoalWired, differ_gates_say}
 use Rattle.dd_values.specs.lemmas.Booleans.{and_true, or_false, if_not}
 
--- the inputs of the layout's cells say the symbols of the look
+-- the inputs of the layout's cells say which symbols the look gives these cells
 abbrev pub InputsTell : (ℕ → Bool) → Layout → ℕ → Look → Type 0
 InputsTell set l m look = (c : Cell) (s : ℕ) → l.has c ≡ true → s < m → set (input m (l.index c) s) ≡ is_symbol s (look c)
 
--- the number of each cell of the layout is less than the number of its places
+-- the number of each cell of the layout is less than the count of the layout's places
 abbrev pub IsNumbered : Layout → Type 0
 IsNumbered l = (c : Cell) → l.has c ≡ true → l.index c < length l.places
 
@@ -91,7 +91,7 @@ HasItsSymbols (breaks y) look = HasSymbolsBelow y.symbols look
 HasItsSymbols (differ s f g) look = HasSymbolsBelow s.symbols look
 HasItsSymbols always look = Unit {0}
 
--- the gates of the goal at a node of the origin
+-- the gates that tell the values of two automata apart at a node of the origin
 abbrev pub differ_at : Layout → CommonNumbers → Automaton → Automaton → ℕ → Maker
 differ_at l s f g a = differ_made s.symbols f g l.inputs (cell origin a)
 
@@ -120,7 +120,7 @@ abbrev pub job_reads : Layout → LocalRule → GoalOf → Option Cell → Bool
 job_reads l x g (Some d) = reads_inputs l x.symbols x d
 job_reads l x g None = goal_reads l x.symbols g
 
--- the nodes of the origin at which two values are apart
+-- the nodes of the origin at which two values are different
 differ_nodes : (set : ℕ → Bool) (l : Layout) (m : ℕ) (s : CommonNumbers) (f g : Automaton) (look : Look) → IsNumbered l → AreValuesWired l m s f g → HasSymbolsBelow s.symbols look → InputsTell set l m look →
     (k j n : ℕ) → j + k ≤ s.nodes → length l.places * m ≤ n → agrees set n (all_made (map (differ_at l s f g) (range_with_len j k)) n).gates ≡ true →
     map (signal_value set) (all_made (map (differ_at l s f g) (range_with_len j k)) n).signals ≡
@@ -161,7 +161,7 @@ job_says set l x g look below within values goal_below tell (Some d) wired n le 
     one_unit (signal_value set (place_maker l x.symbols x d n).signal) ∙ place_says set l x.symbols look x d n below tell wired both.0
 job_says set l x g look below within values goal_below tell None wired n le ok = goal_says set l x.symbols g look within values goal_below tell wired n le ok
 
--- the premise at all places where it fits
+-- the premise is true at all places where it fits
 abbrev pub premise_holds : Layout → LocalRule → Look → Bool
 premise_holds l x look = list_all (λ d. is_true x d look) (filter (fits_in l x) l.places)
 

@@ -28,7 +28,7 @@ parts_law set n (p ∷ ps) =
     ∙ (rw (gates_law set n gs, list_all-append (is_clause_true set) ts (part_clauses m ps), parts_law set m ps, agrees-append set n gs (part_gates m ps))
     (four (agrees set n gs) (is_satisfied set ts) (agrees set m (part_gates m ps)) (tests set m ps)))
 
--- if the part's gates agree, after at least m variables, its clauses say b
+-- if the part's gates, made after m or more variables, agree with `set`, the clauses over their signals have the truth value b
 abbrev pub PartSays : (ℕ → Bool) → ℕ → Part → Bool → Type 0
 PartSays set m p b = (n : ℕ) → m ≤ n → agrees set n (made_by p n).gates ≡ true → is_satisfied set (p.tail (made_by p n).signals) ≡ b
 
@@ -41,7 +41,7 @@ tests_law set m part q b say (d ∷ ds) n le h ok =
     let both = and_parts (agrees set n gs) (agrees set (n + length gs) (part_gates (n + length gs) (map part ds))) (sym (agrees-append set n gs (part_gates (n + length gs) (map part ds))) ∙ ok) in
     rw (say d qs.0 n le both.0, tests_law set m part q b say ds (n + length gs) (omega arith) qs.1 both.1) refl
 
--- the gates of each part are over the inputs and earlier gates
+-- the part's gates, made after m or more variables, are over the inputs and earlier gates
 abbrev pub PartFits : ℕ → Part → Type 0
 PartFits m p = (n : ℕ) → m ≤ n → AreGates n (made_by p n).gates
 

@@ -1,4 +1,4 @@
--- Loops over a range of variables or over cells, which add clauses.
+-- Loops that add clauses, over a range of variables or over cells.
 use Rattle.std.proofs.Common.{◌≡◌, ℕ, zero, suc, ◌+◌, ◌*◌, ◌<◌, ◌≤◌, Bool, List, [], ◌∷◌, ◌++◌, map, length, take, get_or, refl, ap, sym, ◌∙◌, arith, append_assoc, true, false}
 use Rattle.std.proofs.lemmas.List.{append-nil, map-append, take_more, length-take-le}
 use Rattle.std.proofs.lemmas.{List.Elements.All-cons, Nat.mul-le}
@@ -18,7 +18,7 @@ range_step w end h = let n : end - w ≡ suc (end - (w + 1)) = omega arith in rw
 pub range_ends : (w end : ℕ) → end ≤ w → range_to w end ≡ []
 range_ends w end h = let n : end - w ≡ 0 = omega arith in rw n refl
 
--- One pass of such a loop: the whole range gives what is already there and what the rest of the range gives.
+-- One pass of such a loop: what the whole range gives is what is already there, and then what the rest of the range gives.
 pub left_step : {X : Type 0} (f : ℕ → X) (all now new : List X) (w end : ℕ) → w < end → all ≡ now ++ map f (range_to w end) → new ≡ now ++ f w ∷ [] →
     all ≡ new ++ map f (range_to (w + 1) end)
 left_step f all now new w end h so_far pushed =
@@ -57,7 +57,7 @@ range_moved j (suc n) a =
     let e : suc (j + (a + 1)) ≡ suc (j + a) + 1 = omega arith in
     ap (λ r. suc (j + a) ∷ r) (range_moved j n (a + 1) ∙ ap (λ b. range_with_len b n) e)
 
--- the inputs of a cell, one after the other
+-- the inputs of a cell are consecutive variables
 pub inputs_range : (m k : ℕ) → inputs_of m k ≡ range_with_len (k * m + 1) m
 inputs_range m k = range_moved (k * m) m 0 ∙ ap (λ b. range_with_len b m) (let e : suc (k * m + 0) ≡ k * m + 1 = omega arith in e)
 
@@ -89,7 +89,7 @@ pub none_left_out : (m k n : ℕ) (q : ℕ → Bool) (all now : List (List Liter
 none_left_out m k n q all now is so_far =
     so_far ∙ ap (λ ss. all ++ none_of m k ss) (sym (filter_push q n false is ∙ append-nil (filter q (range_with_len 0 n))))
 
--- one more cell
+-- the clauses with one more cell
 clauses_push : (x : LocalRule) (cells : List Cell) (a : ℕ) (c : Cell) → clauses_from x a (cells ++ c ∷ []) ≡ clauses_from x a cells ++ symbol_clauses x (a + length cells) c.node
 clauses_push x [] a c =
     let e : a ≡ a + 0 = omega arith in

@@ -1,4 +1,4 @@
--- The symbols that a filling of a torus reads from an assignment.
+-- The symbols of a configuration of a torus, read from an assignment.
 use Rattle.dd_pattern.specs.{declared.periods.Periods.Periods, Tile.IsTile, Tile.Tile, Periods.periods_volume}
 use Rattle.std.proofs.Common.{sym, ◌*◌, length, ◌≡◌, arith, get_or, ◌<◌, Bool, ℕ}
 use Rattle.std.proofs.lemmas.Option.{slice_get-get_or}

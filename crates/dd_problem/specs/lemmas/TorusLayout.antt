@@ -1,4 +1,4 @@
--- The cells of a torus, and that a periodic configuration is read by their numbers.
+-- The cells of a torus, by whose numbers a periodic configuration is read.
 use Rattle.std.proofs.Common.{◌≡◌, ℕ, suc, ◌*◌, ◌<◌, ◌≤◌, Bool, true, false, List, map, length, refl, ap, sym, subst, ◌∙◌, arith, mul_comm, ◌-◌, ◌%◌, ◌+ℤ◌, Some, ℤ, pos}
 use Rattle.std.proofs.lemmas.{Int.ints, Bool.and_from, Bool.ltb-true, Bool.ltb-false}
 use Rattle.std.proofs.lemmas.{Bool.Decides.Decides-int_eq, Option.slice_get_within, List.FromFn.length-map-range_with_len}
@@ -16,7 +16,7 @@ use Rattle.dd_problem.specs.{Layouts.nth_cell, Layouts.torus, Layouts.torus_cell
 use Rattle.dd_problem.specs.{pushing.Near.torus_layout, lemmas.Reading.IsLayout, lemmas.Filtered.some_same, lemmas.Filtered.slice_of_range}
 use Rattle.dd_values.specs.lemmas.Lists.{map_alike}
 
--- the configuration of these symbols
+-- the configuration of these periods that has these symbols
 abbrev pub torus_of : LocalRule → Periods → List ℕ → Tile
 torus_of x periods symbols = tile x.dimension periods x.nodes symbols
 
@@ -28,7 +28,7 @@ pub torus_is_tile : (x : LocalRule) (periods : Periods) (symbols : List ℕ) →
 torus_is_tile x periods symbols rule ok full =
     record { some_dimension = rule.dimension.0; most_dimension = rule.dimension.1; periods = ok.periods; nodes_some = rule.nodes.0; full = full }
 
--- the configuration of as many symbols as the torus has cells is periodic
+-- a configuration with as many symbols as the torus has cells is periodic
 pub torus_is_periodic : (x : LocalRule) (periods : Periods) (symbols : List ℕ) → IsRule x → AreTorusPeriods x.dimension x.nodes periods → length symbols ≡ torus_size x periods →
     IsPeriodic (torus_of x periods symbols)
 torus_is_periodic x periods symbols rule ok full = record {
@@ -78,7 +78,7 @@ module _ (x : LocalRule) (periods : Periods) (rule : IsRule x) (ok : AreTorusPer
   index_within : (c : Cell) → c.node < x.nodes → tile_index (torus x periods) c < torus_size x periods
   index_within c node = rw (← length-zeros x periods) (index_below (torus_of x periods (zeros x periods)) blank c node)
 
-  -- the cell with the number of a cell is at its position modulo the periods
+  -- at a cell's number in the list stands the cell with the same node, at the cell's position modulo the periods
   pub torus_cell_there : (v : Place) (a : ℕ) → a < x.nodes → slice_get (torus_cells x periods) (tile_index (torus x periods) (cell v a)) ≡ Some (cell (base_of periods v) a)
   torus_cell_there v a node =
       ap (λ cs. slice_get cs (tile_index (torus x periods) (cell v a))) listed
@@ -128,7 +128,7 @@ module _ (x : LocalRule) (periods : Periods) (rule : IsRule x) (ok : AreTorusPer
       few : (axis : ℕ) → nat_lt axis x.dimension ≡ false → x.dimension < suc axis
       few axis f = let most : x.dimension ≤ axis = ltb-false _ _ f in omega arith
 
-  -- around a position the same is read as around that position modulo the periods
+  -- what is read around a position is also read around this position modulo the periods
   pub look_periodic : (symbols : List ℕ) (v : Place) (c : Cell) →
       tile_look (torus_of x periods symbols) (shifted (base_of periods v) c) ≡ tile_look (torus_of x periods symbols) (shifted v c)
   look_periodic symbols v c =

@@ -23,7 +23,7 @@ use Rattle.dd_problem.specs.lemmas.Filtered.{filter_all, filter_at}
 use Rattle.dd_problem.specs.lemmas.Wiring.{goal_from_test, test_from_goal, HasReads, wired_layout}
 use Rattle.dd_problem.specs.lemmas.TorusLayout.{torus_of, torus_size, length-torus_cells, torus_is_tile, torus_is_layout, torus_cell_there, torus_cell_at, torus_index_at, flat_place, look_periodic}
 
--- a rule reads cells with nodes that there are
+-- a rule reads only cells whose nodes exist
 node_of : (r : LocalRule) (c : Cell) → is_of r c ≡ true → nat_lt c.node r.nodes ≡ true
 node_of r c h = (and_parts (is_flat r.dimension c.position) (nat_lt c.node r.nodes) h).1
 
@@ -91,7 +91,7 @@ module _ (x : LocalRule) (g : GoalOf) (periods : Periods) (rule : IsRule x) (goa
     goal = test_from_goal g (tile_look (torus_of x periods symbols)) witness.goal;
   }
 
-  -- a configuration of these periods is that of its symbols
+  -- a configuration of these periods is the one that `torus_of` makes of its symbols
   same_tile : (t : Tile) → HasPeriods periods t → Fits x t → torus_of x periods t.symbols ≡ t
   same_tile t has fit = rw (sym has, sym fit.dimension, sym fit.nodes) refl
 
@@ -110,7 +110,7 @@ module _ (x : LocalRule) (g : GoalOf) (periods : Periods) (rule : IsRule x) (goa
             (assignment l x g t.symbols, Satisfies-is_satisfied (assignment l x g t.symbols) (problem_clauses l x g) done.0, done.1));
       }
 
-  -- the clauses use only their own variables
+  -- the clauses depend only on their own variables
   pub torus_alike : (set other : ℕ → Bool) → Alike (torus_problem x g periods).variables other set → Satisfies set (torus_problem x g periods).clauses →
       Satisfies other (torus_problem x g periods).clauses
   torus_alike set other same ok =

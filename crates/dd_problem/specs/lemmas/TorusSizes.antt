@@ -1,4 +1,4 @@
--- Each period of a torus, and each product of periods, is at most the number of its cells.
+-- Each period of a torus, and each product of periods, is at most the number of the torus's cells, and so at most 65536.
 use Rattle.std.proofs.{Common.ℕ, Common.◌*◌, Common.◌≤◌, Common.arith, lemmas.Nat.mul-le}
 use Rattle.dd_pattern.specs.declared.periods.Periods.{Periods}
 use Rattle.dd_formula.specs.LocalRule.{LocalRule, IsRule}

@@ -21,7 +21,7 @@ use Rattle.dd_problem.specs.lemmas.DifferLaws.{differ_says, differ_fits}
 abbrev pub HasInputs : Layout → ℕ → Cell → Type 0
 HasInputs l m c = (l.has c ≡ true) × (signals_of l.inputs c ≡ Some (symbol_signals m (l.index c)))
 
--- so it has each cell that the automaton reads at the origin
+-- the automaton is well formed, the gates of its value say the value, and the layout has each cell that it reads at the origin, with its inputs
 pub record IsValueWired (l : Layout) (s : CommonNumbers) (f : Automaton) : Type 0 where
   pub formed : IsAutomaton s f
   pub says : SaysItsValue f
@@ -46,7 +46,7 @@ passes_member test (e ∷ ds) d h there =
 all_inputs : (p : Signal → Bool) (m k : ℕ) (n j : ℕ) → ((s : ℕ) → s < j + n → p (signal_of (input m k s)) ≡ true) → list_all (λ s. p (signal_of (input m k s))) (range_with_len j n) ≡ true
 all_inputs p m k n j h = all_numbers (λ s. p (signal_of (input m k s))) j n h
 
--- the inputs of a number are signals of the first variables
+-- the inputs of a cell's number are among the first n variables
 inputs_are_signals : (m k count n : ℕ) → k < count → count * m ≤ n → are_signals n m (Some (symbol_signals m k)) ≡ true
 inputs_are_signals m k count n h le =
     and_from (length (symbol_signals m k) == m) (list_all (is_signal n) (symbol_signals m k))
@@ -79,7 +79,7 @@ module _ (l : Layout) (within : (c : Cell) → l.has c ≡ true → l.index c < 
       let same : signal_of (input s.symbols k t) ≡ x = some_same (signal_of (input s.symbols k t)) x (sym (slice_of_range (λ u. signal_of (input s.symbols k u)) s.symbols t inside) ∙ at) in
       ap (signal_value set) (sym same) ∙ tell c t here.0 inside
 
--- the gates that tell both values apart
+-- the gates that tell the two values apart
 module _ (l : Layout) (within : (c : Cell) → l.has c ≡ true → l.index c < length l.places) (m : ℕ) (s : CommonNumbers) (f g : Automaton) (wired : AreValuesWired l m s f g) (a : ℕ) (node : a < s.nodes)
     (n : ℕ) (le : length l.places * m ≤ n) where
   room : (k : ℕ) → n ≤ k → length l.places * s.symbols ≤ k

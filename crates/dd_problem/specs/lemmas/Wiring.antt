@@ -17,7 +17,7 @@ use Rattle.dd_problem.specs.lemmas.Parted.{reads_inputs, goal_holds, goal_reads,
 use Rattle.dd_problem.specs.lemmas.Reading.{IsLayout, IsWired}
 use Rattle.dd_values.specs.lemmas.Booleans.{not_true}
 
--- a test that all numbers of a range pass, and back
+-- from a test of a range to one of each of its numbers, and back
 pub range_at : (p : ℕ → Bool) (n a k : ℕ) → list_all p (range_with_len a n) ≡ true → a ≤ k → k < a + n → p k ≡ true
 range_at p zero a k h low high = absurd (omega arith)
 range_at p (suc n) a k h low high =
@@ -48,7 +48,7 @@ none_of_range p (suc n) a k low high h = elim (cases_first a k low) [
     or_later true y h = refl
     or_later false y h = h
 
--- the goal at the origin, and its test
+-- the goal holds at the origin exactly if its test passes
 pub goal_from_test : (g : GoalOf) (look : Look) → goal_holds g look ≡ true → HasGoal g look origin
 goal_from_test (breaks y) look h =
     let r = any_range (λ a. not (is_true y (cell origin a) look)) y.nodes 0 h in
@@ -87,7 +87,7 @@ some_all : (p : Option Cell → Bool) (ds : List Cell) → list_all p (map (λ d
 some_all p [] = refl
 some_all p (d ∷ ds) = ap (λ b. p (Some d) && b) (some_all p ds)
 
--- the goal reads cells of the layout at the origin
+-- the goal's rule, if it has one, reads only cells of the layout at the origin
 abbrev pub HasReads : Layout → GoalOf → Type 0
 HasReads l (breaks y) = (a : ℕ) → a < y.nodes → list_all (λ c. l.has (shifted origin c)) (reads_at y a) ≡ true
 HasReads l (differ s f g) = Unit {0}

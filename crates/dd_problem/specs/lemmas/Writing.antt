@@ -27,7 +27,7 @@ use Rattle.dd_problem.specs.lemmas.ValueWires.{AreValuesWired, GoalWired, differ
 use Rattle.dd_problem.specs.lemmas.Parted.{has_input, differ_at, reads_inputs, goal_reads, jobs, job_part, job_reads, parts_by_jobs, parts_say}
 use Rattle.dd_problem.specs.lemmas.Reading.{IsLayout, IsWired, Stands, told_by_inputs, look_below}
 
--- whether the variable v is that of a cell and its symbol, of m symbols
+-- whether the variable v, an input over m symbols, is the one for the symbol that its cell has in the list
 abbrev pub guess : List ℕ → ℕ → ℕ → Bool
 guess symbols m v = is_symbol ((v - 1) % m) (slice_get symbols ((v - 1) / m))
 
@@ -65,7 +65,7 @@ hot_cell set m k t o is below says =
     let hot = hot_made set (input m k) t m 0 (λ s p q. says s (omega arith) ∙ ap (is_symbol s) is) (omega arith) (omega arith) in
     one_hot_law set (inputs_of m k) ∙ and_from _ _ hot.0 hot.1
 
--- a symbol that isn't allowed isn't the cell's
+-- a symbol that isn't allowed isn't the cell's symbol
 other_symbol : (x : LocalRule) (node s t : ℕ) → rule_allows x node t ≡ true → not (rule_allows x node s) ≡ true → (b : Bool) → (t == s) ≡ b → b ≡ false
 other_symbol x node s t allowed isn't false is = refl
 other_symbol x node s t allowed isn't true is =

@@ -4,7 +4,8 @@ use Rattle.dd_formula.specs.declared.automaton.Automaton.{Automaton}
 use Rattle.dd_compile.specs.Valued.{SaysItsValue}
 use Rattle.dd_boxes.specs.Goals.{GoalOf, breaks, differ, always, AreAlike, AreOver}
 
--- two automata over the rule's numbers: they read cells of the lattice, and the gates of their values compute the values
+-- two automata over the rule's dimension, nodes and symbols: they read only cells of the lattice, and the gates made for their values compute these
+-- values
 pub record HasValueFacts (x : LocalRule) (s : CommonNumbers) (f g : Automaton) : Type 0 where
   pub over : AreOver x s f g
   pub left_placed : IsPlaced f
@@ -12,7 +13,7 @@ pub record HasValueFacts (x : LocalRule) (s : CommonNumbers) (f g : Automaton) :
   pub left_says : SaysItsValue f
   pub right_says : SaysItsValue g
 
--- the goal's rule has the invariant of rules and the premise's numbers; two automata have the facts above
+-- the goal's rule satisfies the invariant of rules, and has the premise's dimension, nodes and symbols; a goal's two automata have the facts above
 abbrev pub HasGoalFacts : LocalRule → GoalOf → Type 0
 HasGoalFacts x (breaks y) = IsRule y × AreAlike x y
 HasGoalFacts x (differ s f g) = HasValueFacts x s f g

@@ -12,7 +12,7 @@ use Rattle.dd_problem.specs.{Layouts.Layout, Layouts.torus, Layouts.torus_cells,
 abbrev pub read_cells : LocalRule → Cell → List Cell
 read_cells x d = map (shifted d.position) (cells_at x d.node)
 
--- what the premise reads at these cells, and the box of the goal's least radius; in cell order, each cell once
+-- the cells that the premise reads at these cells, and those of the box of the goal's least radius; in cell order, each once
 abbrev pub near_cells : LocalRule → GoalOf → List Cell → List Cell
 near_cells x g cells = in_order (box_cells x (goal_reach g) ++ flat_map (read_cells x) cells)
 
@@ -20,7 +20,7 @@ near_cells x g cells = in_order (box_cells x (goal_reach g) ++ flat_map (read_ce
 abbrev pub number_at : Tile → Cell → ℕ
 number_at t c = slice_index t.symbols (tile_index t c)
 
--- each cell with the inputs of the number that it has there
+-- each of the cells, with the inputs of the number that the configuration has at this cell
 abbrev pub numbered_by : ℕ → Tile → List Cell → Wiring
 numbered_by m t cells = numbered_wiring m cells (map (number_at t) cells)
 
@@ -28,11 +28,12 @@ numbered_by m t cells = numbered_wiring m cells (map (number_at t) cells)
 abbrev pub numbered_tile : LocalRule → Periods → Tile
 numbered_tile x periods = tile x.dimension periods x.nodes (range_with_len 0 (periods_volume periods * x.nodes))
 
--- the cells that the premise and the goal read, each with the inputs of the cell that it equals modulo the periods
+-- the cells near those of the fundamental box, as `near_cells` lists them, each with the inputs of the cell of the fundamental box that it equals
+-- modulo the periods
 abbrev pub torus_inputs : LocalRule → GoalOf → Periods → Wiring
 torus_inputs x g periods = numbered_by x.symbols (numbered_tile x periods) (near_cells x g (torus_cells x periods))
 
--- the layout of the torus: every cell has the number of the cell that it equals modulo the periods
+-- the layout of the torus: every cell has the number of the cell of the fundamental box that it equals modulo the periods
 abbrev pub torus_layout : LocalRule → GoalOf → Periods → Layout
 torus_layout x g periods = record {
   has = λ c. nat_lt c.node x.nodes;

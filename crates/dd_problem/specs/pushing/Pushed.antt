@@ -20,7 +20,7 @@ AreInputs n w = (c : Cell) (s : ℕ) (signal : Signal) → wire_of w c s ≡ Som
 abbrev pub HasAllSymbols : ℕ → Wiring → Type 0
 HasAllSymbols m w = (c : Cell) (signals : List Signal) → signals_of w c ≡ Some signals → length signals ≡ m
 
--- each leaf of the rule at the cell has its signal, and this is of the first n variables
+-- each leaf of the rule at the cell has its signal, and this is one of the first n variables
 abbrev pub is_wired_at : Wiring → ℕ → LocalRule → Cell → Bool
 is_wired_at w n x d = are_wired n (wires_near w d.position) (expansion_at x d.node)
 
@@ -28,7 +28,7 @@ is_wired_at w n x d = are_wired n (wires_near w d.position) (expansion_at x d.no
 abbrev pub wired_part : Wiring → LocalRule → Cell → Part
 wired_part w x d = record { makers = compiled w d.position (expansion_at x d.node) ∷ []; tail = units }
 
--- the premise at each of the cells where each leaf has its signal
+-- the premise is true at each of the cells where each of its leaves has its signal
 abbrev pub wired_parts : Wiring → ℕ → LocalRule → List Cell → List Part
 wired_parts w n x cells = map (wired_part w x) (filter (is_wired_at w n x) cells)
 

@@ -23,7 +23,7 @@ on_axis bytes v axis close = le-leb _ _ (by (slice_get v.entries axis) refl)
     by None is = omega (arith, ints)
     by (Some e) is = rw (lt-ltb axis (length v.entries) (slice_get_within v.entries axis e is)) (close_entry bytes e (near_at bytes v.entries axis e close is))
 
--- a vector with an entry for each axis, none of them far, is an offset
+-- a vector with an entry for each axis, none of them over 4 in absolute value, is an offset
 pub offset_is : (bytes : List ℕ) (d : ℕ) (v : Vector) → is_far bytes v ≡ false → has_entries d v ≡ true → is_offset d (place_of bytes v) ≡ true
 offset_is bytes d v close all =
     subst (λ (n : ℕ). is_offset n (place_of bytes v) ≡ true) (eqb-true (length v.entries) d all)

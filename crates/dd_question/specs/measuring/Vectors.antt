@@ -13,7 +13,7 @@ pub record IsNear (v : Place) : Type 0 where
 abbrev pub is_among : Place → List Place → Bool
 is_among p vs = list_any (λ q. is_eq (place_cmp p q)) vs
 
--- no vector comes again later in the list
+-- no vector occurs twice in the list
 abbrev pub are_apart : List Place → Bool
 are_apart [] = true
 are_apart (v ∷ vs) = not (is_among v vs) && are_apart vs

@@ -11,13 +11,13 @@ use Rattle.dd_certificate.specs.declared.answer.Answer.TheVariants as answer
 use Rattle.dd_certificate.specs.declared.answer.Reason.TheVariants as reason
 use Rattle.dd_contain.specs.declared.decision.Decision.TheVariants as decision
 
--- the questions below this number are answered YES, with these radii and steps
+-- the questions with smaller numbers than this one are answered YES, with these radii and steps
 pub data AreYes (l : Limits) (c : ConjugacyOf) : ℕ → List ℕ → List (List Step) → Type 0 where
   none_yet : AreYes l c 1 [] []
   one_more : {k n : ℕ} {s : List Step} {ns : List ℕ} {ss : List (List Step)} → AreYes l c k ns ss → ComesTo l c k (decision.Yes n s) →
       AreYes l c (suc k) (ns ++ n ∷ []) (ss ++ s ∷ [])
 
--- no question below this number is answered NO: all are answered YES, or some question is left open
+-- no question with a smaller number than this one is answered NO: all are answered YES, or some question is left open
 pub record AreFound (l : Limits) (c : ConjugacyOf) (number : ℕ) (f : Findings) : Type 0 where
   pub none : (k : ℕ) → 1 ≤ k → k < number → IsNoAt l c k → ⊥
   pub yes : f.is_open ≡ false → AreYes l c number f.radii f.steps
@@ -25,7 +25,7 @@ pub record AreFound (l : Limits) (c : ConjugacyOf) (number : ℕ) (f : Findings)
   pub radii : All IsWritableNumber f.radii
   pub steps : All IsWritableRefutation f.steps
 
--- `f` is the first of the four questions that is answered NO, with a configuration that shows it
+-- `f` has the number of the first of the four questions that is answered NO, and a configuration that shows this
 pub record IsFailed (l : Limits) (c : ConjugacyOf) (f : Failed) : Type 0 where
   pub first : IsLeast (IsNoAt l c) 1 4 f.number
   pub no : ComesTo l c f.number (decision.No f.periodic)

@@ -1,4 +1,4 @@
--- The formulas at places say what the rule says there. At the places that fit with one more symbol, all that the rule reads is given.
+-- The formula of each place says that the rule is true there. Where one more symbol makes the rule fit, each cell that the rule reads has a symbol.
 use Rattle.std.proofs.Common.{◌≡◌, ◌<◌, ◌+◌, ℕ, Bool, true, false, cond, List, [], ◌∷◌, ◌++◌, length, get_or, take, Some, None, Result, Ok, Err, IfOk, refl, sym, ◌∙◌, ap, subst, arith}
 use Rattle.std.proofs.{Math.Path.fun_ext, lemmas.Bool.eqb-true, lemmas.Bool.lt-ltb, lemmas.List.take_more, lemmas.List.length-take-le}
 use Rattle.std.proofs.lemmas.{List.Folds.list_all-append, Option.slice_get_past}
@@ -22,13 +22,13 @@ use Rattle.dd_values.specs.lemmas.Lists.{below_at}
 look_below : (n : ℕ) (cs : List Cell) (ss : List ℕ) → All (λ s. s < n) ss → HasSymbolsBelow n (look_of cs ss)
 look_below n cs ss below c = below_at n ss below (position_or_len (λ d. is_eq (cell_cmp d c)) cs)
 
--- a cell past the range of positions has no symbol
+-- a cell out of the range of positions has no symbol
 none_past : (cs : List Cell) (ss : List ℕ) (d : Cell) → AreInRange cs → length ss ≡ length cs → is_in_range d.position ≡ false → None ≡ look_of cs ss d
 none_past cs ss d near size out =
     let past : rank cs d ≡ length cs = number_past_range cs near d out in
     sym (ap (slice_get ss) past ∙ slice_get_past ss (length cs) (omega (arith, size)))
 
--- the symbol at the number of a cell is the cell's symbol
+-- the symbol found by a cell's number is the cell's symbol
 read_when : (cs : List Cell) (ss : List ℕ) (d : Cell) (b : Bool) → AreInRange cs → length ss ≡ length cs → is_in_range d.position ≡ b →
     symbol_with ss (cond b (Some (rank cs d)) None) ≡ look_of cs ss d
 read_when cs ss d true near size is = refl
@@ -37,7 +37,7 @@ read_when cs ss d false near size is = none_past cs ss d near size is
 near_reads : (cs : List Cell) (v : Place) (ss : List ℕ) → AreInRange cs → length ss ≡ length cs → (c : Cell) → read_by (ranks_near cs v) ss c ≡ look_of cs ss (shifted v c)
 near_reads cs v ss near size c = read_when cs ss (shifted v c) (is_in_range (moved c.position v)) near size refl
 
--- an expansion that says what the rule says at the cells of a node
+-- an expansion that is true exactly where the rule is, at the cells of a node
 abbrev pub Tells : LocalRule → ℕ → Expanded → Type 0
 Tells x a y = (look : Look) → HasSymbolsBelow x.symbols look → (v : Place) → holds y (λ d. look (shifted v d)) ≡ is_true x (cell v a) look
 
@@ -71,7 +71,7 @@ say_next x cs places i c old new e below at before here is =
     let longer : take i places ++ c ∷ [] ≡ take (i + 1) places = ap (λ (d : Cell). take i places ++ d ∷ []) at ∙ sym (take_more places i c below) in
     subst (λ (ps : List Cell). SayTrue x cs ps new) longer (subst (SayTrue x cs (take i places ++ c ∷ [])) (sym is) (say_more x cs (take i places) old c e before here))
 
--- ---- the places that fit with the next symbol
+-- ---- the places where the next symbol makes the rule fit
 
 given_settled : (x : LocalRule) (all : List Cell) → AreInRange all → (j : ℕ) → j < length all → (ss : List ℕ) → length ss ≡ j + 1 → (d : Cell) → nat_eq (last_number x all d) j ≡ true →
     is_given x d (look_of (take (j + 1) all) ss) ≡ true

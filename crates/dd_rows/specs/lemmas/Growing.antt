@@ -1,4 +1,4 @@
--- The fillings of one cell more.
+-- The fillings when one more cell is filled.
 use Rattle.std.proofs.Common.{◌≡◌, ◌<◌, ◌≤◌, ◌+◌, ℕ, Bool, List, [], ◌∷◌, ◌++◌, length, get_or, map, take, refl, sym, ◌∙◌, ap, subst, inl, inr, arith}
 use Rattle.std.proofs.lemmas.Bool.{cases_lt}
 use Rattle.std.proofs.lemmas.List.{append-nil, take_more, length-append, length-take-le}
@@ -75,7 +75,7 @@ fillings_more x all up near j c below is =
     (λ ss w. filter_if p r (q ss) (λ s. ss ++ s ∷ []) (λ s. admissible_parts x all up near j ss s below w.size) (allowed_symbols x c.node))
     (words x first) (subst (λ n. AreWords x n (words x first)) size (words_are x first))))
 
--- tests that agree on the longer lists keep the same ones of them
+-- two tests that agree on the longer lists keep the same lists
 same_longer : (x : LocalRule) (j a : ℕ) (p q : List ℕ → Bool) → ((ss : List ℕ) → IsWord x (j + 1) ss → p ss ≡ q ss) → (ss : List ℕ) → IsWord x j ss → extended x p a ss ≡ extended x q a ss
 same_longer x j a p q same ss w =
     filter_agree (IsWord x (j + 1)) p q same (longer x a ss)
@@ -83,7 +83,7 @@ same_longer x j a p q same ss w =
     (λ s low. record { size = length-append ss (s ∷ []) ∙ ap (λ n. n + 1) w.size; below = All-push (λ t. t < x.symbols) ss s w.below low })
     (allowed_symbols x a) (choices_below x a))
 
--- the next level, from this one
+-- the next level of the search, made from this one
 pub level_next : (x : LocalRule) (all : List Cell) → IsStrictlySortedBy cell_cmp all → AreInRange all → (j : ℕ) (c : Cell) → j < length all → get_or all j c ≡ c →
     (places : List Cell) (es : List Numbered) (level : List (List ℕ)) → SayTrue x (take (j + 1) all) places es → places ≡ settled x all j → level ≡ fillings x (take j all) →
     flat_map (extended x (are_all_true es) c.node) level ≡ fillings x (take (j + 1) all)

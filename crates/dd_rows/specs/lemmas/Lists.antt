@@ -17,7 +17,7 @@ pub filter_flat_map : {X Y : Type 0} (p : Y → Bool) (f : X → List Y) (xs : L
 filter_flat_map p f [] = refl
 filter_flat_map p f (x ∷ xs) = filter-append p (f x) (flat_map f xs) ∙ ap (λ ys. filter p (f x) ++ ys) (filter_flat_map p f xs)
 
--- functions and tests that agree on the items of a list
+-- two functions, or two tests, that agree on the items of a list
 pub flat_map_same : {X Y : Type 0} (P : X → Type 0) (f g : X → List Y) → ((x : X) → P x → f x ≡ g x) → (xs : List X) → All P xs → flat_map f xs ≡ flat_map g xs
 flat_map_same P f g same [] all = refl
 flat_map_same P f g same (x ∷ xs) all =
@@ -29,7 +29,7 @@ filter_agree P p q same (x ∷ xs) all =
     ap (λ b. cond b (x ∷ filter p xs) (filter p xs)) (same x (all_first P x xs all))
     ∙ ap (λ ys. cond (q x) (x ∷ ys) ys) (filter_agree P p q same xs (all_rest P x xs all))
 
--- tests that agree on the items that pass a third test
+-- two tests that agree on the items that pass a third test
 agree_where : {X : Type 0} (p q : X → Bool) (x : X) (rest : List X) (b : Bool) → (b ≡ true → p x ≡ q x) → list_all p rest ≡ list_all q rest →
     list_all p (cond b (x ∷ rest) rest) ≡ list_all q (cond b (x ∷ rest) rest)
 agree_where p q x rest true here more = ap (λ b. b && list_all p rest) (here refl) ∙ ap (λ b. q x && b) more
@@ -39,7 +39,7 @@ pub list_all_where : {X : Type 0} (p q t : X → Bool) → ((x : X) → t x ≡ 
 list_all_where p q t same [] = refl
 list_all_where p q t same (x ∷ xs) = agree_where p q x (filter t xs) (t x) (same x) (list_all_where p q t same xs)
 
--- items that give nothing may be left out
+-- items that give the empty list may be left out
 step_kept : {X Y : Type 0} (f g : X → List Y) (x : X) (b : Bool) (xs : List X) (rest : List Y) → f x ≡ cond b (g x) [] → rest ≡ flat_map g xs →
     f x ++ rest ≡ flat_map g (cond b (x ∷ xs) xs)
 step_kept f g x true xs rest is more = ap (λ ys. ys ++ rest) is ∙ ap (λ ys. g x ++ ys) more
@@ -57,7 +57,7 @@ cons_if a true false x xs ys is more = ap (λ d. cond d (x ∷ xs) xs) is ∙ mo
 cons_if a false true x xs ys is more = ap (λ d. cond d (x ∷ xs) xs) is ∙ more
 cons_if a false false x xs ys is more = ap (λ d. cond d (x ∷ xs) xs) is ∙ more
 
--- a test that consists of one condition that is the same for all items, and one on each item
+-- a test made of two conditions: one that is the same for all items, and one that depends on the item
 pub filter_if : {X Y : Type 0} (p q : Y → Bool) (b : Bool) (h : X → Y) → ((x : X) → p (h x) ≡ (b && q (h x))) → (xs : List X) →
     filter p (map h xs) ≡ cond b (filter q (map h xs)) []
 filter_if p q true h same [] = refl
@@ -81,7 +81,7 @@ pub list_all_true : {X : Type 0} (p : X → Bool) (xs : List X) → All (λ x. p
 list_all_true p [] h = refl
 list_all_true p (x ∷ xs) h = and_from (p x) (list_all p xs) (all_first (λ y. p y ≡ true) x xs h) (list_all_true p xs (all_rest (λ y. p y ≡ true) x xs h))
 
--- how long the prefix of a prefix is
+-- the length of the prefix that passes a test, if only the first items of the list are kept
 prefix_step : (b : Bool) (j n m : ℕ) → n ≡ min j m → cond b (1 + n) 0 ≡ min (suc j) (cond b (1 + m) 0)
 prefix_step true j n m is = omega (arith, is)
 prefix_step false j n m is = omega arith

@@ -1,4 +1,4 @@
--- Which places fit once the first cells have symbols. The rule says the same there when there are more symbols.
+-- Where the rule fits once the first cells have symbols. There more symbols don't change whether the rule is true.
 use Rattle.std.proofs.Common.{◌≡◌, ◌<◌, ◌≤◌, ◌+◌, ℕ, zero, suc, Bool, true, false, cond, List, [], ◌∷◌, ◌++◌, length, get_or, map, take, drop, min, max, refl, sym, ◌∙◌, ap, subst, inl, inr, arith, get_or-drop, length-drop, rules}
 use Rattle.std.proofs.lemmas.Bool.{and_parts, and_from, and_left, and_right, cases_lt, cases_order, cases_Bool, lt-ltb, le-ltb, ltb-true, ne_eqb, eq-eqb, false≢true}
 use Rattle.std.proofs.lemmas.List.{take-append-drop, get_or_default, length-append}
@@ -59,7 +59,7 @@ number_here x c cs h = rw h refl
 pub same_cell : (x c : Cell) → x ≡ c → is_eq (cell_cmp x c) ≡ true
 same_cell x c e = ap is_eq (ap (λ z. cell_cmp z c) e ∙ tied_itself cell_total c)
 
--- the number of a cell in a list in cell order is its place
+-- in a list in cell order, a cell's number is its index
 pub number_is : (cs : List Cell) → IsStrictlySortedBy cell_cmp cs → (i : ℕ) (c : Cell) → i < length cs → get_or cs i c ≡ c → rank cs c ≡ i
 number_is [] up i c h e = absurd (omega arith)
 number_is (x ∷ cs) up zero c h e = number_here x c cs (same_cell x c e)
@@ -68,7 +68,7 @@ number_is (x ∷ cs) up (suc i) c h e =
     let less = sorted_first cell_cmp x cs up c (i, below, e) in
     number_later x c cs (ap is_eq less) ∙ ap suc (number_is cs (sorted_rest cell_cmp x cs up) i c below e)
 
--- a cell that has a number stands in the list
+-- a cell whose number is less than the list's length is in the list, so its position is in range
 number_in_range : (cs : List Cell) → AreInRange cs → (c : Cell) → rank cs c < length cs → IsInRange c.position
 number_in_range [] near c h = absurd (omega arith)
 number_in_range (x ∷ cs) near c h = elim (cases_Bool (is_eq (cell_cmp x c))) [
@@ -108,7 +108,7 @@ same_symbol all j ss s c size h =
     let same : rank (take j all) c ≡ rank (take (j + 1) all) c = omega (arith, low, here, there) in
     get_longer ss s (rank (take j all) c) h ∙ ap (slice_get (ss ++ s ∷ [])) same
 
--- where a place fits, one more symbol doesn't change what the rule says
+-- where the rule fits, one more symbol doesn't change whether the rule is true
 same_truth : (x : LocalRule) (all : List Cell) (j : ℕ) (ss : List ℕ) (s : ℕ) (d : Cell) → length ss ≡ j → place_fits x (look_of (take j all) ss) d ≡ true →
     is_true x d (look_of (take j all) ss) ≡ is_true x d (look_of (take (j + 1) all) (ss ++ s ∷ []))
 same_truth x all j ss s d size fits =
@@ -117,7 +117,7 @@ same_truth x all j ss s d size fits =
     keeps_at x look more d.position d.position d.node (λ c h. same_symbol all j ss s (shifted d.position c) size h)
     (and_parts (is_some (look d)) (list_all (λ e. is_some (look (shifted d.position e))) (reads_at x d.node)) fits).1
 
--- a place that fits is given
+-- where the rule fits, the rule is given
 seen_some : (near : Bool) (o : Option ℕ) → near ≡ true → is_some o ≡ true → is_some (cond near o None) ≡ true
 seen_some true o h some = some
 seen_some false o h some = absurd (false≢true h)
@@ -134,7 +134,7 @@ given_where x all near j ss d most size fits =
     (reads_at x d.node)
     (and_parts (is_some (look d)) (list_all (λ e. is_some (look (shifted d.position e))) (reads_at x d.node)) fits).1
 
--- what stays true with one symbol more
+-- what stays true when one more cell gets a symbol
 
 at_once : (e f f' g t t' : Bool) → e ≡ true → f ≡ false → f' ≡ true → g ≡ true → (not f' || t') ≡ ((not e || (not g || t')) && (not f || t))
 at_once e f f' g t t' he hf hf' hg = rw (he, hf, hf', hg) (and_true t')
@@ -173,7 +173,7 @@ kept_parts x all near j ss s below size longer d =
       ]
     ]
 
--- the places of the later cells don't fit
+-- the rule doesn't fit at the later cells
 
 not_fit : (f t : Bool) → f ≡ false → (not f || t) ≡ true
 not_fit f t h = rw h refl
@@ -222,7 +222,7 @@ admissible_parts x all up near j ss s below size =
     (list_all_filter now at all) (sym (admissible_of_all x all up j ss size))
     ∙ and_turned (list_all now (settled x all j)) (is_admissible x (take j all) ss))))
 
--- a cell out of range has no number
+-- a cell out of range isn't in the list, so its number is the list's length
 pub number_outside : (cs : List Cell) → AreInRange cs → (c : Cell) → (IsInRange c.position → ⊥) → rank cs c ≡ length cs
 number_outside cs near c outside = elim (cases_lt (rank cs c) (length cs)) [
   | inl below ↦ absurd (outside (number_in_range cs near c below))

@@ -1,4 +1,5 @@
--- The rule at some places, as formulas over the symbols of a list of cells. A cell's number is its index in the list.
+-- Formulas over the symbols of a list of cells. Each formula says that the rule is true at a given place. A cell's number is
+-- its index in the list.
 use Rattle.std.specs.{Prelude.ℕ, Prelude.◌<◌, Prelude.◌≡◌, Prelude.Bool, Prelude.List, Prelude.length, Prelude.All, List.list_all}
 use Rattle.dd_lattice.specs.{Place.Place, declared.position.Cell.Cell}
 use Rattle.dd_expansion.specs.Leaves.{seen}
@@ -6,7 +7,7 @@ use Rattle.dd_numbered.specs.{declared.numbered.Numbered.Numbered, Numbered.hold
 use Rattle.dd_formula.specs.LocalRule.{LocalRule, is_true}
 use Rattle.dd_rows.specs.Fillings.{look_of}
 
--- the number of a cell that is named relative to v; there is none past the range of positions
+-- the number of a cell that is given relative to v; a cell out of the range of positions has none
 abbrev pub ranks_near : List Cell → Place → Numbering
 ranks_near cs v = seen (by_rank cs) v
 

@@ -1,4 +1,4 @@
--- The levels of the search: the fillings of the first cells, with one cell more in each level.
+-- The levels of the search. Each level has the fillings of the first cells, and fills one cell more than the level before.
 use Rattle.std.specs.Prelude.{ℕ, ◌<◌, ◌≡◌, Bool, not, cond, ◌||◌, List, [], ◌∷◌, ◌++◌, map, filter, length, All}
 use Rattle.std.specs.{Bool.nat_eq, List.range_with_len, List.list_all}
 use Rattle.dd_lattice.specs.{Cells.shifted, Place.IsInRange, declared.position.Cell.Cell}
@@ -12,11 +12,11 @@ use Rattle.dd_rows.specs.Fillings.{look_of}
 abbrev pub AreOf : LocalRule → List Cell → Type 0
 AreOf x cs = All (λ c. c.node < x.nodes) cs
 
--- the position of each cell is in range
+-- the position of each cell is in range: each coordinate is at most 2^20 in absolute value
 abbrev pub AreInRange : List Cell → Type 0
 AreInRange cs = All (λ c. IsInRange c.position) cs
 
--- the greatest number among those of the cell c and of the cells that the rule reads there
+-- the greatest among the numbers of the cell c and of the cells that the rule reads there
 abbrev pub last_number : LocalRule → List Cell → Cell → ℕ
 last_number x cs c = greatest (rank cs c ∷ map (λ d. rank cs (shifted c.position d)) (cells_at x c.node))
 
@@ -30,11 +30,11 @@ chosen [] cs k = []
 chosen (n ∷ ns) [] k = []
 chosen (n ∷ ns) (c ∷ cs) k = cond (nat_eq n k) (c ∷ chosen ns cs k) (chosen ns cs k)
 
--- whether the rule is true at the cell, if it is given there
+-- whether the rule is true at the cell, or isn't given there: a cell that the rule reads there has no symbol or is out of range
 abbrev pub is_true_if_given : LocalRule → Look → Cell → Bool
 is_true_if_given x look c = not (is_given x c look) || is_true x c look
 
--- whether the rule is true, with the symbols ss of the cells cs, at each of the places where it is given
+-- whether, with the symbols ss of the cells cs, the rule is true at each of the places where the rule is given
 abbrev pub are_true : LocalRule → List Cell → List Cell → List ℕ → Bool
 are_true x cs places ss = list_all (is_true_if_given x (look_of cs ss)) places
 
@@ -42,7 +42,7 @@ are_true x cs places ss = list_all (is_true_if_given x (look_of cs ss)) places
 abbrev pub extended_below : LocalRule → (List ℕ → Bool) → ℕ → List ℕ → ℕ → List (List ℕ)
 extended_below x test a ss n = filter test (map (λ s. ss ++ s ∷ []) (filter (rule_allows x a) (range_with_len 0 n)))
 
--- the same for each symbol of the alphabet
+-- ss with one more symbol at its end, for each symbol of the alphabet that the node a allows and with which the list passes the test
 abbrev pub extended : LocalRule → (List ℕ → Bool) → ℕ → List ℕ → List (List ℕ)
 extended x test a ss = extended_below x test a ss x.symbols
 

@@ -1,4 +1,4 @@
--- Rows in a sparse form: along each vector, at most two of a row's coefficients are not 0.
+-- Rows in a sparse form: for each vector, at most two of a row's coefficients are not 0.
 use Rattle.std.specs.Prelude.{ℕ, ◌*◌, ◌≤◌, ◌≡◌, cond, pos, ◌-ℤ◌, ℤ, List, ◌∷◌, map, length, replicate, Option, Some, None}
 use Rattle.std.specs.{Bool.nat_eq, List.All, List.flat_map, List.range_with_len}
 use Rattle.dd_pattern.specs.Weight.{total_weight}
@@ -6,16 +6,17 @@ use Rattle.dd_rows.specs.declared.{rows.Row.Row, sparse.Exchange.Exchange, spars
 use Rattle.dd_rows.specs.{declared.views.Views.Views, Patterns.pattern_number, Programs.one_at, Programs.coefficients, Programs.add_row}
 use Rattle.dd_rows.specs.listing.Views.{symbols_at}
 
--- the exchange of two patterns, by their numbers; none if they are equal, since the amounts cancel
+-- What the origin exchanges along a vector: it gives the amount of one pattern, and receives that of another. If the two are
+-- the same, there is no exchange, since the amounts cancel.
 abbrev pub exchange_of : ℕ → ℕ → Option Exchange
 exchange_of gives receives = cond (nat_eq gives receives) None (Some (record { gives = gives; receives = receives }))
 
--- the coefficient of the pattern with the number k, along the vector of the exchange
+-- the coefficient in the column for the exchange's vector and the pattern with the number k
 abbrev pub entry : Option Exchange → ℕ → ℤ
 entry None k = pos 0
 entry (Some e) k = one_at k e.gives -ℤ one_at k e.receives
 
--- the coefficients of all patterns along the vector of the exchange
+-- the coefficients in the columns for the exchange's vector, one for each pattern
 abbrev pub entries : ℕ → Option Exchange → List ℤ
 entries patterns e = map (entry e) (range_with_len 0 patterns)
 
@@ -28,7 +29,7 @@ abbrev pub IsExchange : ℕ → Option Exchange → Type 0
 IsExchange patterns None = Unit {0}
 IsExchange patterns (Some e) = (e.gives ≤ patterns) × (e.receives ≤ patterns) × (e.gives ≡ e.receives → ⊥)
 
--- the row has an exchange, or none, for each vector
+-- the row has one item for each vector: an exchange, or none
 pub record IsSparse (vectors patterns : ℕ) (r : SparseRow) : Type 0 where
   pub as_many : length r.exchanges.items ≡ vectors
   pub each : All (IsExchange patterns) r.exchanges.items
@@ -36,7 +37,7 @@ pub record IsSparse (vectors patterns : ℕ) (r : SparseRow) : Type 0 where
 abbrev pub AreSparse : ℕ → ℕ → List SparseRow → Type 0
 AreSparse vectors patterns rs = All (IsSparse vectors patterns) rs
 
--- the new rows stand for the old ones and one more, which is added unless it is among them
+-- the new rows stand for the old ones and one more, which is added unless it is already there
 pub record IsWithRow (vectors patterns : ℕ) (old : List SparseRow) (r : SparseRow) (new : List SparseRow) : Type 0 where
   pub rows : map (dense patterns) new ≡ add_row (map (dense patterns) old) (dense patterns r)
   pub sparse : AreSparse vectors patterns new
@@ -49,7 +50,7 @@ exchanges_of ps v ss = map (λ numbers. exchange_of (pattern_number ps (symbols_
 abbrev pub required_row : List (List ℕ) → Views → List ℕ → List ℕ → Row
 required_row ps v ws ss = record { coefficients = coefficients ps (symbols_at ss v.origin) (map (symbols_at ss) v.givers); bound = total_weight ws (symbols_at ss v.centre) }
 
--- the first row: column 0 is at most `most`
+-- the first row, which says that column 0 is at most `most`
 abbrev pub capped : ℕ → ℕ → ℕ → Row
 capped vectors patterns most = record { coefficients = pos 1 ∷ replicate (vectors * patterns) (pos 0); bound = most }
 

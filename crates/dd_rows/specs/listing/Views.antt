@@ -1,4 +1,5 @@
--- Views: the numbers, among some cells, of the cells of a box around a position; and the symbols there.
+-- Views, and what they show. A view is a list of cell numbers, for example those of the cells of a box around a position. It
+-- shows the symbols that a filling gives to these cells. A cell's number is its index in a list of cells.
 use Rattle.std.specs.Prelude.{ℕ, ◌≡◌, List, ◌∷◌, map, unwrap_or, slice_get}
 use Rattle.std.specs.{List.fold, List.range_with_len, Ordering.nat_cmp, Cmp.Lexicographic.slice_cmp, BTreeSet.insert_key}
 use Rattle.dd_lattice.specs.{Place.Place, Cells.cell, Cells.shifted, declared.position.Cell.Cell}
@@ -12,7 +13,7 @@ use Rattle.dd_numbered.specs.Numbering.{rank}
 abbrev pub view_of : List Cell → List Cell → Place → List ℕ
 view_of cs box p = map (λ c. rank cs (shifted p c)) box
 
--- the views around the opposite of each vector
+-- for each vector, the view of the box around the vector's opposite
 abbrev pub givers_of : List Cell → List Cell → List Place → List (List ℕ)
 givers_of cs box vs = map (λ v. view_of cs box (reversed v)) vs
 
@@ -34,6 +35,6 @@ symbols_at ss numbers = map (λ i. unwrap_or (slice_get ss i) 0) numbers
 abbrev pub patterns_seen : Views → List ℕ → List (List ℕ)
 patterns_seen v ss = symbols_at ss v.origin ∷ map (symbols_at ss) v.givers
 
--- the list of patterns, with more inserted
+-- the list of patterns ps, with the patterns of `more` inserted
 abbrev pub with_patterns : List (List ℕ) → List (List ℕ) → List (List ℕ)
 with_patterns ps more = fold (insert_key (slice_cmp nat_cmp)) ps more

@@ -7,7 +7,7 @@ use Rattle.dd_script.specs.Parts.{Parts}
 use Rattle.dd_session.specs.{declared.status.Status.Status, declared.status.Status.TheVariants.Rejected, Sides.status_of}
 use Rattle.dd_session.specs.Checks.{accepted_line, rejected_line, accepted_lines, checked_line, IsAcceptedAt, AcceptedTo, AllAccepted, FirstRejected}
 
--- This is whether the answer with this number is accepted.
+-- the truth value says whether the answer with this number is accepted
 abbrev pub IsJudged : Parts → List Answer → ℕ → Bool → Type 0
 IsJudged s answers number true = IsAcceptedAt s answers number
 IsJudged s answers number false = ¬ IsAcceptedAt s answers number
@@ -46,17 +46,17 @@ pub record AcceptedAll (old new : Option (List ℕ)) (s : Parts) (answers : List
   pub all : AllAccepted s answers
   pub appends : Appends old new (accepted_lines (length answers) ++ checked_line (length answers))
 
--- What was written before the last line, by whether all are accepted; if not, there is a first one that is rejected.
+-- What was written before the last line. The truth value says whether all answers are accepted. If not, there is a first one that is rejected.
 abbrev pub EachJudged : Option (List ℕ) → Option (List ℕ) → Parts → List Answer → Bool → Type 0
 EachJudged old new s answers true = AcceptedEach old new s answers
 EachJudged old new s answers false = RejectedHere old new s answers
 
--- what was written, by whether all are accepted
+-- all that was written; the truth value says whether all answers are accepted
 abbrev pub AllJudged : Option (List ℕ) → Option (List ℕ) → Parts → List Answer → Bool → Type 0
 AllJudged old new s answers true = AcceptedAll old new s answers
 AllJudged old new s answers false = RejectedHere old new s answers
 
--- The status of a check that came to its end, by whether all are accepted and whether some answer is UNKNOWN.
+-- The status of a check that came to its end. The truth values say whether all answers are accepted, and whether some answer is UNKNOWN.
 abbrev pub checked_status : Bool → Bool → Status
 checked_status true has = status_of has
 checked_status false has = Rejected

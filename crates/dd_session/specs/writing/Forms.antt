@@ -1,4 +1,4 @@
--- How much is written of an answer.
+-- How much of an answer is written.
 use Rattle.std.specs.Prelude.{ℕ, List}
 use Rattle.dd_certificate.specs.{declared.answer.Answer.Answer, Text.answer_text, Text.answer_line}
 use Rattle.dd_session.specs.declared.stream.Form.{Form}

@@ -11,7 +11,7 @@ axis_split m (suc k) a f =
     let p : a +ℤ pos (m + k) ≡ (a +ℤ pos m) +ℤ pos k = omega (arith, ints) in
     rw (e, p) (omega (arith, axis_split m k a f))
 
--- what a run receives along s is what the run moved by -s gives
+-- what a run of n consecutive coordinates receives along s is what the run moved by -s gives
 pub axis_moved : (n : ℕ) (a s : ℤ) (f : ℤ → ℕ) → axis_sum n a (λ c. f (c -ℤ s)) ≡ axis_sum n (a -ℤ s) f
 axis_moved zero a s f = refl
 axis_moved (suc n) a s f =
@@ -42,7 +42,7 @@ pub axis_most : (n : ℕ) (a : ℤ) (g : ℤ → ℕ) (e : ℕ) → ((c : ℤ) �
 axis_most zero a g e up = omega arith
 axis_most (suc n) a g e up = omega (arith, axis_most n a g e up, up (a +ℤ pos n))
 
--- g and h over the same run
+-- the sums of g and h over the same run, compared
 together : (n : ℕ) (a : ℤ) (g h : ℤ → ℕ) (k e : ℕ) → ((c : ℤ) → g c + k ≤ h c + e) → axis_sum n a g + n * k ≤ axis_sum n a h + n * e
 together zero a g h k e le = omega arith
 together (suc n) a g h k e le = omega (arith, together n a g h k e le, le (a +ℤ pos n))

@@ -6,7 +6,7 @@ use Rattle.dd_lattice.specs.{Place.Place, Place.place, Regions.seen_from}
 use Rattle.dd_sides.specs.Sums.{Size, axis_sum, box_sum, size_volume}
 use Rattle.dd_sides.specs.lemmas.AxisLaws.{axis_moved, axis_same, axis_at_most, axis_add, axis_const, axis_times, axis_most, axis_shifted}
 
--- p is the position with these offsets from u, within the box
+-- p is a position of the box, with the offsets i, j and k from the least corner u
 pub record IsAt (s : Size) (u p : Place) : Type 0 where
   pub i : ℕ
   pub j : ℕ

@@ -1,4 +1,5 @@
--- The cells that a row looks at. They lie within its reach, and include the boxes around the origin and around its givers.
+-- The cells that a row looks at, which are the ground. They lie within its reach. They include the boxes around the origin and
+-- around its givers, the positions from which the origin receives.
 use Rattle.std.proofs.Common.{◌≡◌, ◌<◌, ◌+◌, ◌≤◌, ℕ, zero, suc, Bool, true, false, List, [], ◌∷◌, map, refl, sym, ap, subst, inl, inr, arith}
 use Rattle.std.proofs.lemmas.{Bool.and_parts, Bool.and_from, Bool.lt-ltb, Bool.Decides.Decides-int_eq, Int.ints}
 use Rattle.std.proofs.lemmas.List.Elements.{All-contains, Contains-append_cases}
@@ -19,7 +20,7 @@ use Rattle.dd_sides.specs.Lifted.{reach_of}
 
 -- ---- the cells of a list of positions
 
--- a cell of one of the positions, with one of the nodes
+-- the position of c is in the list, and its node is one of n
 pub record IsCellOn (n : ℕ) (ps : List Place) (c : Cell) : Type 0 where
   pub position : Contains ps c.position
   pub node : c.node < n

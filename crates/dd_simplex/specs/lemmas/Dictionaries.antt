@@ -1,4 +1,4 @@
--- A run that ends, ends with one dictionary.
+-- A run ends with at most one dictionary.
 use Rattle.dd_simplex.specs.{Dictionaries.Dictionary, Runs.Ends}
 use Rattle.std.proofs.Common.{◌≡◌}
 

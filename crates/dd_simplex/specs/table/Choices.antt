@@ -1,10 +1,10 @@
--- How the code chooses what enters and what leaves: a best place among the first n.
+-- How the code chooses what enters and what leaves: it takes the best of the first n places.
 use Rattle.std.specs.Prelude.{◌≡◌, ℕ, ◌<◌, ◌≤◌, List, length, Bool, true, false, ◌&&◌, ◌||◌, Option, Some, None}
 use Rattle.std.specs.{Bool.nat_lt, Ordering.is_lt, Ordering.is_eq}
 use Rattle.dd_fraction.specs.{Exact.Exact, Exact.times, Exact.inverse, Order.IsAtMost, Order.exact_cmp, Checked.does_product_fit}
 use Rattle.dd_simplex.specs.{Programs.fraction_at, Runs.is_over, table.Lines.Line, table.Lines.line_at, table.Lines.other_at}
 
--- of the first n places, an eligible one that comes before each other eligible one; none if none is eligible
+-- of the first n places, an eligible one that comes before each other eligible one, or `None` if none is eligible
 abbrev pub IsChosen : (ℕ → Bool) → (ℕ → ℕ → Type 0) → ℕ → Option ℕ → Type 0
 IsChosen eligible Before n None = (i : ℕ) → i < n → eligible i ≡ false
 IsChosen eligible Before n (Some e) = (e < n) × (eligible e ≡ true) × ((i : ℕ) → i < n → eligible i ≡ true → Before e i)
@@ -18,11 +18,11 @@ EntersBefore others i j = other_at others i ≤ other_at others j
 abbrev pub does_limit : List Line → ℕ → ℕ → Bool
 does_limit lines e i = is_over (fraction_at (line_at lines i).cells e)
 
--- the ratio of bound to cell at the place e, in line i
+-- in line i, the ratio of the bound to the cell at the place e
 abbrev pub line_ratio : List Line → ℕ → ℕ → Exact
 line_ratio lines e i = times (line_at lines i).bound (inverse (fraction_at (line_at lines i).cells e))
 
--- whether the ratio a is smaller than b, or they are equal and the variable v is smaller than w
+-- whether the ratio a is smaller than b, or they are equal and the variable v has a smaller number than w
 abbrev pub does_precede : Exact → ℕ → Exact → ℕ → Bool
 does_precede a v b w = let o = exact_cmp a b in is_lt o || (is_eq o && nat_lt v w)
 
@@ -39,13 +39,13 @@ abbrev pub IsRatioOf : List Line → ℕ → Exact → Option ℕ → Type 0
 IsRatioOf lines e a None = a ≡ a
 IsRatioOf lines e a (Some r) = a ≡ line_ratio lines e r
 
--- the numbers of the ratios of the first n lines fit
+-- for each of the first n lines that limits the entering variable, the numbers of its ratio fit
 abbrev pub DoRatiosFit : List Line → ℕ → ℕ → Type 0
 DoRatiosFit lines e n =
     (i : ℕ) → i < n → does_limit lines e i ≡ true
     → does_product_fit (line_at lines i).bound (inverse (fraction_at (line_at lines i).cells e)) ≡ true
 
--- a number of some line's ratio doesn't fit
+-- some line limits the entering variable, and a number of its ratio doesn't fit
 pub record HasMisfit (lines : List Line) (e : ℕ) : Type 0 where
   pub place : ℕ
   pub within : place < length lines

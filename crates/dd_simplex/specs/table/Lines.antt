@@ -1,12 +1,12 @@
--- A table is a dictionary as the code keeps it: the nonbasic variables are listed, and a variable's place is its index. This
--- module defines one pivot of a table. Each test `.. fit` says whether the numbers of the step defined just above it fit.
+-- A table is a dictionary in the form that the code uses. It lists the nonbasic variables, and a variable's place is its index in this list. This
+-- module defines one pivot of a table. Each test whose name ends in `fit` says whether the numbers of the step defined just above it fit.
 use Rattle.std.specs.Prelude.{◌≡◌, true, ℕ, ◌+◌, List, [], ◌∷◌, ◌++◌, map, take, drop, Bool, true, ◌&&◌, slice_index_or, slice_set}
 use Rattle.std.specs.List.{list_all, All}
 use Rattle.dd_fraction.specs.Exact.{Exact, plus, times, minus, inverse}
 use Rattle.dd_fraction.specs.Checked.{IsFraction, does_product_fit, does_sum_fit}
 use Rattle.dd_simplex.specs.Programs.{fraction_at, zero_of, one_of}
 
--- basic = bound - Σ cell · other, over the nonbasic variables
+-- the equation basic = bound - Σ cell · other, over the nonbasic variables
 pub record Line : Type 0 where
   pub basic : ℕ
   pub bound : Exact
@@ -100,12 +100,12 @@ does_table_fit e r t =
     let pivot = solved_line (other_at t.others e) e (line_at t.lines r) in
     do_lines_fit e r (other_at t.others e) t.lines && does_objective_line_fit e pivot t.value t.costs
 
--- the numbers of a line are in lowest terms, and at most 2^127 - 1 in absolute value
+-- the numbers of a line are fractions in lowest terms, whose numerators and denominators are at most 2^127 - 1 in absolute value
 pub record HasFractions (l : Line) : Type 0 where
   pub bound : IsFraction l.bound
   pub cells : All IsFraction l.cells
 
--- subtracting q · b from a changes nothing, and each number of this step fits
+-- subtracting q · b from a changes nothing, and each number in this step fits
 pub record IsIdle (a q b : Exact) : Type 0 where
   pub fit : (does_product_fit q b && does_sum_fit a (minus (times q b))) ≡ true
   pub value : plus a (minus (times q b)) ≡ a

@@ -3,7 +3,8 @@ use Rattle.std.specs.Prelude.{◌≡◌, ℕ, ◌<◌, length, true, false}
 use Rattle.dd_fraction.specs.Checked.{IsFraction}
 use Rattle.dd_simplex.specs.{Programs.fraction_at, Dictionaries.Dictionary, table.Lines.Table, table.Lines.line_at, table.Lines.other_at}
 
--- each line, and the list of costs, has one fraction for each nonbasic variable
+-- each line has one cell, and the list of costs one cost, for each nonbasic variable; all cells, bounds and costs and the value are fractions in
+-- lowest terms that fit
 pub record IsTable (t : Table) : Type 0 where
   pub costs : length t.costs ≡ length t.others
   pub cells : (i : ℕ) → i < length t.lines → length (line_at t.lines i).cells ≡ length t.others
@@ -12,8 +13,8 @@ pub record IsTable (t : Table) : Type 0 where
   pub prices : (j : ℕ) → j < length t.others → IsFraction (fraction_at t.costs j)
   pub value : IsFraction t.value
 
--- Of the first n variables, each basic one has its line, and each nonbasic one its place. `column` gives this place; it has
--- nothing to do with the program's columns.
+-- The table t stands for the dictionary d over the first n variables. Each basic variable has a line, which `line` gives, and each nonbasic
+-- variable has a place, which `column` gives. This `column` has nothing to do with the program's columns.
 pub record StandsFor (n : ℕ) (t : Table) (d : Dictionary) : Type 0 where
   pub line : ℕ → ℕ
   pub column : ℕ → ℕ

@@ -1,15 +1,15 @@
--- One iteration of the code, and the first and the last table of a run.
+-- One iteration of the code, and the first table of a run.
 use Rattle.std.specs.Prelude.{◌≡◌, ℕ, ◌+◌, ◌<◌, ◌⊎◌, List, length, true, false, Option, Some, None}
 use Rattle.dd_fraction.specs.Checked.{IsFraction}
 use Rattle.dd_simplex.specs.Programs.{LinearProgram, ProgramRow, row_at, program_row, coefficient, bound_at, unit, fraction_at, zero_of}
 use Rattle.dd_simplex.specs.table.Lines.{Line, Table, line_at, other_at, changed_table, does_table_fit}
 use Rattle.dd_simplex.specs.table.Choices.{IsChosen, does_enter, EntersBefore, does_limit, LeavesBefore, DoRatiosFit, HasMisfit}
 
--- o is the place of the variable that enters; none enters if it is None
+-- o is the place of the variable that enters, or `None` if no variable enters
 abbrev pub DoesEnter : Table → Option ℕ → Type 0
 DoesEnter t o = IsChosen (does_enter t.costs) (EntersBefore t.others) (length t.costs) o
 
--- o is the line whose variable leaves; none leaves if it is None
+-- o is the line whose variable leaves, or `None` if no variable leaves
 abbrev pub DoesLeave : Table → ℕ → Option ℕ → Type 0
 DoesLeave t e o = IsChosen (does_limit t.lines e) (LeavesBefore t.lines e) (length t.lines) o
 
@@ -52,7 +52,7 @@ pub record IsStart (p : LinearProgram) (t : Table) : Type 0 where
   pub fractions : (i j : ℕ) → i < length p.rows → j < p.columns → IsFraction (coefficient p i j)
   pub bounds : (i : ℕ) → i < length p.rows → IsFraction (bound_at p i)
 
--- the line of the variable v has the numbers of a row, and these are fractions
+-- l is the line of the variable v with the numbers of the given row, which are fractions in lowest terms that fit
 pub record IsLineOf (row : ProgramRow) (v : ℕ) (l : Line) : Type 0 where
   pub is : l ≡ record { basic = v; bound = row.bound; cells = row.coefficients }
   pub bound : IsFraction row.bound

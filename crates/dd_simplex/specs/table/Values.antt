@@ -1,15 +1,15 @@
--- The values of the columns once the first i lines are read, and the duals once the first i nonbasic variables are read.
+-- The values of the columns after the first i lines have been read, and the duals after the first i nonbasic variables have been read.
 use Rattle.std.specs.Prelude.{◌≡◌, ℕ, ◌+◌, ◌<◌, ◌≤◌, List, length, not, ◌&&◌, cond}
 use Rattle.std.specs.Bool.{nat_lt}
 use Rattle.dd_fraction.specs.Exact.{Exact, minus}
 use Rattle.dd_simplex.specs.{Programs.fraction_at, Programs.zero_of, Dictionaries.Dictionary, table.Lines.Line, table.Lines.Table}
 use Rattle.dd_simplex.specs.table.Standing.{StandsFor}
 
--- the value of column j by the first i lines, where `line` gives each basic variable's line
+-- the value of column j after the first i lines, where `line` gives the line of each basic variable
 abbrev pub column_so_far : (ℕ → ℕ) → Dictionary → ℕ → ℕ → Exact
 column_so_far line d i j = cond (d.is_basic j && nat_lt (line j) i) (d.bound j) zero_of
 
--- the dual of the slack w by the first i nonbasic variables, where `column` gives each one's place
+-- the dual of the row with the slack w after the first i nonbasic variables, where `column` gives the place of each nonbasic variable
 abbrev pub dual_so_far : (ℕ → ℕ) → Dictionary → ℕ → ℕ → Exact
 dual_so_far column d i w = cond (not (d.is_basic w) && nat_lt (column w) i) (minus (d.cost w)) zero_of
 

@@ -1,4 +1,4 @@
--- The clause learned from a conflict, and where the search goes on.
+-- The clause learned from a conflict, and where the search goes back to.
 use Rattle.std.specs.Prelude.{◌≡◌, ℕ, ◌<◌, ◌≤◌, ◌-◌, ◌&&◌, Bool, true, false, List, Option, Some, None, length, take, slice_index_or, MatchOption, ⊤}
 use Rattle.dd_clause.specs.{declared.clause.Literal.Literal, Clauses.negation}
 use Rattle.dd_derivation.specs.declared.propagation.Finding.TheVariants.{Forced}
@@ -27,26 +27,26 @@ IsMarkedClause known marked r = MatchOption (clause_of known r) ⊤ (AreMarked m
 abbrev pub is_rightly_learned : ℕ → List (Option (List Literal)) → List Literal → List ℕ → Bool
 is_rightly_learned n known learned hints = is_proper n learned && is_conflict known learned hints
 
--- p is the place of a decision, and no entry from there to before the place `top` is marked
+-- p is the place of a decision, at or before the place `top`, and no entry from there up to but excluding `top` is marked
 pub record IsPlace (trail : List Entry) (marked : List Bool) (top p : ℕ) : Type 0 where
   pub from : p ≤ top
   pub decided : (d : Entry) → (slice_index_or trail p d).reason ≡ None
   pub between : (k : ℕ) (d : Entry) → p ≤ k → k < top → marks marked (slice_index_or trail k d).literal ≡ false
 
--- The backjump goes back to before a decision at the place or earlier. No entry from that decision to before the place is
--- marked. The backjump makes the literal at the place false.
+-- The backjump goes back to just before a decision, which stands at `place` or earlier. No entry from that decision up to but excluding `place` is
+-- marked. The backjump makes the literal at `place` false.
 pub record IsBackjump (trail : List Entry) (marked : List Bool) (place : ℕ) (backjump : Backjump) : Type 0 where
   pub at : IsPlace trail marked place backjump.place
   pub literal : (d : Entry) → backjump.literal ≡ negation (slice_index_or trail place d).literal
 
--- The choice is right. If the entry is resolved, the clause of this number forced it. If it is the first one kept, its backjump
--- fits its place. If another was kept before, the backjump stays the same.
+-- The choice is right. If the entry is resolved, the clause with the chosen number forced it. If the entry is the first one kept, the backjump fits
+-- its place. If another entry was kept before, the backjump stays the same.
 abbrev pub ChoiceSays : List Entry → List Bool → Option Backjump → ℕ → Choice → Type 0
 ChoiceSays trail marked backjump place (Resolve r) = (d : Entry) → (slice_index_or trail place d).reason ≡ Some r
 ChoiceSays trail marked None place (Keep t) = IsBackjump trail marked place t
 ChoiceSays trail marked (Some u) place (Keep t) = t ≡ u
 
--- the backjump's place is that of a decision, and just before it the learned clause forces the backjump's literal
+-- the backjump's place is that of a decision, and with only the entries before this place, the learned clause forces the backjump's literal
 pub record Asserts (trail : List Entry) (learned : List Literal) (backjump : Backjump) : Type 0 where
   pub within : backjump.place < length trail
   pub decided : (d : Entry) → (slice_index_or trail backjump.place d).reason ≡ None

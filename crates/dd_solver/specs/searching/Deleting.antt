@@ -4,12 +4,12 @@ use Rattle.dd_clause.specs.declared.clause.Literal.{Literal}
 use Rattle.dd_derivation.specs.Derivations.{clause_of, are_deletable, known_after}
 use Rattle.dd_trail.specs.declared.trail.Entry.{Entry}
 
--- No chosen clause forced an entry, so all of them may be chosen. `chosen` has an entry for each clause number.
+-- The clauses may be chosen: none of them forced an entry of the trail. `chosen` has a truth value for each clause number.
 abbrev pub AreChosen : List Entry → List Bool → Type 0
 AreChosen trail chosen =
     (k r : ℕ) (d : Entry) → k < length trail → (slice_index_or trail k d).reason ≡ Some r → slice_index_or chosen r false ≡ false
 
--- Each number has a clause when it is deleted. The clauses numbered up to `first` are kept, and so are those that forced an entry.
+-- Each clause to be deleted is still there when its turn comes. The clauses numbered up to `first` are kept, and so are those that forced an entry.
 pub record MayDelete (known : List (Option (List Literal))) (first : ℕ) (trail : List Entry) (deletes : List ℕ) : Type 0 where
   pub deletable : are_deletable known deletes ≡ true
   pub first_stay : (h : ℕ) → h ≤ first → clause_of (known_after known deletes) h ≡ clause_of known h

@@ -1,9 +1,9 @@
--- The steps marked by a walk from the last to the first, and the refutation that they make.
+-- The steps that are marked by a walk from the last step to the first, and the refutation that they form.
 use Rattle.std.specs.Prelude.{◌≡◌, ℕ, suc, ◌+◌, ◌-◌, ◌<◌, ◌≤◌, nat_le, Bool, true, false, if◌then◌else◌, List, [], ◌∷◌, map, length, slice_index_or}
 use Rattle.dd_derivation.specs.declared.step.Step.{Step}
 use Rattle.dd_solver.specs.Trimming.{is_hint}
 
--- a marked step has this number as a hint; it stands at the place or later, and later than the step at j
+-- some marked step has this number as a hint; this step stands at `place` or later, and after the step at j
 pub record IsNeeded (place j number : ℕ) (steps : List Step) (marked : List Bool) : Type 0 where
   pub at : ℕ
   pub from : place ≤ at
@@ -12,8 +12,9 @@ pub record IsNeeded (place j number : ℕ) (steps : List Step) (marked : List Bo
   pub is_marked : slice_index_or marked at false ≡ true
   pub hinted : (d : Step) → is_hint number (slice_index_or steps at d).hints ≡ true
 
--- The last step is marked. So is each step that is hinted at by a later marked step, if that one stands at the place or
--- later. Of each marked step but the last, such a hint is the reason. The steps' numbers begin after those of the clauses.
+-- The marks of a walk that has come to `place`. The last step is marked. So is each step that is named by a hint of a later marked step, if this
+-- later step stands at `place` or after it. Conversely, each marked step but the last is named by such a hint. The steps' numbers begin after those
+-- of the clauses.
 pub record IsMarking (clauses place : ℕ) (steps : List Step) (marked : List Bool) : Type 0 where
   pub as_many : length marked ≡ length steps
   pub last : (j : ℕ) → suc j ≡ length steps → slice_index_or marked j false ≡ true
@@ -22,7 +23,7 @@ pub record IsMarking (clauses place : ℕ) (steps : List Step) (marked : List Bo
   pub needed : (j : ℕ) → suc j < length steps → slice_index_or marked j false ≡ true
       → IsNeeded place j (clauses + suc j) steps marked
 
--- for each step the new number of the last marked step up to it, or `last` if there is none
+-- for each step, the new number of the last marked step up to and including it, or `last` if there is none
 abbrev pub numbers_from : ℕ → List Bool → List ℕ
 numbers_from last [] = []
 numbers_from last (m ∷ marked) = let next = if m then suc last else last in next ∷ numbers_from next marked
@@ -32,11 +33,11 @@ abbrev pub renamed : ℕ → List ℕ → ℕ → ℕ
 renamed clauses numbers number =
     if nat_le number clauses then number else slice_index_or numbers (number - clauses - 1) number
 
--- the step under new numbers, with nothing deleted
+-- the step with new numbers in its hints, and with nothing deleted
 abbrev pub kept_step : (ℕ → ℕ) → Step → Step
 kept_step rename s = record { clause = s.clause; hints = map rename s.hints; deletes = [] }
 
--- the marked steps under new numbers
+-- the marked steps with new numbers in their hints, and with nothing deleted
 abbrev pub kept_steps : (ℕ → ℕ) → List Bool → List Step → List Step
 kept_steps rename [] steps = []
 kept_steps rename (m ∷ marked) [] = []

@@ -1,4 +1,4 @@
--- Why each literal of a trail is true: it was decided, or a clause that is known forces it.
+-- Why each literal of a trail is true: it was decided, or a known clause forces it.
 use Rattle.std.specs.Prelude.{◌≡◌, ℕ, ◌<◌, false, List, map, Option, Some, None, length, take, slice_index_or, ⊤}
 use Rattle.dd_clause.specs.{declared.clause.Literal.Literal, Clauses.IsLiteralInRange, Clauses.IsClauseInRange}
 use Rattle.dd_derivation.specs.declared.propagation.Finding.TheVariants.{Forced}
@@ -9,7 +9,7 @@ use Rattle.dd_trail.specs.{declared.trail.Entry.Entry, Trails.falses}
 abbrev pub all_known : List (List Literal) → List (Option (List Literal))
 all_known clauses = map (λ c. Some c) clauses
 
--- each clause that is known has its variables between 1 and n
+-- the variables of each known clause are between 1 and n
 abbrev pub AreInRange : ℕ → List (Option (List Literal)) → Type 0
 AreInRange n known = (r : ℕ) (c : List Literal) → clause_of known r ≡ Some c → IsClauseInRange n c
 

@@ -9,7 +9,7 @@ use Rattle.dd_trail.specs.{declared.trail.Entry.Entry, Trails.falses}
 use Rattle.dd_solver.specs.declared.analysis.Backjump.{Backjump}
 use Rattle.dd_solver.specs.searching.Reasons.{all_known, AreInRange, IsTrail}
 
--- the number of variables, the clauses, the steps learned so far, and the trail
+-- the number of variables, the clauses, the steps learned so far, and the trail, which lists the true literals in the order in which they became true
 pub record State : Type 0 where
   pub variables : ℕ
   pub clauses : List (List Literal)
@@ -34,15 +34,15 @@ abbrev pub is_derived : ℕ → List (Option (List Literal)) → List Step → B
 is_derived n before [] = true
 is_derived n before (s ∷ steps) = is_right n before s && is_derived n (after_step before s) steps
 
--- The invariant of the search. The known clauses are in range. Those of the list are known. The trail's entries were
--- decided, or known clauses force them. The steps are right.
+-- The invariant of the search. The variables of the known clauses are in range. The clauses of the list are all known. Each entry of the trail was
+-- decided, or a known clause forces it. The steps are right.
 pub record IsSearch (s : State) : Type 0 where
   pub in_range : AreInRange s.variables (known s)
   pub given : (h : ℕ) (c : List Literal) → clause_of (all_known s.clauses) h ≡ Some c → clause_of (known s) h ≡ Some c
   pub trail : IsTrail s.variables (known s) s.entries
   pub derived : is_derived s.variables (all_known s.clauses) s.steps ≡ true
 
--- of the given clauses and the learned ones, the list tells which are known
+-- `alive` tells which of the given clauses and the learned ones are known
 pub record AreAlive (clauses : List (List Literal)) (steps : List Step) (alive : List Bool) : Type 0 where
   pub as_many : length alive ≡ length clauses + length steps
   pub same : known_to clauses steps alive ≡ known_through (all_known clauses) steps
@@ -55,19 +55,19 @@ AreOpen s = (r : ℕ) → hint_finding (known s) (is_among (falses s.entries)) r
 abbrev pub IsFalsified : State → ℕ → Type 0
 IsFalsified s r = hint_finding (known s) (is_among (falses s.entries)) r ≡ Falsified
 
--- the backjump's place is that of a decision, and just before it the last step's clause forces the backjump's literal
+-- the backjump's place is that of a decision, and with only the entries before this place, the last step's clause forces the backjump's literal
 pub record IsForced (s : State) (backjump : Backjump) : Type 0 where
   pub within : backjump.place < length s.entries
   pub decided : (d : Entry) → (slice_index_or s.entries backjump.place d).reason ≡ None
   pub forces : hint_finding (known s) (is_among (falses (take backjump.place s.entries))) (length s.clauses + length s.steps) ≡ Forced backjump.literal
 
--- what the analysis of a conflict leaves: with a backjump, the last step's clause forces its literal; without one, the steps refute
+-- what holds after the analysis of a conflict: if there is a backjump, the last step's clause forces its literal; if not, the steps refute the
+-- clauses
 abbrev pub GoesOn : State → Option Backjump → Type 0
 GoesOn s backjump = MatchOption backjump (refutes s.variables s.clauses s.steps ≡ true) (IsForced s)
 
--- The trail is read as a number of n digits in base 3, the first entry first. A forced entry is the digit 2, a decided one
--- the digit 1, and a place without an entry the digit 0. The number rises with each propagation, decision and backjump. It is
--- below 3 ^ n.
+-- The trail is read as a number of n digits in base 3. The first entry gives the leading digit. A forced entry is the digit 2, a decided entry the
+-- digit 1, and a place without an entry the digit 0. The number rises with each propagation, decision and backjump. It is below 3 ^ n.
 abbrev pub digit : Bool → ℕ
 digit is_decided = if is_decided then 1 else 2
 

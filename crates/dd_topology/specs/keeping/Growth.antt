@@ -1,8 +1,8 @@
--- One round of growth of a set of cells that is kept in cell order.
+-- One round in the growth of a set of cells that is stored in cell order.
 use Rattle.std.specs.Prelude.{◌⊎◌, ◌↔◌, List, Contains}
 use Rattle.dd_lattice.specs.declared.position.Cell.{Cell}
 
--- `cells` were added to the cells `before`, which makes the cells `now`. `fresh` has at least those of `now` that are not in `before`
+-- adding `cells` to the cells `before` gives the cells `now`. `fresh` has only cells of `now`, and at least those of them that are not in `before`
 pub record AddsCells (before cells now fresh : List Cell) : Type 0 where
   pub members : (d : Cell) → Contains now d ↔ (Contains before d ⊎ Contains cells d)
   pub fresh_found : (d : Cell) → Contains fresh d → Contains now d

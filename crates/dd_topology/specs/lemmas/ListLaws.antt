@@ -1,4 +1,4 @@
--- Searches in lists whose elements are seen through a function.
+-- Searches in lists, and in the lists that `map` and `flat_map` make of them.
 use Rattle.std.proofs.Common.{◌≡◌, ◌+◌, List, [], ◌∷◌, ◌++◌, Bool, true, false, cond, not, ◌||◌, if◌then◌else◌, map, length, nat_lt, Some, None, Contains, refl, ap, sym, ◌∙◌, subst, inl, inr, arith}
 use Rattle.std.proofs.lemmas.{Bool.Decides.nat_tests, List.length-map, List.Folds.find_at, List.Folds.list_any_at}
 use Rattle.std.proofs.lemmas.List.Elements.{Contains-append_left, Contains-append_right, Contains-append_cases}
@@ -8,11 +8,11 @@ use Rattle.std.specs.Option.{option_and_then}
 use Rattle.dd_values.specs.lemmas.Members.{Contains-first, Contains-later, Contains-nil, Contains-cons_cases}
 use Rattle.indexmap.specs.IndexSet.{insert_key}
 
--- a new key goes last
+-- inserting a new key appends it to the list
 pub insert_key-new : {K : Type 0} (eq : K → K → Bool) (k : K) (ks : List K) → list_any (eq k) ks ≡ false → insert_key eq ks k ≡ ks ++ k ∷ []
 insert_key-new eq k ks h = ap (λ b. if b then ks else ks ++ k ∷ []) h
 
--- two tests that say the same find the same
+-- searches with two tests that agree on every item find the same item
 pub find_alike : {X : Type 0} (p q : X → Bool) → ((x : X) → p x ≡ q x) → (xs : List X) → find p xs ≡ find q xs
 find_alike p q same [] = refl
 find_alike p q same (x ∷ xs) = ap (λ b. cond b (Some x) (find p xs)) (same x) ∙ ap (λ r. cond (q x) (Some x) r) (find_alike p q same xs)
@@ -31,7 +31,7 @@ module _ {X K : Type 0} (f : X → K) where
       let at = position_or_len (λ x. p (f x)) xs in
       ap (λ n. cond (nat_lt n (length (map f xs))) (Some n) None) (place-map p xs) ∙ ap (λ n. cond (nat_lt at n) (Some at) None) (length-map xs f)
 
--- what a test finds is the item at the first index where it passes
+-- a search with a test finds the item at the first index at which the test passes
 pub find-position : {X : Type 0} (p : X → Bool) (xs : List X) → find p xs ≡ option_and_then (slice_get xs) (position p xs)
 find-position {X} p xs = find_at p xs ∙ by (nat_lt (position_or_len p xs) (length xs)) refl
   where
@@ -43,7 +43,7 @@ found_from : {X : Type 0} (p : X → Bool) (x : X) (xs : List X) (y : X) → (fi
 found_from {X} p x xs y rest true e is = let same : x ≡ y = cc in (subst (Contains (x ∷ xs)) same (Contains-first x xs), ap p (sym same) ∙ e)
 found_from p x xs y rest false e is = let other = rest is in (Contains-later x xs y other.0, other.1)
 
--- what a test finds is in the list and passes
+-- an item that a search finds is in the list and passes the test
 pub found : {X : Type 0} (p : X → Bool) (xs : List X) (y : X) → find p xs ≡ Some y → Contains xs y × (p y ≡ true)
 found p [] y h = absurd (cc)
 found p (x ∷ xs) y h = found_from p x xs y (found p xs y) (p x) refl h
@@ -52,12 +52,12 @@ missed_from : {X : Type 0} (p : X → Bool) (x : X) (xs : List X) (y : X) → (f
 missed_from p x xs y rest true e is there = absurd (cc)
 missed_from p x xs y rest false e is there = elim (Contains-cons_cases x xs y there) [ inl same ↦ ap p (sym same) ∙ e | inr other ↦ rest is other ]
 
--- where it finds nothing, nothing passes
+-- if a search finds nothing, no item of the list passes the test
 pub missed : {X : Type 0} (p : X → Bool) (xs : List X) (y : X) → find p xs ≡ None → Contains xs y → p y ≡ false
 missed p [] y h there = absurd (Contains-nil y there)
 missed p (x ∷ xs) y h there = missed_from p x xs y (missed p xs y) (p x) refl h there
 
--- if the test of a list passes, some element passes
+-- if `list_any` is true for a list, some element passes the test
 pub some_passes : {X : Type 0} (p : X → Bool) (xs : List X) → list_any p xs ≡ true → (x : X) × Contains xs x × (p x ≡ true)
 some_passes p [] h = absurd (cc)
 some_passes {X} p (x ∷ xs) h = by_head (p x) refl h (some_passes p xs)

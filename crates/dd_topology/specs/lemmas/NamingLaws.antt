@@ -1,4 +1,5 @@
--- Keys that spell names: f gives the bytes of a key. A search among the keys finds what a search among their names finds.
+-- Keys that spell names: f gives the bytes that a key spells. A search for a name gives the same result among the keys as among the names that they
+-- spell.
 use Rattle.std.proofs.Common.{◌≡◌, ℕ, List, [], ◌∷◌, true, false, map, length, Some, Contains, refl, ap, sym, ◌∙◌, true≢false, ◌++◌}
 use Rattle.std.proofs.lemmas.{List.map-append, List.Quantifiers.position-Some, Map.Made.AllPairs-from_IsDistinct}
 use Rattle.std.proofs.lemmas.{Map.Views.list_any-from_Contains, Map.Views.Contains-from_any, Option.slice_get_read}
@@ -28,14 +29,14 @@ module _ {K : Type 0} (f : K → List ℕ) where
   pub unknown : (name : List ℕ) (ks : List K) → list_any (λ k. bytes_eq name (f k)) ks ≡ false → ¬ Contains (map f ks) name
   unknown name ks h there = true≢false (sym (list_any-from_Contains nat_list_eq_equiv name (map f ks) there) ∙ (list_any-map f (bytes_eq name) ks ∙ h))
 
-  -- a new name goes last
+  -- inserting a new key appends its name to the names
   pub map-insert_key : (k : K) (ks : List K) → list_any (λ j. bytes_eq (f k) (f j)) ks ≡ false → map f (insert_key (λ a b. bytes_eq (f a) (f b)) ks k) ≡ map f ks ++ f k ∷ []
   map-insert_key k ks h = ap (map f) (insert_key-new (λ a b. bytes_eq (f a) (f b)) k ks h) ∙ map-append f ks (k ∷ [])
 
   pub are_distinct : (ks : List K) → IsDistinct (λ a b. bytes_eq (f a) (f b)) ks → AreDistinct (map f ks)
   are_distinct ks h = AllPairs-from_IsDistinct bytes_eq-Decides (map f ks) (distinct-map ks h)
 
--- the name that has a number
+-- if a name has the number i, it is the name at index i
 pub slice_get-number_of : (names : List (List ℕ)) (name : List ℕ) (i : ℕ) → number_of names name ≡ Some i → slice_get names i ≡ Some name
 slice_get-number_of names name i h =
     let at = position-Some (bytes_eq name) names i name h in

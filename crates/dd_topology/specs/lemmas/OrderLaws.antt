@@ -54,7 +54,7 @@ module _ {K : Type 0} (R : K → K → Ordering) (o : IsTotalOrder R) where
         ]
       ]
 
-  -- two sorted lists with the same head and the same members have the same members after the head
+  -- if x ∷ xs is strictly sorted, each member of xs that is in x ∷ ys is in ys
   only_later : (x : K) (xs ys : List K) → IsStrictlySortedBy R (x ∷ xs) → (d : K) → Contains xs d → Contains (x ∷ ys) d → Contains ys d
   only_later x xs ys up d there there' =
       elim (Contains-cons_cases x ys d there') [
@@ -62,7 +62,7 @@ module _ {K : Type 0} (R : K → K → Ordering) (o : IsTotalOrder R) where
         | inr after ↦ after
       ]
 
-  -- two sorted lists with the same members are one list
+  -- two strictly sorted lists with the same members are equal
   pub same_sorted : (xs ys : List K) → IsStrictlySortedBy R xs → IsStrictlySortedBy R ys → ((d : K) → Contains xs d → Contains ys d) → ((d : K) → Contains ys d → Contains xs d) → xs ≡ ys
   same_sorted [] [] up up' to from = refl
   same_sorted [] (y ∷ ys) up up' to from = absurd (Contains-nil y (from y (Contains-first y ys)))
@@ -83,7 +83,7 @@ module _ {K : Type 0} (R : K → K → Ordering) (exact : (x y : K) → R x y �
   kept_step k x xs rest d into there Greater =
       elim (Contains-cons_cases x xs d there) [ inl same ↦ subst (Contains (x ∷ rest)) same (Contains-first x rest) | inr after ↦ Contains-later x rest d (into after) ]
 
-  -- an inserted key is added to the members
+  -- inserting a key keeps the members, makes the key a member, and adds no other
   pub kept-insert_key : (ks : List K) (k d : K) → Contains ks d → Contains (insert_key R ks k) d
   kept-insert_key [] k d there = absurd (Contains-nil d there)
   kept-insert_key (x ∷ xs) k d there = kept_step k x xs (insert_key R xs k) d (kept-insert_key xs k d) there (R k x)
@@ -116,7 +116,7 @@ cell_total = search (comparing, rules) depth 9
 pub sorted-in_order : (cs : List Cell) → IsStrictlySortedBy cell_cmp (in_order cs)
 sorted-in_order cs = sorted-fold cell_cmp cell_total cs [] (sorted_nil cell_cmp)
 
--- a list in cell order is the ordered form of each list with the same members
+-- a list that is strictly sorted in cell order is equal to `in_order` of each list with the same members
 pub is-in_order : (xs cs : List Cell) → IsStrictlySortedBy cell_cmp xs → ((d : Cell) → Contains xs d → Contains cs d) → ((d : Cell) → Contains cs d → Contains xs d) → xs ≡ in_order cs
 is-in_order xs cs up to from =
     same_sorted cell_cmp cell_total xs (in_order cs) up (sorted-in_order cs) (λ d there. (in_order_members cs d).1 (to d there)) (λ d there. from d ((in_order_members cs d).0 there))

@@ -10,7 +10,7 @@ use Rattle.dd_trail.specs.{declared.trail.Entry.Entry, Trails.falses}
 pub falses-more : (trail : List Entry) (j : ℕ) (d : Entry) → j < length trail → falses (take (j + 1) trail) ≡ falses (take j trail) ++ negation (get_or trail j d).literal ∷ []
 falses-more trail j d h = ap falses (take_more trail j d h) ∙ map-append (λ (e : Entry). negation e.literal) (take j trail) (get_or trail j d ∷ [])
 
--- a false literal is the negation of an entry's
+-- a false literal is the negation of some entry's literal
 pub in_falses : (trail : List Entry) (x : Literal) → In (falses trail) x → (k : ℕ) × (k < length trail) × ((d : Entry) → negation (get_or trail k d).literal ≡ x)
 in_falses [] x h = absurd (false≢true h)
 in_falses (e ∷ trail) x h = elim (or_cases (same_literal x (negation e.literal)) (is_among (falses trail) x) h) [

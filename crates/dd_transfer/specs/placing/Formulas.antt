@@ -1,4 +1,4 @@
--- The rule at the cells of the tested slice, as formulas over the symbols of a window.
+-- Formulas over the symbols of a window that say whether the rule is true at the cells of the tested slice.
 use Rattle.std.specs.Prelude.{ℕ, ◌≡◌, ◌<◌, ◌&&◌, cond, nat_lt, int_le, true, pos, List, Some, None, length, get_or}
 use Rattle.dd_lattice.specs.{Place.Place, Cells.cell, Cells.shifted, declared.position.Cell.Cell}
 use Rattle.dd_pattern.specs.Reading.{HasSymbolsBelow}
@@ -7,11 +7,11 @@ use Rattle.dd_formula.specs.LocalRule.{LocalRule, is_true, rule_allows}
 use Rattle.dd_strip.specs.{declared.strip.Strip.Strip, Strips.cells}
 use Rattle.dd_transfer.specs.Windows.{cell_at, stand, window_index, window_look}
 
--- the place of a cell among a window's symbols; none to the left of the window, or if there is no such node
+-- the place of a cell among a window's symbols, or none if the cell is to the left of the window or there is no such node
 abbrev pub window_numbers : Strip → Numbering
 window_numbers s c = cond (int_le (pos 0) c.position.x && nat_lt c.node s.nodes) (Some (window_index s c)) None
 
--- a strip, and a position to which cells are relative
+-- a strip, and a position relative to which cells are given
 pub record Standpoint : Type 0 where
   pub strip : Strip
   pub at : Place
@@ -20,7 +20,7 @@ pub record Standpoint : Type 0 where
 abbrev pub standpoint : Strip → Place → Standpoint
 standpoint s v = record { strip = s; at = v }
 
--- the place of a cell that is given relative to the standpoint's position
+-- the place, among a window's symbols, of a cell that is given relative to the standpoint's position
 abbrev pub numbers_near : Standpoint → Numbering
 numbers_near p c = window_numbers p.strip (shifted p.at c)
 

@@ -78,7 +78,7 @@ pub not_not : (b : Bool) → not (not b) ≡ b
 not_not true = refl
 not_not false = refl
 
--- the value under the opposite sign is the opposite
+-- the opposite sign gives the opposite value
 pub if_not : (sign b : Bool) → (if not sign then b else not b) ≡ not (if sign then b else not b)
 if_not true b = refl
 if_not false b = sym (not_not b)
@@ -102,7 +102,7 @@ pub and_same : (b : Bool) → (b && b) ≡ b
 and_same true = refl
 and_same false = refl
 
--- a comparison by two keys is Equal only if both keys are
+-- a comparison by two keys gives Equal only if both keys do
 pub both_equal : (a b : Ordering) → ordering_then a b ≡ Equal → (a ≡ Equal) × (b ≡ Equal)
 both_equal Less b h = absurd (cc)
 both_equal Equal b h = (refl, h)
@@ -122,7 +122,7 @@ lt_no v n p = grind (arith, p)
 pub eq_other : (v w : ℕ) → v ≢ w → nat_eq v w ≡ false
 eq_other v w h = grind arith
 
--- an option that has a value wherever b is true: kept under b, it has one exactly where b is true
+-- if o has a value whenever b is true, then "o if b is true, else None" has a value exactly if b is true
 pub cond_domain : (b : Bool) (o : Option ℕ) → (b ≡ true → is_some o ≡ true) → is_some (cond b o None) ≡ b
 cond_domain true o h = h refl
 cond_domain false o h = refl

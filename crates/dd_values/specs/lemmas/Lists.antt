@@ -11,19 +11,19 @@ use Rattle.std.proofs.lemmas.List.FromFn.{get_or-range_with_len, length-range_wi
 use Rattle.std.proofs.lemmas.List.Elements.{All-nil, All-append, Contains-append_cases}
 use Rattle.std.proofs.lemmas.List.Recursion.{and_fails_at}
 
--- the item at an index, if there is one, is below the bound
+-- if all items are below n, so is the item at an index, if there is one
 pub below_at : (n : ℕ) (ss : List ℕ) → All (λ s. s < n) ss → (i : ℕ) → IfSome (slice_get ss i) (λ s. s < n)
 below_at n [] h i = tt
 below_at n (s ∷ ss) h zero = h zero s (omega arith)
 below_at n (s ∷ ss) h (suc i) = below_at n ss (λ k d within. h (suc k) d (omega arith)) i
 
--- the item at an index, or 0 past the end, is at most n
+-- if all items are at most n, so is the item at an index, or 0 past the end
 pub slice_index_within : (n : ℕ) (xs : List ℕ) (i : ℕ) → All (λ x. x ≤ n) xs → slice_index xs i ≤ n
 slice_index_within n [] i h = omega arith
 slice_index_within n (x ∷ xs) zero h = h zero x (omega arith)
 slice_index_within n (x ∷ xs) (suc i) h = slice_index_within n xs i (λ k d within. h (suc k) d (omega (arith, within)))
 
--- an index with a true value is within the row
+-- an index at which the row has the value true is within the row
 pub nothing_past : (row : List Bool) (t : ℕ) → get_or row t false ≡ true → t < length row
 nothing_past row t h = elim (cases_lt t (length row)) [ inl low ↦ low | inr high ↦ absurd (let past = get_or-eq_default row false high in cc) ]
 
@@ -40,7 +40,7 @@ passes f (y ∷ xs) x h c =
       | inr there ↦ passes f xs x both.1 there
     ]
 
--- an index below the length has an item
+-- there is an item at each index below the length
 pub some_within : {X : Type 0} (xs : List X) (i : ℕ) → i < length xs → is_some (slice_get xs i) ≡ true
 some_within [] i h = absurd (omega arith)
 some_within (x ∷ xs) zero h = refl
@@ -64,7 +64,7 @@ pub map_alike : {X Y : Type 0} (f g : X → Y) → ((x : X) → f x ≡ g x) →
 map_alike f g same [] = refl
 map_alike f g same (x ∷ xs) = rw (same x, map_alike f g same xs) refl
 
--- functions that agree on the members map the list alike
+-- two functions that agree on the members of a list map it to the same list
 pub map_agree : {X Y : Type 0} (f g : X → Y) (xs : List X) → ((x : X) → Contains xs x → f x ≡ g x) → map f xs ≡ map g xs
 map_agree f g [] same = refl
 map_agree f g (x ∷ xs) same = rw (same x (Contains-first x xs), map_agree f g xs (λ y there. same y (Contains-later x xs y there))) refl
@@ -103,7 +103,7 @@ pub all_flat_map : {X Y : Type 0} (P : Y → Type 0) (Q : X → Type 0) (f : X �
 all_flat_map P Q f h [] all = All-nil P
 all_flat_map P Q f h (x ∷ xs) all = All-append P (f x) (flat_map f xs) (h x (all_first Q x xs all)) (all_flat_map P Q f h xs (all_rest Q x xs all))
 
--- one more number in the range adds its items at the end
+-- when the range is one number longer, the items for that number are added at the end
 pub range_more : {X : Type 0} (f : ℕ → List X) (k n : ℕ) → flat_map f (range_with_len k (suc n)) ≡ flat_map f (range_with_len k n) ++ f (k + n)
 range_more f k zero = append-nil (f k) ∙ ap f (omega arith)
 range_more f k (suc n) =
@@ -130,12 +130,12 @@ same_start (x ∷ xs) (y ∷ ys) s t h =
     let first : x ≡ y = ap head_of h in
     ap (λ z. z ∷ ys) (sym first) ∙ ap (λ zs. x ∷ zs) rest
 
--- zs is xs with s at its end: when its last item is removed, xs is left
+-- zs is xs with s at its end, and ys is what is left of zs when its last item is removed; so ys is xs
 pub taken_off : (xs ys zs : List ℕ) (s : ℕ) (o : Option ℕ) → zs ≡ xs ++ s ∷ [] → MatchOption o ((zs ≡ []) × (ys ≡ [])) (λ last. zs ≡ ys ++ last ∷ []) → ys ≡ xs
 taken_off xs ys zs s None is h = absurd (let n = ap length (sym is ∙ h.0) in let m = length-append xs (s ∷ []) in omega (arith, n, m))
 taken_off xs ys zs s (Some last) is h = same_start xs ys s last (sym is ∙ h)
 
--- the step of in_filter
+-- the induction step of in_filter
 pub filter_at : {X : Type 0} (p : X → Bool) (y x : X) (xs : List X) (b : Bool) → p y ≡ b → p x ≡ true → (y ≡ x) ⊎ Contains (filter p xs) x → Contains (cond b (y ∷ filter p xs) (filter p xs)) x
 filter_at p y x xs true is passes (inl same) = subst (Contains (y ∷ filter p xs)) same (Contains-first y (filter p xs))
 filter_at p y x xs false is passes (inl same) = absurd (false≢true (sym is ∙ (ap p same ∙ passes)))

@@ -1,4 +1,4 @@
--- Membership in lists, and lists that ascend strictly in some order.
+-- Membership in lists, and lists that are strictly ascending in some order. Below, ascending means strictly ascending.
 use Rattle.std.proofs.Common.{◌≡◌, ◌<◌, ℕ, zero, suc, List, [], ◌∷◌, ◌++◌, map, length, get_or, refl, sym, ◌∙◌, subst, inl, inr, ◌⊎◌, arith}
 use Rattle.std.proofs.lemmas.List.Elements.{All-append, All-map, All-weaker, All-contains_itself, All-contains, All-from_recursion, recursion_from_All}
 use Rattle.std.specs.{List.All, List.Contains, List.Sorted.IsStrictlySortedBy, declared.cmp.Ordering.Ordering}
@@ -23,7 +23,7 @@ Contains-nil q c = absurd (let below = c.1 in omega arith)
 pub All-from_contains : {X : Type 0} (P : X → Type 0) (xs : List X) → ((q : X) → Contains xs q → P q) → All P xs
 All-from_contains P xs h = All-weaker (Contains xs) P h xs (All-contains_itself xs)
 
--- two ascending lists joined ascend, if each member of the first is before each of the second
+-- if each member of one ascending list comes before each member of another, the two lists joined are ascending
 pub sorted_append : {K : Type 0} (R : K → K → Ordering) (xs ys : List K) → IsStrictlySortedBy R xs → IsStrictlySortedBy R ys →
     ((p q : K) → Contains xs p → Contains ys q → R p q ≡ Less) → IsStrictlySortedBy R (xs ++ ys)
 unfolding IsStrictlySortedBy
@@ -34,7 +34,7 @@ sorted_append {K} R (x ∷ xs) ys up up' before =
       sorted_append R xs ys up.1 up' (λ p q c. before p q (Contains-later x xs p c)),
     )
 
--- an ascending list with one later item at its end
+-- an ascending list stays ascending if a later item is added at its end
 pub sorted_push : {K : Type 0} (R : K → K → Ordering) (xs : List K) (y : K) → IsStrictlySortedBy R xs → ((p : K) → Contains xs p → R p y ≡ Less) →
     IsStrictlySortedBy R (xs ++ y ∷ [])
 unfolding IsStrictlySortedBy
@@ -45,12 +45,12 @@ sorted_push {K} R xs y up before =
       | inr none ↦ absurd (Contains-nil q none)
     ])
 
--- the head of an ascending list comes before the rest
+-- the first item of an ascending list comes before the rest
 pub sorted_first : {K : Type 0} (R : K → K → Ordering) (x : K) (xs : List K) → IsStrictlySortedBy R (x ∷ xs) → (q : K) → Contains xs q → R x q ≡ Less
 unfolding IsStrictlySortedBy
 sorted_first R x xs up q c = All-contains (λ y. R x y ≡ Less) xs q (All-from_recursion (λ y. R x y ≡ Less) xs up.0) c
 
--- a map that keeps the order keeps lists ascending
+-- a function that preserves the order maps ascending lists to ascending lists
 pub sorted_map : {K : Type 0} (R : K → K → Ordering) (f : K → K) → ((p q : K) → R (f p) (f q) ≡ R p q) → (xs : List K) → IsStrictlySortedBy R xs →
     IsStrictlySortedBy R (map f xs)
 unfolding IsStrictlySortedBy

@@ -26,7 +26,7 @@ le_to x y h = grind (arith, ints)
 pub lt_from : (x y : ℤ) → x <ℤ y → int_lt x y ≡ true
 lt_from x y h = grind (arith, ints)
 
--- ≤ of integers is transitive
+-- ≤ on the integers is transitive
 pub along : (x y z : ℤ) → x ≤ℤ y → y ≤ℤ z → x ≤ℤ z
 along x y z p q = omega (arith, ints)
 

@@ -10,7 +10,7 @@ pub if_ok_both : {A E : Type 0} (r : Result A E) (P Q R : A → Type 0) → ((a 
 if_ok_both (Ok a) P Q R f h k = f a h k
 if_ok_both (Err e) P Q R f h k = h
 
--- what holds in any case holds on success
+-- what holds in any case holds on success too
 pub any_ok : {T E : Type 0} (answer : Result T E) (P : Type 0) → P → OnOk answer P
 any_ok (Ok x) P p = p
 any_ok (Err e) P p = tt

@@ -1,10 +1,10 @@
--- Items one after the other: they are read from their text, and only from it.
+-- Items one after another: they are read from their text, and from nothing else.
 use Rattle.std.proofs.Common.{◌≡◌, ℕ, zero, suc, ◌≤◌, ◌<◌, Bool, true, false, List, [], ◌∷◌, ◌++◌, length, Some, refl, sym, ap, subst, ◌∙◌, append_assoc, arith, inl, inr}
 use Rattle.std.specs.List.{flat_map}
 use Rattle.dd_written.specs.{Tree.Lexeme, reading.Readers.◌>>=◌, reading.Readers.Reader, reading.Readers.many, reading.Readers.ReadsAll}
 use Rattle.dd_written.specs.lemmas.Options.{bind_some, some_is, chosen}
 
--- what was read one after the other are items, if each of them is
+-- if `reads` holds of each single item that is read, then `ReadsAll` holds of all the items that are read one after another
 pub many_sound : {X : Type 0} (reads : X → List Lexeme → List Lexeme → Type 0) (begins : List Lexeme → Bool) (item : Reader X)
     → ((tokens : List Lexeme) (x : X) (rest : List Lexeme) → begins tokens ≡ true → item tokens ≡ Some (x, rest) → reads x tokens rest)
     → (n : ℕ) (tokens : List Lexeme) (xs : List X) (rest : List Lexeme) → many begins item n tokens ≡ Some (xs, rest) → ReadsAll reads xs tokens rest
@@ -18,7 +18,7 @@ many_sound {X} reads begins item sound (suc n) tokens xs rest e =
       | inr ended ↦ subst (λ (x : List X × List Lexeme). ReadsAll reads x.0 tokens x.1) (some_is _ _ ended.1) refl
     ]
 
--- Items are read from their text if `begins` holds before each. If there are fewer than allowed, it must not hold after them.
+-- Items are read from their text if `begins` holds before each of them. If there are fewer than n items, `begins` must not hold after the last.
 pub many_again : {X : Type 0} (reads : X → List Lexeme → List Lexeme → Type 0) (begins : List Lexeme → Bool) (item : Reader X)
     → ((x : X) (tokens rest : List Lexeme) → reads x tokens rest → (begins tokens ≡ true) × (item tokens ≡ Some (x, rest)))
     → (n : ℕ) (xs : List X) (tokens rest : List Lexeme) → length xs ≤ n → (length xs < n → begins rest ≡ false) → ReadsAll reads xs tokens rest → many begins item n tokens ≡ Some (xs, rest)
@@ -36,7 +36,7 @@ pub few_items : {X : Type 0} (reads : X → List Lexeme → List Lexeme → Type
 few_items reads takes [] tokens rest all = omega arith
 few_items reads takes (x ∷ xs) tokens rest all = omega (arith, takes x tokens all.0 all.1, few_items reads takes xs all.0 rest all.2)
 
--- x is read from its text
+-- the tokens are the text of x, followed by the rest
 abbrev pub ByText : {X : Type 0} → (X → List Lexeme) → X → List Lexeme → List Lexeme → Type 0
 ByText text x tokens rest = tokens ≡ text x ++ rest
 

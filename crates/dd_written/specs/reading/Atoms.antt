@@ -1,4 +1,4 @@
--- Readers of atoms, and of what precedes the body of a quantifier.
+-- Readers of atoms, and of what stands before the body of a quantified formula.
 use Rattle.std.specs.Prelude.{List, [], ◌∷◌, Some, None}
 use Rattle.dd_written.specs.Tree.{Word, Mark, Lexeme, Name, Term, Comparand, Relation, Ball, Formula, roll-Formula, Formula-F}
 use Rattle.dd_written.specs.reading.Readers.{◌>>=◌, Reader}
@@ -8,7 +8,7 @@ name_at (Lexeme.Word w ∷ tokens) = Some (Name.Word w, tokens)
 name_at (Lexeme.Number n ∷ tokens) = Some (Name.Number n, tokens)
 name_at tokens = None
 
--- the moves that the tokens begin with
+-- the moves at the front of the tokens, and the tokens after them
 abbrev pub moves_at : List Lexeme → List Word × List Lexeme
 moves_at (Lexeme.Mark Mark.Dot ∷ Lexeme.Word label ∷ tokens) = (label ∷ (moves_at tokens).0, (moves_at tokens).1)
 moves_at tokens = ([], tokens)
@@ -48,12 +48,12 @@ atom_at tokens = do
   r ← relation_at t.1
   Some (roll-Formula (Formula-F.Atom (record { term = t.0; relation = r.0 })), r.1)
 
--- the balls that the tokens begin with
+-- the balls at the front of the tokens, and the tokens after them
 abbrev pub balls_at : List Lexeme → List Ball × List Lexeme
 balls_at (Lexeme.Word centre ∷ Lexeme.Number radius ∷ tokens) = (record { centre = centre; radius = radius } ∷ (balls_at tokens).0, (balls_at tokens).1)
 balls_at tokens = ([], tokens)
 
--- the end of the balls, of which there is at least one
+-- reads the `]` after the balls of a quantifier; there must be at least one ball
 abbrev pub quantifier_end : Word → List Ball → Reader (Word × List Ball)
 quantifier_end variable [] tokens = None
 quantifier_end variable (b ∷ bs) (Lexeme.Mark Mark.CloseList ∷ tokens) = Some ((variable, b ∷ bs), tokens)

@@ -1,4 +1,4 @@
--- Readers of formulas. Those of chains take the reader of the parts.
+-- Readers of formulas. A reader of chains takes the reader of the parts as an argument.
 use Rattle.std.specs.Prelude.{ℕ, zero, suc, ◌-◌, drop, List, [], ◌∷◌, length, Bool, true, false, nat_le, nat_lt, if◌then◌else◌, Some, None}
 use Rattle.dd_written.specs.Tree.{Mark, Lexeme, Quantifier, Join, Formula, roll-Formula, Formula-F}
 use Rattle.dd_written.specs.Formulas.{join_rank, tree_depth}
@@ -13,24 +13,24 @@ begins Join.Implies (Lexeme.Mark Mark.Arrow ∷ tokens) = true
 begins Join.Iff (Lexeme.Mark Mark.BothWays ∷ tokens) = true
 begins j tokens = false
 
--- as many parts as follow, each after the sign, but at most n
+-- reads the further parts of a chain, each after the sign: as many as there are, but at most n
 abbrev pub more_at : Join → Reader Formula → ℕ → Reader (List Formula)
 more_at j part n tokens = many (begins j) (λ ts. part (drop 1 ts)) n tokens
 
--- one part, or a chain of two or more
+-- one part, or a chain of two or more parts
 abbrev pub chain_at : Join → Reader Formula → Reader Formula
 chain_at j part tokens = do
   f ← part tokens
   if begins j f.1 then (with_front (f.0 ∷ []) (more_at j part (length f.1) f.1) >>= λ m. Some (roll-Formula (Formula-F.Chain j m.0), m.1)) else Some f
 
--- the sign of the loosest chain that may stand at a place
+-- the sign of the loosest chain that may stand at a place from 1 to 4
 abbrev pub join_at : ℕ → Join
 join_at (suc zero) = Join.And
 join_at (suc (suc zero)) = Join.Or
 join_at (suc (suc (suc zero))) = Join.Implies
 join_at place = Join.Iff
 
--- a formula that may stand at a place, where `unary` reads those that aren't chains
+-- reads a formula that may stand at a place, given the reader `unary` of formulas that aren't chains
 abbrev pub level_at : Reader Formula → ℕ → Reader Formula
 level_at unary zero = unary
 level_at unary (suc place) = chain_at (join_at (suc place)) (level_at unary place)
@@ -59,18 +59,18 @@ nested_at unary (Lexeme.Mark Mark.Open ∷ tokens) = do
   group_end f.0 f.1
 nested_at unary tokens = atom_at tokens
 
--- a formula that isn't a chain, with `!`, quantifiers and parentheses nested at most this deep
+-- reads a formula that isn't a chain, in which `!`, quantifiers and parentheses are nested at most this deep
 abbrev pub unary_at : ℕ → Reader Formula
 unary_at zero tokens = atom_at tokens
 unary_at (suc n) tokens = nested_at (unary_at n) tokens
 
--- a formula of depth at most 64
+-- reads a formula of depth at most 64
 abbrev pub formula_at : Reader Formula
 formula_at tokens = do
   f ← level_at (unary_at 64) 4 tokens
   if nat_le (tree_depth f.0) 64 then Some f else None
 
--- whether a formula at this place ends before these tokens: they can't continue it
+-- whether a formula at this place ends before these tokens, because they can't continue it
 abbrev pub ends : ℕ → List Lexeme → Bool
 ends place (Lexeme.Mark Mark.Dot ∷ tokens) = false
 ends place (Lexeme.Mark Mark.And ∷ tokens) = nat_lt place 1

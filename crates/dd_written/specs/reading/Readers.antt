@@ -1,8 +1,9 @@
--- Readers: what they read, and how one reads after another.
+-- Readers: what they read, and how they are run one after another.
 use Rattle.std.specs.Prelude.{◌≡◌, ℕ, zero, suc, List, [], ◌∷◌, ◌++◌, Bool, Option, Some, None, Result, Ok, Err, if◌then◌else◌}
 use Rattle.dd_written.specs.Tree.{ReadFault, Lexeme}
 
--- Takes an item from the front of the tokens, and gives it with the tokens after it. `None` if the tokens begin with no such item.
+-- A reader takes an item from the front of the tokens, and gives the item and the tokens after it. It gives `None` if the tokens don't begin with
+-- such an item.
 abbrev pub Reader : Type 0 → Type 0
 Reader X = List Lexeme → Option (X × List Lexeme)
 
@@ -11,27 +12,27 @@ abbrev pub ◌>>=◌ : {A B : Type 0} → Option A → (A → Option B) → Opti
 (Some x) >>= f = f x
 None >>= f = None
 
--- a function may fail with this fault: memory ran out, or the reader reads nothing
+-- a function that implements a reader may fail with this fault: either memory ran out, or the reader reads nothing
 abbrev pub Fails : {Y : Type 0} → ReadFault → Option Y → Type 0
 Fails ReadFault.Memory read = Unit {0}
 Fails ReadFault.Syntax read = read ≡ None
 
--- What a function returned, seen through `view`, is what the reader reads, unless memory ran out.
+-- A function that implements a reader returned what the reader reads, unless memory ran out. The value that it returned is seen through `view`.
 abbrev pub Gives : {X Y : Type 0} → (X → Y) → Result X ReadFault → Option Y → Type 0
 Gives view (Ok x) read = read ≡ Some (view x)
 Gives view (Err e) read = Fails e read
 
--- items for as long as `begins` holds of the tokens left, but at most n
+-- reads items as long as `begins` holds of the remaining tokens, but at most n items
 abbrev pub many : {X : Type 0} → (List Lexeme → Bool) → Reader X → ℕ → Reader (List X)
 many begins item zero tokens = Some ([], tokens)
 many begins item (suc n) tokens = if begins tokens then (item tokens >>= λ x. many begins item n x.1 >>= λ m. Some (x.0 ∷ m.0, m.1)) else Some ([], tokens)
 
--- what was read before, followed by what is read now
+-- the items that were read before, followed by those that are read now
 abbrev pub with_front : {X : Type 0} → List X → Option (List X × List Lexeme) → Option (List X × List Lexeme)
 with_front front read = read >>= λ x. Some (front ++ x.0, x.1)
 
--- The items are read one after the other, from the first tokens to the last ones. `reads` says that an item is read from some
--- tokens, and which ones are left.
+-- The items are read one after another from `tokens`, and `rest` is left. `reads` says of a single item from which tokens it is read, and which
+-- tokens are left.
 abbrev pub ReadsAll : {X : Type 0} → (X → List Lexeme → List Lexeme → Type 0) → List X → List Lexeme → List Lexeme → Type 0
 ReadsAll reads [] tokens rest = tokens ≡ rest
 ReadsAll reads (x ∷ xs) tokens rest = (between : List Lexeme) × reads x tokens between × ReadsAll reads xs between rest

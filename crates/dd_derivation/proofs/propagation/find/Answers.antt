@@ -18,7 +18,7 @@ returns-then-ne g c =
     let differ : same_literal c.in-Some.first (get_or c.args.clause.now i none) ≡ false = not-true _ (sym c.ne.ensures ∙ c.if-ne.true) in
     sym (open_early p c.args.clause.now i none c.in-Some.first _ s.0 (omega arith) s.1 refl (sym c.is_false.ensures ∙ c.if-not-is_false.true) differ)
 
--- at the end all literals of the clause that are not false are copies of the candidate
+-- at the end, all literals of the clause that are not false are copies of the candidate
 at_end : (p : Literal → Bool) (clause : List Literal) (i : ℕ) (o : Option Literal) (l : Literal) → length clause ≤ i → o ≡ Some l → Sums o (filter (λ x. not (p x)) (take i clause)) → Sums (Some l) (filter (λ x. not (p x)) clause)
 at_end p clause i o l h e s = all_sums p clause i (Some l) h (subst (λ (x : Option Literal). Sums x (filter (λ y. not (p y)) (take i clause))) e s)
 

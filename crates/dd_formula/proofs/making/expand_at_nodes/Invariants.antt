@@ -3,7 +3,7 @@ use Rattle.dd_expansion.specs.Leaves.{instances}
 use Rattle.dd_formula.specs.LocalRule.{local_rule, at_nodes, expansion_at}
 use Rattle.dd_formula.proofs.making.expand_at_nodes.Given as goal
 
--- the expansions at the nodes that were passed, each of at most 20,000 instances
+-- the expansions at the nodes before this one, each with at most 20,000 instances
 abbrev pub invariant-loop-node : goal.invariant-loop-node
 invariant-loop-node l =
     let r = local_rule l.topology l.sets l.formula in

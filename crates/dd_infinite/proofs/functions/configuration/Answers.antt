@@ -4,7 +4,7 @@ use Rattle.std.proofs.lemmas.List.Elements.{Contains-get_or}
 use Rattle.dd_infinite.proofs.Whole.{whole_of}
 use Rattle.dd_infinite.proofs.functions.configuration.Goals as goal
 
--- it is a configuration of the script
+-- what is returned is a configuration of the script
 pub returns-then-number-configurations-clause-whole : goal.returns-then-number-configurations-clause-whole
 returns-then-number-configurations-clause-whole c =
     let all = c.args.script.now.configurations in

@@ -6,7 +6,7 @@ use Rattle.dd_minimal.proofs.filling.+fill_known.Given as goal
 abbrev pub decreases-fill_known : goal.decreases-fill_known
 decreases-fill_known l = length l.rest.now
 
--- the entries of the symbols so far
+-- the table has the entries for the symbols so far
 abbrev pub invariant-loop-symbol : goal.invariant-loop-symbol
 invariant-loop-symbol l =
     l.table ≡ l.initial.table ++

@@ -6,6 +6,6 @@ use Rattle.dd_minimal.proofs.walking.+none_holds.Given as goal
 abbrev pub decreases-none_holds : goal.decreases-none_holds
 decreases-none_holds l = length l.strides.now
 
--- the symbols so far
+-- for the symbols so far, the rule is true under none of the walk's fillings with allowed symbols
 abbrev pub invariant-loop-symbol : goal.invariant-loop-symbol
 invariant-loop-symbol l = list_all (λ s. none_holds l.symbols l.later l.table (l.from + s * l.stride)) (range_with_len 0 l.symbol) ≡ true

@@ -2,7 +2,7 @@ use Rattle.std.proofs.Common.{◌≡◌, ℕ, zero, suc, ◌<◌, List, [], ◌�
 use Rattle.dd_output.specs.reading.Stops.{Read, StoppedAt, word_at}
 use Rattle.dd_output.proofs.lexing.word_at.Goals as goal
 
--- where the bytes end inside the word
+-- if the bytes end inside the word, reading stops there
 ends_inside : (word : List ℕ) (i : ℕ) (bytes : List ℕ) (total : Read (Unit {0})) → i < length word → length bytes < 1 → word_at (drop i word) bytes ≡ total → StoppedAt (length bytes) total
 ends_inside [] i bytes total lt short is = absurd (omega arith)
 ends_inside (w ∷ word) i (b ∷ bytes) total lt short is = absurd (omega arith)

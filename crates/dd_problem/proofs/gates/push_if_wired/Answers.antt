@@ -8,7 +8,7 @@ use Rattle.dd_problem.specs.{pushing.Pushed.wired_part, pushing.Pushed.wired_par
 use Rattle.dd_problem.proofs.{PlacesLeft.taken, PlacesLeft.place_count, PlacesLeft.nothing_added, Templating.reads_tell}
 use Rattle.dd_problem.proofs.gates.push_if_wired.Goals as goal
 
--- the test of the encoder's circuit
+-- what the test says about the encoder's circuit
 read_of : (k circuit : Network) (w : Wiring) (x : LocalRule) (d : Cell) (r : Bool) → k ≡ circuit → r ≡ are_reads_wired (size k) w x d → r ≡ are_reads_wired (size circuit) w x d
 read_of k circuit w x d r same read = read ∙ ap (λ (j : Network). are_reads_wired (size j) w x d) same
 

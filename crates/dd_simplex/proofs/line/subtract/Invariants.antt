@@ -2,7 +2,7 @@ use Rattle.std.proofs.Common.{◌≡◌, take, drop, ◌++◌}
 use Rattle.dd_simplex.specs.table.Lines.{less, do_all_less_fit}
 use Rattle.dd_simplex.proofs.line.subtract.Given as goal
 
--- what is left to do, from the cells as they stand
+-- the whole test and the whole result, in terms of the cells before i, which are done, and of the others, which are left to do
 abbrev pub invariant-loop-i : goal.invariant-loop-i
 invariant-loop-i l = record {
   fits : do_all_less_fit l.factor l.initial.cells l.others ≡ do_all_less_fit l.factor (drop l.i l.cells) (drop l.i l.others);

@@ -1,7 +1,7 @@
 use Rattle.std.proofs.Common.{rules}
 use Rattle.std.specs.Prelude.{◌↔◌}
 use Rattle.dd_solver.specs.Answers.{IsSatisfiable, IsFound, IsRefuted, IsAnswer}
-use Rattle.dd_solver.proofs.Right.{found_right, refuted_right}
+use Rattle.dd_solver.specs.lemmas.Right.{found_right, refuted_right}
 use Rattle.dd_solver.proofs.search.solve_with.Goals as goal
 use Rattle.dd_values.specs.lemmas.Results.{if_ok}
 

@@ -5,7 +5,7 @@ use Rattle.dd_topology.specs.Builtin.{has_repeat}
 use Rattle.dd_topology.proofs.TableLaws.{not_named}
 use Rattle.dd_topology.proofs.builtin.names_of.Goals as goal
 
--- the next text is not among those before it
+-- the next text is not among the names added so far
 not_before : (texts : List (Bor (List ℕ))) (i : ℕ) (d : Bor (List ℕ)) (names : List (List ℕ)) → has_repeat bytes_eq (map (λ text. text.now) texts) ≡ false → i < length texts → names ≡ map (λ text. text.now) (take i texts) →
     Contains names (get_or texts i d).now → ⊥
 not_before texts i d names distinct below is there =

@@ -1,4 +1,5 @@
--- How a recursive type may contain a `Boxed` of itself: as the value, since contracts see only the value. The hole stands for the type.
+-- How a recursive type may contain a `Boxed` of its own values: as the value, since contracts see only the value. Below, the hole stands for the
+-- recursive type.
 use mathlib.Core.Path.{refl}
 use mathlib.Core.Former.{Former, this, const, pair, via}
 use base.Stored.{gnil}
@@ -27,7 +28,7 @@ the_former hole = hole
 abbrev pub the_weighed : {hole : Former {0}} → Weighed hole → Weighed (the_former hole)
 the_weighed weighed = weighed
 
--- the struct's one field: an address, the allocator, and the value behind it
+-- the struct's only field: an address, the allocator, and the value at the address
 abbrev fields : Former {0}
 fields = via (pair (const (Ptr × Global)) this) Inside (λ X kept. ((kept.inner.ptr, kept.inner.alloc), kept.inner.value))
     (λ X parts. record { inner = record { ptr = parts.0.0; alloc = parts.0.1; value = parts.1 } }) (λ X kept. refl) (λ X parts. refl)

@@ -1,4 +1,5 @@
--- How a recursive type may contain `Items` of itself: as a list, since contracts see only the items. The hole stands for the type.
+-- How a recursive type may contain `Items` of its own values: as a list, since contracts see only the items. Below, the hole stands for the
+-- recursive type.
 use mathlib.Core.Path.{◌≡◌, refl, sym}
 use mathlib.Core.List.{List, []}
 use mathlib.Core.Former.{Former, this, list, via, children}
@@ -34,7 +35,7 @@ the_items X xs = xs
 pub the_items_listed : (X : Type 0) (xs : List X) → listed _ (children (the_former this) X xs) ≡ the_items X xs
 the_items_listed X xs = list-listed X xs
 
--- the struct's one field, a vector in the default allocator
+-- the struct's only field: a vector in the global allocator
 abbrev fields : Former {0}
 fields = via (vec.the_former this Global) Inside (λ X kept. kept.vec) (λ X vector. record { vec = vector }) (λ X kept. refl) (λ X vector. refl)
 

@@ -2,7 +2,7 @@ use Rattle.std.proofs.Common.{◌≡◌, drop}
 use Rattle.dd_formula.specs.Automata.{first_case}
 use Rattle.dd_formula.proofs.automaton.Cases.value.Given as goal
 
--- the cases that were passed are false
+-- the rules of the cases before this one are false, so these cases don't decide the value
 abbrev pub invariant-loop-rule : goal.invariant-loop-rule
 invariant-loop-rule g l =
     let look = g.R.Reads.symbols l.read in

@@ -1,7 +1,7 @@
 use Rattle.std.proofs.Common.{◌≡◌, ◌+◌, ◌<◌, ◌^◌, true, take}
 use Rattle.std.specs.List.{All, list_all}
 use Rattle.dd_expansion.specs.Limits.{formula_fits, depth}
-use Rattle.dd_formed.proofs.formulas.Language.+fits.Given as goal
+use Rattle.dd_formed.proofs.formulas.Signature.+fits.Given as goal
 
 abbrev pub invariant-all_fit-loop-part : goal.invariant-all_fit-loop-part
 invariant-all_fit-loop-part l =

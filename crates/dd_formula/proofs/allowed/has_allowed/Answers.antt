@@ -1,9 +1,8 @@
 use Rattle.std.proofs.Common.{ℕ, ◌<◌, length, get_or, ap, sym, ◌∙◌, arith, refl}
 use borrow.Author.Count.{below_more}
 use Rattle.std.proofs.lemmas.Bool.{false≢true}
-use Rattle.dd_question.specs.lemmas.AllowedLaws.{IsAllowedAt, allowed_is, allowed_from_box, box_from_allowed}
-use Rattle.dd_question.proofs.PartLaws.{nothing_holds}
-use Rattle.dd_question.proofs.parts.has_allowed.Goals as goal
+use Rattle.dd_formula.specs.lemmas.AllowedTiles.{IsAllowedAt, allowed_is, allowed_from_box, box_from_allowed}
+use Rattle.dd_formula.proofs.allowed.has_allowed.Goals as goal
 
 pub returns-then-not-allows : goal.returns-then-not-allows
 returns-then-not-allows c =
@@ -14,7 +13,7 @@ returns-then-not-allows c =
     let within : number < length t.symbols = omega (arith, ap length count.value, c.loop-number-test.true) in
     let told = allowed_is r t number c.cell_at-cell.result (get_or c.symbols-symbols.result.now number 0) c.allows.result
     c.cell_at-cell.ensures.value (ap (λ xs. get_or xs number 0) count.value) c.allows.ensures.value in
-    nothing_holds _ (λ allowed. false≢true (sym c.if-not-allows.true ∙ (sym told ∙ box_from_allowed r t count.kept.tile allowed number within)))
+    (λ h. absurd (false≢true h), λ allowed. absurd (false≢true (sym c.if-not-allows.true ∙ (sym told ∙ box_from_allowed r t count.kept.tile allowed number within))))
 
 pub loop-number-preserved : goal.loop-number-preserved
 loop-number-preserved c =

@@ -1,4 +1,4 @@
--- The symbols of a configuration are allowed at all cells if those of the fundamental box are.
+-- Each cell of a configuration has a symbol that its node allows, if this holds for the cells of the fundamental box.
 use Rattle.std.proofs.Common.{◌≡◌, ℕ, ◌<◌, Bool, true, length, get_or, ap, sym, subst, ◌∙◌, Some, None, inl, inr}
 use Rattle.std.proofs.lemmas.{Bool.cases_lt, Bool.lt-ltb, Bool.le-ltb, Option.slice_get-get_or}
 use Rattle.std.specs.Prelude.{Option, IfSome, cond, slice_get}
@@ -12,7 +12,7 @@ use Rattle.dd_formula.specs.{LocalRule.LocalRule, LocalRule.rule_allows, Allowed
 abbrev pub IsAllowedAt : LocalRule → Tile → ℕ → Type 0
 IsAllowedAt r t k = rule_allows r (cell_in t k).node (get_or t.symbols k 0) ≡ true
 
--- what the test of a cell answers about its number
+-- the test of the cell with the number k answers whether its symbol, the symbol with this number, is allowed
 pub allowed_is : (r : LocalRule) (t : Tile) (k : ℕ) (c : Cell) (symbol : ℕ) (b : Bool) → c ≡ cell_in t k → symbol ≡ get_or t.symbols k 0 →
     b ≡ rule_allows r c.node symbol → rule_allows r (cell_in t k).node (get_or t.symbols k 0) ≡ b
 allowed_is r t k c symbol b is_cell is_symbol told =

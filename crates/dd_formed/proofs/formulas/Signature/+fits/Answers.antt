@@ -3,7 +3,7 @@ use Rattle.std.specs.List.{list_all}
 use Rattle.dd_expansion.specs.Limits.{formula_fits, list_depth, depth}
 use Rattle.dd_expansion.specs.lemmas.Layers.{fits_and, fits_or, depth_and, depth_or}
 use Rattle.dd_formed.proofs.Layers.{parts_within, one_more, all_pass}
-use Rattle.dd_formed.proofs.formulas.Language.+fits.Goals as goal
+use Rattle.dd_formed.proofs.formulas.Signature.+fits.Goals as goal
 use Rattle.dd_values.specs.lemmas.Lists.{some_fails}
 
 pub all_fit-returns-then-not-fits : goal.all_fit-returns-then-not-fits

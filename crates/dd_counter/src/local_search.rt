@@ -1,0 +1,347 @@
+//! A local search for lighter configurations of a torus. It changes one cell at a time. While the configuration is too heavy, a
+//! cell gets a lighter symbol, such that the rule becomes false at as few cells as possible. Once it is light enough, a cell that
+//! the rule reads where it is false gets another symbol. The longer the rule stays false at a cell, the more that cell counts
+//! (Morris 1993), as in NuMVC (Cai, Su, Luo and Sattar 2013).
+//!
+//! No contract depends on this search: what it finds is tested. No invariant says that the indices kept here are within their
+//! lists. So the code tests them. The tests never fail.
+use crate::torus_rule::TorusRule;
+use dd_formula::Rule;
+use std::alloc::{AllocError, Global};
+
+/// How much the evaluations of the rule may cost until a lighter configuration is found. Otherwise the search ends. This takes
+/// some milliseconds.
+const PATIENCE: u64 = 100_000;
+
+/// How much all evaluations may cost. This takes about a second.
+const MOST_COST: u64 = 50_000_000;
+
+/// A change of one cell's symbol. The smaller of two changes is the better one.
+#[derive(Clone, Copy, PartialEq, Eq, PartialOrd, Ord)]
+struct Change {
+    /// How much the sum of the penalties of the cells where the rule is false grows. It is negative if the sum shrinks.
+    growth: i64,
+    /// How much heavier the configuration becomes.
+    heavier: i64,
+    /// The step in which the cell's symbol was last changed.
+    changed: u64,
+    cell: usize,
+    symbol: u32,
+}
+
+/// The symbols of a torus while they are changed.
+#[derive(Drop)]
+pub(crate) struct LocalSearch<'a> {
+    rule: &'a Rule,
+    torus: &'a TorusRule,
+    weights: &'a [u32],
+    symbols: Vec<u32>,
+    /// The sum of the weights of the symbols.
+    weight: u64,
+    /// The cells where the rule is false, in no order.
+    falses: Vec<usize>,
+    /// For each cell, its place among these, or a greater number if the rule is true there.
+    places: Vec<usize>,
+    /// For each cell, the penalty for the rule being false there.
+    penalties: Vec<i64>,
+    /// For each cell, the step in which its symbol was last changed.
+    changed: Vec<u64>,
+    step: u64,
+    /// How many steps in a row changed nothing.
+    idle: u32,
+    /// How much the evaluations may still cost until a lighter configuration is found.
+    patience: u64,
+    /// How much all evaluations may still cost.
+    budget: u64,
+}
+
+impl<'a> LocalSearch<'a> {
+    /// The search from these symbols, under which the rule is true at each cell.
+    pub(crate) fn new(
+        alloc: Global,
+        rule: &'a Rule,
+        torus: &'a TorusRule,
+        weights: &'a [u32],
+        symbols: &[u32],
+    ) -> Result<LocalSearch<'a>, AllocError> {
+        let count = torus.len();
+        let mut weight = 0u64;
+        for symbol in symbols {
+            weight = weight.saturating_add(u64::from(weight_of(weights, *symbol)));
+        }
+        Ok(LocalSearch {
+            rule,
+            torus,
+            weights,
+            symbols: Vec::from_slice(alloc, symbols)?,
+            weight,
+            falses: Vec::with_capacity(alloc, count)?,
+            places: vec![in alloc; usize::MAX; count]?,
+            penalties: vec![in alloc; 1; count]?,
+            changed: vec![in alloc; 0; count]?,
+            step: 1,
+            idle: 0,
+            patience: PATIENCE,
+            budget: MOST_COST,
+        })
+    }
+
+    /// The lightest symbols that the search finds, with the rule true at each cell.
+    pub(crate) fn run(mut self, alloc: Global) -> Result<Vec<u32>, AllocError> {
+        self.lighten_all();
+        let mut best = Vec::from_slice(alloc, self.symbols.as_slice())?;
+        let mut least = self.weight;
+        // The patience ends long before this bound.
+        for _ in 0..u64::MAX {
+            if least == 0 || self.patience == 0 || !self.make_step(least)? {
+                break;
+            }
+            if self.falses.is_empty() && self.weight < least {
+                self.lighten_all();
+                least = self.weight;
+                best.clear();
+                best.extend_from_slice(self.symbols.as_slice())?;
+            }
+        }
+        Ok(best)
+    }
+
+    /// Makes the best change towards a weight below `least`. Returns false if no cell has one, not even after a step of rest.
+    fn make_step(&mut self, least: u64) -> Result<bool, AllocError> {
+        self.step = self.step.saturating_add(1);
+        let change = if self.weight >= least {
+            self.best_lighter()
+        } else {
+            self.best_repair()
+        };
+        match change {
+            Some(change) => {
+                self.idle = 0;
+                self.set(change.cell, change.symbol)?;
+            }
+            None => self.idle = self.idle.saturating_add(1),
+        }
+        self.raise_penalties();
+        Ok(self.idle < 2 || !self.falses.is_empty())
+    }
+
+    fn pay(&mut self, cost: u64) {
+        self.patience = self.patience.saturating_sub(cost);
+        self.budget = self.budget.saturating_sub(cost);
+    }
+
+    /// Raises the penalty of each cell where the rule is false.
+    fn raise_penalties(&mut self) {
+        let count = self.falses.len();
+        self.pay(1 + count as u64 / 16);
+        for place in 0..count {
+            if let Some(cell) = self.falses.get(place).copied() {
+                if cell < self.penalties.len() {
+                    self.penalties[cell] = self.penalties[cell].saturating_add(1);
+                }
+            }
+        }
+    }
+
+    /// Gives each cell in turn the lightest symbol under which the rule stays true everywhere. The patience starts anew.
+    fn lighten_all(&mut self) {
+        for cell in 0..self.symbols.len() {
+            for symbol in 0..self.rule.symbols() {
+                if let Some(change) = self.lighter(cell, symbol) {
+                    if change.growth == 0 {
+                        self.put(cell, symbol);
+                        self.weight = self.weight.saturating_add_signed(change.heavier);
+                    }
+                }
+            }
+        }
+        self.patience = PATIENCE.min(self.budget);
+    }
+
+    /// The best change to a lighter symbol, among the cells that weren't changed in the previous step.
+    fn best_lighter(&mut self) -> Option<Change> {
+        let count = self.symbols.len();
+        self.pay(count as u64 / 16);
+        let mut best: Option<Change> = None;
+        for cell in 0..count {
+            if self.is_rested(cell) {
+                for symbol in 0..self.rule.symbols() {
+                    best = better(best, self.lighter(cell, symbol));
+                }
+            }
+        }
+        best
+    }
+
+    /// The best change of a cell that the rule reads at the worst cell, among those that weren't changed in the previous step.
+    fn best_repair(&mut self) -> Option<Change> {
+        let torus = self.torus;
+        let worst = self.worst()?;
+        let mut best: Option<Change> = None;
+        for cell in torus.reads(worst) {
+            if self.is_rested(*cell) {
+                for symbol in 0..self.rule.symbols() {
+                    best = better(best, self.change(*cell, symbol));
+                }
+            }
+        }
+        best
+    }
+
+    /// Of the cells where the rule is false, the first one in cell order with the greatest penalty.
+    fn worst(&self) -> Option<usize> {
+        let mut worst: Option<usize> = None;
+        for cell in self.falses.as_slice() {
+            let is_worse = match worst {
+                None => true,
+                Some(other) => {
+                    let (penalty, others) = (self.penalty(*cell), self.penalty(other));
+                    penalty > others || (penalty == others && *cell < other)
+                }
+            };
+            if is_worse {
+                worst = Some(*cell);
+            }
+        }
+        worst
+    }
+
+    /// Whether a cell's symbol wasn't changed in the previous step.
+    fn is_rested(&self, cell: usize) -> bool {
+        match self.changed.get(cell) {
+            Some(step) => step.saturating_add(1) < self.step,
+            None => false,
+        }
+    }
+
+    fn penalty(&self, cell: usize) -> i64 {
+        self.penalties.get(cell).copied().unwrap_or(0)
+    }
+
+    fn symbol(&self, cell: usize) -> u32 {
+        self.symbols.get(cell).copied().unwrap_or(0)
+    }
+
+    /// Whether the rule was false at a cell before the change that is looked at.
+    fn was_false(&self, cell: usize) -> bool {
+        match self.places.get(cell) {
+            Some(place) => *place < self.falses.len(),
+            None => false,
+        }
+    }
+
+    /// How much heavier the configuration becomes if a cell gets this symbol.
+    fn heavier(&self, cell: usize, symbol: u32) -> i64 {
+        let old = i64::from(weight_of(self.weights, self.symbol(cell)));
+        i64::from(weight_of(self.weights, symbol)).saturating_sub(old)
+    }
+
+    /// The change that gives the cell this symbol, if the symbol is lighter and allowed.
+    fn lighter(&mut self, cell: usize, symbol: u32) -> Option<Change> {
+        if self.heavier(cell, symbol) >= 0 {
+            return None;
+        }
+        self.change(cell, symbol)
+    }
+
+    /// The change that gives the cell this symbol, if the symbol is another one and allowed.
+    fn change(&mut self, cell: usize, symbol: u32) -> Option<Change> {
+        let node = self.torus.node(cell)?;
+        if symbol == self.symbol(cell) || node >= self.rule.nodes() {
+            return None;
+        }
+        if !self.rule.allows(node, symbol) {
+            return None;
+        }
+        Some(Change {
+            growth: self.growth(cell, symbol),
+            heavier: self.heavier(cell, symbol),
+            changed: self.changed.get(cell).copied()?,
+            cell,
+            symbol,
+        })
+    }
+
+    /// How much the sum of penalties grows if a cell gets this symbol.
+    fn growth(&mut self, cell: usize, symbol: u32) -> i64 {
+        let torus = self.torus;
+        let old = self.symbol(cell);
+        self.put(cell, symbol);
+        let mut growth = 0i64;
+        for reader in torus.readers(cell) {
+            self.pay(torus.cost(*reader));
+            let is_true = torus.is_true(*reader, self.symbols.as_slice());
+            let was_false = self.was_false(*reader);
+            if was_false && is_true {
+                growth = growth.saturating_sub(self.penalty(*reader));
+            } else if !was_false && !is_true {
+                growth = growth.saturating_add(self.penalty(*reader));
+            }
+        }
+        self.put(cell, old);
+        growth
+    }
+
+    fn put(&mut self, cell: usize, symbol: u32) {
+        if cell < self.symbols.len() {
+            self.symbols[cell] = symbol;
+        }
+    }
+
+    /// Gives a cell another symbol.
+    fn set(&mut self, cell: usize, symbol: u32) -> Result<(), AllocError> {
+        let torus = self.torus;
+        self.weight = self
+            .weight
+            .saturating_add_signed(self.heavier(cell, symbol));
+        self.put(cell, symbol);
+        if cell < self.changed.len() {
+            self.changed[cell] = self.step;
+        }
+        for reader in torus.readers(cell) {
+            let is_false = !torus.is_true(*reader, self.symbols.as_slice());
+            if is_false != self.was_false(*reader) {
+                self.note(*reader, is_false)?;
+            }
+        }
+        Ok(())
+    }
+
+    /// Notes that the rule became false at a cell, or true.
+    fn note(&mut self, cell: usize, is_false: bool) -> Result<(), AllocError> {
+        if cell >= self.places.len() {
+            return Ok(());
+        }
+        if is_false {
+            self.places[cell] = self.falses.len();
+            self.falses.push(cell)?;
+            return Ok(());
+        }
+        let place = self.places[cell];
+        self.places[cell] = usize::MAX;
+        if place < self.falses.len() {
+            self.falses.swap_remove(place);
+            if place < self.falses.len() {
+                let moved = self.falses[place];
+                if moved < self.places.len() {
+                    self.places[moved] = place;
+                }
+            }
+        }
+        Ok(())
+    }
+}
+
+/// The weight of a symbol.
+fn weight_of(weights: &[u32], symbol: u32) -> u32 {
+    weights.get(symbol as usize).copied().unwrap_or(0)
+}
+
+/// The better of two changes, each of which may be missing.
+fn better(best: Option<Change>, change: Option<Change>) -> Option<Change> {
+    match (best, change) {
+        (Some(best), Some(change)) => Some(best.min(change)),
+        (None, change) => change,
+        (best, None) => best,
+    }
+}

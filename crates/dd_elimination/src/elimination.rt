@@ -1,0 +1,488 @@
+//! Variables are resolved away (Davis and Putnam 1960) where that leaves no more clauses than before: the clauses with the
+//! variable are replaced by all their resolvents on it. A clause that contains all literals of another is removed, and a literal
+//! that another clause makes redundant is dropped (Eén and Biere 2005). Each new clause is a step, whose hints are the two clauses
+//! that it comes from.
+//!
+//! No contract depends on what is done here. The search on the remaining clauses gives an answer, an answer for the whole list is
+//! made from it, and that one is checked. No invariant says that the indices kept here are within their lists. So the code tests
+//! them. The tests never fail.
+use crate::resolution::{Relation, distinct, relate, resolvent, resolvent_length, without};
+use dd_clause::{Clause, Cnf, Literal};
+use dd_derivation::Step;
+use dd_values::Items;
+use std::alloc::{AllocError, Global};
+
+/// A variable is kept if there are more pairs than this of a clause with it and a clause with its negation.
+const MOST_PAIRS: usize = 1000;
+
+/// A variable is kept if one of its resolvents has more literals than this.
+const MOST_LITERALS: usize = 20;
+
+/// The greatest number of rounds. Each round tries the variables that changed.
+const ROUNDS: usize = 10;
+
+/// How many pairs of literals are compared, about. It takes about half a second.
+const MOST_WORK: u64 = 100_000_000;
+
+/// A clause of the list or of a step.
+#[derive(Drop)]
+pub(crate) struct Entry {
+    pub literals: Vec<Literal>,
+    /// The number of the clause, as a step names it in its hints.
+    pub number: u64,
+    /// A bit for each variable of the clause: the one at its number modulo 64. If one clause's signature has a bit that
+    /// another's lacks, the first clause has a variable that the second lacks.
+    signature: u64,
+    /// Whether the clause is still in the list.
+    pub is_alive: bool,
+}
+
+/// A variable that was eliminated, and the indices of the clauses that contained it (not of those that contained its negation).
+#[derive(Drop)]
+pub(crate) struct Eliminated {
+    pub variable: u32,
+    pub clauses: Vec<usize>,
+}
+
+/// A new clause, and the numbers of the two clauses that it comes from.
+#[derive(Drop)]
+struct Resolvent {
+    literals: Vec<Literal>,
+    parents: [u64; 2],
+}
+
+/// A variable to be tried. Those with the fewest pairs come first.
+#[derive(Clone, Copy, PartialEq, Eq, PartialOrd, Ord)]
+struct Candidate {
+    /// How many pairs there are of a clause that has the variable and one that has its negation.
+    pairs: usize,
+    variable: u32,
+}
+
+/// The indices of the clauses that contain a variable, and of those that contain its negation.
+#[derive(Drop)]
+struct Sides {
+    positive: Vec<usize>,
+    negative: Vec<usize>,
+}
+
+/// A clause list from which variables are eliminated.
+#[derive(Drop)]
+pub(crate) struct Elimination {
+    variables: u32,
+    /// How many clauses the list had.
+    pub count: u64,
+    pub entries: Vec<Entry>,
+    /// For each variable, by its number, the indices of the entries that have it or its negation. Some may not be alive.
+    occurrences: Vec<Vec<usize>>,
+    /// For each variable, by its number, whether a clause with it was removed since it was last tried.
+    changed: Vec<bool>,
+    /// The indices of the entries that have not been compared with the others yet.
+    waiting: Vec<usize>,
+    pub eliminated: Vec<Eliminated>,
+    pub steps: Vec<Step>,
+    /// How many pairs of literals may still be compared.
+    work: u64,
+}
+
+/// The set of variables of the literals, as a signature.
+fn signature(literals: &[Literal]) -> u64 {
+    let mut bits = 0u64;
+    for literal in literals {
+        bits |= 1 << (literal.variable % 64);
+    }
+    bits
+}
+
+/// Whether there is an entry with this index and it is alive.
+fn is_alive(entries: &[Entry], index: usize) -> bool {
+    match entries.get(index) {
+        Some(entry) => entry.is_alive,
+        None => false,
+    }
+}
+
+/// How many pairs of literals of two lists there are.
+fn pairs_of(first: &[Literal], second: &[Literal]) -> u64 {
+    (first.len() as u64).saturating_mul(second.len() as u64)
+}
+
+impl Elimination {
+    /// The list without the variables that can be eliminated. `None` if the clauses are too long.
+    pub(crate) fn of(alloc: Global, cnf: &Cnf) -> Result<Option<Elimination>, AllocError> {
+        let mut elimination = Elimination::start(alloc, cnf)?;
+        if elimination.work == 0 {
+            return Ok(None);
+        }
+        elimination.compare_all(alloc)?;
+        for _ in 0..ROUNDS {
+            if !elimination.try_changed(alloc)? {
+                break;
+            }
+        }
+        Ok(Some(elimination))
+    }
+
+    /// The whole list, each clause with distinct variables. Clauses that hold a literal and its negation are left out.
+    fn start(alloc: Global, cnf: &Cnf) -> Result<Elimination, AllocError> {
+        let count = cnf.variables() as usize + 1;
+        let mut occurrences: Vec<Vec<usize>> = Vec::with_capacity(alloc, count)?;
+        for _ in 0..count {
+            occurrences.push(Vec::new(alloc))?;
+        }
+        let mut elimination = Elimination {
+            variables: cnf.variables(),
+            count: cnf.clauses().len() as u64,
+            entries: Vec::new(alloc),
+            occurrences,
+            changed: vec![in alloc; true; count]?,
+            waiting: Vec::new(alloc),
+            eliminated: Vec::new(alloc),
+            steps: Vec::new(alloc),
+            work: MOST_WORK,
+        };
+        let mut number = 0u64;
+        for clause in cnf.clauses() {
+            number = number.saturating_add(1);
+            let literals = clause.literals();
+            elimination.pay(pairs_of(literals, literals));
+            if elimination.work == 0 {
+                break;
+            }
+            if let Some(literals) = distinct(alloc, literals)? {
+                elimination.add(literals, number)?;
+            }
+        }
+        Ok(elimination)
+    }
+
+    fn pay(&mut self, work: u64) {
+        self.work = self.work.saturating_sub(work);
+    }
+
+    /// Adds a clause. It waits to be compared with the others.
+    fn add(&mut self, literals: Vec<Literal>, number: u64) -> Result<(), AllocError> {
+        let index = self.entries.len();
+        for literal in literals.as_slice() {
+            let variable = literal.variable as usize;
+            if variable < self.occurrences.len() {
+                self.occurrences[variable].push(index)?;
+            }
+        }
+        let signature = signature(literals.as_slice());
+        self.waiting.push(index)?;
+        self.entries.push(Entry {
+            literals,
+            number,
+            signature,
+            is_alive: true,
+        })?;
+        Ok(())
+    }
+
+    /// Adds a clause that follows from two others, and the step that says so.
+    fn derive(&mut self, alloc: Global, resolvent: Resolvent) -> Result<(), AllocError> {
+        let Resolvent { literals, parents } = resolvent;
+        self.steps.push(Step {
+            clause: Clause::from_literals(alloc, literals.as_slice())?,
+            hints: Items::from_slice(alloc, &parents)?,
+            deletes: Items::new(alloc),
+        })?;
+        let number = self.count.saturating_add(self.steps.len() as u64);
+        self.add(literals, number)
+    }
+
+    /// Takes a clause out of the list. Its variables are worth another try.
+    fn remove(&mut self, index: usize) {
+        if index < self.entries.len() {
+            self.entries[index].is_alive = false;
+            for literal in self.entries[index].literals.as_slice() {
+                let variable = literal.variable as usize;
+                if variable < self.changed.len() {
+                    self.changed[variable] = true;
+                }
+            }
+        }
+    }
+
+    /// Drops the dead clauses from the variable's occurrences. Returns how many are left.
+    fn tidy(&mut self, variable: usize) -> usize {
+        if variable >= self.occurrences.len() {
+            return 0;
+        }
+        let entries = self.entries.as_slice();
+        self.occurrences[variable].retain(|index| is_alive(entries, *index));
+        self.occurrences[variable].len()
+    }
+
+    /// The index of the entry at a place among those that have the variable.
+    fn occurrence(&self, variable: usize, place: usize) -> Option<usize> {
+        if variable < self.occurrences.len() && place < self.occurrences[variable].len() {
+            return Some(self.occurrences[variable][place]);
+        }
+        None
+    }
+
+    /// The variable of a clause that occurs in the fewest clauses. `None` if the clause isn't alive, or is empty.
+    fn rarest_variable(&self, index: usize) -> Option<usize> {
+        let entry = self.entries.get(index)?;
+        if !entry.is_alive {
+            return None;
+        }
+        let mut rarest: Option<usize> = None;
+        let mut least = usize::MAX;
+        for literal in entry.literals.as_slice() {
+            let variable = literal.variable as usize;
+            if variable < self.occurrences.len() && self.occurrences[variable].len() < least {
+                least = self.occurrences[variable].len();
+                rarest = Some(variable);
+            }
+        }
+        rarest
+    }
+
+    /// How a clause relates to another one. They are unrelated if the other one isn't alive.
+    fn relation(&mut self, index: usize, other: usize) -> Relation {
+        self.pay(1);
+        if index == other || index >= self.entries.len() || other >= self.entries.len() {
+            return Relation::Unrelated;
+        }
+        let entry = &self.entries[index];
+        let compared = &self.entries[other];
+        let is_short = entry.literals.len() <= compared.literals.len();
+        if !is_short || !compared.is_alive || entry.signature & !compared.signature != 0 {
+            return Relation::Unrelated;
+        }
+        let pairs = pairs_of(entry.literals.as_slice(), compared.literals.as_slice());
+        let relation = relate(entry.literals.as_slice(), compared.literals.as_slice());
+        self.pay(pairs);
+        relation
+    }
+
+    /// Compares each waiting clause with the others, until none is waiting.
+    fn compare_all(&mut self, alloc: Global) -> Result<(), AllocError> {
+        // The loop ends long before its bound. A `while` would need a proof that it ends, and nothing is proved of the clauses.
+        for _ in 0..u64::MAX {
+            let Some(index) = self.waiting.pop() else {
+                break;
+            };
+            self.compare(alloc, index)?;
+        }
+        Ok(())
+    }
+
+    /// Removes the clauses that this one subsumes, and shortens those that it can shorten.
+    fn compare(&mut self, alloc: Global, index: usize) -> Result<(), AllocError> {
+        let Some(variable) = self.rarest_variable(index) else {
+            return Ok(());
+        };
+        for place in 0..self.tidy(variable) {
+            if self.work == 0 {
+                break;
+            }
+            if let Some(other) = self.occurrence(variable, place) {
+                match self.relation(index, other) {
+                    Relation::Unrelated => {}
+                    Relation::Subsumes => self.remove(other),
+                    Relation::Shortens(literal) => {
+                        self.shorten(alloc, index, other, literal.variable)?;
+                    }
+                }
+            }
+        }
+        Ok(())
+    }
+
+    /// Replaces a clause by the one without its literal of the variable, which follows from it and from the clause at `index`.
+    fn shorten(
+        &mut self,
+        alloc: Global,
+        index: usize,
+        other: usize,
+        variable: u32,
+    ) -> Result<(), AllocError> {
+        if index >= self.entries.len() || other >= self.entries.len() {
+            return Ok(());
+        }
+        let literals = without(alloc, self.entries[other].literals.as_slice(), variable)?;
+        let parents = [self.entries[index].number, self.entries[other].number];
+        self.remove(other);
+        self.derive(alloc, Resolvent { literals, parents })
+    }
+
+    /// Tries to eliminate each variable whose clauses changed. Returns whether one was eliminated.
+    fn try_changed(&mut self, alloc: Global) -> Result<bool, AllocError> {
+        let candidates = self.candidates(alloc)?;
+        let mut any_eliminated = false;
+        for candidate in candidates.as_slice() {
+            if self.work > 0 && self.eliminate(alloc, candidate.variable)? {
+                self.compare_all(alloc)?;
+                any_eliminated = true;
+            }
+        }
+        Ok(any_eliminated)
+    }
+
+    /// The variables whose clauses changed, those with the fewest pairs first.
+    fn candidates(&mut self, alloc: Global) -> Result<Vec<Candidate>, AllocError> {
+        let mut candidates: Vec<Candidate> = Vec::new(alloc);
+        for variable in 1..=self.variables {
+            let place = variable as usize;
+            if place < self.changed.len() && self.changed[place] {
+                let count = self.tidy(place);
+                let positive = self.count_positive(variable);
+                let pairs = positive.saturating_mul(count.saturating_sub(positive));
+                if count > 0 && pairs <= MOST_PAIRS {
+                    candidates.push(Candidate { pairs, variable })?;
+                }
+            }
+        }
+        candidates.sort_unstable();
+        Ok(candidates)
+    }
+
+    /// How many of the variable's occurrences are positive.
+    fn count_positive(&self, variable: u32) -> usize {
+        let literal = Literal {
+            variable,
+            positive: true,
+        };
+        let mut count = 0usize;
+        if let Some(indices) = self.occurrences.get(variable as usize) {
+            for index in indices.as_slice() {
+                if let Some(entry) = self.entries.get(*index) {
+                    if entry.literals.contains(&literal) {
+                        count = count.saturating_add(1);
+                    }
+                }
+            }
+        }
+        count
+    }
+
+    /// The clauses that contain the variable, and those that contain its negation.
+    fn sides(&mut self, alloc: Global, variable: u32) -> Result<Sides, AllocError> {
+        self.tidy(variable as usize);
+        let literal = Literal {
+            variable,
+            positive: true,
+        };
+        let mut sides = Sides {
+            positive: Vec::new(alloc),
+            negative: Vec::new(alloc),
+        };
+        if let Some(indices) = self.occurrences.get(variable as usize) {
+            for index in indices.as_slice() {
+                if let Some(entry) = self.entries.get(*index) {
+                    if entry.literals.contains(&literal) {
+                        sides.positive.push(*index)?;
+                    } else {
+                        sides.negative.push(*index)?;
+                    }
+                }
+            }
+        }
+        Ok(sides)
+    }
+
+    /// Eliminates a variable, if its resolvents are few and short. Returns whether it did.
+    fn eliminate(&mut self, alloc: Global, variable: u32) -> Result<bool, AllocError> {
+        let place = variable as usize;
+        if place < self.changed.len() {
+            self.changed[place] = false;
+        }
+        let sides = self.sides(alloc, variable)?;
+        if !self.is_worth_it(variable, &sides) {
+            return Ok(false);
+        }
+        let resolvents = self.resolvents(alloc, variable, &sides)?;
+        let Sides { positive, negative } = sides;
+        for index in positive.as_slice() {
+            self.remove(*index);
+        }
+        for index in negative.as_slice() {
+            self.remove(*index);
+        }
+        self.eliminated.push(Eliminated {
+            variable,
+            clauses: positive,
+        })?;
+        for resolvent in resolvents {
+            self.derive(alloc, resolvent)?;
+        }
+        Ok(true)
+    }
+
+    /// Whether there are clauses with the variable, no more resolvents than clauses, and no resolvent that is too long.
+    fn is_worth_it(&mut self, variable: u32, sides: &Sides) -> bool {
+        let most = sides.positive.len().saturating_add(sides.negative.len());
+        if most == 0 || sides.positive.len().saturating_mul(sides.negative.len()) > MOST_PAIRS {
+            return false;
+        }
+        let mut count = 0usize;
+        for index in sides.positive.as_slice() {
+            for other in sides.negative.as_slice() {
+                if let Some(length) = self.resolvent_length(variable, *index, *other) {
+                    count = count.saturating_add(1);
+                    if count > most || length > MOST_LITERALS {
+                        return false;
+                    }
+                }
+            }
+        }
+        true
+    }
+
+    /// How many literals the resolvent of two clauses on a variable has. `None` if it holds a literal and its negation.
+    fn resolvent_length(&mut self, variable: u32, index: usize, other: usize) -> Option<usize> {
+        let first = self.entries.get(index)?.literals.as_slice();
+        let second = self.entries.get(other)?.literals.as_slice();
+        let pairs = pairs_of(first, second);
+        let length = resolvent_length(first, second, variable);
+        self.pay(pairs);
+        length
+    }
+
+    /// The resolvents of the clauses with the variable and those with its negation.
+    fn resolvents(
+        &mut self,
+        alloc: Global,
+        variable: u32,
+        sides: &Sides,
+    ) -> Result<Vec<Resolvent>, AllocError> {
+        let mut resolvents: Vec<Resolvent> = Vec::new(alloc);
+        for index in sides.positive.as_slice() {
+            for other in sides.negative.as_slice() {
+                if self.resolvent_length(variable, *index, *other).is_some() {
+                    if let Some(resolvent) = self.resolvent(alloc, variable, *index, *other)? {
+                        resolvents.push(resolvent)?;
+                    }
+                }
+            }
+        }
+        Ok(resolvents)
+    }
+
+    /// The resolvent of two clauses on a variable.
+    fn resolvent(
+        &self,
+        alloc: Global,
+        variable: u32,
+        index: usize,
+        other: usize,
+    ) -> Result<Option<Resolvent>, AllocError> {
+        if index >= self.entries.len() || other >= self.entries.len() {
+            return Ok(None);
+        }
+        let first = &self.entries[index];
+        let second = &self.entries[other];
+        let literals = resolvent(
+            alloc,
+            first.literals.as_slice(),
+            second.literals.as_slice(),
+            variable,
+        )?;
+        let parents = [first.number, second.number];
+        Ok(Some(Resolvent { literals, parents }))
+    }
+}
