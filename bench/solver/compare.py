@@ -69,7 +69,7 @@ def row(file, result):
 def main():
     program, folder, groups = sys.argv[1], pathlib.Path(sys.argv[2]), sys.argv[3:] or GROUPS
     means = {}
-    print("| Clauses | `dd_solver` | Steps | Bytes | MiniSat | Conflicts | Over MiniSat |\n|---|---|---|---|---|---|---|")
+    print("| Clauses | diddy's search | Steps | Bytes | MiniSat | Conflicts | Over MiniSat |\n|---|---|---|---|---|---|---|")
     with tempfile.TemporaryDirectory() as room:
         for group in groups:
             files = sorted(folder.glob(f"{group}-*.cnf"), key=lambda file: re.sub(r"\d+", lambda word: word[0].zfill(3), file.stem))

@@ -8,7 +8,7 @@ set -eu
 here=$(cd "$(dirname "$0")" && pwd)
 . "$here/../build.sh"
 if [ -z "${PROGRAM:-}" ]; then
-    build_program bench_solver "$here/program.txt" dd_values dd_clause dd_derivation dd_trail dd_solver dd_certificate
+    build_program bench_solver "$here/program.txt" dd_values dd_clause dd_derivation dd_trail dd_solver dd_elimination dd_certificate
     PROGRAM=$work/crates/bench_solver/out/bench_solver
 fi
 python3 "$here/lists.py" "$work/lists"

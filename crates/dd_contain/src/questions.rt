@@ -16,11 +16,12 @@ use crate::search::{Questions, search};
 use dd_boxes::{Goal, keeps_rule, least_radius};
 use dd_clause::Cnf;
 use dd_derivation::{Outcome, Step, last_number};
+use dd_elimination::solve_propagated;
 use dd_engines::{Engine, Roster, kept_is_reflexive};
 use dd_formula::Rule;
 use dd_pattern::{Periodic, Periods};
 use dd_problem::{box_clauses, read_torus, torus_clauses};
-use dd_solver::{Style, solve_with, trimmed};
+use dd_solver::{Style, trimmed};
 use dd_values::{Items, Limits};
 use std::alloc::{AllocError, Global};
 
@@ -52,7 +53,7 @@ fn outcome<E: Engine>(
 {
     match roster.ask(alloc, cnf)? {
         Some(proposed) => Ok(proposed),
-        None => solve_with(alloc, cnf, style),
+        None => solve_propagated(alloc, cnf, style),
     }
 }
 

@@ -44,6 +44,20 @@ fn renumbered(numbers: &[u64], before: u64, old: Items<u64>) -> Items<u64> {
     Items::from_vec(renumbered)
 }
 
+/// The step with the numbers of the whole list in its hints and deletes, as by `renumbered`.
+pub(crate) fn renumbered_step(numbers: &[u64], before: u64, step: Step) -> Step {
+    let Step {
+        clause,
+        hints,
+        deletes,
+    } = step;
+    Step {
+        clause,
+        hints: renumbered(numbers, before, hints),
+        deletes: renumbered(numbers, before, deletes),
+    }
+}
+
 impl Elimination {
     /// The remaining clauses. `None` if one has a variable that isn't in the list, which never happens.
     pub(crate) fn reduced(
@@ -106,16 +120,7 @@ impl Elimination {
         let before = self.count.saturating_add(self.steps.len() as u64);
         let mut whole = self.steps;
         for step in steps.into_vec() {
-            let Step {
-                clause,
-                hints,
-                deletes,
-            } = step;
-            whole.push(Step {
-                clause,
-                hints: renumbered(numbers, before, hints),
-                deletes: renumbered(numbers, before, deletes),
-            })?;
+            whole.push(renumbered_step(numbers, before, step))?;
         }
         Ok(Items::from_vec(whole))
     }

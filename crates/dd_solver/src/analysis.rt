@@ -1,8 +1,8 @@
-//! The clause learned from a conflict, which is a clause whose literals are all false. The learned clause is that of the first
-//! unique implication point (Marques-Silva and Sakallah 1999). The analysis marks the variables of the conflict's clause. Then it
+//! The clause that is learned from a conflict. A conflict is a clause whose literals are all false. The learned clause is that of
+//! the first unique implication point (Marques-Silva and Sakallah 1999). The analysis marks the variables of the conflict. Then it
 //! walks down the trail, from the newest entry to the oldest, and resolves or keeps each entry whose variable is marked. If an
 //! entry is resolved, the variables of the clause that forced it are marked too. If an entry is kept, the negation of its literal
-//! goes into the learned clause. Whatever is kept, the learned clause follows: the numbers of the conflict's clause and of the
+//! goes into the learned clause. Whatever is kept, the learned clause follows: the numbers of the conflict and of the
 //! resolved clauses are hints that show this. So no contract says which entries are best kept.
 ghost use Rattle.std.specs.Prelude.{◌≡◌, ℕ, ◌<◌, ◌≤◌, true, [], length, IfOk, MatchOption, slice_index_or, ⊤};
 ghost use Rattle.dd_clause.specs.Clauses.{IsLiteralInRange, IsClauseInRange};
@@ -25,11 +25,15 @@ pub(crate) struct Backjump {
     pub literal: Literal,
 }
 
-/// The literals of the learned clause, its hints, and where the search goes back to. An empty clause has no backjump.
+/// What is learned from a conflict.
 #[derive(Drop)]
 pub(crate) struct Learned {
+    /// The literals of the learned clause.
     pub literals: Vec<Literal>,
     pub hints: Vec<u64>,
+    /// The variables of the conflict and of the resolved clauses, each once.
+    pub variables: Vec<u32>,
+    /// Where the search goes back to. An empty clause has no backjump.
     pub backjump: Option<Backjump>,
 }
 
@@ -112,8 +116,8 @@ fn find_place(entries: &[Entry], marked: &[bool], top: usize) -> Option<usize>
     place
 }
 
-/// The backjump that makes the literal of the entry at this place false. `None` if there is none, because no decision at or
-/// before this place comes after all marked entries before this place.
+/// The backjump that makes the literal of the entry at this place false. `None` if there is none: going down the trail from
+/// this place, no decision comes before the next marked entry. A decision at this place itself counts.
 fn backjump_at(entries: &[Entry], marked: &[bool], place: usize) -> Option<Backjump>
     requires place { place < length entries.now }
     requires in_range { (k : ℕ) (d : Entry) → k < length entries.now → IsLiteralInRange (length marked.now) (slice_index_or entries.now k d).literal }
@@ -200,6 +204,7 @@ fn walk_down(
 {
     let mut literals: Vec<Literal> = Vec::new(alloc);
     let mut hints: Vec<u64> = Vec::new(alloc);
+    let mut variables: Vec<u32> = Vec::new(alloc);
     let mut backjump: Option<Backjump> = None;
     hints.push(conflict)?;
     let mut open = mark_clause(database, trail, marked, conflict);
@@ -208,6 +213,7 @@ fn walk_down(
         let entry = entries[i];
         if marked[entry.literal.variable as usize - 1] {
             open = open.saturating_sub(1);
+            variables.push(entry.literal.variable)?;
             match choose(database, trail, marked, backjump, i, open) {
                 Choice::Resolve(reason) => {
                     hints.push(reason)?;
@@ -225,6 +231,7 @@ fn walk_down(
     Ok(Learned {
         literals,
         hints,
+        variables,
         backjump,
     })
 }
@@ -249,17 +256,15 @@ fn bump_marked(order: &mut Order, trail: &Trail, marked: &mut [bool], literals: 
     }
 }
 
-/// Calls `bump_marked` for the clauses with these numbers.
-fn bump_resolved(
-    order: &mut Order,
-    database: &Database,
-    trail: &Trail,
-    marked: &mut [bool],
-    numbers: &[u64],
-) {
-    for number in numbers {
-        if let Some(literals) = database.find_clause(*number) {
-            bump_marked(order, trail, marked, literals);
+/// Unmarks these variables, and makes them more active, unless they are fixed.
+fn bump_variables(order: &mut Order, trail: &Trail, marked: &mut [bool], variables: &[u32]) {
+    for variable in variables {
+        let place = *variable as usize;
+        if place >= 1 && place <= marked.len() {
+            marked[place - 1] = false;
+        }
+        if !trail.is_fixed(*variable) {
+            order.bump(*variable);
         }
     }
 }
@@ -333,7 +338,7 @@ pub(crate) fn learn(
     ensures backjump { IfOk result (λ r. MatchOption r.backjump (r.literals.items ≡ []) (Asserts trail.now.entries r.literals.items)) }
 {
     let learned = walk_down(alloc, database, trail, marked, conflict)?;
-    bump_resolved(order, database, trail, marked, learned.hints.as_slice());
+    bump_variables(order, trail, marked, learned.variables.as_slice());
     let literals = learned.literals.as_slice();
     match order.style() {
         Style::Broad => bump_again(order, database, trail, marked, literals),

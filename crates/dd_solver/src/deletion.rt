@@ -1,7 +1,8 @@
 //! Which learned clauses are deleted, and when. The levels of a clause are the decision levels at which its literals got their
 //! values. A clause is worth more if it has fewer levels (Audemard and Simon 2009). From time to time a review deletes the worse
-//! half of the learned clauses that may be deleted. No clause that forced a literal of the trail is deleted. The choice is
-//! checked exactly, so no contract depends on the counts kept here.
+//! half of the learned clauses that may be deleted. No clause that forced a literal of the trail is deleted. In the
+//! end, clauses that forced a literal and clauses that are not alive are taken out of the choice. So no contract depends on the
+//! counts kept here.
 ghost use Rattle.std.specs.Prelude.{◌≡◌, ℕ, List, ◌<◌, false, length, IfOk, Some, slice_index_or};
 ghost use Rattle.dd_clause.specs.declared.clause.Literal.{Literal};
 ghost use Rattle.dd_solver.specs.searching.Deleting.{AreChosen, MayDelete};
@@ -39,10 +40,10 @@ struct Candidate {
 pub(crate) struct Deletion {
     /// How many levels each learned clause has.
     levels: Vec<u32>,
-    /// For each level, the number of the last count in which it occurred. As counts are numbered, nothing needs to be cleared
-    /// between them.
+    /// Each call of `count_levels` has a number. For each level, this is the number of the last call that met it. So nothing needs to
+    /// be cleared between calls.
     counted: Vec<u64>,
-    /// How many counts have been made so far.
+    /// The number of the last call of `count_levels`.
     counts: u64,
     /// The next review is due when this many clauses have been learned.
     next: usize,
@@ -77,10 +78,10 @@ fn take_chosen(
     ensures { IfOk result (λ deletes. MayDelete database.now clauses entries.now deletes.items) }
 {
     let mut deletes: Vec<u64> = Vec::new(alloc);
-    for place in clauses..chosen.len() {
-        if place > clauses && chosen[place] {
-            if let Some(_) = database.find_clause(place as u64) {
-                deletes.push(place as u64)?;
+    for number in clauses..chosen.len() {
+        if number > clauses && chosen[number] {
+            if let Some(_) = database.find_clause(number as u64) {
+                deletes.push(number as u64)?;
             }
         }
     }
@@ -99,8 +100,8 @@ impl Deletion {
         })
     }
 
-    /// The number of different decision levels of the literals, not counting level 0.
-    fn count_levels(&mut self, trail: &Trail, literals: &[Literal]) -> u32 {
+    /// The number of different decision levels of the literals, not counting level 0; or `most`, if there are more.
+    fn count_levels(&mut self, trail: &Trail, literals: &[Literal], most: u32) -> u32 {
         self.counts = self.counts.saturating_add(1);
         let mut count = 0u32;
         for literal in literals {
@@ -108,6 +109,9 @@ impl Deletion {
             if level >= 1 && level < self.counted.len() && self.counted[level] != self.counts {
                 self.counted[level] = self.counts;
                 count = count.saturating_add(1);
+                if count >= most {
+                    return count;
+                }
             }
         }
         count
@@ -128,27 +132,31 @@ impl Deletion {
         let Some(place) = self.place(clauses, number) else {
             return;
         };
+        let most = self.levels.get(place).copied().unwrap_or(0);
+        if most <= KEPT_LEVELS {
+            return;
+        }
         if let Some(literals) = database.find_clause(number) {
-            let levels = self.count_levels(trail, literals);
-            if place < self.levels.len() && levels < self.levels[place] {
+            let levels = self.count_levels(trail, literals, most);
+            if place < self.levels.len() {
                 self.levels[place] = levels;
             }
         }
     }
 
-    /// The chosen learned clauses that are alive, and that have more than `KEPT_LEVELS` levels and more than `KEPT_LENGTH`
-    /// literals.
+    /// The learned clauses that are alive, that `possible` allows, and that have more than `KEPT_LEVELS` levels and more than
+    /// `KEPT_LENGTH` literals. `possible[k]` belongs to the clause with the number k.
     fn find_candidates(
         &self,
         alloc: Global,
         database: &Database,
         clauses: usize,
-        chosen: &[bool],
+        possible: &[bool],
     ) -> Result<Vec<Candidate>, AllocError> {
         let mut candidates: Vec<Candidate> = Vec::new(alloc);
         for (place, levels) in self.levels.iter().enumerate() {
             let number = place.saturating_add(clauses).saturating_add(1);
-            if *levels > KEPT_LEVELS && number < chosen.len() && chosen[number] {
+            if *levels > KEPT_LEVELS && number < possible.len() && possible[number] {
                 if let Some(literals) = database.find_clause(number as u64) {
                     if literals.len() > KEPT_LENGTH {
                         candidates.push(Candidate {
@@ -224,7 +232,7 @@ impl Deletion {
         } else {
             Vec::new(alloc)
         };
-        let levels = self.count_levels(trail, literals);
+        let levels = self.count_levels(trail, literals, u32::MAX);
         self.levels.push(levels)?;
         take_chosen(alloc, database, clauses, entries, chosen.as_slice())
     }

@@ -182,7 +182,8 @@ impl<'a> Search<'a> {
         Ok(learned.backjump)
     }
 
-    /// Removes all entries from a decision on. The last step's clause then forces a literal, which is made true.
+    /// Removes the decision at the backjump's place and all entries after it. The last step's clause then forces a literal, which is
+    /// made true.
     fn backtrack(&mut self, backjump: Backjump) -> Result<(), AllocError>
         requires { IsForced self.old backjump }
         ensures same { (self.new.variables ≡ self.old.variables) × (self.new.clauses ≡ self.old.clauses) × (self.new.steps ≡ self.old.steps) }

@@ -126,20 +126,21 @@ impl Order {
         }
     }
 
-    /// Whether a variable comes before another: it is more active, or it is equally active and has the lower number.
-    fn is_before(&self, variable: usize, other: usize) -> bool {
-        let activity = self.activity(variable);
-        let others = self.activity(other);
-        activity > others || (activity == others && variable < other)
+    /// Whether a variable comes before another one, which has the given activity: it is more active, or it is equally active and
+    /// has the lower number.
+    fn is_before(&self, variable: usize, other: usize, activity: u64) -> bool {
+        let own = self.activity(variable);
+        own > activity || (own == activity && variable < other)
     }
 
     /// Moves a variable up in the heap, from a place where it may stand too low.
     fn rise(&mut self, variable: usize, from: usize) {
+        let activity = self.activity(variable);
         let mut place = from;
         while place > 0 {
             let parent = (place - 1) / 2;
             let above = self.variable_at(parent);
-            if !self.is_before(variable, above) {
+            if self.is_before(above, variable, activity) {
                 break;
             }
             self.put(above, place);
@@ -158,18 +159,22 @@ impl Order {
         }
         let left = 2 * place + 1;
         let right = left + 1;
-        if right < waiting && self.is_before(self.variable_at(right), self.variable_at(left)) {
-            return Some(right);
+        if right < waiting {
+            let other = self.variable_at(left);
+            if self.is_before(self.variable_at(right), other, self.activity(other)) {
+                return Some(right);
+            }
         }
         Some(left)
     }
 
     /// Moves a variable down in the heap, from a place where it may stand too high.
     fn sink(&mut self, variable: usize, from: usize) {
+        let activity = self.activity(variable);
         let mut place = from;
         while let Some(below) = self.find_below(place) {
             let other = self.variable_at(below);
-            if !self.is_before(other, variable) {
+            if !self.is_before(other, variable, activity) {
                 break;
             }
             self.put(other, place);
@@ -256,11 +261,12 @@ impl Order {
     /// Makes a variable more active, because it took part in a conflict.
     pub fn bump(&mut self, variable: u32) {
         let variable = variable as usize;
-        let activity = self.activity(variable).saturating_add(self.increment);
-        if variable < self.ranks.len() {
-            self.ranks[variable].activity = activity;
+        if variable >= self.ranks.len() {
+            return;
         }
-        if activity > MOST_ACTIVE {
+        let rank = &mut self.ranks[variable];
+        rank.activity = rank.activity.saturating_add(self.increment);
+        if rank.activity > MOST_ACTIVE {
             self.rescale();
         }
         let place = self.place(variable);

@@ -323,7 +323,9 @@ impl Watches {
     /// may be falsified or force a literal, and returns the place of the clause's first literal. Returns `None` if there is no
     /// such clause.
     fn pass(&mut self, trail: &Trail, became_false: Code) -> Result<Option<u32>, AllocError> {
-        self.exchange(became_false);
+        if self.at == 0 {
+            self.exchange(became_false);
+        }
         let found = pass_from(
             trail.denied(),
             self.literals.as_mut_slice(),
@@ -332,15 +334,16 @@ impl Watches {
             became_false,
             self.at,
         )?;
-        let mut clause: Option<u32> = None;
-        if let Some(at) = found {
-            if at < self.passed.len() {
-                clause = Some(self.passed[at].clause);
+        match found {
+            Some(at) if at < self.passed.len() => {
+                self.at = at.saturating_add(1);
+                Ok(Some(self.passed[at].clause))
             }
-            self.at = at.saturating_add(1);
+            _ => {
+                self.exchange(became_false);
+                Ok(None)
+            }
         }
-        self.exchange(became_false);
-        Ok(clause)
     }
 
     /// Reads on along the trail, until a clause is falsified or forces a literal. Each entry makes the negation of its literal
@@ -363,7 +366,11 @@ impl Watches {
                 }
                 Some(clause) => match look_at(database, trail, self.number(clause)) {
                     Scan::Nothing => {}
-                    seen => return Ok(seen),
+                    Scan::Unit(number, literal) => return Ok(Scan::Unit(number, literal)),
+                    Scan::Conflict(number) => {
+                        self.exchange(became_false);
+                        return Ok(Scan::Conflict(number));
+                    }
                 },
             }
         }

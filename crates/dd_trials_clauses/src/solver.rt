@@ -2,8 +2,8 @@
 // end of each clause. A negative number stands for the negation of its variable.
 use dd_clause::{Clause, Cnf, Literal, satisfies};
 use dd_derivation::{Marks, Outcome, Step, check_refutation};
-use dd_elimination::solve_reduced;
-use dd_solver::{solve, trimmed};
+use dd_elimination::{solve_propagated, solve_reduced};
+use dd_solver::{Style, solve, trimmed};
 use dd_values::Items;
 use std::alloc::{AllocError, Global};
 use std::process::Abort;
@@ -62,11 +62,13 @@ fn push_pigeonholes(numbers: &mut Vec<i32>, first: i32, holes: i32) -> Result<()
     Ok(())
 }
 
-/// The answer of both searches, the one on the whole list and the one on the reduced list. `different` if they differ.
+/// The answer of each search: on the whole list, without the variables that propagation fixes, and without those that resolution
+/// eliminates. `different` if they differ.
 fn answer(alloc: Global, cnf: &Cnf) -> Result<&'static str, AllocError> {
     let whole = confirmed(alloc, cnf, solve(alloc, cnf)?)?;
+    let propagated = confirmed(alloc, cnf, solve_propagated(alloc, cnf, Style::Broad)?)?;
     let reduced = confirmed(alloc, cnf, solve_reduced(alloc, cnf)?)?;
-    if whole != reduced {
+    if whole != propagated || whole != reduced {
         return Ok("different");
     }
     Ok(whole)

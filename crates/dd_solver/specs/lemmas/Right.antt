@@ -1,4 +1,4 @@
--- The search finds an assignment exactly if there is one, and a refutation exactly if there is none.
+-- A right outcome is an assignment exactly if some assignment satisfies the clauses, and a refutation exactly if none does.
 use Rattle.std.proofs.Common.{ℕ, List}
 use Rattle.std.specs.Prelude.{◌↔◌}
 use Rattle.dd_clause.specs.declared.clause.Literal.{Literal}

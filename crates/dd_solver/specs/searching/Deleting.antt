@@ -4,7 +4,7 @@ use Rattle.dd_clause.specs.declared.clause.Literal.{Literal}
 use Rattle.dd_derivation.specs.Derivations.{clause_of, are_deletable, known_after}
 use Rattle.dd_trail.specs.declared.trail.Entry.{Entry}
 
--- The clauses may be chosen: none of them forced an entry of the trail. `chosen` has a truth value for each clause number.
+-- No chosen clause forced an entry of the trail. `chosen` says of each clause number whether that clause is chosen.
 abbrev pub AreChosen : List Entry → List Bool → Type 0
 AreChosen trail chosen =
     (k r : ℕ) (d : Entry) → k < length trail → (slice_index_or trail k d).reason ≡ Some r → slice_index_or chosen r false ≡ false

@@ -3,7 +3,7 @@ use Rattle.std.specs.Prelude.{◌≡◌, ℕ, suc, ◌+◌, ◌-◌, ◌<◌, �
 use Rattle.dd_derivation.specs.declared.step.Step.{Step}
 use Rattle.dd_solver.specs.Trimming.{is_hint}
 
--- some marked step has this number as a hint; this step stands at `place` or later, and after the step at j
+-- some marked step that stands at `place` or later, and after j, has a hint that names the step at j, whose number is `number`
 pub record IsNeeded (place j number : ℕ) (steps : List Step) (marked : List Bool) : Type 0 where
   pub at : ℕ
   pub from : place ≤ at
@@ -28,7 +28,8 @@ abbrev pub numbers_from : ℕ → List Bool → List ℕ
 numbers_from last [] = []
 numbers_from last (m ∷ marked) = let next = if m then suc last else last in next ∷ numbers_from next marked
 
--- a clause of the list keeps its number, and the step at an index gets the number at that index
+-- the new number of a clause: a clause of the list keeps its number, and the step at an index gets the number that `numbers` has
+-- at this index
 abbrev pub renamed : ℕ → List ℕ → ℕ → ℕ
 renamed clauses numbers number =
     if nat_le number clauses then number else slice_index_or numbers (number - clauses - 1) number

@@ -29,7 +29,7 @@ known_through before (s ∷ steps) = known_through (after_step before s) steps
 abbrev pub known : State → List (Option (List Literal))
 known s = known_through (all_known s.clauses) s.steps
 
--- each step is right after those before it
+-- each step is right, given the clauses that are known after the steps before it
 abbrev pub is_derived : ℕ → List (Option (List Literal)) → List Step → Bool
 is_derived n before [] = true
 is_derived n before (s ∷ steps) = is_right n before s && is_derived n (after_step before s) steps

@@ -7,9 +7,9 @@ use Rattle.dd_elimination.proofs.search.solve_reduced.Goals as goal
 pub returns-clause-found : goal.returns-clause-found
 returns-clause-found c =
     let cnf = c.args.cnf.now in
-    if_ok c.answer_of.result (IsAnswer cnf.variables cnf.clauses) (λ o. IsFound o ↔ IsSatisfiable cnf.clauses) (found_right cnf.variables cnf.clauses) (search rules)
+    if_ok c.reduced_answer.result (IsAnswer cnf.variables cnf.clauses) (λ o. IsFound o ↔ IsSatisfiable cnf.clauses) (found_right cnf.variables cnf.clauses) (search rules)
 
 pub returns-clause-refuted : goal.returns-clause-refuted
 returns-clause-refuted c =
     let cnf = c.args.cnf.now in
-    if_ok c.answer_of.result (IsAnswer cnf.variables cnf.clauses) (λ o. IsRefuted o ↔ ¬ (IsSatisfiable cnf.clauses)) (refuted_right cnf.variables cnf.clauses) (search rules)
+    if_ok c.reduced_answer.result (IsAnswer cnf.variables cnf.clauses) (λ o. IsRefuted o ↔ ¬ (IsSatisfiable cnf.clauses)) (refuted_right cnf.variables cnf.clauses) (search rules)
