@@ -145,8 +145,9 @@ impl<'a> Propagation<'a> {
 
     /// Propagates to the end. Returns false if a clause is falsified.
     fn run(&mut self) -> Result<bool, AllocError> {
-        for index in 0..self.clauses.len() {
-            if self.clauses[index].literals().len() == 1 && !self.look_at(index)? {
+        let clauses = self.clauses;
+        for (index, clause) in clauses.iter().enumerate() {
+            if clause.literals().len() == 1 && !self.look_at(index)? {
                 return Ok(false);
             }
         }
