@@ -12,4 +12,4 @@ pub returns-in-Some-clause-refuted : goal.returns-in-Some-clause-refuted
 returns-in-Some-clause-refuted g c = right_refuted c.args.cnf.now c.in-Some.proposed (rw c.in-Some.is at c.in_ok-proposed.ensures.right)
 
 pub returns-in-None-clause-engines : goal.returns-in-None-clause-engines
-returns-in-None-clause-engines g c = record { kept = c.ask.ensures.kept; first = any_ok c.solve_with.result _ c.in_ok-proposed.ensures.first }
+returns-in-None-clause-engines g c = record { kept = c.ask.ensures.kept; first = any_ok c.solve_propagated.result _ c.in_ok-proposed.ensures.first }
