@@ -13,7 +13,8 @@ pub fn one_script()
     one_tree();
 }
 
-/// Does nothing. Its contract says that bytes are refused in at most one way: at one command, and for one kind of fault.
+/// Does nothing. Its contract says that bytes are refused in at most one way: with one number, and for one kind of fault. The
+/// number is that of a command, or 0 if the fault comes before the first command.
 pub fn one_refusal()
     ensures { (bytes : List ℕ) (m n : ℕ) (k l : RefusalKind) → RefusedAs bytes m k → RefusedAs bytes n l → (m ≡ n) × (k ≡ l) }
 {
@@ -22,8 +23,8 @@ pub fn one_refusal()
     tree_or_fault();
 }
 
-/// Does nothing. Its contract says that bytes that spell a script are never refused. All other bytes are refused, if they are no
-/// longer than a script may be.
+/// Does nothing. Its contract says that no bytes, however many, both spell a script and are refused. If there are at most
+/// `most_script` bytes, they spell a script or are refused.
 pub fn spelled_or_refused()
     ensures never_both { (bytes : List ℕ) (s : Parts) (n : ℕ) (k : RefusalKind) → Spells bytes s → RefusedAs bytes n k → ⊥ }
     ensures either { (bytes : List ℕ) → length bytes ≤ most_script → ((s : Parts) × Spells bytes s) ⊎ ((n : ℕ) × (k : RefusalKind) × RefusedAs bytes n k) }
