@@ -1,6 +1,5 @@
 //! Laws about bytes that are read as scripts. Each is the contract of a function that does nothing.
-ghost use Rattle.std.specs.Prelude.{◌≡◌, ◌≤◌, ◌⊎◌, ℕ, List, length};
-ghost use Rattle.dd_values.specs.Bounds.{most_script};
+ghost use Rattle.std.specs.Prelude.{◌≡◌, ◌⊎◌, ℕ, List};
 ghost use Rattle.dd_script.specs.{Parts.Parts, Scripts.Spells, Scripts.RefusedAs, Scripts.RefusalKind};
 
 use dd_commands::{one_fault, one_tree, tree_or_fault};
@@ -23,11 +22,10 @@ pub fn one_refusal()
     tree_or_fault();
 }
 
-/// Does nothing. Its contract says that no bytes, however many, both spell a script and are refused. If there are at most
-/// `most_script` bytes, they spell a script or are refused.
+/// Does nothing. Its contract says that bytes either spell a script or are refused, and never both.
 pub fn spelled_or_refused()
     ensures never_both { (bytes : List ℕ) (s : Parts) (n : ℕ) (k : RefusalKind) → Spells bytes s → RefusedAs bytes n k → ⊥ }
-    ensures either { (bytes : List ℕ) → length bytes ≤ most_script → ((s : Parts) × Spells bytes s) ⊎ ((n : ℕ) × (k : RefusalKind) × RefusedAs bytes n k) }
+    ensures either { (bytes : List ℕ) → ((s : Parts) × Spells bytes s) ⊎ ((n : ℕ) × (k : RefusalKind) × RefusedAs bytes n k) }
 {
     one_tree();
     tree_or_fault();

@@ -1,6 +1,6 @@
 //! Laws about the bytes of scripts. Bytes spell a script if they are a text of the grammar, the text has no fault, and the script
-//! is what the text means. Bytes of any length spell at most one script, and are refused in at most one way. They are never
-//! refused if they spell a script. If there are at most `most_script` of them, they spell a script or are refused.
+//! is what the text means. Bytes spell exactly one script, or else are refused in exactly one way. How many there are doesn't
+//! matter here: a script that is too long is refused before it is read.
 #![tactic(auto)]
 
 mod laws;

@@ -369,6 +369,7 @@ impl Watches {
                     Scan::Unit(number, literal) => return Ok(Scan::Unit(number, literal)),
                     Scan::Conflict(number) => {
                         self.exchange(became_false);
+                        self.at = 0;
                         return Ok(Scan::Conflict(number));
                     }
                 },
