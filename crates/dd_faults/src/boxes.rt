@@ -39,10 +39,11 @@ fn symbols(context: &Context, written: &[Name], found: &mut Found)
 fn product(text: &Text, entries: &[Entry]) -> u32
     ensures { result ≡ min (product text.now entries.now) 4294967295 }
 {
-    match entries {
-        [entry, more @ ..] => entry_value(text, *entry).saturating_mul(product(text, more)),
-        _ => 1,
+    let mut product = 1u32;
+    for place in (0..entries.len()).rev() {
+        product = entry_value(text, entries[place]).saturating_mul(product);
     }
+    product
 }
 
 /// The number of cells of a fundamental box with these periods, cut off at `u32::MAX`.
