@@ -15,7 +15,7 @@ use std::alloc::{AllocError, Global};
 const MOST_CLAUSES: usize = 200_000;
 
 /// Like `solve_with`, but the variables that unit propagation fixes are eliminated before the search. This is faster on lists of
-/// boxes and tori, and the refutations are shorter.
+/// boxes and tori, and most long refutations are shorter.
 pub fn solve_propagated(alloc: Global, cnf: &Cnf, style: Style) -> Result<Outcome, AllocError>
     ensures answer { IfOk result (IsAnswer cnf.now.variables cnf.now.clauses) }
     ensures found { IfOk result (λ outcome. IsFound outcome ↔ IsSatisfiable cnf.now.clauses) }
