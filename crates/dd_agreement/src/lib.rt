@@ -1,5 +1,5 @@
-//! Every right answer is a certificate. So the check, which accepts exactly the certificates, accepts it. Which answers are right
-//! is defined in `dd_respond`, and which are certificates in `dd_verify`.
+//! Every right answer is a certificate. The check accepts exactly the certificates, so it accepts every right answer.
+//! `dd_respond` defines which answers are right, and `dd_verify` which are certificates.
 #![tactic(auto)]
 
 mod laws;

@@ -1,4 +1,4 @@
--- The image of a periodic configuration under an automaton.
+-- The image of a periodic configuration under an automaton, and whether two automata differ at the origin.
 use Rattle.std.specs.{Prelude.ℕ, Prelude.◌<◌, Prelude.◌≡◌, Prelude.Some, List.All}
 use Rattle.dd_lattice.specs.declared.position.Cell.{Cell}
 use Rattle.dd_pattern.specs.Tile.{Tile, tile_look}
@@ -9,7 +9,8 @@ use Rattle.dd_formula.specs.{Automata.CommonNumbers, Automata.IsAutomaton, Autom
 abbrev pub tile_numbers : Tile → ℕ → CommonNumbers
 tile_numbers t n = record { dimension = t.dimension; nodes = t.nodes; symbols = n }
 
--- the automaton is well formed over the configuration's dimension and nodes, and over some alphabet that has all its symbols
+-- the automaton is well formed over the configuration's dimension and nodes and over some alphabet, and this alphabet has all
+-- symbols of the configuration
 pub record IsDefinedOn (f : Automaton) (t : Tile) : Type 0 where
   pub symbols : ℕ
   pub formed : IsAutomaton (tile_numbers t symbols) f

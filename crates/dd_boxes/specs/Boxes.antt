@@ -34,12 +34,12 @@ pub record IsLeastRadius (g : GoalOf) (n : ℕ) : Type 0 where
   pub reaches : Reaches g n
   pub least : (k : ℕ) → Reaches g k → n ≤ k
 
--- the look covers the box of radius n round v: it gives a symbol to each cell of B(n), moved by v
+-- the look-up covers the box of radius n round v: it gives a symbol to each cell of B(n), moved by v
 abbrev pub Covers : LocalRule → ℕ → Look → Place → Type 0
 Covers x n look v = (c : Cell) → is_box_cell x n c ≡ true → is_some (look (shifted v c)) ≡ true
 
--- B(n) contains what the goal reads at the origin. No admissible filling of any domain has the goal at a position v of Z^d if the filling covers the
--- box of radius n round v.
+-- B(n) contains what the goal reads at the origin. If an admissible filling covers the box of radius n round a position v of Z^d,
+-- it does not have the goal at v.
 pub record Never (x : LocalRule) (g : GoalOf) (n : ℕ) : Type 0 where
   pub reaches : Reaches g n
   pub nowhere : (look : Look) → AreAllowed x look → Admissible x look → (v : Place) → is_flat x.dimension v ≡ true → Covers x n look v → HasGoal g look v → ⊥

@@ -1,5 +1,5 @@
--- A filling gives each cell of a domain a symbol that the cell's node allows. A look is a function that gives symbols to some cells and none to the
--- others. Here it stands for a filling of the cells to which it gives symbols.
+-- A filling gives each cell of a domain a symbol that the cell's node allows. A look-up is a function that gives symbols to some
+-- cells and none to the others. Here a look-up stands for a filling of the cells to which it gives symbols.
 use Rattle.std.specs.Prelude.{ℕ, ◌<◌, ◌≡◌, ◌&&◌, Bool, true, is_some, nat_lt, nat_le, ℤ, unsigned_abs}
 use Rattle.std.specs.List.{list_all}
 use Rattle.dd_lattice.specs.{Place.Place, Cells.cell, Cells.shifted, Boxes.is_active, Boxes.spread, declared.position.Cell.Cell}

@@ -1,7 +1,7 @@
 -- the goals of box questions: properties that may hold at a position of a configuration
 pub mod Goals
--- fillings of the cells of a domain, and which of them are admissible: the rule is true at each cell that has a symbol and where all that it reads
--- has symbols
+-- fillings of the cells of a domain, and which of them are admissible: the rule is true at each cell where it fits, that is,
+-- where the cell and all cells that the rule reads there have symbols
 pub mod Fillings
 -- which boxes suffice for a goal: those without an admissible filling that has the goal at the origin
 pub mod Boxes

@@ -41,7 +41,8 @@ pub fn least_radius(alloc: Global, goal: &Goal) -> Result<u32, AllocError>
     match goal {
         Goal::Breaks(rule) => Ok(rule.reach()),
         Goal::Differ(left, right) => {
-            // These calls tell the proof that each automaton reads only cells of Z^d with nodes of its rules.
+            // These calls tell the proof that each cell that an automaton reads is in Z^d, and has one of the nodes of the
+            // automaton's rules.
             left.reads_are_placed();
             right.reads_are_placed();
             let left_radius = left.reach(alloc)?;

@@ -55,8 +55,8 @@ numbers_to_zero next ns = flat_map spaced ns ++ (codes "0" ++ next ∷ [])
 abbrev pub literals_to_zero : List Literal → List ℕ
 literals_to_zero ls = flat_map spaced_literal ls ++ codes "0 "
 
--- the line of a step: its clause's literals, its hints (the numbers of the clauses that it follows from), and the numbers of the clauses that it
--- deletes
+-- the line of a step: the literals of its clause, its hints (the numbers of the clauses from which its clause follows), and the
+-- numbers of the clauses that the step deletes
 abbrev pub step_text : Step → List ℕ
 step_text s = codes "step " ++ (literals_to_zero s.clause ++ (numbers_to_zero 32 s.hints ++ numbers_to_zero 10 s.deletes))
 

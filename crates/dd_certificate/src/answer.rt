@@ -2,7 +2,7 @@
 use dd_derivation::Step;
 use dd_values::Items;
 
-/// Which of the two rules of an equality query the configuration of a `No` obeys. It breaks the other rule.
+/// Which of the two rules of an equality query the configuration of a `No` obeys. The configuration breaks the other rule.
 #[derive(Clone, Copy, Debug, PartialEq, Eq)]
 pub enum Side {
     /// The query doesn't ask about equality.
@@ -113,10 +113,10 @@ pub enum Answer {
         denominator: u64,
         /// The common denominator of all amounts and duals.
         common: u64,
-        /// The numerators of the amounts that cells send along the query's vectors.
+        /// The numerators of the amounts that positions give along the query's vectors.
         amounts: Items<u64>,
-        /// The numerators of the duals: factors, one for each row of the linear program that belongs to a pattern. They show that
-        /// no amounts give a greater bound.
+        /// The numerators of the duals: factors, one for each row of the query's linear program. They show that no amounts give a
+        /// greater bound.
         duals: Items<u64>,
     },
     /// The minimal forbidden patterns of the rule. No further cell can be left out of any of them.
@@ -127,7 +127,7 @@ pub enum Answer {
     Conjugate {
         /// For each question, the radius of a box.
         radii: Items<u64>,
-        /// For each question, steps that refute its negation on this box.
+        /// For each question, steps that refute the negation of its claim on the question's box.
         steps: Items<Items<Step>>,
     },
     /// The answer to one of the four questions is no, as a periodic configuration shows. The configuration is given as in `No`.
@@ -138,12 +138,13 @@ pub enum Answer {
         shear: u64,
         symbols: Items<u64>,
     },
-    /// The least weight of a box, over the configurations of the subshift that have the query's periods.
+    /// The least weight of a fundamental box, the box that repeats, over the configurations of the subshift that have the query's
+    /// periods.
     Least {
         weight: u64,
-        /// The symbols of a box of this weight, in cell order.
+        /// The symbols of a fundamental box of this weight, in cell order.
         symbols: Items<u64>,
-        /// Steps that refute that some box weighs less. If the weight is 0, there are none.
+        /// Steps that refute that some such fundamental box weighs less. If the weight is 0, there are none.
         steps: Items<Step>,
     },
     /// No configuration of the subshift has the query's periods.

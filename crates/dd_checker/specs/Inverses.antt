@@ -9,7 +9,7 @@ use Rattle.dd_certificate.specs.{declared.answer.Answer.Answer, Text.verdict_tex
 use Rattle.dd_query.specs.declared.queries.Query.{Query}
 use Rattle.dd_script.specs.{Parts.Parts, Questions.query_at}
 
--- the answer's first line begins with CONJUGATE
+-- the answer's first line has CONJUGATE after the query's number
 abbrev pub is_conjugate : Answer → Bool
 is_conjugate a = starts_with nat_eq (verdict_text a) (codes "CONJUGATE")
 

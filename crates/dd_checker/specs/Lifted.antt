@@ -13,7 +13,7 @@ use Rattle.dd_script.specs.{Parts.Parts, Questions.asked, Questions.query_at}
 use Rattle.dd_question.specs.Questions.{Asked}
 use Rattle.dd_question.specs.Questions as question
 
--- the answer's first line begins with YES
+-- the answer's first line has YES after the query's number
 abbrev pub is_yes : Answer → Bool
 is_yes a = starts_with nat_eq (verdict_text a) (codes "YES ")
 

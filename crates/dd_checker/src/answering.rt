@@ -10,8 +10,9 @@ use dd_script::Script;
 use dd_verify::check_question;
 use std::alloc::{AllocError, Global};
 
-/// The verdict on an answer: whether it is a certificate for the query with the number `query`, from 1, and an output can hold it.
-/// What an accepted answer claims is true. The claim may be about all finite domains, all positions of Z^d and all configurations.
+/// The verdict on an answer: whether it is a certificate for the query with the number `query`, from 1, and an output can hold
+/// it. What an accepted answer claims is true. A claim may be about all positions of Z^d, all configurations, and all admissible
+/// fillings, whatever cells they fill.
 ///
 /// # Errors
 /// `AllocError` if memory ran out.

@@ -21,8 +21,8 @@ pub(crate) fn query_certified(script: &Script, query: &Query)
     ensures { (answer : AnyAnswer) → IsCertificateFor script.now query.now answer → ClaimFor script.now query.now answer }
 {
     if asks_pairs(query) {
-        // The query asks whether pairs of automata agree. The script doesn't store these pairs, but the facts about their automata
-        // were proved when the script was read.
+        // The query asks whether pairs of automata agree. The script doesn't store these pairs, but its invariant says what has
+        // to be known about their automata.
         claims_hold_for_goals();
         script.sound_questions();
         // This call tells the proof what the type guarantees.

@@ -2,7 +2,7 @@
 //! search and trusts none. A script defines rules, configurations and automata, and asks queries about them.
 //!
 //! Some queries are box questions. A box question has a rule, the premise, and a goal: a property of a position, such as that
-//! another rule is broken there. It asks whether the goal holds nowhere in any configuration that obeys the premise. A query
+//! another rule is broken there. It asks whether no configuration that obeys the premise has the goal at any position. A query
 //! about equality is two box questions, and a query about a conjugacy is four.
 #![tactic(auto)]
 

@@ -5,7 +5,7 @@ use Rattle.dd_circuit.specs.declared.gates.{Signal.Signal, Gate.Gate}
 use Rattle.dd_circuit.specs.declared.gates.Gate.TheVariants.{And, Or, Iff}
 use Rattle.dd_circuit.specs.Circuits.{Network, size}
 
--- the literal of the variable that is positive or negative, as the truth value says
+-- the literal of the variable: the positive one if the truth value is true, otherwise the negative one
 abbrev pub literal : ℕ → Bool → Literal
 literal variable positive = record { variable = variable; positive = positive }
 

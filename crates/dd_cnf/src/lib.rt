@@ -1,4 +1,5 @@
-//! Circuits as clauses, which are satisfied exactly by the values of the circuit's variables.
+//! Circuits as clauses. An assignment satisfies the clauses of a circuit exactly if it gives each gate's variable the value
+//! of the gate.
 #![tactic(auto)]
 
 mod encoding;

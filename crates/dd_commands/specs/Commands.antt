@@ -1,4 +1,5 @@
--- Commands: the tokens that follow the `%` of each.
+-- Commands: the tokens that follow the `%` of each. The text of a vector, an edge or a query is a list of tokens. The text of a
+-- word is a list of bytes.
 use Rattle.std.specs.Prelude.{◌≡◌, ℕ, ◌≤◌, List, [], ◌∷◌, ◌++◌, length, map, Bool, true, false, Option, Some, None, codes}
 use Rattle.std.specs.List.{flat_map, list_all}
 use Rattle.dd_commands.specs.Tree.{Word, Mark, Lexeme, Name, Lists, Entry, Vector, Edge, Case, Request, Command}
@@ -22,7 +23,7 @@ is_plain_entry (Entry.Negative n) = false
 abbrev pub is_plain : Vector → Bool
 is_plain v = list_all is_plain_entry v.entries
 
--- the text of the shear of a configuration, which is a second vector after the periods; empty if there is no shear
+-- The text of a configuration's shear, the second vector after its name. The text is empty if there is no shear.
 abbrev pub second_vector_text : Option Vector → List Lexeme
 second_vector_text None = []
 second_vector_text (Some v) = vector_text v
@@ -40,7 +41,7 @@ edge_text e = Lexeme.Mark Mark.Open ∷ Lexeme.Word e.label ∷ name_lexeme e.fr
 abbrev pub BeginsWith : List ℕ → List ℕ → List Lexeme → List Lexeme → Type 0
 BeginsWith bytes wanted tokens rest = (w : Word) × (word_text bytes w ≡ wanted) × (tokens ≡ Lexeme.Word w ∷ rest)
 
--- the tokens are a case, which is "when" formula "give" name, followed by the rest
+-- The tokens are a case, followed by the rest. A case is the word "when", a formula, the word "give" and a name.
 pub record IsCase (bytes : List ℕ) (c : Case) (tokens rest : List Lexeme) : Type 0 where
   pub middle : List Lexeme
   pub when : BeginsWith bytes (codes "when") tokens (text c.condition ++ middle)
@@ -59,7 +60,7 @@ pub record AreCases (bytes : List ℕ) (cases : List Case) (default : Name) (tok
 abbrev pub IsOnePlain : List Vector → Type 0
 IsOnePlain vs = (v : Vector) × (vs ≡ v ∷ []) × (is_plain v ≡ true)
 
--- these are vectors that a query may have at its end
+-- a query may end with these vectors, if its kind's row has this entry for them
 abbrev pub AreLists : Lists → List Vector → Type 0
 AreLists Lists.None vs = vs ≡ []
 AreLists Lists.Strip vs = IsOnePlain vs

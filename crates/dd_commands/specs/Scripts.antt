@@ -60,14 +60,16 @@ pub record MayStand (bytes : List ℕ) (from : ℕ) (part : List Lexeme) (w : Wr
   pub is : IsCommand bytes w.command part
   pub ordered : from ≤ stage_of w
 
--- The parts are these commands. Each command has a stage that may follow the command before it. The stage of the first is at least `from`.
+-- The parts are these commands. The stage of the first command is at least `from`. The stage of each other command is at least
+-- `stage_after` of the command before it.
 abbrev pub AreCommands : List ℕ → ℕ → List (List Lexeme) → List Written → Type 0
 AreCommands bytes from [] [] = Unit {0}
 AreCommands bytes from [] (w ∷ ws) = ⊥
 AreCommands bytes from (p ∷ ps) [] = ⊥
 AreCommands bytes from (p ∷ ps) (w ∷ ws) = MayStand bytes from p w × AreCommands bytes (stage_after w) ps ws
 
--- This is the index, from 0, of the first bad part. A part is bad if it is not a command, or if its stage is below the lowest that may come there.
+-- This is the index, from 0, of the first bad part. A part is bad if it is not a command, if it has a stray token, or if its
+-- command has a stage below the lowest that may come there.
 abbrev pub IsFirstBad : List ℕ → ℕ → List (List Lexeme) → ℕ → Type 0
 IsFirstBad bytes from [] place = ⊥
 IsFirstBad bytes from (p ∷ ps) zero = (w : Written) → MayStand bytes from p w → ⊥
@@ -86,7 +88,7 @@ IsBadCommand bytes tokens (suc place) = ((parts tokens).0 ≡ []) × IsFirstBad 
 abbrev pub IsScript : List ℕ → Syntax → Type 0
 IsScript bytes s = (s.text ≡ bytes) × AreWritten bytes (lexemes_of bytes) s.commands
 
--- this is the number of the first command that is not well formed
+-- this is the number of the first command that is not well formed, or 0 if some token stands before the first `%`
 abbrev pub IsSyntaxFault : List ℕ → ℕ → Type 0
 IsSyntaxFault bytes n = IsBadCommand bytes (lexemes_of bytes) n
 
@@ -96,6 +98,6 @@ IsReading bytes (Ok s) = IsScript bytes s
 IsReading bytes (Err (SyntaxFault.At n)) = IsSyntaxFault bytes n
 IsReading bytes (Err SyntaxFault.Memory) = Unit {0}
 
--- in a script with these bytes, the tokens that are stored with the command are the tokens of that command
+-- the tokens stored with the command spell it; the bytes are those of the script
 pub record IsWritten (bytes : List ℕ) (w : Written) : Type 0 where
   pub is : IsCommand bytes w.command w.tokens

@@ -1,5 +1,5 @@
-//! Laws of syntax trees and syntax faults, as contracts of calls that do nothing. The syntax fault of some bytes is the number of
-//! the first command that is not well formed.
+//! Laws of syntax trees and syntax faults, as contracts of calls that do nothing. A syntax fault is the number of the first
+//! command that is not well formed, or 0 if some token stands before the first `%`.
 #![tactic(auto, using(crate::proofs::OneTree::one_tree, crate::proofs::OneTree::one_fault, crate::proofs::OneTree::tree_or_fault))]
 
 ghost use Rattle.std.specs.Prelude.{◌≡◌, ℕ, List};

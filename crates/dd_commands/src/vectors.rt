@@ -51,7 +51,7 @@ impl FromTokens for Entry {
     }
 }
 
-/// The tokens after the first token, which must be the wanted mark.
+/// Reads one token, which must be the wanted mark. Returns the tokens after it.
 #[tactic(auto, unfolding(crate::specs::reading::Vectors::same_mark))]
 fn past<'a>(wanted: Mark, tokens: &'a [Lexeme]) -> Result<&'a [Lexeme], ReadFault>
     ensures { Gives (λ x. (tt, x.now)) result (mark_at wanted tokens.now) }

@@ -72,7 +72,7 @@ all_counts es = total (map gate_count es)
 abbrev pub Wires : Type 0
 Wires = Cell → ℕ → Option Signal
 
--- the wires of cells relative to the position v; a cell that is out of range there has none
+-- the wires of cells relative to the position v; a cell that is out of range when it is moved by v has none
 abbrev pub wires_near : Wiring → Place → Wires
 wires_near w v c s = if is_in_range (moved c.position v) then wire_of w (shifted v c) s else None
 

@@ -19,8 +19,9 @@ pub record IsMadeValue (n k : ℕ) (f : Automaton) (w : Wiring) (at : Cell) (m :
   pub says : (set : ℕ → Bool) (look : Look) → agrees set n m.gates ≡ true → HasSymbolsBelow k look → TellsCells set w ((counted f).reads at.node) at look →
       SaysWhich set m.signals (value f look at)
 
--- At each cell so near the origin that an automaton of this depth reads only cells in range: if each cell that the automaton reads there has its
--- signals, the gates of its value are as `IsMadeValue` says.
+-- Take a cell so near the origin that the automaton and its parts read only cells in range; the automaton's depth says how near
+-- that is. If each cell that the automaton reads there has its signals, the gates of the automaton's value are as `IsMadeValue`
+-- says.
 abbrev pub SaysNear : Automaton → Type 0
 SaysNear f =
     (s : CommonNumbers) → IsAutomaton s f → (w : Wiring) (at : Cell) (n : ℕ) → at.node < s.nodes → extent at.position + 16 * (counted f).depth + 16 ≤ most_coordinate →

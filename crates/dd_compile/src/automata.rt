@@ -54,15 +54,15 @@ pub fn compile_value(
     compile_near(circuit, alloc, automaton, symbols, at, inputs)
 }
 
-/// Does nothing. Its contract is a law: the automaton's value has no more gates than the number of clauses that `value_clauses`
-/// gives.
+/// Does nothing. Its contract is a law: at each cell, the automaton's value has at most as many gates as `value_clauses` counts
+/// clauses for the cell's node.
 pub fn value_gates(_automaton: &Automaton, _symbols: u32)
     ensures { (w : Wiring) (at : Cell) (n : ℕ) →
         length (value_made _symbols _automaton.now w at n).gates ≤ value_clauses _symbols _automaton.now at.node }
 {}
 
-/// The same as `compile_value`, for any cell so near the origin that an automaton of this depth (how deep its compositions are
-/// nested) reads only cells in the range of positions.
+/// The same as `compile_value`, for any cell so near the origin that the automaton and its parts read only cells in range. The
+/// automaton's depth (how deep its compositions are nested) says how near that is.
 #[cycle(compile_near)]
 fn compile_near(
     circuit: &mut Circuit,

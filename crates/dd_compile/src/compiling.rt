@@ -63,8 +63,8 @@ fn are_wired(circuit: &Circuit, parts: &[Expanded], at: &Position, inputs: &Inpu
     true
 }
 
-/// Adds the gates of the expansion at the position `at`, and returns its signal. If memory runs out, gates may have been
-/// added.
+/// Adds the gates of the expansion at the position `at`, and returns the expansion's signal. If memory runs out, gates may have
+/// been added.
 #[cycle(compile)]
 pub fn compile_expanded(
     circuit: &mut Circuit,

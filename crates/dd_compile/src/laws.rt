@@ -15,8 +15,8 @@ fn rules_are_kept(cases: &Cases)
     }
 }
 
-/// Does nothing. Its contract is the law for any cell so near the origin that an automaton of this depth (how deep its
-/// compositions are nested) reads only cells in the range of positions.
+/// Does nothing. Its contract is the law for any cell so near the origin that the automaton and its parts read only cells in
+/// range. The automaton's depth (how deep its compositions are nested) says how near that is.
 fn says_near(automaton: &Automaton)
     ensures { SaysNear automaton.now }
 {
@@ -31,7 +31,7 @@ fn says_near(automaton: &Automaton)
 }
 
 /// Does nothing. Its contract is the law: however many variables come before the gates of the automaton's value, each gate is
-/// over earlier variables, and the signals of the value say which symbol it is.
+/// over earlier variables, and the signals of the value say which symbol the value is.
 pub fn says_its_value(automaton: &Automaton)
     ensures { SaysItsValue automaton.now }
 {

@@ -62,7 +62,7 @@ pub fn reads_are_wired(circuit: &Circuit, rule: &Rule, at: &Cell, inputs: &Input
     are_cells_wired(circuit, rule.symbols(), reads, &at.position, inputs)
 }
 
-/// Adds the gates of the rule's expansion at the cell `at`, and returns its signal, which says whether the rule is true
+/// Adds the gates of the rule's expansion at the cell `at`. Returns the rule's signal, which says whether the rule is true
 /// there. If memory runs out, gates may have been added.
 pub fn compile_rule(
     circuit: &mut Circuit,

@@ -131,8 +131,9 @@ fn signals_there(
     Ok(signals)
 }
 
-/// The signal that replaces `signal`, a signal of a template. Each input of the template is replaced by one of `inputs`. The
-/// variables of the template's gates are replaced, in order, by the variables that follow the first `before`.
+/// The signal that replaces `signal`, a signal of a template. The template's inputs are replaced, in order, by the signals
+/// `inputs`. The variables of the template's gates are replaced, in order, by the variables that follow the first `before`
+/// variables.
 fn placed(signal: Signal, inputs: &[Signal], before: u32) -> Signal
     requires signal { IsSignal most_variables signal }
     requires before { before ≤ most_variables }

@@ -11,13 +11,13 @@ pub struct Enough {
     pub steps: Items<Step>,
 }
 
-/// The answer to a box question: whether the goal holds nowhere in any configuration that obeys the premise.
+/// The answer to a box question: whether no configuration that obeys the premise has the goal at any position.
 #[derive(Debug, Drop)]
 pub enum Decision {
-    /// It holds nowhere. `radius` is the least radius that suffices, and `steps` refute the clauses of its box.
+    /// No such configuration has the goal. `radius` is the least radius that suffices, and `steps` refute the clauses of its box.
     Yes { radius: u32, steps: Items<Step> },
-    /// It holds at the origin of `periodic`, whose periods and shear come first among those of all such configurations within
-    /// the limits.
+    /// The configuration `periodic` obeys the premise and has the goal at the origin. Its periods and shear come first among
+    /// those of all such configurations within the limits, in the order that `decide` states.
     No { periodic: Periodic },
     /// The search found neither such a radius nor such a configuration within the limits.
     Unknown,

@@ -1,6 +1,6 @@
 //! Decides box questions, and whether two rules allow the same configurations. A box question has a rule, the premise, and a
-//! goal: a property of a position, such as that a given rule is broken there. It asks whether the goal holds nowhere in any
-//! configuration that obeys the premise.
+//! goal: a property of a position, such as that a given rule is broken there. It asks whether no configuration that obeys the
+//! premise has the goal at any position.
 //!
 //! The search goes through boxes of growing radius, until one has no admissible filling with the goal at the origin: its radius
 //! suffices. (A filling is admissible if the premise is true at each of its cells where all that the premise reads has a symbol.)

@@ -136,8 +136,8 @@ impl<'a> Questions for BoxQuestion<'a> {
     }
 }
 
-/// Decides a box question. The radius of a box is at most the limit, or at most the least radius whose box holds all that the
-/// goal reads at the origin, if that is greater. Periods are at most their limit. The answer is:
+/// Decides a box question. The first box that is tried is the smallest one that holds all that the goal reads at the origin. The
+/// radius of further boxes is at most the limit. Periods are at most their limit. The answer is:
 /// - YES, with the least radius that suffices;
 /// - otherwise NO, with a configuration that obeys the premise and has the goal at the origin. Its periods and shear come first
 ///   among those of all such configurations, ordered by volume and then lexicographically;

@@ -24,8 +24,9 @@ joined (m ∷ ms) n =
     let rest = joined ms (n + length (m n).gates) in
     making ((m n).signals ++ rest.signals) ((m n).gates ++ rest.gates)
 
--- The member for a symbol of a cell. Its signal says that the cell has the symbol, and that the cells up to and including it then weigh more than t.
--- There are three cases: the symbol weighs enough by itself, it may do so together with the cells before, or it can't, and there is no signal.
+-- The member for a symbol of a cell. Its signal says that the cell has the symbol, and that the cells up to and including this
+-- one weigh more than t. There are three cases. The symbol weighs enough by itself. Or the signal r says that it weighs enough
+-- together with the cells before. Or there is no such signal r, and then the member has no signal either.
 abbrev pub member_by : Signal → Bool → Option Signal → Making
 member_by input true earlier n = making (input ∷ []) []
 member_by input false (Some r) n = making (signal_of (suc n) ∷ []) (And (input ∷ r ∷ []) ∷ [])

@@ -26,5 +26,5 @@ pub record SaysWeights (x : LocalRule) (p : Periods) (ws : List ℕ) : Type 0 wh
   -- if the bound is at least 1, the last clause says that the last signal of the last row is false
   pub last : (below : ℕ) → 0 < below → let signals = last_row x p ws below in
       last_refused below signals ≡ (opposing (get_or signals (below - 1) (signal_of 0)) ∷ []) ∷ []
-  -- the counter has no more clauses than `weight_count` says
+  -- the counter and the last clause add no more clauses to those of the torus than `weight_count` counts for them
   pub few : (below : ℕ) → length (weight_problem x p ws below).clauses ≤ length (torus_problem x always p).clauses + periods_volume p * x.nodes * (below * suc (4 * length ws)) + 1

@@ -2,7 +2,8 @@
 pub mod Counter
 -- the clauses that ask for a configuration whose weight is below a bound, and when clauses do so
 pub mod Weights
--- the least weight of the configurations that live in a rule's subshift (obey the rule at every cell), and when none lives
+-- the least weight of the configurations of given periods that live in a rule's subshift (obey the rule at every cell), and
+-- when there is no such configuration
 pub mod Least
 -- what a refutation says about the weights of all configurations
 pub mod Laws

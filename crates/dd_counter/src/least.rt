@@ -42,7 +42,7 @@ pub enum LeastWeight {
         periodic: Periodic,
         steps: Items<Step>,
     },
-    /// No configuration lives in the subshift. The steps refute the clauses that ask for one.
+    /// No configuration of these periods lives in the subshift. The steps refute the clauses that ask for one.
     Nothing {
         steps: Items<Step>,
     },
@@ -55,8 +55,8 @@ enum Lighter {
     Nothing(Items<Step>),
 }
 
-/// Finds an assignment that satisfies the clauses, or steps that refute them. Without a bound on the weight, the list is usually
-/// easy to satisfy, and eliminating variables would take longer than the search.
+/// Finds an assignment that satisfies the clauses, or steps that refute them. If `below` is 0, no variables are eliminated first:
+/// without a bound on the weight, the clauses are usually easy to satisfy, and the elimination would take longer than the search.
 fn solved(alloc: Global, cnf: &Cnf, below: u64) -> Result<Outcome, AllocError>
     ensures answer { IfOk result (IsAnswer cnf.now.variables cnf.now.clauses) }
     ensures refuted { IfOk result (λ outcome. IsRefuted outcome ↔ ¬ (IsSatisfiable cnf.now.clauses)) }
@@ -99,7 +99,8 @@ fn search_below(
     }
 }
 
-/// A living configuration that a local search finds from the given one. It is usually lighter.
+/// A living configuration: the one that a local search finds from `start`, usually a lighter one. If the rule takes more than
+/// `MOST_LOCAL_CLAUSES` clauses on the torus, it is `start` itself.
 fn lightened(
     alloc: Global,
     rule: &Rule,
@@ -122,9 +123,9 @@ fn lightened(
 }
 
 /// The descent: goes from the living configuration `start` to one that weighs at most `NEAR` more than the least weight. After a
-/// local search, each search asks for a configuration that is lighter than the last one by more than `step`. If all weights that
-/// small are refuted, it asks for one that weighs `refuted`, the least weight that is not refuted. A success doubles the step, and
-/// a refutation sets it back to `NEAR`.
+/// local search, each search asks for a configuration that is lighter than the last one found by more than `step`. No living
+/// configuration weighs less than `refuted`. If each weight that small is less than `refuted`, the search asks for a
+/// configuration of the weight `refuted` instead. A success doubles the step, and a refutation sets it back to `NEAR`.
 fn descended(
     alloc: Global,
     rule: &Rule,
@@ -162,8 +163,8 @@ fn descended(
     Ok(best)
 }
 
-/// The least weight of a configuration with these periods and shear 0 that lives in the rule's subshift, or that there is no such
-/// configuration. The weight is that of one fundamental box, and the symbol `s` weighs `weights[s]`.
+/// The least weight of a configuration with these periods and shear 0 that lives in the rule's subshift, or `Nothing` if there is
+/// no such configuration. The weight is that of one fundamental box, and the symbol `s` weighs `weights[s]`.
 pub fn least_weight(
     alloc: Global,
     rule: &Rule,

@@ -1,19 +1,20 @@
 //! A local search for lighter configurations of a torus. It changes one cell at a time. While the configuration is too heavy, a
-//! cell gets a lighter symbol, such that the rule becomes false at as few cells as possible. Once it is light enough, a cell that
-//! the rule reads where it is false gets another symbol. The longer the rule stays false at a cell, the more that cell counts
-//! (Morris 1993), as in NuMVC (Cai, Su, Luo and Sattar 2013).
+//! cell gets a lighter symbol, such that the rule becomes false at as few cells as possible. Once the configuration is light
+//! enough, the search looks at a cell where the rule is false. One of the cells that the rule reads there gets another symbol.
+//! The longer the rule stays false at a cell, the more that cell counts (Morris 1993), as in NuMVC (Cai, Su, Luo and Sattar
+//! 2013).
 //!
-//! No contract depends on this search: what it finds is tested. No invariant says that the indices kept here are within their
-//! lists. So the code tests them. The tests never fail.
+//! No contract depends on this search: its result is checked afterwards. No invariant says that the indices kept here are within
+//! their lists. So the code tests each index. These tests never fail.
 use crate::torus_rule::TorusRule;
 use dd_formula::Rule;
 use std::alloc::{AllocError, Global};
 
-/// How much the evaluations of the rule may cost until a lighter configuration is found. Otherwise the search ends. This takes
-/// some milliseconds.
+/// How much the search may cost until it finds a lighter configuration. Once it has cost this much without finding one, it ends.
+/// This much work takes some milliseconds.
 const PATIENCE: u64 = 100_000;
 
-/// How much all evaluations may cost. This takes about a second.
+/// How much the whole search may cost. This much work takes about a second.
 const MOST_COST: u64 = 50_000_000;
 
 /// A change of one cell's symbol. The smaller of two changes is the better one.
@@ -40,7 +41,7 @@ pub(crate) struct LocalSearch<'a> {
     weight: u64,
     /// The cells where the rule is false, in no order.
     falses: Vec<usize>,
-    /// For each cell, its place among these, or a greater number if the rule is true there.
+    /// For each cell, its index in `falses`, or `usize::MAX` if the rule is true there.
     places: Vec<usize>,
     /// For each cell, the penalty for the rule being false there.
     penalties: Vec<i64>,
@@ -49,9 +50,9 @@ pub(crate) struct LocalSearch<'a> {
     step: u64,
     /// How many steps in a row changed nothing.
     idle: u32,
-    /// How much the evaluations may still cost until a lighter configuration is found.
+    /// How much the search may still cost until it finds a lighter configuration.
     patience: u64,
-    /// How much all evaluations may still cost.
+    /// How much the whole search may still cost.
     budget: u64,
 }
 
@@ -106,7 +107,8 @@ impl<'a> LocalSearch<'a> {
         Ok(best)
     }
 
-    /// Makes the best change towards a weight below `least`. Returns false if no cell has one, not even after a step of rest.
+    /// Makes the best change towards a weight below `least`, if there is one. Returns false if the rule is true at each cell, and
+    /// neither this step nor the one before it changed anything.
     fn make_step(&mut self, least: u64) -> Result<bool, AllocError> {
         self.step = self.step.saturating_add(1);
         let change = if self.weight >= least {

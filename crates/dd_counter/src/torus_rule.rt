@@ -8,7 +8,7 @@ use dd_numbered::{Numbered, Numbers};
 use dd_pattern::{Periodic, Reads};
 use std::alloc::{AllocError, Global};
 
-/// Numbers cells that are given relative to the position `at`. The symbol that `numbers` has at a cell is its number.
+/// Numbers cells that are given relative to the position `at`. The number of such a cell is the symbol that `numbers` has there.
 #[derive(Drop)]
 struct Around<'a, R> {
     numbers: &'a R,
@@ -38,11 +38,11 @@ fn number_at<R: Reads>(numbers: &R, cell: &Cell) -> Option<usize>
 /// The rule at one cell.
 #[derive(Drop)]
 struct CellRule {
-    /// Says of the symbols of all cells whether the rule is true here.
+    /// Says whether the rule is true here, given the symbols of all cells.
     formula: Numbered,
     /// The node of the cell.
     node: u32,
-    /// How long it takes to evaluate the formula, about.
+    /// About how much it costs to evaluate the formula.
     cost: u64,
     /// The cells that the rule reads here.
     reads: Vec<usize>,
@@ -62,8 +62,8 @@ fn cost_of(clauses: u64) -> u64 {
 }
 
 impl TorusRule {
-    /// The rule at the cells of this configuration's fundamental box. `None` if it takes more than `most` clauses at these cells
-    /// together.
+    /// The rule at the cells of this configuration's fundamental box. `None` if the rule takes more than `most` clauses at these
+    /// cells together.
     pub(crate) fn new(
         alloc: Global,
         rule: &Rule,
@@ -124,7 +124,7 @@ impl TorusRule {
         Ok(())
     }
 
-    /// Notes for each cell where it is read.
+    /// Notes for each cell at which cells the rule reads it.
     fn note_readers(&mut self) -> Result<(), AllocError> {
         for reader in 0..self.cells.len() {
             for place in 0..self.cells[reader].reads.len() {

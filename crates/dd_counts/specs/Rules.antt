@@ -13,7 +13,7 @@ most_patterns = 65536
 abbrev pub most_states : ℕ
 most_states = 4096
 
--- the greatest number of windows that a transfer graph may have; a window is like a state, but has one more slice
+-- the greatest number of windows that there may be over a strip; a window is like a state, but has one more slice
 abbrev pub most_longer_states : ℕ
 most_longer_states = 131072
 

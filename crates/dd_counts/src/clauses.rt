@@ -1,5 +1,6 @@
-//! How many clauses encode a box question. A box question asks whether no configuration that obeys a rule, the premise, has a
-//! given property, the goal, at any position. Rules are encoded as logic gates first, and these as clauses.
+//! How many clauses encode a box question. A box question has a rule, which is its premise, and a goal, which is a property of
+//! positions. It asks whether no configuration that obeys the premise has the goal at any position. Rules are first encoded as
+//! logic gates, and these gates as clauses.
 ghost use Rattle.std.specs.Prelude.{◌≡◌, ◌≤◌, ◌^◌, ◌<◌, ℕ, length};
 ghost use Rattle.dd_formula.specs.Counts.{cut, rule_clauses, disallowed, disallowed_pairs, place_clauses, broken_clauses, largest_clauses};
 
@@ -69,8 +70,8 @@ pub fn broken_clauses(rule: &Rule, limit: u32) -> u32
 }
 
 /// The number of clauses of a box question, or `limit + 1` if it is greater than `limit`. The question's region is the box of
-/// this radius, or the torus with this period along each axis if that has more positions. `goal` is the number of clauses of the
-/// goal. If that number is greater than `limit`, `goal` may be `limit + 1` instead.
+/// this radius, or the torus with this period along each axis if that has more positions. `goal` must be the number of clauses of
+/// the goal, or `limit + 1` if that number is greater than `limit`.
 pub fn question_clauses(premise: &Rule, goal: u32, radius: u32, period: u32, limit: u32) -> u32
     requires radius { radius < 2 ^ 31 }
     requires limit { limit < 2 ^ 31 }

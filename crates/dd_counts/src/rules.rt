@@ -15,7 +15,7 @@ pub const MOST_PATTERNS: u32 = 65_536;
 /// The greatest number of states that a transfer graph may have.
 pub const MOST_STATES: u32 = 4_096;
 
-/// The greatest number of windows that a transfer graph may have. A window is like a state, but has one more slice.
+/// The greatest number of windows that there may be over a strip. A window is like a state, but has one more slice.
 pub const MOST_LONGER_STATES: u32 = 131_072;
 
 /// The number of patterns of the rule at a node, or `limit + 1` if it is greater than `limit`. A pattern is a filling of the

@@ -9,7 +9,8 @@ pub enum Density {
     Least {
         numerator: u64,
         denominator: u64,
-        /// The states of a closed walk of this density. Each has an edge to the next, and the last has an edge to the first.
+        /// The states of a closed walk of this density, which is the walk's mean divided by the number of positions in a
+        /// slice. Each state has an edge to the next, and the last has an edge to the first.
         walk: Items<u64>,
         /// A potential for each state of the transfer graph. The potentials show that no closed walk has a smaller density.
         potentials: Items<i64>,

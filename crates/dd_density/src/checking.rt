@@ -8,9 +8,9 @@ use crate::strips::{graph_of, no_weights};
 use dd_formula::Rule;
 use std::alloc::{AllocError, Global};
 
-/// Whether a walk and potentials certify that `numerator / denominator`, in lowest terms, is the least density of the
-/// strip with the periods `strip` along y and z. The walk is a list of states of the transfer graph. Each state of the graph
-/// has a potential. The symbol `s` has the weight `weights[s]`.
+/// Whether a walk and potentials certify that `numerator / denominator`, in lowest terms, is the least density of the strip
+/// with the periods `strip` along y and z. The walk is a list of states of the transfer graph. There has to be one potential
+/// for each state of the graph. The symbol `s` has the weight `weights[s]`.
 pub fn check_density(
     alloc: Global,
     rule: &Rule,

@@ -1,6 +1,7 @@
-//! Whether a closed walk, potentials or ranks are right for a transfer graph. Potentials belong to a mean, which is the mean
-//! of the closed walk. Along an edge of weight `w`, the potential may rise by at most
-//! `mean.denominator * w - mean.numerator`. Here this is called the edge's bound.
+//! Whether a closed walk, potentials or ranks are right for a transfer graph. An edge by a slice leads from a state to the
+//! state without its first slice and with this slice appended. Potentials are right for a mean, that of the closed walk:
+//! along each edge, the potential rises by at most the edge's bound. The bound of an edge of weight `w` is
+//! `mean.denominator * w - mean.numerator`. Ranks are right if the rank falls along each edge.
 ghost use Rattle.std.specs.Prelude.{◌≡◌, ℕ, ◌*◌, ◌%◌, ◌<◌, ◌≤◌, ◌^◌, ◌↔◌, IsTrue, MatchOption, Some, length, pos, ◌-ℤ◌, ◌≤ℤ◌};
 ghost use Rattle.dd_transfer.specs.Graphs.{next_of, weight_at, IsTransfer};
 ghost use Rattle.dd_meancycle.specs.Means.{IsCycle, ArePotentials, weight_of};
@@ -10,7 +11,7 @@ ghost use Rattle.dd_density.specs.graphs.Shown.{IsShown, AreFallen, IsRiseAlong,
 use crate::lowest::{Ratio, in_lowest_terms};
 use dd_transfer::Graph;
 
-/// Whether an edge leads from `from` to `to`. It can only be the edge by the last slice of `to`.
+/// Whether an edge leads from `from` to `to`. Only the edge by the last slice of `to` can do so.
 fn leads(graph: &Graph, from: u64, to: u64) -> bool
     ensures value { IsTrue result ↔ (next_of graph.now from (to % graph.now.slices) ≡ Some to) }
     ensures kept { IsTransfer graph.now }
@@ -128,8 +129,8 @@ fn are_potentials(graph: &Graph, potentials: &[i64], mean: Ratio) -> bool
     true
 }
 
-/// Whether the walk is closed, its density in lowest terms is `numerator / denominator`, and the potentials are right for
-/// its mean. A slice has `volume` positions.
+/// Whether the walk is closed, its density in lowest terms is `numerator / denominator`, and the potentials are right for its
+/// mean. The density is the mean divided by `volume`, the number of positions in a slice.
 pub(crate) fn is_shown(
     graph: &Graph,
     volume: u32,

@@ -13,9 +13,10 @@ use dd_meancycle::{Mean, least_mean};
 use dd_values::Items;
 use std::alloc::{AllocError, Global};
 
-/// The least density of the configurations that live on the strip with the periods `strip` along y and z. Along x they may
-/// have any period. The answer is `Empty` if there are none. The symbol `s` has the weight `weights[s]`. Each number of the
-/// answer is at most 2^40 in absolute value. The walk has at most as many states as the transfer graph.
+/// The least density of the configurations that live on the strip with the periods `strip` along y and z. Along x the
+/// configurations may have any period. The answer is `Empty` if no configuration lives on the strip. The symbol `s` has the
+/// weight `weights[s]`. Each number of the answer is at most 2^40 in absolute value. The walk has at most as many states as
+/// the transfer graph.
 pub fn least_density(
     alloc: Global,
     rule: &Rule,
@@ -46,7 +47,7 @@ fn widened(alloc: Global, numbers: &[u32]) -> Result<Items<u64>, AllocError>
 }
 
 /// The density for a least mean: the mean divided by `volume`, the number of positions in a slice. `Empty` if there is no
-/// cycle.
+/// closed walk.
 fn density_of(alloc: Global, mean: Mean, volume: u32) -> Result<Density, AllocError>
     requires { IsMeanOver volume mean }
     ensures { IfOk result (IsOfMean volume mean) }

@@ -43,7 +43,7 @@ impl<'a> Known<'a> {
         }
     }
 
-    /// The clause with this number, if it is alive.
+    /// The clause with this number. `None` if there is no such clause, or if it is not alive.
     pub fn find_clause(&self, number: u64) -> Option<&'a [Literal]>
         ensures { option_copied result ≡ spec.clause_of self.now number }
     {
@@ -64,9 +64,9 @@ impl<'a> Known<'a> {
     }
 }
 
-/// Deletes the clauses with these numbers, one after the other, and returns true. But at the first number that is not from 1 to
-/// `count`, or whose clause is already deleted, it stops and returns false. `count` is the number of clauses of the list and of
-/// earlier steps together.
+/// Deletes the clauses with these numbers, one after the other, and returns true. A number is wrong if it is not from 1 to
+/// `count`, or if the clause with this number is already deleted. At the first wrong number the call stops and returns false.
+/// `count` is the number of clauses of the list and of earlier steps together.
 pub fn delete_all(alive: &mut [bool], count: usize, numbers: &[u64]) -> bool
     requires { count ≤ length alive.old }
     ensures value { (cs : List (List Literal)) → length cs ≡ count →

@@ -1,7 +1,7 @@
 //! Unit propagation along the hints of a step. The literals of the step's clause are assumed to be false. Then each hinted clause
 //! makes one more literal true, until a hinted clause has only false literals. The mark of a variable says which of its literals
 //! is false. It also holds the number of the step that made it, so marks need not be cleared between steps. For this, steps are
-//! numbered from 1 in the order in which they are checked. This is not the number of the step's clause.
+//! numbered from 1 in the order in which they are checked. A step has another number as a clause, by which hints refer to it.
 ghost use Rattle.std.specs.Prelude.{◌≡◌, ◌<◌, [], Bool, length, take, true, slice_index_or};
 ghost use Rattle.dd_clause.specs.declared.clause.Literal.{Literal};
 ghost use Rattle.dd_derivation.specs.Derivations as spec;
@@ -32,8 +32,8 @@ pub struct VariableMark {
     pub positive: bool,
 }
 
-/// Marks a literal as false in this step. Does nothing if the literal's variable is not from 1 to `marks.len()`: such a variable
-/// has no mark.
+/// Marks a literal as false in this step. Does nothing if the literal's variable is out of range, that is, not from 1 to
+/// `marks.len()`. `marks` has no mark for such a variable.
 fn mark(marks: &mut [VariableMark], step: u64, literal: Literal)
     ensures { marks.new ≡ marks_of.with_mark marks.old step literal }
 {
@@ -93,9 +93,9 @@ struct After<'a> {
 impl<'a> FalseLiterals for After<'a> {
     ghost is_false = { λ a. marks_of.is_false a.marks.now a.step (literals_of a.known.now a.hints.now) };
 
-    /// A variable has no mark only if it is out of range. Such a variable occurs only in the clauses of earlier steps that are
-    /// wrong, which `check_step` allows. The first hinted clause that contains the variable forced its own literal of it. So the
-    /// negation of that literal is false.
+    /// A variable out of range has no mark. Such a variable occurs only in the clauses of wrong steps, and `check_step` allows
+    /// earlier steps to be wrong. The first hinted clause that contains the variable forced the literal in which the variable
+    /// occurs there. So the negation of this literal is false.
     fn is_false(&self, literal: Literal) -> bool {
         let variable = literal.variable as usize;
         if variable >= 1 && variable <= self.marks.len() {
@@ -184,8 +184,8 @@ pub fn follow_hints(known: &Known, marks: &mut [VariableMark], number: u64, step
     false
 }
 
-/// Marks the literals of a step's clause as false, and returns true. But at a variable that has no mark, or that occurs a second
-/// time, it stops and returns false.
+/// Marks the literals of a step's clause as false, and returns true. At a variable that is out of range, or that occurs a second
+/// time, the call stops and returns false.
 pub fn start_marks(marks: &mut [VariableMark], step: u64, clause: &[Literal]) -> bool
     requires { AreBelow step marks.old }
     ensures value { result ≡ spec.is_proper (length marks.old) clause.now }

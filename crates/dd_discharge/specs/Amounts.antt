@@ -1,6 +1,6 @@
--- What certifies a bound, in whole numbers over a common denominator. Column 0 of a program is a number that each position
--- holds at least, and each other column is an amount that positions give. The duals, which are factors of the rows, show that
--- no other amounts let each position hold more.
+-- What certifies a bound, in whole numbers over a common denominator. Column 0 of a program stands for a number such that each
+-- position holds at least this number. Each other column stands for an amount that positions give. The duals are factors of the
+-- rows; they show that no other amounts let each position hold more.
 use Rattle.std.specs.Prelude.{ℕ, zero, suc, ◌+◌, ◌*◌, ◌/◌, ◌%◌, ◌<◌, ◌≤◌, ◌≡◌, ℤ, pos, ◌+ℤ◌, ◌*ℤ◌, ◌≤ℤ◌, List, [], length, slice_index, slice_index_or}
 use Rattle.dd_fraction.specs.Exact.{IsLowest}
 use Rattle.dd_rows.specs.declared.rows.Row.{Row}
@@ -38,8 +38,8 @@ column_sum rows duals j = total_below (λ k. pos (slice_index duals k) *ℤ coef
 abbrev pub dual_worth : List Row → List ℕ → ℤ
 dual_worth rows duals = total_below (λ k. pos (slice_index duals k * (row_in rows k).bound)) (length rows)
 
--- There is a dual for each row. The sum of dual times coefficient is at least 1, over the common denominator, in column 0, and
--- at least 0 in each other column.
+-- There is a dual for each row. In each column, take the sum, over the rows, of dual times coefficient. In column 0 it is at
+-- least 1, as a numerator at least `common`. In each other column it is at least 0.
 pub record AreDualsOver (rows : List Row) (columns common : ℕ) (duals : List ℕ) : Type 0 where
   pub size : length duals ≡ length rows
   pub first : pos common ≤ℤ column_sum rows duals 0

@@ -42,7 +42,7 @@ GivesNone p pivots fault.Overflow = RunOverflows p pivots ⊎ EndsUnprinted p pi
 GivesNone p pivots fault.Pivots = RunPivots p pivots
 GivesNone p pivots fault.Memory = Unit {0}
 
--- the linear program of p, a rule's program along this number of vectors
+-- the linear program of p; p is the program of a rule along this many vectors
 abbrev pub linear_program : ℕ → Rows → LinearProgram
 linear_program vectors p = in_fractions (column_count vectors (length p.patterns)) p.rows
 

@@ -1,6 +1,6 @@
 //! The check of a claimed bound. It compares sums of whole numbers, which are numerators over the common denominator.
-//! Coefficients are from -1 to 1, and there are at most 2,048 rows and 256 columns, so no sum exceeds 2^92. `held` is what
-//! each position holds at least: the numerator of the bound over the common denominator.
+//! Coefficients are from -1 to 1, and there are at most 2,048 rows and 256 columns, so no sum exceeds 2^92. `held` is the
+//! bound, as a numerator over the common denominator.
 ghost use Rattle.std.specs.Prelude.{◌≡◌, ℕ, ◌+◌, ◌*◌, ◌<◌, ◌≤◌, ◌^◌, pos, ◌-ℤ◌, ◌*ℤ◌, ◌≤ℤ◌, length, slice_index_or, unsigned_abs, true, false};
 ghost use Rattle.std.specs.List.{All};
 ghost use Rattle.dd_values.specs.Bounds.{most_number};
@@ -97,8 +97,8 @@ fn meets_rows(rows: &[Row], columns: usize, common: u64, held: u128, amounts: &[
     true
 }
 
-/// Whether the sum of dual times coefficient is at least 1, over the common denominator, in column 0, and at least 0 in each
-/// other column.
+/// Whether the duals combine the coefficients as they should. In each column, take the sum, over the rows, of dual times
+/// coefficient. In column 0 it must be at least 1, as a numerator at least `common`. In each other column it must be at least 0.
 fn are_duals(rows: &[Row], columns: usize, common: u64, duals: &[u64]) -> bool
     requires rows { AreRowsOf columns rows.now }
     requires size { length duals.now ≡ length rows.now }
@@ -116,7 +116,7 @@ fn are_duals(rows: &[Row], columns: usize, common: u64, duals: &[u64]) -> bool
     true
 }
 
-/// Whether the fraction is in lowest terms. Then reducing it does not change its denominator.
+/// Whether the fraction is in lowest terms, that is, whether reducing it leaves its denominator unchanged.
 fn is_in_lowest_terms(numerator: u64, denominator: u64) -> bool
     ensures yes { result ≡ true → IsLowest (record { num = pos numerator; den = denominator }) }
     ensures no { result ≡ false → IsLowest (record { num = pos numerator; den = denominator }) → ⊥ }

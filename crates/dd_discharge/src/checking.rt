@@ -12,9 +12,9 @@ use dd_lattice::Position;
 use dd_rows::{RowsFault, program_of};
 use std::alloc::{AllocError, Global};
 
-/// Whether the bound is certified for the rule along the vectors. If it is, the rule's program is within its limits. The bound
-/// is in lowest terms, and its denominator divides the common denominator. With the amounts, each position holds at least the
-/// bound. The duals are worth exactly the bound, so no amounts do better.
+/// Whether the bound is certified for the rule along the vectors. If it is, then the rule's program is within its limits; the
+/// bound is in lowest terms, and its denominator divides the common denominator; with the amounts, each position holds at least
+/// the bound; and the duals are worth exactly the bound, so no amounts do better.
 ///
 /// # Errors
 /// `AllocError` if memory ran out.

@@ -108,7 +108,7 @@ pub(crate) fn bound_of(
     let Some(common) = common_denominator(columns, duals) else {
         return Err(DischargeFault::Overflow);
     };
-    // The first column is the value. Its numerator is not listed, but must not be too large to be printed.
+    // The first column is the value. Its numerator is not listed, but it has to be small enough to be printed.
     let Some(_held) = numerator_over(common, value) else {
         return Err(DischargeFault::Overflow);
     };

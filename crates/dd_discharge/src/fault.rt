@@ -16,7 +16,7 @@ pub enum DischargeFault {
     #[error("a number of the discharge is too large")]
     Overflow,
     /// The simplex run needs more pivots than its limit allows.
-    #[error("the run of the discharge passes its limit of pivots")]
+    #[error("the run of the discharge exceeds its limit of pivots")]
     Pivots,
     /// Memory ran out.
     #[error("out of memory")]

@@ -1,6 +1,6 @@
 //! Bounds by discharging. In a discharge, each position first holds a weight, and then gives amounts along some vectors. A
-//! bound is a number that each position holds at least after that. This crate finds the best bound of a rule along some
-//! vectors, says what certifies it, and checks claimed bounds.
+//! bound is a number such that each position then holds at least this number. This crate finds the best bound of a rule along
+//! some vectors, says what certifies it, and checks claimed bounds.
 #![tactic(auto, using(std::proofs::lemmas::Grind::common_steps))]
 
 mod best;

@@ -18,10 +18,10 @@ const MOST_PAIRS: usize = 1000;
 /// A variable is kept if one of its resolvents has more literals than this.
 const MOST_LITERALS: usize = 20;
 
-/// The greatest number of rounds. Each round tries the variables that changed.
+/// The greatest number of rounds. Each round tries the variables whose clauses changed.
 const ROUNDS: usize = 10;
 
-/// How many pairs of literals are compared, about. It takes about half a second.
+/// About how many pairs of literals are compared at most. To compare so many takes about half a second.
 const MOST_WORK: u64 = 100_000_000;
 
 /// A clause of the list or of a step.
@@ -75,7 +75,8 @@ pub(crate) struct Elimination {
     pub entries: Vec<Entry>,
     /// For each variable, by its number, the indices of the entries that have it or its negation. Some may not be alive.
     occurrences: Vec<Vec<usize>>,
-    /// For each variable, by its number, whether a clause with it was removed since it was last tried.
+    /// For each variable, by its number, whether it is to be tried: true at first, false once it was tried, and true again once a
+    /// clause with it or its negation is removed.
     changed: Vec<bool>,
     /// The indices of the entries that have not been compared with the others yet.
     waiting: Vec<usize>,
@@ -215,7 +216,7 @@ impl Elimination {
         self.occurrences[variable].len()
     }
 
-    /// The index of the entry at a place among those that have the variable.
+    /// The index of the entry at a place among those that have the variable or its negation.
     fn occurrence(&self, variable: usize, place: usize) -> Option<usize> {
         if variable < self.occurrences.len() && place < self.occurrences[variable].len() {
             return Some(self.occurrences[variable][place]);
@@ -223,7 +224,7 @@ impl Elimination {
         None
     }
 
-    /// The variable of a clause that occurs in the fewest clauses. `None` if the clause isn't alive, or is empty.
+    /// Of the variables of a clause, the one with the fewest occurrences. `None` if the clause isn't alive, or is empty.
     fn rarest_variable(&self, index: usize) -> Option<usize> {
         let entry = self.entries.get(index)?;
         if !entry.is_alive {
@@ -293,7 +294,8 @@ impl Elimination {
         Ok(())
     }
 
-    /// Replaces a clause by the one without its literal of the variable, which follows from it and from the clause at `index`.
+    /// Drops the literal of the variable from the clause at `other`: replaces this clause by a new one, which follows from it and
+    /// from the clause at `index`.
     fn shorten(
         &mut self,
         alloc: Global,
@@ -323,7 +325,8 @@ impl Elimination {
         Ok(any_eliminated)
     }
 
-    /// The variables whose clauses changed, those with the fewest pairs first.
+    /// The variables whose clauses changed, those with the fewest pairs first. Variables that are in no clause, or that have more
+    /// than `MOST_PAIRS` pairs, are left out.
     fn candidates(&mut self, alloc: Global) -> Result<Vec<Candidate>, AllocError> {
         let mut candidates: Vec<Candidate> = Vec::new(alloc);
         for variable in 1..=self.variables {
@@ -443,7 +446,8 @@ impl Elimination {
         length
     }
 
-    /// The resolvents of the clauses with the variable and those with its negation.
+    /// The resolvents of each clause with the variable and each clause with its negation, except those that hold a literal and
+    /// its negation.
     fn resolvents(
         &mut self,
         alloc: Global,

@@ -10,8 +10,8 @@ use dd_derivation::Step;
 use dd_values::Items;
 use std::alloc::{AllocError, Global};
 
-/// If a refutation has fewer steps than this, each of them gets hints for the fixed literals that it needs. Otherwise each fixed
-/// literal and each shortened clause that is needed is a step, once, which makes long refutations shorter.
+/// If a refutation has fewer steps than this, each of them gets hints for the fixed literals that it needs. Otherwise the fixed
+/// literals and the shortened clauses that are needed are derived first, each only once. This makes long refutations shorter.
 const FEW_STEPS: usize = 32;
 
 /// The remaining clauses, and for each the index of the clause of the whole list that it comes from.
@@ -21,7 +21,7 @@ pub(crate) struct Remaining {
     origins: Vec<usize>,
 }
 
-/// What is kept of one clause after the other.
+/// Takes clauses one after the other, and keeps of each the literals whose variables aren't fixed.
 #[derive(Drop)]
 struct Sieve<'a> {
     fixed: &'a Fixed,
@@ -39,9 +39,10 @@ struct Derived<'a> {
     whole: &'a [Clause],
     fixed: &'a Fixed,
     steps: Vec<Step>,
-    /// For each variable, by its number, the number of the clause that has only its true literal, if there is one.
+    /// For each variable, by its number, the number of the clause that has only its true literal, or 0 if there is none.
     units: Vec<u64>,
-    /// For each remaining clause, its number in the whole list or among the steps.
+    /// For each remaining clause, its number in the whole list or among the steps, or 0 if no step of the search has it as a
+    /// hint.
     numbers: Vec<u64>,
     /// The memory that `hints` works in: a mark for each variable, by its number.
     marked: Vec<bool>,
@@ -163,7 +164,7 @@ impl Fixed {
         Ok(Items::from_vec(refutation))
     }
 
-    /// These hints, and before them the clauses that force the fixed literals that they need.
+    /// These hints, and before them hints for the fixed literals: the clauses that force the variables of the hinted clauses.
     fn more_hints(
         &self,
         alloc: Global,
@@ -220,8 +221,8 @@ impl Fixed {
 }
 
 impl<'a> Sieve<'a> {
-    /// Keeps the literals of a clause whose variables aren't fixed, each once. Returns false if the clause is true, as one of the
-    /// others is true, or a literal and its negation are kept.
+    /// Keeps, each once, those literals of a clause whose variables aren't fixed. Returns false if the clause is to be left out:
+    /// a literal of a fixed variable is true, or the clause has both a literal of another variable and its negation.
     fn keep_free(&mut self, literals: &[Literal]) -> Result<bool, AllocError> {
         self.kept.clear();
         self.count = self.count.saturating_add(1);
@@ -278,7 +279,7 @@ impl<'a> Derived<'a> {
     }
 
     /// The hints for dropping the false literals of a clause of the list: the numbers of the clauses that make them false, and then
-    /// that of the clause.
+    /// the number of the clause itself.
     fn hints(&mut self, alloc: Global, origin: usize) -> Result<Vec<u64>, AllocError> {
         let mut hints: Vec<u64> = Vec::new(alloc);
         let Some(clause) = self.whole.get(origin) else {
@@ -300,8 +301,8 @@ impl<'a> Derived<'a> {
         Ok(hints)
     }
 
-    /// The number of the clause that is left of the clause at `origin` when its false literals are dropped. Adds a step, if there
-    /// are any. `literals` are the others.
+    /// The number of the clause that is left if the false literals of the clause at `origin` are dropped. If it has any, adds a
+    /// step that derives the shorter clause. `literals` are the literals that are left.
     fn number(
         &mut self,
         alloc: Global,

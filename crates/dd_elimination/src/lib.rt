@@ -1,5 +1,5 @@
-//! The elimination of variables before a search, and the search on what is left. Unit propagation eliminates the variables that
-//! it fixes. Resolution eliminates others.
+//! The elimination of variables before a search, and the search on the clauses that are left. There are two ways to eliminate
+//! variables. In `solve_propagated`, unit propagation eliminates those that it fixes. In `solve_reduced`, resolution is used.
 #![tactic(auto, using(std::proofs::lemmas::Grind::common_steps))]
 
 mod elimination;

@@ -1,5 +1,5 @@
-//! Unit propagation on a whole list. A clause of one literal fixes the value of the literal's variable, and so does a clause whose
-//! other literals are all false by then.
+//! Unit propagation on a whole list. A clause of one literal fixes the value of the literal's variable. A clause in which all
+//! literals but one have become false fixes the value of that one's variable.
 //!
 //! No contract depends on what is done here, and no invariant says that the indices kept here are within their lists. So the code
 //! tests them. The tests never fail.
@@ -163,7 +163,8 @@ impl<'a> Propagation<'a> {
         Ok(true)
     }
 
-    /// Looks at the clauses that have at most one literal left, now that this literal is false. Returns false if one is falsified.
+    /// Counts this literal as false in each clause that contains it, and looks at those that then have at most one literal left.
+    /// Returns false if one of them is falsified.
     fn read(&mut self, literal: Literal) -> Result<bool, AllocError> {
         let code = code_of(literal);
         for place in self.occurrences.start(code)..self.occurrences.start(code.saturating_add(1)) {
@@ -178,8 +179,8 @@ impl<'a> Propagation<'a> {
         Ok(true)
     }
 
-    /// Looks at a clause that has at most one literal without a value. If the others are false, makes this one true. Returns false
-    /// if all literals are false.
+    /// Looks at a clause that has at most one literal without a value. If none of its literals is true, makes that one true.
+    /// Returns false if all literals are false.
     fn look_at(&mut self, index: usize) -> Result<bool, AllocError> {
         let Some(clause) = self.clauses.get(index) else {
             return Ok(true);
@@ -204,7 +205,7 @@ impl<'a> Propagation<'a> {
         }
     }
 
-    /// Makes a literal true, which this clause forces.
+    /// Makes a literal true. `clause` is the index of the clause that forces it.
     fn fix(&mut self, literal: Literal, clause: usize) -> Result<(), AllocError> {
         if let Some(value) = self.fixed.values.get_mut(literal.variable as usize) {
             *value = Some(literal.positive);

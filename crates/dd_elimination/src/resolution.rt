@@ -1,5 +1,5 @@
 //! Resolution: two clauses, one with a variable and one with its negation, give a third clause that follows from them. In each
-//! list of literals here, the literals have different variables.
+//! list of literals here, the literals have different variables. Only the list that is given to `distinct` may be any list.
 use dd_clause::Literal;
 use std::alloc::{AllocError, Global};
 
@@ -8,8 +8,8 @@ use std::alloc::{AllocError, Global};
 pub(crate) enum Relation {
     /// All its literals are in the other clause, which therefore follows from it.
     Subsumes,
-    /// The other clause contains the negation of this literal, and all the rest of the clause. So the negation can be dropped
-    /// from the other clause.
+    /// This literal is in the clause. The other clause contains its negation, and all other literals of the clause. So the
+    /// negation can be dropped from the other clause.
     Shortens(Literal),
     Unrelated,
 }
@@ -96,7 +96,7 @@ pub(crate) fn without(
     Ok(others)
 }
 
-/// How the clause with the first literals relates to the clause with the others.
+/// How the clause with the literals `literals` relates to the clause with the literals `others`.
 pub(crate) fn relate(literals: &[Literal], others: &[Literal]) -> Relation {
     let mut opposed: Option<Literal> = None;
     for literal in literals {

@@ -1,5 +1,5 @@
-//! The search on the clauses that remain after the elimination of variables. Its result is turned into an answer for the whole
-//! list, which is checked. If that answer were wrong, the whole list would be searched.
+//! The search on the clauses that remain after the elimination of variables. From its result an answer for the whole list is
+//! made, and this answer is checked. If it were wrong, the whole list would be searched.
 ghost use Rattle.std.specs.Prelude.{IfOk, IfSome, ◌↔◌};
 ghost use Rattle.dd_solver.specs.Answers.{IsAnswer, IsFound, IsRefuted, IsSatisfiable};
 
@@ -11,11 +11,11 @@ use dd_solver::{Style, solve, solve_with, trimmed};
 use dd_values::Items;
 use std::alloc::{AllocError, Global};
 
-/// A list with more clauses than this is searched as it is.
+/// `solve_reduced` searches a list with more clauses than this as it is.
 const MOST_CLAUSES: usize = 200_000;
 
-/// Like `solve_with`, but the values that unit propagation fixes are found before the search, which leaves them out. This is faster
-/// on lists of boxes and tori, and the refutations are shorter.
+/// Like `solve_with`, but the variables that unit propagation fixes are eliminated before the search. This is faster on lists of
+/// boxes and tori, and most long refutations are shorter.
 pub fn solve_propagated(alloc: Global, cnf: &Cnf, style: Style) -> Result<Outcome, AllocError>
     ensures answer { IfOk result (IsAnswer cnf.now.variables cnf.now.clauses) }
     ensures found { IfOk result (λ outcome. IsFound outcome ↔ IsSatisfiable cnf.now.clauses) }
@@ -33,8 +33,7 @@ pub fn solve_reduced(alloc: Global, cnf: &Cnf) -> Result<Outcome, AllocError>
     reduced_answer(alloc, cnf)
 }
 
-/// The answer for the clauses that propagation leaves, turned into one for the whole list, or else that of a search on the whole
-/// list.
+/// The answer that `find_propagated` makes. If it makes none, the answer of a search on the whole list.
 fn propagated_answer(alloc: Global, cnf: &Cnf, style: Style) -> Result<Outcome, AllocError>
     ensures { IfOk result (IsAnswer cnf.now.variables cnf.now.clauses) }
 {
@@ -44,8 +43,8 @@ fn propagated_answer(alloc: Global, cnf: &Cnf, style: Style) -> Result<Outcome, 
     }
 }
 
-/// The answer that the clauses lead to which propagation leaves. `None` if propagation fixes no variable or falsifies a clause, or if
-/// the answer is wrong, which never happens.
+/// Searches the clauses that propagation leaves, and makes an answer for the whole list from the result. `None` if propagation
+/// fixes no variable or falsifies a clause. It would also be `None` if the answer were wrong, but this never happens.
 fn find_propagated(alloc: Global, cnf: &Cnf, style: Style) -> Result<Option<Outcome>, AllocError>
     ensures { IfOk result (λ found. IfSome found (IsAnswer cnf.now.variables cnf.now.clauses)) }
 {
@@ -65,7 +64,8 @@ fn find_propagated(alloc: Global, cnf: &Cnf, style: Style) -> Result<Option<Outc
     }
 }
 
-/// The answer for the reduced list, turned into one for the whole list, or else that of a search on the whole list.
+/// The answer that `find_reduced` makes, if the list isn't too long for it. If there is none, the answer of a search on the whole
+/// list.
 fn reduced_answer(alloc: Global, cnf: &Cnf) -> Result<Outcome, AllocError>
     ensures { IfOk result (IsAnswer cnf.now.variables cnf.now.clauses) }
 {
@@ -77,7 +77,8 @@ fn reduced_answer(alloc: Global, cnf: &Cnf) -> Result<Outcome, AllocError>
     solve(alloc, cnf)
 }
 
-/// The answer that the reduced list leads to. `None` if it is wrong, which never happens, or if the clauses are too long to reduce.
+/// Searches the reduced list, and makes an answer for the whole list from the result. `None` if the clauses are too long to
+/// reduce. It would also be `None` if the answer were wrong, but this never happens.
 fn find_reduced(alloc: Global, cnf: &Cnf) -> Result<Option<Outcome>, AllocError>
     ensures { IfOk result (λ found. IfSome found (IsAnswer cnf.now.variables cnf.now.clauses)) }
 {

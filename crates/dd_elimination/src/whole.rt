@@ -5,7 +5,8 @@ use dd_derivation::Step;
 use dd_values::Items;
 use std::alloc::{AllocError, Global};
 
-/// The remaining clauses, and for each its number in the whole list or among the steps after it.
+/// The remaining clauses, and for each the number by which hints for the whole list name it. The clauses of the whole list are
+/// numbered first, and then the steps of the elimination.
 #[derive(Drop)]
 pub(crate) struct Reduced {
     pub cnf: Cnf,
@@ -80,8 +81,8 @@ impl Elimination {
         Ok(Some(Reduced { cnf, numbers }))
     }
 
-    /// An assignment that satisfies the whole list, if the given one satisfies the reduced list. The eliminated variables get their
-    /// values in the reverse order.
+    /// An assignment that satisfies the whole list, if the given one satisfies the reduced list. The variable that was eliminated
+    /// last gets its value first.
     pub(crate) fn extended(
         &self,
         alloc: Global,
@@ -110,8 +111,8 @@ impl Elimination {
         false
     }
 
-    /// The steps of the elimination and after them those of the search, which refute the whole list if the latter refute the
-    /// reduced one.
+    /// The steps of the elimination, and after them those of the search. Together they refute the whole list, if the steps of the
+    /// search refute the reduced list.
     pub(crate) fn into_refutation(
         self,
         numbers: &[u64],

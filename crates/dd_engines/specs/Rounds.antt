@@ -59,7 +59,7 @@ pub data FirstAsked : List Seen → List Seen → Type 0 where
   first : {old new : Seen} {before after : List Seen} → AskedSince old new → Kept before after → FirstAsked (old ∷ before) (new ∷ after)
   went : {old : Seen} {before after : List Seen} → old.sound ≡ false → FirstAsked before after → FirstAsked (old ∷ before) after
 
--- the first engine now is the same engine, asked in the meantime
+-- the first engine of the list is this engine at a later time, asked in the meantime
 abbrev pub IsHeadAsked : Seen → List Seen → Type 0
 IsHeadAsked old after = IsSomeAnd (slice_get after 0) (AskedSince old)
 

@@ -36,8 +36,8 @@ impl Landmark {
         })
     }
 
-    /// Updates the count of the variables in which the two assignments differ, as the value at this place is about to change.
-    /// `values` are the walk's values before the change.
+    /// Updates the count of the variables in which the present assignment differs from the landmark, just before the value at
+    /// this place changes. `values` are the walk's values before the change.
     pub fn count(&mut self, values: &[bool], place: usize)
         requires within { place < length values.now }
         requires counted { IsCounted self.old values.now }
@@ -77,10 +77,10 @@ impl Landmark {
         }
     }
 
-    /// A period of the flips from the landmark up to flip number `k`, counted from 0, which takes a clause of this length.
-    /// `period` is a period of the flips before flip `k`, if one is known. It isn't used if flip `k` is the first since the
-    /// landmark. Returns `None` if a period was needed but not known, or if the new period is greater than `most`: a walk of
-    /// `most` flips has no use for it.
+    /// A period of the flips from the landmark up to and including flip number `k`, counted from 0. Flip `k` takes a clause of
+    /// this length. `period` is a period of the flips from the landmark up to flip `k`, if one is known. It isn't used if flip
+    /// `k` is the first since the landmark. Returns `None` if `period` is needed but is `None`, or if the new period is greater
+    /// than `most`: a walk of `most` flips has no use for it.
     pub fn period_with(&self, k: u32, period: Option<u32>, length: usize, most: u32) -> Option<u32>
         requires { IfSome period (λ t. 0 < t) }
         ensures { IfSome result (IsPeriodWith self.now.flips k period length) }

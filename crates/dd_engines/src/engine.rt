@@ -32,7 +32,7 @@ pub trait Engine: Drop {
     /// Whether each of its proposals is right.
     ghost sound: { Self → Bool };
 
-    /// Proposes something about the clauses, or nothing. If the call fails because memory runs out, it has proposed nothing.
+    /// Proposes something about the clauses, or nothing. If memory runs out, the call fails, and nothing is proposed.
     fn propose(&mut self, alloc: Global, cnf: &Cnf) -> Result<Proposal, AllocError>
         ensures asked { RisesByOne (asked self.old) (asked self.new) }
         ensures given { IfOk result (GivenAfter (given self.old) (given self.new)) }

@@ -28,16 +28,17 @@ pub fn first_asked_keeps()
     ensures { (before after : List Seen) → FirstAsked before after → Kept before after }
 {}
 
-/// Does nothing; its contract is the law that the first engine is not skipped. If it is sound, it is still the first, and it was
-/// asked in the meantime. An example shows that `FirstAsked` can be false: it is false for two sound engines whose counts have
-/// not changed.
+/// Does nothing; its contract is the law that by `FirstAsked`, a sound first engine is not skipped: it is still the first, and it
+/// was asked in the meantime. An example shows that `FirstAsked` can be false: it is false for two sound engines whose counts
+/// have not changed.
 pub fn first_is_not_skipped()
     ensures head { (old : Seen) (before after : List Seen) → old.sound ≡ true → FirstAsked (old ∷ before) after → IsHeadAsked old after }
     ensures pair { FirstAsked one_was_asked one_was_asked → ⊥ }
 {}
 
-/// Does nothing; its contract is the law that if the first engine was asked since some time, it was asked since any earlier time
-/// too.
+/// Does nothing; its contract is a law of three times, where the roster is kept from the first time to the second. If the first
+/// engine was asked between the second time and the third, in the sense of `FirstAsked`, it was asked between the first time and
+/// the third too.
 pub fn first_asked_earlier()
     ensures { (before between after : List Seen) → Kept before between → FirstAsked between after → FirstAsked before after }
 {}

@@ -2,8 +2,9 @@
 //! Propagation ends with a conflict, which is a clause whose literals are all false, or when a pass over all clauses changes
 //! nothing.
 //!
-//! Each clause has a count of its literals that are not false. When a literal becomes false, each clause that has only one such
-//! literal left is looked at next. So the second pass finds nothing new, and the whole takes linear time.
+//! Each clause has a count of its literals that are not false. When a literal becomes false, the counts of the clauses that
+//! contain it fall by one, and each clause whose count falls to one is looked at next. So the second pass finds nothing new, and
+//! the whole takes linear time.
 //!
 //! Before this, two passes without counts are tried, from the last clause to the first. They usually find just as much. In a
 //! clause list that is made from gates, the clauses of a gate come before the clauses that use the gate. So these passes go from

@@ -32,7 +32,7 @@ impl Tally {
         Tally { asked: 0, given: 0 }
     }
 
-    /// Counts one more time that the engine is asked.
+    /// Raises the count of how often the engine was asked.
     pub fn ask(&mut self)
         ensures asked { RisesByOne self.old.asked self.new.asked }
         ensures given { self.new.given ≡ self.old.given }
@@ -41,7 +41,7 @@ impl Tally {
         self.asked = self.asked.saturating_add(1);
     }
 
-    /// Counts one more time that the engine proposes something.
+    /// Raises the count of how often the engine proposed something.
     pub fn give(&mut self)
         ensures asked { self.new.asked ≡ self.old.asked }
         ensures given { RisesOn self.old.given self.new.given }

@@ -1,7 +1,7 @@
 //! How many literals of each clause are true, and where to look for the first clause that has no true literal. The clauses are
 //! divided into blocks of 32, in the order of their numbers. A block has a mark if one of its clauses may have no true literal.
 //! At the start each block has a mark. A block gets a mark when one of its clauses loses its last true literal. It loses the
-//! mark when a search of the block finds no clause without a true literal.
+//! mark when a search of the block finds that each of its clauses has a true literal.
 ghost use Rattle.std.specs.Prelude.{◌≡◌, ◌^◌, ◌*◌, ◌<◌, ◌+◌, ◌≤◌, length, map, slice_set, slice_index_or, All, IfOk, MatchOption};
 ghost use Rattle.dd_clause.specs.Clauses.{IsClauseInRange};
 ghost use Rattle.dd_engines.specs.walking.Truths.{IsListed, NoneWithin, IsFirstIn, NoneIsNone, IsFirstNone, changed, more, less, true_count};

@@ -54,7 +54,7 @@ pub fn one_starred()
 }
 
 /// Does nothing. Its contract says that each listed pattern belongs to a node of the rule, and that the patterns of a node are
-/// the minimal list there. So the laws about minimal lists in `dd_minimal` hold for them.
+/// the list of the minimal patterns there. So the laws of `dd_minimal` about such lists hold for them.
 pub fn starred_are_minimal()
     ensures nodes { (x : LocalRule) (patterns : List AnyStarred) → IsStarredList x patterns → All (λ p. p.node < x.nodes) patterns }
     ensures minimal { (x : LocalRule) (patterns : List AnyStarred) (a : ℕ) → IsStarredList x patterns → a < x.nodes → IsMinimalList x a (patterns_at a patterns) }

@@ -27,7 +27,8 @@ fn listed(alloc: Global, node: u32, filling: &Filling) -> Result<Listed, AllocEr
     })
 }
 
-/// All fillings that break the rule at the node. The fillings are few enough that `forbidden` doesn't refuse.
+/// All fillings that break the rule at the node. The cells that the rule reads there have few enough fillings that `forbidden`
+/// doesn't refuse.
 fn breaking(alloc: Global, rule: &Rule, node: u32) -> Result<Vec<Filling>, AllocError>
     requires node { node < rule.now.nodes }
     requires few { HasFewPatterns rule.now }

@@ -37,7 +37,7 @@ fn starred(alloc: Global, node: u32, pattern: &Partial) -> Result<Starred, Alloc
     })
 }
 
-/// The minimal patterns at the node. The fillings are few enough that `minimal` doesn't refuse.
+/// The minimal patterns at the node. The cells that the rule reads there have few enough fillings that `minimal` doesn't refuse.
 fn minimal_at(alloc: Global, rule: &Rule, node: u32) -> Result<Vec<Partial>, AllocError>
     requires node { node < rule.now.nodes }
     requires few { HasFewPatterns rule.now }

@@ -13,20 +13,21 @@ pub record IsRight (s : Parts) (number : ℕ) (a : Answer) : Type 0 where
   pub certificate : IsCertificate s number a
   pub claim : Claim s number a
 
--- the answer with this number is right
+-- there is an answer with this number, and it is a certificate of the query with this number
 abbrev pub IsRightAt : Parts → List Answer → ℕ → Type 0
 IsRightAt s answers number = IsSomeAnd (slice_get answers (number - 1)) (λ a. IsRight s number a)
 
--- the first `count` answers are right
+-- there are at least `count` answers, and the first `count` of them are certificates
 abbrev pub AreRightTo : Parts → List Answer → ℕ → Type 0
 AreRightTo s answers count = (number : ℕ) → 1 ≤ number → number ≤ count → IsRightAt s answers number
 
--- each query has one right answer
+-- each query has exactly one answer, and each answer is a certificate
 pub record AreRight (s : Parts) (answers : List Answer) : Type 0 where
   pub as_many : length answers ≡ length s.queries
   pub each : AreRightTo s answers (length answers)
 
--- the script of the output spells `script`, and `accepted` says whether the output's answers are right
+-- the bytes that the output gives as its script spell `script`, and `accepted` says whether each query of `script` has
+-- exactly one answer and each answer is a certificate
 pub record IsJudged (o : Output) (accepted : Bool) : Type 0 where
   pub script : Parts
   pub spelled : Spells o.script script
@@ -38,7 +39,8 @@ pub record IsJudgedText (bytes : List ℕ) (accepted : Bool) : Type 0 where
   pub text : bytes ≡ output_text output
   pub judged : IsJudged output accepted
 
--- the bytes are the text of an output within bounds, whose script is refused for this fault, or memory ran out
+-- the bytes are the text of an output within bounds, and its script is refused for this fault; or the fault is that memory
+-- ran out
 pub record HasRefusedScript (bytes : List ℕ) (fault : ScriptFault) : Type 0 where
   pub output : Output
   pub bounds : IsWritableOutput output

@@ -13,7 +13,7 @@ up = 0
 abbrev pub right : ℕ
 right = 2
 
--- the formula that says that the cell at the end of these moves from the origin has the symbol s
+-- the formula that says that the cell at the end of these moves from the cell `o`, which is variable 0, has the symbol s
 abbrev pub symbol_after : List ℕ → ℕ → Formula
 symbol_after moves s = Symbol (record { variable = 0; moves = moves }) s
 

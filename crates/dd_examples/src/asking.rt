@@ -24,7 +24,7 @@ pub enum Unasked {
     Numbers,
     /// The formula names something that doesn't exist, or is too deep.
     Formula,
-    /// The rule is too large.
+    /// The rule reads a cell that is too far away, or has too many instances, or memory ran out while it was made.
     Rule(RuleFault),
     /// The question isn't well formed, or exceeds a limit.
     Question(QuestionFault),
@@ -72,7 +72,8 @@ fn rule_of(
     Ok(Rule::new(alloc, topology, &sets, formula)?)
 }
 
-/// The right answer to a question, which must be well formed and within these limits. The roster is empty, so no engine is asked.
+/// The right answer to a question. It is an error if the question isn't well formed, or exceeds a limit. The roster is empty, so
+/// no engine is asked.
 fn answer_to(alloc: Global, question: Question, limits: &Limits) -> Result<Answer, Unasked>
     ensures { IfOk result (λ answer. IsRightTo limits.now (asked_of question.entry) answer) }
 {

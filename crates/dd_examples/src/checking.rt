@@ -31,7 +31,7 @@ fn is_right(
     requires { before < length script.now.queries }
     ensures { IfOk result (λ right. IsTrue right ↔ IsRight script.now (before + 1) answer.now) }
 {
-    // This call tells the proof what the type guarantees.
+    // This call tells the proof what the type of the script guarantees.
     let _queries = script.queries().len();
     let Ok(number) = u32::try_from(before + 1) else {
         return Err(AllocError);
@@ -56,7 +56,8 @@ pub fn are_right(alloc: Global, script: &Script, answers: &[Answer]) -> Result<b
     Ok(all)
 }
 
-/// Whether the answers of an output are right, or why its script is refused.
+/// Whether each query of the output's script has exactly one answer, and each answer is a certificate; or why the script is
+/// refused.
 fn judged(alloc: Global, output: &Output) -> Result<bool, ScriptFault>
     requires { IsWritableOutput output.now }
     ensures judged { IfOk result (IsJudged output.now) }
@@ -72,7 +73,8 @@ fn judged(alloc: Global, output: &Output) -> Result<bool, ScriptFault>
     }
 }
 
-/// Whether the bytes are an output with a right answer to each query of its script, or why they aren't checked.
+/// For bytes that are an output, whether each query of its script has exactly one answer, and each answer is a certificate.
+/// The error says why the bytes aren't checked.
 pub fn checked(alloc: Global, bytes: &[u8]) -> Result<bool, Unchecked>
     ensures judged { IfOk result (IsJudgedText bytes.now) }
     ensures refused { IfErr result (IsUnchecked bytes.now) }

@@ -5,7 +5,7 @@ use dd_output::{CertificateFault, read_output, write_output};
 use std::alloc::Global;
 
 /// Reads these bytes as an output, and writes the output again, as the same bytes. If they are no output, the error has the
-/// length of their longest prefix that begins one.
+/// length of their longest prefix that begins some output.
 pub fn rewritten(alloc: Global, bytes: &[u8]) -> Result<Vec<u8>, CertificateFault>
     ensures { IfOk result (λ text. text.items ≡ bytes.now) }
 {

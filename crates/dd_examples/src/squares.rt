@@ -15,7 +15,7 @@ const UP: u32 = 0;
 /// The number of the label `rt` in the square topology.
 const RIGHT: u32 = 2;
 
-/// The formula that says that the cell at the end of these moves from the origin has this symbol.
+/// The formula that says that the cell at the end of these moves from the cell `o` has this symbol. Variable 0 is `o`.
 fn symbol_after(alloc: Global, moves: &[u32], symbol: u32) -> Result<Formula, AllocError>
     ensures { IfOk result (λ formula. formula ≡ symbol_after moves.now symbol) }
 {

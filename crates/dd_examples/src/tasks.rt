@@ -40,7 +40,7 @@ pub enum Fault {
     Words,
     /// The input could not be read, or is too long.
     Input,
-    /// The input spells no script, or it is an output whose script is none.
+    /// The input spells no script, or it is an output whose script has a fault.
     Script,
     /// The bytes are no output.
     Output,

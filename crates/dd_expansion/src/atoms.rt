@@ -118,8 +118,8 @@ fn both_have(
     Ok(Expanded::And(parts))
 }
 
-/// The disjunction over all symbols that says that the two cells have the same symbol. For each symbol it takes three
-/// instances from the budget: a conjunction and its two leaves.
+/// The disjunction over all symbols that says that the two cells have the same symbol. The disjunction itself takes one
+/// instance from the budget, and each symbol takes three: a conjunction and its two leaves.
 fn equal_at(
     alloc: Global,
     symbols: u32,

@@ -209,8 +209,8 @@ impl<'a> Scope<'a> {
         self.expand_each(&cells, body, budget)
     }
 
-    /// The expansions of a quantifier's body, one for each of `cells`. In each, one more variable is in scope, and it
-    /// stands for that cell.
+    /// The expansions of a quantifier's body, one for each of `cells`. The body has one more variable in scope, which stands
+    /// for the cell.
     #[cycle(expand)]
     fn expand_each(
         &self,

@@ -25,7 +25,8 @@ pub struct BallOf {
     pub radius: u32,
 }
 
-/// A formula with one free variable. An atom, which is a formula without parts, is false if one of its terms has no cell.
+/// A formula with one free variable. The first seven forms, from `Symbol` to `Node`, are the atoms. An atom is false if one
+/// of its terms has no cell.
 #[derive(Debug, Drop)]
 pub enum Formula {
     /// The symbol at the term's cell is this one.
@@ -130,7 +131,7 @@ impl Formula {
     }
 }
 
-/// A copy of an atom, which is a formula without parts.
+/// A copy of an atom.
 fn copy_atom(alloc: Global, atom: &Formula) -> Result<Formula, AllocError>
     requires { is_atom atom.now ≡ true }
     ensures { IfOk result (λ c. c ≡ atom.now) }

@@ -1,6 +1,6 @@
 //! The cells of terms, and the cells of balls round the cells of variables. The environment `env` lists the cells of the
-//! variables in scope. These cells lie so near the origin that no coordinate here exceeds 2^20 in absolute value. The comment
-//! on `Scope` says why.
+//! variables in scope. These cells lie so near the origin that all cells found from them are in range. The comment on `Scope`,
+//! in `expansion.rt`, says how near they lie.
 ghost use Rattle.std.specs.Prelude.{◌≡◌, ◌+◌, ◌*◌, ◌≤◌, true, length, slice_get, IfOk, IfErr, IfSome};
 ghost use Rattle.dd_lattice.specs.Place.{most_coordinate};
 ghost use Rattle.dd_lattice.specs.InOrder.{in_order};

@@ -33,7 +33,7 @@ is_restricted x n = option_map_or (λ a. list_any (λ b. b == a) x.known.restric
 abbrev pub weight_faults : Context → Number → List Fault
 weight_faults x n = over (nat_lt most_weight (written_value x.text n)) Limit.Weight
 
--- the command `limits` must not set these numbers, because one of them exceeds its limit or the period is 0
+-- the numbers of the command `limits` are wrong: one of them exceeds its limit, or the period is 0
 abbrev pub exceeds_limits : ℕ → ℕ → ℕ → Bool
 exceeds_limits radius period pivots = nat_lt greatest_radius radius || nat_lt period 1 || nat_lt greatest_period period || nat_lt most_pivots pivots
 
@@ -44,7 +44,8 @@ case_faults x c = formula_faults x c.condition [] ++ missing x.text x.known.sett
 
 -- ---- queries
 
--- the fault of a word that names nothing of its role, which says whether the word must name a rule, an automaton or a configuration
+-- the fault of a word that names nothing of its role; the role says whether the word must name a rule, an automaton or a
+-- configuration
 abbrev pub word_faults : Context → Role × Word → List Fault
 word_faults x w = missing x.text (named x.known w.0) (Name.Word w.1)
 
@@ -111,6 +112,6 @@ faults_of x (Command.Configuration called periods shear symbols) =
     named_again x.text x.known called ++ (symbol_faults x 0 symbols ++ box_faults x periods shear (length symbols))
 faults_of x (Command.Query r) = request_faults x r
 
--- the faults of a command: those of its number, then those of its tokens, then all others
+-- the faults of a command: that of its number in the script, then those of its tokens, then all others
 abbrev pub written_faults : Context → Written → List Fault
 written_faults x w = over (nat_lt most_commands x.number) Limit.Commands ++ (flat_map (token_faults x.text) w.tokens ++ faults_of x w.command)

@@ -20,7 +20,7 @@ token_faults bytes Lexeme.Stray = []
 
 -- ---- vectors
 
--- the number of an entry, without its sign
+-- the number of an entry, as written: its text begins with `-` if the entry is negative
 abbrev pub entry_number : Entry → Number
 entry_number (Entry.Number n) = n
 entry_number (Entry.Negative n) = n

@@ -62,13 +62,13 @@ pub enum Limit {
 /// What is wrong with a well-formed command.
 #[derive(Clone, Copy, Debug, PartialEq, Eq)]
 pub enum Fault {
-    /// A name refers to nothing, or to a symbol that its node doesn't allow.
+    /// A name refers to nothing, or to a symbol that the node of its cell doesn't allow.
     Unknown(Name),
     /// A name is given a second time where it may be given only once.
     Twice(Name),
     /// A vector of a discharge is given twice.
     TwiceVector,
-    /// The dimension, or a number of nodes, symbols or entries, does not fit.
+    /// The dimension, or a number of nodes, symbols, weights or entries, does not fit.
     Dimension,
     /// A limit is exceeded.
     Size(Limit),
@@ -83,7 +83,7 @@ pub(crate) type Done = Result<(), AllocError>;
 /// Why a command is refused.
 #[derive(Clone, Copy, Debug, PartialEq, Eq, Error)]
 pub enum Refusal {
-    /// The fault for which it is refused.
+    /// The fault for which the command is refused.
     #[error("a command has a fault")]
     At(Fault),
     /// Memory ran out.

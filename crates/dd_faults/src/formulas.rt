@@ -21,7 +21,7 @@ pub fn within(alloc: Global, scope: &[Word], variable: Word) -> Result<Items<Wor
     Ok(inner)
 }
 
-/// Notes the faults of a formula in a scope.
+/// Notes the faults of a formula. `scope` holds the context of the command and the variables in scope.
 pub(crate) fn formula(alloc: Global, scope: Scope, written: &Formula, found: &mut Found) -> Done
     ensures { OnOk result (found.new ≡ noted found.old (formula_faults scope.entry.0.now written.now scope.entry.1.now)) }
 {

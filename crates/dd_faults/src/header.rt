@@ -57,7 +57,7 @@ pub(crate) fn is_restricted(context: &Context, node: Name) -> bool
     number.is_some_and(|number| known.restricted.as_slice().contains(&number))
 }
 
-/// Whether the command `limits` must not set these numbers, because one of them exceeds its limit or the period is 0.
+/// Whether the numbers of the command `limits` are wrong: one of them exceeds its limit, or the period is 0.
 pub(crate) fn exceeds_limits(text: &Text, radius: Number, period: Number, pivots: Number) -> bool
     ensures { result ≡ exceeds_limits (written_value text.now radius) (written_value text.now period) (written_value text.now pivots) }
 {

@@ -44,7 +44,7 @@ pub(crate) fn entry_value(text: &Text, entry: Entry) -> u32
     number_value(text, number)
 }
 
-/// The value of an entry, with its sign. It is at most `FARTHEST` in absolute value.
+/// The value of an entry, with its sign. The entry must be at most `FARTHEST` in absolute value.
 pub fn signed_value(text: &Text, entry: Entry) -> i32
     requires { nat_lt farthest (entry_value text.now entry) ≡ false }
     ensures value { result ≡ signed_value text.now entry }

@@ -1,6 +1,6 @@
 //! Whether the variables, labels, nodes and symbols in a formula exist, and whether its terms and balls are within their limits.
-//! Another module tests its depth. Here `scope` is the number of variables in scope. They are numbered from 0, and number 0 is
-//! the free variable.
+//! The module `depth` tests how deep the formula is. Here `scope` is the number of variables in scope. These are numbered from 0,
+//! and number 0 is the free variable.
 ghost use Rattle.std.specs.Prelude.{◌≡◌, ◌+◌, ◌<◌, ◌^◌, ◌↔◌, ◌&&◌, IsTrue, All, length, nat_lt};
 ghost use Rattle.std.specs.List.{list_all};
 ghost use Rattle.dd_expansion.specs.Limits.{term_fits, ball_fits, balls_fit, formula_fits, depth, IsFormula};

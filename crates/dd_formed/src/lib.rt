@@ -1,5 +1,5 @@
-//! Whether a formula may become a rule, and whether an automaton is well formed. Each variable, label, node and symbol in it must
-//! exist, and it must be within the limits.
+//! Whether a formula may become a rule, and whether an automaton is well formed. Each variable, label, node and symbol in the
+//! formula or the automaton must exist, and the limits must be kept.
 #![tactic(auto)]
 
 mod automata;

@@ -71,8 +71,8 @@ cells_of f a = in_order ((counted f).reads a)
 abbrev pub rule_has : CommonNumbers → LocalRule → Bool
 rule_has s r = r.dimension == s.dimension && r.nodes == s.nodes && r.symbols == s.symbols
 
--- the cases fit the setting: each rule has the setting's numbers, and each symbol that a case gives, or that is the default, is in the setting's
--- alphabet
+-- the cases fit the setting: each rule has the setting's numbers, and the setting's alphabet has the symbol of each case and the
+-- default symbol
 abbrev pub cases_fit : CommonNumbers → List (LocalRule × ℕ) → ℕ → Bool
 cases_fit s cases otherwise = list_all (λ case. rule_has s case.0 && nat_lt case.1 s.symbols) cases && nat_lt otherwise s.symbols
 
@@ -92,7 +92,7 @@ has_rules_step (Automaton-F.Composed f g) = f || g
 abbrev pub has_rules : Automaton → Bool
 has_rules = fold-Automaton Bool has_rules_step
 
--- the number of nodes of the automaton's rules, or none if it has no rule
+-- r is the number of nodes of the automaton's rules, or none if the automaton has no rule
 abbrev pub IsNodesOf : Automaton → Option ℕ → Type 0
 IsNodesOf f r = MatchOption r (has_rules f ≡ false) (λ n. (s : CommonNumbers) → automaton_fits s f ≡ true → s.nodes ≡ n)
 
@@ -108,7 +108,7 @@ is_short nodes f = list_all (λ a. list_all is_near (f.reads a)) (range_with_len
 abbrev pub is_shallow : Counted → Bool
 is_shallow f = nat_le f.depth most_depth
 
--- the automaton is within the limits on instances, reach and depth
+-- the automaton is within the limits on instances and reach at each of the first `nodes` nodes, and within the limit on depth
 abbrev pub keeps_limits : ℕ → Counted → Bool
 keeps_limits nodes f = is_few nodes f && is_short nodes f && is_shallow f
 

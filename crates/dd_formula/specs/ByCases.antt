@@ -22,7 +22,8 @@ pub record IsCaseOver (g : Grid) (s : SymbolSets) (case : Formula × ℕ) : Type
 abbrev pub case_over : Grid → SymbolSets → Formula × ℕ → LocalRule × ℕ
 case_over g s case = (local_rule g s case.0, case.1)
 
--- the automaton that gives a cell the symbol of the first formula that is true there, or the default symbol if none is
+-- the automaton that gives a cell the symbol of the first case whose formula is true there, or the default symbol if there is no
+-- such case
 abbrev pub by_cases : Grid → SymbolSets → List (Formula × ℕ) → ℕ → Automaton
 by_cases g s cases otherwise = v.Given (record { cases = map (case_over g s) cases; otherwise = otherwise })
 

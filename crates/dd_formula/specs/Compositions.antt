@@ -30,15 +30,15 @@ pub record StandFor (s : CommonNumbers) (f : Counted) (nodes : ℕ) : Type 0 whe
   pub few : is_few s.nodes f ≡ is_few nodes f
   pub short : is_short s.nodes f ≡ is_short nodes f
 
--- the composition is within the limit on instances
+-- the automaton is within the limit on instances at each of the first n nodes
 abbrev pub PassesInstances : ℕ → Counted → Type 0
 PassesInstances n f = is_few n f ≡ true
 
--- the composition is within the limits on instances and reach
+-- the automaton is within the limits on instances and reach at each of the first n nodes
 abbrev pub PassesReach : ℕ → Counted → Type 0
 PassesReach n f = PassesInstances n f × (is_short n f ≡ true)
 
--- the composition is within all three limits
+-- the automaton is within these limits at each of the first n nodes, and within the limit on depth
 abbrev pub PassesDepth : ℕ → Counted → Type 0
 PassesDepth n f = PassesReach n f × (is_shallow f ≡ true)
 

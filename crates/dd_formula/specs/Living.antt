@@ -26,7 +26,8 @@ pub record IsFirstFalse (r : LocalRule) (t : Tile) (c : Cell) : Type 0 where
   pub here : is_true r c (tile_look t) ≡ false
   pub before : (d : Cell) → IsInBox t d → cell_cmp d c ≡ Less → is_true r d (tile_look t) ≡ true
 
--- whether the answer is right: the configuration lives in the rule's subshift, or it doesn't, and c is the first cell that shows this
+-- whether the answer is right: `Inside` is right if the configuration lives in the rule's subshift, and `Outside c` if c is the
+-- first cell of the fundamental box at which the rule is false
 abbrev pub IsMembership : LocalRule → Tile → Membership → Type 0
 IsMembership r t Inside = Lives r t
 IsMembership r t (Outside c) = IsFirstFalse r t c

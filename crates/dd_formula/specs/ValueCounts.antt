@@ -10,13 +10,14 @@ use Rattle.dd_formula.specs.declared.automaton.Automaton.{TheFolds.fold-Automato
 abbrev pub gate_clause_count : ℕ → ℕ
 gate_clause_count k = k + 1
 
--- The number of clauses of the gates that choose among m cases. Each case has a gate over itself and the cases before it, which says that the case's
--- rule is true and no earlier rule is. The default symbol has a gate over all cases, which says that no rule is true.
+-- The number of clauses of the gates that choose among m cases. Each case has a gate over itself and the cases before it. The
+-- gate says that the case's rule is true and no earlier rule is. The default symbol has a gate over all cases. This gate says
+-- that no rule is true.
 abbrev pub choice_clauses : ℕ → ℕ
 choice_clauses m = total (map (λ i. gate_clause_count (i + 1)) (range_with_len 0 m)) + gate_clause_count m
 
--- The number of clauses of the gates of the symbols. Each of n symbols has a gate over the cases that give it. Each of the m cases gives one symbol,
--- and so does the default, so together these gates are over m + 1 signals.
+-- The number of clauses of the gates of the symbols. Each of n symbols has a gate over the cases that give it; here the default
+-- counts as a case. Each of these m + 1 cases gives one symbol, so together the gates are over m + 1 signals.
 abbrev pub giving_clauses : ℕ → ℕ → ℕ
 giving_clauses n m = (m + 1) + n
 
@@ -53,7 +54,7 @@ value_clauses n f = (fold-Automaton Valued (valued_step n) f).clauses
 abbrev pub differ_at : ℕ → Automaton → Automaton → ℕ → ℕ
 differ_at n f g a = value_clauses n f a + value_clauses n g a + n * gate_clause_count 2 + gate_clause_count n
 
--- the number of clauses that say that two automata differ at one of the first nodes: those for each node, and one that says that they differ at some
--- node
+-- the number of clauses that say that two automata differ at one of the first `nodes` nodes: those for each of these nodes, and
+-- one that says that the automata differ at some node
 abbrev pub differ_clauses : ℕ → ℕ → Automaton → Automaton → ℕ
 differ_clauses n nodes f g = total (map (differ_at n f g) (range_with_len 0 nodes)) + 1

@@ -30,7 +30,7 @@ pub struct Cases {
 pub enum Automaton {
     /// Gives each cell a symbol by cases.
     Given(Cases),
-    /// The first automaton applied to the image of the configuration under the second.
+    /// Applies the first automaton to the image of a configuration under the second.
     Composed(Boxed<Automaton>, Boxed<Automaton>),
 }
 

@@ -21,8 +21,8 @@ use dd_values::Items;
 use std::alloc::{AllocError, Global};
 
 impl Automaton {
-    /// The automaton that gives each cell the symbol of the first of these formulas that is true there, or `otherwise` if none
-    /// is.
+    /// The automaton that gives each cell the symbol of the first case whose formula is true there, or `otherwise` if there is no
+    /// such case.
     ///
     /// # Errors
     /// `Instances` if the automaton has more than 20,000 instances at some node; else `Reach` if a case reads a cell that lies
@@ -73,7 +73,7 @@ fn size_at(
     }
 }
 
-/// The number of instances at a node of the automaton with these cases, or `MOST_INSTANCES + 1` if there are more than
+/// The number of instances that the automaton with these cases has at a node, or `MOST_INSTANCES + 1` if there are more than
 /// `MOST_INSTANCES`. Once there are more, no further case is expanded.
 fn instances_at(
     alloc: Global,

@@ -26,7 +26,7 @@ pub fn times(limit: u32, a: u32, b: u32) -> u32
     cut_off(limit, a as u64 * b as u64)
 }
 
-/// The power of the base, or `limit + 1` if it is greater than `limit`. The limit must be below 2^31.
+/// `base` to the power `exponent`, or `limit + 1` if this power is greater than `limit`. The limit must be below 2^31.
 pub fn power(limit: u32, base: u32, exponent: u64) -> u32
     requires { limit < 2 ^ 31 }
     ensures { result ≡ cut limit (base ^ exponent) }

@@ -8,11 +8,11 @@ use thiserror::Error;
 #[derive(Debug, Drop, Error)]
 pub enum RuleFault {
     /// The rule or the automaton reads a cell that lies more than 16 away along an axis.
-    #[error("a cell is read that lies more than 16 away")]
+    #[error("a cell is read that lies more than 16 away along an axis")]
     Reach,
     /// The rule or the automaton has more than 20,000 instances at some node. `Rule` and `Automaton::instances` say what
     /// instances are.
-    #[error("the expansion has more than 20000 parts")]
+    #[error("there are more than 20000 parts at a node")]
     Instances,
     /// Compositions are nested more than 64 deep.
     #[error("a composition is nested more than 64 deep")]

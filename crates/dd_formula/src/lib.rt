@@ -1,6 +1,6 @@
 //! Local rules and cellular automata: the truth of a rule, the value of an automaton, the cells that they read (the cells
-//! whose symbols they look up), and their limits. The crate also tests whether a periodic configuration is in the subshift of
-//! a rule: the set of the configurations for which the rule is true at every cell. The limits are on three numbers. The
+//! whose symbols they look up), and their limits. The crate also tests whether a periodic configuration lives in the subshift
+//! of a rule: the set of the configurations for which the rule is true at every cell. The limits are on three numbers. The
 //! instances of a rule at a node are the constants, leaves and connectives of its expansion there, which is its formula
 //! without variables. The reach is how far away cells are read. The depth of an automaton is how deep its compositions are
 //! nested. Cells are listed in cell order: by z, then y, then x, then the node. A cell lies in the range of positions if each

@@ -5,7 +5,7 @@ use crate::rule::Rule;
 use dd_lattice::Cell;
 use dd_pattern::Periodic;
 
-/// Whether a periodic configuration is inside a rule's subshift.
+/// Whether a periodic configuration lives in a rule's subshift.
 #[derive(Debug, Clone, Copy, PartialEq, Eq)]
 pub enum Membership {
     /// The rule is true at each cell.
@@ -15,8 +15,8 @@ pub enum Membership {
 }
 
 impl Rule {
-    /// Whether the configuration is inside the rule's subshift, that is, whether the rule is true at each cell. Tests the cells
-    /// of the configuration's fundamental box in cell order. Allocates nothing.
+    /// Whether the configuration lives in the rule's subshift, that is, whether the rule is true at each cell. Tests the cells of
+    /// the configuration's fundamental box in cell order. Allocates nothing.
     pub fn member(&self, periodic: &Periodic) -> Membership
         requires { Fits self.now periodic.now }
         ensures { IsMembership self.now periodic.now result }

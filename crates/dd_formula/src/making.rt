@@ -31,7 +31,7 @@ pub(crate) struct Parts {
     pub(crate) reads: Items<Items<Cell>>,
 }
 
-/// The parts of the rule with this formula, or why there is no such rule: it exceeds a limit, or memory ran out.
+/// The parts of the rule with this formula, or why they can't be made: the rule exceeds a limit, or memory ran out.
 pub(crate) fn parts_of(
     alloc: Global,
     topology: &Topology,

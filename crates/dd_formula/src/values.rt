@@ -72,8 +72,9 @@ impl Automaton {
         }
     }
 
-    /// The value of the composition at this node of the origin. First come the inner automaton's values at the cells that the
-    /// outer one reads, and then the outer one's value on these.
+    /// The value of the composition at this node of the origin. The inner automaton is evaluated at each cell that the outer one
+    /// reads. Then the outer one is evaluated, with these values as the cells' symbols. `near` must have a symbol for each cell
+    /// that the composition reads.
     #[cycle(value)]
     pub(crate) fn composed_value(
         alloc: Global,

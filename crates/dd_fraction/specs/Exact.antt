@@ -12,7 +12,7 @@ pub record Exact : Type 0 where
 abbrev pub den_of : Exact → ℕ
 den_of a = max 1 a.den
 
--- n over d in lowest terms: both are divided by their greatest common divisor
+-- n over d in lowest terms: both are divided by their greatest common divisor; 1 stands in place of a d that is 0
 unfoldable pub lowest : ℤ → ℕ → Exact
 lowest n d =
     let e = max 1 d in
@@ -44,7 +44,7 @@ minus a = record { num = neg_ℤ a.num; den = a.den }
 unfoldable pub times : Exact → Exact → Exact
 times a b = lowest (a.num *ℤ b.num) (den_of a * den_of b)
 
--- d over n, where n is not 0; the numerator gets the sign of n
+-- 1 over the fraction n / d, that is, d over n, where n is not 0; the numerator gets the sign of n
 abbrev pub one_over : ℤ → ℕ → Exact
 one_over (pos n) d = record { num = pos d; den = n }
 one_over (negsuc n) d = record { num = neg_ℤ (pos d); den = suc n }

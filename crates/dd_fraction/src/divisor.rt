@@ -28,8 +28,8 @@ pub fn greatest_common_divisor(a: u128, b: u128) -> u128
     word_divisor(y as u64, (x % y) as u64) as u128
 }
 
-/// The greatest common divisor of two machine words. Each round makes one step of Euclid's algorithm. If both numbers are even
-/// after it, it also takes out a common factor of 2. Once one of them is odd, the binary algorithm takes over.
+/// The greatest common divisor of two machine words. Each call makes one step of Euclid's algorithm. If both numbers are even
+/// after this step, the call also takes out a common factor of 2. Once one of them is odd, the binary algorithm takes over.
 fn word_divisor(a: u64, b: u64) -> u64
     ensures { result ≡ greatest_common a b }
 {

@@ -13,7 +13,8 @@ pub fn product_laws()
     ensures { AreProductLaws }
 {}
 
-/// Does nothing; its contract says what the opposite of a sum is, and what the opposite of a product is.
+/// Does nothing; its contract says that a fraction and its opposite add up to 0, that the opposite of the opposite is the
+/// fraction itself, and what the opposites of sums and products are.
 pub fn opposite_laws()
     ensures { AreOppositeLaws }
 {}

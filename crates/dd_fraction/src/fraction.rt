@@ -98,7 +98,7 @@ impl Fraction {
     {
         // This read tells the proof what the type guarantees.
         let _ = &other.num;
-        // Adding 0/1 changes nothing: one cross product is 0, and the other is the other summand's numerator.
+        // Adding 0/1 changes nothing: one cross product is 0, and the other one is the numerator of `other`.
         if self.num == 0 && self.den == 1 {
             return Some(*other);
         }
@@ -130,8 +130,8 @@ impl Fraction {
         let right = product(other.num, self.den as i128)?;
         let num = sum(left, right)?;
         let den = size_product(self.den, other.den)?;
-        // One of the two fractions is a whole number. A common divisor of `num` and `den` then divides both the numerator and
-        // the denominator of the other fraction, so it is 1.
+        // If one of the two fractions is a whole number, each common divisor of `num` and `den` divides both the numerator and
+        // the denominator of the other fraction. So the only common divisor is 1.
         if self.den == 1 || other.den == 1 {
             return Some(in_lowest_terms(num, den));
         }

@@ -1,5 +1,5 @@
--- Configurations as functions on all cells of Z^d, and what it takes for an accepted answer to exclude a goal from them, or to show that one
--- automaton maps their images under another back.
+-- Configurations as functions on all cells of Z^d. Also what it takes for an answer to exclude a goal from them, and what it
+-- takes for an answer to show that two automata are inverse maps on them.
 use Rattle.std.specs.Prelude.{ℕ, ◌≡◌, ◌+◌, ◌%◌, true, pos, cond, unsigned_abs, slice_index}
 use Rattle.dd_lattice.specs.{Place.Place, Place.place, declared.position.Cell.Cell}
 use Rattle.dd_topology.specs.Balls.{same_place}
@@ -22,7 +22,7 @@ checkerboard c = (unsigned_abs c.position.x + unsigned_abs c.position.y + unsign
 abbrev pub tiled : Tile → Cell → ℕ
 tiled t c = slice_index t.symbols (tile_index t c)
 
--- the script has one node at each position, and it allows all symbols of the spike and of the checkerboard
+-- the script has one node at each position, and this node allows all symbols of the spike and of the checkerboard
 pub record IsForBoth (s : Parts) : Type 0 where
   pub spike : IsWhole s 1 spike
   pub checkerboard : IsWhole s 1 checkerboard

@@ -35,7 +35,7 @@ fn spread(axis: u32, dim: u32, radius: i32) -> i32
     if axis < dim { radius } else { 0 }
 }
 
-/// The centred box of this radius, which is at most 2^20. See `centred_box`.
+/// The centred box of this radius. The radius is at most 2^20. See `centred_box`.
 fn around_origin(dim: u32, radius: u32) -> Box3
     requires { radius ≤ most_coordinate }
     ensures { result ≡ centred dim radius }

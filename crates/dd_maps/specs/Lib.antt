@@ -1,4 +1,5 @@
--- the guarded formula of a rule: the rule is true at a cell, and the cell's node (one of the cells at each position) allows its symbol
+-- The guarded formula of a rule: the rule is true at a cell, and the cell's node allows its symbol. A cell's node is its number
+-- among the cells of its position.
 pub mod Guarded
 -- the automata of the pairs
 pub mod Pairs

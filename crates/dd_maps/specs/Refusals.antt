@@ -16,9 +16,9 @@ PassesGuard s y = guarded_depth s y ≤ most_nested
 abbrev pub IsGuardDeep : SymbolSets → LocalRule → Type 0
 IsGuardDeep s y = most_nested < guarded_depth s y
 
--- Whether the fault is right. `Depth` is right if the guarded formula is too deep, and `Instances` if it isn't, but the automaton has too many
--- instances at some node. `Reach` never is, because the automaton reads only what the rule reads and the cell itself, which is never too far away.
--- `Memory` always is.
+-- Whether the fault is right. `Depth` is right if the guarded formula is too deep. `Instances` is right if the guarded formula is
+-- within the limit on depth, but the automaton has too many instances at some node. `Reach` is never right: the automaton reads
+-- only the cell itself and what the rule reads, and none of these is too far away. `Memory` is always right.
 abbrev pub IsMarkedFault : Grid → SymbolSets → LocalRule → RuleFault → Type 0
 IsMarkedFault g s y Depth = IsGuardDeep s y
 IsMarkedFault g s y Instances = PassesGuard s y × (is_few g.nodes (counted (marked g s y)) ≡ false)

@@ -20,7 +20,7 @@ fn here(alloc: Global) -> Term
     }
 }
 
-/// The formula that the cell has this symbol. The call allocates nothing.
+/// The formula which says that the cell has this symbol. The call allocates nothing.
 pub(crate) fn symbol_is(alloc: Global, symbol: u32) -> Formula
     ensures { result ≡ symbol_is symbol }
 {
@@ -28,7 +28,7 @@ pub(crate) fn symbol_is(alloc: Global, symbol: u32) -> Formula
     Formula::Symbol { term, symbol }
 }
 
-/// The formula that the cell isn't at this node.
+/// The formula which says that the cell isn't at this node.
 fn other_node(alloc: Global, node: u32) -> Result<Formula, AllocError>
     ensures { IfOk result (λ f. f ≡ Formula.Not (Formula.Node here node)) }
 {
@@ -50,7 +50,7 @@ fn allows_all(sets: &Sets, node: u32) -> bool
     true
 }
 
-/// The guard of a node. It is the formula that the cell isn't at this node, or has a symbol that the node allows.
+/// The guard of a node. It is the formula which says that the cell isn't at this node, or has a symbol that the node allows.
 fn guard(alloc: Global, sets: &Sets, node: u32) -> Result<Formula, AllocError>
     requires { node < length sets.now.allowed }
     ensures { IfOk result (λ f. f ≡ guard sets.now node) }
@@ -80,7 +80,7 @@ fn guards(alloc: Global, sets: &Sets, nodes: u32) -> Result<Vec<Formula>, AllocE
 }
 
 /// The guarded formula of a rule: the conjunction of the rule's formula and the guards. If every node allows all symbols, there
-/// are no guards, and it is the rule's own formula.
+/// are no guards, and the guarded formula is the rule's own.
 pub(crate) fn guarded(alloc: Global, sets: &Sets, rule: &Rule) -> Result<Formula, AllocError>
     requires { rule.now.nodes ≤ length sets.now.allowed }
     ensures value { IfOk result (λ f. f ≡ guarded_of sets.now rule.now) }

@@ -6,7 +6,7 @@ use Rattle.dd_values.specs.Bounds.{most_number}
 use Rattle.dd_transfer.specs.{Graphs.Transfer, Graphs.next_of, Graphs.weight_at, Certificates.potential_of}
 use Rattle.dd_meancycle.specs.declared.least.Mean.{Mean, TheVariants.Least, TheVariants.NoCycle}
 
--- a path from u through these states, the last of which is v: each state has an edge to the next
+-- u and then these states are a walk from u to v: each state has an edge to the next, and the last is v
 abbrev pub IsPath : Transfer → ℕ → List ℕ → ℕ → Type 0
 IsPath g u [] v = u ≡ v
 IsPath g u (s ∷ ss) v = (next_of g u (s % g.slices) ≡ Some s) × IsPath g s ss v

@@ -54,7 +54,7 @@ fn signed(alloc: Global, potentials: &[u64]) -> Result<Vec<i64>, AllocError>
     Ok(numbers)
 }
 
-/// The same mean, with the cycle given by its states, and with signed potentials.
+/// The same result, with the cycle given by its states, and with signed potentials.
 fn in_states(alloc: Global, mean: EdgeMean) -> Result<Mean, AllocError>
     requires { IsSmallMean mean }
     ensures { IfOk result (λ m. IsInStates mean m) }

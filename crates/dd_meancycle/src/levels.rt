@@ -34,7 +34,7 @@ fn lower(best: Option<u32>, here: u32) -> u32
 }
 
 /// Relaxes the edge. The lightest walk of the previous level to the edge's source, followed by the edge, is a walk to the
-/// edge's target. Its weight becomes the target's entry in `row` if there is no entry yet, or if the entry is greater.
+/// edge's target. The weight of this walk becomes the target's entry in `row` if that entry is `None` or greater.
 fn relax(previous: &[Option<u32>], row: &mut [Option<u32>], edge: &Edge)
     requires from { edge.now.from < length previous.now }
     requires to { edge.now.to < length row.old }

@@ -37,7 +37,8 @@ fn steepest(levels: &[Level], last: usize, state: u32) -> Option<Ratio>
     Some(best)
 }
 
-/// The greater of two means: `best`, and the mean of the rise from `before` to `end` over `run` edges.
+/// The greater of two means: `best`, and the mean of the rise from `before` to `end` over `run` edges. `best` if `before` is
+/// `None`.
 fn steeper(best: Ratio, end: u32, before: Option<u32>, run: u64) -> Ratio
     requires run { run < 2 ^ 31 }
     requires weight { best.weight < 2 ^ 32 }
@@ -59,8 +60,8 @@ fn steeper(best: Ratio, end: u32, before: Option<u32>, run: u64) -> Ratio
     }
 }
 
-/// The potential of the state: the least value of `mean.length * weight + mean.weight * (last - k)`, where `k` is a level
-/// below `last`, and `weight` is the state's entry in it.
+/// The potential of the state: the least value of `mean.length * weight + mean.weight * (last - k)`. Here `k` is a level below
+/// `last` in which the state's entry isn't `None`, and `weight` is this entry.
 fn potential(levels: &[Level], last: usize, state: u32, mean: Ratio) -> u64
     requires last { 0 < last }
     requires few { last < 2 ^ 31 }
@@ -77,6 +78,7 @@ fn potential(levels: &[Level], last: usize, state: u32, mean: Ratio) -> u64
 }
 
 /// The smaller of `best` and `mean.length * before + mean.weight * run`. The entry `before` is `run` levels below the last.
+/// `best` if this entry is `None`.
 fn lesser(best: u64, before: Option<u32>, mean: Ratio, run: u64) -> u64
     requires run { run < 2 ^ 31 }
     requires weight { mean.weight < 2 ^ 32 }

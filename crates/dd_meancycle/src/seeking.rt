@@ -1,6 +1,7 @@
 //! The search for a cycle of least mean and for potentials (after E. Lawler, 1976). It takes the mean of the last cycle that
-//! it found, and lowers potentials along the edges until none can be lowered. If this does not end, there is a cycle with a
-//! smaller mean, and the search goes on with that cycle. The result is checked afterwards, so no contract says what it is.
+//! it found, and lowers potentials along the edges until, for this mean, none can be lowered. For each state, the last edge
+//! along which its potential was lowered is marked. If marked edges form a cycle, this cycle has a smaller mean, and the search
+//! goes on with it. The result is checked afterwards, so no contract says what it is.
 
 use crate::edges::Edge;
 use crate::rises::{Ratio, reduced};
@@ -24,7 +25,7 @@ struct Slope {
     length: i64,
 }
 
-/// A mean that is greater than each edge's weight, so that the first cycle is found at once.
+/// A mean that is greater than each edge's weight, and so greater than the mean of each cycle. The search starts with it.
 const STEEPEST: Slope = Slope {
     weight: 1 << 40,
     length: 1,

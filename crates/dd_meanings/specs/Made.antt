@@ -6,7 +6,7 @@ use Rattle.dd_formula.specs.{Automata.CommonNumbers as Numbers, Automata.IsAutom
 use Rattle.dd_formula.specs.declared.automaton.Automaton.{TheFolds.fold-Automaton, TheOpen.Automaton-F}
 use Rattle.dd_meanings.specs.Tree.{Setting}
 
--- the dimension, nodes and symbols that a script's rules, automata and configurations share
+-- the dimension, the number of nodes and the number of symbols that a script's rules, automata and configurations share
 abbrev pub script_numbers : Setting → Numbers
 script_numbers s = record { dimension = s.topology.dimension; nodes = s.topology.nodes; symbols = length s.symbols }
 

@@ -7,11 +7,12 @@ use Rattle.dd_meanings.specs.Tree.{Kind, Name, Edge as Written}
 use Rattle.dd_written.specs.Values.{word_text}
 use Rattle.dd_query.specs.Vectors.{place_of}
 
--- the built-in topology of a dimension, with one node and the nearest neighbours along each axis
+-- the built-in topology of this dimension that has one node, and edges only to the nearest neighbours along each axis
 abbrev pub plain_kind : ℕ → Kind
 plain_kind d = if d == 1 then Kind.Line else (if d == 3 then Kind.Cube else Kind.Square)
 
--- The topology of a script that gives none. With one node it is the built-in topology of the dimension, with more nodes it has no edges.
+-- The topology of a script that gives none. With one node it is `line`, `square` or `cube`, by the dimension. With more nodes it
+-- has no edges.
 abbrev pub default_grid : ℕ → ℕ → Grid
 default_grid d nodes = if nodes == 1 then grid_of (plain_kind d) else grid d nodes [] []
 

@@ -91,7 +91,8 @@ fn side(alloc: Global, context: &Context, scope: &[Word], side: &Comparand) -> M
     }
 }
 
-/// The formula that the term's cell has the symbol on the right side; or if that side is a term, the same symbol as its cell.
+/// The formula that says that the term's cell has the symbol on the right side. If the right side is a term, the formula says
+/// that the cells of the two terms have the same symbol.
 fn equal(term: Term, side: Operand) -> Formula
     ensures { result ≡ equal_of term side }
 {
@@ -101,8 +102,8 @@ fn equal(term: Term, side: Operand) -> Formula
     }
 }
 
-/// The formula that the term's cell doesn't have the symbol on the right side; or if that side is a term, has another symbol than
-/// its cell.
+/// The formula that says that the term's cell doesn't have the symbol on the right side. If the right side is a term, the formula
+/// says that the cells of the two terms have different symbols.
 fn not_equal(term: Term, side: Operand) -> Formula
     ensures { result ≡ not_equal_of term side }
 {

@@ -19,7 +19,7 @@ use dd_topology::{Edge, Kind, Names, Topology, TopologyFault};
 use dd_written::{Name, Text, name_text};
 use std::alloc::{AllocError, Global};
 
-/// The built-in topology of a dimension, with one node and the nearest neighbours along each axis.
+/// The built-in topology of this dimension that has one node, and edges only to the nearest neighbours along each axis.
 fn plain_kind(dimension: u32) -> Kind
     ensures { result ≡ plain_kind dimension }
 {
@@ -30,8 +30,8 @@ fn plain_kind(dimension: u32) -> Kind
     }
 }
 
-/// The topology of a script that gives none. With one node it is the built-in topology of the dimension, with more nodes it has no
-/// edges.
+/// The topology of a script that gives none. With one node it is `line`, `square` or `cube`, by the dimension. With more nodes it
+/// has no edges.
 pub(crate) fn default_topology(alloc: Global, dimension: u32, nodes: u32) -> Made<Topology>
     requires dimension { (1 ≤ dimension) × (dimension ≤ 3) }
     requires nodes { 1 ≤ nodes }

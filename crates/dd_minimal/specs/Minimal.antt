@@ -27,7 +27,8 @@ thinned enough (s ∷ ss) =
     let first = cond (enough (None ∷ whole ss)) None (Some s) in
     first ∷ thinned (λ p. enough (first ∷ p)) ss
 
--- Fillings are taken in order. One that agrees with an already listed pattern is skipped. Every other one is thinned to a pattern, which is listed.
+-- Fillings are taken in order. A filling that agrees with a pattern of `before`, the patterns listed so far, is skipped. Every
+-- other filling is thinned by `thin` to a pattern, and this pattern is listed.
 abbrev pub listed : (List ℕ → List (Option ℕ)) → List (List (Option ℕ)) → List (List ℕ) → List (List (Option ℕ))
 listed thin before [] = []
 listed thin before (ss ∷ more) =
@@ -42,7 +43,7 @@ pub record IsMinimalList (r : LocalRule) (a : ℕ) (ps : List (List (Option ℕ)
   pub fillings : BreakingFillings r a breaking
   pub list : ps ≡ listed (thinned (all_break r a)) [] breaking
 
--- these patterns belong to the node, and are its minimal list
+-- these patterns belong to the node, fit the rule, and are the minimal list of the rule at the node
 pub record AreMinimal (r : LocalRule) (a : ℕ) (ps : List Partial) : Type 0 where
   pub nodes : All (λ p. p.node ≡ a) ps
   pub fitting : All (IsPartialOf r) ps

@@ -24,12 +24,12 @@ holds_in = fold-Numbered (List ℕ → Bool) holds_in_step
 abbrev pub IsSettled : Numbered → List ℕ → Bool → Type 0
 IsSettled e ss b = (more : List ℕ) → holds_in e (ss ++ more) ≡ b
 
--- the leaf that says that the list has the symbol s at the number, or the constant false if there is no number
+-- the leaf that says that the list has the symbol s at the index k, or the constant false if the cell has no number
 abbrev pub leaf_with : ℕ → Option ℕ → Numbered
 leaf_with s None = roll-Numbered (Numbered-F.Constant false)
 leaf_with s (Some k) = roll-Numbered (Numbered-F.Leaf k s)
 
--- the formula made from an expansion, from the formulas made from its parts
+-- the formula for an expansion, given the formulas for the parts of the expansion
 abbrev pub numbered_step : Numbering → Expanded-F Numbered → Numbered
 numbered_step number (Expanded-F.Constant b) = roll-Numbered (Numbered-F.Constant b)
 numbered_step number (Expanded-F.Leaf c s) = leaf_with s (number c)

@@ -5,7 +5,7 @@ use Rattle.dd_output.specs.declared.{output.Output.Output, fault.CertificateFaul
 use Rattle.dd_output.specs.{Outputs.output_text, Outputs.IsWritableOutput, Outputs.IsWellFormed, reading.Whole.completion}
 use Rattle.dd_output.specs.declared.fault.CertificateFault.TheVariants as faults
 
--- The longest prefix of the bytes with which a well-formed output begins has this length, and `completion` completes it.
+-- The longest prefix of the bytes with which some output begins has this length. The bytes' `completion` completes this prefix.
 pub record IsOffset (bytes : List ℕ) (offset : ℕ) : Type 0 where
   pub within : offset ≤ length bytes
   pub begins : IsWellFormed (take offset bytes ++ completion bytes)
@@ -16,8 +16,8 @@ abbrev pub IsOutputFault : List ℕ → CertificateFault → Type 0
 IsOutputFault bytes faults.Memory = Unit {0}
 IsOutputFault bytes (faults.Malformed offset) = (IsWellFormed bytes → ⊥) × IsOffset bytes offset
 
--- What reading the bytes gives: the only output with this text, or a fault. If there is no such output, the fault gives the offset of the bytes.
--- Otherwise it says that memory ran out.
+-- What reading the bytes gives: the only output with this text, or a fault. The fault gives the offset of the bytes if there is
+-- no such output, or else it says that memory ran out.
 abbrev pub ReadsOutput : List ℕ → Result Output CertificateFault → Type 0
 ReadsOutput bytes (Ok o) = IsWritableOutput o × (bytes ≡ output_text o)
 ReadsOutput bytes (Err fault) = IsOutputFault bytes fault

@@ -26,7 +26,7 @@ use dd_clause::{Clause, Literal};
 use dd_values::{Items, MOST_NUMBER, MOST_VARIABLES};
 use std::alloc::Global;
 
-/// A literal, or `None` for the 0 that ends a list.
+/// A literal, or `None` for the end of the list: a 0 and a space.
 fn literal_entry(bytes: &[u8]) -> Result<(Option<Literal>, &[u8]), ReadFault>
     ensures { Gives (λ x. (literal_seen x.0, x.1.now)) result (literal_entry bytes.now) }
 {
@@ -55,7 +55,7 @@ fn literal_entry(bytes: &[u8]) -> Result<(Option<Literal>, &[u8]), ReadFault>
     }
 }
 
-/// A clause number, or `None` for the 0 that ends a list and the byte `end` after it.
+/// The number of a clause, or `None` for the end of the list: a 0 and the byte `end`.
 fn number_entry(bytes: &[u8], end: u8) -> Result<(Option<u64>, &[u8]), ReadFault>
     ensures { Gives (λ x. (number_seen x.0, x.1.now)) result (number_entry end bytes.now) }
 {
@@ -68,7 +68,7 @@ fn number_entry(bytes: &[u8], end: u8) -> Result<(Option<u64>, &[u8]), ReadFault
     }
 }
 
-/// A clause: its literals, up to the 0 that ends them. They are gathered in the buffer, which is emptied first.
+/// A clause: its literals, up to the end of their list. They are gathered in the buffer, which is emptied first.
 pub(crate) fn clause_of<'a>(
     alloc: Global,
     buffer: &mut Vec<Literal>,
@@ -88,7 +88,7 @@ pub(crate) fn clause_of<'a>(
     }
 }
 
-/// Clause numbers, up to the 0 that ends them and the byte `end` after it. They are gathered in the buffer, which is emptied
+/// Numbers of clauses, up to the end of their list: a 0 and the byte `end`. They are gathered in the buffer, which is emptied
 /// first.
 pub(crate) fn numbers_until<'a>(
     alloc: Global,
@@ -110,8 +110,8 @@ pub(crate) fn numbers_until<'a>(
     }
 }
 
-/// The byte that ends the number with this index, from 0, in the shortest line allowed. That line has `least` numbers. The byte
-/// is a line feed after the last number, and a space after each number before it.
+/// One of the two bytes that can end the number with this index, from 0, in a line of at least `least` numbers. It is a space if
+/// more numbers have to follow, and a line feed otherwise.
 pub(crate) fn end_at(least: u64, index: u64) -> u8
     ensures { result ≡ end_at least index }
 {
@@ -122,8 +122,8 @@ pub(crate) fn end_at(least: u64, index: u64) -> u8
     }
 }
 
-/// The byte that ends the number with this index, from 0, in the longest line allowed. That line has `most` numbers, or never
-/// ends if `most` is `None`. The byte is a line feed after the last number, and a space after each number before it.
+/// The other byte that can end the number with this index, from 0. The line has at most `most` numbers, or may have any number of
+/// them if `most` is `None`. The byte is a line feed if no more numbers may follow, and a space otherwise.
 pub(crate) fn other_at(most: Option<u64>, index: u64) -> u8
     ensures { result ≡ other_at most index }
 {

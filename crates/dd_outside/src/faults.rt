@@ -10,7 +10,7 @@ use thiserror::Error;
 #[error("a read or a write failed")]
 pub struct Failed;
 
-/// A write failed before a whole slice was written.
+/// A write failed before a whole piece was written.
 #[derive(Clone, Copy, Debug, PartialEq, Eq, Error)]
 #[error("a piece was not written whole")]
 pub struct WriteFault;

@@ -1,5 +1,5 @@
 //! Sources, from which bytes are read, and sinks, to which bytes are written. Each counts its faults: the calls that failed.
-//! `read_all` reads a source to its end, and `write_whole` writes a whole slice to a sink.
+//! `read_all` reads a source to its end, and `write_whole` writes a whole piece, which is a slice of bytes, to a sink.
 #![tactic(auto)]
 
 mod faults;

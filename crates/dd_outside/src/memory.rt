@@ -85,8 +85,8 @@ impl MemorySource {
     }
 }
 
-// Copies the bytes from `at` on, at most `step` of them, to the start of `into`. Moves `at` past the copied bytes, and returns
-// their number.
+// Copies the bytes from `at` on to the start of `into`: as many as fit, but at most `step`. Moves `at` past the copied bytes, and
+// returns their number.
 pub(crate) fn give(bytes: &[u8], at: &mut usize, step: usize, into: &mut [u8]) -> usize
     requires in_range { at.old ≤ length bytes.now }
     requires moves { 0 < step }
@@ -183,8 +183,8 @@ impl MemorySink {
     }
 }
 
-// Copies a prefix of the piece, at most `step` bytes, to `room`, after the first `taken` bytes. Adds the length of this prefix
-// to `taken`, and returns the length.
+// Copies a prefix of the piece to `room`, after the first `taken` bytes: as many bytes as fit, but at most `step`. Adds the
+// length of this prefix to `taken`, and returns the length.
 fn take_in(room: &mut [u8], taken: &mut usize, step: usize, piece: &[u8]) -> usize
     requires { taken.old ≤ length room.old }
     ensures count { result ≡ min step (min (length piece.now) (length room.old - taken.old)) }

@@ -1,4 +1,4 @@
-//! Sinks of bytes, and the writing of a whole slice.
+//! Sinks of bytes, and the writing of a whole piece, which is a slice of bytes.
 ghost use Rattle.std.specs.Prelude.{◌≡◌, ◌-◌, ◌^◌, ◌<◌, ◌≤◌, ℕ, List, [], length, Ok, IfOk, OnOk, OnErr};
 ghost use Rattle.std.specs.declared.option.Option.{Option};
 ghost use Rattle.std.specs.Io.{WritesAtMost};

@@ -10,22 +10,23 @@ use Rattle.dd_meanings.specs.Definitions.{count_faults}
 use Rattle.dd_question.specs.{Boxes.is_long, declared.excess.Excess.Excess}
 use Rattle.dd_pairs.specs.Comparisons.{ComparisonOf, image, change, premise, pair_of, goal_of}
 
--- the limit on scripts that corresponds to this limit, which a question exceeds
+-- the limit on scripts that is exceeded if a question exceeds this limit on its work
 abbrev pub limit_of : Excess → Limit
 limit_of Excess.Clauses = Limit.Clauses
 limit_of Excess.Patterns = Limit.Patterns
 limit_of Excess.States = Limit.States
 
--- for an image: the limit on depth, if the formula that says that the second rule is true and the symbol is allowed exceeds it
+-- For an image, a formula says that the second rule is true and that the cell's node allows its symbol. The fault is the limit on
+-- depth, if this formula is too deep.
 abbrev pub guard_faults : Setting → ComparisonOf → List Fault
 guard_faults s (image x f y) = over (nat_lt most_nested (guarded_depth s.sets y)) Limit.Depth
 guard_faults s (change x f g) = []
 
--- that fault; and then the limits that the counts of the left automaton, which is a composition, exceed
+-- the fault of `guard_faults`, and then the limits that the counts of the pair's left automaton exceed
 abbrev pub pair_faults : Setting → ComparisonOf → List Fault
 pair_faults s c = guard_faults s c ++ count_faults s.topology.nodes (counted (pair_of s c).left)
 
--- those faults; and then the limit on clauses, if the question exceeds it
+-- the faults of `pair_faults`, and then the limit on clauses, if the question exceeds it
 abbrev pub comparison_faults : Known → ComparisonOf → List Fault
 comparison_faults k c = pair_faults k.setting c ++ over (is_long k.limits (premise c) (goal_of k.setting c)) Limit.Clauses
 

@@ -76,7 +76,7 @@ pub fn conjugacy<'a>(from: &'a Rule, to: &'a Rule, pairs: &'a [Pair]) -> Conjuga
     }
 }
 
-/// The limit on scripts that corresponds to this limit, which a question exceeds.
+/// The limit on scripts that is exceeded if a question exceeds this limit on its work.
 pub fn limit_of(excess: Excess) -> Limit
     ensures { result ≡ limit_of excess }
 {

@@ -29,7 +29,8 @@ impl Model for Filling {
 }
 
 impl Filling {
-    /// The filling of these cells with these symbols, in the same order. The call allocates nothing.
+    /// The filling of these cells with these symbols, in the same order. The cells must be strictly ascending in cell order. The
+    /// call allocates nothing.
     pub fn new(cells: Vec<Cell>, symbols: Vec<u32>) -> Filling
         requires ascending { IsStrictlySortedBy cell_cmp cells.items }
         requires as_many { length symbols.items ≡ length cells.items }
@@ -56,7 +57,7 @@ impl Filling {
         self.symbols.as_slice()
     }
 
-    /// The filling restricted to these cells, which are in cell order. `None` if one of them isn't in the domain.
+    /// The filling restricted to these cells, which must be strictly ascending. `None` if one of them isn't in the domain.
     pub fn restrict(&self, alloc: Global, cells: &[Cell]) -> Result<Option<Filling>, AllocError>
         requires { IsStrictlySortedBy cell_cmp cells.now }
         ensures { IfOk result (λ found. MatchOption found (IsWanting self.now cells.now) (IsRestriction self.now cells.now)) }
@@ -74,7 +75,8 @@ impl Filling {
         Ok(Some(Filling { cells, symbols }))
     }
 
-    /// The sum of the symbols' weights, where the symbol `s` has the weight `weights[s]`. The filling has at most 2^32 cells.
+    /// The sum of the symbols' weights, where the symbol `s` has the weight `weights[s]`. The filling must have at most 2^32
+    /// cells.
     pub fn weight(&self, weights: &[u32]) -> u64
         requires weights { AreWeights weights.now self.now.symbols }
         requires few { length self.now.cells ≤ 4294967296 }

@@ -116,8 +116,8 @@ fn add_row(
     Ok(())
 }
 
-/// Adds to the set the periods with this `x` and every possible shear. On active axes `y` and `z` take every value from 1 to
-/// `most`, on unused axes only 1.
+/// Adds to the set the periods with this `x` and every possible shear. Each of `y` and `z` takes every value from 1 to `most` if
+/// its axis is one of the first `dim`, else only 1.
 fn add_plane(found: &mut BTreeSet<Periods>, dim: u32, most: u32, x: u32) -> Result<(), AllocError>
     ensures { OnOk result (IsAdded found.old.keys found.new.keys (HasPlane dim most x)) }
 {

@@ -1,4 +1,4 @@
-//! What can be asked for the symbol of a cell. Some values have symbols only for some cells, others for every cell.
+//! Values that can be asked for the symbols of cells. Some have symbols only for some cells, others for every cell.
 ghost use Rattle.std.specs.Prelude.{◌≡◌, ◌<◌, ℕ, Option};
 ghost use Rattle.dd_lattice.specs.declared.position.Cell.{Cell};
 
@@ -14,7 +14,7 @@ pub trait Reads {
         ensures { result ≡ symbols self.now cell.now };
 }
 
-/// Gives a symbol to every cell whose node is below its number of nodes.
+/// Gives a symbol to every cell whose node is below `nodes`.
 pub trait Configuration {
     /// The number of nodes of each position.
     ghost nodes: { Self → ℕ };

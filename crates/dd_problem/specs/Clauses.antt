@@ -41,7 +41,7 @@ clauses_from x first cells = flat_map (λ numbered. symbol_clauses x numbered.0 
 abbrev pub cell_clauses : LocalRule → List Cell → List (List Literal)
 cell_clauses x cells = clauses_from x 0 cells
 
--- one part of a problem: some gates, and then clauses over their signals
+-- one part of a problem, which is the clause list of a question: some gates, and then clauses over their signals
 pub record Part : Type 0 where
   pub makers : List Maker
   pub tail : List Signal → List (List Literal)

@@ -12,7 +12,8 @@ apart [] ys = []
 apart (x ∷ xs) [] = []
 apart (x ∷ xs) (y ∷ ys) = And (x ∷ opposite y ∷ []) ∷ apart xs ys
 
--- the gates of the first value, those of the second, the gate above for each of k symbols, and a gate that says that some of these k gates is true
+-- the gates of the first value, those of the second, the gates of `apart` for the k symbols, and a gate that says that some gate
+-- of `apart` is true
 abbrev pub differ_made : ℕ → Automaton → Automaton → Wiring → Cell → Maker
 differ_made k f g w at n =
     let left = value_made k f w at n in

@@ -37,7 +37,7 @@ pub fn box_clauses(
     ensures shows { IfOk result (λ cnf. Shows cnf.clauses premise.now (goal_of premise.now goal.now) radius) }
     ensures decides { IfOk result (λ cnf. DecidesBox cnf.clauses premise.now (goal_of premise.now goal.now) radius) }
 {
-    // This call tells the proof what the goal reads, and what the gates of its automata's values say.
+    // This call brings in the facts about the goal that the proof needs.
     goal_facts(premise, goal);
     let symbols = premise.symbols();
     let bounds = centred_box(premise.dim(), radius).unwrap();

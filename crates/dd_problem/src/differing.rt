@@ -42,8 +42,8 @@ fn compile_apart(
     Ok(signals)
 }
 
-/// Adds the gates of both automata's values at this node of the origin. Returns the signal that says whether the values are
-/// different.
+/// Adds the gates of both automata's values at this node of the origin, and gates that compare the values. Returns the signal
+/// that says whether the values are different.
 pub(crate) fn compile_differ(
     circuit: &mut Circuit,
     alloc: Global,

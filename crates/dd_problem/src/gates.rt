@@ -104,7 +104,8 @@ pub(crate) fn push_places(
     Ok(())
 }
 
-/// Adds the gates of the rule at each node of the position `at`, and the clause that says that the rule is false at some node.
+/// Adds the gates of the rule at each node of the position `at`, and the clauses of these gates. Then adds the clause that says
+/// that the rule is false at some node.
 fn push_some_false(
     alloc: Global,
     encoder: &mut Encoder,
@@ -125,8 +126,8 @@ fn push_some_false(
     encoder.push_clause(&literals)
 }
 
-/// Adds the gates of both automata's values at each node of the origin, and the clause that says that the values are different
-/// at some node.
+/// For each node of the origin, adds the gates that say whether the values of the two automata are different there, and the
+/// clauses of these gates. Then adds the clause that says that the values are different at some node.
 fn push_differ(
     alloc: Global,
     encoder: &mut Encoder,

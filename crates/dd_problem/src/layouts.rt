@@ -1,4 +1,4 @@
-//! The cells of a box of positions, and the inputs that say which symbols they have.
+//! The cells of a box of positions, and the inputs that say which symbols the cells have.
 ghost use Rattle.std.specs.Prelude.{◌≡◌, ◌≤◌, ◌<◌, ◌+◌, ◌*◌, length, IfOk};
 ghost use Rattle.std.specs.List.Sorted.{IsStrictlySortedBy};
 ghost use Rattle.dd_values.specs.Bounds.{most_variables};
@@ -56,7 +56,7 @@ pub(crate) fn symbol_signals(
     Ok(signals)
 }
 
-/// Inputs for the cells, which are numbered from 0 in their order.
+/// Inputs for the cells. The number of a cell is its index in `cells`, from 0.
 pub(crate) fn inputs_in_turn(
     alloc: Global,
     cells: &[Cell],

@@ -115,8 +115,8 @@ fn near_cells(
     Ok(once_each(found))
 }
 
-/// Inputs for the cells: each cell has the signals of the number that `numbers` gives it. `numbers` is a configuration with
-/// numbers in place of symbols.
+/// Inputs for the cells. `numbers` is a configuration that gives each cell a number in place of a symbol. The inputs of a cell
+/// are the signals of its number.
 fn inputs_by_number(
     alloc: Global,
     cells: &[Cell],
@@ -202,7 +202,7 @@ pub fn torus_clauses(
     ensures exact { IfOk result (λ cnf. cnf ≡ torus_problem premise.now (goal_of premise.now goal.now) (periods_of periods shear)) }
     ensures shows { IfOk result (λ cnf. ShowsTorus cnf.clauses premise.now (goal_of premise.now goal.now) (periods_of periods shear)) }
 {
-    // This call tells the proof what the goal reads, and what the gates of its automata's values say.
+    // This call brings in the facts about the goal that the proof needs.
     goal_facts(premise, goal);
     let [x, y, z] = periods;
     let torus = Periods { x, y, z, shear };

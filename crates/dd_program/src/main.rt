@@ -1,5 +1,5 @@
-//! The program: its arguments, standard input and output, engines and exit code. An engine is a value that is asked before a
-//! search, and may propose its result.
+//! The program: its arguments, standard input and output, engines and exit code. An engine is asked before a search, and may
+//! propose the search's result.
 #![tactic(auto)]
 
 use dd_engines::{Engine, Propagator, Roster, Walker};

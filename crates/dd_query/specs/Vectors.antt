@@ -3,11 +3,11 @@ use Rattle.std.specs.{Prelude.◌≡◌, Prelude.ℕ, Prelude.List, Prelude.fals
 use Rattle.dd_lattice.specs.Place.{Place, place}
 use Rattle.dd_faults.specs.{Tree.Vector, Commands.signed_value, Commands.is_far}
 
--- the coordinate along an axis: the value of the entry for it, or 0 if there is none
+-- the coordinate along an axis: the value of the vector's entry for this axis, or 0 if the vector has none
 abbrev pub coordinate : List ℕ → Vector → ℕ → ℤ
 coordinate bytes v axis = option_map_or (signed_value bytes) (slice_get v.entries axis) (pos 0)
 
--- the position whose coordinates are the entries of this vector
+-- the position whose coordinates are the entries of this vector; missing coordinates are 0
 abbrev pub place_of : List ℕ → Vector → Place
 place_of bytes v = place (coordinate bytes v 0) (coordinate bytes v 1) (coordinate bytes v 2)
 

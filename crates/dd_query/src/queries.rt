@@ -15,8 +15,8 @@ use dd_lattice::Position;
 use dd_values::Items;
 use std::alloc::{AllocError, Global};
 
-/// A query of a script. It refers to rules, automata and configurations by their numbers. Each of these three kinds is numbered
-/// separately, from 0, in the order of the definitions.
+/// A query of a script. It refers to rules, automata and configurations by their numbers. Rules, automata and configurations are
+/// numbered separately, each from 0, in the order of their definitions.
 #[derive(Debug, Drop)]
 pub enum Query {
     /// Whether the configuration is in the rule's subshift.
@@ -117,7 +117,7 @@ fn conjugate(context: &Context, request: &Request) -> Query
     }
 }
 
-/// The query with this syntax tree, whose numbers and vectors are within their bounds.
+/// The query with this syntax tree. The query's numbers and vectors must be within their bounds.
 fn asked(alloc: Global, context: &Context, request: &Request) -> Result<Query, AllocError>
     requires within { IsQueryWithin context.now.known (query_of context.now request.now) }
     requires nodes { 1 ≤ length context.now.known.setting.nodes }
@@ -163,7 +163,7 @@ fn asked(alloc: Global, context: &Context, request: &Request) -> Result<Query, A
     })
 }
 
-/// The query with this syntax tree, which has no faults.
+/// The query with this syntax tree. The syntax tree must have no faults.
 pub fn ask(alloc: Global, context: &Context, request: &Request) -> Result<Query, AllocError>
     requires sound { IsSound context.now.known }
     requires written { IsRequest request.now }

@@ -8,7 +8,7 @@ use dd_faults::signed_value;
 use dd_lattice::Position;
 use dd_written::Text;
 
-/// The coordinate along an axis: the value of the entry for it, or 0 if there is none.
+/// The coordinate along an axis: the value of the vector's entry for this axis, or 0 if the vector has none.
 fn coordinate(text: &Text, vector: &Vector, axis: usize) -> i32
     requires { IsClose text.now vector.now }
     ensures value { result ≡ coordinate text.now vector.now axis }

@@ -14,11 +14,13 @@ clauses_of l x g = largest_clauses x (goal_clauses g) (max l.radius (goal_reach 
 abbrev pub is_long : Limits → LocalRule → GoalOf → Bool
 is_long l x g = nat_lt most_clauses (clauses_of l x g)
 
--- the parts of the box question fit together: the premise is a rule, and the goal fits it
+-- the parts of the box question fit together: the premise is a rule, the goal fits it, and the goal's rule, if it has one, is a
+-- rule
 abbrev pub IsFormedBox : LocalRule → GoalOf → Type 0
 IsFormedBox x g = IsRule x × IsGoalFor x g × KeepsRule g
 
--- the goal fits the premise, and the question takes at most 2,000,000 clauses on the largest box and torus that a search may try
+-- the goal fits the premise; the goal's rule, if it has one, is a rule; and the question takes at most 2,000,000 clauses on the
+-- largest box and on the largest torus that a search may try
 pub record IsAskable (l : Limits) (x : LocalRule) (g : GoalOf) : Type 0 where
   pub goal : IsGoalFor x g
   pub rule : KeepsRule g

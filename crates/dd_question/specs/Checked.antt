@@ -13,12 +13,14 @@ pub record AskedWithin : Type 0 where
 abbrev pub asked_within : Limits → Asked → AskedWithin
 asked_within l a = record { question = a; limits = l }
 
--- what holds of a checked question: the limits are in range, its parts fit together, and it exceeds no limit
+-- what holds of a checked question: the limits of its search are in range, its parts fit together, and it exceeds no limit on
+-- its work
 pub record IsChecked (q : AskedWithin) : Type 0 where
   pub limits : AreLimits q.limits
   pub sound : IsSoundAsked q.limits q.question
 
--- the fault is right: the limits are out of range; or else some part doesn't fit those before it; or else the question exceeds a limit on its work
+-- the fault is right: the limits of the search are out of range; or else some part doesn't fit those before it; or else the
+-- question exceeds a limit on its work
 pub data IsFaultWithin (l : Limits) (a : Asked) : QuestionFault → Type 0 where
   limits_fault : ¬ AreLimits l → IsFaultWithin l a fault.Limits
   part_fault : {f : QuestionFault} → AreLimits l → IsPartFault a f → IsFaultWithin l a f

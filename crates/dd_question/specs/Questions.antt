@@ -37,9 +37,10 @@ pub data Asked : Type 0 where
   -- what is the least weight of the fundamental box, the box that repeats, over the configurations that obey the rule and have these periods and no
   -- shear?
   least : LocalRule → List ℕ → List ℕ → Asked
-  -- What is the best lower bound that a discharge gives? Each position first holds its weight, and then sends an amount along each of the vectors. A
-  -- bound is an amount that each position holds at least after that. The first number is the radius: the pattern within this radius around a position
-  -- determines what it sends. The second number is the margin: the region whose fillings are examined is larger by the margin in every direction.
+  -- What is the best lower bound that a discharge shows? Each position first holds its weight, and then gives an amount along
+  -- each of the vectors. A bound is an amount that each position holds at least after that. The first number is the radius: the
+  -- pattern within this radius around a position determines what it gives. The second number is the margin: the region whose
+  -- fillings are examined is larger by the margin in every direction.
   discharge : LocalRule → ℕ → ℕ → List Place → List ℕ → Asked
 
 -- the question that a value of the code stands for
@@ -94,7 +95,7 @@ pub data IsPartFault : Asked → QuestionFault → Type 0 where
       IsPartFault (discharge x radius margin vs ws) f
   memory_fault : {a : Asked} → IsPartFault a fault.Memory
 
--- the limit e if b is true, which says that the limit is exceeded; otherwise none
+-- the limit e if b is true, otherwise none; b says whether the limit e is exceeded
 abbrev pub passed : Bool → Excess → Option Excess
 passed b e = if b then Some e else None
 

@@ -1,4 +1,4 @@
-//! The check of a question: whether the limits are in range, whether the parts of the question fit together, and whether it asks
+//! The check of a question: whether the limits of its search are in range, whether its parts fit together, and whether it asks
 //! for too much work.
 ghost use Rattle.std.specs.Prelude.{◌≡◌, IfOk, IfErr, OnOk};
 ghost use Rattle.dd_question.specs.Questions.{asked_of, IsFormed, IsPartFault};
@@ -57,8 +57,8 @@ impl<'a> Question<'a> {
     /// The question, checked within these limits.
     ///
     /// # Errors
-    /// `Limits` if the limits are out of range; else the fault of the first part that doesn't fit those before it; else `Excess`
-    /// if the question exceeds a limit on its work; or `Memory`.
+    /// `Limits` if these limits are out of range; else the fault of the first part that doesn't fit those before it; else
+    /// `Excess` if the question exceeds a limit on its work. `Memory` if memory runs out in a test.
     #[tactic(auto, using(crate::specs::Checked::limits_fault, crate::specs::Checked::part_fault, crate::specs::Checked::excess_fault, crate::specs::Questions::memory_fault))]
     pub fn check(self, alloc: Global, limits: &Limits) -> Result<CheckedQuestion<'a>, QuestionFault>
         ensures ok { IfOk result (λ question. question ≡ asked_within limits.now (asked_of self.entry)) }

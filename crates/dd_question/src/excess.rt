@@ -4,7 +4,8 @@
 #[derive(Clone, Copy, Debug, PartialEq, Eq)]
 pub enum Excess {
     /// The search needs more than 2,000,000 clauses. For a box question, they are counted for the largest box or torus that a
-    /// search may try. For a least weight, they are counted for the greatest weight that the fundamental box can have.
+    /// search may try. For a least weight, they are counted for a bound on the weight: the number of cells of the fundamental box
+    /// times the greatest weight in the question.
     Clauses,
     /// At some node, the cells that the rule reads have more than 65,536 fillings. Each of them may be a forbidden pattern.
     Patterns,

@@ -23,7 +23,7 @@ pub enum QuestionFault {
     #[error("the goal doesn't fit the premise")]
     Goal,
     /// The two rules differ in their dimension, their number of nodes or their alphabet.
-    #[error("the rules have not the same dimension, nodes and alphabet")]
+    #[error("the rules differ in dimension, number of nodes or alphabet")]
     Rules,
     /// A period of the strip is not in the range 1 to 64, or it is not 1 along an axis past the rule's dimension.
     #[error("a period of the strip is out of range")]
@@ -46,7 +46,7 @@ pub enum QuestionFault {
     #[error("there aren't 1 to 16 different vectors of at most 4 along each axis")]
     Vectors,
     /// The question exceeds a limit on its work.
-    #[error("the question passes a limit on its work")]
+    #[error("the question exceeds a limit on its work")]
     Excess(Excess),
     /// Memory ran out.
     #[error("out of memory")]

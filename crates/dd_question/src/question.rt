@@ -52,8 +52,8 @@ pub enum Question<'a> {
         periods: [u32; 3],
         weights: &'a [u32],
     },
-    /// What is the best lower bound that a discharge gives? In a discharge, each position first holds its weight, and then sends
-    /// an amount along each of the vectors. The pattern within `radius` around a position determines what it sends. A bound is an
+    /// What is the best lower bound that a discharge shows? In a discharge, each position first holds its weight, and then gives
+    /// an amount along each of the vectors. The pattern within `radius` around a position determines what it gives. A bound is an
     /// amount that each position holds at least after that. The region whose fillings are examined is larger by `margin` in every
     /// direction.
     Discharge {

@@ -1,5 +1,5 @@
--- Which answers to questions are right. A box question has a rule, the premise, and a goal: a property of a position, such as that another rule is
--- broken there. It asks whether the goal holds nowhere in any configuration that obeys the premise.
+-- Which answers to questions are right. A box question has a rule, the premise, and a goal: a property of a position, such as
+-- that another rule is broken there. It asks whether no configuration that obeys the premise has the goal at any position.
 use Rattle.std.specs.{Prelude.◌≡◌, Prelude.Bool, Prelude.nat_eq, Prelude.codes, List.starts_with}
 use Rattle.dd_pattern.specs.Tile.{Tile}
 use Rattle.dd_formula.specs.LocalRule.{LocalRule}

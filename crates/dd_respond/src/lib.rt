@@ -2,9 +2,9 @@
 //! their evidence.
 //!
 //! Some questions come down to box questions. A box question has a rule, the premise, and a goal: a property of a position, such
-//! as that another rule is broken there. It asks whether the goal holds nowhere in any configuration that obeys the premise. For
-//! box questions, the engines of a roster are asked before a search. An engine is any value that proposes a result of the search.
-//! It is sound if all that it proposes is right.
+//! as that another rule is broken there. It asks whether no configuration that obeys the premise has the goal at any position.
+//! For box questions, the engines of a roster, a list of engines, are asked before a search. An engine is any value that proposes
+//! a result of the search. It is sound if all that it proposes is right.
 #![tactic(auto)]
 
 mod boxes;

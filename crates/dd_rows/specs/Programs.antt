@@ -36,7 +36,8 @@ row_of x ws radius vs ps look =
     let box = box_cells x radius in
     record { coefficients = coefficients ps (pattern_at box look origin) (givers box vs look); bound = origin_weight x ws look }
 
--- the first row; it says that column 0 is at most the greatest weight that a position can have
+-- The first row. It says that column 0 is at most the number of nodes times the greatest of the weights ws. No position weighs
+-- more.
 abbrev pub greatest_weight_row : LocalRule → List ℕ → List Place → List (List ℕ) → Row
 greatest_weight_row x ws vs ps = record { coefficients = pos 1 ∷ replicate (length vs * length ps) (pos 0); bound = x.nodes * greatest ws }
 

@@ -7,8 +7,8 @@ use thiserror::Error;
 /// Why the program of a rule was not made.
 #[derive(Clone, Copy, Debug, PartialEq, Eq, Error)]
 pub enum RowsFault {
-    /// A prefix of the list of cells has more than 65,536 admissible fillings, or the program has more than 2,048 rows or 256
-    /// columns.
+    /// Some prefix of the list of cells has more than 65,536 admissible fillings, or the program would have more than 256
+    /// columns or more than 2,048 rows.
     #[error("the program of the discharge is too large")]
     Large,
     /// Memory ran out.

@@ -4,9 +4,9 @@
 //! great as possible. To make the program, this crate lists the cells around the origin that matter, in cell order (by z, then
 //! y, then x, then the node), and their admissible fillings. (A filling is admissible if the rule is true at each cell where
 //! the rule fits: where the cell, and each cell that the rule reads there, has a symbol.) The cells that matter are those of
-//! the boxes around the origin and around the positions that give to it, and all cells up to a given distance from these, the
-//! margin. Their positions are in range: each coordinate is at most 2^20 in absolute value. From the fillings come the
-//! patterns that they show, and the distinct rows that they require. (A row is a linear inequality.)
+//! the boxes around the origin and around the positions that give to it, and those near them: along each axis, at most the
+//! margin away from a cell of these boxes. All their positions are in range: each coordinate is at most 2^20 in absolute value.
+//! From the fillings come the patterns that they show, and the distinct rows that they require. (A row is a linear inequality.)
 #![tactic(auto, using(std::proofs::lemmas::Grind::common_steps))]
 
 mod domain;

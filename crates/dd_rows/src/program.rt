@@ -114,7 +114,7 @@ fn add_row(rows: &mut IndexSet<SparseRow>, row: SparseRow) -> Result<(), RowsFau
 }
 
 /// A first row, and then the distinct rows that the fillings require. The first row says that column 0 is at most `heaviest`,
-/// the greatest weight that a position can have. Stops as soon as there are too many rows.
+/// a bound for the weight of a position. Stops as soon as there are too many rows.
 fn distinct_rows(
     alloc: Global,
     fillings: &[Items<u32>],
@@ -219,12 +219,12 @@ fn program_shown(
     program_listed(alloc, shown.as_slice(), views, weights, heaviest)
 }
 
-/// The program of a rule along the vectors. Its cells are those of the domain of this radius, grown by the margin. `weights`
-/// has one weight for each symbol.
+/// The program of a rule along the vectors. Its fillings are those of the ground, which is the domain of this radius grown by
+/// the margin. `weights` has one weight for each symbol.
 ///
 /// # Errors
-/// - `Large` if a prefix of the cells of the grown domain has more than 65,536 admissible fillings, or if the program would
-///   have more than 256 columns or 2,048 rows. Then there is no program.
+/// - `Large` if some prefix of the ground's list of cells has more than 65,536 admissible fillings, or if the program would have
+///   more than 256 columns or more than 2,048 rows. Then there is no program.
 /// - `Memory` if memory ran out.
 pub fn program_of(
     alloc: Global,

@@ -1,6 +1,6 @@
 //! The search for admissible fillings of a list of cells. It goes level by level. Level k has all admissible fillings of the
-//! first k cells, and the next level fills one more cell. A cell's number is its index in the list. The rule reads a cell if
-//! its formula looks at the cell's symbol.
+//! first k cells, and the next level fills one more cell. A cell's number is its index in the list. The cells that the rule
+//! reads at a cell are those whose symbols the rule's formula looks at there.
 ghost use Rattle.std.specs.Prelude.{◌≡◌, ◌<◌, ◌≤◌, ◌+◌, ◌++◌, [], ◌∷◌, length, map, IfOk, OnOk, IfErr};
 ghost use Rattle.std.specs.List.{flat_map, range_with_len};
 ghost use Rattle.std.specs.List.Sorted.{IsStrictlySortedBy};
@@ -175,8 +175,9 @@ fn places_by_number(
     Ok(places)
 }
 
-/// All admissible fillings of the cells, in the lexicographic order of their symbols. In such a filling each cell has a symbol
-/// that its node allows. The rule is true at each of the cells where all cells that it reads have symbols.
+/// All admissible fillings of the cells, in the lexicographic order of their symbols. In an admissible filling, each cell has a
+/// symbol that its node allows. And the rule is true at each of the cells where it fits: where each cell that the rule reads
+/// there has a symbol.
 ///
 /// # Errors
 /// - `Large` if a prefix of the cells has more than 65,536 admissible fillings.

@@ -19,7 +19,8 @@ pub(crate) struct Exchange {
     receives: usize,
 }
 
-/// A row: what the origin exchanges along each vector, and the bound. `None` means that the two patterns are equal.
+/// A row: what the origin exchanges along each vector, and the bound. `None` means that there is no exchange along the vector:
+/// one pattern determines both the amount that the origin gives and the amount that it receives.
 #[derive(PartialEq, Eq, Hash, Drop)]
 pub(crate) struct SparseRow {
     exchanges: Vec<Option<Exchange>>,

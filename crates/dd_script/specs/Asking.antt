@@ -4,7 +4,7 @@ use Rattle.dd_question.specs.Questions as question
 use Rattle.dd_question.specs.Questions.{Asked, IsSoundAsked}
 use Rattle.dd_script.specs.{Kept.IsRuleOf, Parts.Parts, Parts.Known, Parts.Query, Questions.asked}
 
--- the rules of the question have the script's topology, nodes and symbols
+-- the rules of the question, except those in goals, have the script's topology, nodes and symbols
 abbrev pub AreOf : Known → Asked → Type 0
 AreOf k (question.membership x t) = IsRuleOf k.setting x
 AreOf k (question.box x g) = IsRuleOf k.setting x

@@ -16,6 +16,6 @@ pub record Parts : Type 0 where
   pub configurations : List Tile
   pub queries : List Query
 
--- the parts of the script whose names and settings are k, and which defines and asks what m holds
+-- the parts of a script: k holds its names and settings, and m holds what it defines and asks
 abbrev pub parts : Known → Made → Parts
 parts k m = record { known = k; rules = m.rules; automata = m.automata; configurations = m.configurations; queries = m.queries }

@@ -35,15 +35,15 @@ asked s (Query.Density rule strip) = option_map (λ x. question.density x strip 
 asked s (Query.Least rule periods) = option_map (λ x. question.least x periods s.known.weights) (slice_get s.rules rule)
 asked s (Query.Discharge rule radius margin vectors) = option_map (λ x. question.discharge x radius margin vectors s.known.weights) (slice_get s.rules rule)
 
--- the limit on the work for a question that the query's question exceeds, if any; the work depends on the script's limits of the searches
+-- The limit on its work that the query's question exceeds, if there is one. The work depends on the script's limits on searches.
 abbrev pub query_excess : Parts → Query → Option Excess
 query_excess s q = option_and_then (excess_of s.known.limits) (asked s q)
 
--- the comparisons that a query consists of (questions about an image or a change under automata), and below the pairs of automata that the query asks
--- about
+-- the comparisons that a query consists of: each asks about images under an automaton, or about changes under two automata
 abbrev pub comparisons_for : Parts → Query → List ComparisonOf
 comparisons_for s q = comparisons_asked s.rules s.automata q
 
+-- the pairs of automata that a query asks about, one for each comparison
 abbrev pub pairs_for : Parts → Query → List Pair
 pairs_for s q = pairs_of s.known.setting s.rules s.automata q
 

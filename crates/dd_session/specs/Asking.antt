@@ -70,7 +70,8 @@ IsUnanswered Memory = ⊥
 IsUnanswered BadWords = Unit {0}
 IsUnanswered Rejected = Unit {0}
 
--- The bytes are a script. If one of its queries asks a box question, the first engine that is left was asked, if one is left.
+-- The bytes are a script. If one of its queries comes down to box questions, the first engine that is left, if there is one, was
+-- asked.
 pub record AsksFirstOver (bytes : List ℕ) (before after : List Seen) : Type 0 where
   pub script : Parts
   pub spelled : Spells bytes script
@@ -97,5 +98,6 @@ pub record RunConsults {S K E : Type 0} (source : Change S) (sink : Change K) (r
   pub late : AreUnasked roster ⊎ HasBegun source.bytes_old source.bytes_new sink.bytes_old sink.bytes_new
   -- No engine is asked for an input that is refused.
   pub refused : (bytes : List ℕ) → source.bytes_old ≡ Some bytes → ¬ IsAccepted bytes → AreUnasked roster
-  -- If all queries were answered and one of them asks a box question, the first engine that is left was asked.
+  -- If all queries were answered and one of them comes down to box questions, the first engine that is left, if there is one, was
+  -- asked.
   pub asked : IsToEnd status → AsksFirst source.bytes_old source.bytes_new roster.before roster.after

@@ -9,7 +9,8 @@ use Rattle.dd_session.specs.declared.status.Status.TheVariants.{Definite, SomeUn
 use Rattle.dd_session.specs.{Answers.IsOpenAs, Output.long_line, Output.refused_line, Output.refused_words}
 use Rattle.dd_session.specs.{Sides.Change, Sides.IsUntouched, Sides.HasFailed, Written.WholeOutput, Written.CutShort}
 
--- The bytes are a script, and its whole output was written. `has` says whether some answer is UNKNOWN, which depends on the script alone.
+-- The bytes are a script, and its whole output was written. `has` says whether some answer is UNKNOWN. This depends on the script
+-- alone.
 pub record WholeRun (old new : Option (List ℕ)) (bytes : List ℕ) (has : Bool) : Type 0 where
   pub script : Parts
   pub spelled : Spells bytes script

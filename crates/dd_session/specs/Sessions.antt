@@ -70,5 +70,6 @@ pub record Consults {S K E : Type 0} (words : List (List ℕ)) (source : Change 
   pub run : IsOnly (codes "run") words → RunConsults source sink roster status
   -- A check asks no engine.
   pub check : IsOnly (codes "check") words → AreUnasked roster
-  -- If all queries of a sample were answered and one of them asks a box question, the first engine that is left was asked.
+  -- If all queries of a sample were answered and one of them comes down to box questions, the first engine that is left, if there
+  -- is one, was asked.
   pub sample : (number : ℕ) → IsSample number words → IsToEnd status → AsksFirstOver (sample_text number) roster.before roster.after

@@ -42,13 +42,13 @@ RefusedBy sink line Memory = ⊥
 RefusedBy sink line BadWords = ⊥
 RefusedBy sink line Rejected = ⊥
 
--- The line for a script that is refused was written, or a prefix of it if the sink failed. The line begins with `words`.
+-- The line for bytes that aren't a script was written, or a prefix of this line if the sink failed. The line begins with `words`.
 pub record LineRefused {K : Type 0} (sink : Change K) (words : List ℕ) (command : ℕ) (kind : ScriptKind) (status : Status) : Type 0 where
   pub line : List ℕ
   pub line_is : IsLineOf words command kind line
   pub wrote : RefusedBy sink line status
 
--- The same, or memory ran out before anything was written.
+-- The line was written as `LineRefused` says, or memory ran out before anything was written.
 abbrev pub RefusedFor : {K : Type 0} → Change K → List ℕ → ℕ → ScriptKind → Status → Type 0
 RefusedFor sink words command kind status = LineRefused sink words command kind status ⊎ ((status ≡ Memory) × IsUntouched sink)
 

@@ -1,6 +1,6 @@
--- Right answers to the queries of a script, as they are written. `written` takes the number of a query and an answer to it, and gives what is
--- written of the answer: the whole text or the first line. `old` and `new` are the bytes that the sink holds before and after, if they are known.
--- `has` says whether some answer is UNKNOWN.
+-- Right answers to the queries of a script, as they are written. `written` takes the number of a query and an answer to it, and
+-- gives what is written of the answer: the whole text or the first line. `old` and `new` are the bytes that the sink holds before
+-- and after a call, if they are known. `has` says whether some answer is UNKNOWN.
 use Rattle.std.specs.Prelude.{◌≡◌, ◌⊎◌, ℕ, List, [], ◌++◌, length, Bool}
 use Rattle.std.specs.{declared.option.Option.Option, Io.KnownBytes.Appends}
 use Rattle.dd_outside.specs.Bytes.{GainsFront}
@@ -18,7 +18,7 @@ pub record Answered (written : ℕ → Answer → List ℕ) (old new : Option (L
   pub unknown_is : has_unknown answers ≡ has
   pub appends : Appends old new (texts written first answers)
 
--- A prefix of the text of right answers to these queries was written.
+-- A prefix of a text was written. The text has right answers to the first of these queries, perhaps not to all of them.
 pub record AnsweredFront (written : ℕ → Answer → List ℕ) (old new : Option (List ℕ)) (s : Parts) (queries : List Query) (first : ℕ) : Type 0 where
   pub answers : List Answer
   pub right : AllRight s queries answers
@@ -32,7 +32,8 @@ pub record AnsweredToEnd (written : ℕ → Answer → List ℕ) (old new : Opti
   pub unknown_is : has_unknown answers ≡ has
   pub appends : Appends old new (texts written 1 answers ++ end_line)
 
--- A prefix of this text was written: right answers to the first queries, and possibly the end line, if these are all queries.
+-- A prefix of a text was written. The text has right answers to the first queries of the script. If it answers all queries, the
+-- end line may follow.
 pub record AnsweredShort (written : ℕ → Answer → List ℕ) (old new : Option (List ℕ)) (s : Parts) : Type 0 where
   pub answers : List Answer
   pub ending : List ℕ
@@ -48,7 +49,8 @@ pub record WholeOutput (old new : Option (List ℕ)) (bytes : List ℕ) (s : Par
   pub unknown_is : has_unknown answers ≡ has
   pub appends : Appends old new (output_of bytes answers)
 
--- A prefix of this text was written: the header, right answers to the first queries, and possibly the end line, if these are all queries.
+-- A prefix of a text was written. The text has the header, and right answers to the first queries of the script. If it answers
+-- all queries, the end line may follow.
 pub record CutShort (old new : Option (List ℕ)) (bytes : List ℕ) (s : Parts) : Type 0 where
   pub answers : List Answer
   pub ending : List ℕ

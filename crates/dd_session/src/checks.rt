@@ -95,7 +95,8 @@ fn check<S: Source, K: Sink>(alloc: Global, source: &mut S, sink: &mut K) -> Sta
     }
 }
 
-/// Reads an output from the source and checks the answer to each query of its script. Each line is written as soon as it is known.
+/// Reads an output from the source, checks the answer to each query of its script, and writes lines to the sink. Each line is
+/// written as soon as it is known.
 ///
 /// The line for query K is `query K accepted` or `query K rejected`. A query is rejected if it has no answer, or if its answer
 /// isn't a certificate. An answer without a query is rejected too. The first rejection ends the check. If there is none, the last

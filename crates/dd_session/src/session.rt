@@ -254,13 +254,14 @@ fn run_sample<K: Sink, E: Engine>(
 /// If the source fails, nothing is written. If the sink fails or memory runs out, perhaps only a prefix of the text was written.
 ///
 /// `run` and `sample` ask the engines of the roster before each search that a box question takes. What is written is right,
-/// whatever the engines propose. So if the status is `Definite` or `SomeUnknown`, the status and the first line of each answer are
-/// the same with every roster. Other statuses may differ, since an engine may run out of memory.
+/// whatever the engines propose. A run comes to its end if its status is `Definite` or `SomeUnknown`. The status and the first
+/// line of each answer are the same with every roster with which the run comes to its end. With some rosters it may not come to
+/// its end, since an engine may run out of memory.
 ///
 /// On every return all sound engines are still in the roster, in the same order. The header of an output is all lines before the
 /// first answer. `run` asks no engine before the whole header is written, and none for an input that is refused. `check` asks no
-/// engine. If a run or a sample comes to its end and some query asks a box question, the first engine that is left, if there is
-/// one, was asked. Only engines that aren't sound were dropped before it.
+/// engine. If a run, or the run of a sample, comes to its end and some query comes down to box questions, the first engine that
+/// is left, if there is one, was asked. All engines that stood ahead of it were dropped, and none of these was sound.
 pub fn run_diddy<S: Source, K: Sink>(
     alloc: Global,
     words: &[String],

@@ -5,7 +5,7 @@
 pub enum Status {
     /// Every query has a definite answer.
     Definite = 0,
-    /// Some answer is UNKNOWN: its query wasn't settled within the stated limits.
+    /// Some answer is UNKNOWN: its query wasn't settled within the limits on the work for one answer.
     SomeUnknown = 1,
     /// The input was refused, and no query was answered or checked.
     Refused = 2,

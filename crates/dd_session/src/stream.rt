@@ -23,7 +23,7 @@ use dd_query::Query;
 use dd_script::Script;
 use std::alloc::{AllocError, Global};
 
-/// Why the writing of answers broke off.
+/// Why a call that writes answers, or the verdicts of a check, failed.
 #[derive(Clone, Copy, Debug, PartialEq, Eq)]
 pub(crate) enum RunFault {
     /// The sink failed.

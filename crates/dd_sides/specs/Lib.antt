@@ -1,6 +1,6 @@
 -- sums over boxes of positions
 pub mod Sums
--- boxes of every side at every position, their fillings and their weight
+-- boxes of every side length at every position, their fillings and their weight
 pub mod Sides
 -- how much a box may receive from outside
 pub mod Boundaries

@@ -1,4 +1,4 @@
--- A bound, lifted to boxes of every side at every position of Z^d.
+-- A bound, lifted to boxes of every side length at every position of Z^d.
 use Rattle.std.specs.Prelude.{ℕ, ◌+◌, ◌*◌, ◌^◌, ◌≤◌, ◌≡◌, true, List, map, length}
 use Rattle.dd_lattice.specs.Place.{Place}
 use Rattle.dd_topology.specs.Topology.{extent}

@@ -33,9 +33,9 @@ one_only q p = cond (int_eq p.x q.x && int_eq p.y q.y && int_eq p.z q.z) 1 0
 pub record IsSide (d n : ℕ) (u : Place) : Type 0 where
   -- the positions of the box are those of Side(n), moved by u
   pub positions : (p : Place) → (is_in_box (side d n) u p ≡ true) ↔ IsInSide d n (seen_from u p)
-  -- a sum over the box counts each of them once, and no other position
+  -- a sum over the box counts each position of the box once, and no other position
   pub once : (q : Place) → box_sum (side d n) u (one_only q) ≡ cond (is_in_box (side d n) u q) 1 0
-  -- the grown box has exactly the positions within e of one of them
+  -- the grown box has exactly the positions within e of a position of the box
   pub grown : (e : ℕ) (p : Place) → (is_in_grown d n e u p ≡ true) ↔ ((q : Place) × IsInSide d n (seen_from u q) × IsCentred d e (seen_from q p))
 
 -- c is a cell of the grown box, with one of the rule's nodes

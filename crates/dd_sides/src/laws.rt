@@ -1,4 +1,4 @@
-//! The laws of boxes of every side, stated as contracts of functions that do nothing.
+//! The laws of boxes of every side length, stated as contracts of functions that do nothing.
 ghost use Rattle.std.specs.Prelude.{ℕ, List, ◌≤◌, ◌≡◌, true};
 ghost use Rattle.dd_lattice.specs.Place.{Place};
 ghost use Rattle.dd_lattice.specs.Regions.{seen_from};
@@ -20,8 +20,8 @@ pub fn sides_are()
     ensures { (d n : ℕ) (u : Place) → 1 ≤ d → 1 ≤ n → is_flat d u ≡ true → IsSide d n u }
 {}
 
-/// Does nothing; its contract says that the positions of a box receive along a vector, all together, what the positions of the
-/// box moved by the opposite vector give.
+/// Does nothing; its contract says that two totals are equal: what the positions of a box receive along a vector v, and what the
+/// positions of this box, after it is moved by -v, give along v.
 #[tactic(auto, using(crate::specs::lemmas::BoxLaws::box_moved))]
 pub fn received_is_given()
     ensures { (s : Size) (u v : Place) (give : Place → ℕ) → box_sum s u (λ p. give (seen_from v p)) ≡ box_sum s (seen_from v u) give }
@@ -34,8 +34,8 @@ pub fn boundary_count()
         box_sum (side d n) u (from_outside (side d n) u v) ≡ outer_count d n v }
 {}
 
-/// Does nothing; its contract says that a certified bound holds over every box, of any side and at any position. The box
-/// weighs at least what the bound says, less what the box may receive from outside.
+/// Does nothing; its contract says that a certified bound holds over every box, of any side length and at any position. The box
+/// weighs at least the bound times the number of its positions, less what the box may receive from outside.
 pub fn bound_holds()
     ensures { (x : LocalRule) (ws : List ℕ) (radius margin : ℕ) (vs : List Place) (b : Bound) → IsRule x → AreVectors x.dimension vs →
         IsBoundCertificate x ws radius margin vs b → HoldsOnSides x ws radius margin vs b }

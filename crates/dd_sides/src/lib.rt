@@ -1,5 +1,6 @@
-//! Boxes of every side at every position, and what a discharging bound says of their weight. In a discharge, positions give
-//! weight to one another along some vectors, so that each position then holds at least the bound.
+//! Boxes of every side length at every position, and what a discharging bound says of their weight. A box of side n has the side
+//! length n on each axis of Z^d. In a discharge, positions give weight to one another along some vectors, so that each position
+//! then holds at least the bound.
 #![tactic(auto)]
 
 mod laws;

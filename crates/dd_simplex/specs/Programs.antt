@@ -77,7 +77,8 @@ pub record AreDuals (p : LinearProgram) (duals : List Exact) : Type 0 where
 abbrev pub dual_objective : LinearProgram → List Exact → Exact
 dual_objective p duals = fraction_sum (λ k. times (fraction_at duals k) (bound_at p k)) (length p.rows)
 
--- the values of the columns and the duals are feasible and give the same value, so no other values of the columns give more
+-- The values of the columns and the duals are feasible, and give the same value. So no other feasible values of the columns give
+-- column 0 a greater value.
 pub record IsBest (p : LinearProgram) (value : Exact) (columns duals : List Exact) : Type 0 where
   pub feasible : IsFeasible p columns
   pub dual : AreDuals p duals

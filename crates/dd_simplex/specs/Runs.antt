@@ -66,14 +66,15 @@ does_less_fit a q b = does_product_fit q b && does_sum_fit a (minus (times q b))
 abbrev pub do_ratios_fit : ℕ → Dictionary → ℕ → Bool
 do_ratios_fit n d e = all_below (λ v. not (is_limiting d e v) || does_quotient_fit (d.bound v) (d.entry v e)) n
 
--- whether the numbers of the entering variable's row fit. Before the division, the leaving variable has the coefficient 1 in this row. Its quotient
--- is tested at e, since the leaving variable takes the place of e.
+-- Whether the numbers of the entering variable's row fit. This row is the row of r divided by its entry at e. Before the
+-- division, r has the coefficient 1. The quotient of this 1 is tested at w = e, since r takes the place of e.
 abbrev pub does_row_fit : ℕ → Dictionary → ℕ → ℕ → Bool
 does_row_fit n d e r =
     does_quotient_fit (d.bound r) (d.entry r e)
     && all_below (λ w. d.is_basic w || does_quotient_fit (cond (nat_eq w e) one_of (d.entry r w)) (d.entry r e)) n
 
--- whether the new coefficients of a row or of the objective fit. The old coefficient of each w was a w, and that of e was q.
+-- Whether the new coefficients of a row or of the objective fit. The old coefficient of each w was `a w`, and that of e was q.
+-- The new coefficient of r is tested at w = e, since r takes the place of e.
 abbrev pub do_coefficients_fit : ℕ → Dictionary → ℕ → ℕ → Exact → (ℕ → Exact) → Bool
 do_coefficients_fit n d e r q a =
     all_below (λ w. d.is_basic w || cond (nat_eq w e) (does_product_fit q (new_entry d e r r)) (does_less_fit (a w) q (new_entry d e r w))) n

@@ -9,10 +9,10 @@ use thiserror::Error;
 #[derive(Clone, Copy, Debug, PartialEq, Eq, Error)]
 pub enum SimplexFault {
     /// A number in the run is greater than 2^127 - 1 in absolute value.
-    #[error("a number of the simplex run passes 127 bits")]
+    #[error("a number of the simplex run exceeds 127 bits")]
     Overflow,
     /// The run needs more pivots than its limit.
-    #[error("the simplex run passes its limit of pivots")]
+    #[error("the simplex run exceeds its limit of pivots")]
     Pivots,
     /// Memory ran out.
     #[error("out of memory")]

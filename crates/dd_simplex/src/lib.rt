@@ -1,8 +1,8 @@
 //! Linear programs over exact fractions, maximised by the simplex method with Bland's rule. A column is a variable of the
-//! program, and a row is an inequality. The slack of a row is its bound less its left side. Columns and slacks are the
-//! variables of a dictionary. The dictionary gives some of them, the basic ones, and the objective in terms of the others, the
-//! nonbasic ones. In a pivot, one nonbasic variable enters, which means that it becomes basic, and one basic variable leaves.
-//! Duals are factors for the rows. They prove that no values of the columns give more.
+//! program, and a row is an inequality. Column 0 is maximised. The slack of a row is its bound less its left side. Columns and
+//! slacks are the variables of a dictionary. The dictionary gives some of them, the basic ones, and the objective in terms of
+//! the others, the nonbasic ones. In a pivot, one nonbasic variable enters, which means that it becomes basic, and one basic
+//! variable leaves. Duals are factors for the rows. They prove that the value found for column 0 is the greatest.
 #![tactic(auto, using(std::proofs::lemmas::Grind::common_steps))]
 
 mod fault;

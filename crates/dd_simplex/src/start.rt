@@ -57,7 +57,7 @@ fn copied(alloc: Global, fractions: &[Fraction]) -> Result<Vec<Fraction>, AllocE
     Ok(copy)
 }
 
-/// Returns the fraction itself. The contract adds that it is in lowest terms.
+/// Returns the fraction itself. The contract adds what holds of every `Fraction`: it is in lowest terms, and its numbers fit.
 fn known(fraction: &Fraction) -> Fraction
     ensures value { result ≡ fraction.now }
     ensures fraction { IsFraction fraction.now }

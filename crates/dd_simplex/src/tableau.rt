@@ -18,8 +18,8 @@ use std::cmp::Ordering;
 use std::marker::Model;
 
 /// A line for each basic variable, and the objective `value + sum of cost times variable`. Both are in terms of the nonbasic
-/// variables, which `others` lists. A variable's place is its index in `others`. Its cost and its cell in each line have the
-/// same index.
+/// variables, which `others` lists. A nonbasic variable's place is its index in `others`. Its cost and its cell in each line
+/// have the same index.
 #[derive(Drop)]
 pub struct Tableau {
     pub lines: Vec<Line>,

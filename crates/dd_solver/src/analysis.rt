@@ -116,8 +116,8 @@ fn find_place(entries: &[Entry], marked: &[bool], top: usize) -> Option<usize>
     place
 }
 
-/// The backjump that makes the literal of the entry at this place false. `None` if there is none: going down the trail from
-/// this place, no decision comes before the next marked entry. A decision at this place itself counts.
+/// The backjump that makes the literal of the entry at this place false. It goes back to the earliest decision, at this place or
+/// before it, such that no entry from there up to but excluding this place is marked. `None` if there is no such decision.
 fn backjump_at(entries: &[Entry], marked: &[bool], place: usize) -> Option<Backjump>
     requires place { place < length entries.now }
     requires in_range { (k : ℕ) (d : Entry) → k < length entries.now → IsLiteralInRange (length marked.now) (slice_index_or entries.now k d).literal }

@@ -40,8 +40,8 @@ struct Candidate {
 pub(crate) struct Deletion {
     /// How many levels each learned clause has.
     levels: Vec<u32>,
-    /// Each call of `count_levels` has a number. For each level, this is the number of the last call that met it. So nothing needs to
-    /// be cleared between calls.
+    /// For each level, the number of the last call of `count_levels` that met this level, or 0 if none did. The calls are
+    /// numbered from 1, so nothing needs to be cleared between them.
     counted: Vec<u64>,
     /// The number of the last call of `count_levels`.
     counts: u64,

@@ -30,7 +30,7 @@ pub(crate) struct Search<'a> {
     clauses: &'a [Clause],
     /// The steps learned so far.
     steps: Vec<Step>,
-    /// For each clause, first of the list and then of the steps, whether it is alive.
+    /// For each clause of the list, and then for the clause of each step, whether it is alive: no step has deleted it.
     alive: Vec<bool>,
     trail: Trail,
     watches: Watches,
@@ -200,7 +200,7 @@ impl<'a> Search<'a> {
         Ok(())
     }
 
-    /// The values of the variables, which satisfy the clauses. Each variable must have a value, and no clause may be falsified.
+    /// The values of the variables. They satisfy the clauses, as each variable must have a value and no clause may be falsified.
     fn assignment(&self, alloc: Global) -> Result<Assignment, AllocError>
         requires open { AreOpen self.now }
         requires full { IsFull self.now.variables self.now.entries }

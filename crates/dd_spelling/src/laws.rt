@@ -1,6 +1,5 @@
 //! Laws about bytes that are read as scripts. Each is the contract of a function that does nothing.
-ghost use Rattle.std.specs.Prelude.{◌≡◌, ◌≤◌, ◌⊎◌, ℕ, List, length};
-ghost use Rattle.dd_values.specs.Bounds.{most_script};
+ghost use Rattle.std.specs.Prelude.{◌≡◌, ◌⊎◌, ℕ, List};
 ghost use Rattle.dd_script.specs.{Parts.Parts, Scripts.Spells, Scripts.RefusedAs, Scripts.RefusalKind};
 
 use dd_commands::{one_fault, one_tree, tree_or_fault};
@@ -13,7 +12,8 @@ pub fn one_script()
     one_tree();
 }
 
-/// Does nothing. Its contract says that bytes are refused in at most one way: at one command, and for one kind of fault.
+/// Does nothing. Its contract says that bytes are refused in at most one way: with one number, and for one kind of fault. The
+/// number is that of a command, or 0 if the fault comes before the first command.
 pub fn one_refusal()
     ensures { (bytes : List ℕ) (m n : ℕ) (k l : RefusalKind) → RefusedAs bytes m k → RefusedAs bytes n l → (m ≡ n) × (k ≡ l) }
 {
@@ -22,11 +22,10 @@ pub fn one_refusal()
     tree_or_fault();
 }
 
-/// Does nothing. Its contract says that bytes that spell a script are never refused. All other bytes are refused, if they are no
-/// longer than a script may be.
+/// Does nothing. Its contract says that bytes either spell a script or are refused, and never both.
 pub fn spelled_or_refused()
     ensures never_both { (bytes : List ℕ) (s : Parts) (n : ℕ) (k : RefusalKind) → Spells bytes s → RefusedAs bytes n k → ⊥ }
-    ensures either { (bytes : List ℕ) → length bytes ≤ most_script → ((s : Parts) × Spells bytes s) ⊎ ((n : ℕ) × (k : RefusalKind) × RefusedAs bytes n k) }
+    ensures either { (bytes : List ℕ) → ((s : Parts) × Spells bytes s) ⊎ ((n : ℕ) × (k : RefusalKind) × RefusedAs bytes n k) }
 {
     one_tree();
     tree_or_fault();

@@ -27,8 +27,8 @@ pub record IsAdmissibleStrip (r : LocalRule) (s : Strip) (x : ℤ) (k : ℕ) (lo
 abbrev pub slices_weight : Strip → List ℕ → Look → ℤ → ℕ → ℕ
 slices_weight s ws look x n = total_weight ws (symbols_from s look x n)
 
--- a configuration that lives in the rule's subshift, with the strip's periods along the axes after the first, any
--- period along the first, and no shear
+-- The configuration lives on the strip: it obeys the rule everywhere, has allowed symbols and the strip's periods along the axes
+-- after the first, any period along the first, and no shear.
 pub record LivesOnStrip (r : LocalRule) (s : Strip) (t : Tile) : Type 0 where
   pub tile : IsTile t
   pub fits : Fits r t

@@ -1,5 +1,6 @@
--- The lexical format of a script: blanks, comments and tokens. Each token is as long as possible. The list of tokens ends at the first byte that
--- isn't allowed.
+-- The lexical format of a script: blanks, comments and tokens. Each token is as long as possible. The list of tokens ends at the
+-- first byte that isn't allowed. This is a byte at which a blank, a comment or a token should begin and none does, or a byte over
+-- 127 in a comment.
 use Rattle.std.specs.Prelude.{ℕ, zero, suc, ◌+◌, ◌-◌, List, [], ◌∷◌, ◌++◌, ◌<◌, ◌≤◌, Bool, false, ◌&&◌, ◌||◌, not, ◌==◌, nat_le, if◌then◌else◌, drop, codes}
 use Rattle.std.specs.List.{prefix_len, list_any}
 use Rattle.dd_tokens.specs.declared.token.TokenKind.TheVariants.{Word, Number, Negative, Mark}
@@ -43,14 +44,15 @@ is_two_byte_mark b bytes = (b == 45 && starts (λ c. c == 62) bytes) || (b == 33
 abbrev pub is_three_byte_mark : ℕ → List ℕ → Bool
 is_three_byte_mark b bytes = b == 60 && starts (λ c. c == 45) bytes && starts (λ c. c == 62) (drop 1 bytes)
 
--- The piece for a comment, given the bytes after the comment's first hyphen. A comment extends to the next line feed or to the end. A byte over 127
--- in it is a fault.
+-- The piece for a comment, given the bytes after the comment's first hyphen. They begin with the second hyphen, which is tested
+-- like the bytes after it. A comment extends up to the next line feed or to the end. A byte over 127 in it isn't allowed.
 abbrev pub comment : List ℕ → Piece
 comment bytes =
     if starts (λ b. nat_le 128 b) (drop (prefix_len is_comment bytes) bytes) then Fault (1 + prefix_len is_comment bytes)
     else Gap (1 + prefix_len is_comment bytes)
 
--- The piece for a number, given its first digit b and the bytes after b. Only the number 0 begins with the digit 0.
+-- The piece for a number, given its first digit b and the bytes after b. If b is the digit 0 and another digit follows, as in 01,
+-- then b isn't allowed.
 abbrev pub number : ℕ → List ℕ → Piece
 number b bytes = if b == 48 && starts is_digit bytes then Fault 0 else Cut Number (1 + prefix_len is_digit bytes)
 
@@ -72,7 +74,8 @@ abbrev pub first : List ℕ → Piece
 first [] = Fault 0
 first (b ∷ bytes) = front b bytes
 
--- the number of bytes of a blank, a comment or a token; 0 for a byte that isn't allowed
+-- The number of bytes of a blank, a comment or a token. The 0 for a byte that isn't allowed has no effect: `with_piece` drops all
+-- tokens after this byte.
 abbrev pub piece_size : Piece → ℕ
 piece_size (Gap n) = n
 piece_size (Cut kind n) = n
@@ -95,8 +98,8 @@ with_piece (Gap n) position rest = rest
 with_piece (Cut kind n) position rest = with_front (record { kind = kind; start = position; length = n } ∷ []) rest
 with_piece (Fault n) position rest = record { list = []; stop = position + n }
 
--- The tokens of the bytes that come after the first `position` bytes of a script. The first `within` of these bytes belong to the previous piece, and
--- are skipped.
+-- The tokens of a list of bytes that comes after the first `position` bytes of a script. The first `within` bytes of the list
+-- belong to the previous piece, and are skipped.
 abbrev pub tokens_after : ℕ → ℕ → List ℕ → Tokens
 tokens_after within position [] = record { list = []; stop = position }
 tokens_after (suc within) position (b ∷ bytes) = tokens_after within (position + 1) bytes

@@ -29,7 +29,7 @@ fn is_digit(byte: u8) -> bool
     byte >= b'0' && byte <= b'9'
 }
 
-/// Whether a comment may contain this byte after its two hyphens.
+/// Whether a comment may contain this byte after its first hyphen.
 fn is_comment(byte: u8) -> bool
     ensures { result ≡ is_comment byte }
 {
@@ -52,7 +52,8 @@ fn digits(bytes: &[u8]) -> usize
     bytes.iter().take_while(|byte| is_digit(**byte)).count()
 }
 
-/// The number of bytes before the end of a comment, or before the first byte that isn't allowed in it.
+/// The number of bytes before the end of a comment, or before the first byte that isn't allowed in the comment. The bytes
+/// begin after the comment's first hyphen.
 fn comment_bytes(bytes: &[u8]) -> usize
     ensures value { result ≡ prefix_len is_comment bytes.now }
     ensures within { result ≤ length bytes.now }
@@ -60,7 +61,8 @@ fn comment_bytes(bytes: &[u8]) -> usize
     bytes.iter().take_while(|byte| is_comment(**byte)).count()
 }
 
-/// The piece for a comment, given the bytes after the comment's first hyphen.
+/// The piece for a comment, given the bytes after the comment's first hyphen. They begin with the second hyphen, which is
+/// tested like the bytes after it.
 fn comment(bytes: &[u8]) -> Piece
     requires { length bytes.now ≤ most_script }
     ensures value { result ≡ comment bytes.now }
@@ -81,7 +83,7 @@ fn starts_positive(bytes: &[u8]) -> bool
     matches!(bytes, [b'1'..=b'9', ..])
 }
 
-/// Whether a mark of two bytes, `->` or `!=`, begins with `byte`, given the bytes `after` that follow `byte`.
+/// Whether `byte` begins a mark of two bytes, `->` or `!=`, given the bytes `after` that follow `byte`.
 fn is_two_byte_mark(byte: u8, after: &[u8]) -> bool
     ensures { result ≡ is_two_byte_mark byte after.now }
 {
@@ -105,6 +107,7 @@ fn front(byte: u8, after: &[u8]) -> Piece
     }
     if is_digit(byte) {
         let n = digits(after);
+        // In `01`, the `0` isn't allowed.
         if byte == b'0' && n > 0 {
             return Piece::Fault(0);
         }

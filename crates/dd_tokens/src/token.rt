@@ -6,9 +6,10 @@ use dd_values::Items;
 pub enum TokenKind {
     /// One or more letters from `a` to `z`.
     Word,
-    /// One or more digits. Only the number 0 begins with the digit 0.
+    /// The digit 0 alone, or one or more digits of which the first isn't 0. If a number would begin with a 0 and have further
+    /// digits, as in `01`, then this 0 isn't allowed.
     Number,
-    /// A `-` that is directly followed by a number other than 0.
+    /// A `-` and, directly after it, a number other than 0.
     Negative,
     /// One of `A E % ( ) [ ] . = ! & | ~ @ : -> != <->`.
     Mark,
@@ -24,7 +25,9 @@ pub struct Token {
     pub length: u32,
 }
 
-/// The tokens of some bytes in order, up to the first byte that isn't allowed, and the position of that byte.
+/// The tokens of some bytes in order, up to the first byte that isn't allowed, and the position of that byte. Blanks, comments
+/// and tokens are cut off the front of the bytes, one after another. A byte isn't allowed if it is at the front and begins
+/// none of these, or if it is in a comment and greater than 127.
 #[derive(Debug, Drop)]
 pub struct Tokens {
     pub list: Items<Token>,

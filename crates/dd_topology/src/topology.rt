@@ -19,7 +19,7 @@ use indexmap::IndexSet;
 use std::alloc::Global;
 use std::marker::Model;
 
-/// A move: a label, and the node from which it leads. At most one edge makes each move.
+/// A move: a label, and the node from which the move leads. No two edges of a topology make the same move.
 #[derive(Clone, Copy, PartialEq, Eq, Hash)]
 pub(crate) struct Move {
     label: u32,

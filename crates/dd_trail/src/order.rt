@@ -1,8 +1,8 @@
 //! The order in which variables are decided. Those that took part in the latest conflicts come first (Moskewicz, Madigan, Zhao,
 //! Zhang and Malik 2001, Eén and Sörensson 2003). Each variable gets the value that it had last (Pipatsrisawat and Darwiche
-//! 2007). The variables stand in a binary heap. A variable that is taken from the heap is tested exactly. So no contract depends
-//! on the order: a bad one only costs time. No invariant says that the places kept here are within their lists. So the code
-//! tests them. The tests never fail.
+//! 2007). The variables stand in a binary heap. A variable that is taken from the heap is decided only if the trail says that it
+//! has no value. So no contract depends on the order: a bad one only costs time. No invariant says that the places kept here are
+//! within their lists. So the code tests these places. The tests never fail.
 ghost use Rattle.std.specs.Prelude.{◌≡◌, ◌<◌, ◌^◌, MatchOption, ⊤};
 ghost use Rattle.dd_trail.specs.Trails.{IsFree, IsFull};
 
@@ -197,7 +197,7 @@ impl Order {
         Some(first)
     }
 
-    /// A literal of the first variable in the order that has no value. `None` if each variable has a value.
+    /// A literal of a variable without a value, the first such variable in the order. `None` if each variable has a value.
     pub fn choose(&mut self, trail: &Trail) -> Option<Literal>
         requires { trail.now.variables < 2 ^ 32 }
         ensures { MatchOption result (IsFull trail.now.variables trail.now.entries) (λ l. IsFree trail.now.variables trail.now.entries l.variable) }

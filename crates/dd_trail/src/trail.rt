@@ -210,7 +210,7 @@ impl Trail {
         0
     }
 
-    /// Whether the variable's entry stands before the first decision. If so, the clauses alone force its value.
+    /// Whether the variable's entry stands before every decision. If so, the clauses alone force the variable's value.
     pub fn is_fixed(&self, variable: u32) -> bool {
         match self.decision_places.first() {
             None => true,
@@ -218,7 +218,7 @@ impl Trail {
         }
     }
 
-    /// Whether the variable got its value by the last decision or after it.
+    /// Whether the variable got its value by the last decision or after it. True if there is no decision on the trail.
     pub fn is_latest(&self, variable: u32) -> bool {
         match self.decision_places.last() {
             None => true,

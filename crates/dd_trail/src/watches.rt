@@ -1,8 +1,8 @@
 //! Two watched literals (Moskewicz, Madigan, Zhao, Zhang and Malik 2001). Each clause watches two of its literals, and needs no
 //! look while neither of them is false. So when a literal becomes false, only the clauses that watch it are looked at. When the
-//! search goes back, nothing has to be undone. Each clause that is found in this way is tested exactly. So no contract depends
-//! on the watches: a clause that they miss only costs time. No invariant says that the places kept here are within their lists.
-//! So the code tests them. The tests never fail.
+//! search goes back, nothing has to be undone. The watches only suggest clauses, and each suggested clause is tested exactly. So
+//! no contract depends on the watches: a clause that they miss only costs time. No invariant says that the places kept here are
+//! within their lists. So the code tests these places. The tests never fail.
 //!
 //! Each literal has a list of its watchers, which are the clauses that watch it. To pass a watcher is to look at its clause. The
 //! clause then stays in the list, or moves to the list of another literal.
@@ -57,7 +57,7 @@ const END: Code = Code { index: 0 };
 /// A clause that watches a literal.
 #[derive(Clone, Copy)]
 struct Watcher {
-    /// The place of its first literal in `Watches::literals`.
+    /// The place of the clause's first literal in `Watches::literals`.
     clause: u32,
     /// Another literal of the clause. While that one is true, the clause needs no look.
     other: Code,
@@ -68,7 +68,7 @@ struct Watcher {
 pub struct Watches {
     /// For each literal, the clauses that watch it.
     lists: Vec<Vec<Watcher>>,
-    /// Holds one of `lists` while its watchers are passed.
+    /// One of `lists`, taken out while its watchers are passed. Otherwise empty.
     passed: Vec<Watcher>,
     /// The literals of all clauses, one clause after the other. In each clause the watched literals come first, and an end mark
     /// comes last.
@@ -79,7 +79,7 @@ pub struct Watches {
     count: u32,
     /// How many entries of the trail have been read.
     read: usize,
-    /// The next entry to be read makes a literal false. This is how many watchers in that literal's list have been passed already.
+    /// The place of the next watcher to be passed, in the list of the literal that the next entry to be read makes false.
     at: usize,
     /// The clauses with numbers up to this one have been looked at once since they were added.
     scanned: u64,
@@ -94,7 +94,7 @@ enum Look {
     Stays(Code),
     /// The clause now watches the first of these literals instead. The second is the other literal that it watches.
     Moves(Code, Code),
-    /// All literals of the clause are false, except perhaps the other one that it watches, and that one is not true.
+    /// All literals of the clause but the other one that it watches are false. That one is not true: it is false or has no value.
     AllFalse,
 }
 
@@ -369,6 +369,7 @@ impl Watches {
                     Scan::Unit(number, literal) => return Ok(Scan::Unit(number, literal)),
                     Scan::Conflict(number) => {
                         self.exchange(became_false);
+                        self.at = 0;
                         return Ok(Scan::Conflict(number));
                     }
                 },

@@ -1,5 +1,5 @@
--- Transfer graphs. A slice gives a symbol to each cell with one value of x, and a state consists of consecutive slices. An edge by a slice leads from
--- a state to the state without its first slice and with this slice appended.
+-- Transfer graphs. A slice lies at one value of x and gives a symbol to each cell there. A state consists of consecutive slices.
+-- An edge by a slice leads from a state to the state that results if the first slice is dropped and this slice is appended.
 use Rattle.std.specs.Prelude.{◌≡◌, ℕ, ◌+◌, ◌*◌, ◌%◌, ◌<◌, ◌≤◌, ◌^◌, Bool, false, ◌&&◌, cond, nat_lt, List, length, slice_index, slice_index_or, Option, Some, None}
 use Rattle.dd_counts.specs.Rules.{most_states, most_longer_states}
 
@@ -41,7 +41,7 @@ pub record IsTransfer (g : Transfer) : Type 0 where
   pub some_slice : 0 < g.slices
   pub few : g.states ≤ most_states
   pub small : g.states * g.slices ≤ most_longer_states
-  -- so the number of a state's last slice is the state's number modulo the number of slices
+  -- by this, the number of a state's last slice is the state's number modulo the number of slices
   pub divides : g.states % g.slices ≡ 0
-  -- so a walk that passes each state at most once weighs at most 2^25
+  -- by this, a walk that passes each state at most once weighs at most 2^25
   pub light : (t : ℕ) → t < g.slices → g.states * weight_at g t ≤ 2 ^ 25

@@ -27,8 +27,10 @@ pub record AreEdgesOf (r : LocalRule) (s : Strip) (look : Look) : Type 0 where
   -- if all cells of the window that begins at x have symbols, so do the cells of the tested slice and all cells that the rule reads there
   pub reads : (x : ℤ) (v : Place) (a : ℕ) → HasSlices r look x (state_length r + 1) → v.x ≡ x +ℤ stand r → a < r.nodes →
       (is_some (look (cell v a)) && list_all (λ d. is_some (look (shifted v d))) (reads_at r a)) ≡ true
-  -- the rule keeps the window with the number of the slices at x exactly if it keeps the look's window that begins at x
+  -- the look's window that begins at x has a number; the rule keeps the window with this number exactly if it keeps the look's
+  -- window
   pub windows : (x : ℤ) → HasSlices r look x (state_length r + 1) → IsWindow r s (window_from r s look x) ↔ IsKeptFrom r look x
-  -- if the rule keeps this window, an edge by the window's last slice leads from the state at x to the state at x + 1
+  -- if the rule keeps the look's window that begins at x, an edge by the window's last slice leads from the state that begins at
+  -- x to the state that begins at x + 1
   pub edges : (x : ℤ) → HasSlices r look x (state_length r + 1) → IsKeptFrom r look x →
       IsEdge r s (state_from r s look x) (slices_from r s look (x +ℤ pos (state_length r)) 1) (state_from r s look (x +ℤ pos 1))

@@ -4,10 +4,10 @@ ghost use Rattle.dd_transfer.specs.Graphs.{transfer, IsTransfer, next_of, target
 
 use std::marker::Model;
 
-/// The transfer graph of a rule over a strip. A slice gives a symbol to each cell with one value of x. A state consists of
-/// consecutive slices. Both are numbered: the digits of a slice's number are its symbols, and the digits of a state's number
-/// are its slices. The first digit is the most significant. An edge by a slice leads from a state to the state without its
-/// first slice and with this slice appended.
+/// The transfer graph of a rule over a strip. A slice lies at one value of x, and gives a symbol to each cell there. A state
+/// consists of consecutive slices. Both are numbered: the digits of a slice's number are its symbols, and the digits of a
+/// state's number are its slices. The first digit is the most significant. An edge by a slice leads from a state to the state
+/// that results if the first slice is dropped and this slice is appended.
 #[derive(Debug, Drop)]
 pub struct Graph {
     states: u32,

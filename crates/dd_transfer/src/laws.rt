@@ -8,8 +8,9 @@ ghost use Rattle.dd_transfer.specs.Slices.{RepeatsAcross};
 ghost use Rattle.dd_transfer.specs.Laws.{AreDigits, AreEdgesOf};
 
 /// Does nothing. Its contract relates the slices of a look to the edges of a transfer graph. A look gives each cell a
-/// symbol, or none. Suppose that a look repeats with the strip's periods along y and z, and that the rule keeps each of its
-/// windows. Then its slices, one after another, form a walk through the graph.
+/// symbol, or none. Suppose that a look repeats with the strip's periods along y and z, gives each cell a symbol of the
+/// alphabet, and has only windows that the rule keeps. Then the look's states, one after another, form a walk through the
+/// graph.
 pub fn slices_are_walks()
     ensures digits { (base : ℕ) → AreDigits base }
     ensures edges { (r : LocalRule) (s : Strip) (look : Look) → IsRule r → IsFor r s → RepeatsAcross s look → AreEdgesOf r s look }

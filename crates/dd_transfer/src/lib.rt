@@ -1,6 +1,6 @@
 //! Transfer graphs of rules over strips: the transfer matrices of Lind and Marcus (1995), as graphs. A strip has periods
-//! along y and z, and no end along x. A slice of it gives a symbol to each cell with one value of x. The vertices of the
-//! graph are states. A state consists of consecutive slices, and has an edge for each slice that may follow it.
+//! along y and z, and no end along x. A slice of it lies at one value of x, and gives a symbol to each cell there. The vertices
+//! of the graph are states. A state consists of consecutive slices, and has an edge for each slice that may follow it.
 #![tactic(auto)]
 
 mod building;

@@ -1,4 +1,4 @@
-// Boxes of at most three cells. The assignments that satisfy the clauses of a box question are exactly the admissible fillings
+// Boxes of at most three cells. The assignments that satisfy the clauses of a box question give exactly the admissible fillings
 // that have the goal at the origin, each once.
 ghost use Rattle.std.specs.Prelude.{◌<◌, ◌≤◌, IfSome};
 ghost use Rattle.std.specs.List.{All};
@@ -75,7 +75,7 @@ fn satisfying(alloc: Global, cnf: &Cnf, cells: usize) -> Result<[u32; 8], Fail> 
     Ok(found)
 }
 
-/// Whether the filling is admissible: the rule is true at each of these cells at which all that it reads is given.
+/// Whether the filling is admissible: the rule is true at each of these cells for which the filling has all that the rule reads.
 fn is_admissible(rule: &Rule, filling: &Filling, cells: &[Cell]) -> Result<bool, Fail>
     requires { All (λ s. s < rule.now.symbols) filling.now.symbols }
 {
@@ -254,8 +254,8 @@ const OPPOSITE: &str = "%auto f when o=1 give 1 else 0 %auto g when o=1 give 0 e
 // An automaton that gives each cell the other symbol and is applied twice, and one that gives 0 to each cell.
 const TWICE: &str = "%auto f when o=1 give 0 else 1 %compose h f f %auto g else 0 %same h g x";
 
-/// A topology, a premise, a query with the rules and automata that it names, a radius, and the number of admissible fillings that
-/// have the goal.
+/// The header of a script, a premise, a query with the rules and automata that it names, a radius, and the number of admissible
+/// fillings that have the goal.
 const QUESTIONS: &[(&str, &str, &str, u32, u32)] = &[
     ("%dim 1", "o=1 -> o.rt=0", "%empty x", 1, 5),
     ("%dim 1", "o.lt=o.rt", "%empty x", 1, 4),

@@ -1,9 +1,10 @@
 //! Tests that need several crates at once. A script is parsed. Then the truth of its rules, the values of its automata, and the
 //! circuits and clauses made from them are compared with each other or with results worked out by hand.
-//! A filling gives a symbol to each of some cells. A rule reads the cells whose symbols its formula looks at. A box question has
+//!
+//! A filling gives a symbol to each cell of a list. A rule reads the cells whose symbols its formula looks at. A box question has
 //! a premise, which is a rule, and a goal: that another rule is false at some node of the origin, that two automata differ at
-//! such a node, or nothing more (`Always`). A filling of a box is admissible if the premise is true at each cell of the box at
-//! which all that the premise reads is given.
+//! some node of the origin, or no further condition (`Always`). A filling of a box is admissible if the premise is true at each
+//! cell for which the box holds all that the premise reads there.
 #![tactic(auto)]
 
 #[cfg(test)]

@@ -139,7 +139,7 @@ fn truths(alloc: Global, rule: &Rule, node: u32) -> Result<Vec<(Option<bool>, bo
     Ok(truths)
 }
 
-/// The number of fillings for which the rule is true. Asserts that its signal agrees for each filling.
+/// The number of fillings for which the rule is true. Asserts that the rule's signal has the rule's truth for each filling.
 fn times_true(rt: &impl Abort, truths: &[(Option<bool>, bool)]) -> usize {
     for (truth, value) in truths {
         assert_eq!(rt; *truth, Some(*value));

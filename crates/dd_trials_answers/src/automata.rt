@@ -21,7 +21,7 @@ const AGREEMENTS: [(&str, &str); 6] = [
         "%dim 1 %rule full o@o %auto f when o.lt=1 & o=1 & o.rt=1 give 0 when o=1 | o.rt=1 give 1 else 0 %auto g when o!=o.rt give 1 when o.lt=0 & o=1 give 1 else 0 %auto m when o.lt=1 & o=1 & o.rt=1 give 0 when o=1 | o.lt=1 give 1 else 0 %same f g full %same f m full",
         "query 1 YES 1\nquery 2 NO 3\n",
     ),
-    // The automata agree on the configurations of the premise, and on no others.
+    // The automata agree on the configurations of `alt`, and on no others.
     (
         "%dim 1 %rule alt o!=o.rt %auto id when o=1 give 1 else 0 %auto op when o.rt=1 give 0 else 1 %same id op alt",
         "query 1 YES 1\n",
@@ -31,7 +31,7 @@ const AGREEMENTS: [(&str, &str); 6] = [
         "%topology hex %rule full o@o %auto ex when o.a=1 give 1 else 0 %auto id when o=1 give 1 else 0 %compose twice ex ex %same twice id full %same ex id full",
         "query 1 YES 0\nquery 2 NO 1 1\n",
     ),
-    // All configurations of the premise have the period 3, which exceeds the limit.
+    // All configurations of `cyc` have the period 3, which exceeds the limit.
     (
         "%dim 1 %alphabet 0 1 2 %limits 4 2 10 %rule cyc (o=0 -> o.rt=1) & (o=1 -> o.rt=2) & (o=2 -> o.rt=0) %auto id when o=1 give 1 when o=2 give 2 else 0 %auto nul else 0 %same id nul cyc",
         "query 1 UNKNOWN limits\n",
@@ -54,7 +54,7 @@ const DIFFERENCES: [(&str, &str); 4] = [
         "%dim 1 %rule full o@o %auto f when o=1 give 0 when o@o give 1 else 0 %auto g when o@o give 1 when o=1 give 0 else 0 %same f g full",
         "query 1 NO 1\nconf 1\n",
     ),
-    // The first node allows only 0. So the automata differ only at the second node, where the value depends on the second node.
+    // The first node allows only 0, so both automata give it 0. They differ only at the second node, if it has the symbol 1.
     (
         "%dim 1 %nodes a b %topology (x a [0] b) (x b [0] a) %only a 0 %rule full o@o %auto id when o=1 give 1 else 0 %auto nul else 0 %same id nul full",
         "query 1 NO 1\nconf 0 1\n",
@@ -87,8 +87,8 @@ const NAMES: [&str; 16] = [
     "a", "b", "c", "d", "e", "f", "g", "h", "i", "j", "k", "l", "m", "n", "o", "p",
 ];
 
-// Adds the elementary automaton with this number (Wolfram 1983) to the text. Bit k of the number is the value of the middle cell,
-// where the symbols of the left neighbour, the cell and the right neighbour spell k in binary.
+// Adds the elementary automaton with this number (Wolfram 1983) to the text. Bit k of the number is a cell's value if the symbols
+// of its left neighbour, of the cell and of its right neighbour spell k in binary.
 fn push_elementary(
     alloc: Global,
     text: &mut String,

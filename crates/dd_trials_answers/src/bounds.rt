@@ -40,8 +40,9 @@ const DISCHARGES: [(&str, &str); 16] = [
         "%topology king %weights 1 0 %rule apart o=0 | (o.rt=0 & o.up=0 & o.ne=0 & o.nw=0) %discharge apart 0 1 [1 0] [0 1] [1 1]",
         "query 1 BOUND 3/4\n",
     ),
-    // Of three cells in a row at most one is 0. The region of two cells is too small for the rule. With a margin the rule forbids
-    // that both of these cells are 0. With the radius 1, patterns of three cells also show the cell before and the cell after.
+    // Of three cells in a row at most one is 0. Without a margin the region has two cells, and the rule applies at none of them.
+    // With a margin the rule forbids that both of these cells are 0. With the radius 1 the amounts also depend on the cells
+    // beside the giver.
     (
         "%dim 1 %rule apart o=0 -> (o.rt=1 & o.rt.rt=1) %discharge apart 0 0 [1]",
         "query 1 BOUND 0/1\n",
@@ -54,8 +55,8 @@ const DISCHARGES: [(&str, &str); 16] = [
         "%dim 1 %rule apart o=0 -> (o.rt=1 & o.rt.rt=1) %discharge apart 1 1 [1]",
         "query 1 BOUND 2/3\n",
     ),
-    // The same rule, but a cell gives to the next two. The region of three cells has room for the rule only once. With a margin
-    // the rule restricts any two cells of the region.
+    // The same rule, but a cell gives to the next two. Without a margin the region has three cells, and the rule applies only at
+    // the first of them. With a margin the rule forbids that two of these three cells are 0.
     (
         "%dim 1 %rule apart o=0 -> (o.rt=1 & o.rt.rt=1) %discharge apart 0 0 [1] [2]",
         "query 1 BOUND 1/2\n",
@@ -82,8 +83,8 @@ const DISCHARGES: [(&str, &str); 16] = [
 ];
 
 // Whole answers, with their amounts and duals. docs/wrong-bodies.md says what the bounds mean for small boxes. By the first rule
-// a 0 has a 1 to its right, and by the second a 1 three steps away. The last rule restricts the cell two to the right of the cell
-// at which it is applied, and the margin takes this into account.
+// a 0 has a 1 to its right, and by the second a 1 three steps away. By the last rule the cell two steps to the right is a 1. With
+// the margin the region also has the cell two steps to the left of the origin, and there the rule forces the origin to be a 1.
 const WHOLE_BOUNDS: [(&str, &str); 3] = [
     (
         "%dim 1 %rule cover o=1 | o.rt=1 %discharge cover 0 0 [1]",

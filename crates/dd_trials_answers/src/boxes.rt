@@ -69,7 +69,8 @@ const EMPTY_OR_OF_TWO_NODES: [(&str, &str); 3] = [
     ),
 ];
 
-// Six symbols in an order that repeats only along a sheared vector, so the first periods come with a shear.
+// Each row has the period 3. Each column has the period 6, which exceeds the limit. But each row is the row two below it, moved
+// right by 1, so there is a box with the periods 3 and 2 and a shear.
 const SHEARED: [(&str, &str); 1] = [(
     "%alphabet 0 1 2 3 4 5 %limits 0 3 10 %rule six (o=0 -> o.rt=2 & o.up=5) & (o=1 -> o.rt=3 & o.up=0) & (o=2 -> o.rt=4 & o.up=1) & (o=3 -> o.rt=5 & o.up=2) & (o=4 -> o.rt=0 & o.up=3) & (o=5 -> o.rt=1 & o.up=4) %rule no o!=1 %contains no six",
     "query 1 NO 3 2 shear 1\nconf 1 3 5 0 2 4\n",

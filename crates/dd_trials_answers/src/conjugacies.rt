@@ -19,8 +19,8 @@ const MAPS: [(&str, &str); 5] = [
         "%topology hex %rule full o@o %auto ex when o.a=1 give 1 else 0 %conjugate ex ex full full",
         "query 1 CONJUGATE 0 0 0 0\n",
     ),
-    // All configurations of `cyc` have the period 3, which exceeds the limit. So no configuration of `cyc` is found that the
-    // identity doesn't map into `no`. But one of `no` is found that the identity doesn't map into `cyc`.
+    // All configurations of `cyc` have the period 3, which exceeds the limit. So the search can't tell whether the identity maps
+    // `cyc` into `no`. But it finds a configuration of `no` whose image is not one of `cyc`.
     (
         "%dim 1 %alphabet 0 1 2 %limits 4 2 10 %rule cyc (o=0 -> o.rt=1) & (o=1 -> o.rt=2) & (o=2 -> o.rt=0) %rule no o!=1 %auto id when o=1 give 1 when o=2 give 2 else 0 %conjugate id id cyc no %conjugate id id no cyc",
         "query 1 BROKEN 2 1\nquery 2 BROKEN 1 1\n",
@@ -74,11 +74,12 @@ const CHECKED: [(&str, bool); 10] = [
     ("query 1 UNKNOWN limits\n", true),
     // At the origin the composition gives the symbol back.
     ("query 1 BROKEN 3 2\nconf 0 1\n", false),
-    // The configuration doesn't obey the rule. If a configuration does, its image has only 0s and obeys the rule too.
+    // The first configuration doesn't obey the rule. The second obeys it, but its image, which has only 0s, obeys it too. The
+    // third answer is one to another kind of query.
     ("query 1 BROKEN 3 1\nconf 1\n", false),
     ("query 1 BROKEN 1 2\nconf 1 0\n", false),
     ("query 1 NO 2\nconf 1 0\n", false),
-    // The automaton does lose information, so no steps refute this.
+    // The automaton does lose information, so no steps refute the clauses of the third question.
     (
         "query 1 CONJUGATE 1 1 0 0\nrefutation 1\nstep 0 1 0 0\nrefutation 1\nstep 0 1 0 0\nrefutation 1\nstep 0 1 0 0\nrefutation 1\nstep 0 1 0 0\n",
         false,

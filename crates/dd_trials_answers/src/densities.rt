@@ -23,7 +23,8 @@ const DENSITIES: [(&str, &str); 15] = [
         "%weights 1 0 %rule hard o=1 -> (o.rt=0 & o.up=0) %density hard [7]",
         "query 1 DENSITY 4/7\n",
     ),
-    // The density of what a densest set without the differences 2 and 3 leaves out. The set has two of every five cells.
+    // A 0 weighs 1. So this is the density of the cells outside a densest set without the differences 2 and 3. Such a set has two
+    // of every five cells.
     (
         "%dim 1 %weights 1 0 %rule apart !(o=1 & o.rt.rt=1) & !(o=1 & o.rt.rt.rt=1) %density apart []",
         "query 1 DENSITY 3/5\n",
@@ -62,7 +63,7 @@ const DENSITIES: [(&str, &str); 15] = [
         "%dim 1 %nodes a b %topology (r a [1] a) %only b 1 %rule full o@o %density full []",
         "query 1 DENSITY 1/1\n",
     ),
-    // A rule that no infinite strip obeys, and colourings with two colours of strips of circumference three and four.
+    // A rule that no configuration obeys, and colourings with two colours of strips of circumference three and four.
     (
         "%dim 1 %rule stuck o.rt=1 & !(o=1 & o.rt=1) %density stuck []",
         "query 1 EMPTY\n",

@@ -58,7 +58,7 @@ const CHECKED: [(&str, bool); 9] = [
         "query 1 LEAST 1\nconf 1 1\nrefutation 1\nstep 0 3 4 6 0 0\n",
         false,
     ),
-    // Steps for another list of clauses.
+    // A hint to a clause that is already true.
     (
         "query 1 LEAST 1\nconf 1\nrefutation 1\nstep 0 3 5 6 0 0\n",
         false,

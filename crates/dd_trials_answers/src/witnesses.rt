@@ -1,5 +1,5 @@
-// Answers to box questions and to queries about membership, and whether a check accepts them. Their configurations and cells are
-// evidence, or are not.
+// Answers to box questions and to queries about membership, and whether a check accepts them. Some of the answers'
+// configurations, cells and steps are evidence, and others are not.
 use crate::outputs::assert_checks;
 use std::test::Fail;
 
@@ -12,7 +12,7 @@ const BOX_QUESTIONS: [(&str, &[(&str, bool)]); 4] = [
             // The periods need not be the first.
             ("query 1 NO 3 1\nconf 1 0 0\n", true),
             ("query 1 UNKNOWN limits\n", true),
-            // The first configuration breaks the rule, but not at the origin. The second and the fourth, which is a chessboard,
+            // The first configuration breaks `hard`, but not at the origin. The second and the fourth, which is a chessboard,
             // break nothing. The third doesn't obey the premise.
             ("query 1 NO 2 1\nconf 0 1\n", false),
             ("query 1 NO 1 1\nconf 0\n", false),

@@ -174,7 +174,8 @@ const STEPS_AFTER_EARLIER_ONES: &[(&[i32], usize, bool)] = &[
     (BOTH_AND_NOTHING, 0, true),
     (BOTH_AND_NOTHING, 1, true),
     (BOTH_AND_NOTHING, 2, true),
-    // what an earlier step deletes is gone, even if that step is not right
+    // what an earlier step deletes is gone, even if that step is not right because it deletes a clause twice, or the clause of a
+    // later step
     (&[1, 0, 6, 3, 0, 3, 3, 0, 2, 0, 6, 4, 0, 0], 1, true),
     (&[1, 0, 6, 3, 0, 3, 3, 0, 1, 0, 6, 3, 0, 0], 1, false),
     (

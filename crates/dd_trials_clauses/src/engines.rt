@@ -1,5 +1,5 @@
-// Rosters, which are lists of engines. There are engines of each kind, and most of them are bad. Each roster is asked twice about
-// a list of clauses.
+// Rosters, which are lists of engines. The engines are propagators, walkers, and fake engines, each with its habit. Each roster
+// is asked twice about a list of clauses.
 ghost use Rattle.std.specs.Prelude.{false};
 
 use dd_clause::{Assignment, Clause, Cnf, Literal};
@@ -132,16 +132,16 @@ fn cnf_of(alloc: Global, numbers: &[i32]) -> Result<Cnf, AllocError> {
     Ok(cnf)
 }
 
-// A walker satisfies it with two flips, but not with one.
+// Clauses that a walker satisfies with two flips, but not with one.
 const TWO_FLIPS: &[i32] = &[1, 2, 0, -1, 2, 0];
 
-// It is satisfied if all variables are false.
+// A clause that is satisfied if all variables are false.
 const NEGATIVE: &[i32] = &[-1, -2, 0];
 
-// Unit propagation refutes it, even though a literal is repeated.
+// Clauses that unit propagation refutes, even though literals are repeated.
 const CHAIN: &[i32] = &[-2, 0, -1, 2, 2, 0, 1, 1, 0];
 
-// It can't be satisfied, and unit propagation finds nothing.
+// Clauses that no assignment satisfies, and from which unit propagation derives nothing.
 const SQUARE: &[i32] = &[1, 2, 0, 1, -2, 0, -1, 2, 0, -1, -2, 0];
 
 const EMPTY_CLAUSE: &[i32] = &[1, 0, 0];

@@ -122,7 +122,7 @@ fn conjugate(alloc: Global) -> Result<Answer, AllocError> {
     })
 }
 
-/// The number of a question that does not hold, and a configuration that shows it.
+/// The number of a box question with the answer NO, and a configuration that shows this NO.
 fn broken(alloc: Global, part: u64, periods: &[u64], shear: u64) -> Result<Answer, AllocError> {
     Ok(Answer::Broken {
         part,

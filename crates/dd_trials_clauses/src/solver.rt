@@ -62,8 +62,8 @@ fn push_pigeonholes(numbers: &mut Vec<i32>, first: i32, holes: i32) -> Result<()
     Ok(())
 }
 
-/// The answer of each search: on the whole list, without the variables that propagation fixes, and without those that resolution
-/// eliminates. `different` if they differ.
+/// The answer of three searches: one on the whole list, one without the variables that propagation fixes, and one without those
+/// that resolution eliminates. `different` if their answers differ.
 fn answer(alloc: Global, cnf: &Cnf) -> Result<&'static str, AllocError> {
     let whole = confirmed(alloc, cnf, solve(alloc, cnf)?)?;
     let propagated = confirmed(alloc, cnf, solve_propagated(alloc, cnf, Style::Broad)?)?;
@@ -178,7 +178,7 @@ fn step_of(alloc: Global, clause: &[i32], hints: &[u64]) -> Result<Step, AllocEr
     })
 }
 
-/// Three steps that refute these clauses. The first step is not used.
+/// Three steps that refute the clauses of `SQUARE`. The steps after the first don't use it.
 fn three_steps(alloc: Global) -> Result<Items<Step>, AllocError> {
     let mut steps = Items::new(alloc);
     steps.push(step_of(alloc, &[1], &[1, 3])?)?;

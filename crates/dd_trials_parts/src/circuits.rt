@@ -71,7 +71,7 @@ const VALUES_OF_GATES: &[([bool; 3], [bool; 8])] = &[
     ),
 ];
 
-/// Adds conjunctions of none, one and all of the three inputs.
+/// Adds conjunctions of none, one and all of the three inputs, some of which are negated.
 fn push_conjunctions(circuit: &mut Circuit) -> Result<(), AllocError>
     requires inputs { 3 ≤ size circuit.old }
     requires few { size circuit.old ≤ 100 }
@@ -84,7 +84,7 @@ fn push_conjunctions(circuit: &mut Circuit) -> Result<(), AllocError>
     Ok(())
 }
 
-/// Adds disjunctions of none, one and all of the three inputs.
+/// Adds disjunctions of none, one and all of the three inputs, some of which are negated.
 fn push_disjunctions(circuit: &mut Circuit) -> Result<(), AllocError>
     requires inputs { 3 ≤ size circuit.old }
     requires few { size circuit.old ≤ 100 }

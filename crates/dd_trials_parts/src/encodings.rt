@@ -71,7 +71,7 @@ fn a_conjunction_of_two_inputs(rt: HostRuntime) -> Result<(), Fail> {
     Ok(())
 }
 
-/// Adds conjunctions of none, one and all of the three inputs.
+/// Adds conjunctions of none, one and all of the three inputs, some of which are negated.
 fn push_conjunctions(circuit: &mut Circuit) -> Result<(), AllocError>
     requires inputs { 3 ≤ size circuit.old }
     requires few { size circuit.old ≤ 100 }
@@ -84,7 +84,7 @@ fn push_conjunctions(circuit: &mut Circuit) -> Result<(), AllocError>
     Ok(())
 }
 
-/// Adds disjunctions of none, one and all of the three inputs.
+/// Adds disjunctions of none, one and all of the three inputs, some of which are negated.
 fn push_disjunctions(circuit: &mut Circuit) -> Result<(), AllocError>
     requires inputs { 3 ≤ size circuit.old }
     requires few { size circuit.old ≤ 100 }
@@ -97,7 +97,7 @@ fn push_disjunctions(circuit: &mut Circuit) -> Result<(), AllocError>
     Ok(())
 }
 
-/// The clauses of three conjunctions, three disjunctions and an equivalence of three inputs.
+/// The clauses of gates over three inputs: three conjunctions, three disjunctions and an equivalence.
 const CLAUSES_OF_GATES: &[&[i64]] = &[
     &[4],
     &[-5, -1],

@@ -102,7 +102,7 @@ const DIFFERENCES: &[(Pair, Pair, Pair, Option<Pair>)] = &[
     ((7, 6), (1, 2), (1, 3), Some((1, 1))),
     ((5, 7), (-2, 3), (1, 5), Some((89, 105))),
     ((1, 6), (1, 2), (1, 3), Some((0, 1))),
-    // The least numerator of 16 bits and the greatest denominators of 16 bits.
+    // The least numerator of 16 bits, and in the second row denominators near the greatest of 16 bits.
     (
         (-32768, 1),
         (-32768, 1),

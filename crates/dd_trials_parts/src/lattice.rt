@@ -34,7 +34,7 @@ fn a_region_and_its_copy(rt: HostRuntime) -> Result<(), Fail> {
     Ok(())
 }
 
-/// A dimension, by how much a region at the edge of the range is grown, and the fault, if there is one.
+/// A dimension, the amount by which a region at the edge of the range is grown, and the fault, if there is one.
 const GROWN_EDGES: &[(u32, u32, Option<LatticeFault>)] = &[
     (1, 0, None),
     (1, 1, Some(LatticeFault::Range)),

@@ -4,7 +4,7 @@ use std::alloc::Global;
 use std::process::Abort;
 use std::test::Fail;
 
-/// The fault of the first command that is not well formed, if there is one.
+/// The first fault of the text, if there is one. A text that is too long to be read would give `Memory`, but no test has one.
 fn first_fault(alloc: Global, bytes: &[u8]) -> Option<SyntaxFault> {
     if bytes.len() > 1_048_576 {
         return Some(SyntaxFault::Memory);

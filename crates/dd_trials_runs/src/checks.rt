@@ -17,7 +17,8 @@ const ANSWER: &str = "query 1 YES 0\nrefutation 1\nstep 0 6 3 4 2 0 0\n";
 // Each row of these tables alters the output. It has a part of the output that occurs only once, the replacement for this part,
 // the status with which the check ends, and what the check writes.
 
-// Lines that no output has. Each text is refused at the offset where its longest prefix that could begin an output ends.
+// Texts with a wrong line, with a line too few or with a line too many. Each text is refused at an offset: the length of its
+// longest prefix that begins some output.
 const LINES: [(&str, &str, Status, &str); 16] = [
     ("diddy 1", "Diddy 1", Status::Refused, "refused at 0\n"),
     ("diddy 1", "diddy 2", Status::Refused, "refused at 6\n"),
@@ -121,7 +122,7 @@ const SCRIPTS: [(&str, &str, Status, &str); 9] = [
         "refused at 16\n",
     ),
     // With the length 1048576, all that follows could be the beginning of the script, so the text is refused only at its end. No
-    // script may be longer than that.
+    // script may be longer than 1048576 bytes.
     (
         "script 34",
         "script 1048576",
@@ -160,8 +161,8 @@ const SCRIPTS: [(&str, &str, Status, &str); 9] = [
     ),
 ];
 
-// Other radii, and steps with other hints and deletes, which refute the clauses or fail to. A hint is the number of a clause by
-// which the step is derived, and a delete is the number of a clause that is removed.
+// Other radii, and steps with other hints and deletes. Some of these steps refute the clauses, and others don't. A hint is the
+// number of a clause by which the step is derived, and a delete is the number of a clause that is removed.
 const STEPS: [(&str, &str, Status, &str); 13] = [
     ("YES 0", "YES 5", Status::Rejected, "query 1 rejected\n"),
     ("YES 0", "YES 9", Status::Rejected, "query 1 rejected\n"),

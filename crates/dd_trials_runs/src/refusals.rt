@@ -37,7 +37,7 @@ const NOT_WELL_FORMED: [(&[u8], &str); 17] = [
     (b"%rule a o=0 early", "1 syntax"),
 ];
 
-// Names that are unknown or given twice.
+// Names that are unknown, and names and vectors that are given twice.
 const FAULTS_OF_NAMES: [(&[u8], &str); 16] = [
     (b"%rule a o=0 %member c a", "2 unknown c"),
     (b"%rule a o=0 %auto n else 0 %same n m a", "3 unknown m"),
@@ -63,7 +63,7 @@ const FAULTS_OF_NAMES: [(&[u8], &str); 16] = [
     (b"%rule a o=0 %discharge a 0 0 [] []", "2 twice vector"),
 ];
 
-// Wrong numbers of dimensions, nodes, weights or symbols.
+// Wrong dimensions, and wrong numbers of nodes, weights, periods or symbols.
 const FAULTS_OF_NUMBERS: [(&[u8], &str); 9] = [
     (b"%dim 4", "1 dimension"),
     (b"%dim 1000001", "1 dimension"),
@@ -76,7 +76,7 @@ const FAULTS_OF_NUMBERS: [(&[u8], &str); 9] = [
     (b"%rule a o=0 %density a [1 1]", "2 dimension"),
 ];
 
-// Symbols that their node doesn't allow, repetitions in restrictions of nodes, and wrong shears.
+// Symbols that their node doesn't allow, unknown names and repetitions in restrictions of nodes, and wrong shears.
 const FAULTS_OF_NODES_AND_SHEARS: [(&[u8], &str); 9] = [
     (
         b"%alphabet 0 1 2 %only 0 0 2 %rule a o!=1 %empty a %conf c [1 1] 1",

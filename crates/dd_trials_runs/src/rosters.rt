@@ -99,9 +99,10 @@ fn an_engine_runs_out_of_memory(rt: HostRuntime) -> Result<(), Fail> {
     Ok(())
 }
 
-// Each row has the numbers of variables and clauses for the box of one radius, from 0 to 4, and how many engines are left. The
-// engine gives a wrong refutation of lists of this size only. So it is found wrong exactly if the search asks about the box of
-// this radius. The search asks about the radii 0 to 3: engines are asked about the boxes themselves.
+// Each row is about the box of one radius, from 0 to 4. It has the numbers of variables and clauses in the box's list of clauses,
+// and how many engines are left. The engine gives a wrong refutation of a list of this size, and proposes nothing for any other
+// list. So it is found wrong exactly if it is asked about the list of this box. The search asks about the radii 0 to 3, and the
+// engine is given the lists of these boxes as they are.
 #[test]
 fn engines_are_asked_for_the_boxes_themselves(rt: HostRuntime) -> Result<(), Fail> {
     let alloc = rt.alloc();

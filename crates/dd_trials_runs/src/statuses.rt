@@ -149,7 +149,7 @@ fn assert_front(
     Ok(())
 }
 
-// Asserts that nothing is written if any of the reads fails, and that no further read is made.
+// Asserts that nothing is written if any of the first `reads` reads fails, and that the session makes no read after these.
 fn assert_reads(rt: &impl Abort, alloc: Global, session: Session, reads: u64) -> Result<(), Fail> {
     let (_, _, status, written) = session;
     let capacity = written.len();
@@ -169,8 +169,8 @@ fn assert_reads(rt: &impl Abort, alloc: Global, session: Session, reads: u64) ->
     assert_front(rt, alloc, session, outside, (status, capacity))
 }
 
-// Asserts that the sink holds what was written before, if any of the writes fails, and that no further write is made. `fronts`
-// has the number of these bytes for each write.
+// `fronts` has a number for each write of the session. Asserts that the sink holds this many bytes if the write fails, and that
+// the session makes no write after these.
 fn assert_writes(
     rt: &impl Abort,
     alloc: Global,

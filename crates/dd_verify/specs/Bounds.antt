@@ -23,9 +23,9 @@ pub data IsStripCertificate (x : LocalRule) (strip ws : List ℕ) : Answer → T
       IsStripCertificate x strip ws (answer.Density p q cycle potentials)
   strip_empty : {ranks : List ℕ} → IsEmptyCertificate x (strip_for x strip) ranks → IsStripCertificate x strip ws (answer.Empty ranks)
 
--- p / q is the least density of the configurations that live on the strip, and m / l is the mean weight of the cycle, in lowest terms. In an
--- admissible filling of finite length, take the j slices after the first state. Then l times the weight of these slices is at least m * j, less the
--- spread of the potentials (the greatest less the least).
+-- p / q is the least density of the configurations that live on the strip. m / l is the mean weight of the cycle, in lowest
+-- terms. Take an admissible filling of as many slices as a state has, and of j more. Then l times the weight of the last j
+-- slices is at least m * j, less the spread of the potentials (the greatest less the least).
 pub record IsLeastOnStrip (x : LocalRule) (strip ws : List ℕ) (p q : ℕ) (cycle : List ℕ) (potentials : List ℤ) : Type 0 where
   pub m : ℕ
   pub l : ℕ
@@ -37,8 +37,8 @@ pub data StripClaim (x : LocalRule) (strip ws : List ℕ) : Answer → Type 0 wh
   claims_least : {p q : ℕ} {cycle : List ℕ} {potentials : List ℤ} → IsLeastOnStrip x strip ws p q cycle potentials → StripClaim x strip ws (answer.Density p q cycle potentials)
   claims_empty : {ranks : List ℕ} → StripEmpty x (strip_for x strip) (greatest ranks + state_length x) → StripClaim x strip ws (answer.Empty ranks)
 
--- Discharging. A certificate has amounts with which each position holds at least the bound, and duals which show that no amounts do better. Or it
--- gives a reason why there is no bound.
+-- Discharging. A certificate has amounts with which each position holds at least the bound, and duals which show that no amounts
+-- do better. Or it is UNKNOWN, with a reason why no bound was found.
 pub data IsDischargeCertificate (x : LocalRule) (radius margin : ℕ) (vs : List Place) (ws : List ℕ) : Answer → Type 0 where
   best : {p q n : ℕ} {amounts duals : List ℕ} → IsBoundCertificate x ws radius margin vs (bound_claimed p q n amounts duals) →
       IsDischargeCertificate x radius margin vs ws (answer.Bound p q n amounts duals)

@@ -24,9 +24,9 @@ pub data MemberClaim (x : LocalRule) (t : Tile) : Answer → Type 0 where
   says_inside : Lives x t → MemberClaim x t answer.Inside
   says_outside : {place : List ℤ} → IsFalseAt x t place → MemberClaim x t (answer.Outside place)
 
--- Box questions. YES claims that the goal holds nowhere: at no position of a configuration that obeys the premise, and at no position of an
--- admissible filling such that the filling covers the box of radius n round that position. NO claims that the configuration lives in the premise's
--- subshift and has the goal at the origin. UNKNOWN claims nothing.
+-- Box questions. YES, with the radius n, claims that the goal holds nowhere. No configuration that obeys the premise has the goal
+-- at any position. No admissible filling has the goal at a position if the filling covers the box of radius n round it. NO claims
+-- that the configuration lives in the premise's subshift and has the goal at the origin. UNKNOWN claims nothing.
 pub data BoxClaim (x : LocalRule) (g : GoalOf) : Answer → Type 0 where
   says_nowhere : {n : ℕ} {steps : List Step} → HoldsNowhere x g n → BoxClaim x g (answer.Yes n steps)
   says_witness : {along : List ℕ} {shear : ℕ} {symbols : List ℕ} → IsWitness x g (given_tile x along shear symbols) → BoxClaim x g (answer.No side.Whole along shear symbols)

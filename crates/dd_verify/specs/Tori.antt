@@ -22,8 +22,8 @@ pub record HasWeight (x : LocalRule) (along ws : List ℕ) (w : ℕ) (symbols : 
 abbrev pub IsBoundedBy : LocalRule → List ℕ → List ℕ → ℕ → List Step → Type 0
 IsBoundedBy x along ws w steps = 0 < w → IsRefuting (weight_problem x (periods_of along 0) ws w) steps
 
--- A certificate has a configuration in the rule's subshift, and steps that refute that any weighs less. Or it has steps that refute that there is any
--- configuration in the rule's subshift.
+-- A certificate has a configuration in the rule's subshift, and steps which show that none weighs less. Or it has steps which
+-- show that there is no configuration in the rule's subshift. All configurations here have these periods and no shear.
 pub data IsTorusCertificate (x : LocalRule) (along ws : List ℕ) : Answer → Type 0 where
   torus_least : {w : ℕ} {symbols : List ℕ} {steps : List Step} → HasWeight x along ws w symbols → IsBoundedBy x along ws w steps →
       IsTorusCertificate x along ws (answer.Least w symbols steps)

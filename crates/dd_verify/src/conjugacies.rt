@@ -72,7 +72,8 @@ fn check_each(
     check_at(alloc, c.to, &c.round_back, limits, radii, steps, 3)
 }
 
-/// Whether the configuration certifies a NO to the box question with the number `part`, from 1 to 4, and an output can hold it.
+/// Whether the configuration certifies a NO to the box question with the number `part`, and an output can hold it. These numbers
+/// go from 1 to 4. If `part` is any other number, the result is false.
 fn check_part(
     alloc: Global,
     c: &Conjugacy,

@@ -35,7 +35,7 @@ fn is_writable(numerator: u64, denominator: u64, cycle: &[u64], potentials: &[i6
     is_signed_list(potentials)
 }
 
-/// Whether the cycle and the potentials show that this is the least density, and an output can hold them.
+/// Whether the cycle and the potentials show that this is the least density, and an output can hold all these numbers.
 fn is_least(
     alloc: Global,
     rule: &Rule,

@@ -1,5 +1,5 @@
-//! The check of answers about the best bound of a discharge: a lower bound for what each position holds after each has sent
-//! amounts along given vectors.
+//! The check of answers about the best bound of a discharge. In a discharge, each position sends amounts along given vectors. The
+//! bound is a lower bound for what each position holds afterwards.
 ghost use Rattle.std.specs.Prelude.{◌≡◌, ◌↔◌, ◌⊎◌, IsTrue, IfOk};
 ghost use Rattle.dd_certificate.specs.declared.answer.Answer.TheVariants as answer;
 ghost use Rattle.dd_certificate.specs.Bounds.{IsWritable};
@@ -31,7 +31,7 @@ fn is_writable(claimed: &ClaimedBound) -> bool
     is_list(claimed.duals)
 }
 
-/// Whether the amounts and the duals show that this is the best bound, and an output can hold them.
+/// Whether the amounts and the duals show that this is the best bound, and an output can hold the claimed bound.
 fn is_bound(
     alloc: Global,
     rule: &Rule,

@@ -1,4 +1,4 @@
-//! Laws which say that what certificates claim is true. Each law is the contract of a function that does nothing.
+//! Laws which say that the claims of certificates are true. Each law is the contract of a function that does nothing.
 ghost use Rattle.dd_boxes.specs.Goals.{IsGoalFor, KeepsRule};
 ghost use Rattle.dd_boxes.specs.Views.{goal_of};
 ghost use Rattle.dd_certificate.specs.declared.answer.Answer.{Answer as AnyAnswer};
@@ -36,9 +36,9 @@ fn goal_facts(goal: &Goal)
     }
 }
 
-/// Does nothing. Its contract says that what a certificate for the question claims is true. The claim of a bound is about
-/// boxes of every side at every position: a box of n positions weighs at least n times the bound, less what the box may
-/// receive from outside.
+/// Does nothing. Its contract says that the claim of each certificate for the question is true. The claim of a bound is about
+/// boxes of every side length at every position: a box weighs at least the number of its positions times the bound, less what
+/// the box may receive from outside.
 pub fn claims_hold(question: &CheckedQuestion)
     ensures { (answer : AnyAnswer) → IsCertificateOf question.now.limits question.now.question answer → ClaimOf question.now.question answer }
 {
@@ -72,8 +72,8 @@ pub fn claims_hold(question: &CheckedQuestion)
     }
 }
 
-/// Does nothing. Its contract says the same as that of `claims_hold`, for every sound box question or conjugacy whose goals have
-/// the facts of `HaveGoalFacts`. It takes no question and no goals as values.
+/// Does nothing. Its contract says the same as that of `claims_hold`, for every sound question about a box or a conjugacy whose
+/// goals have the facts of `HaveGoalFacts`. The function itself takes no question and no goals.
 pub fn claims_hold_for_goals()
     ensures { (l : AnyLimits) (k : Asked) (answer : AnyAnswer) → IsSoundAsked l k → HaveGoalFacts k → IsCertificateOf l k answer → ClaimOf k answer }
 {}

@@ -7,10 +7,10 @@
 //! fundamental box is the box that repeats. An answer about membership names the first cell, in cell order (by z, then y, then
 //! x, then the node), at which the rule is false. Many questions are box questions. A box question has a rule, the premise,
 //! and a goal: a property of a position, such as that another rule is broken there. The question asks whether the goal holds
-//! nowhere in any configuration that obeys the premise. A certificate for YES has a radius and the steps of a refutation: no
-//! admissible filling of the box of this radius has the goal at the origin. (A filling is admissible if the premise is true at
-//! each of its cells where all that the premise reads has a symbol.) A certificate for NO has a periodic configuration that
-//! lives in the premise's subshift and has the goal at the origin.
+//! nowhere in any configuration that obeys the premise. A certificate for YES has a radius, and the steps of a refutation. The
+//! steps show that no admissible filling of the box of this radius has the goal at the origin. (A filling is admissible if the
+//! premise is true at each of its cells where all that the premise reads has a symbol.) A certificate for NO has a periodic
+//! configuration that lives in the premise's subshift and has the goal at the origin.
 #![tactic(auto)]
 
 mod answering;

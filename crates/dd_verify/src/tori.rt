@@ -1,6 +1,6 @@
 //! The check of answers about the least weight on a torus. This is the least weight of the fundamental box, over the
 //! configurations with given periods and no shear that live in a rule's subshift. The least weight is certified by a
-//! configuration of this weight, and by steps which refute that any of these configurations weighs less.
+//! configuration of this weight, and by steps which show that none of these configurations weighs less.
 ghost use Rattle.std.specs.Prelude.{◌≡◌, ◌≤◌, ◌<◌, ◌↔◌, length, IsTrue, IfOk, MatchOption};
 ghost use Rattle.dd_pattern.specs.Periods.{periods_of};
 ghost use Rattle.dd_pattern.specs.Tile.{IsTile};
@@ -110,8 +110,8 @@ fn refutes_below(
     Ok(check_refutation(&cnf, steps, &mut marks))
 }
 
-/// Whether the steps refute that a configuration in the rule's subshift weighs less than `weight`. If `weight` is 0, there must
-/// be no steps.
+/// Whether the steps show that no configuration in the rule's subshift weighs less than `weight`. If `weight` is 0, there must be
+/// no steps.
 fn bounds(
     alloc: Global,
     rule: &Rule,

@@ -56,9 +56,9 @@ text_step (Formula-F.Chain j fs) = separated_by (sign j) fs
 abbrev pub text : Formula → List Lexeme
 text = fold-Formula (List Lexeme) text_step
 
--- The places where a formula may stand are numbered, the tightest first. Place 0 is after `!` or a quantifier, or as a part of a chain of `&`. Places
--- 1, 2 and 3 are as a part of a chain of `|`, `->` and `<->`. Place 4 is in parentheses or alone. The rank of a sign is the tightest place where a
--- chain with that sign may stand.
+-- The places where a formula may stand are numbered, the tightest first. A formula stands at place 0 after `!` or a quantifier,
+-- or as a part of a chain of `&`. It stands at place 1, 2 or 3 as a part of a chain of `|`, `->` or `<->`. It stands at place 4
+-- alone or in parentheses. The rank of a sign is the tightest place where a chain with that sign may stand.
 abbrev pub join_rank : Join → ℕ
 join_rank Join.And = 1
 join_rank Join.Or = 2

@@ -141,8 +141,8 @@ fn begins(join: Join, tokens: &[Lexeme]) -> bool
     }
 }
 
-/// A formula that isn't a chain: an atom, or a formula that begins with `!`, `A`, `E` or `(`. Formulas of these four kinds may be
-/// nested at most `budget` deep.
+/// A formula that isn't a chain: an atom, or a formula that begins with `!`, `A`, `E` or `(`. In it, `!`, quantifiers and
+/// parentheses may be nested at most `budget` deep.
 #[cycle(read)]
 fn unary(alloc: Global, budget: u32, tokens: &[Lexeme]) -> Read<'_, Formula>
     ensures { Gives (λ x. (x.0, x.1.now)) result (unary_at budget tokens.now) }
@@ -232,7 +232,8 @@ fn chain(alloc: Global, budget: u32, join: Join, tokens: &[Lexeme]) -> Read<'_, 
 /// The longest formula at the front of the tokens, and the tokens after it.
 ///
 /// # Errors
-/// The tokens don't begin with a formula, the longest one is deeper than 64, or memory ran out.
+/// `Syntax` if the tokens don't begin with a formula, if a part of the formula is followed by a sign but not by a further part,
+/// or if the formula is deeper than 64. `Memory` if memory ran out.
 pub fn read_formula(alloc: Global, tokens: &[Lexeme]) -> Read<'_, Formula>
     ensures { Gives (λ x. (x.0, x.1.now)) result (formula_at tokens.now) }
 {

@@ -1,8 +1,9 @@
 //! What the reader of formulas guarantees.
 ghost use Rattle.dd_written.specs.reading.Laws.{FormulasAreRead};
 
-/// Does nothing. Its contract says two things. If tokens are read as a formula, then they are the text of that formula. The text
-/// of a formula is read as that formula, unless the tokens after the text could continue it.
+/// Does nothing. Its contract says two things. If a formula is read from tokens, then the tokens begin with the text of the
+/// formula, and go on with the tokens that are left. The text of a formula is read as that formula, unless the tokens after the
+/// text could continue it.
 pub fn formula_is_read()
     ensures { FormulasAreRead }
 {}

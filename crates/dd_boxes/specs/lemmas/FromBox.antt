@@ -71,7 +71,7 @@ never_from_box x g n ok reach suffices = record {
       (goal_at_origin x g n look v ok reach covers there);
 }
 
--- a configuration that obeys the rule is an admissible filling that covers every box
+-- a configuration covers every box; if it obeys the rule, it is also an admissible filling
 configuration_covers : (x : LocalRule) (n : ℕ) (look : Look) (v : Place) → IsConfiguration x look → is_flat x.dimension v ≡ true → Covers x n look v
 configuration_covers x n look v full flat c h =
     let both = and_parts (in_box x.dimension n c.position) (nat_lt c.node x.nodes) h in

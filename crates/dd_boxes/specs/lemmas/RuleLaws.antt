@@ -10,7 +10,7 @@ use Rattle.dd_formula.specs.{LocalRule.LocalRule, LocalRule.is_true, LocalRule.r
 use Rattle.dd_formula.specs.{declared.automaton.Automaton.Automaton, lemmas.ValueLaws.value_by_reads, lemmas.ValueLaws.equal_to_some}
 use Rattle.dd_values.specs.lemmas.Numbers.{zero_plus}
 
--- the symbols that the look gives to cells relative to v
+-- the symbols that the look-up gives to cells relative to v
 abbrev pub from_place : Look → Place → Look
 from_place look v c = look (shifted v c)
 
@@ -28,8 +28,8 @@ shifted_twice u v c =
 abbrev pub reads_given : LocalRule → Look → Place → ℕ → Bool
 reads_given r look v a = list_all (λ c. is_some (look (shifted v c))) (reads_at r a)
 
--- Let two looks, one taken relative to u and the other relative to v, agree where the first has symbols. If the first has a symbol at each cell that
--- is read, the rule has the same truth value under both.
+-- Let two look-ups, one taken relative to u and the other relative to v, agree where the first has symbols. If the first has a
+-- symbol at each cell that is read, the rule has the same truth value under both.
 pub keeps_at : (r : LocalRule) (less more : Look) (u v : Place) (a : ℕ) →
     ((c : Cell) → is_some (from_place less u c) ≡ true → from_place less u c ≡ from_place more v c) →
     reads_given r less u a ≡ true → is_true r (cell u a) less ≡ is_true r (cell v a) more

@@ -1,4 +1,5 @@
--- A question is small if the largest question within its limits is small: smaller boxes and regions with fewer positions have no more clauses.
+-- A question that has at most `most_clauses` clauses on its largest region has at most so many on each region with at most as
+-- many positions, such as each smaller box.
 use Rattle.std.proofs.Common.{◌≡◌, ℕ, zero, suc, ◌+◌, ◌*◌, ◌^◌, ◌≤◌, ap, ◌∙◌, arith, pos}
 use Rattle.std.proofs.{Math.Nat.pow-zero, Math.Nat.pow-suc, lemmas.Int.ints, lemmas.Nat.mul-le}
 use Rattle.std.specs.Prelude.{◌-ℤ◌}
@@ -6,7 +7,7 @@ use Rattle.dd_lattice.specs.Boxes.{span, centred, volume}
 use Rattle.dd_formula.specs.{LocalRule.LocalRule, Counts.place_clauses, Counts.largest_region, Counts.largest_clauses}
 use Rattle.dd_boxes.specs.{Goals.GoalOf, Counts.goal_clauses, Counts.question_clauses, Counts.most_clauses}
 
--- more positions have no fewer clauses
+-- a region with more positions has at least as many clauses
 sum_up : (n m each rest : ℕ) → n ≤ m → n * each + rest ≤ m * each + rest
 sum_up n m each rest le = let most : n * each ≤ m * each = mul-le n each m each le (omega arith) in omega (arith, most)
 
@@ -21,7 +22,7 @@ pub fewer : (x : LocalRule) (g : GoalOf) (radius period n : ℕ) → n ≤ large
 fewer x g radius period n le few =
     at_most (question_clauses x g n) (question_clauses x g (largest_region x.dimension radius period)) (clauses_up x g n (largest_region x.dimension radius period) le) few
 
--- ---- the number of positions of a box, as a power
+-- the number of positions of a box, as a power
 
 pub first_power : (b : ℕ) → b ^ 1 ≡ b
 first_power b = let none = pow-zero b in let one : b ^ 1 ≡ b ^ 0 * b = pow-suc b 0 in one ∙ (ap (λ m. m * b) none ∙ (omega arith))
@@ -42,7 +43,7 @@ box_positions (suc (suc zero)) n low high = let side = side_is n in rw (second_p
 box_positions (suc (suc (suc zero))) n low high = let side = side_is n in rw (third_power (2 * n + 1), side) (omega arith)
 box_positions (suc (suc (suc (suc d)))) n low high = absurd (omega arith)
 
--- a larger box has no fewer positions
+-- a larger box has at least as many positions
 squares_up : (a b : ℕ) → a ≤ b → a * a ≤ b * b
 squares_up a b le = mul-le a a b b le le
 

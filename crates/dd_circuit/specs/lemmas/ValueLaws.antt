@@ -59,7 +59,7 @@ last_value vs b n e = let i : suc n - 1 ≡ length vs = omega (arith, e) in rw i
 one_more : (vs : List Bool) (b : Bool) (n : ℕ) → length vs ≡ n → length (vs ++ b ∷ []) ≡ suc n
 one_more vs b n e = let h = length-append vs (b ∷ []) in omega (arith, h, e)
 
--- later gates don't change the values of the variables before theirs
+-- the gates `gs` leave the values vs of the first n variables unchanged
 pub values_from-alike : (gs : List Gate) (vs : List Bool) (n : ℕ) → length vs ≡ n → Alike n (true_variables (values_from vs gs)) (true_variables vs)
 values_from-alike [] vs n e k p q = refl
 values_from-alike (g ∷ gs) vs n e k p q =
@@ -98,7 +98,8 @@ pub values_done : (circuit : Network) (inputs values : List Bool) (gs : List Gat
 values_done circuit inputs values gs i e ok same all is =
     are_values circuit inputs values e (rw same at ok) (is ∙ ap (values_from inputs) (take_all i gs all ∙ same))
 
--- no other list does this: a list that starts with the values vs and agrees with the gates is `values_from`
+-- the converse: if a list starts with the values vs, has one more value for each gate, and gives each gate's variable the gate's
+-- value, then it is `values_from`
 unique : (gs : List Gate) (vs ws : List Bool) (n : ℕ) → length ws ≡ n + length gs → AreGates n gs → take n ws ≡ vs →
     agrees (true_variables ws) n gs ≡ true → ws ≡ values_from vs gs
 unique [] vs ws n e ok begins said = sym (take_all n ws (omega (arith, e))) ∙ begins
@@ -122,7 +123,7 @@ pub values_only : (circuit : Network) (inputs values : List Bool) (gs : List Gat
 values_only circuit inputs values gs i ok same all is others are =
     AreValues-unique circuit inputs others (rw same at ok) are ∙ sym (is ∙ ap (values_from inputs) (take_all i gs all ∙ same))
 
--- the gate at index i is over variables whose values are there when its turn comes
+-- once the gates before index i have their values, so has each variable that the gate at index i is over
 pub gate_here : (n : ℕ) (inputs vs : List Bool) (gs : List Gate) (i : ℕ) (g : Gate) → length inputs ≡ n → AreGates n gs → i < length gs →
     vs ≡ values_from inputs (take i gs) → g ≡ get_or gs i g → IsGate (length vs) g
 gate_here n inputs vs gs i g full ok within is here =
@@ -131,7 +132,7 @@ gate_here n inputs vs gs i g full ok within is here =
     let e : n + i ≡ length vs = rw is (omega (arith, few, so_far, full)) in
     rw (← e, here) (gate_at n gs i g ok within)
 
--- one more gate adds its value
+-- one more gate puts its value at the end of the list
 values_more : (inputs : List Bool) (gs : List Gate) (i : ℕ) (g : Gate) → i < length gs → g ≡ get_or gs i g →
     values_from inputs (take (i + 1) gs) ≡ values_from inputs (take i gs) ++ gate_value (true_variables (values_from inputs (take i gs))) g ∷ []
 values_more inputs gs i g within here =

@@ -15,7 +15,7 @@ pub record Form (X : Type 0) : Type 1 where
   -- the reader of an item
   pub item : Reader X
 
--- the form of items that are always written as this text; anything may follow them
+-- the form of items that are written as the tokens that `text` gives; any tokens may follow
 abbrev pub by_text : {X : Type 0} → (X → List Lexeme) → Reader X → Form X
 by_text text item = record { onto = λ x rest. text x ++ rest; is = λ x. Unit {0}; ends = λ rest. Unit {0}; item = item }
 

@@ -1,4 +1,5 @@
--- An expansion has no more gates than instances (itself, its parts, their parts, and so on), and no more gates than these gates have clauses.
+-- The number of an expansion's gates is at most the number of its instances (itself, its parts, their parts, and so on). It is
+-- also at most the number of the clauses of these gates.
 use Rattle.std.proofs.Common.{◌≤◌, ℕ, List, [], ◌∷◌, map, arith}
 use Rattle.dd_expansion.specs.declared.expanded.Expanded.{Expanded}
 use Rattle.dd_expansion.specs.declared.expanded.Expanded.TheFolds.{fold-roll-Expanded, ind-Expanded, map-Expanded}

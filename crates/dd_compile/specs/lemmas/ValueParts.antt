@@ -45,7 +45,7 @@ made_composed k f g w at n =
     ap (λ (x : Gated). x.made w at n) (gated_composed k f g)
     ∙ ap (λ (x : Counted). composed_made (in_order (x.reads at.node)) (value_made k f) (value_made k g) w at n) (gated_counts k f)
 
--- There are no more gates than `value_clauses` counts clauses.
+-- The number of gates is at most the number of clauses that `value_clauses` counts.
 abbrev AreFew : ℕ → Automaton → Type 0
 AreFew k f = (w : Wiring) (at : Cell) (n : ℕ) → length (value_made k f w at n).gates ≤ value_clauses k f at.node
 

@@ -29,8 +29,8 @@ abbrev pub placed_by : Option Signal → ℕ → Bool → Signal
 placed_by None variable positive = record { variable = variable; positive = positive }
 placed_by (Some input) variable positive = signed positive input
 
--- The signal that replaces a signal of a template. Each of the template's first variables, which are its inputs, is replaced by one of `inputs`. The
--- later variables are replaced, in order, by the variables after n.
+-- The signal that replaces a signal of a template. The template's first variables, which are its inputs, are replaced, in order,
+-- by the signals `inputs`. The later variables are replaced, in order, by the variables n + 1, n + 2 and so on.
 abbrev pub placed : List Signal → ℕ → Signal → Signal
 placed inputs n s = placed_by (slice_get inputs (s.variable - 1)) (n + (s.variable - length inputs)) s.positive
 

@@ -19,7 +19,7 @@ pub record IsDensityOf (volume m l : ℕ) (cycle : List ℕ) (ps : List ℤ) (p 
   pub potentials_are : qs ≡ ps
   pub small : All (λ u. u < 2 ^ 32) walk
 
--- the answer is the density for the least mean, or `Empty` if there is no cycle
+-- the answer is the density for the least mean, or `Empty` if there is no closed walk
 abbrev pub IsOfMean : ℕ → Mean → Density → Type 0
 IsOfMean volume (mean.Least m l cycle ps) (Least p q walk qs) = IsDensityOf volume m l cycle ps p q walk qs
 IsOfMean volume (mean.Least m l cycle ps) (Empty ranks) = ⊥

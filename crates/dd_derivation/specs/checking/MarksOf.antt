@@ -24,7 +24,7 @@ abbrev pub is_marked : List VariableMark → ℕ → Literal → Bool
 is_marked marks step l =
     mark_says step l.positive (slice_index_or marks (l.variable - 1) (record { step = 0; positive = false }))
 
--- the marks after this literal is marked as false; they stay the same if its variable has no mark
+-- the marks after this literal is marked as false; they stay the same if its variable is out of range and so has no mark
 abbrev pub with_mark : List VariableMark → ℕ → Literal → List VariableMark
 with_mark marks step l =
     if is_literal_in_range (length marks) l
@@ -41,12 +41,14 @@ abbrev pub literals_of : List (Option (List Literal)) → List ℕ → List Lite
 literals_of known [] = []
 literals_of known (h ∷ hints) = unwrap_or (clause_of known h) [] ++ literals_of known hints
 
--- Whether a literal is false, if its variable has no mark. The variable has no value until a hinted clause contains it. The first such clause forces
--- its own literal of the variable. `seen` holds the literals of the clauses hinted so far.
+-- Whether a literal is false, if its variable is out of range and so has no mark. The variable has no value until a hinted clause
+-- contains it. The first such clause forces the literal in which the variable occurs there. `seen` holds the literals of the
+-- clauses hinted so far.
 abbrev pub is_false_unmarked : List Literal → Literal → Bool
 is_false_unmarked seen l = option_map_or (λ m. same_literal l (negation m)) (first_literal_of l.variable seen) false
 
--- the literal is false by the mark of its variable or, if the variable has no mark, by the literals of the clauses hinted so far
+-- the literal is false by the mark of its variable or, if the variable is out of range, by the literals of the clauses hinted
+-- so far
 abbrev pub is_false : List VariableMark → ℕ → List Literal → Literal → Bool
 is_false marks step seen l =
     if is_literal_in_range (length marks) l then is_marked marks step l else is_false_unmarked seen l

@@ -4,8 +4,8 @@ use Rattle.std.specs.List.{All}
 use Rattle.dd_rows.specs.declared.rows.Row.{Row}
 use Rattle.dd_discharge.specs.Amounts.{row_in}
 
--- There are neither too many rows nor too many columns. Each row has a coefficient from -1 to 1 for each column, and a small
--- right side. The first row says that column 0 is at most a cap.
+-- There are 1 to 2,048 rows and 1 to 256 columns. Each row has a coefficient from -1 to 1 for each column, and a right side of at
+-- most 4,000. The first row says that column 0 is at most a cap.
 pub record AreRowsOf (columns : ℕ) (rows : List Row) : Type 0 where
   pub wide : 0 < columns
   pub narrow : columns ≤ 256

@@ -10,8 +10,8 @@ differences [] ys = 0
 differences (x ∷ xs) [] = 0
 differences (x ∷ xs) (y ∷ ys) = (if beq x y then 0 else 1) + differences xs ys
 
--- The number is positive, and it is a multiple of the length of each nonempty clause that the flips take from number `from` up to, but
--- not including, number `to`.
+-- The period is positive. It is a multiple of the length of each nonempty clause that is taken by a flip whose number is at least
+-- `from` and less than `to`.
 abbrev pub IsPeriod : ClauseList → ℕ → ℕ → ℕ → Type 0
 IsPeriod cnf from to period = (0 < period) × ((i : ℕ) (values : List Bool) (clause : List Literal) → from ≤ i → i < to → values_after cnf i ≡ Some values → first_unsatisfied values cnf.clauses ≡ Some clause → 0 < length clause → period % length clause ≡ 0)
 

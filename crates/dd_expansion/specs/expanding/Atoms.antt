@@ -1,4 +1,4 @@
--- Atoms: the formulas without parts.
+-- Atoms: the formulas about the cells of one or two terms. A conjunction or disjunction is not an atom, even if it has no parts.
 use Rattle.std.specs.Prelude.{Bool, true, false}
 use Rattle.dd_expansion.specs.declared.formulas.Formula.{Formula}
 use Rattle.dd_expansion.specs.declared.formulas.Formula.TheVariants.{Symbol, NotSymbol, Same, NotSame, Adjacent, Place, Node}

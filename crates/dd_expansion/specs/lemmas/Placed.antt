@@ -18,7 +18,7 @@ use Rattle.dd_expansion.specs.Terms.{walk, cell_of, ball_round, balls_of, origin
 use Rattle.dd_expansion.specs.{Reads.Reading, Reads.both_cells, Reads.reads, Reads.reads_step, Placed.is_flat, Placed.is_placed}
 use Rattle.dd_expansion.specs.lemmas.ListTests.{all_pass, list_all-flat_map, list_all-weaker}
 
--- along an axis past the dimension coordinates are 0, and so are their sums
+-- along an axis past the dimension, coordinates are 0, and so are their sums
 pub sum_is_zero : (x o : ℤ) → int_eq x (pos 0) ≡ true → int_eq o (pos 0) ≡ true → int_eq (x +ℤ o) (pos 0) ≡ true
 sum_is_zero x o h h' =
     let a : x ≡ pos 0 = (Decides-int_eq x (pos 0)).0 h in
@@ -94,7 +94,7 @@ cond_passes p false c h = refl
 abbrev Reached : List Edge → (Cell → Bool) → Formula → Type 0
 Reached es p f = (env : List Cell) → list_all p env ≡ true → list_all p (reads es f env) ≡ true
 
--- each edge, followed in either direction, leads from cells that pass a test to cells that pass it
+-- suppose that each edge, followed in either direction, leads from cells that pass the test p to cells that pass it
 module _ (es : List Edge) (p : Cell → Bool) (q : Edge → Bool) (edges : list_all q es ≡ true)
     (forth : (c : Cell) (e : Edge) → p c ≡ true → q e ≡ true → p (end_of c e) ≡ true)
     (back : (c : Cell) (e : Edge) → p c ≡ true → q e ≡ true → p (start_of c e) ≡ true) where

@@ -36,7 +36,7 @@ same_where : {A : Type 0} (b : Bool) (x y : A) → (b ≡ true → x ≡ y) → 
 same_where true x y h = ap Some (h refl)
 same_where false x y h = refl
 
--- the same, with an answer only if each cell that is read has a symbol
+-- `truth_at` again, with an answer only if each cell that is read has a symbol
 pub truth_where_given : (es : List Edge) (n : ℕ) (f : Formula) (c : Cell) (look : Look) → 1 ≤ n → HasSymbolsBelow n look →
     cond (given (expansion es n f (origin_at c.node ∷ [])) (seen look c.position)) (Some (holds (expansion es n f (origin_at c.node ∷ [])) (seen look c.position))) None
     ≡ cond (list_all (λ d. is_some (seen look c.position d)) (reads es f (origin_at c.node ∷ []))) (Some (truth es f (c ∷ []) look)) None

@@ -92,7 +92,8 @@ pub truth_depends : (es : List Edge) (f : Formula) → Depends es f
 truth_depends es = ind-Formula (Depends es) (λ x y is env p look other agree.
     rw (fold-roll-Formula Truth (truth_step es) x, fold-roll-Formula Reading (reads_step es) x, ← is) (step_depends es env p look other agree y))
 
--- if each cell that is read has the same symbol relative to u in one configuration as relative to v in the other, the truth is the same
+-- Let two look-ups, one taken relative to u and the other relative to v, agree where the first has symbols. If the first has a
+-- symbol at each cell that is read, the formula has the same truth value under both.
 pub truth_keeps : (es : List Edge) (f : Formula) (env : List Cell) (less more : Look) (u v : Place) →
     ((c : Cell) → is_some (less (shifted u c)) ≡ true → less (shifted u c) ≡ more (shifted v c)) →
     list_all (λ c. is_some (less (shifted u c))) (reads es f env) ≡ true → truth es f (map (shifted u) env) less ≡ truth es f (map (shifted v) env) more

@@ -25,7 +25,8 @@ says_at_origin r a e ss truth below =
     let same : (λ (c : Cell). look (shifted (place (pos 0) (pos 0) (pos 0)) c)) ≡ look = fun_ext (λ c. ap look (shifted_by_origin c)) in
     ap (holds e) (sym same) ∙ truth look (look_below r.symbols (cells_at r a) ss below) (place (pos 0) (pos 0) (pos 0))
 
--- the numbered formula says what the rule says, if it says what the expansion says when numbers stand for the cells that are read, in order
+-- Let the numbers of the numbered formula stand for the cells that are read, in order. If the numbered formula then says what the
+-- expansion says, it says what the rule says.
 pub says_rule : (r : LocalRule) (a : ℕ) (e : Numbered) (x : Expanded) (cs : List Cell) → SaysTruth r a x → cs ≡ cells_at r a →
     ((ss : List ℕ) → holds_in e ss ≡ holds x (read_by (by_rank cs) ss)) → SaysRule r a e
 says_rule r a e x cs truth is says ss below = says ss ∙ (ap (λ ds. holds x (filling_look (filled ds ss))) is ∙ says_at_origin r a x ss truth below)

@@ -12,7 +12,8 @@ use Rattle.dd_formula.specs.{LocalRule.LocalRule, LocalRule.rule_allows, Allowed
 abbrev pub IsAllowedAt : LocalRule → Tile → ℕ → Type 0
 IsAllowedAt r t k = rule_allows r (cell_in t k).node (get_or t.symbols k 0) ≡ true
 
--- the test of the cell with the number k answers whether its symbol, the symbol with this number, is allowed
+-- if c is the cell with the number k, and `symbol` is the symbol with this number, then a test of c and `symbol` answers whether
+-- the node of the cell with the number k allows its symbol
 pub allowed_is : (r : LocalRule) (t : Tile) (k : ℕ) (c : Cell) (symbol : ℕ) (b : Bool) → c ≡ cell_in t k → symbol ≡ get_or t.symbols k 0 →
     b ≡ rule_allows r c.node symbol → rule_allows r (cell_in t k).node (get_or t.symbols k 0) ≡ b
 allowed_is r t k c symbol b is_cell is_symbol told =

@@ -201,13 +201,13 @@ rule_reads s r a rule has below =
     ∙ (list_all-alike (is_cell_of s) (is_of r) (λ c. ap (λ d. is_cell_in d s.nodes c) (sym dimension) ∙ ap (λ n. is_cell_in r.dimension n c) (sym nodes)) (reads_at r a)
     ∙ rule.placed a (omega arith))
 
--- if the cases fit a setting, then the rule of each case has its numbers
+-- if the cases fit a setting, then the rule of each case has the numbers of the setting
 pub case_has : (s : CommonNumbers) (cases : List (LocalRule × ℕ)) (otherwise i : ℕ) (case : LocalRule × ℕ) → cases_fit s cases otherwise ≡ true → i < length cases → case ≡ get_or cases i case → rule_has s case.0 ≡ true
 case_has s cases otherwise i case fit below is =
     let all = and_parts (list_all (λ c. rule_has s c.0 && nat_lt c.1 s.symbols) cases) (nat_lt otherwise s.symbols) fit in
     (and_parts (rule_has s case.0) (nat_lt case.1 s.symbols) (passes_at (λ c. rule_has s c.0 && nat_lt c.1 s.symbols) cases i case all.0 below is)).0
 
--- a rule that has the numbers of a setting has its number of nodes
+-- a rule that has the numbers of a setting has as many nodes as the setting
 pub rule_nodes : (s : CommonNumbers) (r : LocalRule) → rule_has s r ≡ true → r.nodes ≡ s.nodes
 rule_nodes s r has =
     let two = and_parts (r.dimension == s.dimension && r.nodes == s.nodes) (r.symbols == s.symbols) has in

@@ -31,7 +31,7 @@ cut_passed l m n le past = omega arith
 pub next_cut : (l old term new sum part whole : ℕ) → old ≡ cut l sum → term ≡ cut l part → new ≡ cut l (old + term) → whole ≡ sum + part → new ≡ cut l whole
 next_cut l old term new sum part whole a b c d = omega arith
 
--- ---- cutting counts off before they are multiplied or raised to a power doesn't change the result, once that is cut off itself
+-- ---- if counts are cut off before they are multiplied or raised to a power, the result, cut off, is the same
 
 times_small : (l x y : ℕ) → x ≤ l → cut l (cut l x * y) ≡ cut l (x * y)
 times_small l x y le =

@@ -180,7 +180,8 @@ rule_symbols s r has = eqb-true r.symbols s.symbols (and_parts (r.dimension == s
 pub told : (r : LocalRule) (at : Cell) (look : Look) (answer : Option Bool) → is_given r at look ≡ true → answer ≡ cond (is_given r at look) (Some (is_true r at look)) None → answer ≡ Some (is_true r at look)
 told r at look answer given said = said ∙ ap (λ b. cond b (Some (is_true r at look)) None) given
 
--- each cell that an automaton reads has a position in Z^d and one of its nodes
+-- in each setting in which an automaton is well formed, each cell that it reads has a position in Z^d and one of the setting's
+-- nodes
 pub placed_given : (c : Cases) → CasesArePlaced c → IsPlaced (v.Given c)
 placed_given c h s formed a below =
     ap (λ (k : Counted). list_all (is_cell_of s) (k.reads a)) (counted_given c) ∙ h s (sym (fits_given s c) ∙ formed.fits) a below

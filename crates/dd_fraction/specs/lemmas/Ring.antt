@@ -26,7 +26,8 @@ diff_sum u v s t = same_in _ _ (omega (arith, diff_parts, sum_is_lem))
 pub diff_neg : (u v : ℕ) → neg_ℤ (diff u v) ≡ diff v u
 diff_neg u v = same_in _ _ (omega (arith, diff_parts, neg_is))
 
--- if a - b = u - v and c - d = s - t, then (a - b) · (c - d) = (u - v) · (s - t); both are stated without subtraction
+-- if a - b = u - v and c - d = s - t, then (a - b) · (c - d) = (u - v) · (s - t); all three equations are stated without
+-- subtraction
 pub cross : (a b c d u v s t : ℕ) → a + v ≡ b + u → c + t ≡ d + s
     → (a * c + b * d) + (u * t + v * s) ≡ (a * d + b * c) + (u * s + v * t)
 cross a b c d u v s t e f =

@@ -23,17 +23,18 @@ left_out : (b : Bool) (p : Place) → None ≡ (if b then Some p else None) → 
 left_out true p h e = absurd (cc)
 left_out false p h e = absurd (cc)
 
--- if the choice by the test of p gives a position q, then q is p, and is in range
+-- take p if it is in range, and none if not: if this gives a position q, then q is p, and q is in range
 pub in_range_if_given : (p q : Place) → Some q ≡ (if is_in_range p then Some p else None) → (q ≡ p) × IsInRange q
 in_range_if_given p q h =
     let given = chosen (is_in_range p) p q h in
     (given.1, rw given.1 (in_range_from_test p given.0))
 
--- if the choice by the test of p gives none, then p is out of range
+-- if the same choice gives none, then p is out of range
 pub outside_if_not_given : (p : Place) → None ≡ (if is_in_range p then Some p else None) → IsInRange p → ⊥
 outside_if_not_given p h near = left_out (is_in_range p) p h (test_from_in_range p near)
 
--- if the choice between p and none gives q, the same choice between `made p` and none gives `made q`; if it gives none, so does that second choice
+-- the truth value b chooses between p and none, and also between `made p` and none: if the first choice is q, the second is
+-- `made q`; if the first is none, so is the second (`of_no_sum`)
 pub of_sum : {X : Type 0} (b : Bool) (p q : Place) (made : Place → Option X) → Some q ≡ (if b then Some p else None) → made q ≡ (if b then made p else None)
 of_sum true p q made h = ap made (chosen true p q h).1
 of_sum false p q made h = absurd (cc)

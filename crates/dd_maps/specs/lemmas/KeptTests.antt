@@ -1,4 +1,5 @@
--- Tests of the items that a filter keeps. Also tests of all numbers below a bound whose outcome depends on one of these numbers alone.
+-- Tests of the items that a filter keeps, and tests of all numbers below a bound. The outcome of the latter depends on one number
+-- alone.
 use Rattle.std.proofs.Common.{◌≡◌, ◌<◌, ℕ, Bool, true, false, List, [], ◌∷◌, length, get_or, refl, ap, sym, ◌∙◌, arith, eq-eqb, inl, inr}
 use Rattle.std.proofs.lemmas.{Bool.cases_Bool, Bool.eqb-true, List.Folds.list_any_at}
 use Rattle.std.proofs.lemmas.List.FromFn.{length-range_with_len, get_or-range_with_len}
@@ -25,7 +26,7 @@ module _ {X : Type 0} (p q : X → Bool) where
   any_kept [] = refl
   any_kept (x ∷ xs) = any_more x xs (any_kept xs) (q x) refl
 
--- each number below n either isn't b or passes, exactly if b passes
+-- every number below n passes or isn't b, exactly if b passes
 ask_one : (q : ℕ → Bool) (b a : ℕ) → q b ≡ true → (not (b == a) || q a) ≡ true
 ask_one q b a h = elim (cases_Bool (b == a)) [
   | inl same ↦ rw (same, ← eqb-true b a same) h

@@ -1,4 +1,4 @@
--- The table of least weights of walks by length (Karp 1978). A row has an entry for each state.
+-- The table of least weights of walks by length (Karp 1978). A row has an entry for each state: a weight, or none.
 use Rattle.std.specs.Prelude.{◌≡◌, ℕ, zero, suc, ◌+◌, ◌*◌, ◌<◌, ◌≤◌, ◌^◌, min, List, [], ◌∷◌, length, Option, Some, None, slice_index_or, slice_set, replicate}
 use Rattle.std.specs.List.{fold}
 use Rattle.dd_meancycle.specs.declared.edges.Edge.{Edge}
@@ -42,12 +42,12 @@ AreRows edges n levels = (k : ℕ) → k < length levels → slice_index_or leve
 abbrev pub level_weight_at : List (List (Option ℕ)) → ℕ → ℕ → Option ℕ
 level_weight_at levels k v = at (slice_index_or levels k []) v
 
--- there is a walk, and its weight is at most x
+-- the entry is a weight of at most x
 abbrev pub IsAtMost : Option ℕ → ℕ → Type 0
 IsAtMost None x = ⊥
 IsAtMost (Some y) x = y ≤ x
 
--- if there is an entry, it is at most the bound
+-- the entry is none, or a weight of at most the bound
 abbrev pub IsUpToIn : ℕ → Option ℕ → Type 0
 IsUpToIn bound None = Unit {0}
 IsUpToIn bound (Some a) = a ≤ bound
@@ -55,6 +55,6 @@ IsUpToIn bound (Some a) = a ≤ bound
 abbrev pub IsRowUpTo : ℕ → List (Option ℕ) → Type 0
 IsRowUpTo bound row = (v : ℕ) → IsUpToIn bound (at row v)
 
--- an edge between states below n whose weight, times n, is at most 2^25
+-- an edge between states below n; its weight is below 2^31, and n times its weight is at most 2^25
 abbrev pub IsEdgeOf : ℕ → Edge → Type 0
 IsEdgeOf n e = (e.from < n) × (e.to < n) × (e.weight < 2 ^ 31) × (n * e.weight ≤ 2 ^ 25)

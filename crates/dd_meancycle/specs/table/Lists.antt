@@ -27,7 +27,7 @@ ArePotentialsAlong m l ps edges = All (λ e. (potential_of ps e.to -ℤ potentia
 abbrev pub AreRanksAlong : List ℕ → List Edge → Type 0
 AreRanksAlong ranks edges = All (λ e. slice_index ranks e.to < slice_index ranks e.from) edges
 
--- the two means are the same, but the second gives the cycle by the states to which its edges lead
+-- the two results are the same, but the second gives the cycle by the states to which its edges lead
 abbrev pub IsInStates : EdgeMean → Mean → Type 0
 IsInStates (edge_mean.Least m l cycle ps) (Least a b states qs) = (a ≡ m) × (b ≡ l) × (states ≡ map (λ e. e.to) cycle.items) × (qs ≡ map pos ps.items)
 IsInStates (edge_mean.Least m l cycle ps) (NoCycle qs) = ⊥

@@ -1,13 +1,14 @@
--- What is read off the table of least weights. Its levels are its rows, one for each length. A longest walk has `last` edges, the greatest length in
--- the table. A rise of a state goes from its entry in a level k below the last level to its entry in the last level. The mean of the rise is the
--- second entry less the first, divided by last - k.
+-- What is read off the table of least weights. The levels of the table are its rows, one for each length. A longest walk has
+-- `last` edges, the greatest length in the table. A rise of a state goes from its entry in a level k below the last level to its
+-- entry in the last level; both entries are weights. The mean of the rise is the second entry less the first, divided by
+-- last - k.
 use Rattle.std.specs.Prelude.{◌≡◌, ℕ, suc, ◌∷◌, ◌+◌, ◌-◌, ◌*◌, ◌<◌, ◌≤◌, List, [], length, Option, Some, None, slice_index_or, ◌⊎◌, Bool, true, false, ◌^◌, is_some, ◌&&◌, ◌==◌}
 use Rattle.std.specs.{List.Contains, Int.IsGcd}
 use Rattle.dd_meancycle.specs.declared.{edges.Edge.Edge, rises.Ratio.Ratio, rises.Steep.Steep}
 use Rattle.dd_meancycle.specs.table.Levels.{at, level_weight_at, least}
 use Rattle.dd_meancycle.specs.table.Walks.{IsWalk, AreAmong, edges_weight}
 
--- the state has an entry in each level up to the last, and the weight 0 in the first
+-- v is one of the states of each level up to the last, and has the weight 0 in the first
 pub record IsTabulated (levels : List (List (Option ℕ))) (last v : ℕ) : Type 0 where
   pub levels_to : last < length levels
   pub within : (k : ℕ) → k ≤ last → v < length (slice_index_or levels k [])
@@ -25,7 +26,7 @@ pub record IsSteepest (levels : List (List (Option ℕ))) (last v weight run : �
   pub rise : at_weight + weight ≡ end
   pub run_is : run + at_length ≡ last
 
--- p is the least of l * b + m * (last - k) over the levels k below the last, where b is the entry of v in the level k
+-- p is the least of l * b + m * (last - k) over the levels k below the last in which the entry of v is a weight; b is this weight
 pub record IsPotential (levels : List (List (Option ℕ))) (last v m l p : ℕ) : Type 0 where
   pub least : (k before : ℕ) → k < last → level_weight_at levels k v ≡ Some before → p ≤ l * before + m * (last - k)
   pub at_length : ℕ
@@ -34,12 +35,12 @@ pub record IsPotential (levels : List (List (Option ℕ))) (last v m l p : ℕ) 
   pub from : level_weight_at levels at_length v ≡ Some at_weight
   pub is : p ≡ l * at_weight + m * (last - at_length)
 
--- r is the greater of two means: `best`, and the mean of the rise from b to `end` over `run` edges; it is `best` if there is no entry b
+-- r is the greater of two means: `best`, and the mean of the rise from b to `end` over `run` edges; r is `best` if there is no b
 abbrev pub IsSteeper : Ratio → ℕ → Option ℕ → ℕ → Ratio → Type 0
 IsSteeper best end None run r = r ≡ best
 IsSteeper best end (Some b) run r = (end * r.length ≤ b * r.length + r.weight * run) × ((r ≡ best) ⊎ ((b + r.weight ≡ end) × (r.length ≡ run) × (best.weight * run < r.weight * best.length)))
 
--- r is the smaller of `best` and l * b + m * run, where the entry b is `run` levels below the last; it is `best` if there is no entry b
+-- r is the smaller of `best` and l * b + m * run, where the weight b is `run` levels below the last; r is `best` if there is no b
 abbrev pub IsLesser : ℕ → Option ℕ → ℕ → ℕ → ℕ → ℕ → Type 0
 IsLesser best None m l run r = r ≡ best
 IsLesser best (Some b) m l run r = (r ≤ best) × (r ≤ l * b + m * run) × ((r ≡ best) ⊎ (r ≡ l * b + m * run))
@@ -53,7 +54,8 @@ arrives (Some a) weight end = (a + weight) == end
 abbrev pub is_back : List (Option ℕ) → ℕ → ℕ → Edge → Bool
 is_back before state weight e = (e.to == state) && arrives (at before e.from) e.weight weight
 
--- of `best` and the state `state`, whose mean is h, r is the one with the smaller mean
+-- of `best` and the state `state`, for which the greatest mean of a rise is h, r is the one for which this greatest mean is
+-- smaller
 abbrev pub IsGentler : Option Steep → ℕ → Option Ratio → Option Steep → Type 0
 IsGentler best state None r = r ≡ best
 IsGentler None state (Some h) r = r ≡ Some (record { state = state; mean = h })

@@ -56,7 +56,8 @@ abbrev pub AtMost : Option ℕ → ℕ → Type 0
 AtMost None n = Unit {0}
 AtMost (Some most) n = n ≤ most
 
--- The bytes that can end the number with index k, from 0. `end_at` ends it in the shortest line allowed, and `other_at` in the longest one.
+-- The two bytes that can end the number with index k, from 0. `end_at` is a space if more numbers have to follow, and a line feed
+-- otherwise. `other_at` is a line feed if no more numbers may follow, and a space otherwise.
 abbrev pub end_at : ℕ → ℕ → ℕ
 end_at least k = cond (nat_lt (suc k) least) 32 10
 

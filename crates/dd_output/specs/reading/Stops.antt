@@ -21,7 +21,7 @@ abbrev pub ◌>>=◌ : {A B : Type 0} → Result A Stop → (A → Result B Stop
 (Ok x) >>= f = f x
 (Err s) >>= f = Err s
 
--- the result of a reader, where this text has to come next: if the reader stops, the text is missing, too
+-- the result of a reader, with this text to come after what is read: if the reader stops, this text is missing, too
 abbrev pub before : {A : Type 0} → List ℕ → Result A Stop → Result A Stop
 before text (Ok x) = Ok x
 before text (Err s) = Err (stop s.left (s.missing ++ text))
@@ -51,12 +51,13 @@ word_at (w ∷ word) (b ∷ bytes) = cond (b == w) (word_at word bytes) (Err (st
 abbrev pub is_digit : ℕ → Bool
 is_digit b = nat_le 48 b && nat_le b 57
 
--- the byte can be the next digit of the number n: after a leading 0 there is none, and the longer number has to be at most the bound
+-- The byte can be the next digit of the number n. The number 0 has no next digit. With the digit appended, the number has to be
+-- at most the bound.
 abbrev pub goes_on : ℕ → ℕ → ℕ → Bool
 goes_on bound n b = is_digit b && (nat_lt 0 n && nat_le (n * 10 + (b - 48)) bound)
 
--- The number whose digits so far have the value n, and the byte that ends it, which is `end` or `other`. `after` takes the number to the least text
--- that has to follow it and its end.
+-- A number and the byte that ends it, which is `end` or `other`. The digits that were read before have the value n. For each
+-- number, `after` gives the least text that has to follow the number and that byte.
 abbrev pub digits_at : ℕ → ℕ → ℕ → (ℕ → List ℕ) → ℕ → List ℕ → Read (ℕ × ℕ)
 digits_at bound end other after n [] = Err (stop [] (end ∷ after n))
 digits_at bound end other after n (b ∷ bytes) =
@@ -89,7 +90,7 @@ then_at first second bytes = first bytes >>= λ a. second a.0 a.1 >>= λ b. Ok (
 abbrev pub after_at : {A : Type 0} → List ℕ → List ℕ → (List ℕ → Read A) → List ℕ → Read A
 after_at word least read bytes = before least (word_at word bytes) >>= λ x. read x.1
 
--- the same text; the function f gives the new value
+-- what `read` reads; the function f takes its value to the new value
 abbrev pub map_at : {A B : Type 0} → (A → B) → (List ℕ → Read A) → List ℕ → Read B
 map_at f read bytes = read bytes >>= λ x. Ok (f x.0, x.1)
 

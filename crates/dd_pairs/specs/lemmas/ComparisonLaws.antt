@@ -33,7 +33,7 @@ module _ (s : Setting) (sound : IsSetting s) where
   is_rule (image x f y) of = of.0
   is_rule (change x f g) of = of.0
 
-  -- that two automata with the script's dimension, nodes and symbols differ is a goal that fits the premise
+  -- The pair's automata have the script's dimension, nodes and symbols. So the goal that they differ fits the premise.
   pub is_goal : (c : ComparisonOf) (q : Pair) → IsComparisonOf s c → IsPair s q → IsGoalFor (premise c) (difference (premise c) q)
   is_goal c q of pair =
       let same = same_numbers (premise c) (is_rule c of) in

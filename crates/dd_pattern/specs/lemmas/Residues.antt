@@ -23,7 +23,8 @@ residue_below x n h = let p = raised x n h in rw (residue_is x n (unsigned_abs x
 pub residue_small : (k n : ℕ) → k < n → residue (pos k) n ≡ k
 residue_small k n h = mod-eq_of_lt h
 
--- x and its residue become equal if n is added to each of them often enough, and these numbers of times differ by the quotient
+-- x with n added `times` times equals the residue of x with n added `times'` times; and `times'` is `times` plus the quotient of
+-- x by n
 pub record Met (x : ℤ) (n : ℕ) : Type 0 where
   pub times : ℕ
   pub times' : ℕ

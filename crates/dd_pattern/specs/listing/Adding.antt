@@ -18,20 +18,20 @@ pub record HasShear (n x y z : ℕ) (q : Periods) : Type 0 where
   pub at_z : q.z ≡ z
   pub shear : q.shear < n
 
--- f picks one of the periods of q: it is from 1 to n, and q satisfies F for it
+-- f picks one of x, y and z: this period of q is from 1 to n, and q satisfies F for this period
 pub record IsPeriodUpTo (F : ℕ → Periods → Type 0) (f : Periods → ℕ) (n : ℕ) (q : Periods) : Type 0 where
   pub rest : F (f q) q
   pub some : 1 ≤ f q
   pub most : f q ≤ n
 
--- q has these x and y, and a z from 1 to n
+-- q has these x and y, a z from 1 to n, and a shear that is possible: less than x if there is a second axis, else 0
 abbrev pub HasRow : ℕ → ℕ → ℕ → ℕ → Periods → Type 0
 HasRow d n x y = IsPeriodUpTo (HasShear (most_along d 1 x) x y) (λ q. q.z) n
 
--- q has this x; y and z are from 1 to n on active axes, and 1 on the others
+-- q has this x and a possible shear; y and z are from 1 to n on active axes, and 1 on the others
 abbrev pub HasPlane : ℕ → ℕ → ℕ → Periods → Type 0
 HasPlane d n x = IsPeriodUpTo (HasRow d (most_along d 2 n) x) (λ q. q.y) (most_along d 1 n)
 
--- q has an x from 1 to k; y and z are from 1 to n on active axes, and 1 on the others
+-- q has an x from 1 to k and a possible shear; y and z are from 1 to n on active axes, and 1 on the others
 abbrev pub HasBox : ℕ → ℕ → ℕ → Periods → Type 0
 HasBox d n k = IsPeriodUpTo (HasPlane d n) (λ q. q.x) k

@@ -37,7 +37,8 @@ box_is_wired x g n rule ok reach =
     (λ k d is. ltb-true d.node x.nodes (and_parts (in_box x.dimension n d.position) (nat_lt d.node x.nodes) (box_cell_at x n k d is).0).1)
     (goal_reads_box x g n ok reach) (box_values x n rule g ok reach)
 
--- a look whose domain is the box is admissible exactly if the premise holds at all places of the layout where it fits
+-- a look-up whose domain is the box is admissible exactly if the premise is true at all places of the layout where the premise
+-- fits, that is, where all that it reads is in the layout
 holds_from_admissible : (x : LocalRule) (n : ℕ) (look : Look) → IsBoxFilling x n look → Admissible x look → premise_holds (box_layout x n) x look ≡ true
 holds_from_admissible x n look filling ok =
     filter_all (λ d. is_true x d look) (fits_in (box_layout x n) x) (box_cells x n) (λ k d is fit.
@@ -56,7 +57,7 @@ admissible_from_holds x n look filling holds v a flat node fit =
     filter_at (λ d. is_true x d look) (fits_in (box_layout x n) x) (box_cells x n) (box_index x n c) c holds (box_cell_there x n c here)
     (list_all_weaker (λ d. is_some (look (shifted v d))) (λ d. is_box_cell x n (shifted v d)) (λ d h. sym (filling.domain (shifted v d)) ∙ h) (reads_at x a) both.1)
 
--- the look that a list of symbols gives is a filling of the box
+-- the look-up that a list of symbols gives is a filling of the box
 some_within : (symbols : List ℕ) (i : ℕ) → i < length symbols → is_some (slice_get symbols i) ≡ true
 some_within symbols i h = ap is_some (slice_get-get_or symbols i 0 h)
 
@@ -158,7 +159,7 @@ box_shows x g n rule ok reach =
           ));
     }
 
--- clauses that show a box are refuted exactly if it suffices
+-- if `Shows` holds for the clauses and a box, the clauses are refuted exactly if the box suffices
 pub shown_decides : (clauses : List (List Literal)) (x : LocalRule) (g : GoalOf) (n : ℕ) → Shows clauses x g n → DecidesBox clauses x g n
 shown_decides clauses x g n shows = record {
   suffices = λ refuted look filling admissible goal.

@@ -45,7 +45,7 @@ variables_below l x g b places =
     let more = mul-add v (x.nodes * cell_clause_count x.symbols) (disallowed_pairs x) in
     omega (arith, split, premise, cells, goal, inputs, fewer, turned, spread, more)
 
--- and at most as many positions, too
+-- there are at most as many positions as clauses in the count
 pub positions_below : (x : LocalRule) (g : GoalOf) (v : ℕ) → 1 ≤ x.nodes → v ≤ question_clauses x g v
 positions_below x g v some =
     let spread = mul-add v (x.nodes * cell_clause_count x.symbols + disallowed_pairs x) (rule_clauses x) in

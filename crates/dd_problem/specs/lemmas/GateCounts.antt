@@ -13,7 +13,8 @@ use Rattle.dd_problem.specs.{Layouts.Layout, Clauses.part_gates}
 use Rattle.dd_problem.specs.Problems.{wire, place_maker, premise_part, goal_part}
 use Rattle.dd_problem.specs.Differing.{apart, differ_made}
 
--- the gates of a rule at several cells, and at several nodes of one position
+-- At most how many gates a rule has at a cell: the number of the gates' clauses. Then the same for several cells, and for several
+-- nodes of one position.
 abbrev pub at_cell : LocalRule → Cell → ℕ
 at_cell r d = clause_count (expansion_at r d.node)
 

@@ -72,7 +72,7 @@ hot_step true set vs s d any most h same =
     none_at set vs s d (not_true (list_any set vs) both.0) h ∙ sym (not_equal 0 (suc s) (λ e. omega (arith, e)))
 hot_step false set vs s d any most h same = same any most ∙ later_place (position_or_len set vs) s
 
--- the place of the one true variable tells which of them are true
+-- the place of the one true variable tells of each variable whether it is true
 pub hot_at : (set : ℕ → Bool) (vs : List ℕ) (s d : ℕ) → list_any set vs ≡ true → at_most_one set vs ≡ true → s < length vs → set (get_or vs s d) ≡ (position_or_len set vs == s)
 hot_at set [] s d any most h = absurd (omega arith)
 hot_at set (v ∷ vs) zero d any most h = first_place (set v) (position_or_len set vs)

@@ -1,4 +1,4 @@
--- What the parts of a problem say, if the inputs tell the symbols of a look (which gives cells their symbols).
+-- What the parts of a problem say, if the inputs tell the symbols of a look-up. A look-up gives cells their symbols.
 use Rattle.std.proofs.Common.{◌≡◌, ℕ, zero, suc, ◌+◌, ◌*◌, ◌<◌, ◌≤◌, arith, Bool, true, false, List, [], ◌∷◌, ◌++◌, map, length, refl, ap, sym, ◌∙◌, Some, None}
 use Rattle.std.proofs.lemmas.{Bool.and_parts, Bool.ltb-true, List.map-append}
 use Rattle.std.proofs.lemmas.List.Folds.{list_all-append, list_all-map}
@@ -21,7 +21,7 @@ use Rattle.dd_problem.specs.{Differing.differ_made, lemmas.Parts.tests, lemmas.P
 use Rattle.dd_problem.specs.lemmas.ValueWires.{AreValuesWired, GoalWired, differ_gates_say}
 use Rattle.dd_values.specs.lemmas.Booleans.{and_true, or_false, if_not}
 
--- the inputs of the layout's cells say which symbols the look gives these cells
+-- the inputs of the layout's cells say which symbols the look-up gives these cells
 abbrev pub InputsTell : (ℕ → Bool) → Layout → ℕ → Look → Type 0
 InputsTell set l m look = (c : Cell) (s : ℕ) → l.has c ≡ true → s < m → set (input m (l.index c) s) ≡ is_symbol s (look c)
 

@@ -115,7 +115,7 @@ inputs_read set x cells ok k s h below =
     let there = cell_there cells k within in
     hot_input set m k s (parts set x cells ok k there.0 there.1).0 below ∙ ap (is_symbol s) (sym (slice_of_range (read_symbol set m) n k within))
 
--- at the number of each cell of the layout stands a cell of `places`, and this has the same node
+-- at the number of each cell of the layout, `places` has a cell with the same node
 pub record IsLayout (l : Layout) : Type 0 where
   pub within : (c : Cell) → l.has c ≡ true → l.index c < length l.places
   pub node : (c : Cell) → l.has c ≡ true → (d : Cell) × (slice_get l.places (l.index c) ≡ Some d) × (d.node ≡ c.node)
@@ -138,7 +138,7 @@ cond_below false o n h = tt
 pub look_below : (l : Layout) (m : ℕ) (symbols : List ℕ) → All (λ s. s < m) symbols → HasSymbolsBelow m (layout_look l symbols)
 look_below l m symbols all c = cond_below (l.has c) (slice_get symbols (l.index c)) m (symbol_below m symbols (l.index c) _ all refl)
 
--- if the symbols in the list are allowed, so are those of the layout's look
+-- if the symbols in the list are allowed, so are those of the layout's look-up
 pub slice_of_read : (symbols : List ℕ) (k s : ℕ) → slice_get symbols k ≡ Some s → get_or symbols k 0 ≡ s
 slice_of_read symbols k s is = get_or_from_slice_get symbols k s 0 is
 
@@ -160,7 +160,8 @@ pub record Stands (l : Layout) (x : LocalRule) (g : GoalOf) (symbols : List ℕ)
   pub premise : premise_holds l x (layout_look l symbols) ≡ true
   pub goal : goal_holds g (layout_look l symbols) ≡ true
 
--- each leaf of the premise, where the premise fits, has its input, and so has all that the goal reads; and the goal's alphabet is the premise's
+-- Where the premise fits, each leaf of the premise has its input. Each cell that the goal reads at the origin has inputs. The
+-- goal's alphabet is the premise's.
 pub record IsWired (l : Layout) (x : LocalRule) (g : GoalOf) : Type 0 where
   pub layout : IsLayout l
   pub reads : list_all (job_reads l x g) (jobs l x) ≡ true

@@ -1,4 +1,4 @@
--- The cells of a torus, by whose numbers a periodic configuration is read.
+-- The cells of a torus, and their numbers. A periodic configuration is read by these numbers.
 use Rattle.std.proofs.Common.{◌≡◌, ℕ, suc, ◌*◌, ◌<◌, ◌≤◌, Bool, true, false, List, map, length, refl, ap, sym, subst, ◌∙◌, arith, mul_comm, ◌-◌, ◌%◌, ◌+ℤ◌, Some, ℤ, pos}
 use Rattle.std.proofs.lemmas.{Int.ints, Bool.and_from, Bool.ltb-true, Bool.ltb-false}
 use Rattle.std.proofs.lemmas.{Bool.Decides.Decides-int_eq, Option.slice_get_within, List.FromFn.length-map-range_with_len}
@@ -58,7 +58,7 @@ cells_listed x periods some =
     (rw (span_is periods.x some.0, span_is periods.y some.1, span_is periods.z some.2)
     (product_turned periods.x periods.y periods.z)))
 
--- a configuration of the same periods with the symbol 0 everywhere
+-- as many symbols as the torus has cells, all of them 0
 abbrev zeros : LocalRule → Periods → List ℕ
 zeros x periods = map (λ _. 0) (range_with_len 0 (torus_size x periods))
 
@@ -97,7 +97,7 @@ module _ (x : LocalRule) (periods : Periods) (rule : IsRule x) (ok : AreTorusPer
       let below : k < torus_size x periods = omega (arith, length-torus_cells) in
       (omega (arith, length-zeros x periods), some_same d (cell_in (torus x periods) k) (sym is ∙ (ap (λ cs. slice_get cs k) listed ∙ slice_of_range (cell_in (torus x periods)) (torus_size x periods) k below)))
 
-  -- each cell of the torus is a cell of the fundamental box
+  -- each cell of the list `torus_cells` lies in the fundamental box
   pub torus_cell_at : (k : ℕ) (d : Cell) → slice_get (torus_cells x periods) k ≡ Some d → IsInBox (torus_of x periods (zeros x periods)) d
   torus_cell_at k d is =
       let here = place_is_cell k d is in

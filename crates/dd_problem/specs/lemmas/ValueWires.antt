@@ -21,7 +21,8 @@ use Rattle.dd_problem.specs.lemmas.DifferLaws.{differ_says, differ_fits}
 abbrev pub HasInputs : Layout → ℕ → Cell → Type 0
 HasInputs l m c = (l.has c ≡ true) × (signals_of l.inputs c ≡ Some (symbol_signals m (l.index c)))
 
--- the automaton is well formed, the gates of its value say the value, and the layout has each cell that it reads at the origin, with its inputs
+-- The automaton is well formed. The gates of its value say the value. The layout has each cell that the automaton reads at the
+-- origin, with the inputs of the cell's number.
 pub record IsValueWired (l : Layout) (s : CommonNumbers) (f : Automaton) : Type 0 where
   pub formed : IsAutomaton s f
   pub says : SaysItsValue f

@@ -17,7 +17,7 @@ use Rattle.dd_problem.specs.lemmas.Parted.{reads_inputs, goal_holds, goal_reads,
 use Rattle.dd_problem.specs.lemmas.Reading.{IsLayout, IsWired}
 use Rattle.dd_values.specs.lemmas.Booleans.{not_true}
 
--- from a test of a range to one of each of its numbers, and back
+-- if all numbers of a range pass a test, each one does; and `list_any` is true of a range exactly if some number of it passes
 pub range_at : (p : ℕ → Bool) (n a k : ℕ) → list_all p (range_with_len a n) ≡ true → a ≤ k → k < a + n → p k ≡ true
 range_at p zero a k h low high = absurd (omega arith)
 range_at p (suc n) a k h low high =
@@ -87,7 +87,7 @@ some_all : (p : Option Cell → Bool) (ds : List Cell) → list_all p (map (λ d
 some_all p [] = refl
 some_all p (d ∷ ds) = ap (λ b. p (Some d) && b) (some_all p ds)
 
--- the goal's rule, if it has one, reads only cells of the layout at the origin
+-- if the goal is that a rule is broken, the layout has each cell that this rule reads at the origin
 abbrev pub HasReads : Layout → GoalOf → Type 0
 HasReads l (breaks y) = (a : ℕ) → a < y.nodes → list_all (λ c. l.has (shifted origin c)) (reads_at y a) ≡ true
 HasReads l (differ s f g) = Unit {0}

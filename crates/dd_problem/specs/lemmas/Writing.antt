@@ -65,7 +65,7 @@ hot_cell set m k t o is below says =
     let hot = hot_made set (input m k) t m 0 (λ s p q. says s (omega arith) ∙ ap (is_symbol s) is) (omega arith) (omega arith) in
     one_hot_law set (inputs_of m k) ∙ and_from _ _ hot.0 hot.1
 
--- a symbol that isn't allowed isn't the cell's symbol
+-- a symbol that the node allows differs from each symbol that it doesn't allow
 other_symbol : (x : LocalRule) (node s t : ℕ) → rule_allows x node t ≡ true → not (rule_allows x node s) ≡ true → (b : Bool) → (t == s) ≡ b → b ≡ false
 other_symbol x node s t allowed isn't false is = refl
 other_symbol x node s t allowed isn't true is =

@@ -36,7 +36,7 @@ pub record RejectedHere (old new : Option (List ℕ)) (s : Parts) (answers : Lis
   pub rejected : FirstRejected s answers done
   pub appends : Appends old new (accepted_lines done ++ rejected_line (done + 1))
 
--- The lines of all queries were written, and each is accepted.
+-- All queries are accepted, and their lines were written.
 pub record AcceptedEach (old new : Option (List ℕ)) (s : Parts) (answers : List Answer) : Type 0 where
   pub accepted : AcceptedTo s answers (most_of s answers)
   pub appends : Appends old new (accepted_lines (most_of s answers))
@@ -46,7 +46,8 @@ pub record AcceptedAll (old new : Option (List ℕ)) (s : Parts) (answers : List
   pub all : AllAccepted s answers
   pub appends : Appends old new (accepted_lines (length answers) ++ checked_line (length answers))
 
--- What was written before the last line. The truth value says whether all answers are accepted. If not, there is a first one that is rejected.
+-- What was written, apart from the line `checked`. That line comes last if all answers are accepted. The truth value says whether
+-- they are.
 abbrev pub EachJudged : Option (List ℕ) → Option (List ℕ) → Parts → List Answer → Bool → Type 0
 EachJudged old new s answers true = AcceptedEach old new s answers
 EachJudged old new s answers false = RejectedHere old new s answers

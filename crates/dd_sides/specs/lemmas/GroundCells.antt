@@ -1,5 +1,5 @@
--- The cells that a row looks at, which are the ground. They lie within its reach. They include the boxes around the origin and
--- around its givers, the positions from which the origin receives.
+-- The ground: the cells that a row looks at. All of them lie within `reach_of` of the origin. The ground includes the cells of
+-- the boxes around the origin and around its givers, which are the positions from which the origin receives.
 use Rattle.std.proofs.Common.{◌≡◌, ◌<◌, ◌+◌, ◌≤◌, ℕ, zero, suc, Bool, true, false, List, [], ◌∷◌, map, refl, sym, ap, subst, inl, inr, arith}
 use Rattle.std.proofs.lemmas.{Bool.and_parts, Bool.and_from, Bool.lt-ltb, Bool.Decides.Decides-int_eq, Int.ints}
 use Rattle.std.proofs.lemmas.List.Elements.{All-contains, Contains-append_cases}
@@ -52,7 +52,7 @@ cell_on n (p ∷ ps) c h = elim (Contains-append_cases (map (cell p) (range_with
 pub on_cells : (n : ℕ) (ps : List Place) (p : Place) (a : ℕ) → Contains ps p → a < n → Contains (cells_on n ps) (cell p a)
 on_cells n ps p a c low = into_flat_map (λ q. map (cell q) (range_with_len 0 n)) ps p (cell p a) c (Contains-map (cell p) (range_with_len 0 n) a (range_has n a low))
 
--- ---- how far from the origin they are
+-- ---- how far from the origin the cells of the ground are
 
 at_least_each : (ns : List ℕ) (n : ℕ) → Contains ns n → n ≤ greatest ns
 at_least_each [] n c = absurd (Contains-nil n c)
@@ -85,7 +85,7 @@ far_axis false r m e v q w short flat h k =
     let none : v ≡ pos 0 = (Decides-int_eq v (pos 0)).0 flat in
     omega (arith, ints, none, h, k)
 
--- each entry of a vector
+-- each entry of a vector is at most e in absolute value, if the extent of the vector is at most e
 short_x : (v : Place) (e : ℕ) → extent v ≤ e → unsigned_abs v.x ≤ e
 short_x v e h = omega (arith, h)
 
@@ -125,7 +125,7 @@ pub centred_flat : (d n : ℕ) (p : Place) → IsCentred d n p → is_flat d p �
 centred_flat d n p h =
     and_from (nat_lt 1 d || int_eq p.y (pos 0)) (nat_lt 2 d || int_eq p.z (pos 0)) (flat_axis (is_active d 1) n p.y h.on_y) (flat_axis (is_active d 2) n p.z h.on_z)
 
--- ---- the boxes that the cells include
+-- ---- the boxes that the ground includes
 
 at_none : (active : Bool) (n : ℕ) (c : ℤ) → c ≡ pos 0 → OnAxis active (IsUpTo n) c
 at_none true n c e = record { low = omega (arith, ints, e); high = omega (arith, ints, e) }

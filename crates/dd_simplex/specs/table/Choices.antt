@@ -1,10 +1,11 @@
--- How the code chooses what enters and what leaves: it takes the best of the first n places.
+-- How the code chooses the variable that enters and the line whose variable leaves: of the first n places or lines, it takes an
+-- eligible one that comes before each other eligible one.
 use Rattle.std.specs.Prelude.{◌≡◌, ℕ, ◌<◌, ◌≤◌, List, length, Bool, true, false, ◌&&◌, ◌||◌, Option, Some, None}
 use Rattle.std.specs.{Bool.nat_lt, Ordering.is_lt, Ordering.is_eq}
 use Rattle.dd_fraction.specs.{Exact.Exact, Exact.times, Exact.inverse, Order.IsAtMost, Order.exact_cmp, Checked.does_product_fit}
 use Rattle.dd_simplex.specs.{Programs.fraction_at, Runs.is_over, table.Lines.Line, table.Lines.line_at, table.Lines.other_at}
 
--- of the first n places, an eligible one that comes before each other eligible one, or `None` if none is eligible
+-- of the first n numbers, an eligible one that comes before each other eligible one, or `None` if none is eligible
 abbrev pub IsChosen : (ℕ → Bool) → (ℕ → ℕ → Type 0) → ℕ → Option ℕ → Type 0
 IsChosen eligible Before n None = (i : ℕ) → i < n → eligible i ≡ false
 IsChosen eligible Before n (Some e) = (e < n) × (eligible e ≡ true) × ((i : ℕ) → i < n → eligible i ≡ true → Before e i)

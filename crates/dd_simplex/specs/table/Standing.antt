@@ -3,8 +3,8 @@ use Rattle.std.specs.Prelude.{◌≡◌, ℕ, ◌<◌, length, true, false}
 use Rattle.dd_fraction.specs.Checked.{IsFraction}
 use Rattle.dd_simplex.specs.{Programs.fraction_at, Dictionaries.Dictionary, table.Lines.Table, table.Lines.line_at, table.Lines.other_at}
 
--- each line has one cell, and the list of costs one cost, for each nonbasic variable; all cells, bounds and costs and the value are fractions in
--- lowest terms that fit
+-- Each nonbasic variable has one cell in each line, and one cost. All cells, bounds and costs, and the value, are fractions in
+-- lowest terms that fit.
 pub record IsTable (t : Table) : Type 0 where
   pub costs : length t.costs ≡ length t.others
   pub cells : (i : ℕ) → i < length t.lines → length (line_at t.lines i).cells ≡ length t.others
@@ -18,7 +18,7 @@ pub record IsTable (t : Table) : Type 0 where
 pub record StandsFor (n : ℕ) (t : Table) (d : Dictionary) : Type 0 where
   pub line : ℕ → ℕ
   pub column : ℕ → ℕ
-  -- from variables to lines and columns
+  -- from variables to lines and places
   pub line_in : (v : ℕ) → v < n → d.is_basic v ≡ true → line v < length t.lines
   pub line_is : (v : ℕ) → v < n → d.is_basic v ≡ true → (line_at t.lines (line v)).basic ≡ v
   pub column_in : (w : ℕ) → w < n → d.is_basic w ≡ false → column w < length t.others

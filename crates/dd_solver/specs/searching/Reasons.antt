@@ -18,7 +18,7 @@ abbrev pub Follows : List (Option (List Literal)) → List Entry → Literal →
 Follows known older l None = ⊤
 Follows known older l (Some r) = hint_finding known (is_among (falses older)) r ≡ Forced l
 
--- the entry's variable is in range, no older entry has it, and its literal was decided or follows
+-- the entry's variable is in range, no older entry has this variable, and the entry's literal was decided or is forced
 pub record EntryOk (n : ℕ) (known : List (Option (List Literal))) (older : List Entry) (e : Entry) : Type 0 where
   pub in_range : IsLiteralInRange n e.literal
   pub fresh : has_variable e.literal.variable (falses older) ≡ false

@@ -2,8 +2,8 @@
 use Rattle.std.specs.Prelude.{◌≡◌, ℕ, zero, suc, List, [], ◌∷◌, ◌++◌, Bool, Option, Some, None, Result, Ok, Err, if◌then◌else◌}
 use Rattle.dd_written.specs.Tree.{ReadFault, Lexeme}
 
--- A reader takes an item from the front of the tokens, and gives the item and the tokens after it. It gives `None` if the tokens don't begin with
--- such an item.
+-- A reader takes an item from the front of the tokens, and gives the item and the tokens after it. It gives `None` if it can't
+-- read such an item there.
 abbrev pub Reader : Type 0 → Type 0
 Reader X = List Lexeme → Option (X × List Lexeme)
 

@@ -1,5 +1,5 @@
--- How a recursive type may contain a `Boxed` of its own values: as the value, since contracts see only the value. Below, the hole stands for the
--- recursive type.
+-- How a recursive type may contain a `Boxed` of its own values. Contracts see such a `Boxed` as the value in it. Below, the hole
+-- stands for the recursive type.
 use mathlib.Core.Path.{refl}
 use mathlib.Core.Former.{Former, this, const, pair, via}
 use base.Stored.{gnil}

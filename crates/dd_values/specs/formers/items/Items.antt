@@ -1,5 +1,5 @@
--- How a recursive type may contain `Items` of its own values: as a list, since contracts see only the items. Below, the hole stands for the
--- recursive type.
+-- How a recursive type may contain `Items` of its own values. Contracts see such `Items` as the list of the items. Below, the
+-- hole stands for the recursive type.
 use mathlib.Core.Path.{◌≡◌, refl, sym}
 use mathlib.Core.List.{List, []}
 use mathlib.Core.Former.{Former, this, list, via, children}
