@@ -85,7 +85,7 @@ fn strip_volume(strip: [u32; 2]) -> u32
 }
 
 impl Question<'_> {
-    /// The limit on its work that the question exceeds, if any. Box questions are searched within the given limits.
+    /// The limit on its work that the question exceeds, if any. A box question is answered by a search within the given limits.
     ///
     /// # Errors
     /// `AllocError` if memory runs out.
