@@ -1,4 +1,4 @@
--- How far away rules and automata read cells, and that they read only cells within that distance.
+-- Bounds on reach: the reach of a rule or an automaton is at most k exactly if it reads only cells that lie at most k away.
 use Rattle.std.proofs.Common.{◌≡◌, ℕ, zero, suc, ◌+◌, ◌<◌, ◌≤◌, Bool, true, List, [], ◌∷◌, refl, ap, sym, ◌∙◌, arith}
 use Rattle.std.proofs.lemmas.Bool.{and_from, leb-true, le-leb, Decides.nat_tests}
 use Rattle.std.proofs.lemmas.List.{Concat.flat_map-cons, Folds.list_all-append}

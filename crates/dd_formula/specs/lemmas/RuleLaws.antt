@@ -1,4 +1,4 @@
--- Whether a rule is true at a position, from its expansion at the origin and from the symbols that it reads there.
+-- Whether a rule is true at a cell, from its expansion at the cell's node and from the symbols that it reads at the cell.
 use Rattle.std.proofs.Common.{◌≡◌, ◌≤◌, ℕ, Bool, true, [], ◌∷◌, ap, sym, ◌∙◌, Some, None}
 use Rattle.std.proofs.lemmas.Bool.{eqb-true}
 use Rattle.std.specs.{Prelude.Option, Prelude.is_some, List.list_all}
@@ -13,7 +13,7 @@ use Rattle.dd_formula.specs.LocalRule.{LocalRule, expansion_at, reads_at, cells_
 pub at_cell : (r : LocalRule) (c : Cell) (look : Look) → HasSymbolsBelow r.symbols look → holds (expansion_at r c.node) (λ d. look (shifted c.position d)) ≡ is_true r c look
 at_cell r c look below = says_at r.edges r.symbols r.formula look c.position c.node below
 
--- a rule is true at a position exactly if it is true at the origin in the configuration moved back
+-- a rule is true at a cell exactly if it is true at the same node of the origin in the configuration moved back
 pub truth_moved_back : (r : LocalRule) (v : Place) (a : ℕ) (look : Look) → is_true r (cell v a) look ≡ is_true r (origin_at a) (λ d. look (shifted v d))
 truth_moved_back r v a look = ap (λ c. is_true r c look) (sym (at_origin v a)) ∙ truth_shifted r.edges r.formula v (origin_at a ∷ []) look
 
