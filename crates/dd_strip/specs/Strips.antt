@@ -1,4 +1,4 @@
--- Strips. A strip has periods along y and z, and no end along x. A slice consists of its cells with one value of x.
+-- Strips. A strip has periods along y and z, and no end along x. A slice consists of the strip's cells with one value of x.
 use Rattle.std.specs.Prelude.{◌≡◌, ◌⊎◌, ℕ, ◌*◌, ◌<◌, ◌≤◌, List, length, slice_index}
 use Rattle.std.specs.List.{All}
 use Rattle.dd_values.specs.Bounds.{most_weight}
@@ -27,7 +27,8 @@ pub record IsSized (s : Strip) : Type 0 where
   pub z_most : s.z ≤ 64
   pub nodes_most : s.nodes ≤ 4
 
--- the strip is one for the rule: it has the rule's number of nodes, and the period 1 along each axis beyond the rule's dimension
+-- the strip is one for the rule: it is sized as above, it has the rule's number of nodes, and its period is 1 along each axis beyond the
+-- rule's dimension
 pub record IsFor (r : LocalRule) (s : Strip) : Type 0 where
   pub sized : IsSized s
   pub nodes : s.nodes ≡ r.nodes
