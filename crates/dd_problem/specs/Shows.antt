@@ -1,4 +1,4 @@
--- When clauses express what a box question asks. `set` is an assignment.
+-- When clauses express what a box question asks. `set` is an assignment. `look` is a look-up, which gives cells their symbols.
 use Rattle.std.specs.Prelude.{◌≡◌, ◌<◌, ℕ, Bool, true, List}
 use Rattle.dd_lattice.specs.declared.position.Cell.{Cell}
 use Rattle.dd_pattern.specs.{declared.periods.Periods.Periods, Reading.Look, Tile.Tile}

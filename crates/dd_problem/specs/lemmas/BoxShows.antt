@@ -122,7 +122,7 @@ symbols_fit x n look rule filling = record {
       rw at (allowed_from (λ s. rule_allows x c.node s ≡ true) (look c) (filling.allowed c) (filling.domain c ∙ here)));
 }
 
--- symbols read by the cells, and by the cells' numbers
+-- from symbols that are read number by number to symbols that are read cell by cell
 read_by_cells : (set : ℕ → Bool) (x : LocalRule) (n : ℕ) (symbols : List ℕ) → length symbols ≡ length (box_cells x n) → AreRead set x.symbols symbols →
     IsReadFrom set x n (layout_look (box_layout x n) symbols)
 read_by_cells set x n symbols full read c s here below =
