@@ -28,7 +28,7 @@ fn line_of(
     answer_line(alloc, number, &found)
 }
 
-/// The first lines of the right answers to the queries of a script, in order.
+/// The first lines of right answers to the queries of a script, in order.
 #[tactic(auto, using(dd_values::specs::lemmas::Lists::contains_at, crate::proofs::Lines::line_next))]
 pub fn lines_of(alloc: Global, script: &Script) -> Result<Vec<u8>, AllocError>
     ensures { IfOk result (λ text. AreLines script.now 1 script.now.queries text.items) }

@@ -31,8 +31,9 @@ impl Configuration for Lone {
 }
 
 /// Does nothing. Its contract says what a YES means for this configuration. The YES must be a certificate of the query with the
-/// number `query`, counted from 1. Such a query has a premise, which is a rule, and a goal, such as that another rule is false.
-/// If the configuration obeys the premise everywhere, the goal doesn't hold at `place`.
+/// number `query`, counted from 1. Such a query asks one box question, or two if it asks for an equality. A box question has a
+/// rule, the premise, and a goal: a property of a position, such as that another rule is broken there. If the configuration
+/// obeys the premise of one of these questions everywhere, the goal of this question doesn't hold at `place`.
 pub fn nowhere_in_lone(script: &Script, query: u32, answer: &Answer, place: &Position)
     requires certificate { IsCertificate script.now query answer.now }
     requires yes { is_yes answer.now ≡ true }
