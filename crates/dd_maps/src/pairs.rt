@@ -111,7 +111,7 @@ fn composed_with(alloc: Global, outer: Automaton, inner: &Automaton) -> Result<A
 ///
 /// # Errors
 /// `Depth` if the target's guarded formula is more than 64 deep. Else `Instances`, `Reach` or `Depth` if the composition
-/// exceeds the limit of this name; the limits are tested in this order. `Memory` if memory ran out.
+/// exceeds the limit that the fault names; the limits are tested in this order. `Memory` if memory ran out.
 pub fn image_pair(
     alloc: Global,
     topology: &Topology,
@@ -143,8 +143,8 @@ pub fn image_pair(
 /// differ exactly if the composition changes the symbol.
 ///
 /// # Errors
-/// `Instances`, `Reach` or `Depth` if the composition exceeds the limit of this name; the limits are tested in this order.
-/// `Memory` if memory ran out.
+/// `Instances`, `Reach` or `Depth` if the composition exceeds the limit that the fault names; the limits are tested in this
+/// order. `Memory` if memory ran out.
 pub fn identity_pair(
     alloc: Global,
     topology: &Topology,
