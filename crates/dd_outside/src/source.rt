@@ -65,7 +65,7 @@ fn read_on<S: Source>(
 /// # Errors
 /// - `ReadFault` if a read failed. The bytes read before are lost.
 /// - `TooLong` if the source gave more bytes than the limit.
-/// - `Memory` if memory ran out. Then it isn't known whether one of the other two errors would have come.
+/// - `Memory` if memory ran out. Then it isn't known whether one of the other two errors would have occurred.
 pub fn read_all<S: Source>(
     alloc: Global,
     source: &mut S,

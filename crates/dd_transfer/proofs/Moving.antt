@@ -1,4 +1,5 @@
--- The window that begins at x in a look has the symbols that the look has there. So the rule keeps this window exactly if it keeps the look at x.
+-- The window that begins at x in a look has the symbols that the look has there. So the rule is true at a cell of the window's tested slice exactly
+-- if it is true at the corresponding cell of the look.
 use Rattle.std.proofs.Common.{◌≡◌, ℕ, zero, suc, ◌+◌, ◌*◌, ◌/◌, ◌%◌, ◌<◌, ◌≤◌, Bool, true, false, List, [], ◌∷◌, length, ℤ, pos, ◌+ℤ◌, ◌≤ℤ◌, unsigned_abs, Option, Some, None, refl, ap, sym, ◌∙◌, subst, arith, inl, inr}
 use Rattle.std.proofs.lemmas.Int.{ints}
 use Rattle.std.proofs.lemmas.Bool.{and_parts, and_from, cases_lt, lt-ltb, ltb-true}

@@ -23,8 +23,8 @@ use std::alloc::{AllocError, Global};
 /// `weights[s]`.
 ///
 /// # Errors
-/// `Size` if the graph would have more than 4,096 states or more than 131,072 windows. A window is a state followed by one
-/// more slice. Otherwise `Memory`, if memory runs out.
+/// `Size` if the graph would have more than 4,096 states or more than 131,072 windows. Otherwise `Memory`, if memory runs
+/// out. A window is a state followed by one more slice.
 pub fn graph(
     alloc: Global,
     rule: &Rule,
