@@ -39,7 +39,7 @@ module _ (s : Parts) (is : IsScriptOf s) {R A C : List (List ℕ)} {rs : List Lo
         within_limits = ap (option_and_then (excess_of s.known.limits)) same.1 ∙ of.within_limits;
       }
 
-  -- what holds of a script still holds with more definitions, if all its queries could be asked before these
+  -- what holds of a script still holds with more definitions, if all its queries could already be asked without them
   pub more : All (IsQueryOf s) qs → IsScriptOf grown
   more old = record {
     known = grind arith;

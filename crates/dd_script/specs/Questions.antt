@@ -39,7 +39,8 @@ asked s (Query.Discharge rule radius margin vectors) = option_map (λ x. questio
 abbrev pub query_excess : Parts → Query → Option Excess
 query_excess s q = option_and_then (excess_of s.known.limits) (asked s q)
 
--- the comparisons that a query consists of: each asks about images under an automaton, or about changes under two automata
+-- the comparisons that a query consists of: each asks about images under an automaton, or whether two automata, one applied after the other, can
+-- change a configuration
 abbrev pub comparisons_for : Parts → Query → List ComparisonOf
 comparisons_for s q = comparisons_asked s.rules s.automata q
 

@@ -14,10 +14,10 @@ pub enum ScriptKind {
     /// The command is not well formed.
     #[error("not well formed")]
     Syntax,
-    /// This name is unknown.
+    /// This name refers to nothing, or to a symbol that the node of its cell doesn't allow.
     #[error("unknown name {0}")]
     Unknown(String),
-    /// This name is given twice. If a vector is given twice, the text is `vector`.
+    /// This name is given twice. If a vector is given twice, the string is `vector`.
     #[error("{0} is given twice")]
     Twice(String),
     /// A dimension or a number of entries is wrong.

@@ -1,5 +1,6 @@
 //! Scripts: from bytes to the rules, automata and configurations that a script defines, and the queries that it asks. Each query
-//! asks a question, which holds the rules, automata and configurations themselves, not their names.
+//! asks a question, which holds the rules, automata and configurations themselves, not their names. A query about an image or a
+//! conjugacy consists of questions about pairs of automata: can the two automata of a pair differ?
 #![tactic(auto)]
 
 mod draft;

@@ -111,7 +111,7 @@ at_most (Some x ∷ xs) = omega (arith, at_most xs)
 pub length_within : (trail : List Entry) (values : List (Option Bool)) → IsValued trail values → length trail ≤ length values
 length_within trail values v = omega (arith, v.count_ok, at_most values)
 
--- on a trail without entries, one more variable, without a value, changes nothing
+-- values that fit a trail without entries still fit it with one more variable that has no value
 pub valued_wider : (values : List (Option Bool)) → IsValued [] values → IsValued [] (values ++ None ∷ [])
 valued_wider values v = record {
   news = λ k d h. absurd (omega arith);
