@@ -1,4 +1,5 @@
--- A rule's numbered expansion is true exactly where the rule is. In it, numbers stand for cells. The cells that a rule reads have nodes of the rule.
+-- A rule's expansion is its formula with all quantifiers written out. In its numbered expansion, numbers stand for cells. The numbered expansion is
+-- true exactly where the rule is true. Each cell that a rule reads has one of the rule's nodes.
 use Rattle.std.specs.{Prelude.All, List.position_or_len, List.list_all, List.fold, Ordering.is_eq, BTreeSet.insert_key}
 use Rattle.dd_pattern.specs.{Reading.HasSymbolsBelow, Reading.Look, Filling.filling_look, Filling.filled}
 use Rattle.dd_lattice.specs.{Order.cell_cmp, declared.position.Cell.Cell, Cells.shifted, Cells.cell, Place.Place, Place.place}
