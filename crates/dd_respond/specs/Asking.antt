@@ -7,7 +7,7 @@ use Rattle.dd_question.specs.Questions.{Asked, is_box_question}
 abbrev pub IsBoxQuestion : Asked → Type 0
 IsBoxQuestion k = IsTrue (is_box_question k)
 
--- The engines before and after a call. If engines are asked, as `asks` says, and any engine is left, the first of them was asked. All engines that
+-- The engines before and after a call. If engines are asked, as `asks` says, and some are left, the first that is left was asked. All engines that
 -- stood ahead of it were dropped, and none of these was sound. If no engine is asked, the roster is unchanged.
 pub record Engages (asks : Type 0) (before after : List Seen) : Type 0 where
   pub first : asks → FirstAsked before after

@@ -42,13 +42,13 @@ written_equality (equal.Yes left right) = answer.YesBoth left.radius right.radiu
 written_equality (equal.No h t) = written_no (side_of h) t
 written_equality equal.Unknown = answer.Unknown reason.Limits
 
--- the answer is a right one to the box question with the premise x and the goal g, within the limits
+-- this is a right answer to the box question with the premise x and the goal g, within the limits
 pub record IsRightBox (l : Limits) (x : LocalRule) (g : GoalOf) (a : Answer) : Type 0 where
   pub decision : Decision
   pub decided : IsDecided x g l.radius l.period decision
   pub written : a ≡ written_decision decision
 
--- the answer is a right one to the question whether x and y allow the same configurations, within the limits
+-- this is a right answer to the question whether x and y allow the same configurations, within the limits
 pub record IsRightEqual (l : Limits) (x y : LocalRule) (a : Answer) : Type 0 where
   pub decision : Equality
   pub decided : IsEqualDecided x y l.radius l.period decision
@@ -56,7 +56,7 @@ pub record IsRightEqual (l : Limits) (x y : LocalRule) (a : Answer) : Type 0 whe
 
 -- ---- all questions
 
--- the answer is a right one to the question, within these limits
+-- this is a right answer to the question, within these limits
 abbrev pub IsRightTo : Limits → Asked → Answer → Type 0
 IsRightTo l (asked.membership x t) a = IsMemberCertificate x t a
 IsRightTo l (asked.box x g) a = IsRightBox l x g a

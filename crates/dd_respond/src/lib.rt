@@ -3,8 +3,8 @@
 //!
 //! Some questions come down to box questions. A box question has a rule, the premise, and a goal: a property of a position, such
 //! as that another rule is broken there. It asks whether no configuration that obeys the premise has the goal at any position.
-//! For box questions, the engines of a roster, a list of engines, are asked before a search. An engine is any value that proposes
-//! a result of the search. It is sound if all that it proposes is right.
+//! For box questions, engines are asked before a search. An engine is any value that proposes a result of the search. It is
+//! sound if all that it proposes is right. A list of engines is called a roster.
 #![tactic(auto)]
 
 mod boxes;

@@ -14,7 +14,7 @@ use std::alloc::{AllocError, Global};
 
 /// The answer that a least weight gives. It has a configuration of this weight, and steps that refute smaller weights; if the
 /// weight is 0, there are no steps. If no configuration of the given periods lives in the rule's subshift, the answer has steps
-/// that refute that there is one.
+/// that show this.
 fn written_weight(alloc: Global, found: LeastWeight) -> Result<Answer, AllocError>
     ensures { IfOk result (λ answer. answer ≡ written_weight found) }
 {
