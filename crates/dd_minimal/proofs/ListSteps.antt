@@ -19,7 +19,7 @@ use Rattle.dd_values.specs.lemmas.Members.{Contains-later, Contains-first}
 abbrev Patterns : Type 0
 Patterns = List (List (Option ℕ))
 
--- ---- where a filling is skipped, and where it is listed
+-- ---- a filling that is skipped, and a filling whose pattern is listed
 
 not_breaking : (thin : List ℕ → List (Option ℕ)) (found : Patterns) (ss : List ℕ) (rest : List (List ℕ)) (b : Bool) → b ≡ false → listed thin found (cond b (ss ∷ rest) rest) ≡ listed thin found rest
 not_breaking thin found ss rest b is = ap (λ c. listed thin found (cond c (ss ∷ rest) rest)) is

@@ -2,7 +2,7 @@
 
 use dd_values::{Boxed, Items};
 
-/// A formula over a list of symbols. It is like an expansion, but has indices of the list in place of cells.
+/// A formula over a list of symbols. It is like an expansion, but with indices into the list in place of cells.
 #[derive(Debug, Drop)]
 pub enum Numbered {
     /// True or false.
@@ -11,9 +11,9 @@ pub enum Numbered {
     Leaf { number: usize, symbol: u32 },
     /// The inner formula is false.
     Not(Boxed<Numbered>),
-    /// All parts are true. With no parts it is true.
+    /// All parts are true. The formula is true if it has no parts.
     And(Items<Numbered>),
-    /// Some part is true. With no parts it is false.
+    /// Some part is true. The formula is false if it has no parts.
     Or(Items<Numbered>),
     /// Both parts are true or both are false.
     Iff(Boxed<Numbered>, Boxed<Numbered>),

@@ -1,4 +1,4 @@
-//! Cells numbered by their indices in a list. The list is in cell order.
+//! Cells numbered by their indices in a list. The list is in cell order: by z, then y, then x, then the node.
 ghost use Rattle.std.specs.Prelude.{◌≡◌, ◌≤◌, length};
 ghost use Rattle.std.specs.List.Sorted.{IsStrictlySortedBy, IsStrictlySortedBy-prop};
 ghost use Rattle.dd_lattice.specs.Order.{cell_cmp};
