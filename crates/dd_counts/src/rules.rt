@@ -1,7 +1,8 @@
-//! How many patterns a rule has at a node, how many states its transfer graph has over a strip, and the limits on both. A pattern
-//! is a filling of the cells that the rule reads at the node: it gives each of them a symbol. A strip has no end along x. A slice
-//! of a strip has the cells of one `x`. The vertices of a transfer graph are states: a state is a filling of `state_length`
-//! successive slices. Each edge is a window, which is a filling of one more slice than a state.
+//! How many patterns a rule has at a node, how many states its transfer graph has over a strip, and the limits on both. A
+//! pattern is a filling of the cells that the rule reads at the node: it gives each of them a symbol. A strip has periods along
+//! y and z, and no end along x. A slice of a strip consists of its cells with one value of x. The vertices of a transfer graph
+//! are states: a state is a filling of `state_length` successive slices. Each edge is a window, which is a filling of one slice
+//! more than a state has.
 ghost use Rattle.std.specs.Prelude.{◌≡◌, ◌^◌, ◌<◌, ◌≤◌};
 ghost use Rattle.dd_formula.specs.Counts.{cut};
 ghost use Rattle.dd_counts.specs.Rules.{pattern_count, least_x, greatest_x, slice_span, state_length, slices, states, longer_states};
@@ -56,8 +57,8 @@ fn greatest_x(from: i32, cells: &[Cell]) -> i32
     greatest
 }
 
-/// The number of slices from the first to the last that the rule reads when it is evaluated at a cell. The cell's own slice
-/// always counts as read.
+/// The number of slices from the first to the last that the rule reads when it is evaluated at the cells of one position. The
+/// slice of this position always counts as read.
 fn span(rule: &Rule) -> u64
     ensures value { result ≡ slice_span rule.now }
     ensures small { result ≤ 2 ^ 32 }
