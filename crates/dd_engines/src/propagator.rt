@@ -13,7 +13,7 @@ use dd_clause::Cnf;
 use dd_values::Items;
 use std::alloc::{AllocError, Global};
 
-/// Proposes a refutation by a single step exactly if there is one, that is, if unit propagation from no assumptions ends in a
+/// Proposes a refutation by a single step exactly when there is one, that is, if unit propagation from no assumptions ends in a
 /// conflict. Otherwise it proposes nothing.
 #[derive(Drop)]
 pub struct Propagator {

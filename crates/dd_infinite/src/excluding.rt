@@ -33,7 +33,7 @@ fn is_yes(answer: &Answer) -> bool
     matches!(answer, Answer::Yes { .. } | Answer::YesBoth { .. })
 }
 
-/// Whether the answer excludes the query's goal at the position `place` of this configuration. This is so exactly if:
+/// Whether the answer excludes the query's goal at the position `place` of this configuration. This is so exactly when:
 /// - the script has a query with the number `query`, counted from 1;
 /// - `place` is a position of Z^d;
 /// - the answer is YES, and the check accepts it for this query.

@@ -11,7 +11,7 @@ use dd_values::{Boxed, Items};
 use std::alloc::{AllocError, Global};
 
 impl Numbered {
-    /// The expansion with a number in place of each cell. The resulting formula is true of a list of symbols exactly if the
+    /// The expansion with a number in place of each cell. The resulting formula is true of a list of symbols exactly when the
     /// expansion is true when each cell has the symbol that the list has at the cell's number. A leaf whose cell has no number
     /// becomes the constant false.
     pub fn new<N: Numbers>(

@@ -75,7 +75,7 @@ pub fn read_all<S: Source>(
     ensures bytes { IfOk result (λ bytes. ReadToEnd (S.left source.old) (S.left source.new) bytes.items) }
     ensures fits { IfOk result (λ bytes. length bytes.items ≤ limit) }
 
-    // Unless memory runs out, the result is `TooLong` exactly if the reads of this call gave more bytes than the limit.
+    // Unless memory runs out, the result is `TooLong` exactly when the reads of this call gave more bytes than the limit.
     ensures too_long { IsErrOf result ReadAllFault.TooLong → GivesMore (S.left source.old) (S.left source.new) limit }
     ensures stopped { IsErrOf result ReadAllFault.ReadFault → GivesAtMost (S.left source.old) (S.left source.new) limit }
     ensures refused { OnErr result (GivesAtMost (S.left source.old) (S.left source.new) (limit + 1)) }

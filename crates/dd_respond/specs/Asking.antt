@@ -13,7 +13,7 @@ pub record Engages (asks : Type 0) (before after : List Seen) : Type 0 where
   pub first : asks → FirstAsked before after
   pub nobody : (asks → ⊥) → after ≡ before
 
--- the engines before and after a call that asks them exactly if `asks` holds
+-- the engines before and after a call that asks them exactly when `asks` holds
 pub record AreEngaged {T E : Type 0} (asks : Type 0) (before after : List Seen) (result : Result T E) : Type 0 where
   -- the sound engines are still there, in order, and no engine's counts of questions and proposals have fallen
   pub kept : Kept before after

@@ -1,4 +1,4 @@
--- Two rows of one program are the same exactly if they have the same bound and the same exchange along each vector.
+-- Two rows of one program are the same exactly when they have the same bound and the same exchange along each vector.
 use Rattle.std.proofs.Common.{◌≡◌, ◌<◌, ◌≤◌, ◌+◌, ◌*◌, ℕ, zero, suc, Bool, true, false, cond, List, [], ◌∷◌, ◌++◌, length, get_or, map, take, drop, refl, sym, ◌∙◌, ap, subst, inl, inr, arith, ℤ, pos, Option, Some, None, replicate}
 use Rattle.std.proofs.lemmas.Option.{same_Some}
 use Rattle.std.proofs.lemmas.Bool.{false≢true, and_parts, and_from, cases_lt, cases_eq, eq-eqb, eqb-true}
@@ -282,7 +282,7 @@ module _ (ps : List (List ℕ)) (v : Views) (ws : List ℕ) (most : ℕ) where
       (folded_next add_row begun (required_row ps v ws) lists i d (map (dense (length ps)) old) new below before at (ap (add_row (map (dense (length ps)) old)) stands))
       many
 
--- two sparse rows pass the test `same_sparse` exactly if they are the same
+-- two sparse rows pass the test `same_sparse` exactly when they are the same
 abbrev pub same_exchange_test : Exchange → Exchange → Bool
 same_exchange_test e f = nat_eq e.gives f.gives && nat_eq e.receives f.receives
 

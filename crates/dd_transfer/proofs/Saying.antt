@@ -1,4 +1,4 @@
--- The formulas are true of a window's symbols exactly if the rule is true at the cells of the tested slice.
+-- The formulas are true of a window's symbols exactly when the rule is true at the cells of the tested slice.
 use Rattle.std.proofs.Common.{◌≡◌, ℕ, zero, suc, ◌+◌, ◌<◌, Bool, true, false, List, [], ◌∷◌, ◌++◌, length, get_or, Option, Some, None, Result, Ok, Err, IfOk, pos, ◌+ℤ◌, refl, ap, sym, ◌∙◌, subst, arith, inl, inr}
 use Rattle.std.proofs.lemmas.Bool.{and_from, and_parts, cases_lt}
 use Rattle.std.proofs.lemmas.List.{get_or_append_left, get_or_push, length-append}

@@ -111,7 +111,7 @@ const NUMBERS: [(&str, &str, Status, &str); 11] = [
     ("6 3 4 2", "-6 3 4 2", Status::Refused, "refused at 87\n"),
 ];
 
-// Scripts of another length, texts that are no scripts, and scripts that ask something else.
+// Scripts of another length, texts that aren't scripts, and scripts that ask something else.
 const SCRIPTS: [(&str, &str, Status, &str); 9] = [
     ("script 34", "script 33", Status::Refused, "refused at 52\n"),
     ("script 34", "script 35", Status::Refused, "refused at 53\n"),

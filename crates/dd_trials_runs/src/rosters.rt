@@ -101,8 +101,8 @@ fn an_engine_runs_out_of_memory(rt: HostRuntime) -> Result<(), Fail> {
 
 // Each row is about the box of one radius, from 0 to 4. It has the numbers of variables and clauses in the box's list of clauses,
 // and how many engines are left. The engine gives a wrong refutation of a list of this size, and proposes nothing for any other
-// list. So it is found wrong exactly if it is asked about the list of this box. The search asks about the radii 0 to 3, and the
-// engine is given the lists of these boxes as they are.
+// list. So it is found wrong exactly when it is asked about the list of this box. The search asks about the radii 0 to 3, and
+// the engine is given the lists of these boxes as they are.
 #[test]
 fn engines_are_asked_for_the_boxes_themselves(rt: HostRuntime) -> Result<(), Fail> {
     let alloc = rt.alloc();
@@ -140,7 +140,7 @@ fn no_engine_is_asked_before_the_earlier_lines_are_written(rt: HostRuntime) -> R
     Ok(())
 }
 
-// No engine is asked if the words are no command, or if the input is refused.
+// No engine is asked if the words aren't a command, or if the input is refused.
 #[test]
 fn no_engine_is_asked_without_a_run(rt: HostRuntime) -> Result<(), Fail> {
     let alloc = rt.alloc();

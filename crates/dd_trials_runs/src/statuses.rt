@@ -222,7 +222,7 @@ fn each_fault_has_its_status(rt: HostRuntime) -> Result<(), Fail> {
     Ok(())
 }
 
-// If the words are no command, nothing is read and nothing is written.
+// If the words aren't a command, nothing is read and nothing is written.
 #[test]
 fn other_words_do_nothing(rt: HostRuntime) -> Result<(), Fail> {
     let alloc = rt.alloc();

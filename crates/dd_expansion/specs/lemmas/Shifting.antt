@@ -1,4 +1,4 @@
--- A formula is true at cells moved by v exactly if it is true at the cells themselves in the configuration moved by -v.
+-- A formula is true at cells moved by v exactly when it is true at the cells themselves in the configuration moved by -v.
 use Rattle.std.proofs.Common.{◌≡◌, ℕ, zero, suc, Bool, true, false, List, [], ◌∷◌, ◌++◌, map, refl, ap, sym, ◌∙◌, Some, None, arith, ℤ, ◌+ℤ◌, cond}
 use Rattle.std.proofs.lemmas.{Int.ints, Bool.Decides.Decides-int_eq, List.map-append}
 use Rattle.std.proofs.lemmas.{List.Folds.list_all-map, List.Folds.flat_map-map, Option.slice_get-map}

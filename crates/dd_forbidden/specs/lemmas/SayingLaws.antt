@@ -16,7 +16,7 @@ use Rattle.dd_numbered.specs.{declared.numbered.Numbered.Numbered, Numbered.hold
 pub look_below : (n : ℕ) (cs : List Cell) (ss : List ℕ) → All (λ s. s < n) ss → HasSymbolsBelow n (filling_look (filled cs ss))
 look_below n cs ss below c = below_at n ss below (position_or_len (λ d. is_eq (cell_cmp d c)) cs)
 
--- at each position v, the expansion, with its cells taken relative to v, is true exactly if the rule is true
+-- at each position v, the expansion, with its cells taken relative to v, is true exactly when the rule is true
 abbrev pub SaysTruth : LocalRule → ℕ → Expanded → Type 0
 SaysTruth r a e = (look : Look) → HasSymbolsBelow r.symbols look → (v : Place) → holds e (λ c. look (shifted v c)) ≡ is_true r (cell v a) look
 
