@@ -1,4 +1,4 @@
-//! The right answers to the queries of scripts. A script defines rules, configurations and automata, and asks queries about them.
+//! Right answers to the queries of scripts. A script defines rules, configurations and automata, and asks queries about them.
 //!
 //! Some queries come down to box questions. A box question has a rule and a goal: a property of a position, such as that
 //! another rule is broken there. It asks whether no configuration that obeys the rule has the goal at any position. For these

@@ -12,7 +12,7 @@ use dd_query::Query;
 use dd_script::{Script, ScriptFault, ScriptKind, parse};
 use std::alloc::{AllocError, Global};
 
-/// The first line of the right answer to a query of the script. The query has the number `number`.
+/// The first line of a right answer to a query of the script. The query has the number `number`.
 fn line_of(
     alloc: Global,
     script: &Script,
@@ -45,7 +45,7 @@ pub fn lines_of(alloc: Global, script: &Script) -> Result<Vec<u8>, AllocError>
     Ok(text)
 }
 
-/// The first lines of the right answers to the queries of the script that the bytes spell, or why the bytes are refused.
+/// The first lines of right answers to the queries of the script that the bytes spell, or why the bytes are refused.
 pub fn answered(alloc: Global, bytes: &[u8]) -> Result<Vec<u8>, ScriptFault>
     requires { length bytes.now ≤ most_script }
     ensures lines { IfOk result (λ text. (s : Parts) × Spells bytes.now s × AreLines s 1 s.queries text.items) }

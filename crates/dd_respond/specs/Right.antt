@@ -1,4 +1,4 @@
--- Which answers to questions are right. A box question has a rule, the premise, and a goal: a property of a position, such as
+-- Which answers to questions are right. A box question has a rule (its premise) and a goal: a property of a position, such as
 -- that another rule is broken there. It asks whether no configuration that obeys the premise has the goal at any position.
 use Rattle.std.specs.{Prelude.◌≡◌, Prelude.Bool, Prelude.nat_eq, Prelude.codes, List.starts_with}
 use Rattle.dd_pattern.specs.Tile.{Tile}

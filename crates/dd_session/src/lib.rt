@@ -6,7 +6,7 @@
 //! is an answer that a check accepts. Each right answer is a certificate, and what a certificate claims is true. An answer is
 //! UNKNOWN if its query wasn't settled within the limits on the work for one answer. All other answers are definite.
 //!
-//! Some queries come down to box questions. A box question has a rule, the premise, and a goal: a property of a position, such
+//! Some queries come down to box questions. A box question has a rule (its premise) and a goal: a property of a position, such
 //! as that another rule is broken there. It asks whether no configuration that obeys the premise has the goal at any position.
 //! For such a query a run asks the engines of a roster, which is a list of engines, before it searches. An engine is any value
 //! that proposes a result of the search. Each proposal is checked. An engine is sound if all that it proposes is right.

@@ -7,7 +7,7 @@
 //! with the periods x, y and z and the shear s repeats along the vectors `(x, 0, 0)`, `(s, y, 0)` and `(0, 0, z)`, and its
 //! fundamental box is the box that repeats. OUT, the answer for a configuration that doesn't live in the subshift, names the
 //! first cell of the fundamental box, in cell order (by z, then y, then x, then the node), at which the rule is false. Many
-//! questions are box questions. A box question has a rule, the premise, and a goal: a property of a position, such as that
+//! questions are box questions. A box question has a rule (its premise) and a goal: a property of a position, such as that
 //! another rule is broken there. The question asks whether no configuration that obeys the premise has the goal at any
 //! position. A certificate for YES has a radius, and the steps of a refutation. The steps show that no admissible filling of
 //! the box of this radius has the goal at the origin. (A filling is admissible if the premise is true at each of its cells
