@@ -14,8 +14,8 @@ abbrev pub most_states : ℕ
 most_states = 4096
 
 -- the greatest number of windows that there may be over a strip; a window is like a state, but has one more slice
-abbrev pub most_longer_states : ℕ
-most_longer_states = 131072
+abbrev pub most_windows : ℕ
+most_windows = 131072
 
 -- the number of patterns of a rule at a node: fillings of the cells that the rule reads there
 abbrev pub pattern_count : LocalRule → ℕ → ℕ
@@ -47,5 +47,5 @@ abbrev pub states : LocalRule → ℕ → ℕ
 states r volume = slices r volume ^ state_length r
 
 -- the number of windows over a strip whose slices have `volume` positions
-abbrev pub longer_states : LocalRule → ℕ → ℕ
-longer_states r volume = slices r volume ^ (state_length r + 1)
+abbrev pub window_count : LocalRule → ℕ → ℕ
+window_count r volume = slices r volume ^ (state_length r + 1)

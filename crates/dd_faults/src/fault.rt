@@ -52,7 +52,7 @@ pub enum Limit {
     /// If a query asks which patterns a rule forbids, then at each node the cells that the rule reads have at most
     /// `MOST_PATTERNS` fillings.
     Patterns,
-    /// The transfer graph of a strip has at most `MOST_STATES` states and at most `MOST_LONGER_STATES` windows. A state is a
+    /// The transfer graph of a strip has at most `MOST_STATES` states and at most `MOST_WINDOWS` windows. A state is a
     /// filling of successive slices. A window is a state followed by one more slice.
     States,
     /// A box question asks whether a goal occurs in no configuration that obeys a rule. It takes at most `MOST_CLAUSES` clauses

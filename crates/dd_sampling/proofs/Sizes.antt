@@ -7,7 +7,7 @@ use Rattle.dd_expansion.specs.declared.{formulas.Formula.Formula, expanded.Expan
 use Rattle.dd_expansion.specs.Leaves.{instances, clause_count}
 use Rattle.dd_formula.specs.{LocalRule.LocalRule, LocalRule.reads_at, LocalRule.expansion_at, LocalRule.is_near, Reach.farthest}
 use Rattle.dd_formula.specs.Counts.{cell_clause_count, disallowed_pairs, largest_region}
-use Rattle.dd_counts.specs.Rules.{greatest_x, least_x, most_states, most_longer_states}
+use Rattle.dd_counts.specs.Rules.{greatest_x, least_x, most_states, most_windows}
 use Rattle.dd_values.specs.declared.limits.Limits.{Limits}
 use Rattle.dd_boxes.specs.{Goals.breaks, Counts.most_clauses}
 use Rattle.dd_faults.specs.{declared.fault.Fault.Fault, Order.over}
@@ -101,7 +101,7 @@ span_by cells = unsigned_abs (greatest_x (pos 0) (in_order cells ++ []) -ℤ lea
 
 abbrev many_by : List Cell → Bool
 many_by cells =
-    nat_lt most_states ((2 ^ (1 * 5)) ^ max 1 (span_by cells - 1)) || nat_lt most_longer_states ((2 ^ (1 * 5)) ^ (max 1 (span_by cells - 1) + 1))
+    nat_lt most_states ((2 ^ (1 * 5)) ^ max 1 (span_by cells - 1)) || nat_lt most_windows ((2 ^ (1 * 5)) ^ (max 1 (span_by cells - 1) + 1))
 
 pub dom_narrow : has_many_states (plain_rule dom_meant) 5 ≡ false
 dom_narrow = ap many_by dom_counts.cells_are

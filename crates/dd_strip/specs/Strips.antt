@@ -3,7 +3,7 @@ use Rattle.std.specs.Prelude.{◌≡◌, ◌⊎◌, ℕ, ◌*◌, ◌<◌, ◌�
 use Rattle.std.specs.List.{All}
 use Rattle.dd_values.specs.Bounds.{most_weight}
 use Rattle.dd_formula.specs.LocalRule.{LocalRule}
-use Rattle.dd_counts.specs.Rules.{states, longer_states, most_states, most_longer_states}
+use Rattle.dd_counts.specs.Rules.{states, window_count, most_states, most_windows}
 use Rattle.dd_strip.specs.declared.strip.Strip.{Strip}
 
 -- the strip with these periods along y and z, and this number of nodes at each position
@@ -58,8 +58,8 @@ strip_for r periods = strip_of (slice_index periods 0) (slice_index periods 1) r
 -- The rule's transfer graph over the strip (see dd_transfer) has too many states or too many windows. A window is like a state,
 -- but has one more slice.
 abbrev pub IsTooLarge : LocalRule → Strip → Type 0
-IsTooLarge r s = (most_states < states r (positions s)) ⊎ (most_longer_states < longer_states r (positions s))
+IsTooLarge r s = (most_states < states r (positions s)) ⊎ (most_windows < window_count r (positions s))
 
 -- the rule's transfer graph over the strip has few enough states and few enough windows
 abbrev pub IsFew : LocalRule → Strip → Type 0
-IsFew r s = (states r (positions s) ≤ most_states) × (longer_states r (positions s) ≤ most_longer_states)
+IsFew r s = (states r (positions s) ≤ most_states) × (window_count r (positions s) ≤ most_windows)
