@@ -4,7 +4,7 @@ ghost use Rattle.dd_expansion.specs.Placed.{is_flat};
 ghost use Rattle.dd_certificate.specs.declared.answer.Answer.{Answer as AnyAnswer};
 ghost use Rattle.dd_checker.specs.Certificates.{IsCertificateFor, IsCertificate};
 ghost use Rattle.dd_checker.specs.Claims.{ClaimFor, Claim};
-ghost use Rattle.dd_checker.specs.Lifted.{is_yes, whole_look, IsWhole, IsNowhereAt};
+ghost use Rattle.dd_checker.specs.Lifted.{is_yes, whole_look, IsWhole, IsQueryNotAt};
 ghost use Rattle.dd_checker.specs.Inverses.{is_conjugate, IsConjugacyAt, AreInverseIn};
 
 use dd_certificate::Answer;
@@ -60,7 +60,7 @@ pub fn lifted<C: Configuration>(
     requires yes { is_yes _answer.now ≡ true }
     requires whole { IsWhole script.now (C.nodes _configuration.now) (C.symbol_of _configuration.now) }
     requires flat { is_flat script.now.known.setting.topology.dimension _place.now ≡ true }
-    ensures { IsNowhereAt script.now _query
+    ensures { IsQueryNotAt script.now _query
         (whole_look script.now.known.setting.topology.dimension (C.nodes _configuration.now) (C.symbol_of _configuration.now)) _place.now }
 {
     script.sound_questions();

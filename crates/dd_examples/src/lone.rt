@@ -2,7 +2,7 @@
 ghost use Rattle.std.specs.Prelude.{◌≡◌, true};
 ghost use Rattle.dd_expansion.specs.Placed.{is_flat};
 ghost use Rattle.dd_checker.specs.Certificates.{IsCertificate};
-ghost use Rattle.dd_checker.specs.Lifted.{is_yes, IsWhole, whole_look, IsNowhereAt};
+ghost use Rattle.dd_checker.specs.Lifted.{is_yes, IsWhole, whole_look, IsQueryNotAt};
 ghost use Rattle.dd_examples.specs.Lone.{lone};
 
 use dd_certificate::Answer;
@@ -39,7 +39,7 @@ pub fn nowhere_in_lone(script: &Script, query: u32, answer: &Answer, place: &Pos
     requires yes { is_yes answer.now ≡ true }
     requires whole { IsWhole script.now 1 lone }
     requires flat { is_flat script.now.known.setting.topology.dimension place.now ≡ true }
-    ensures { IsNowhereAt script.now query (whole_look script.now.known.setting.topology.dimension 1 lone) place.now }
+    ensures { IsQueryNotAt script.now query (whole_look script.now.known.setting.topology.dimension 1 lone) place.now }
 {
     lifted(script, query, answer, &Lone, place);
 }
