@@ -91,7 +91,8 @@ fn find_reduced(alloc: Global, cnf: &Cnf) -> Result<Option<Outcome>, AllocError>
     match solve_with(alloc, &reduced.cnf, Style::Focused)? {
         Outcome::Found(assignment) => Ok(confirmed(cnf, elimination.extended(alloc, &assignment)?)),
         Outcome::Refuted(steps) => {
-            let whole = elimination.into_refutation(reduced.numbers.as_slice(), steps)?;
+            let used = trimmed(alloc, &reduced.cnf, steps)?;
+            let whole = elimination.into_refutation(reduced.numbers.as_slice(), used)?;
             confirmed_refutation(alloc, cnf, whole)
         }
     }
