@@ -38,6 +38,6 @@ numbered_step number (Expanded-F.And es) = roll-Numbered (Numbered-F.And es)
 numbered_step number (Expanded-F.Or es) = roll-Numbered (Numbered-F.Or es)
 numbered_step number (Expanded-F.Iff e f) = roll-Numbered (Numbered-F.Iff e f)
 
--- the expansion with a number in place of each cell
+-- the expansion with a number in place of each cell, and with the constant false in place of each leaf whose cell has no number
 abbrev pub numbered : Numbering → Expanded → Numbered
 numbered number = fold-Expanded Numbered (numbered_step number)

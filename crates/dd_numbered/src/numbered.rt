@@ -7,7 +7,7 @@ use dd_values::{Boxed, Items};
 pub enum Numbered {
     /// True or false.
     Constant(bool),
-    /// The list has this symbol at the index `number`.
+    /// The list has this symbol at the index `number`. This is false if the index is past the end of the list.
     Leaf { number: usize, symbol: u32 },
     /// The inner formula is false.
     Not(Boxed<Numbered>),

@@ -8,8 +8,8 @@ use crate::numbers::Numbers;
 use dd_lattice::Cell;
 
 /// A numbering by a list of cells in cell order. Each cell of the list has its index there as its number. Every other cell has
-/// the length of the list as its number. So in a list that has one symbol for each of the listed cells, every other cell's number
-/// is past the end.
+/// the length of the list as its number. So a list that has one symbol for each of these cells gives no symbol to any other
+/// cell: the other cell's number is past the end.
 #[derive(Drop)]
 pub struct Ranks<'a> {
     /// The cells, strictly ascending in cell order.

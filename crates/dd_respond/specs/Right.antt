@@ -21,7 +21,8 @@ use Rattle.dd_question.specs.Questions as asked
 
 -- ---- box questions
 
--- the answer NO with a configuration: its periods along the axes of Z^d, its shear and its symbols
+-- The answer NO with a configuration: its periods along the axes of Z^d, its shear and its symbols. The shear is how far the second period vector
+-- goes along the first axis. The symbols are those of the fundamental box, the box that repeats.
 abbrev pub written_no : Side → Tile → Answer
 written_no s t = answer.No s (written_periods t) t.periods.shear t.symbols
 
@@ -31,12 +32,12 @@ written_decision (decision.Yes n steps) = answer.Yes n steps
 written_decision (decision.No t) = written_no side.Whole t
 written_decision decision.Unknown = answer.Unknown reason.Limits
 
--- the side that an answer names for this half of an equality
+-- the side that the answer NO to a question about equality names: that of the rule that the configuration obeys
 abbrev pub side_of : Half → Side
 side_of half.Left = side.Left
 side_of half.Right = side.Right
 
--- the answer that the decision about an equality gives
+-- the answer that a decision about equality gives
 abbrev pub written_equality : Equality → Answer
 written_equality (equal.Yes left right) = answer.YesBoth left.radius right.radius left.steps right.steps
 written_equality (equal.No h t) = written_no (side_of h) t

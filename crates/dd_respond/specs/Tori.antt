@@ -1,4 +1,5 @@
--- Which answers about the least weight of a fundamental box, the box that repeats in a periodic configuration, are right.
+-- Which answers about the least weight of a fundamental box, the box that repeats in a periodic configuration, are right. A configuration has no
+-- shear if each of its period vectors lies along its own axis.
 use Rattle.std.specs.Prelude.{ℕ, ◌≡◌, ◌<◌, List}
 use Rattle.dd_pattern.specs.{Periods.periods_of, Tile.Tile, Weight.total_weight}
 use Rattle.dd_formula.specs.LocalRule.{LocalRule}

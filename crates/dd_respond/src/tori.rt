@@ -1,4 +1,5 @@
-//! Answers to questions about the least weight of a fundamental box, the box that repeats in a periodic configuration.
+//! Answers to questions about the least weight of a fundamental box, the box that repeats in a periodic configuration. The
+//! configurations have no shear here: each period vector lies along its own axis.
 ghost use Rattle.std.specs.Prelude.{◌≡◌, IfOk};
 ghost use Rattle.dd_certificate.specs.Bounds.{IsWritable};
 ghost use Rattle.dd_counter.specs.Least.{IsLeast};
