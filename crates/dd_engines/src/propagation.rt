@@ -229,11 +229,7 @@ fn pass_back(trail: &mut Trail, clauses: &[Clause]) -> Result<Option<usize>, All
 }
 
 /// Makes a few passes without counts, in both directions.
-fn few_passes(
-    alloc: Global,
-    trail: &mut Trail,
-    clauses: &[Clause],
-) -> Result<Progress, AllocError>
+fn few_passes(alloc: Global, trail: &mut Trail, clauses: &[Clause]) -> Result<Progress, AllocError>
     requires in_range { All (IsClauseInRange (length trail.old.values.items)) clauses.now }
     requires follows { Follows clauses.now trail.old.entries.items trail.old.values.items }
     ensures passed { IfOk result (PassedFew clauses.now trail.new.entries.items trail.new.values.items) }
