@@ -254,19 +254,25 @@ fn few_passes(alloc: Global, trail: &mut Trail, clauses: &[Clause]) -> Result<Pr
 }
 
 /// Makes passes with counts until nothing changes. Returns the number of a clause whose literals are all false, or `None` if
-/// there is no such clause.
+/// there is no such clause. `chains` are the chains of these clauses.
 fn all_passes(
-    counts: &mut Counts,
+    alloc: Global,
+    cnf: &Cnf,
+    chains: &Chains,
     trail: &mut Trail,
-    clauses: &[Clause],
 ) -> Result<Option<usize>, AllocError>
-    requires in_range { All (IsClauseInRange (length trail.old.values.items)) clauses.now }
-    requires follows { Follows clauses.now trail.old.entries.items trail.old.values.items }
-    ensures passed { IfOk result (λ found. MatchOption found (All (IsSettled trail.new.values.items) clauses.now) (Conflicts clauses.now trail.new.entries.items)) }
+    requires in_range { All (IsClauseInRange (length trail.old.values.items)) cnf.now.clauses }
+    requires follows { Follows cnf.now.clauses trail.old.entries.items trail.old.values.items }
+    ensures passed { IfOk result (λ found. MatchOption found (All (IsSettled trail.new.values.items) cnf.now.clauses) (Conflicts cnf.now.clauses trail.new.entries.items)) }
     ensures long { length trail.new.values.items ≡ length trail.old.values.items }
 {
+    let clauses = cnf.clauses();
+    let mut counts = Counts::new(alloc, cnf, chains)?;
+    for entry in trail.entries.as_slice() {
+        counts.falsify(entry.literal.negation())?;
+    }
     'passes: loop {
-        match pass(counts, trail, clauses)? {
+        match pass(&mut counts, trail, clauses)? {
             Progress::Conflict(conflict) => return Ok(Some(conflict)),
             Progress::More => {}
             Progress::Settled => return Ok(None),
@@ -287,20 +293,15 @@ fn propagate(
     ensures passed { IfOk result (λ found. MatchOption found (All (IsSettled trail.new.values.items) cnf.now.clauses) (Conflicts cnf.now.clauses trail.new.entries.items)) }
     ensures long { length trail.new.values.items ≡ length trail.old.values.items }
 {
-    let clauses = cnf.clauses();
-    match few_passes(alloc, trail, clauses)? {
+    match few_passes(alloc, trail, cnf.clauses())? {
         Progress::Conflict(conflict) => return Ok(Some(conflict)),
         Progress::Settled => return Ok(None),
         Progress::More => {}
     }
     let chains = listed(alloc, room, cnf)?;
-    let mut counts = Counts::new(alloc, cnf, &chains)?;
-    for entry in trail.entries.as_slice() {
-        counts.falsify(entry.literal.negation())?;
-    }
-    let found = all_passes(&mut counts, trail, clauses)?;
+    let found = all_passes(alloc, cnf, &chains, trail);
     *room = Some(chains);
-    Ok(found)
+    found
 }
 
 /// The step with these hints and the empty clause.
@@ -325,11 +326,12 @@ pub fn single_step(
 ) -> Result<Option<Step>, AllocError>
     ensures { IfOk result (λ found. MatchOption found ((step : _) → IsSingleStep cnf.now step → ⊥) (IsSingleStep cnf.now)) }
 {
+    let clauses = cnf.clauses();
     let mut trail = Trail::new(alloc, cnf.variables() as usize)?;
     let Some(conflict) = propagate(alloc, cnf, room, &mut trail)? else {
         return Ok(None);
     };
     let entries = trail.entries.as_slice();
-    let hints = needed_hints(alloc, cnf.clauses(), trail.values.len(), entries, conflict)?;
+    let hints = needed_hints(alloc, clauses, trail.values.len(), entries, conflict)?;
     Ok(Some(step_of(alloc, hints)?))
 }
