@@ -34,12 +34,12 @@ class Region:
         for cell, reads in script.places(rule, positions):
             numbers = [self.number[read] for read in reads]
             if numbers:
-                self.settled[max(numbers)].append((cell[3], numbers))
+                self.settled[max(self.number[cell], *numbers)].append((cell[3], numbers))
             else:
                 self.constant = self.constant and rule.holds(cell[3], ())
 
     def fits(self, filling: Filling) -> bool:
-        """Whether the rule is true at the places whose last read cell is the last cell of this partial filling."""
+        """Whether the rule is true at the places that fit only now: the last of a place's cell and of its reads is the last cell filled."""
         holds = self.rule.holds
         return all(holds(node, tuple([filling[number] for number in numbers])) for node, numbers in self.settled[len(filling) - 1])
 

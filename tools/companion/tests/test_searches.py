@@ -50,6 +50,16 @@ class Maps(unittest.TestCase):
         self.assertEqual(verdict(image_question(script, named["id"], named["full"], named["z"])), "NO 1")
 
 
+class Bounds(unittest.TestCase):
+    """Bounds by discharging."""
+
+    def test_large(self) -> None:
+        """Neither region has an admissible filling. But the rule is tested at no cell of the first two rows, which have ten cells in the first
+        region and six in the second. So the first eleven cells of the first region have 3^11 admissible fillings, which are too many."""
+        script = accept(b"%alphabet a b c %topology king %rule y o.dn.dn=a & o.dn.sw=c %discharge y 0 1 [-1 1] [0 1] [1 1] %discharge y 0 1 [0 1]")
+        self.assertEqual([query.found() for query in script.queries], ["UNKNOWN large", "BOUND 2/1"])
+
+
 class Least(unittest.TestCase):
     """Least weights on a torus."""
 
